@@ -1,0 +1,4 @@
+pub mod Sets
+pub mod Boards
+pub mod Positions
+pub mod GridLaws

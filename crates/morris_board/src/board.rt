@@ -1,0 +1,50 @@
+//! The boards that the game is played on.
+ghost use Rattle.std.specs.Prelude.{◌≡◌, ℕ, ◌<◌, ◌≤◌, length, slice_index, true};
+ghost use Rattle.morris_board.specs.Boards.{Shape, adjacent, mills_of, is_board};
+
+use crate::points::Points;
+
+/// A board as the rules of the game see it: its points, which of them are adjacent, and its mills.
+///
+/// Code that is generic over the board is bounded by this trait. Only what starts threads asks for [`Board`].
+pub trait Geometry: Copy {
+    /// The board, of which all members speak.
+    ghost shape: { Shape };
+
+    ghost POINTS: { ℕ };
+
+    ghost MILLS: { ℕ };
+
+    /// How many points the board has, at most 24. They are numbered from 0.
+    const POINTS: u8;
+
+    /// How many mills the board has. They are numbered from 0.
+    const MILLS: u8;
+
+    /// The number of the board in the file of a table.
+    const ID: u8;
+
+    /// The name of the board on the command line.
+    const NAME: &'static str;
+
+    /// The points that are adjacent to `point`.
+    fn neighbours(point: u8) -> Points
+        requires { point < POINTS }
+        ensures { result ≡ adjacent shape point };
+
+    /// The three points of a mill.
+    fn mill(number: u8) -> Points
+        requires { number < MILLS }
+        ensures { result ≡ slice_index (mills_of shape) number };
+
+    ghost is_lawful: { is_board shape ≡ true };
+
+    ghost few: { POINTS ≤ 24 };
+
+    ghost point_count: { shape.points ≡ POINTS };
+
+    ghost mill_count: { length (mills_of shape) ≡ MILLS };
+}
+
+/// A board that threads may share.
+pub trait Board: Geometry + Send + Sync {}

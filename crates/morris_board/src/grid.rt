@@ -1,0 +1,68 @@
+//! The board Grid.
+use crate::board::{Board, Geometry};
+use crate::points::Points;
+
+/// The board with 9 points in three rows and three columns, for small tables. Point `3 * r + c` stands in row `r` and column `c`.
+#[derive(Clone, Copy, Debug)]
+pub struct Grid;
+
+/// The points adjacent to each point. Each group of three digits is a row of the board, the last row first.
+const NEIGHBOURS: [u32; 9] = [
+    0b000_001_010,
+    0b000_010_101,
+    0b000_100_010,
+    0b001_010_001,
+    0b010_101_010,
+    0b100_010_100,
+    0b010_001_000,
+    0b101_010_000,
+    0b010_100_000,
+];
+
+/// The rows, and then the columns.
+const MILLS: [u32; 6] = [
+    0b000_000_111,
+    0b000_111_000,
+    0b111_000_000,
+    0b001_001_001,
+    0b010_010_010,
+    0b100_100_100,
+];
+
+impl Geometry for Grid {
+    ghost use Rattle.std.proofs.Common.{arith};
+    ghost use Rattle.morris_board.specs.Boards.{grid};
+    ghost use Rattle.morris_board.specs.GridLaws.{is_board-grid, point_count-grid, mill_count-grid};
+
+    ghost shape = { grid };
+
+    ghost POINTS = { 9 };
+
+    ghost MILLS = { 6 };
+
+    const POINTS: u8 = 9;
+
+    const MILLS: u8 = 6;
+
+    const ID: u8 = 1;
+
+    const NAME: &'static str = "grid";
+
+    fn neighbours(point: u8) -> Points {
+        Points::from_mask(NEIGHBOURS[point as usize])
+    }
+
+    fn mill(number: u8) -> Points {
+        Points::from_mask(MILLS[number as usize])
+    }
+
+    ghost is_lawful = { is_board-grid };
+
+    ghost few = { Prim.omega arith };
+
+    ghost point_count = { point_count-grid };
+
+    ghost mill_count = { mill_count-grid };
+}
+
+impl Board for Grid {}

@@ -1,0 +1,8 @@
+//! Boards and positions of Nine Men's Morris, and the streams that their texts and tables go through.
+#![tactic(auto)]
+
+pub mod board;
+pub mod faults;
+pub mod grid;
+pub mod points;
+pub mod position;

@@ -1,0 +1,125 @@
+//! Sets of points of a board.
+ghost use Rattle.std.specs.Prelude.{◌≡◌, ℕ, ◌<◌, ◌≤◌, ◌^◌, length, List, [], ◌∷◌, true, IfSome, MatchOption};
+ghost use Rattle.std.specs.Iterator.{YieldsFirst, item_count};
+ghost use Rattle.morris_board.specs.Sets.{has, members, count_of, with_point, without_point, is_within};
+
+use std::marker::Model;
+
+/// A set of points of a board, kept as a mask: bit `p` stands for point `p`. Points are below 32.
+#[derive(Clone, Copy, PartialEq, Eq, Debug)]
+pub struct Points {
+    mask: u32,
+}
+
+impl Model for Points {
+    ghost Value = { ℕ };
+
+    ghost view = { λ points. points.mask };
+
+    ghost invariant = { λ points. points.mask < 2 ^ 32 };
+
+    ghost inverse = { λ n. record { mask = n } };
+}
+
+impl Points {
+    /// The set with no point.
+    pub const EMPTY: Points = Points { mask: 0 };
+
+    /// The set of the points whose bits are set in `mask`.
+    pub fn from_mask(mask: u32) -> Points
+        ensures { result ≡ mask }
+    {
+        Points { mask }
+    }
+
+    /// Whether the set has `point`.
+    pub fn has(self, point: u8) -> bool
+        requires { point < 32 }
+        ensures { result ≡ has self point }
+    {
+        (self.mask >> point) & 1 == 1
+    }
+
+    /// How many points the set has.
+    pub fn count(self) -> u8
+        ensures value { result ≡ count_of self }
+        ensures few { result ≤ 32 }
+    {
+        self.mask.count_ones() as u8
+    }
+
+    /// The set and `point`.
+    pub fn with(self, point: u8) -> Points
+        requires { point < 32 }
+        ensures { result ≡ with_point self point }
+    {
+        Points {
+            mask: self.mask | 1 << point,
+        }
+    }
+
+    /// The set less `point`.
+    pub fn without(self, point: u8) -> Points
+        requires { point < 32 }
+        ensures { result ≡ without_point self point }
+    {
+        Points {
+            mask: self.mask & !(1 << point),
+        }
+    }
+
+    /// Whether each point of this set is one of `other`.
+    pub fn is_within(self, other: Points) -> bool
+        ensures { result ≡ is_within self other }
+    {
+        self.mask & other.mask == self.mask
+    }
+
+    /// The least point of the set, or `None` where it has none.
+    pub fn first(self) -> Option<u8>
+        ensures point { IfSome result (λ p. (p < 32) × (has self p ≡ true)) }
+        ensures rest { MatchOption result (members self ≡ [])
+            (λ p. members self ≡ p ∷ members (without_point self p)) }
+    {
+        if self.mask == 0 {
+            return None;
+        }
+        Some(self.mask.trailing_zeros() as u8)
+    }
+
+    /// The points of the set, in ascending order.
+    pub fn iter(self) -> PointsIter
+        ensures points { result ≡ self }
+        ensures few { length (members self) ≤ 32 }
+    {
+        PointsIter { left: self }
+    }
+}
+
+/// An iterator over the points of a set, in ascending order.
+#[derive(Clone, Copy, Debug)]
+pub struct PointsIter {
+    left: Points,
+}
+
+impl Model for PointsIter {
+    ghost Value = { ℕ };
+
+    ghost view = { λ iter. iter.left };
+
+    ghost inverse = { λ n. record { left = n } };
+}
+
+impl Iterator for PointsIter {
+    type Item = u8;
+
+    ghost next_gives = { YieldsFirst members };
+
+    ghost remaining = { item_count members };
+
+    fn next(&mut self) -> Option<u8> {
+        let point = self.left.first()?;
+        self.left = self.left.without(point);
+        Some(point)
+    }
+}
