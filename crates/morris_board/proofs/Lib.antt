@@ -1,2 +1,3 @@
 pub mod PointsLaws
 pub mod GridTables
+pub mod TextLaws

@@ -318,7 +318,16 @@ has-set_where (suc n) f p = elim (cases_eq p n) [
     or_false true = refl
     or_false false = refl
 
--- the points of a set by a test are those that pass it
+-- a loop over the points from 0 on begins with the empty set, and takes each point that passes
+pub set_where_none : (f : ℕ → Bool) → set_where 0 f ≡ 0
+unfolding set_where
+set_where_none f = refl
+
+pub set_where_more : (n : ℕ) (f : ℕ → Bool) → set_where (n + 1) f ≡ cond (f n) (with_point (set_where n f) n) (set_where n f)
+unfolding set_where
+set_where_more n f = rw (add-one n) refl
+
+-- all of them are below n
 pub set_where-lt : (n : ℕ) (f : ℕ → Bool) → set_where n f < 2 ^ n
 unfolding set_where with_point
 set_where-lt zero f = lit< tt

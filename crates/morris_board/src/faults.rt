@@ -1,4 +1,7 @@
 //! Why a position is refused.
+ghost use Rattle.std.specs.Prelude.{◌≡◌};
+ghost use Rattle.morris_board.specs.declared.faults.TextFault.TheVariants as fault;
+
 use thiserror::Error;
 
 /// A player has a number of stones that no position has: the player to move has 2 to 9, the opponent 3 to 9.
@@ -18,4 +21,12 @@ pub enum TextFault {
     /// A player has a number of stones that no position has.
     #[error("bad number of stones")]
     Stones,
+}
+
+impl From<Stones> for TextFault {
+    ghost from_gives = { λ _ e. e ≡ fault.Stones };
+
+    fn from(_: Stones) -> TextFault {
+        TextFault::Stones
+    }
 }

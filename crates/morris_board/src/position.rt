@@ -1,5 +1,5 @@
 //! Positions and their texts.
-ghost use Rattle.std.specs.Prelude.{◌≡◌, ℕ};
+ghost use Rattle.std.specs.Prelude.{◌≡◌, ℕ, ◌<◌, ◌≤◌, length, not, position, IfOk, Ok};
 ghost use Rattle.morris_board.specs.Sets.{count_of, set_where};
 ghost use Rattle.morris_board.specs.Positions.{Sides, sides, IsApart, IsPosition, made, is_between, letter, text_of, read_of, is_letter, places_of};
 
@@ -73,6 +73,37 @@ impl<B: Geometry> Position<B> {
     {
         (self.own.count(), self.other.count())
     }
+
+    /// The position that a text shows: for each point of the board, in order, `X` for a stone of the player to move, `O` for one of the
+    /// opponent, `.` for a vacant point.
+    ///
+    /// # Errors
+    /// [`TextFault::Length`] where the text hasn't one byte per point, else [`TextFault::Character`] at its first byte that is none of
+    /// the three, else [`TextFault::Stones`] where a player has a number of stones that no position has.
+    pub fn read(bytes: &[u8]) -> Result<Position<B>, TextFault>
+        ensures answer { result ≡ read_of B.shape bytes.now }
+        ensures shows { IfOk result (λ s. text_of B.shape s ≡ bytes.now) }
+        ensures complete { (s : Sides) → IsPosition B.shape s → text_of B.shape s ≡ bytes.now → result ≡ Ok s }
+    {
+        if bytes.len() != B::POINTS as usize {
+            return Err(TextFault::Length);
+        }
+        match first_other(bytes) {
+            Some(place) => Err(TextFault::Character(place)),
+            None => Ok(Position::new(places(bytes, b'X'), places(bytes, b'O'))?),
+        }
+    }
+
+    /// Writes the text of the position, which [`Position::read`] reads back. `out` has one byte per point of the board.
+    pub fn write_to(&self, out: &mut [u8])
+        requires { length out.old ≡ B.POINTS }
+        ensures text { out.new ≡ text_of B.shape self.now }
+        ensures reads_back { read_of B.shape out.new ≡ Ok self.now }
+    {
+        for (point, character) in out.iter_mut().enumerate() {
+            *character = letter(self.own, self.other, point as u8);
+        }
+    }
 }
 
 /// Whether `low <= n <= high`.
@@ -80,4 +111,42 @@ fn is_between(low: u8, n: u8, high: u8) -> bool
     ensures { result ≡ is_between low n high }
 {
     low <= n && n <= high
+}
+
+/// The places of `text` at which `letter` stands.
+#[tactic(auto, using(crate::proofs::PointsLaws::set_where_none, crate::proofs::PointsLaws::set_where_more), unfolding(crate::specs::Positions::places_of))]
+fn places(text: &[u8], letter: u8) -> Points
+    requires { length text.now ≤ 24 }
+    ensures { result ≡ places_of letter text.now }
+{
+    let mut found = Points::EMPTY;
+    for (place, character) in text.iter().enumerate() {
+        if *character == letter {
+            found = found.with(place as u8);
+        }
+    }
+    found
+}
+
+/// The place of the first character of `text` that is none of `X`, `O` and `.`.
+fn first_other(text: &[u8]) -> Option<usize>
+    ensures { result ≡ position (λ c. not (is_letter c)) text.now }
+{
+    text.iter()
+        .position(|character| !matches!(*character, b'X' | b'O' | b'.'))
+}
+
+/// The character of a text for `point`.
+#[tactic(auto, unfolding(crate::specs::Positions::letter))]
+fn letter(own: Points, other: Points, point: u8) -> u8
+    requires { point < 32 }
+    ensures { result ≡ letter (sides own other) point }
+{
+    if own.has(point) {
+        b'X'
+    } else if other.has(point) {
+        b'O'
+    } else {
+        b'.'
+    }
 }
