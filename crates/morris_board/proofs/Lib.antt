@@ -1,3 +1,3 @@
 pub mod PointsLaws
-pub mod GridTables
+pub mod Tables
 pub mod TextLaws

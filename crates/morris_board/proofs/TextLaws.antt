@@ -105,8 +105,9 @@ read_whole b t h none = read_long b t h ∙ ap (λ o. read_letters o (shown t)) 
 pub read_short : (b : Shape) (t : List ℕ) → length t ≢ b.points → read_of b t ≡ Err fault.Length
 read_short b t n = ap (λ x. cond x (read_letters (other_at t) (shown t)) (Err fault.Length)) (ne_eqb (length t) b.points n)
 
-pub read_bad : (b : Shape) (t : List ℕ) (place : ℕ) → length t ≡ b.points → other_at t ≡ Some place → read_of b t ≡ Err (fault.Character place)
-read_bad b t place long some = read_long b t long ∙ ap (λ o. read_letters o (shown t)) some
+pub read_bad : (b : Shape) (t : List ℕ) (place : ℕ) → length t ≡ b.points → (first : Option ℕ) → first ≡ other_at t → first ≡ Some place
+    → read_of b t ≡ Err (fault.Character place)
+read_bad b t place long first is some = read_long b t long ∙ ap (λ o. read_letters o (shown t)) (sym is ∙ some)
 
 -- a position is read back from its text
 pub read_of-text_of : (b : Shape) (s : Sides) → IsPosition b s → read_of b (text_of b s) ≡ Ok s
@@ -185,25 +186,26 @@ shows_of b t s e = elim (cases_eq (length t) b.points) [
     ]
 
 -- what a text of the right length and letters gives is what its two sets make
-module _ (b : Shape) (t : List ℕ) (own other : ℕ) (long : length t ≡ b.points) (none : other_at t ≡ None)
-    (own_is : own ≡ places_of 88 t) (other_is : other ≡ places_of 79 t) where
+module _ (b : Shape) (t : List ℕ) (own other : ℕ) (long : length t ≡ b.points)
+    (first : Option ℕ) (first_is : first ≡ other_at t) (none_first : first ≡ None)
+    (own_is : own ≡ places_of 88 t) (other_is : other ≡ places_of 79 t)
+    (r : Result Sides Stones) (r_is : r ≡ made (sides own other)) where
   are_shown : sides own other ≡ shown t
   unfolding shown
   are_shown = rw (own_is, other_is) refl
 
-  answer_made : (r : Result Sides Stones) → made (sides own other) ≡ r
-      → MatchResult r (λ s. read_of b t ≡ Ok s) (λ e. read_of b t ≡ Err fault.Stones)
-  answer_made r e = elim (cases_Bool (is_sized (shown t))) [
+  answer_made : MatchResult r (λ s. read_of b t ≡ Ok s) (λ e. read_of b t ≡ Err fault.Stones)
+  answer_made = let none : other_at t ≡ None = sym first_is ∙ none_first in elim (cases_Bool (is_sized (shown t))) [
     | inl y ↦
-        let is : r ≡ Ok (shown t) = sym e ∙ ap made are_shown ∙ ap (λ x. cond x (Ok (shown t)) (Err (record {}))) y in
+        let is : r ≡ Ok (shown t) = r_is ∙ ap made are_shown ∙ ap (λ x. cond x (Ok (shown t)) (Err (record {}))) y in
         rw is (read_whole b t long none ∙ ap (λ x. cond x (Ok (shown t)) (Err fault.Stones)) y)
     | inr n ↦
-        let is : r ≡ Err (record {}) = sym e ∙ ap made are_shown ∙ ap (λ x. cond x (Ok (shown t)) (Err (record {}))) n in
+        let is : r ≡ Err (record {}) = r_is ∙ ap made are_shown ∙ ap (λ x. cond x (Ok (shown t)) (Err (record {}))) n in
         rw is (read_whole b t long none ∙ ap (λ x. cond x (Ok (shown t)) (Err fault.Stones)) n)
   ]
 
-  pub ok_made : (s : Sides) → made (sides own other) ≡ Ok s → read_of b t ≡ Ok s
-  ok_made s e = answer_made (Ok s) e
+  pub ok_made : (s : Sides) → r ≡ Ok s → read_of b t ≡ Ok s
+  ok_made s e = rw e at answer_made
 
-  pub err_made : (e : Stones) → made (sides own other) ≡ Err e → read_of b t ≡ Err fault.Stones
-  err_made x e = answer_made (Err x) e
+  pub err_made : (e : Stones) → r ≡ Err e → read_of b t ≡ Err fault.Stones
+  err_made x e = rw e at answer_made

@@ -1,4 +1,4 @@
 pub mod Sets
 pub mod Boards
 pub mod Positions
-pub mod GridLaws
+pub mod BoardLaws

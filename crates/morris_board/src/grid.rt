@@ -32,7 +32,7 @@ const MILLS: [u32; 6] = [
 impl Geometry for Grid {
     ghost use Rattle.std.proofs.Common.{arith};
     ghost use Rattle.morris_board.specs.Boards.{grid};
-    ghost use Rattle.morris_board.specs.GridLaws.{is_board-grid, point_count-grid, mill_count-grid};
+    ghost use Rattle.morris_board.specs.BoardLaws.{is_board-grid, point_count-grid, mill_count-grid};
 
     ghost shape = { grid };
 

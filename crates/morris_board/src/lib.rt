@@ -4,5 +4,8 @@
 pub mod board;
 pub mod faults;
 pub mod grid;
+pub mod nine;
 pub mod points;
 pub mod position;
+#[cfg(test)]
+mod tests;

@@ -1,4 +1,4 @@
-use Rattle.morris_board.proofs.GridTables.{mills-grid}
+use Rattle.morris_board.proofs.Tables.{mills-grid}
 use Rattle.morris_board.proofs.grid.GridGeometry.mill.Goals as goal
 
 pub returns : goal.returns

@@ -14,15 +14,15 @@ pub returns-in_err-new-in-None-clause-answer : goal.returns-in_err-new-in-None-c
 returns-in_err-new-in-None-clause-answer g c =
     let long : length c.args.bytes.now ≡ g.B.Geometry.shape.points = omega (arith, c.POINTS.ensures, g.met.B.Geometry.point_count) in
     let is : read_of g.B.Geometry.shape c.args.bytes.now ≡ Err fault.Stones =
-    err_made g.B.Geometry.shape c.args.bytes.now c.places.result c.places-in-None.result long (sym c.first_other.ensures ∙ c.in-None.is) c.places.ensures
-    c.places-in-None.ensures c.in_err-new-in-None.field-0.0 (sym c.new.ensures ∙ c.in_err-new-in-None.was) in
+    err_made g.B.Geometry.shape c.args.bytes.now c.places.result c.places-in-None.result long c.first_other.result c.first_other.ensures c.in-None.is c.places.ensures
+    c.places-in-None.ensures c.new.result c.new.ensures c.in_err-new-in-None.field-0.0 c.in_err-new-in-None.was in
     rw is (search rules)
 
 pub returns-in_ok-new-in-None-clause-answer : goal.returns-in_ok-new-in-None-clause-answer
 returns-in_ok-new-in-None-clause-answer g c =
     let long : length c.args.bytes.now ≡ g.B.Geometry.shape.points = omega (arith, c.POINTS.ensures, g.met.B.Geometry.point_count) in
-    sym (ok_made g.B.Geometry.shape c.args.bytes.now c.places.result c.places-in-None.result long (sym c.first_other.ensures ∙ c.in-None.is) c.places.ensures
-    c.places-in-None.ensures c.in_ok-new-in-None.field-0 (sym c.new.ensures ∙ c.in_ok-new-in-None.was))
+    sym (ok_made g.B.Geometry.shape c.args.bytes.now c.places.result c.places-in-None.result long c.first_other.result c.first_other.ensures c.in-None.is c.places.ensures
+    c.places-in-None.ensures c.new.result c.new.ensures c.in_ok-new-in-None.field-0 c.in_ok-new-in-None.was)
 
 pub returns-in_ok-new-in-None-clause-shows : goal.returns-in_ok-new-in-None-clause-shows
 returns-in_ok-new-in-None-clause-shows g c =
@@ -45,5 +45,5 @@ returns-then-bytes-POINTS-clause-complete g c = λ s h e.
 pub returns-in-Some-clause-complete : goal.returns-in-Some-clause-complete
 returns-in-Some-clause-complete g c = λ s h e.
     let long : length c.args.bytes.now ≡ g.B.Geometry.shape.points = omega (arith, c.POINTS.ensures, g.met.B.Geometry.point_count) in
-    sym (read_bad g.B.Geometry.shape c.args.bytes.now c.in-Some.place long (sym c.first_other.ensures ∙ c.in-Some.is))
+    sym (read_bad g.B.Geometry.shape c.args.bytes.now c.in-Some.place long c.first_other.result c.first_other.ensures c.in-Some.is)
     ∙ complete_of g.B.Geometry.shape c.args.bytes.now s h e

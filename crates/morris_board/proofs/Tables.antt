@@ -1,0 +1,35 @@
+-- The tables of the boards are their adjacency and their mills, by computation over the whole of each table.
+use Rattle.std.proofs.Common.{◌≡◌, ℕ, ◌<◌, List, map, get_or, sym, ◌∙◌, ap, refl, zero-add}
+use Rattle.std.specs.List.{range_with_len}
+use Rattle.std.proofs.lemmas.List.FromFn.{get_or-map-range_with_len}
+use Rattle.morris_board.specs.Sets.{set_where, set_of, with_point}
+use Rattle.morris_board.specs.Boards.{Shape, adjacent, is_adjacent, mills_of, grid, nine}
+use Rattle.morris_board.specs.declared.grid.TheConstants as grid_table
+use Rattle.morris_board.specs.declared.nine.TheConstants as nine_table
+
+-- from the whole table to each of its entries
+at_point : (b : Shape) (n : ℕ) (table : List ℕ) → map (adjacent b) (range_with_len 0 n) ≡ table → (p : ℕ) → p < n → get_or table p 0 ≡ adjacent b p
+at_point b n table same p h =
+    ap (λ entries. get_or entries p 0) (sym same) ∙ get_or-map-range_with_len (adjacent b) 0 n p p 0 h (zero-add p)
+
+adjacent-grid : map (adjacent grid) (range_with_len 0 9) ≡ grid_table.NEIGHBOURS
+unfolding grid adjacent is_adjacent set_where with_point
+adjacent-grid = refl
+
+pub neighbours-grid : (p : ℕ) → p < 9 → get_or grid_table.NEIGHBOURS p 0 ≡ adjacent grid p
+neighbours-grid = at_point grid 9 grid_table.NEIGHBOURS adjacent-grid
+
+pub mills-grid : mills_of grid ≡ grid_table.MILLS
+unfolding grid mills_of set_of with_point
+mills-grid = refl
+
+adjacent-nine : map (adjacent nine) (range_with_len 0 24) ≡ nine_table.NEIGHBOURS
+unfolding nine adjacent is_adjacent set_where with_point
+adjacent-nine = refl
+
+pub neighbours-nine : (p : ℕ) → p < 24 → get_or nine_table.NEIGHBOURS p 0 ≡ adjacent nine p
+neighbours-nine = at_point nine 24 nine_table.NEIGHBOURS adjacent-nine
+
+pub mills-nine : mills_of nine ≡ nine_table.MILLS
+unfolding nine mills_of set_of with_point
+mills-nine = refl

@@ -1,0 +1,184 @@
+use crate::board::Geometry;
+use crate::faults::TextFault;
+use crate::grid::Grid;
+use crate::nine::Nine;
+use crate::points::Points;
+use crate::position::Position;
+use std::process::Abort;
+use std::test::Fail;
+
+fn set_of(rt: &impl Abort, list: &[u8]) -> Points {
+    let mut set = Points::EMPTY;
+    for point in list {
+        assert!(rt; *point < 32);
+        set = set.with(*point);
+    }
+    set
+}
+
+/// The board has just these mills, in this order, and just these pairs of adjacent points.
+fn assert_board<B: Geometry>(rt: &impl Abort, mills: &[[u8; 3]], pairs: &[(u8, u8)]) {
+    assert_eq!(rt; mills.len(), B::MILLS as usize);
+    for (number, points) in mills.iter().enumerate() {
+        assert!(rt; number < B::MILLS as usize);
+        assert_eq!(rt; B::mill(number as u8), set_of(rt, points), "mill {number}");
+    }
+    for p in 0..B::POINTS {
+        for q in 0..B::POINTS {
+            let adjacent = pairs.contains(&(p, q)) || pairs.contains(&(q, p));
+            assert_eq!(rt; B::neighbours(p).has(q), adjacent, "{p} and {q}");
+        }
+    }
+}
+
+#[test]
+fn grid_is_three_rows_and_three_columns(rt: HostRuntime) {
+    assert_eq!(rt; Grid::POINTS, 9);
+    assert_eq!(rt; Grid::ID, 1);
+    assert_eq!(rt; Grid::NAME, "grid");
+    let mills = [
+        [0, 1, 2],
+        [3, 4, 5],
+        [6, 7, 8],
+        [0, 3, 6],
+        [1, 4, 7],
+        [2, 5, 8],
+    ];
+    let pairs = [
+        (0, 1),
+        (1, 2),
+        (3, 4),
+        (4, 5),
+        (6, 7),
+        (7, 8),
+        (0, 3),
+        (3, 6),
+        (1, 4),
+        (4, 7),
+        (2, 5),
+        (5, 8),
+    ];
+    assert_board::<Grid>(&rt, &mills, &pairs);
+}
+
+#[test]
+fn nine_is_three_rings(rt: HostRuntime) {
+    assert_eq!(rt; Nine::POINTS, 24);
+    assert_eq!(rt; Nine::ID, 0);
+    assert_eq!(rt; Nine::NAME, "nine");
+    let mills = [
+        [0, 1, 2],
+        [2, 3, 4],
+        [4, 5, 6],
+        [6, 7, 0],
+        [8, 9, 10],
+        [10, 11, 12],
+        [12, 13, 14],
+        [14, 15, 8],
+        [16, 17, 18],
+        [18, 19, 20],
+        [20, 21, 22],
+        [22, 23, 16],
+        [1, 9, 17],
+        [3, 11, 19],
+        [5, 13, 21],
+        [7, 15, 23],
+    ];
+    let pairs = [
+        (0, 1),
+        (1, 2),
+        (2, 3),
+        (3, 4),
+        (4, 5),
+        (5, 6),
+        (6, 7),
+        (7, 0),
+        (8, 9),
+        (9, 10),
+        (10, 11),
+        (11, 12),
+        (12, 13),
+        (13, 14),
+        (14, 15),
+        (15, 8),
+        (16, 17),
+        (17, 18),
+        (18, 19),
+        (19, 20),
+        (20, 21),
+        (21, 22),
+        (22, 23),
+        (23, 16),
+        (1, 9),
+        (3, 11),
+        (5, 13),
+        (7, 15),
+        (9, 17),
+        (11, 19),
+        (13, 21),
+        (15, 23),
+    ];
+    assert_board::<Nine>(&rt, &mills, &pairs);
+}
+
+#[test]
+fn the_points_of_a_set_come_in_ascending_order(rt: HostRuntime) -> Result<(), Fail> {
+    let set = set_of(&rt, &[22, 4, 11]);
+    assert_eq!(rt; set.count(), 3);
+    assert!(rt; set.has(11) && !set.has(12));
+    assert_eq!(rt; set.first(), Some(4));
+    let points: Vec<u8> = set.iter().collect(rt.alloc())?;
+    assert_eq!(rt; points.as_slice(), [4, 11, 22].as_slice());
+    assert_eq!(rt; set.without(4).without(22), Points::EMPTY.with(11));
+    assert!(rt; Points::EMPTY.with(4).is_within(set) && !set.with(5).is_within(set));
+    assert_eq!(rt; Points::EMPTY.first(), None);
+    Ok(())
+}
+
+#[test]
+fn a_text_shows_a_position(rt: HostRuntime) -> Result<(), Fail> {
+    let position = Position::<Grid>::read(b"XXX.OO.O.")?;
+    assert_eq!(rt; position.own(), set_of(&rt, &[0, 1, 2]));
+    assert_eq!(rt; position.other(), set_of(&rt, &[4, 5, 7]));
+    assert_eq!(rt; position.counts(), (3, 3));
+    let mut text = [0; 9];
+    position.write_to(&mut text);
+    assert_eq!(rt; text.as_slice(), b"XXX.OO.O.".as_slice());
+    let nine = Position::<Nine>::read(b"OO..X....O.X..........X.")?;
+    assert_eq!(rt; nine.own(), set_of(&rt, &[4, 11, 22]));
+    assert_eq!(rt; nine.other(), set_of(&rt, &[0, 1, 9]));
+    Ok(())
+}
+
+fn refusal<B: Geometry>(text: &[u8]) -> Option<TextFault> {
+    Position::<B>::read(text).err()
+}
+
+#[test]
+fn the_first_fault_of_a_text_is_named(rt: HostRuntime) {
+    assert_eq!(rt;
+        refusal::<Nine>(b"OO..X....O.X..........X"),
+        Some(TextFault::Length)
+    );
+    assert_eq!(rt; refusal::<Grid>(b""), Some(TextFault::Length));
+    assert_eq!(rt; refusal::<Grid>(b"X?"), Some(TextFault::Length));
+    assert_eq!(rt;
+        refusal::<Grid>(b"xXX.OO.O."),
+        Some(TextFault::Character(0))
+    );
+    assert_eq!(rt;
+        refusal::<Grid>(b"XXX.OO.?o"),
+        Some(TextFault::Character(7))
+    );
+    assert_eq!(rt; refusal::<Grid>(b"XXXOO...."), Some(TextFault::Stones));
+    assert_eq!(rt; refusal::<Grid>(b"X..OOO..."), Some(TextFault::Stones));
+}
+
+#[test]
+fn two_sets_make_a_position_if_their_sizes_allow_it(rt: HostRuntime) -> Result<(), Fail> {
+    let position = Position::<Grid>::read(b"XX.OOO...")?;
+    let same = Position::<Grid>::new(position.own(), position.other())?;
+    assert_eq!(rt; same.counts(), (2, 3));
+    assert!(rt; Position::<Grid>::new(position.own(), Points::EMPTY).is_err());
+    Ok(())
+}
