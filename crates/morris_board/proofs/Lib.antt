@@ -1,3 +1,4 @@
 pub mod PointsLaws
+pub mod SentLaws
 pub mod Tables
 pub mod TextLaws

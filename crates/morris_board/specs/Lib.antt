@@ -2,3 +2,4 @@ pub mod Sets
 pub mod Boards
 pub mod Positions
 pub mod BoardLaws
+pub mod Streams

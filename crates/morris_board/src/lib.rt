@@ -7,5 +7,6 @@ pub mod grid;
 pub mod nine;
 pub mod points;
 pub mod position;
+pub mod streams;
 #[cfg(test)]
 mod tests;
