@@ -1,0 +1,139 @@
+-- Where `clap` finds no mistake in the words, they name a command of the program, with the values that its request wants.
+use Rattle.std.proofs.Common.{◌≡◌, ◌∙◌, ◌&&◌, ◌||◌, ◌⊎◌, Bool, true, false, not, refl, sym, ap, subst, inl, inr, List, [], ◌∷◌, Option, Some, None, is_some, codes}
+use Rattle.std.specs.Prelude.{find, option_map, pos}
+use Rattle.std.specs.Option.{option_map_or}
+use Rattle.std.specs.Str.{bytes_eq}
+use Rattle.std.proofs.lemmas.Slice.Eq.{bytes_eq-Decides}
+use Rattle.clap.proofs.ValueTestLemmas.{accepts-Accepts}
+use Rattle.clap.specs.Faults.{built_fault, entered_fault, level_fault}
+use Rattle.clap.specs.Takes.{is_given}
+use Rattle.clap.specs.Walk.{Rule, Text, answers_to, finished, has_row, nothing_held, rows_after, settled, stop_after, walk, with_default}
+use Rattle.clap.specs.Simple.{App, Shape, argument_words, built, built_leaf, entered, filled, help_rule, inherited, label_of, marked_built, names_of, new_shape, rows_at, with_index, with_leaf_noted, with_subcommand}
+use Rattle.clap.specs.declared.builder.value_parser.ValueParser.TheVariants as parser
+use Rattle.morris.specs.Words.{HasLookValues, NamesRequest, depth_rule, faults_of, look_app, morris_app, named_by, program, required_rule}
+use Rattle.morris.proofs.Parsed.{Each, Each-find, HasValue, IsNotHelp, IsPlainRule, arguments_there, default_fills, default_keeps, given_value, level_passes, row_value, subcommand_there}
+
+-- ---- `look`, as it is built
+
+abbrev board : Rule
+board = with_index 1 (filled (required_rule (codes "BOARD")))
+
+abbrev position : Rule
+position = with_index 2 (filled (required_rule (codes "TEXT")))
+
+abbrev depth : Rule
+depth = filled depth_rule
+
+abbrev help : Rule
+help = filled help_rule
+
+abbrev look_top : Shape
+look_top = record (new_shape (codes "look")) { rules = required_rule (codes "BOARD") ∷ required_rule (codes "TEXT") ∷ depth_rule ∷ [] }
+
+abbrev whole : App
+whole = with_subcommand program look_top
+
+abbrev look : Shape
+look = built_leaf (inherited (with_leaf_noted (marked_built whole.top)) look_top)
+
+look_plain : Each (IsPlainRule look.rules) look.rules
+look_plain = (
+  record { known = refl; kind = inl (refl, refl) },
+  (
+    record { known = refl; kind = inl (refl, refl) },
+    (
+      record { known = refl; kind = inl (refl, refl) },
+      (record { known = refl; kind = inr refl }, tt),
+    ),
+  ),
+)
+
+both_given : (p q : Bool) → (not p || (not q || false)) ≡ false → (p ≡ true) × (q ≡ true)
+both_given true true h = (refl, refl)
+both_given true false h = cc
+both_given false q h = cc
+
+look_fits : (words : List Text) → level_fault look [] nothing_held words false [] ≡ [] → HasLookValues (rows_after look.rules [] words)
+look_fits words none =
+    let level = level_passes look [] words false [] look_plain none in
+    let rows = rows_after look.rules [] words in
+    let start = (settled look.rules (walk look.rules [] nothing_held words).held).rows in
+    let missing : (not (is_given (codes "BOARD") rows) || (not (is_given (codes "TEXT") rows) || false)) ≡ false = arguments_there look rows false level.checked in
+    let given = both_given _ _ missing in
+    let has : has_row (codes "depth") rows ≡ true =
+    default_keeps (codes "depth") help (with_default (with_default (with_default start board) position) depth)
+    (default_fills depth (codes "2") [] (with_default (with_default start board) position) refl) in
+    let first : HasValue rows board = given_value look.rules rows board level.rows given.0 refl in
+    let second : HasValue rows position = given_value look.rules rows position level.rows given.1 refl in
+    let third : HasValue rows depth = row_value look.rules rows depth level.rows has refl in
+    record {
+      board = ap is_some first.is_first;
+      text = ap is_some second.is_first;
+      depth = third.first;
+      read = third.read;
+      in_range = accepts-Accepts false (parser.Signed (pos 0) (pos 6)) third.first third.passes;
+    }
+
+-- ---- the program
+
+only_left : (b : Bool) → (b || false) ≡ true → b ≡ true
+only_left true h = refl
+only_left false h = h
+
+-- a command of the program: its words make a request, or it is `help`, whose words always ask for help
+abbrev Serves : Shape → Type 0
+Serves s = ((words : List Text) → level_fault s [] nothing_held words false [] ≡ [] → NamesRequest (Some (rows_at s words)))
+    ⊎ ((s.name ≡ codes "help") × (s.aliases ≡ []))
+
+all_serve : Each Serves (built whole).subs
+all_serve = (inl (λ words none. (refl, look_fits words none)), (inr (refl, refl), tt))
+
+program_plain : Each (IsPlainRule (built whole).top.rules) (built whole).top.rules
+program_plain = (record { known = refl; kind = inr refl }, tt)
+
+not_named_help : (s : Shape) (name : Text) → s.name ≡ codes "help" → s.aliases ≡ [] → answers_to name (label_of s) ≡ true
+    → bytes_eq name (codes "help") ≡ false → ⊥
+not_named_help s name is alone answers other =
+    let here : (bytes_eq (codes "help") name || false) ≡ true = rw (is, alone) at answers in
+    let same : codes "help" ≡ name = (bytes_eq-Decides (codes "help") name).0 (only_left (bytes_eq (codes "help") name) here) in
+    let again : bytes_eq name (codes "help") ≡ true = (bytes_eq-Decides name (codes "help")).1 (sym same) in
+    let bad : true ≡ false = sym again ∙ other in
+    cc
+
+found_named : (p : Text × List Text) (o : Option Shape) → ((s : Shape) → o ≡ Some s → Serves s × (answers_to p.0 (label_of s) ≡ true))
+    → IsNotHelp (Some p) → option_map_or (λ s. level_fault s [] nothing_held p.1 false []) o [] ≡ []
+    → is_some (option_map (λ s. rows_at s p.1) o) ≡ true → NamesRequest (option_map (λ s. rows_at s p.1) o)
+found_named p None serves other none has = cc
+found_named p (Some s) serves other none has =
+    let at = serves s refl in
+    elim at.0 [
+      | inl fits ↦ fits p.1 none
+      | inr named ↦ absurd (not_named_help s p.0 named.0 named.1 at.1 other)
+    ]
+
+entered_named : (a : App) (stop : Option (Text × List Text)) → Each Serves a.subs → IsNotHelp stop → entered_fault a stop ≡ []
+    → is_some (entered a stop) ≡ true → NamesRequest (entered a stop)
+entered_named a None serves other none has = cc
+entered_named a (Some p) serves other none has =
+    found_named p (find (λ s. answers_to p.0 (label_of s)) a.subs)
+    (λ s e. Each-find Serves (λ x. answers_to p.0 (label_of x)) a.subs s serves e) other none has
+
+there : (b : Bool) → (not b && true) ≡ false → b ≡ true
+there true h = refl
+there false h = cc
+
+-- a program that wants a command, of which each serves
+program_named : (a : App) (words : List Text) → Each (IsPlainRule a.top.rules) a.top.rules → Each Serves a.subs → a.top.subcommand_required ≡ true
+    → a.top.disable_help_subcommand ≡ false → built_fault a nothing_held words ≡ []
+    → NamesRequest (entered a (stop_after a.top.rules (names_of a) words))
+program_named a words plain serves wants offers none =
+    let stop = stop_after a.top.rules (names_of a) words in
+    let has = is_some (entered a stop) in
+    let level = level_passes a.top (names_of a) words has (entered_fault a stop) plain none in
+    let rows = finished a.top.rules (walk a.top.rules (names_of a) nothing_held words).held in
+    let wanted : (not has && true) ≡ false = subst (λ (b : Bool). (not has && b) ≡ false) wants (subcommand_there a.top rows has level.checked) in
+    entered_named a stop serves (level.stopped offers) level.below_none (there has wanted)
+
+pub named : (words : List Text) → faults_of words ≡ [] → NamesRequest (named_by words)
+unfolding morris_app look_app
+named words none = program_named (built whole) (argument_words whole words) program_plain all_serve refl refl none

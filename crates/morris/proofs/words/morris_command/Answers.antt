@@ -1,0 +1,16 @@
+use Rattle.std.proofs.Common.{◌≡◌, ◌∙◌, ap, ap₂, codes, true}
+use Rattle.std.proofs.lemmas.Result.{IfOk-weaker}
+use Rattle.clap.specs.Simple.{app_of_fields}
+use Rattle.clap.specs.Words.{App, app_of, new_app, with_subcommand}
+use Rattle.morris.specs.Words.{morris_app, program}
+use Rattle.morris.proofs.words.morris_command.Goals as goal
+
+pub returns : goal.returns
+unfolding morris_app
+returns c =
+    let named : app_of c.in_ok-bin_name.field-0 ≡ new_app (codes "morris") = ap app_of_fields c.in_ok-bin_name.ensures.0 ∙ c.new.ensures.app in
+    let about : app_of c.about.result ≡ new_app (codes "morris") = ap app_of_fields c.about.ensures ∙ named in
+    let wants : app_of c.subcommand_required.result ≡ program =
+    ap app_of_fields c.subcommand_required.ensures ∙ ap (λ (a : App). record a { top = record a.top { subcommand_required = true } }) about in
+    let look = ap (λ (a : App). a.top) c.in_ok-look_command.ensures.app in
+    IfOk-weaker c.subcommand.result _ _ (λ r h. h.shape c.in_ok-look_command.ensures.local ∙ ap₂ with_subcommand wants look) c.subcommand.ensures

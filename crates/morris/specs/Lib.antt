@@ -1,0 +1,4 @@
+pub mod Faults
+pub mod Look
+pub mod Words
+pub mod Command

@@ -1,0 +1,104 @@
+-- The command line, as `clap` reads it, and what its words ask for.
+use Rattle.std.specs.Prelude.{◌≡◌, ◌≢◌, ◌≤◌, ⊤, ℕ, Bool, true, List, [], ◌∷◌, Option, Some, None}
+use Rattle.std.specs.Prelude.{IsSomeAnd, codes, is_some, option_map, pos}
+use Rattle.std.specs.Str.Parse.{digits_value, without_leading_plus}
+use Rattle.clap.specs.Words.{App, IsAmong, IsSignedIn, Kinds, Row, Rule, Text, fault_of, first_of}
+use Rattle.clap.specs.Words.{new_app, new_rule, one_of, subcommand_of, with_rule, with_subcommand}
+use Rattle.clap.specs.Words.{without_minus}
+use Rattle.clap.specs.declared.builder.command.Command.{Command}
+use Rattle.clap.specs.declared.builder.command.Command.TheViews.{out-Command}
+use Rattle.clap.specs.declared.builder.value_parser.ValueParser.TheVariants as parser
+use Rattle.clap.specs.declared.error.kind.ErrorKind.{ErrorKind}
+use Rattle.clap.specs.declared.error.kind.ErrorKind.TheVariants as kind
+use Rattle.morris.specs.declared.words.Request.{Request}
+use Rattle.morris.specs.declared.words.Request.TheVariants.{Look}
+use Rattle.morris.specs.declared.words.Refusal.{Refusal}
+use Rattle.morris.specs.declared.words.Refusal.TheVariants.{Memory, Help, Wrong}
+
+-- ---- the commands
+
+-- an argument that has to be given, in its place
+abbrev pub required_rule : Text → Rule
+required_rule name = record (new_rule name) { required = true }
+
+-- `--depth N`, N a number from 0 to 6, and 2 where it is left out
+abbrev pub depth_rule : Rule
+depth_rule = record (new_rule (codes "depth")) {
+  long = Some (codes "depth");
+  value_names = 1;
+  parser = Some (parser.Signed (pos 0) (pos 6));
+  defaults = codes "2" ∷ [];
+}
+
+-- `look BOARD TEXT [--depth N]`
+unfoldable pub look_app : App
+look_app =
+    with_rule (with_rule (with_rule (new_app (codes "look")) (required_rule (codes "BOARD")))
+    (required_rule (codes "TEXT"))) depth_rule
+
+-- a program that wants one of its commands
+abbrev pub program : App
+program = record (new_app (codes "morris")) {
+  top = record (new_app (codes "morris")).top { subcommand_required = true };
+}
+
+-- the program `morris` with its commands
+unfoldable pub morris_app : App
+morris_app = with_subcommand program look_app.top
+
+-- an argument of the command, or of one of its own commands, is global
+abbrev pub has_globals : Command → Bool
+has_globals c = (out-Command c).has_globals
+
+-- ---- what the words ask for
+
+-- what `clap` finds against the words: the kinds of mistake that they may have, or a request for
+-- help, and nothing where it takes them
+abbrev pub faults_of : List Text → Kinds
+faults_of words = fault_of morris_app words
+
+-- the command that the words name, with the values of its arguments
+abbrev pub named_by : List Text → Option (Text × List Row)
+named_by words = subcommand_of morris_app words
+
+-- the number that a decimal text writes
+abbrev pub number_of : Text → ℕ
+number_of text = digits_value 10 (without_leading_plus text)
+
+-- the request is for the command that was named, with the values of its arguments
+abbrev pub AsksFor : Option (Text × List Row) → Request → Type 0
+AsksFor None r = ⊥
+AsksFor (Some (name, rows)) (Look board text depth) =
+    (name ≡ codes "look") × (first_of (codes "BOARD") rows ≡ Some board.now)
+    × (first_of (codes "TEXT") rows ≡ Some text.now)
+    × (option_map number_of (one_of (codes "depth") rows) ≡ Some depth)
+
+-- a depth is at most 6 plies
+abbrev pub IsInRange : Request → Type 0
+IsInRange (Look board text depth) = depth ≤ 6
+
+-- the values of which `look` makes its request: board and text are there, and so is a depth from 0
+-- to 6
+pub record HasLookValues (rows : List Row) : Type 0 where
+  pub board : is_some (first_of (codes "BOARD") rows) ≡ true
+  pub text : is_some (first_of (codes "TEXT") rows) ≡ true
+  pub depth : Text
+  pub read : one_of (codes "depth") rows ≡ Some (without_minus depth)
+  pub in_range : IsSignedIn (pos 0) (pos 6) depth
+
+-- a command of the program was named, with the values of which it makes its request
+abbrev pub NamesRequest : Option (Text × List Row) → Type 0
+NamesRequest named = IsSomeAnd named (λ c. (c.0 ≡ codes "look") × HasLookValues c.1)
+
+-- how an error of a kind is answered: a request for help by help, and a mistake by what is wrong.
+-- Memory may run out at any kind.
+abbrev pub IsAnswerTo : ErrorKind → Refusal → Type 0
+IsAnswerTo k Memory = ⊤
+IsAnswerTo k (Help text) = k ≡ kind.DisplayHelp
+IsAnswerTo k (Wrong text) = (k ≢ kind.DisplayHelp) × (k ≢ kind.OutOfMemory)
+
+-- the refusal answers one of these kinds
+abbrev pub IsAnswerToOneOf : Kinds → Refusal → Type 0
+IsAnswerToOneOf kinds Memory = ⊤
+IsAnswerToOneOf kinds (Help text) = IsAmong kind.DisplayHelp kinds
+IsAnswerToOneOf kinds (Wrong text) = (k : ErrorKind) × (k ≢ kind.DisplayHelp) × IsAmong k kinds

@@ -1,0 +1,281 @@
+use crate::command::{command, refuse_words};
+use crate::fault::Fault;
+use crate::look::look;
+use morris_board::streams::{FromRead, IntoWrite};
+use std::io;
+use std::io::Write;
+use std::process::Abort;
+use std::test::Fail;
+
+/// What the program answers to words: its exit status, and what goes to standard output and standard error.
+#[derive(Drop)]
+struct Answer {
+    status: u8,
+    output: Vec<u8>,
+    errors: Vec<u8>,
+}
+
+fn answer_to<R: AllocGlobal>(rt: &R, words: &[&str]) -> Answer {
+    let mut input = FromRead::new([].as_slice());
+    let mut output = IntoWrite::new(Vec::new(rt.alloc()));
+    let mut errors = IntoWrite::new(Vec::new(rt.alloc()));
+    let status = command(rt, rt.alloc(), words, &mut input, &mut output, &mut errors);
+    Answer {
+        status,
+        output: output.into_inner(),
+        errors: errors.into_inner(),
+    }
+}
+
+fn assert_answer(
+    rt: &(impl Abort + AllocGlobal),
+    words: &[&str],
+    status: u8,
+    output: &str,
+    errors: &str,
+) {
+    let answer = answer_to(rt, words);
+    assert_eq!(rt; answer.status, status, "{words:?}");
+    assert_eq!(rt; answer.output.as_slice(), output.as_bytes(), "{words:?}");
+    assert_eq!(rt; answer.errors.as_slice(), errors.as_bytes(), "{words:?}");
+}
+
+/// The words are refused with status 2, with a text on standard error and nothing on standard output.
+fn assert_wrong(rt: &(impl Abort + AllocGlobal), words: &[&str]) {
+    let answer = answer_to(rt, words);
+    assert_eq!(rt; answer.status, 2, "{words:?}");
+    assert_eq!(rt; answer.output.len(), 0, "{words:?}");
+    assert!(rt; !answer.errors.is_empty(), "{words:?}");
+}
+
+#[test]
+fn look_shows_a_position_of_nine_moves(rt: HostRuntime) {
+    let moves = "XXX.OO.O.\nown 3 other 3\n0-3\n0-6\n0-8\n1-3\n1-6\n1-8\n2-3\n2-6\n2-8\nmoves 9\n";
+    let words = ["morris", "look", "grid", "XXX.OO.O."];
+    let answer = answer_to(&rt, words.as_slice());
+    assert_eq!(rt; answer.status, 0);
+    assert!(rt; answer.output.as_slice().starts_with(moves.as_bytes()));
+    assert!(rt;
+        answer
+            .output
+            .as_slice()
+            .ends_with(b"moves 9\nunknown within 2\n")
+    );
+    let deeper = ["morris", "look", "grid", "XXX.OO.O.", "--depth", "3"];
+    let answer = answer_to(&rt, deeper.as_slice());
+    assert!(rt; answer.output.as_slice().starts_with(moves.as_bytes()));
+    assert!(rt; answer.output.as_slice().ends_with(b"moves 9\nwon in 3\n"));
+}
+
+#[test]
+fn look_shows_positions_without_a_move(rt: HostRuntime) {
+    let blocked = ["morris", "look", "grid", "XXXOOX..O"];
+    let text = "XXXOOX..O\nown 4 other 3\nmoves 0\nlost in 0\n";
+    assert_answer(&rt, blocked.as_slice(), 0, text, "");
+    let two_stones = ["morris", "look", "grid", "XX.OOO..."];
+    let text = "XX.OOO...\nown 2 other 3\nmoves 0\nlost in 0\n";
+    assert_answer(&rt, two_stones.as_slice(), 0, text, "");
+    let nine = ["morris", "look", "nine", "XXXXO..O.O.O............"];
+    let text = "XXXXO..O.O.O............\nown 4 other 4\nmoves 0\nlost in 0\n";
+    assert_answer(&rt, nine.as_slice(), 0, text, "");
+}
+
+#[test]
+fn look_shows_slides_and_a_capture_on_nine(rt: HostRuntime) {
+    let words = [
+        "morris",
+        "look",
+        "nine",
+        "XX.X............OOO.X.O.",
+        "--depth=1",
+    ];
+    let text =
+        "XX.X............OOO.X.O.\nown 4 other 4\n0-7\n1-2\n1-9\n3-2x22\n3-4\n3-11\n20-19\n20-21\nmoves 8\nunknown within 1\n";
+    assert_answer(&rt, words.as_slice(), 0, text, "");
+}
+
+#[test]
+fn a_refused_look_names_its_fault_and_prints_nothing(rt: HostRuntime) {
+    let cases = [
+        ("round", "XXX.OO.O.", "fault 25: no such board\n"),
+        ("", "XXX.OO.O.", "fault 25: no such board\n"),
+        ("Grid", "XXX.OO.O.", "fault 25: no such board\n"),
+        ("round", "X?", "fault 25: no such board\n"),
+        (
+            "grid",
+            "X?",
+            "fault 1: text is not one character per point\n",
+        ),
+        ("grid", "", "fault 1: text is not one character per point\n"),
+        (
+            "nine",
+            "OO..X....O.X..........X",
+            "fault 1: text is not one character per point\n",
+        ),
+        ("grid", "xXX.OO.O.", "fault 2: bad character at 0\n"),
+        ("grid", "XXX.OO.é", "fault 2: bad character at 7\n"),
+        ("grid", "XXXOO....", "fault 3: bad number of stones\n"),
+        ("grid", "X..OOO...", "fault 3: bad number of stones\n"),
+    ];
+    for (board, text, fault) in cases {
+        let words = ["morris", "look", board, text];
+        assert_answer(&rt, words.as_slice(), 1, "", fault);
+    }
+}
+
+#[test]
+fn wrong_words_print_nothing_on_standard_output(rt: HostRuntime) {
+    assert_wrong(&rt, [].as_slice());
+    assert_wrong(&rt, ["morris"].as_slice());
+    assert_wrong(&rt, ["morris", ""].as_slice());
+    assert_wrong(&rt, ["morris", "stats", "grid", "3-3"].as_slice());
+    assert_wrong(&rt, ["morris", "look", "grid"].as_slice());
+    assert_wrong(
+        &rt,
+        ["morris", "look", "grid", "XXX.OO.O.", "--depth", "7"].as_slice(),
+    );
+    assert_wrong(
+        &rt,
+        ["morris", "look", "grid", "XXX.OO.O.", "--depth", "é"].as_slice(),
+    );
+    assert_wrong(
+        &rt,
+        ["morris", "look", "grid", "XXX.OO.O.", "more"].as_slice(),
+    );
+}
+
+#[test]
+fn a_text_of_ten_thousand_characters_is_answered(rt: HostRuntime) -> Result<(), Fail> {
+    let text = "X".repeat(rt.alloc(), 10_000)?;
+    let words = ["morris", "look", "grid", text.as_str()];
+    assert_answer(
+        &rt,
+        words.as_slice(),
+        1,
+        "",
+        "fault 1: text is not one character per point\n",
+    );
+    Ok(())
+}
+
+#[test]
+fn help_goes_to_standard_output(rt: HostRuntime) {
+    for words in [["morris", "--help"], ["morris", "help"]] {
+        let answer = answer_to(&rt, words.as_slice());
+        assert_eq!(rt; answer.status, 0);
+        assert!(rt; !answer.output.is_empty() && answer.errors.is_empty());
+    }
+}
+
+/// A writer that takes one byte a call and fails once it has taken as many as it has room for.
+#[derive(Drop)]
+struct Narrow {
+    room: u64,
+    taken: u64,
+    calls_after: u64,
+}
+
+impl Write for Narrow {
+    fn write(&mut self, bytes: &[u8]) -> io::Result<usize> {
+        if self.taken == self.room {
+            self.calls_after = self.calls_after.saturating_add(1);
+            return Err(io::Error::from(io::ErrorKind::Other));
+        }
+        if bytes.is_empty() {
+            return Ok(0);
+        }
+        self.taken = self.taken.saturating_add(1);
+        Ok(1)
+    }
+
+    fn flush(&mut self) -> io::Result<()> {
+        Ok(())
+    }
+}
+
+impl Narrow {
+    fn new(room: u64) -> Narrow {
+        Narrow {
+            room,
+            taken: 0,
+            calls_after: 0,
+        }
+    }
+}
+
+#[test]
+fn a_failed_write_tells_what_went_out_and_is_not_tried_again(rt: HostRuntime) {
+    for room in [0, 1, 9, 10, 30] {
+        let mut output = IntoWrite::new(Narrow::new(room));
+        let answer = look("grid", "XXX.OO.O.", 3, &mut output);
+        assert_eq!(rt; answer, Err(Fault::Write(room)));
+        assert_eq!(rt; output.into_inner().calls_after, 1);
+    }
+}
+
+#[test]
+fn a_failed_write_is_a_fault_of_the_program(rt: HostRuntime) {
+    let words = ["morris", "look", "grid", "XXX.OO.O."];
+    for (words, room) in [
+        (words.as_slice(), 0),
+        (["morris", "--help"].as_slice(), 0),
+        (words.as_slice(), 16),
+    ] {
+        let mut input = FromRead::new([].as_slice());
+        let mut output = IntoWrite::new(Narrow::new(room));
+        let mut errors = IntoWrite::new(Vec::new(rt.alloc()));
+        let status = command(&rt, rt.alloc(), words, &mut input, &mut output, &mut errors);
+        assert_eq!(rt; status, 1);
+        let line = if room == 0 {
+            "fault 23: writing failed after 0 bytes\n"
+        } else {
+            "fault 23: writing failed after 16 bytes\n"
+        };
+        assert_eq!(rt; errors.into_inner().as_slice(), line.as_bytes());
+    }
+}
+
+#[test]
+fn a_fault_of_standard_error_is_ignored(rt: HostRuntime) {
+    let mut input = FromRead::new([].as_slice());
+    let mut output = IntoWrite::new(Vec::new(rt.alloc()));
+    let mut errors = IntoWrite::new(Narrow::new(3));
+    let words = ["morris", "look", "round", "XXX.OO.O."];
+    let status = command(
+        &rt,
+        rt.alloc(),
+        words.as_slice(),
+        &mut input,
+        &mut output,
+        &mut errors,
+    );
+    assert_eq!(rt; status, 1);
+}
+
+#[test]
+fn words_that_cannot_be_had_are_refused(rt: HostRuntime) {
+    let mut errors = IntoWrite::new(Vec::new(rt.alloc()));
+    assert_eq!(rt; refuse_words(true, &mut errors), 1);
+    assert_eq!(rt;
+        errors.into_inner().as_slice(),
+        b"fault 12: out of memory\n".as_slice()
+    );
+    let mut errors = IntoWrite::new(Vec::new(rt.alloc()));
+    assert_eq!(rt; refuse_words(false, &mut errors), 2);
+    assert!(rt; !errors.into_inner().is_empty());
+}
+
+#[test]
+fn each_fault_has_its_number(rt: HostRuntime) {
+    let numbers = [
+        (Fault::Length, 1),
+        (Fault::Character(4), 2),
+        (Fault::Stones, 3),
+        (Fault::Memory, 12),
+        (Fault::Write(16), 23),
+        (Fault::Board, 25),
+    ];
+    for (fault, number) in numbers {
+        assert_eq!(rt; fault.number(), number);
+    }
+}

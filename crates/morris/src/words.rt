@@ -1,0 +1,148 @@
+//! The words of the command line, and the request that they make.
+ghost use Rattle.std.specs.Prelude.{◌≡◌, [], IfErr, IfOk, OnOk, Some, codes, false, map};
+ghost use Rattle.clap.specs.Words.{FailsBy, app_of, found_of, kind_of, rows_of, rule_of};
+ghost use Rattle.clap.specs.Words.{subcommand_rows_of};
+ghost use Rattle.morris.specs.Words.{AsksFor, HasLookValues, IsAnswerTo, IsAnswerToOneOf};
+ghost use Rattle.morris.specs.Words.{IsInRange, NamesRequest, depth_rule, faults_of, has_globals};
+ghost use Rattle.morris.specs.Words.{look_app, morris_app, named_by, required_rule};
+
+use clap::error::ErrorKind;
+use clap::{Arg, ArgMatches, Command, Error, value_parser};
+use std::alloc::{AllocError, Global};
+use std::convert::AsStr;
+
+/// What the words ask the program to do.
+#[derive(Clone, Copy, Debug, PartialEq, Eq)]
+pub enum Request<'a> {
+    /// Show the position that `text` writes on the board named `board`: its legal moves, and its
+    /// value as far as `depth` plies tell, 0 to 6 of them.
+    Look {
+        board: &'a str,
+        text: &'a str,
+        depth: u8,
+    },
+}
+
+/// Why the words make no request.
+#[derive(Debug, Drop)]
+pub enum Refusal {
+    /// Memory ran out.
+    Memory,
+    /// Help was asked for: its text, for standard output.
+    Help(String),
+    /// The words were refused: what is wrong with them, for standard error.
+    Wrong(String),
+}
+
+/// Reads the words, of which the first is the program's own name. `Memory` is answered only where
+/// an allocation was refused, `Help` to `--help`, `-h` and `help`, and `Wrong` where the words name
+/// no command, or not the arguments that it takes.
+pub fn read_words<'a, S: AsStr>(alloc: Global, words: &'a [S]) -> Result<Request<'a>, Refusal>
+    ensures taken { OnOk result (faults_of (map S.text words.entry.now) ≡ []) }
+    ensures request { IfOk result (AsksFor (named_by (map S.text words.entry.now))) }
+    ensures depth { IfOk result IsInRange }
+    ensures refused { IfErr result (IsAnswerToOneOf (faults_of (map S.text words.entry.now))) }
+{
+    match parse(alloc, words) {
+        Ok(matches) => Ok(request_of(&matches)),
+        Err(error) => Err(refusal_of(alloc, &error)),
+    }
+}
+
+fn parse<'a, S: AsStr>(alloc: Global, words: &'a [S]) -> Result<ArgMatches<'a>, Error>
+    ensures kinds { FailsBy (faults_of (map S.text words.entry.now)) result }
+    ensures matches { IfOk result (λ m.
+        subcommand_rows_of m ≡ named_by (map S.text words.entry.now)) }
+{
+    morris_command(alloc)?.try_get_matches_from(words)
+}
+
+// The program, with its commands: each is one `subcommand` here, and one arm of `request_of`.
+fn morris_command<'a>(alloc: Global) -> Result<Command<'a>, AllocError>
+    ensures { IfOk result (λ c. app_of c ≡ morris_app) }
+{
+    Command::new(alloc, "morris")
+        .bin_name("morris")?
+        .about("Endgame tables for Nine Men's Morris")
+        .subcommand_required(true)
+        .subcommand(look_command(alloc)?)
+}
+
+fn look_command<'a>(alloc: Global) -> Result<Command<'a>, AllocError>
+    ensures app { IfOk result (λ c. app_of c ≡ look_app) }
+    ensures local { IfOk result (λ c. has_globals c ≡ false) }
+{
+    Command::new(alloc, "look")
+        .about("Show a position, its legal moves and its value within N plies")
+        .arg(required_arg(alloc, "BOARD", "The board: nine or grid"))?
+        .arg(required_arg(
+            alloc,
+            "TEXT",
+            "The position: for each point X own, O other or . vacant",
+        ))?
+        .arg(depth_arg(alloc))
+}
+
+fn required_arg<'a>(alloc: Global, name: &'a str, help: &'a str) -> Arg<'a>
+    ensures rule { rule_of result ≡ required_rule name.entry.now }
+    ensures local { result.global ≡ false }
+{
+    Arg::new(alloc, name).required(true).help(help)
+}
+
+fn depth_arg<'a>(alloc: Global) -> Arg<'a>
+    ensures rule { rule_of result ≡ depth_rule }
+    ensures local { result.global ≡ false }
+{
+    Arg::new(alloc, "depth")
+        .long("depth")
+        .value_name("N")
+        .value_parser(value_parser!(u8).range(0..=6))
+        .default_value("2")
+        .help("How many plies to look ahead, 0 to 6")
+}
+
+fn request_of<'a>(matches: &ArgMatches<'a>) -> Request<'a>
+    requires { NamesRequest (subcommand_rows_of matches.now) }
+    ensures request { AsksFor (subcommand_rows_of matches.now) result }
+    ensures depth { IsInRange result }
+{
+    match matches.subcommand() {
+        Some(("look", found)) => look_request(found),
+        _ => unreachable!(),
+    }
+}
+
+fn look_request<'a>(found: &ArgMatches<'a>) -> Request<'a>
+    requires { HasLookValues (rows_of (found_of found.now)) }
+    ensures request { AsksFor (Some (codes "look", rows_of (found_of found.now))) result }
+    ensures depth { IsInRange result }
+{
+    let (Some(board), Some(text), Some(depth)) = (
+        found.get_str("BOARD"),
+        found.get_str("TEXT"),
+        found.get_one::<u8>("depth"),
+    ) else {
+        unreachable!()
+    };
+    Request::Look { board, text, depth }
+}
+
+fn refusal_of(alloc: Global, error: &Error) -> Refusal
+    ensures { IsAnswerTo (kind_of error.now) result }
+{
+    if error.kind() == ErrorKind::OutOfMemory {
+        return Refusal::Memory;
+    }
+    let Ok(text) = error.to_string(alloc) else {
+        return Refusal::Memory;
+    };
+    if error.kind() == ErrorKind::DisplayHelp {
+        Refusal::Help(text)
+    } else {
+        Refusal::Wrong(text)
+    }
+}
+
+#[cfg(test)]
+mod tests;

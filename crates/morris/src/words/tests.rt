@@ -1,0 +1,163 @@
+ghost use Rattle.std.specs.Prelude.{◌≡◌, IfErr, IsErr};
+
+use super::{Refusal, Request, read_words};
+use std::alloc::Global;
+use std::process::Abort;
+use std::test::Fail;
+
+// The words make this request for `look`.
+fn expect_look(rt: &(impl Abort + AllocGlobal), words: &[&str], wanted: (&str, &str, u8)) {
+    let is_wanted = match read_words(rt.alloc(), words) {
+        Ok(Request::Look { board, text, depth }) => {
+            board == wanted.0 && text == wanted.1 && depth == wanted.2
+        }
+        Err(_) => false,
+    };
+    assert!(rt; is_wanted, "{words:?}");
+}
+
+// The words are refused, with a text.
+fn expect_wrong(rt: &(impl Abort + AllocGlobal), words: &[&str]) {
+    let is_wrong = match read_words(rt.alloc(), words) {
+        Err(Refusal::Wrong(text)) => !text.is_empty(),
+        _other => false,
+    };
+    assert!(rt; is_wrong, "{words:?}");
+}
+
+// The words ask for help, which has this line.
+fn expect_help(rt: &(impl Abort + AllocGlobal), words: &[&str], line: &str) {
+    let is_help = match read_words(rt.alloc(), words) {
+        Err(Refusal::Help(text)) => text.as_str().contains(line),
+        _other => false,
+    };
+    assert!(rt; is_help, "{words:?}");
+}
+
+#[test]
+fn reads_look(rt: HostRuntime) {
+    let stored = ["morris", "look", "grid", "XXX.OO.O.", "--depth", "3"];
+    expect_look(&rt, &stored, ("grid", "XXX.OO.O.", 3));
+    expect_look(&rt, &["m", "look", "nine", "X?"], ("nine", "X?", 2));
+    expect_look(
+        &rt,
+        &["", "look", "--depth=3", "grid", "X"],
+        ("grid", "X", 3),
+    );
+    let between = ["a/b", "look", "grid", "--depth", "0", "X"];
+    expect_look(&rt, &between, ("grid", "X", 0));
+    let last = ["m", "look", "grid", "X", "--depth", "6"];
+    expect_look(&rt, &last, ("grid", "X", 6));
+}
+
+#[test]
+fn takes_any_text(rt: HostRuntime) -> Result<(), Fail> {
+    expect_look(&rt, &["m", "look", "", ""], ("", "", 2));
+    expect_look(&rt, &["m", "look", "né", "X€é"], ("né", "X€é", 2));
+    let after_dashes = ["m", "look", "grid", "--", "--depth"];
+    expect_look(&rt, &after_dashes, ("grid", "--depth", 2));
+    let long = "X".repeat(rt.alloc(), 10_000)?;
+    let text = long.as_str();
+    expect_look(&rt, &["m", "look", "grid", text], ("grid", text, 2));
+    expect_wrong(&rt, &["m", text]);
+    Ok(())
+}
+
+#[test]
+fn refuses_depths(rt: HostRuntime) {
+    for depth in [
+        "7",
+        "-1",
+        "x",
+        "",
+        "256",
+        "18446744073709551616",
+        "1.0",
+        "é",
+    ] {
+        expect_wrong(&rt, &["m", "look", "grid", "X", "--depth", depth]);
+    }
+    expect_wrong(&rt, &["m", "look", "grid", "X", "--depth"]);
+    let twice = ["m", "look", "grid", "X", "--depth", "1", "--depth", "1"];
+    expect_wrong(&rt, &twice);
+}
+
+#[test]
+fn refuses_words(rt: HostRuntime) {
+    expect_wrong(&rt, &[]);
+    expect_wrong(&rt, &[""]);
+    expect_wrong(&rt, &["m"]);
+    expect_wrong(&rt, &["m", ""]);
+    expect_wrong(&rt, &["m", "é"]);
+    expect_wrong(&rt, &["m", "peek", "grid", "X"]);
+    expect_wrong(&rt, &["m", "look"]);
+    expect_wrong(&rt, &["m", "look", "grid"]);
+    expect_wrong(&rt, &["m", "look", "grid", "X", "O"]);
+    expect_wrong(&rt, &["m", "look", "grid", "X", "--plies", "1"]);
+    expect_wrong(&rt, &["m", "--", "look", "grid", "X"]);
+    expect_wrong(&rt, &["m", "--version"]);
+    expect_wrong(&rt, &["m", "help", "peek"]);
+}
+
+#[test]
+fn gives_help(rt: HostRuntime) {
+    let usage = "Usage: morris <COMMAND>";
+    expect_help(&rt, &["m", "--help"], usage);
+    expect_help(&rt, &["./m", "-h"], usage);
+    expect_help(&rt, &["m", "help"], usage);
+    let look_usage = "Usage: morris look [OPTIONS] <BOARD> <TEXT>";
+    expect_help(&rt, &["m", "help", "look"], look_usage);
+    expect_help(&rt, &["m", "look", "--help"], look_usage);
+    expect_help(&rt, &["m", "look", "grid", "--help"], "[default: 2]");
+}
+
+// The words, read twice: the answers differ only where memory ran out at one of them.
+fn expect_same(rt: &(impl Abort + AllocGlobal), words: &[&str]) {
+    let first = read_words(rt.alloc(), words);
+    let second = read_words(rt.alloc(), words);
+    assert!(rt; are_same(first, second), "{words:?}");
+}
+
+fn are_same(first: Result<Request<'_>, Refusal>, second: Result<Request<'_>, Refusal>) -> bool {
+    match (first, second) {
+        (Err(Refusal::Memory), Err(Refusal::Memory)) => false,
+        (Err(Refusal::Memory), _) | (_, Err(Refusal::Memory)) => true,
+        (Ok(first), Ok(second)) => first == second,
+        (Err(Refusal::Help(first)), Err(Refusal::Help(second))) => first == second,
+        (Err(Refusal::Wrong(first)), Err(Refusal::Wrong(second))) => first == second,
+        _ => false,
+    }
+}
+
+// For runs in which an allocation is refused.
+#[test]
+fn shortens_no_answer(rt: HostRuntime) {
+    expect_same(&rt, &["m", "help", "look"]);
+    expect_same(&rt, &["m", "look", "grid", "X", "--dept", "7"]);
+    expect_same(&rt, &["m", "lok", "grid"]);
+    expect_same(&rt, &["m", "look", "grid", "X", "--depth", "3"]);
+}
+
+static STORED: [&str; 6] = ["morris", "look", "grid", "XXX.OO.O.", "--depth", "3"];
+
+static TOO_DEEP: [&str; 6] = ["morris", "look", "grid", "XXX.OO.O.", "--depth", "7"];
+
+// The check computes that these words make a request.
+fn stored_request(alloc: Global) -> Result<Request<'static>, Refusal>
+    ensures { IfErr result (λ e. e ≡ Refusal.Memory) }
+{
+    read_words(alloc, STORED.as_slice())
+}
+
+// And that these make none.
+fn too_deep_request(alloc: Global) -> Result<Request<'static>, Refusal>
+    ensures { IsErr result }
+{
+    read_words(alloc, TOO_DEEP.as_slice())
+}
+
+#[test]
+fn reads_known_words(rt: HostRuntime) {
+    assert!(rt; stored_request(rt.alloc()).is_ok());
+    assert!(rt; too_deep_request(rt.alloc()).is_err());
+}

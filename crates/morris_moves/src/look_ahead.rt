@@ -1,0 +1,62 @@
+//! The search a few plies ahead.
+ghost use Rattle.std.specs.Prelude.{◌≡◌, ℕ, ◌≤◌};
+ghost use Rattle.morris_moves.specs.Values.{is_lost, is_won, AnswersWithin, IsLostIn, IsWonIn, IsOpen};
+
+use crate::rules::{moves, play};
+use crate::search::Within;
+use morris_board::board::Geometry;
+use morris_board::position::Position;
+
+/// The value of a position where its depth is at most `plies`, and otherwise that it is open. It looks forward over the legal moves, one
+/// ply more at a time.
+pub fn within<B: Geometry>(position: &Position<B>, plies: u8) -> Within
+    requires { plies ≤ 6 }
+    ensures answer { AnswersWithin B.shape position.now plies result }
+    ensures lost { (d : ℕ) → d ≤ plies → IsLostIn B.shape position.now d → result ≡ Within.Lost d }
+    ensures won { (d : ℕ) → d ≤ plies → IsWonIn B.shape position.now d → result ≡ Within.Won d }
+    ensures unknown { ((k : ℕ) → k ≤ plies → IsOpen B.shape position.now k) → result ≡ Within.Unknown }
+{
+    for depth in 0..=plies {
+        // A depth of a loss is even and a depth of a win is odd, so one test serves.
+        if depth % 2 == 0 {
+            if is_lost(position, depth) {
+                return Within::Lost(depth);
+            }
+        } else if is_won(position, depth) {
+            return Within::Won(depth);
+        }
+    }
+    Within::Unknown
+}
+
+/// Whether the player to move has lost within `plies`.
+#[cycle(look_ahead)]
+fn is_lost<B: Geometry>(position: &Position<B>, plies: u8) -> bool
+    ensures { result ≡ is_lost plies B.shape position.now }
+{
+    if plies == 0 {
+        return moves(position).next().is_none();
+    }
+    for m in moves(position) {
+        if !is_won(&play(position, m), plies - 1) {
+            return false;
+        }
+    }
+    true
+}
+
+/// Whether the player to move has won within `plies`.
+#[cycle(look_ahead)]
+fn is_won<B: Geometry>(position: &Position<B>, plies: u8) -> bool
+    ensures { result ≡ is_won plies B.shape position.now }
+{
+    if plies == 0 {
+        return false;
+    }
+    for m in moves(position) {
+        if is_lost(&play(position, m), plies - 1) {
+            return true;
+        }
+    }
+    false
+}

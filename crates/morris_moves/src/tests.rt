@@ -1,0 +1,142 @@
+use crate::look_ahead::within;
+use crate::rules::{is_legal, moves, play};
+use crate::search::Within;
+use crate::step::Move;
+use morris_board::board::Geometry;
+use morris_board::grid::Grid;
+use morris_board::position::Position;
+use std::alloc::Global;
+use std::process::Abort;
+use std::test::Fail;
+
+/// The legal moves of the position that a text shows, each as it is printed, with a space after it. Each is legal.
+fn listed<B: Geometry>(rt: &impl Abort, alloc: Global, text: &[u8]) -> Result<String, Fail> {
+    let position = Position::<B>::read(text)?;
+    let mut list = String::new(alloc);
+    for m in moves(&position) {
+        assert!(rt; is_legal(&position, m), "{m}");
+        list.push_str(format!(in alloc; "{m} ")?.as_str())?;
+    }
+    Ok(list)
+}
+
+#[test]
+fn the_legal_moves_are_listed_in_order(rt: HostRuntime) -> Result<(), Fail> {
+    let table: [(&[u8], &str); 8] = [
+        (b"XXX.OO.O.", "0-3 0-6 0-8 1-3 1-6 1-8 2-3 2-6 2-8 "),
+        (b"OO.OXX.X.", "4-2 4-6 4-8 5-2 5-6 5-8 7-2 7-6 7-8 "),
+        (
+            b"XX..OO.OX",
+            "0-2 0-3 0-6 1-2 1-3 1-6 8-2x4 8-2x5 8-2x7 8-3 8-6 ",
+        ),
+        // Each of the opponent's stones stands in a mill.
+        (
+            b"XX...XOOO",
+            "0-2 0-3 0-4 1-2 1-3 1-4 5-2x6 5-2x7 5-2x8 5-3 5-4 ",
+        ),
+        // One of them stands in none.
+        (b"XX..OXOOO", "0-2 0-3 1-2 1-3 5-2x4 5-3 "),
+        // Four stones slide.
+        (b"XXXOXO..O", "4-7 "),
+        (b"XXXOOX..O", ""),
+        // Two stones don't move.
+        (b"XX.OOO...", ""),
+    ];
+    for (text, wanted) in table {
+        assert_eq!(rt; listed::<Grid>(&rt, rt.alloc(), text)?.as_str(), wanted);
+    }
+    let position = Position::<Grid>::read(b"XXX.OO.O.")?;
+    assert_eq!(rt; moves(&position).count(), 9);
+    Ok(())
+}
+
+fn slide(from: u8, to: u8) -> Move {
+    Move {
+        from,
+        to,
+        taken: None,
+    }
+}
+
+fn capture(from: u8, to: u8, taken: u8) -> Move {
+    Move {
+        from,
+        to,
+        taken: Some(taken),
+    }
+}
+
+#[test]
+fn other_moves_are_not_legal(rt: HostRuntime) -> Result<(), Fail> {
+    let table: [(&[u8], Move); 15] = [
+        // A quiet move that takes a stone, and one that closes a mill and takes none.
+        (b"XXX.OO.O.", capture(0, 3, 4)),
+        (b"XX..OO.OX", slide(8, 2)),
+        // Numbers that are no points.
+        (b"XX..OO.OX", slide(200, 2)),
+        (b"XX..OO.OX", slide(8, 200)),
+        (b"XX..OO.OX", slide(8, 9)),
+        (b"XX..OO.OX", capture(8, 2, 200)),
+        // From a vacant point, and from a stone of the opponent.
+        (b"XX..OO.OX", slide(2, 3)),
+        (b"XX..OO.OX", slide(4, 3)),
+        // To a point that isn't vacant, and to the point where the stone stands.
+        (b"XX..OO.OX", slide(8, 4)),
+        (b"XX..OO.OX", slide(8, 1)),
+        (b"XX..OO.OX", slide(8, 8)),
+        // What is taken is a vacant point, and a stone in a mill where another stands in none.
+        (b"XX..OO.OX", capture(8, 2, 3)),
+        (b"XX..OXOOO", capture(5, 2, 6)),
+        // A slide of four stones to a point that isn't adjacent.
+        (b"XXXOXO..O", slide(4, 6)),
+        // Two stones have no move.
+        (b"XX.OOO...", capture(1, 2, 3)),
+    ];
+    for (text, m) in table {
+        let position = Position::<Grid>::read(text)?;
+        assert!(rt; !is_legal(&position, m), "{m}");
+    }
+    Ok(())
+}
+
+#[test]
+fn a_move_is_played(rt: HostRuntime) -> Result<(), Fail> {
+    let table: [(&[u8], Move, &[u8]); 3] = [
+        (b"XXX.OO.O.", slide(2, 3), b"OO.OXX.X."),
+        (b"XX..OO.OX", capture(8, 2, 4), b"OOO..X.X."),
+        (b"XXXOXO..O", slide(4, 7), b"OOOX.X.OX"),
+    ];
+    for (text, m, wanted) in table {
+        let position = Position::<Grid>::read(text)?;
+        assert!(rt; is_legal(&position, m), "{m}");
+        let mut played = [0; 9];
+        play(&position, m).write_to(&mut played);
+        assert_eq!(rt; played.as_slice(), wanted, "{m}");
+    }
+    Ok(())
+}
+
+#[test]
+fn the_search_gives_the_value_or_none(rt: HostRuntime) -> Result<(), Fail> {
+    let table: [(&[u8], u8, Within); 12] = [
+        (b"XXXOOX..O", 0, Within::Lost(0)),
+        (b"XX.OOO...", 0, Within::Lost(0)),
+        (b"XX.OOO...", 6, Within::Lost(0)),
+        (b"XX..OO.OX", 0, Within::Unknown),
+        (b"XX..OO.OX", 1, Within::Won(1)),
+        (b"XX..OO.OX", 6, Within::Won(1)),
+        (b"OO.OXX.X.", 1, Within::Unknown),
+        (b"OO.OXX.X.", 2, Within::Lost(2)),
+        (b"XXX.OO.O.", 2, Within::Unknown),
+        (b"XXX.OO.O.", 3, Within::Won(3)),
+        (b"XXX.OO.O.", 6, Within::Won(3)),
+        // A draw.
+        (b"XXXOOO...", 6, Within::Unknown),
+    ];
+    for (text, plies, wanted) in table {
+        let position = Position::<Grid>::read(text)?;
+        assert!(rt; plies <= 6);
+        assert_eq!(rt; within(&position, plies), wanted);
+    }
+    Ok(())
+}
