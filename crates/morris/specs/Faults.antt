@@ -3,6 +3,8 @@ use Rattle.std.specs.Prelude.{◌≡◌, ℕ, ◌+◌, ◌<◌, Bool, true, fals
 use Rattle.std.specs.Io.KnownBytes.{Appends}
 use Rattle.morris_board.specs.declared.faults.TextFault.{TextFault}
 use Rattle.morris_board.specs.declared.faults.TextFault.TheVariants as text
+use Rattle.morris_index.specs.declared.faults.PairFault.{PairFault}
+use Rattle.morris_index.specs.declared.faults.PairFault.TheVariants as pair
 use Rattle.morris.specs.declared.fault.Fault.{Fault}
 use Rattle.morris.specs.declared.fault.Fault.TheVariants as fault
 
@@ -12,14 +14,22 @@ text_fault text.Length = fault.Length
 text_fault (text.Character place) = fault.Character place
 text_fault text.Stones = fault.Stones
 
+-- the fault that two refused numbers of stones are answered with
+abbrev pub pair_fault : PairFault → Fault
+pair_fault pair.Counts = fault.Counts
+pair_fault pair.Crowded = fault.Crowded
+
 -- the number of a fault
 abbrev pub fault_number : Fault → ℕ
 fault_number fault.Length = 1
 fault_number (fault.Character place) = 2
 fault_number fault.Stones = 3
+fault_number fault.Counts = 4
+fault_number fault.Crowded = 5
 fault_number fault.Memory = 12
 fault_number (fault.Write sent) = 23
 fault_number fault.Board = 25
+fault_number fault.PairText = 26
 
 -- What was printed: all of the text where the answer is `Ok`, and its first `sent` bytes, not all of it, where it is `Write(sent)`.
 abbrev pub Prints : {T : Type 0} → Option (List ℕ) → Option (List ℕ) → List ℕ → Result T Fault → Type 0

@@ -1,8 +1,9 @@
 //! What a command can be refused for.
 ghost use Rattle.std.specs.Prelude.{◌≡◌};
-ghost use Rattle.morris.specs.Faults.{text_fault, fault_number};
+ghost use Rattle.morris.specs.Faults.{text_fault, pair_fault, fault_number};
 
 use morris_board::faults::TextFault;
+use morris_index::faults::PairFault;
 use thiserror::Error;
 
 /// Why a command refused. Each fault has a number, which stays the same from version to version.
@@ -17,6 +18,12 @@ pub enum Fault {
     /// A player has a number of stones that no position has.
     #[error("bad number of stones")]
     Stones,
+    /// A number of stones of a pair isn't 3 to 9.
+    #[error("bad counts")]
+    Counts,
+    /// The board has fewer points than a pair has stones.
+    #[error("more stones than points")]
+    Crowded,
     /// Memory was refused.
     #[error("out of memory")]
     Memory,
@@ -26,6 +33,9 @@ pub enum Fault {
     /// There is no board of that name.
     #[error("no such board")]
     Board,
+    /// A text isn't that of a pair: a digit, a hyphen and a digit.
+    #[error("not a pair")]
+    PairText,
 }
 
 impl Fault {
@@ -37,9 +47,12 @@ impl Fault {
             Fault::Length => 1,
             Fault::Character(_) => 2,
             Fault::Stones => 3,
+            Fault::Counts => 4,
+            Fault::Crowded => 5,
             Fault::Memory => 12,
             Fault::Write(_) => 23,
             Fault::Board => 25,
+            Fault::PairText => 26,
         }
     }
 }
@@ -52,6 +65,17 @@ impl From<TextFault> for Fault {
             TextFault::Length => Fault::Length,
             TextFault::Character(place) => Fault::Character(place),
             TextFault::Stones => Fault::Stones,
+        }
+    }
+}
+
+impl From<PairFault> for Fault {
+    ghost from_gives = { λ refused e. e ≡ pair_fault refused };
+
+    fn from(refused: PairFault) -> Fault {
+        match refused {
+            PairFault::Counts => Fault::Counts,
+            PairFault::Crowded => Fault::Crowded,
         }
     }
 }

@@ -4,6 +4,7 @@
 mod command;
 mod fault;
 mod look;
+mod pairs;
 mod print;
 #[cfg(test)]
 mod tests;

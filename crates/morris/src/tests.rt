@@ -1,6 +1,9 @@
 use crate::command::{command, refuse_words};
 use crate::fault::Fault;
 use crate::look::look;
+use crate::pairs::read_pair;
+use morris_board::grid::Grid;
+use morris_board::nine::Nine;
 use morris_board::streams::{FromRead, IntoWrite};
 use std::io;
 use std::io::Write;
@@ -92,6 +95,40 @@ fn look_shows_slides_and_a_capture_on_nine(rt: HostRuntime) {
     let text =
         "XX.X............OOO.X.O.\nown 4 other 4\n0-7\n1-2\n1-9\n3-2x22\n3-4\n3-11\n20-19\n20-21\nmoves 8\nunknown within 1\n";
     assert_answer(&rt, words.as_slice(), 0, text, "");
+}
+
+/// O threatens to close mills on 2 and on 17, and X can stop only one of them. In the second position every stone of O stands in a mill, so
+/// that a capture may take any.
+#[test]
+fn look_shows_jumps_on_nine(rt: HostRuntime) -> Result<(), Fail> {
+    let words = ["morris", "look", "nine", "OO..X....O.X..........X."];
+    let answer = answer_to(&rt, words.as_slice());
+    assert!(rt; answer.output.as_slice().ends_with(b"moves 54\nlost in 2\n"));
+    assert!(rt; !answer.output.contains(&b'x'));
+    let words = [
+        "morris",
+        "look",
+        "nine",
+        "XX..........X...OOO.....",
+        "--depth",
+        "0",
+    ];
+    let answer = answer_to(&rt, words.as_slice());
+    let output = String::from_utf8(answer.output)?;
+    assert!(rt; output.contains("\n12-2x16\n12-2x17\n12-2x18\n12-3\n"));
+    let words = [
+        "morris",
+        "look",
+        "nine",
+        "XX...O......X.O....O....",
+        "--depth",
+        "1",
+    ];
+    let answer = answer_to(&rt, words.as_slice());
+    let output = String::from_utf8(answer.output)?;
+    assert!(rt; output.contains("\n12-2x5\n12-2x14\n12-2x19\n"));
+    assert!(rt; output.ends_with("won in 1\n"));
+    Ok(())
 }
 
 #[test]
@@ -271,11 +308,38 @@ fn each_fault_has_its_number(rt: HostRuntime) {
         (Fault::Length, 1),
         (Fault::Character(4), 2),
         (Fault::Stones, 3),
+        (Fault::Counts, 4),
+        (Fault::Crowded, 5),
         (Fault::Memory, 12),
         (Fault::Write(16), 23),
         (Fault::Board, 25),
+        (Fault::PairText, 26),
     ];
     for (fault, number) in numbers {
         assert_eq!(rt; fault.number(), number);
     }
+}
+
+#[test]
+fn a_pair_is_read_from_its_text(rt: HostRuntime) {
+    for (text, greater, lesser) in [("3-3", 3, 3), ("4-3", 4, 3), ("3-4", 4, 3), ("6-3", 6, 3)] {
+        let pair = read_pair::<Grid>(text);
+        let counts = pair.ok().map(|pair| (pair.greater(), pair.lesser()));
+        assert_eq!(rt; counts, Some((greater, lesser)), "{text}");
+    }
+    for (text, fault) in [
+        ("33", Fault::PairText),
+        ("4-3x", Fault::PairText),
+        ("4+3", Fault::PairText),
+        ("a-3", Fault::PairText),
+        ("é-", Fault::PairText),
+        ("", Fault::PairText),
+        ("0-3", Fault::Counts),
+        ("3-2", Fault::Counts),
+        ("9-9", Fault::Crowded),
+        ("5-5", Fault::Crowded),
+    ] {
+        assert_eq!(rt; read_pair::<Grid>(text).err(), Some(fault), "{text}");
+    }
+    assert!(rt; read_pair::<Nine>("9-9").is_ok());
 }

@@ -7,8 +7,8 @@ use crate::search::Within;
 use morris_board::board::Geometry;
 use morris_board::position::Position;
 
-/// The value of a position where its depth is at most `plies`, and otherwise that it is open. It looks forward over the legal moves, one
-/// ply more at a time.
+/// The value of a position where its depth is at most `plies`, and otherwise that it is open. `plies` is at most 6. It looks forward over
+/// the legal moves, one ply more at a time.
 pub fn within<B: Geometry>(position: &Position<B>, plies: u8) -> Within
     requires { plies ≤ 6 }
     ensures answer { AnswersWithin B.shape position.now plies result }

@@ -143,7 +143,7 @@ fn left_of(other: Points, taken: Option<u8>) -> Points
     }
 }
 
-/// The position that a legal move leads to. The opponent is then to move.
+/// The position that a legal move, as [`is_legal`] tests it, leads to. The opponent is then to move.
 pub fn play<B: Geometry>(position: &Position<B>, m: Move) -> Position<B>
     requires { Contains (moves_of B.shape position.now) m }
     ensures { result ≡ result_of position.now m }

@@ -4,6 +4,7 @@ use crate::search::Within;
 use crate::step::Move;
 use morris_board::board::Geometry;
 use morris_board::grid::Grid;
+use morris_board::nine::Nine;
 use morris_board::position::Position;
 use std::alloc::Global;
 use std::process::Abort;
@@ -138,5 +139,27 @@ fn the_search_gives_the_value_or_none(rt: HostRuntime) -> Result<(), Fail> {
         assert!(rt; plies <= 6);
         assert_eq!(rt; within(&position, plies), wanted);
     }
+    Ok(())
+}
+
+#[test]
+fn positions_of_nine(rt: HostRuntime) -> Result<(), Fail> {
+    let threatened = Position::<Nine>::read(b"OO..X....O.X..........X.")?;
+    assert_eq!(rt; moves(&threatened).count(), 54);
+    assert!(rt; moves(&threatened).all(|m| m.taken.is_none()));
+    assert_eq!(rt; within(&threatened, 2), Within::Lost(2));
+    // X {0,1,12}, O {5,14,19}
+    let two_in_a_mill = Position::<Nine>::read(b"XX...O......X.O....O....")?;
+    assert_eq!(rt; within(&two_in_a_mill, 1), Within::Won(1));
+    let all_in_mills = listed::<Nine>(&rt, rt.alloc(), b"XX..........X...OOO.....")?;
+    assert!(rt; all_in_mills.as_str().contains("12-2x16 12-2x17 12-2x18 "));
+    assert_eq!(rt;
+        listed::<Nine>(&rt, rt.alloc(), b"XX.X............OOO.X.O.")?.as_str(),
+        "0-7 1-2 1-9 3-2x22 3-4 3-11 20-19 20-21 "
+    );
+    let with_free_stones = Position::<Nine>::read(b"XX.X............OOO.X.O.")?;
+    assert_eq!(rt; within(&with_free_stones, 1), Within::Unknown);
+    let blocked = Position::<Nine>::read(b"XXXXO..O.O.O............")?;
+    assert_eq!(rt; within(&blocked, 0), Within::Lost(0));
     Ok(())
 }

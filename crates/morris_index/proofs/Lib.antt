@@ -1,0 +1,9 @@
+pub mod BinomialTable
+pub mod ChooseLaws
+pub mod RankLaws
+pub mod SetLaws
+pub mod Unranking
+pub mod IndexLaws
+pub mod PairLaws
+pub mod BelowLaws
+pub mod ResultLaws

@@ -1,0 +1,66 @@
+//! Ranks of sets of points.
+ghost use Rattle.std.specs.Prelude.{◌≡◌, ℕ, ◌<◌, ◌≤◌, ◌^◌, nat_lt, length, filter, map};
+ghost use Rattle.morris_board.specs.Sets.{members, count_of};
+ghost use Rattle.morris_index.specs.Binomials.{choose};
+ghost use Rattle.morris_index.specs.Numbering.{rank_of, number_outside, IsRanked};
+
+use crate::binomials::binomial;
+use morris_board::points::Points;
+
+/// The rank of `set` among the sets of as many points that have none in common with `outside`.
+pub(crate) fn rank(set: Points, outside: Points) -> u64
+    requires board { set < 2 ^ 24 }
+    requires few { count_of set ≤ 9 }
+    ensures { result ≡ rank_of (map (number_outside outside) (members set)) }
+{
+    let mut rank = 0;
+    let mut place = 0;
+    for point in set.iter() {
+        place += 1;
+        rank += binomial(number_outside(outside, point), place);
+    }
+    rank
+}
+
+/// The number of `point` among the points that aren't in `outside`, in ascending order.
+fn number_outside(outside: Points, point: u8) -> u8
+    requires { point ≤ 32 }
+    ensures { result ≡ number_outside outside point }
+{
+    point - count_below(outside, point)
+}
+
+/// How many points of `set` are below `point`.
+fn count_below(set: Points, point: u8) -> u8
+    ensures { result ≡ length (filter (λ p. nat_lt p point) (members set)) }
+{
+    set.iter().filter(|p| *p < point).count() as u8
+}
+
+/// The set of `count` points below `points`, none of them in `outside`, that has this rank.
+pub(crate) fn unrank(points: u8, outside: Points, count: u8, rank: u64) -> Points
+    requires board { points ≤ 24 }
+    requires within { outside < 2 ^ points }
+    requires few { count ≤ 9 }
+    requires small { rank < choose (number_outside outside points) count }
+    ensures { IsRanked points outside count rank result }
+{
+    let mut taken = Points::EMPTY;
+    let mut left = count;
+    let mut rest = rank;
+    let mut number = number_outside(outside, points);
+    let mut point = points;
+    while left > 0 {
+        point -= 1;
+        if !outside.has(point) {
+            number -= 1;
+            let skipped = binomial(number, left);
+            if skipped <= rest {
+                rest -= skipped;
+                left -= 1;
+                taken = taken.with(point);
+            }
+        }
+    }
+    taken
+}

@@ -1,0 +1,132 @@
+use crate::faults::PairFault;
+use crate::pair::Pair;
+use morris_board::board::Geometry;
+use morris_board::grid::Grid;
+use morris_board::nine::Nine;
+use morris_board::position::Position;
+use std::alloc::Global;
+use std::process::Abort;
+use std::test::Fail;
+
+/// The index in its pair of the position that a text shows.
+fn index_of_text<B: Geometry>(rt: &impl Abort, pair: &Pair<B>, text: &str) -> Result<u64, Fail> {
+    let position = Position::<B>::read(text.as_bytes())?;
+    assert!(rt; Pair::of(&position) == Some(*pair));
+    Ok(pair.index(&position))
+}
+
+/// `position` and `index` are inverse at every `step`th index.
+fn assert_inverse<B: Geometry>(rt: &impl Abort, pair: &Pair<B>, step: usize) {
+    assert!(rt; step > 0);
+    for index in (0..pair.size()).step_by(step) {
+        let position = pair.position(index);
+        assert_eq!(rt; pair.index(&position), index);
+    }
+}
+
+#[test]
+fn pairs_are_made_of_numbers_that_fit(rt: HostRuntime) -> Result<(), Fail> {
+    assert_eq!(rt; Pair::<Grid>::new(2, 3), Err(PairFault::Counts));
+    assert_eq!(rt; Pair::<Grid>::new(3, 10), Err(PairFault::Counts));
+    assert_eq!(rt; Pair::<Grid>::new(5, 5), Err(PairFault::Crowded));
+    assert!(rt; Pair::<Nine>::new(9, 9).is_ok());
+    let pair = Pair::<Grid>::new(3, 4)?;
+    assert_eq!(rt; pair.greater(), 4);
+    assert_eq!(rt; pair.lesser(), 3);
+    assert_eq!(rt; format!(in rt.alloc(); "{pair}")?.as_str(), "4-3");
+    let counts = PairFault::Counts;
+    assert_eq!(rt; format!(in rt.alloc(); "{counts}")?.as_str(), "bad counts");
+    let crowded = PairFault::Crowded;
+    assert_eq!(rt;
+        format!(in rt.alloc(); "{crowded}")?.as_str(),
+        "more stones than points"
+    );
+    Ok(())
+}
+
+#[test]
+fn positions_belong_to_pairs(rt: HostRuntime) -> Result<(), Fail> {
+    let four_three = Pair::<Grid>::new(4, 3)?;
+    assert_eq!(rt; Pair::of(&Position::read(b"XXXOOOO..")?), Some(four_three));
+    assert_eq!(rt; Pair::of(&Position::read(b"OOOXXXX..")?), Some(four_three));
+    assert_eq!(rt; Pair::of(&Position::<Grid>::read(b"OOOXX....")?), None);
+    Ok(())
+}
+
+#[test]
+fn sizes_and_indices_on_nine(rt: HostRuntime) -> Result<(), Fail> {
+    let three_three = Pair::<Nine>::new(3, 3)?;
+    assert_eq!(rt; three_three.size(), 2_691_920);
+    assert_eq!(rt; Pair::<Nine>::new(4, 3)?.size(), 24_227_280);
+    assert_eq!(rt; Pair::<Nine>::new(4, 4)?.size(), 51_482_970);
+    assert_eq!(rt;
+        index_of_text(&rt, &three_three, "XXXOOO..................")?,
+        0
+    );
+    assert_eq!(rt;
+        index_of_text(&rt, &three_three, "..................OOOXXX")?,
+        2_691_919
+    );
+    Ok(())
+}
+
+#[test]
+fn sizes_and_indices_on_grid(rt: HostRuntime) -> Result<(), Fail> {
+    let three_three = Pair::<Grid>::new(3, 3)?;
+    assert_eq!(rt; three_three.size(), 1_680);
+    assert_eq!(rt; index_of_text(&rt, &three_three, "XXX.OO.O.")?, 6);
+    assert_eq!(rt; index_of_text(&rt, &three_three, "OO.OXX.X.")?, 981);
+    let four_three = Pair::<Grid>::new(4, 3)?;
+    assert_eq!(rt; four_three.size(), 2_520);
+    assert_eq!(rt; index_of_text(&rt, &four_three, "XXXOOOO..")?, 1_260);
+    assert_eq!(rt; index_of_text(&rt, &four_three, "..OOOOXXX")?, 2_519);
+    Ok(())
+}
+
+#[test]
+fn pairs_need_those_that_captures_lead_to(rt: HostRuntime) -> Result<(), Fail> {
+    let three_three = Pair::<Grid>::new(3, 3)?;
+    let four_three = Pair::<Grid>::new(4, 3)?;
+    let four_four = Pair::<Grid>::new(4, 4)?;
+    let five_three = Pair::<Grid>::new(5, 3)?;
+    let five_four = Pair::<Grid>::new(5, 4)?;
+    let six_three = Pair::<Grid>::new(6, 3)?;
+    assert_eq!(rt; three_three.needs(), (None, None));
+    assert_eq!(rt; four_four.needs(), (Some(four_three), None));
+    assert_eq!(rt; six_three.needs(), (Some(five_three), None));
+    assert_eq!(rt; five_four.needs(), (Some(five_three), Some(four_four)));
+    Ok(())
+}
+
+/// The numbers of the pairs below a pair.
+fn below<B: Geometry>(alloc: Global, pair: &Pair<B>) -> Result<Vec<(u8, u8)>, Fail> {
+    let mut found = Vec::new(alloc);
+    for pair in pair.below() {
+        found.push((pair.greater(), pair.lesser()))?;
+    }
+    Ok(found)
+}
+
+#[test]
+fn pairs_below_stand_in_order(rt: HostRuntime) -> Result<(), Fail> {
+    let found = below(rt.alloc(), &Pair::<Grid>::new(5, 4)?)?;
+    let wanted = [(3, 3), (4, 3), (4, 4), (5, 3), (5, 4)];
+    assert_eq!(rt; found.as_slice(), wanted.as_slice());
+    let all = below(rt.alloc(), &Pair::<Nine>::new(9, 9)?)?;
+    assert_eq!(rt; all.len(), 28);
+    Ok(())
+}
+
+#[test]
+fn position_and_index_are_inverse_on_grid(rt: HostRuntime) -> Result<(), Fail> {
+    for (a, b) in [(3, 3), (4, 3), (4, 4), (5, 3), (5, 4), (6, 3)] {
+        assert_inverse(&rt, &Pair::<Grid>::new(a, b)?, 1);
+    }
+    Ok(())
+}
+
+#[test]
+fn position_and_index_are_inverse_on_nine(rt: HostRuntime) -> Result<(), Fail> {
+    assert_inverse(&rt, &Pair::<Nine>::new(3, 3)?, 1);
+    Ok(())
+}
