@@ -14,7 +14,10 @@ use Rattle.std.proofs.lemmas.Nat.Bits.{bit_at-suc, bit_at_lowest}
 use Rattle.std.proofs.lemmas.List.Sums.{length-filter, count_by-le-length}
 use Rattle.std.proofs.lemmas.List.FromFn.{length-range_with_len}
 use lib.Count.{ones, ones_step}
-use lib.Bits.{or_lt, and_le_l}
+use lib.Bits.{or_lt, and_le_l, and_mask}
+use Rattle.std.proofs.lemmas.Nat.{div-add-mod'}
+use Rattle.std.proofs.Math.Nat.{mod-lt, mod-le}
+use Rattle.std.proofs.lemmas.Nat.Bits.{bit_at_cat_low}
 use Rattle.std.proofs.Common.{one-mul}
 use Rattle.std.proofs.Math.Nat.{mod-eq_of_lt}
 use Rattle.std.proofs.Math.Pow.{pow-lt}
@@ -406,3 +409,36 @@ first_is s some small =
       here = here;
       rest = members-first s (trailing_zeros w32 s) t.0 here (λ k h. ap (λ n. eqb n 1) (t.2 k h));
     }
+
+-- ---- the points of a set below a point
+
+has-low : (s n p : ℕ) → has (s % 2 ^ n) p ≡ (ltb p n && has s p)
+unfolding has
+has-low s n p = elim (cases_lt p n) [
+  | inl low ↦ rw (lt-ltb p n low) (ap (λ k. eqb k 1) (sym (bit_at_cat_low (s / 2 ^ n) n (s % 2 ^ n) p low) ∙ ap (λ k. bit_at k p) (div-add-mod' s (2 ^ n))))
+  | inr high ↦ rw (le-ltb p n high) (ap (λ k. eqb k 1) (bit_at_above (s % 2 ^ n) n p (mod-lt s (pow_pos n)) high))
+]
+  where
+    pow_pos : (k : ℕ) → 0 < 2 ^ k
+    pow_pos zero = lit< tt
+    pow_pos (suc k) = omega (arith, pow_pos k, pow-suc 2 k)
+
+filter_filter : (f g : ℕ → Bool) (ks : List ℕ) → filter f (filter g ks) ≡ filter (λ k. f k && g k) ks
+filter_filter f g [] = refl
+filter_filter f g (k ∷ ks) = elim (cases_Bool (g k)) [
+  | inl y ↦ elim (cases_Bool (f k)) [ inl x ↦ rw (y, x) (ap (λ rest. k ∷ rest) (filter_filter f g ks)) | inr x ↦ rw (y, x) (filter_filter f g ks) ]
+  | inr y ↦ rw (y, and_right (f k) false refl) (filter_filter f g ks)
+]
+
+counted_below : (s p : ℕ) → count_of (s % 2 ^ p) ≡ length (filter (λ q. ltb q p) (members s))
+unfolding count_of members
+counted_below s p = ap length (filter_same (has (s % 2 ^ p)) (λ q. ltb q p && has s q) 0 32 (λ q h. has-low s p q)
+    ∙ sym (filter_filter (λ q. ltb q p) (has s) (range_with_len 0 32)))
+
+-- `(mask & ((1 << p) - 1)).count_ones()`
+pub count_below-ones : (s p : ℕ) → s < 2 ^ 32 → p < 32
+    → ones (bit_and s (1 * 2 ^ p % 4294967296 - 1)) ≡ length (filter (λ q. ltb q p) (members s))
+count_below-ones s p small low =
+    let mask : bit_and s (1 * 2 ^ p % 4294967296 - 1) ≡ s % 2 ^ p = ap (λ k. bit_and s (k - 1)) (shifted 32 p low) ∙ and_mask s p in
+    let within : s % 2 ^ p < 2 ^ 32 = omega (arith, mod-le s (2 ^ p)) in
+    ap ones mask ∙ sym (count_of-ones (s % 2 ^ p) within) ∙ counted_below s p

@@ -1,5 +1,5 @@
 //! Sets of points of a board.
-ghost use Rattle.std.specs.Prelude.{◌≡◌, ℕ, ◌<◌, ◌≤◌, ◌^◌, length, List, [], ◌∷◌, true, IfSome, MatchOption};
+ghost use Rattle.std.specs.Prelude.{◌≡◌, ℕ, ◌<◌, ◌≤◌, ◌^◌, length, List, [], ◌∷◌, filter, nat_lt, true, IfSome, MatchOption};
 ghost use Rattle.std.specs.Iterator.{YieldsFirst, item_count};
 ghost use Rattle.morris_board.specs.Sets.{has, members, count_of, with_point, without_point, is_within};
 
@@ -46,6 +46,14 @@ impl Points {
         ensures few { result ≤ 32 }
     {
         self.mask.count_ones() as u8
+    }
+
+    /// How many points of the set are below `point`.
+    pub fn count_below(self, point: u8) -> u8
+        requires { point < 32 }
+        ensures { result ≡ length (filter (λ p. nat_lt p point) (members self)) }
+    {
+        (self.mask & ((1 << point) - 1)).count_ones() as u8
     }
 
     /// The set and `point`.

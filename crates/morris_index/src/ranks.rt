@@ -24,17 +24,10 @@ pub(crate) fn rank(set: Points, outside: Points) -> u64
 
 /// The number of `point` among the points that aren't in `outside`, in ascending order.
 fn number_outside(outside: Points, point: u8) -> u8
-    requires { point ≤ 32 }
+    requires { point < 32 }
     ensures { result ≡ number_outside outside point }
 {
-    point - count_below(outside, point)
-}
-
-/// How many points of `set` are below `point`.
-fn count_below(set: Points, point: u8) -> u8
-    ensures { result ≡ length (filter (λ p. nat_lt p point) (members set)) }
-{
-    set.iter().filter(|p| *p < point).count() as u8
+    point - outside.count_below(point)
 }
 
 /// The set of `count` points below `points`, none of them in `outside`, that has this rank.
