@@ -14,6 +14,10 @@ pub mill_count-grid : length (mills_of grid) ≡ 6
 unfolding mills_of grid
 mill_count-grid = refl
 
+pub id-grid : grid.id ≡ 1
+unfolding grid
+id-grid = refl
+
 pub is_board-nine : is_board nine ≡ true
 unfolding is_board nine
 is_board-nine = refl
@@ -25,3 +29,7 @@ point_count-nine = refl
 pub mill_count-nine : length (mills_of nine) ≡ 16
 unfolding mills_of nine
 mill_count-nine = refl
+
+pub id-nine : nine.id ≡ 0
+unfolding nine
+id-nine = refl

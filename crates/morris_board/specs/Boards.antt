@@ -1,16 +1,17 @@
 -- Boards: their points, which of them are adjacent, and their mills.
-use Rattle.std.specs.Prelude.{ℕ, ◌+◌, ◌*◌, ◌%◌, Bool, true, false, ◌&&◌, ◌||◌, nat_eq, nat_lt, nat_le, List, [], ◌∷◌, ◌++◌, map}
+use Rattle.std.specs.Prelude.{ℕ, ◌+◌, ◌*◌, ◌%◌, Bool, true, false, not, ◌&&◌, ◌||◌, nat_eq, nat_lt, nat_le, List, [], ◌∷◌, ◌++◌, map}
 use Rattle.std.specs.List.{range_with_len, list_any, list_all, flat_map}
 use Rattle.morris_board.specs.Sets.{set_where, set_of}
 
--- A board: how many points it has, numbered from 0; its lines from a point to a neighbour, each written in one direction;
--- and its mills, each as its three points in ascending order.
+-- A board: its number in the file of a table; how many points it has, numbered from 0; its edges, each from a point to a neighbour and
+-- written in one direction; and its mills, each as its three points in ascending order.
 pub record Shape : Type 0 where
+  pub id : ℕ
   pub points : ℕ
   pub edges : List (ℕ × ℕ)
   pub mills : List (List ℕ)
 
--- whether a line joins the points p and q, in either direction
+-- whether an edge joins the points p and q, in either direction
 unfoldable pub is_adjacent : Shape → ℕ → ℕ → Bool
 is_adjacent board p q = list_any (λ e. (nat_eq e.0 p && nat_eq e.1 q) || (nat_eq e.0 q && nat_eq e.1 p)) board.edges
 
@@ -27,23 +28,24 @@ abbrev pub is_mill : ℕ → List ℕ → Bool
 is_mill n (p ∷ q ∷ r ∷ []) = nat_lt p q && (nat_lt q r && nat_lt r n)
 is_mill n _ = false
 
--- whether a shape is a board: at most 24 points, each line between two of them, and each mill three of them
+-- whether a shape is a board: at most 24 points, each edge between two different ones of them, and each mill three of them
 unfoldable pub is_board : Shape → Bool
 is_board board = nat_le board.points 24
-    && (list_all (λ e. nat_lt e.0 board.points && nat_lt e.1 board.points) board.edges && list_all (is_mill board.points) board.mills)
+    && (list_all (λ e. nat_lt e.0 board.points && (nat_lt e.1 board.points && not (nat_eq e.0 e.1))) board.edges && list_all (is_mill board.points) board.mills)
 
--- three points on a line, as a mill
-abbrev line : ℕ → ℕ → ℕ → List ℕ
-line p q r = p ∷ q ∷ r ∷ []
+-- the mill of three points
+abbrev mill : ℕ → ℕ → ℕ → List ℕ
+mill p q r = p ∷ q ∷ r ∷ []
 
 -- Grid: nine points in three rows and three columns, point 3 * r + c in row r and column c. Neighbours in a row and neighbours in a
 -- column are adjacent; the rows and then the columns are the mills.
 unfoldable pub grid : Shape
 grid = record {
+  id = 1;
   points = 9;
   edges = flat_map (λ r. (3 * r, 3 * r + 1) ∷ (3 * r + 1, 3 * r + 2) ∷ []) (0 ∷ 1 ∷ 2 ∷ [])
       ++ flat_map (λ c. (c, 3 + c) ∷ (3 + c, 6 + c) ∷ []) (0 ∷ 1 ∷ 2 ∷ []);
-  mills = line 0 1 2 ∷ line 3 4 5 ∷ line 6 7 8 ∷ line 0 3 6 ∷ line 1 4 7 ∷ line 2 5 8 ∷ [];
+  mills = mill 0 1 2 ∷ mill 3 4 5 ∷ mill 6 7 8 ∷ mill 0 3 6 ∷ mill 1 4 7 ∷ mill 2 5 8 ∷ [];
 }
 
 -- Nine, the usual board: three rings of eight points, outer, middle and inner; point 8 * r + k is place k of ring r, clockwise from the
@@ -51,11 +53,12 @@ grid = record {
 -- the four sides of each ring, and the three middles of each side.
 unfoldable pub nine : Shape
 nine = record {
+  id = 0;
   points = 24;
   edges = flat_map (λ r. map (λ k. (8 * r + k, 8 * r + (k + 1) % 8)) (range_with_len 0 8)) (0 ∷ 1 ∷ 2 ∷ [])
       ++ flat_map (λ k. (k, 8 + k) ∷ (8 + k, 16 + k) ∷ []) (1 ∷ 3 ∷ 5 ∷ 7 ∷ []);
-  mills = line 0 1 2 ∷ line 2 3 4 ∷ line 4 5 6 ∷ line 0 6 7
-      ∷ line 8 9 10 ∷ line 10 11 12 ∷ line 12 13 14 ∷ line 8 14 15
-      ∷ line 16 17 18 ∷ line 18 19 20 ∷ line 20 21 22 ∷ line 16 22 23
-      ∷ line 1 9 17 ∷ line 3 11 19 ∷ line 5 13 21 ∷ line 7 15 23 ∷ [];
+  mills = mill 0 1 2 ∷ mill 2 3 4 ∷ mill 4 5 6 ∷ mill 0 6 7
+      ∷ mill 8 9 10 ∷ mill 10 11 12 ∷ mill 12 13 14 ∷ mill 8 14 15
+      ∷ mill 16 17 18 ∷ mill 18 19 20 ∷ mill 20 21 22 ∷ mill 16 22 23
+      ∷ mill 1 9 17 ∷ mill 3 11 19 ∷ mill 5 13 21 ∷ mill 7 15 23 ∷ [];
 }

@@ -15,10 +15,10 @@ pub record Sides : Type 0 where
 abbrev pub sides : ℕ → ℕ → Sides
 sides own other = record { own = own; other = other }
 
--- whether the player to move has 2 to 9 stones and the opponent 3 to 9
 abbrev pub is_between : ℕ → ℕ → ℕ → Bool
 is_between low n high = nat_le low n && nat_le n high
 
+-- whether the player to move has 2 to 9 stones and the opponent 3 to 9
 abbrev pub is_sized : Sides → Bool
 is_sized s = is_between 2 (count_of s.own) 9 && is_between 3 (count_of s.other) 9
 

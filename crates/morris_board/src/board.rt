@@ -15,24 +15,26 @@ pub trait Geometry: Copy {
 
     ghost MILLS: { ℕ };
 
+    ghost ID: { ℕ };
+
     /// How many points the board has, at most 24. They are numbered from 0.
     const POINTS: u8;
 
     /// How many mills the board has. They are numbered from 0.
     const MILLS: u8;
 
-    /// The number of the board in the file of a table.
+    /// The number of the board in the file of a table: 0 for `nine`, 1 for `grid`.
     const ID: u8;
 
-    /// The name of the board on the command line.
+    /// The name of the board on the command line: `nine` or `grid`.
     const NAME: &'static str;
 
-    /// The points that are adjacent to `point`.
+    /// The points that are adjacent to `point`, a point of the board.
     fn neighbours(point: u8) -> Points
         requires { point < POINTS }
         ensures { result ≡ adjacent shape point };
 
-    /// The three points of a mill.
+    /// The three points of the mill with this number, below [`Geometry::MILLS`].
     fn mill(number: u8) -> Points
         requires { number < MILLS }
         ensures { result ≡ slice_index (mills_of shape) number };
@@ -44,6 +46,8 @@ pub trait Geometry: Copy {
     ghost point_count: { shape.points ≡ POINTS };
 
     ghost mill_count: { length (mills_of shape) ≡ MILLS };
+
+    ghost file_id: { shape.id ≡ ID };
 }
 
 /// A board that threads may share.

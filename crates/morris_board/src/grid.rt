@@ -32,13 +32,15 @@ const MILLS: [u32; 6] = [
 impl Geometry for Grid {
     ghost use Rattle.std.proofs.Common.{arith};
     ghost use Rattle.morris_board.specs.Boards.{grid};
-    ghost use Rattle.morris_board.specs.BoardLaws.{is_board-grid, point_count-grid, mill_count-grid};
+    ghost use Rattle.morris_board.specs.BoardLaws.{id-grid, is_board-grid, point_count-grid, mill_count-grid};
 
     ghost shape = { grid };
 
     ghost POINTS = { 9 };
 
     ghost MILLS = { 6 };
+
+    ghost ID = { 1 };
 
     const POINTS: u8 = 9;
 
@@ -63,6 +65,8 @@ impl Geometry for Grid {
     ghost point_count = { point_count-grid };
 
     ghost mill_count = { mill_count-grid };
+
+    ghost file_id = { id-grid };
 }
 
 impl Board for Grid {}

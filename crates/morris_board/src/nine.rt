@@ -23,13 +23,15 @@ const MILLS: [u32; 16] = [
 impl Geometry for Nine {
     ghost use Rattle.std.proofs.Common.{arith};
     ghost use Rattle.morris_board.specs.Boards.{nine};
-    ghost use Rattle.morris_board.specs.BoardLaws.{is_board-nine, point_count-nine, mill_count-nine};
+    ghost use Rattle.morris_board.specs.BoardLaws.{id-nine, is_board-nine, point_count-nine, mill_count-nine};
 
     ghost shape = { nine };
 
     ghost POINTS = { 24 };
 
     ghost MILLS = { 16 };
+
+    ghost ID = { 0 };
 
     const POINTS: u8 = 24;
 
@@ -54,6 +56,8 @@ impl Geometry for Nine {
     ghost point_count = { point_count-nine };
 
     ghost mill_count = { mill_count-nine };
+
+    ghost file_id = { id-nine };
 }
 
 impl Board for Nine {}

@@ -66,7 +66,7 @@ impl<B: Geometry> Position<B> {
         self.other
     }
 
-    /// How many stones the player to move and the opponent have.
+    /// How many stones the player to move (2 to 9) and the opponent (3 to 9) have.
     pub fn counts(&self) -> (u8, u8)
         ensures own { result.0 ≡ count_of self.now.own }
         ensures other { result.1 ≡ count_of self.now.other }

@@ -25,6 +25,7 @@ pub trait Source {
 
     /// Reads bytes into the front of `buffer`, and answers how many, at most all of it.
     ///
+    /// What the buffer has past the answer, and all of it after a failure, is open. Fewer than `u64::MAX` calls may have failed before.
     /// 0 for a buffer that isn't empty is the end of the source. A failed call has read nothing, is
     /// counted by [`failures`](Source::failures), and isn't tried again.
     fn read(&mut self, buffer: &mut [u8]) -> Result<usize, Failed>
@@ -50,7 +51,7 @@ pub trait Sink {
     /// where there is one.
     ///
     /// A failed call has taken nothing, is counted by [`failures`](Sink::failures), and isn't tried
-    /// again.
+    /// again. Fewer than `u64::MAX` calls may have failed before.
     fn write(&mut self, bytes: &[u8]) -> Result<usize, Failed>
         requires { failures self.old < 2 ^ 64 - 1 }
         ensures bound { WritesAtMost result bytes.now }
@@ -170,8 +171,9 @@ impl<W: Write> Sink for IntoWrite<W> {
 
 /// Writes all of `text`, in as many writes as it takes, where `sent` bytes went out before.
 ///
-/// `Ok` has the bytes that have then gone out, `sent` and those of the text. The first write that
-/// fails ends it: `Err` has the bytes that went out up to there, and nothing is tried again.
+/// `Ok` is the number of bytes that have then gone out, those sent before included; it has to fit a
+/// `u64`. The first write that fails ends it: `Err` is the number of bytes that went out up to there,
+/// those sent before included, and nothing is tried again.
 pub fn put<S: Sink>(sink: &mut S, sent: u64, text: &[u8]) -> Result<u64, u64>
     requires failures { S.failures sink.old < 2 ^ 64 - 1 }
     requires room { sent + length text.now < 2 ^ 64 }
@@ -198,7 +200,7 @@ pub fn put_byte<S: Sink>(sink: &mut S, sent: u64, byte: u8) -> Result<u64, u64>
     put(sink, sent, &[byte])
 }
 
-/// Writes the decimal digits of `number`, at most 20, as [`put`] does.
+/// Writes the decimal digits of `number`, at most 20, as [`put`] does. The count of bytes sent must have room for 20 more.
 pub fn put_number<S: Sink>(sink: &mut S, sent: u64, number: u64) -> Result<u64, u64>
     requires failures { S.failures sink.old < 2 ^ 64 - 1 }
     requires room { sent + 20 < 2 ^ 64 }

@@ -1,5 +1,5 @@
 use crate::board::Geometry;
-use crate::faults::TextFault;
+use crate::faults::{Stones, TextFault};
 use crate::grid::Grid;
 use crate::nine::Nine;
 use crate::points::Points;
@@ -180,5 +180,22 @@ fn two_sets_make_a_position_if_their_sizes_allow_it(rt: HostRuntime) -> Result<(
     let same = Position::<Grid>::new(position.own(), position.other())?;
     assert_eq!(rt; same.counts(), (2, 3));
     assert!(rt; Position::<Grid>::new(position.own(), Points::EMPTY).is_err());
+    Ok(())
+}
+
+#[test]
+fn each_refusal_has_its_text(rt: HostRuntime) -> Result<(), Fail> {
+    let texts = [
+        (TextFault::Length, "text is not one character per point"),
+        (TextFault::Character(7), "bad character at 7"),
+        (TextFault::Stones, "bad number of stones"),
+    ];
+    for (fault, text) in texts {
+        assert_eq!(rt; format!(in rt.alloc(); "{fault}")?.as_str(), text);
+    }
+    assert_eq!(rt;
+        format!(in rt.alloc(); "{}", Stones)?.as_str(),
+        "bad number of stones"
+    );
     Ok(())
 }

@@ -10,10 +10,10 @@ use morris_board::points::Points;
 use morris_board::position::Position;
 use std::marker::Model;
 
-/// An iterator over the legal moves of a position, in order of the point that the stone leaves, then of the one it goes to, then of the
+/// An iterator over the legal moves of a position, each once, in order of the point that the stone leaves, then of the one it goes to, then of the
 /// stone that is taken.
 #[derive(Drop)]
-#[derive_where(Clone, Debug)]
+#[derive_where(Debug)]
 pub struct Moves<B: Geometry> {
     position: Position<B>,
     /// The stones whose moves are still to come.

@@ -157,6 +157,7 @@ pub fn play<B: Geometry>(position: &Position<B>, m: Move) -> Position<B>
 }
 
 /// The legal moves, each once, in order of the point that the stone leaves, then of the one it goes to, then of the stone that is taken.
+/// There are at most 9 stones, 24 points to go to, and 9 stones to take.
 pub fn moves<B: Geometry>(position: &Position<B>) -> Moves<B>
     ensures listed { result ≡ moves_of B.shape position.now }
     ensures ascending { AllPairs Precedes result }
