@@ -1,0 +1,19 @@
+-- Lemmas on the definitions of this crate.
+pub mod Tests
+pub mod Depths
+pub mod ExitTests
+pub mod Known
+pub mod Applying
+pub mod Advancing
+pub mod Settling
+pub mod Marking
+pub mod Chaining
+pub mod Sweeping
+pub mod Plies
+pub mod Placing
+pub mod Blocking
+pub mod Settled
+pub mod Dealing
+pub mod Cutting
+pub mod Scattering
+pub mod Gathered

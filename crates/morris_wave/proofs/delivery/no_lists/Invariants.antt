@@ -1,0 +1,6 @@
+use Rattle.std.proofs.Common.{◌≡◌, ℕ, [], length}
+use Rattle.morris_wave.specs.Delivery.{contents, list_at}
+use Rattle.morris_wave.proofs.delivery.no_lists.Given as goal
+
+abbrev pub invariant-loop : goal.invariant-loop
+invariant-loop l = (length l.lists.items ≡ l.counter) × ((t : ℕ) → list_at (contents l.lists.items) t ≡ [])

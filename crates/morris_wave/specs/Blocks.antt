@@ -1,0 +1,95 @@
+-- Cuts of a graph into blocks, and what a block, its fresh nodes and a batch hold.
+use Rattle.std.specs.Prelude.{◌≡◌, ℕ, ◌+◌, ◌-◌, ◌*◌, ◌/◌, ◌^◌, ◌<◌, ◌≤◌, Bool, true, false, List, length, map, replicate, slice_index, slice_index_or}
+use Rattle.std.specs.List.{list_all, range_with_len}
+use Rattle.morris_wave.specs.declared.network.Exits.{Exits}
+use Rattle.morris_wave.specs.Exits.{exits_of, last_due_of}
+use Rattle.morris_wave.specs.Nets.{Net}
+use Rattle.morris_wave.specs.Values.{HasDepth}
+use Rattle.morris_wave.specs.Waves.{entry_at, open_at}
+use Rattle.morris_wave.specs.Solving.{exits_at}
+
+-- so many nodes, cut into so many blocks
+pub record Parts : Type 0 where
+  pub size : ℕ
+  pub blocks : ℕ
+
+-- at most 2^40 nodes in 1 to 1,024 blocks
+pub record IsCut (c : Parts) : Type 0 where
+  pub small : c.size ≤ 2 ^ 40
+  pub some : 1 ≤ c.blocks
+  pub few : c.blocks ≤ 1024
+
+-- Block k holds the nodes from size * k / blocks up to, not including, size * (k + 1) / blocks, both
+-- rounded down.
+abbrev pub first_of : Parts → ℕ → ℕ
+first_of c k = (c.size * k) / c.blocks
+
+-- the block that holds node i: the last one whose first node is at most i
+abbrev pub block_of : Parts → ℕ → ℕ
+block_of c i = ((i + 1) * c.blocks - 1) / c.size
+
+-- node i is one of block k: it is not below its first node, and below that of the next block
+abbrev pub IsIn : Parts → ℕ → ℕ → Type 0
+IsIn c k i = (first_of c k ≤ i) × (i < first_of c (k + 1))
+
+-- the state of a block: its place, its wave, and which sources are applied in this wave
+pub record BlockState : Type 0 where
+  pub level : ℕ
+  pub cut : Parts
+  pub number : ℕ
+  pub wave : ℕ
+  pub applied : List Bool
+
+-- all sources of this wave are applied
+abbrev pub is_complete : BlockState → Bool
+is_complete s = list_all (λ b. b) s.applied
+
+-- whether the block of a node is applied
+abbrev pub in_applied : BlockState → ℕ → Bool
+in_applied s j = slice_index_or s.applied (block_of s.cut j) false
+
+-- the block's first node
+abbrev pub first_node : BlockState → ℕ
+first_node s = first_of s.cut s.number
+
+-- how many nodes the block has
+abbrev pub count_of : BlockState → ℕ
+count_of s = first_of s.cut (s.number + 1) - first_of s.cut s.number
+
+-- A block holds, at every moment, what its wave and its applied sources say.
+pub record BlockHolds (g : Net) (s : BlockState) (codes counters : List ℕ) (exits : List Exits) : Type 0 where
+  pub cut : IsCut s.cut
+  pub size : g.size ≡ s.cut.size
+  pub number : s.number < s.cut.blocks
+  pub sources : length s.applied ≡ s.cut.blocks
+  pub wave : s.wave ≤ 65534
+  pub codes_len : length codes ≡ count_of s
+  pub counters_len : length counters ≡ count_of s
+  pub exits_len : length exits ≡ count_of s
+  pub codes_are : (k : ℕ) → k < count_of s → slice_index codes k ≡ entry_at g s.wave (in_applied s) (first_node s + k)
+  pub counters_are : (k : ℕ) → k < count_of s → slice_index counters k ≡ open_at g s.wave (in_applied s) (first_node s + k)
+  pub exits_are : (k : ℕ) → k < count_of s → exits_at exits k ≡ exits_of (g.exits (first_node s + k))
+
+-- before the first wave, where every source counts as applied
+abbrev pub first_wave : ℕ → Parts → ℕ → BlockState
+first_wave level cut number = record { level = level; cut = cut; number = number; wave = 0; applied = replicate cut.blocks true }
+
+-- the next wave, with no source applied
+abbrev pub next_wave_of : BlockState → BlockState
+next_wave_of s = record s { wave = s.wave + 1; applied = replicate s.cut.blocks false }
+
+-- the entries of the block's nodes, in their order
+abbrev pub entries_of : Net → BlockState → List ℕ
+entries_of g s = map (entry_at g s.wave (in_applied s)) (range_with_len (first_node s) (count_of s))
+
+-- the last wave at which an exit of a node of the block comes due, 0 if none does
+pub record IsLastDue (g : Net) (s : BlockState) (due : ℕ) : Type 0 where
+  pub bound : (i : ℕ) → IsIn s.cut s.number i → last_due_of (exits_of (g.exits i)) ≤ due
+  pub reached : 0 < due → (i : ℕ) × (IsIn s.cut s.number i × (last_due_of (exits_of (g.exits i)) ≡ due))
+
+-- A block is settled at a complete wave by which its exits are due, where none of its nodes has the depth
+-- of the wave.
+pub record IsSettled (g : Net) (s : BlockState) : Type 0 where
+  pub complete : is_complete s ≡ true
+  pub due : (i : ℕ) → IsIn s.cut s.number i → last_due_of (exits_of (g.exits i)) ≤ s.wave
+  pub quiet : (i : ℕ) → IsIn s.cut s.number i → HasDepth g i s.wave → ⊥

@@ -1,0 +1,12 @@
+-- What the contracts of this crate speak of.
+pub mod Nets
+pub mod Exits
+pub mod Values
+pub mod Waves
+pub mod Solving
+pub mod Blocks
+pub mod Batches
+pub mod Answering
+pub mod Delivery
+pub mod Gathering
+pub mod Samples

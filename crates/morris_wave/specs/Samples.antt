@@ -1,0 +1,66 @@
+-- Small graphs of the tests.
+use Rattle.std.specs.Prelude.{ℕ, zero, suc, ◌<◌, ◌≤◌, ◌/◌, ◌%◌, Bool, true, false, List, [], ◌∷◌, length, ◌==◌, if◌then◌else◌}
+use Rattle.std.proofs.Common.{arith}
+use Rattle.std.specs.List.{All}
+use Rattle.std.proofs.lemmas.List.Elements.{All-nil, All-cons}
+use Rattle.morris_wave.specs.Nets.{Net, IsNet}
+
+-- Node 0 has the quiet result node 1 and no exit. Node 1 has no quiet result, one drawn exit and one exit of
+-- code 41.
+abbrev pub pair_quiet : ℕ → List ℕ
+pair_quiet zero = 1 ∷ []
+pair_quiet (suc i) = []
+
+abbrev pub pair_exits : ℕ → List ℕ
+pair_exits zero = []
+pair_exits (suc i) = 0 ∷ 41 ∷ []
+
+abbrev pub pair_net : Net
+pair_net = record { size = 2; quiet = pair_quiet; exits = pair_exits }
+
+pair_inside : (i : ℕ) → All (λ j. j < 2) (pair_quiet i)
+pair_inside zero = All-cons (λ j. j < 2) 1 [] (omega arith) (All-nil (λ j. j < 2))
+pair_inside (suc i) = All-nil (λ j. j < 2)
+
+pair_few : (i : ℕ) → length (pair_quiet i) ≤ 65535
+pair_few zero = omega arith
+pair_few (suc i) = omega arith
+
+pair_codes : (i : ℕ) → All (λ c. c ≤ 65535) (pair_exits i)
+pair_codes zero = All-nil (λ c. c ≤ 65535)
+pair_codes (suc i) = All-cons (λ c. c ≤ 65535) 0 (41 ∷ []) (omega arith) (All-cons (λ c. c ≤ 65535) 41 [] (omega arith) (All-nil (λ c. c ≤ 65535)))
+
+pub pair_lawful : IsNet pair_net
+pair_lawful = record { small = omega arith; inside = λ i l. pair_inside i; few = λ i l. pair_few i; codes = λ i l. pair_codes i }
+
+-- One node without quiet results. Its exits are one of the code level / 2, and a drawn one where the level
+-- is odd.
+abbrev pub lone_exits : ℕ → List ℕ
+lone_exits level = (level / 2) % 65536 ∷ (if (level % 2) == 1 then 0 ∷ [] else [])
+
+abbrev pub lone_net : ℕ → Net
+lone_net level = record { size = 1; quiet = λ i. []; exits = λ i. lone_exits level }
+
+drawn_codes : (b : Bool) → All (λ c. c ≤ 65535) (if b then 0 ∷ [] else [])
+drawn_codes true = All-cons (λ c. c ≤ 65535) 0 [] (omega arith) (All-nil (λ c. c ≤ 65535))
+drawn_codes false = All-nil (λ c. c ≤ 65535)
+
+pub lone_lawful : (level : ℕ) → IsNet (lone_net level)
+lone_lawful level = record {
+  small = omega arith;
+  inside = λ i l. All-nil (λ j. j < 1);
+  few = λ i l. omega arith;
+  codes = λ i l. All-cons (λ c. c ≤ 65535) ((level / 2) % 65536) (if (level % 2) == 1 then 0 ∷ [] else []) (omega arith) (drawn_codes ((level % 2) == 1));
+}
+
+-- level % 4 nodes without any result
+abbrev pub bare_net : ℕ → Net
+bare_net level = record { size = level % 4; quiet = λ i. []; exits = λ i. [] }
+
+pub bare_lawful : (level : ℕ) → IsNet (bare_net level)
+bare_lawful level = record {
+  small = omega arith;
+  inside = λ i l. All-nil (λ j. j < level % 4);
+  few = λ i l. omega arith;
+  codes = λ i l. All-nil (λ c. c ≤ 65535);
+}

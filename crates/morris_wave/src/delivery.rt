@@ -1,0 +1,118 @@
+// Batches for all blocks of a cut, from the fresh nodes of one block.
+ghost use Rattle.std.specs.Prelude.{◌≡◌, ℕ, ◌+◌, ◌<◌, ◌≤◌, [], ◌∷◌, ◌++◌, List, OnOk, IfOk, vec_len, length, slice_set, slice_index_or};
+ghost use Rattle.std.specs.List.{All};
+ghost use Rattle.morris_wave.specs.Blocks.{IsIn};
+ghost use Rattle.morris_wave.specs.Batches.{BatchState, BatchHolds};
+ghost use Rattle.morris_wave.specs.Delivery.{contents, list_at, AreSorted, Deals, LeadTo, batch_of, IsBatchOf};
+
+use crate::division::Cut;
+use crate::engine::{Batch, Fresh};
+use crate::network::{Graph, Levels};
+use std::alloc::{AllocError, Global};
+use std::marker::PhantomData;
+
+// So many empty lists.
+fn no_lists(alloc: Global, count: usize) -> Result<Vec<Vec<u64>>, AllocError>
+    ensures len { IfOk result (λ v. vec_len v ≡ count) }
+    ensures empty { IfOk result (λ v. (t : ℕ) → list_at (contents v.items) t ≡ []) }
+{
+    let mut lists = Vec::with_capacity(alloc, count)?;
+    for _ in 0..count {
+        lists.push(Vec::new(alloc))?;
+    }
+    Ok(lists)
+}
+
+// Puts a node at the end of one list.
+fn put(lists: &mut Vec<Vec<u64>>, target: usize, node: u64) -> Result<(), AllocError>
+    requires { target < vec_len lists.old }
+    ensures len { vec_len lists.new ≡ vec_len lists.old }
+    ensures put { OnOk result (contents lists.new.items
+        ≡ slice_set (contents lists.old.items) target (list_at (contents lists.old.items) target ++ node ∷ [])) }
+{
+    let list = &mut lists[target];
+    list.push(node)?;
+    Ok(())
+}
+
+// Puts each node into the list of its block.
+fn deal(lists: &mut Vec<Vec<u64>>, cut: &Cut, nodes: &[u64]) -> Result<(), AllocError>
+    requires count { vec_len lists.old ≡ cut.now.blocks }
+    requires inside { All (λ i. i < cut.now.size) nodes.now }
+    requires sorted { AreSorted cut.now (contents lists.old.items) }
+    ensures len { vec_len lists.new ≡ vec_len lists.old }
+    ensures sorted { OnOk result (AreSorted cut.now (contents lists.new.items)) }
+    ensures dealt { OnOk result (Deals cut.now (contents lists.old.items) (contents lists.new.items) nodes.now) }
+{
+    for node in nodes {
+        put(lists, cut.block_of(*node) as usize, *node)?;
+    }
+    Ok(())
+}
+
+// The nodes that lead to one of these, each as often as it leads there, in one list for each block.
+fn behind<G: Graph>(
+    alloc: Global,
+    graph: &G,
+    cut: &Cut,
+    nodes: &[u64],
+) -> Result<Vec<Vec<u64>>, AllocError>
+    requires size { (G.Name.net (G.level graph.now)).size ≡ cut.now.size }
+    requires inside { All (λ j. j < cut.now.size) nodes.now }
+    ensures count { IfOk result (λ v. vec_len v ≡ cut.now.blocks) }
+    ensures sorted { IfOk result (λ v. AreSorted cut.now (contents v.items)) }
+    ensures behind { IfOk result (λ v. LeadTo (G.Name.net (G.level graph.now)) cut.now (contents v.items) nodes.now) }
+{
+    let mut lists = no_lists(alloc, cut.blocks() as usize)?;
+    let mut before = Vec::new(alloc);
+    for node in nodes {
+        graph.back(*node, &mut before)?;
+        deal(&mut lists, cut, &before)?;
+    }
+    Ok(lists)
+}
+
+// The batch of these nodes.
+fn seal<N: Levels>(fresh: &Fresh<N>, target: u64, nodes: Vec<u64>) -> Batch<N>
+    requires { BatchHolds (N.net fresh.now.level) (batch_of fresh.now target nodes.items) }
+    ensures made { result ≡ batch_of fresh.now target nodes.items }
+    ensures holds { BatchHolds (N.net fresh.now.level) result }
+{
+    Batch {
+        level: fresh.level,
+        cut: fresh.cut,
+        wave: fresh.wave,
+        source: fresh.source,
+        target,
+        nodes,
+        family: PhantomData,
+    }
+}
+
+/// One batch for each block of the cut, in their order, of the nodes that lead to the fresh nodes.
+///
+/// Each names the level, the cut, the wave and the source of the fresh nodes. It lists the quiet
+/// predecessors in its target, each as often as it leads to a fresh node. The graph is the one that the
+/// fresh nodes are of.
+///
+/// # Errors
+///
+/// `AllocError` where memory is refused.
+pub fn scatter<N: Levels, G: Graph<Name = N>>(
+    alloc: Global,
+    graph: &G,
+    fresh: &Fresh<N>,
+) -> Result<Vec<Batch<N>>, AllocError>
+    requires { G.level graph.now ≡ fresh.now.level }
+    ensures count { IfOk result (λ v. vec_len v ≡ fresh.now.cut.blocks) }
+    ensures batches { IfOk result (λ v. (t : ℕ) (d : BatchState) → t < fresh.now.cut.blocks
+        → IsBatchOf (N.net fresh.now.level) fresh.now t (slice_index_or v.items t d)) }
+{
+    let lists = behind(alloc, graph, &fresh.cut, &fresh.nodes)?;
+    let mut batches = Vec::with_capacity(alloc, lists.len())?;
+    for nodes in lists {
+        let target = batches.len() as u64;
+        batches.push(seal(fresh, target, nodes))?;
+    }
+    Ok(batches)
+}

@@ -1,0 +1,115 @@
+ghost use Rattle.std.specs.Prelude.{◌≡◌, ℕ, ◌+◌, ◌*◌, ◌/◌, ◌^◌, ◌<◌, ◌≤◌, ◌⊎◌, ◌↔◌, ◌==◌, ◌&&◌, IfOk, IsErr};
+
+use std::marker::Model;
+use std::ops::Range;
+use thiserror::Error;
+
+/// The number of blocks isn't 1 to 1,024.
+#[derive(Clone, Copy, Debug, PartialEq, Eq, Error)]
+#[error("blocks must be 1 to 1024")]
+pub struct Blocks;
+
+/// The nodes of a graph, cut into blocks of neighbours.
+///
+/// Block `k` of `blocks` holds the nodes from `size * k / blocks` up to, not including,
+/// `size * (k + 1) / blocks`, both rounded down.
+#[derive(Clone, Copy, Debug)]
+pub struct Cut {
+    size: u64,
+    blocks: u64,
+}
+
+impl Model for Cut {
+    ghost use Rattle.std.specs.Prelude.{◌≤◌, ◌^◌};
+    ghost use Rattle.morris_wave.specs.Blocks.{Parts, IsCut};
+
+    ghost Value = { Parts };
+
+    ghost view = { λ c. record { size = c.size; blocks = c.blocks } };
+
+    ghost invariant = { λ c. IsCut (record { size = c.size; blocks = c.blocks }) };
+
+    ghost inverse = { λ p. record { size = p.size; blocks = p.blocks } };
+}
+
+impl Cut {
+    ghost use Rattle.morris_wave.specs.Blocks.{Parts, first_of, block_of, IsIn};
+
+    /// Cuts `size` nodes, which are at most 2^40, into `blocks` blocks.
+    ///
+    /// # Errors
+    ///
+    /// `Blocks` exactly where `blocks` isn't 1 to 1,024.
+    pub fn new(size: u64, blocks: u64) -> Result<Cut, Blocks>
+        requires { size ≤ 2 ^ 40 }
+        ensures ok { IfOk result (λ c. (c.size ≡ size) × (c.blocks ≡ blocks)) }
+        ensures refused { IsErr result ↔ ((blocks < 1) ⊎ (1024 < blocks)) }
+    {
+        if blocks < 1 || blocks > 1024 {
+            return Err(Blocks);
+        }
+        Ok(Cut { size, blocks })
+    }
+
+    /// How many nodes there are.
+    pub fn size(&self) -> u64
+        ensures { result ≡ self.now.size }
+    {
+        self.size
+    }
+
+    /// How many blocks there are.
+    pub fn blocks(&self) -> u64
+        ensures count { result ≡ self.now.blocks }
+        ensures some { 1 ≤ result }
+        ensures few { result ≤ 1024 }
+    {
+        self.blocks
+    }
+
+    // Whether two cuts are of one size and number of blocks.
+    pub(crate) fn is_same(&self, other: &Cut) -> bool
+        ensures { result ≡ ((self.now.size == other.now.size) && (self.now.blocks == other.now.blocks)) }
+    {
+        let same_size = self.size == other.size;
+        same_size && self.blocks == other.blocks
+    }
+
+    // The first node of block `k`, or the size where `k` is the number of blocks.
+    pub(crate) fn first(&self, k: u64) -> u64
+        requires { k ≤ self.now.blocks }
+        ensures value { result ≡ first_of self.now k }
+        ensures within { result ≤ self.now.size }
+    {
+        let size = self.size;
+        size * k / self.blocks
+    }
+
+    /// The block that holds node `i`.
+    pub fn block_of(&self, i: u64) -> u64
+        requires { i < self.now.size }
+        ensures value { result ≡ block_of self.now i }
+        ensures within { result < self.now.blocks }
+        ensures holds { IsIn self.now result i }
+        ensures alone { (k : ℕ) → IsIn self.now k i → k ≡ result }
+    {
+        let size = self.size;
+        ((i + 1) * self.blocks - 1) / size
+    }
+
+    /// The nodes of block `k`.
+    ///
+    /// The ranges follow one another without gap from 0 to the size.
+    pub fn range(&self, k: u64) -> Range<u64>
+        requires { k < self.now.blocks }
+        ensures start { result.start ≡ first_of self.now k }
+        ensures end { result.end ≡ first_of self.now (k + 1) }
+        ensures order { result.start ≤ result.end }
+        ensures within { result.end ≤ self.now.size }
+        ensures first { k ≡ 0 → result.start ≡ 0 }
+        ensures last { k + 1 ≡ self.now.blocks → result.end ≡ self.now.size }
+    {
+        let _blocks = self.blocks;
+        self.first(k)..self.first(k + 1)
+    }
+}

@@ -1,0 +1,393 @@
+ghost use Rattle.std.specs.Prelude.{◌≡◌, ℕ, ◌+◌, ◌-◌, ◌<◌, ◌≤◌, Bool, true, false, ◌&&◌, ◌==◌, ◌↔◌, IsTrue, length, IfOk, OnOk, OnErr, IfErr, vec_len, slice_index, if◌then◌else◌};
+ghost use Rattle.std.specs.List.{All, count_by};
+ghost use Rattle.morris_wave.specs.Nets.{times};
+ghost use Rattle.morris_wave.specs.Waves.{entry_at, is_decided_at, is_fresh};
+
+use crate::division::Cut;
+use crate::entries::Entries;
+use crate::network::{Exits, Graph, Levels};
+use crate::reading::{first_codes, read_counters, read_exits};
+use crate::taking::{all_applied, clear, fresh_nodes, latest, settle_all, take_nodes};
+use std::alloc::{AllocError, Global};
+use std::marker::{Model, PhantomData};
+use thiserror::Error;
+
+/// What a block did with a batch.
+#[derive(Clone, Copy, Debug, PartialEq, Eq)]
+pub enum Applied {
+    /// The batch was taken in, and its source counts as applied.
+    Done,
+    /// The source was already applied in this wave. Nothing changed.
+    Again,
+    /// The batch is of another level, cut or wave, or for another block. Nothing changed.
+    Stranger,
+}
+
+/// Why a block doesn't go on to the next wave.
+#[derive(Clone, Copy, Debug, PartialEq, Eq, Error)]
+pub enum AdvanceFault {
+    /// Not all sources of this wave are applied.
+    #[error("wave is not complete")]
+    NotComplete,
+    /// This is the last wave that entries can tell of.
+    #[error("depth is too great")]
+    TooDeep,
+}
+
+/// How many entries of a block are won, lost and still open; together these are all nodes of the block.
+#[derive(Clone, Copy, Debug, PartialEq, Eq)]
+pub struct Tallies {
+    /// Entries of even codes above 0.
+    pub won: u64,
+    /// Entries of odd codes.
+    pub lost: u64,
+    /// Open entries.
+    pub undecided: u64,
+}
+
+/// The nodes of a block that have the depth one less than its wave.
+pub struct Fresh<N: Levels> {
+    pub(crate) level: u64,
+    pub(crate) cut: Cut,
+    pub(crate) wave: u16,
+    pub(crate) source: u64,
+    pub(crate) nodes: Vec<u64>,
+    pub(crate) family: PhantomData<N>,
+}
+
+impl<N: Levels> Model for Fresh<N> {
+    ghost use Rattle.morris_wave.specs.Batches.{FreshState, FreshHolds};
+
+    ghost Value = { FreshState };
+
+    ghost view = { λ f. record { level = f.level; cut = f.cut; wave = f.wave; source = f.source; nodes = f.nodes.items } };
+
+    ghost invariant = { λ f. FreshHolds (N.net f.level)
+        (record { level = f.level; cut = f.cut; wave = f.wave; source = f.source; nodes = f.nodes.items }) };
+}
+
+impl<N: Levels> Drop for Fresh<N> {
+    fn drop(self) {
+        let Fresh {
+            level: _,
+            cut: _,
+            wave: _,
+            source: _,
+            nodes: _,
+            family: _,
+        } = self;
+    }
+}
+
+/// The nodes of one block, the target, that lead to fresh nodes of another, the source.
+pub struct Batch<N: Levels> {
+    pub(crate) level: u64,
+    pub(crate) cut: Cut,
+    pub(crate) wave: u16,
+    pub(crate) source: u64,
+    pub(crate) target: u64,
+    pub(crate) nodes: Vec<u64>,
+    pub(crate) family: PhantomData<N>,
+}
+
+impl<N: Levels> Model for Batch<N> {
+    ghost use Rattle.morris_wave.specs.Batches.{BatchState, BatchHolds};
+
+    ghost Value = { BatchState };
+
+    ghost view = { λ b. record { level = b.level; cut = b.cut; wave = b.wave; source = b.source; target = b.target; nodes = b.nodes.items } };
+
+    ghost invariant = { λ b. BatchHolds (N.net b.level)
+        (record { level = b.level; cut = b.cut; wave = b.wave; source = b.source; target = b.target; nodes = b.nodes.items }) };
+}
+
+impl<N: Levels> Drop for Batch<N> {
+    fn drop(self) {
+        let Batch {
+            level: _,
+            cut: _,
+            wave: _,
+            source: _,
+            target: _,
+            nodes: _,
+            family: _,
+        } = self;
+    }
+}
+
+/// The entries of one block of a graph, which go from wave to wave.
+///
+/// At wave `n` with some sources applied, a node is decided exactly where some exit is lost within
+/// `n - 1` plies or some quiet result is known and lost, or every exit is won within `n - 1` and every
+/// quiet result is known and won. A result is known where its depth is at most `n - 2`, or is `n - 1` and
+/// its block is applied. A decided node's entry is its code, an open node's is 0.
+pub struct Block<N: Levels> {
+    level: u64,
+    pub(crate) cut: Cut,
+    number: u64,
+    wave: u16,
+    applied: Vec<bool>,
+    pub(crate) entries: Entries,
+    counters: Vec<u16>,
+    exits: Vec<Exits>,
+    family: PhantomData<N>,
+}
+
+impl<N: Levels> Model for Block<N> {
+    ghost use Rattle.morris_wave.specs.Blocks.{BlockState, BlockHolds};
+
+    ghost Value = { BlockState };
+
+    ghost view = { λ b. record { level = b.level; cut = b.cut; number = b.number; wave = b.wave; applied = b.applied.items } };
+
+    ghost invariant = { λ b. BlockHolds (N.net b.level)
+        (record { level = b.level; cut = b.cut; number = b.number; wave = b.wave; applied = b.applied.items })
+        b.entries.codes.items b.counters.items b.exits.items };
+}
+
+impl<N: Levels> Drop for Block<N> {
+    fn drop(self) {
+        let Block {
+            level: _,
+            cut: _,
+            number: _,
+            wave: _,
+            applied: _,
+            entries: _,
+            counters: _,
+            exits: _,
+            family: _,
+        } = self;
+    }
+}
+
+impl<N: Levels> Batch<N> {
+    /// The predecessors, each as often as it leads to a fresh node of the source.
+    pub fn nodes(&self) -> &[u64]
+        ensures { result.now ≡ self.now.nodes }
+    {
+        &self.nodes
+    }
+}
+
+impl<N: Levels> Fresh<N> {
+    /// The fresh nodes, each once.
+    pub fn nodes(&self) -> &[u64]
+        ensures { result.now ≡ self.now.nodes }
+    {
+        self.nodes.as_slice()
+    }
+}
+
+impl<N: Levels> Block<N> {
+    ghost use Rattle.morris_wave.specs.Blocks.{BlockState, first_wave, next_wave_of, is_complete, in_applied, IsIn, entries_of, IsLastDue, IsSettled};
+    ghost use Rattle.morris_wave.specs.Exits.{is_odd, is_won_code};
+    ghost use Rattle.morris_wave.specs.Values.{IsTooDeep, HasCode};
+    ghost use Rattle.morris_wave.specs.Answering.{answer_to, after_batch};
+
+    /// The block `number` of a graph at wave 0, before the first wave, where every source counts as applied.
+    ///
+    /// The cut is of the graph's size, and has such a block.
+    ///
+    /// # Errors
+    ///
+    /// `AllocError` where memory is refused.
+    pub fn make<G: Graph<Name = N>>(
+        alloc: Global,
+        graph: &G,
+        cut: &Cut,
+        number: u64,
+    ) -> Result<Block<N>, AllocError>
+        requires size { cut.now.size ≡ (N.net (G.level graph.now)).size }
+        requires number { number < cut.now.blocks }
+        ensures { IfOk result (λ b. b ≡ first_wave (G.level graph.now) cut.now number) }
+    {
+        let range = cut.range(number);
+        let exits = read_exits(alloc, graph, range.start, range.end)?;
+        let counters = read_counters(alloc, graph, range.start, range.end)?;
+        let codes = first_codes(alloc, &counters, &exits)?;
+        let applied = all_applied(alloc, cut.blocks() as usize)?;
+        Ok(Block {
+            level: graph.level(),
+            cut: *cut,
+            number,
+            wave: 0,
+            applied,
+            entries: Entries::of_codes(codes),
+            counters,
+            exits,
+            family: PhantomData,
+        })
+    }
+
+    /// The number of the block within its cut, counted from 0.
+    pub fn number(&self) -> u64
+        ensures { result ≡ self.now.number }
+    {
+        self.number
+    }
+
+    /// The wave, from 0 to 65,534.
+    pub fn wave(&self) -> u16
+        ensures value { result ≡ self.now.wave }
+        ensures last { result ≤ 65534 }
+    {
+        self.wave
+    }
+
+    /// The level of its graph.
+    pub fn level(&self) -> u64
+        ensures { result ≡ self.now.level }
+    {
+        self.level
+    }
+
+    /// The entry of a node of the block: its code, from 1 to 65,535, or 0 while it is open.
+    ///
+    /// A code is one more than the depth in plies: odd for a loss, even for a win.
+    pub fn code(&self, i: u64) -> u16
+        requires { IsIn self.now.cut self.now.number i }
+        ensures value { result ≡ entry_at (N.net self.now.level) self.now.wave (in_applied self.now) i }
+        // A decided entry is the node's code, at whatever wave and whatever is applied.
+        ensures exact { 0 < result → HasCode (N.net self.now.level) i result }
+        // And an entry is open exactly where the node isn't decided.
+        ensures undecided { (result ≡ 0) ↔ (is_decided_at (N.net self.now.level) self.now.wave (in_applied self.now) i ≡ false) }
+    {
+        self.entries.codes[(i - self.cut.first(self.number)) as usize]
+    }
+
+    /// How many entries are won, lost and still open.
+    pub fn tallies(&self) -> Tallies
+        ensures won { result.won ≡ count_by is_won_code (entries_of (N.net self.now.level) self.now) }
+        ensures lost { result.lost ≡ count_by is_odd (entries_of (N.net self.now.level) self.now) }
+        ensures undecided { result.undecided ≡ count_by (λ c. c == 0) (entries_of (N.net self.now.level) self.now) }
+    {
+        let decided = self.entries.won + self.entries.lost;
+        Tallies {
+            won: self.entries.won,
+            lost: self.entries.lost,
+            undecided: self.entries.codes.len() as u64 - decided,
+        }
+    }
+
+    /// The last wave at which an exit of a node of the block comes due, 0 if none does.
+    pub fn last_due(&self) -> u32
+        ensures { IsLastDue (N.net self.now.level) self.now result }
+    {
+        latest(&self.exits)
+    }
+
+    /// Whether the wave is complete, all exits of the block are due, and none of its nodes has the depth
+    /// of the wave.
+    ///
+    /// Where all blocks of a graph are settled, no later wave decides anything.
+    pub fn settled(&self) -> bool
+        ensures settled { IsTrue result ↔ IsSettled (N.net self.now.level) self.now }
+        // At the last wave a complete block that isn't settled shows that the graph is too deep.
+        ensures deep { result ≡ false → is_complete self.now ≡ true → self.now.wave ≡ 65534
+            → IsTooDeep (N.net self.now.level) }
+    {
+        let wave = self.wave;
+        if !self.is_complete() {
+            return false;
+        }
+        let due = self.last_due();
+        if u32::from(wave) < due {
+            return false;
+        }
+        !self.entries.codes.contains(&(wave + 1))
+    }
+
+    /// Whether all sources of this wave are applied: one batch of each block of the cut, itself included.
+    pub fn is_complete(&self) -> bool
+        ensures { result ≡ is_complete self.now }
+    {
+        self.applied.iter().all(|applied| *applied)
+    }
+
+    /// Takes in a batch, if it is for this block at its wave and its source isn't applied yet.
+    ///
+    /// The nodes of the batch lead to nodes whose depth is one less than the wave. At an odd wave these are
+    /// lost, so each open node of the batch is won. At an even wave they are won, so a node is lost once it
+    /// has no other quiet result left and every exit is won. It takes no memory.
+    pub fn apply(&mut self, batch: &Batch<N>) -> Applied
+        ensures answer { result ≡ answer_to self.old batch.now }
+        ensures state { self.new ≡ after_batch self.old batch.now }
+    {
+        if batch.level != self.level
+            || !batch.cut.is_same(&self.cut)
+            || batch.wave != self.wave
+            || batch.target != self.number
+        {
+            return Applied::Stranger;
+        }
+        if self.applied[batch.source as usize] {
+            return Applied::Again;
+        }
+        let first = self.cut.first(self.number);
+        take_nodes(
+            &mut self.entries,
+            &mut self.counters,
+            &self.exits,
+            first,
+            &batch.nodes,
+            self.wave,
+        );
+        self.applied[batch.source as usize] = true;
+        Applied::Done
+    }
+
+    /// Goes on from a complete wave to the next one, in which no source is applied.
+    ///
+    /// # Errors
+    ///
+    /// `NotComplete` where the wave isn't complete, otherwise `TooDeep` at wave 65,534. Neither changes
+    /// the block.
+    pub fn advance(&mut self) -> Result<(), AdvanceFault>
+        ensures ok { OnOk result ((is_complete self.old ≡ true) × (self.old.wave < 65534) × (self.new ≡ next_wave_of self.old)) }
+        ensures err { IfErr result (λ e. (self.new ≡ self.old)
+            × (e ≡ (if is_complete self.old then AdvanceFault.TooDeep else AdvanceFault.NotComplete))) }
+        ensures deep { IfErr result (λ e. is_complete self.old ≡ true → self.old.wave ≡ 65534) }
+    {
+        if !self.is_complete() {
+            return Err(AdvanceFault::NotComplete);
+        }
+        if self.wave == 65534 {
+            return Err(AdvanceFault::TooDeep);
+        }
+        self.wave += 1;
+        settle_all(&mut self.entries, &self.counters, &self.exits, self.wave);
+        clear(&mut self.applied);
+        Ok(())
+    }
+
+    /// The nodes of the block that have the depth one less than its wave, each once; none at wave 0.
+    ///
+    /// # Errors
+    ///
+    /// `AllocError` where memory is refused.
+    pub fn fresh(&self, alloc: Global) -> Result<Fresh<N>, AllocError>
+        ensures level { IfOk result (λ f. f.level ≡ self.now.level) }
+        ensures cut { IfOk result (λ f. f.cut ≡ self.now.cut) }
+        ensures wave { IfOk result (λ f. f.wave ≡ self.now.wave) }
+        ensures source { IfOk result (λ f. f.source ≡ self.now.number) }
+        ensures inside { IfOk result (λ f. All (IsIn self.now.cut self.now.number) f.nodes) }
+        ensures nodes { IfOk result (λ f. (i : ℕ) → IsIn self.now.cut self.now.number i
+            → times i f.nodes ≡ (if is_fresh (N.net self.now.level) self.now.wave i then 1 else 0)) }
+    {
+        let nodes = fresh_nodes(
+            alloc,
+            &self.entries.codes,
+            self.cut.first(self.number),
+            self.wave,
+        )?;
+        Ok(Fresh {
+            level: self.level,
+            cut: self.cut,
+            wave: self.wave,
+            source: self.number,
+            nodes,
+            family: PhantomData,
+        })
+    }
+}

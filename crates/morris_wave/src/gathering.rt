@@ -1,0 +1,191 @@
+// The codes of a graph, gathered from its blocks.
+ghost use Rattle.std.specs.Prelude.{◌≡◌, ℕ, ◌+◌, ◌<◌, ◌≤◌, Bool, true, false, Option, Some, None, [], length, is_some, slice_index, slice_index_or, replicate, IfOk, OnOk, IfErr, IfSome, IfNone, vec_len};
+ghost use Rattle.std.specs.List.{All};
+ghost use Rattle.morris_wave.specs.Values.{HasCode, IsTooDeep, code_within};
+ghost use Rattle.morris_wave.specs.Blocks.{BlockState, IsCut, first_node, count_of, is_complete, IsSettled};
+ghost use Rattle.morris_wave.specs.Gathering.{complaint, first_complaint, HasAll, ComesOnce, IsGatherFault, Fits, ArePlaces};
+
+use crate::division::Cut;
+use crate::engine::Block;
+use crate::network::Levels;
+use std::alloc::{AllocError, Global};
+use thiserror::Error;
+
+/// Why blocks weren't gathered.
+#[derive(Clone, Copy, Debug, PartialEq, Eq, Error)]
+pub enum GatherFault {
+    /// The block at this place is of another level or cut.
+    #[error("block at {0} is of another build")]
+    Foreign(usize),
+    /// A second block of this number.
+    #[error("block {0} came twice")]
+    Double(u64),
+    /// The block of this number isn't complete at the wave, or didn't come.
+    #[error("block {0} is not complete")]
+    Missing(u64),
+    /// Want of memory.
+    #[error("out of memory")]
+    Memory,
+}
+
+impl From<AllocError> for GatherFault {
+    ghost use Rattle.morris_wave.specs.declared.gathering.GatherFault.TheVariants.{Memory};
+
+    ghost from_gives = { λ _ e. e ≡ Memory };
+
+    fn from(_fault: AllocError) -> GatherFault {
+        GatherFault::Memory
+    }
+}
+
+// One more than the greatest number of a block.
+const NUMBERS: usize = 1024;
+
+// What speaks against a block at its place, after those whose places are known.
+fn complaint<N: Levels>(
+    block: &Block<N>,
+    place: usize,
+    level: u64,
+    wave: u16,
+    cut: &Cut,
+    places: &[Option<usize>],
+) -> Option<GatherFault>
+    requires { length places.now ≡ 1024 }
+    ensures value { result ≡ complaint level wave cut.now place (is_some (slice_index_or places.now block.now.number None)) block.now }
+    ensures number { block.now.number < 1024 }
+{
+    let number = block.number();
+    let _blocks = block.cut.blocks();
+    if block.level() != level || !block.cut.is_same(cut) {
+        return Some(GatherFault::Foreign(place));
+    }
+    if places[number as usize].is_some() {
+        return Some(GatherFault::Double(number));
+    }
+    if block.wave() == wave && block.is_complete() {
+        None
+    } else {
+        Some(GatherFault::Missing(number))
+    }
+}
+
+// No block has a place yet.
+fn nowhere() -> [Option<usize>; NUMBERS]
+    ensures { result ≡ replicate 1024 None }
+{
+    [None; NUMBERS]
+}
+
+// Where the block of each number stands, unless something speaks against one of them.
+fn walk<N: Levels>(
+    level: u64,
+    wave: u16,
+    cut: &Cut,
+    blocks: &[Block<N>],
+) -> Result<[Option<usize>; NUMBERS], GatherFault>
+    ensures ok { IfOk result (λ places. ArePlaces blocks.now places) }
+    ensures walked { OnOk result (first_complaint level wave cut.now [] blocks.now ≡ None) }
+    ensures err { IfErr result (λ e. first_complaint level wave cut.now [] blocks.now ≡ Some e) }
+{
+    let mut places = nowhere();
+    for (place, block) in blocks.iter().enumerate() {
+        if let Some(fault) = complaint(block, place, level, wave, cut, &places) {
+            return Err(fault);
+        }
+        places[block.number() as usize] = Some(place);
+    }
+    Ok(places)
+}
+
+// The least number of the cut that has no place.
+fn first_absent(cut: &Cut, places: &[Option<usize>]) -> Option<u64>
+    requires { length places.now ≡ 1024 }
+    ensures few { cut.now.blocks ≤ 1024 }
+    ensures none { IfNone result ((k : ℕ) → k < cut.now.blocks → is_some (slice_index_or places.now k None) ≡ true) }
+    ensures absent { IfSome result (λ k. (k < cut.now.blocks) × (is_some (slice_index_or places.now k None) ≡ false)) }
+    ensures least { IfSome result (λ k. (m : ℕ) → m < k → is_some (slice_index_or places.now m None) ≡ true) }
+{
+    for number in 0..cut.blocks() {
+        if places[number as usize].is_none() {
+            return Some(number);
+        }
+    }
+    None
+}
+
+// The entries of a block.
+fn entries_of<N: Levels>(block: &Block<N>) -> &[u16]
+    ensures cut { IsCut block.now.cut }
+    ensures size { (N.net block.now.level).size ≡ block.now.cut.size }
+    ensures wave { block.now.wave ≤ 65534 }
+    ensures len { length result.now ≡ count_of block.now }
+    ensures codes { is_complete block.now ≡ true → (k : ℕ) → k < count_of block.now
+        → slice_index result.now k ≡ code_within (N.net block.now.level) (block.now.wave + 1) (first_node block.now + k) }
+{
+    &block.entries.codes
+}
+
+// The entries of all blocks, in the order of their numbers.
+fn in_order<N: Levels>(
+    alloc: Global,
+    level: u64,
+    wave: u16,
+    cut: &Cut,
+    blocks: &[Block<N>],
+    places: &[Option<usize>],
+) -> Result<Vec<u16>, AllocError>
+    requires places { ArePlaces blocks.now places.now }
+    requires all { HasAll cut.now blocks.now }
+    requires fit { All (Fits level wave cut.now) blocks.now }
+    ensures len { IfOk result (λ v. vec_len v ≡ cut.now.size) }
+    ensures size { OnOk result ((N.net level).size ≡ cut.now.size) }
+    ensures wave { OnOk result (wave ≤ 65534) }
+    ensures cut { OnOk result (IsCut cut.now) }
+    ensures codes { IfOk result (λ v. (i : ℕ) → i < cut.now.size → slice_index v.items i ≡ code_within (N.net level) (wave + 1) i) }
+{
+    let mut codes = Vec::with_capacity(alloc, cut.size() as usize)?;
+    for number in 0..cut.blocks() {
+        let Some(place) = places[number as usize] else {
+            unreachable!()
+        };
+        codes.extend_from_slice(entries_of(&blocks[place]))?;
+    }
+    Ok(codes)
+}
+
+/// The codes of all nodes, gathered from the blocks of a graph at a complete wave.
+///
+/// A node's code is there if its depth is at most the wave; otherwise its entry is 0. Where all blocks
+/// are settled, these are the codes of all nodes, and the graph isn't too deep.
+///
+/// # Errors
+///
+/// Goes through the blocks in their order: `Foreign` with the place of a block of another level or cut,
+/// `Double` with a number that already came, `Missing` with the number of a block that isn't complete at
+/// the wave. Then `Missing` with the least number that didn't come, and `Memory` at last.
+pub fn gather<N: Levels>(
+    alloc: Global,
+    level: u64,
+    wave: u16,
+    cut: &Cut,
+    blocks: &[Block<N>],
+) -> Result<Vec<u16>, GatherFault>
+    ensures fit { OnOk result (All (Fits level wave cut.now) blocks.now) }
+    ensures walked { OnOk result (first_complaint level wave cut.now [] blocks.now ≡ None) }
+    ensures all { OnOk result (HasAll cut.now blocks.now) }
+    ensures once { OnOk result (ComesOnce cut.now blocks.now) }
+    ensures fault { IfErr result (λ e. IsGatherFault level wave cut.now blocks.now e) }
+    ensures size { OnOk result ((N.net level).size ≡ cut.now.size) }
+    ensures len { IfOk result (λ v. vec_len v ≡ cut.now.size) }
+    ensures codes { IfOk result (λ v. (i : ℕ) → i < cut.now.size → slice_index v.items i ≡ code_within (N.net level) (wave + 1) i) }
+    ensures settled { IfOk result (λ v. All (IsSettled (N.net level)) blocks.now
+        → (i : ℕ) → i < cut.now.size → HasCode (N.net level) i (slice_index v.items i)) }
+    ensures deep { OnOk result (All (IsSettled (N.net level)) blocks.now → IsTooDeep (N.net level) → ⊥) }
+{
+    let places = walk(level, wave, cut, blocks)?;
+    if let Some(number) = first_absent(cut, &places) {
+        return Err(GatherFault::Missing(number));
+    }
+    let codes = in_order(alloc, level, wave, cut, blocks, &places)?;
+    Ok(codes)
+}

@@ -1,0 +1,31 @@
+//! Exact depths of win and loss over any graph with exits.
+//!
+//! The crate knows no game. A [`Graph`] gives each node's results, and [`sweep`] the code of each node.
+#![tactic(auto)]
+
+mod chains;
+mod delivery;
+mod division;
+mod engine;
+#[cfg(test)]
+mod engine_tests;
+mod entries;
+mod gathering;
+#[cfg(test)]
+mod gathering_tests;
+mod marks;
+mod network;
+mod reading;
+#[cfg(test)]
+mod samples;
+mod solver;
+#[cfg(test)]
+mod solver_tests;
+mod taking;
+
+pub use delivery::scatter;
+pub use division::{Blocks, Cut};
+pub use engine::{AdvanceFault, Applied, Batch, Block, Fresh, Tallies};
+pub use gathering::{GatherFault, gather};
+pub use network::{Exits, Graph, Levels};
+pub use solver::{SweepFault, sweep};
