@@ -10,7 +10,7 @@ use Rattle.clap.specs.Takes.{is_given}
 use Rattle.clap.specs.Walk.{Rule, Text, answers_to, finished, has_row, nothing_held, rows_after, settled, stop_after, walk, with_default}
 use Rattle.clap.specs.Simple.{App, Shape, argument_words, built, built_leaf, entered, filled, help_rule, inherited, label_of, marked_built, names_of, new_shape, rows_at, with_index, with_leaf_noted, with_subcommand}
 use Rattle.clap.specs.declared.builder.value_parser.ValueParser.TheVariants as parser
-use Rattle.morris.specs.Words.{HasLookValues, NamesRequest, depth_rule, faults_of, look_app, morris_app, named_by, program, required_rule}
+use Rattle.morris.specs.Words.{HasLookValues, HasStatsValues, NamesRequest, depth_rule, faults_of, look_app, morris_app, named_by, program, required_rule, stats_app}
 use Rattle.morris.proofs.Parsed.{Each, Each-find, HasValue, IsNotHelp, IsPlainRule, arguments_there, default_fills, default_keeps, given_value, level_passes, row_value, subcommand_there}
 
 -- ---- `look`, as it is built
@@ -30,8 +30,11 @@ help = filled help_rule
 abbrev look_top : Shape
 look_top = record (new_shape (codes "look")) { rules = required_rule (codes "BOARD") ∷ required_rule (codes "TEXT") ∷ depth_rule ∷ [] }
 
+abbrev stats_top : Shape
+stats_top = record (new_shape (codes "stats")) { rules = required_rule (codes "BOARD") ∷ required_rule (codes "PAIR") ∷ [] }
+
 abbrev whole : App
-whole = with_subcommand program look_top
+whole = with_subcommand (with_subcommand program look_top) stats_top
 
 abbrev look : Shape
 look = built_leaf (inherited (with_leaf_noted (marked_built whole.top)) look_top)
@@ -74,6 +77,33 @@ look_fits words none =
       in_range = accepts-Accepts false (parser.Signed (pos 0) (pos 6)) third.first third.passes;
     }
 
+-- ---- `stats`, as it is built
+
+abbrev pair : Rule
+pair = with_index 2 (filled (required_rule (codes "PAIR")))
+
+abbrev stats : Shape
+stats = built_leaf (inherited (with_leaf_noted (marked_built whole.top)) stats_top)
+
+stats_plain : Each (IsPlainRule stats.rules) stats.rules
+stats_plain = (
+  record { known = refl; kind = inl (refl, refl) },
+  (
+    record { known = refl; kind = inl (refl, refl) },
+    (record { known = refl; kind = inr refl }, tt),
+  ),
+)
+
+stats_fits : (words : List Text) → level_fault stats [] nothing_held words false [] ≡ [] → HasStatsValues (rows_after stats.rules [] words)
+stats_fits words none =
+    let level = level_passes stats [] words false [] stats_plain none in
+    let rows = rows_after stats.rules [] words in
+    let missing : (not (is_given (codes "BOARD") rows) || (not (is_given (codes "PAIR") rows) || false)) ≡ false = arguments_there stats rows false level.checked in
+    let given = both_given _ _ missing in
+    let first : HasValue rows board = given_value stats.rules rows board level.rows given.0 refl in
+    let second : HasValue rows pair = given_value stats.rules rows pair level.rows given.1 refl in
+    record { board = ap is_some first.is_first; pair = ap is_some second.is_first }
+
 -- ---- the program
 
 only_left : (b : Bool) → (b || false) ≡ true → b ≡ true
@@ -86,7 +116,10 @@ Serves s = ((words : List Text) → level_fault s [] nothing_held words false []
     ⊎ ((s.name ≡ codes "help") × (s.aliases ≡ []))
 
 all_serve : Each Serves (built whole).subs
-all_serve = (inl (λ words none. (refl, look_fits words none)), (inr (refl, refl), tt))
+all_serve = (
+  inl (λ words none. inl (refl, look_fits words none)),
+  (inl (λ words none. inr (refl, stats_fits words none)), (inr (refl, refl), tt)),
+)
 
 program_plain : Each (IsPlainRule (built whole).top.rules) (built whole).top.rules
 program_plain = (record { known = refl; kind = inr refl }, tt)
@@ -135,5 +168,5 @@ program_named a words plain serves wants offers none =
     entered_named a stop serves (level.stopped offers) level.below_none (there has wanted)
 
 pub named : (words : List Text) → faults_of words ≡ [] → NamesRequest (named_by words)
-unfolding morris_app look_app
+unfolding morris_app look_app stats_app
 named words none = program_named (built whole) (argument_words whole words) program_plain all_serve refl refl none

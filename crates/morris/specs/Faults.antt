@@ -26,6 +26,7 @@ fault_number (fault.Character place) = 2
 fault_number fault.Stones = 3
 fault_number fault.Counts = 4
 fault_number fault.Crowded = 5
+fault_number fault.TooDeep = 10
 fault_number fault.Memory = 12
 fault_number (fault.Write sent) = 23
 fault_number fault.Board = 25

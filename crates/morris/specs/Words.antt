@@ -1,5 +1,5 @@
 -- The command line, as `clap` reads it, and what its words ask for.
-use Rattle.std.specs.Prelude.{◌≡◌, ◌≢◌, ◌≤◌, ⊤, ℕ, Bool, true, List, [], ◌∷◌, Option, Some, None}
+use Rattle.std.specs.Prelude.{◌≡◌, ◌≢◌, ◌≤◌, ◌⊎◌, ⊤, ℕ, Bool, true, List, [], ◌∷◌, Option, Some, None}
 use Rattle.std.specs.Prelude.{IsSomeAnd, codes, is_some, option_map, pos}
 use Rattle.std.specs.Str.Parse.{digits_value, without_leading_plus}
 use Rattle.clap.specs.Words.{App, IsAmong, IsSignedIn, Kinds, Row, Rule, Text, fault_of, first_of}
@@ -11,7 +11,7 @@ use Rattle.clap.specs.declared.builder.value_parser.ValueParser.TheVariants as p
 use Rattle.clap.specs.declared.error.kind.ErrorKind.{ErrorKind}
 use Rattle.clap.specs.declared.error.kind.ErrorKind.TheVariants as kind
 use Rattle.morris.specs.declared.words.Request.{Request}
-use Rattle.morris.specs.declared.words.Request.TheVariants.{Look}
+use Rattle.morris.specs.declared.words.Request.TheVariants.{Look, Stats}
 use Rattle.morris.specs.declared.words.Refusal.{Refusal}
 use Rattle.morris.specs.declared.words.Refusal.TheVariants.{Memory, Help, Wrong}
 
@@ -42,9 +42,13 @@ program = record (new_app (codes "morris")) {
   top = record (new_app (codes "morris")).top { subcommand_required = true };
 }
 
+-- `stats BOARD PAIR`
+unfoldable pub stats_app : App
+stats_app = with_rule (with_rule (new_app (codes "stats")) (required_rule (codes "BOARD"))) (required_rule (codes "PAIR"))
+
 -- the program `morris` with its commands
 unfoldable pub morris_app : App
-morris_app = with_subcommand program look_app.top
+morris_app = with_subcommand (with_subcommand program look_app.top) stats_app.top
 
 -- an argument of the command, or of one of its own commands, is global
 abbrev pub has_globals : Command → Bool
@@ -72,10 +76,13 @@ AsksFor (Some (name, rows)) (Look board text depth) =
     (name ≡ codes "look") × (first_of (codes "BOARD") rows ≡ Some board.now)
     × (first_of (codes "TEXT") rows ≡ Some text.now)
     × (option_map number_of (one_of (codes "depth") rows) ≡ Some depth)
+AsksFor (Some (name, rows)) (Stats board pair) =
+    (name ≡ codes "stats") × (first_of (codes "BOARD") rows ≡ Some board.now) × (first_of (codes "PAIR") rows ≡ Some pair.now)
 
--- a depth is at most 6 plies
+-- a depth to look ahead is at most 6 plies
 abbrev pub IsInRange : Request → Type 0
 IsInRange (Look board text depth) = depth ≤ 6
+IsInRange (Stats board pair) = ⊤
 
 -- the values of which `look` makes its request: board and text are there, and so is a depth from 0
 -- to 6
@@ -86,9 +93,18 @@ pub record HasLookValues (rows : List Row) : Type 0 where
   pub read : one_of (codes "depth") rows ≡ Some (without_minus depth)
   pub in_range : IsSignedIn (pos 0) (pos 6) depth
 
--- a command of the program was named, with the values of which it makes its request
+-- the values of which `stats` makes its request: board and pair are there
+pub record HasStatsValues (rows : List Row) : Type 0 where
+  pub board : is_some (first_of (codes "BOARD") rows) ≡ true
+  pub pair : is_some (first_of (codes "PAIR") rows) ≡ true
+
+-- a name and values: of a command of the program, and those of which it makes its request
+abbrev pub NamesCommand : Text × List Row → Type 0
+NamesCommand named = ((named.0 ≡ codes "look") × HasLookValues named.1) ⊎ ((named.0 ≡ codes "stats") × HasStatsValues named.1)
+
+-- such a command was named
 abbrev pub NamesRequest : Option (Text × List Row) → Type 0
-NamesRequest named = IsSomeAnd named (λ c. (c.0 ≡ codes "look") × HasLookValues c.1)
+NamesRequest named = IsSomeAnd named NamesCommand
 
 -- how an error of a kind is answered: a request for help by help, and a mistake by what is wrong.
 -- Memory may run out at any kind.

@@ -1,11 +1,13 @@
 //! The command line: from its words to what goes out, and the exit status.
 ghost use Rattle.std.specs.Prelude.{◌≡◌, ◌-◌, ◌^◌, ◌<◌, ◌≤◌, [], map, if◌then◌else◌};
 ghost use Rattle.morris_board.specs.Streams.{CountsFailure};
+ghost use Rattle.morris.specs.Faults.{CountsWrites, Prints};
 ghost use Rattle.morris.specs.Words.{AsksFor, IsInRange, faults_of, named_by};
 ghost use Rattle.morris.specs.Command.{Answers, HasMistake, IsShown, status_of};
 
 use crate::fault::Fault;
 use crate::look::look;
+use crate::stats::stats;
 use crate::words::{Refusal, Request, read_words};
 use arrayvec::ArrayString;
 use morris_board::streams::{Sink, Source, put};
@@ -36,7 +38,7 @@ pub fn command<R, W: AsStr, I: Source, O: Sink, E: Sink>(
     ensures silent { result ≡ 2 → output.new ≡ output.old }
 {
     match read_words(alloc, words) {
-        Ok(request) => finish(run(request, output), errors),
+        Ok(request) => finish(run(alloc, request, output), errors),
         Err(Refusal::Help(text)) => finish(print_help(text.as_str(), output), errors),
         Err(Refusal::Memory) => finish(Err(Fault::Memory), errors),
         Err(Refusal::Wrong(text)) => {
@@ -64,18 +66,22 @@ pub fn refuse_words<E: Sink>(out_of_memory: bool, errors: &mut E) -> u8
 }
 
 /// Runs the command of a request.
-fn run<O: Sink>(request: Request<'_>, output: &mut O) -> Result<(), Fault>
+fn run<O: Sink>(alloc: Global, request: Request<'_>, output: &mut O) -> Result<(), Fault>
     requires depth { IsInRange request }
     requires output { O.failures output.old < 2 ^ 64 - 1 }
     ensures { Answers (O.contents output.old) (O.contents output.new) request.entry result }
 {
     match request {
         Request::Look { board, text, depth } => look(board, text, depth, output),
+        Request::Stats { board, pair } => stats(alloc, board, pair, output),
     }
 }
 
+/// Prints the text of the help that was asked for.
 fn print_help<O: Sink>(text: &str, output: &mut O) -> Result<(), Fault>
     requires { O.failures output.old < 2 ^ 64 - 1 }
+    ensures shown { Prints (O.contents output.old) (O.contents output.new) text.now result }
+    ensures counted { CountsWrites (O.failures output.old) (O.failures output.new) result }
 {
     match put(output, 0, text.as_bytes()) {
         Ok(_) => Ok(()),

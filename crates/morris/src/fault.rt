@@ -4,6 +4,7 @@ ghost use Rattle.morris.specs.Faults.{text_fault, pair_fault, fault_number};
 
 use morris_board::faults::TextFault;
 use morris_index::faults::PairFault;
+use std::alloc::AllocError;
 use thiserror::Error;
 
 /// Why a command refused. Each fault has a number, which stays the same from version to version.
@@ -24,6 +25,9 @@ pub enum Fault {
     /// The board has fewer points than a pair has stones.
     #[error("more stones than points")]
     Crowded,
+    /// A position of the pair, or of a pair that it rests on, is won or lost in more plies than a table can hold.
+    #[error("depth is too great")]
+    TooDeep,
     /// Memory was refused.
     #[error("out of memory")]
     Memory,
@@ -49,6 +53,7 @@ impl Fault {
             Fault::Stones => 3,
             Fault::Counts => 4,
             Fault::Crowded => 5,
+            Fault::TooDeep => 10,
             Fault::Memory => 12,
             Fault::Write(_) => 23,
             Fault::Board => 25,
@@ -77,5 +82,15 @@ impl From<PairFault> for Fault {
             PairFault::Counts => Fault::Counts,
             PairFault::Crowded => Fault::Crowded,
         }
+    }
+}
+
+impl From<AllocError> for Fault {
+    ghost use Rattle.morris.specs.declared.fault.Fault.TheVariants as fault;
+
+    ghost from_gives = { λ refused e. e ≡ fault.Memory };
+
+    fn from(_refused: AllocError) -> Fault {
+        Fault::Memory
     }
 }

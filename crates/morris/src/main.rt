@@ -6,6 +6,10 @@ mod fault;
 mod look;
 mod pairs;
 mod print;
+mod print_stats;
+mod stats;
+#[cfg(test)]
+mod stats_tests;
 #[cfg(test)]
 mod tests;
 mod words;

@@ -38,7 +38,7 @@ fn put_position<B: Geometry, S: Sink>(
 
 /// A label and a number.
 #[tactic(auto, using(morris_board::proofs::SentLaws::sent_laws))]
-fn put_count<S: Sink>(sink: &mut S, sent: u64, label: &str, number: u64) -> Result<u64, u64>
+pub fn put_count<S: Sink>(sink: &mut S, sent: u64, label: &str, number: u64) -> Result<u64, u64>
     requires failures { S.failures sink.old < 2 ^ 64 - 1 }
     requires label { length label.now ≤ 32 }
     requires room { sent < 2 ^ 63 + 2 ^ 16 }
@@ -89,7 +89,7 @@ fn put_counts<B: Geometry, S: Sink>(
 
 /// A sign and a number.
 #[tactic(auto, using(morris_board::proofs::SentLaws::sent_laws))]
-fn put_signed<S: Sink>(sink: &mut S, sent: u64, sign: u8, number: u8) -> Result<u64, u64>
+pub fn put_signed<S: Sink>(sink: &mut S, sent: u64, sign: u8, number: u8) -> Result<u64, u64>
     requires failures { S.failures sink.old < 2 ^ 64 - 1 }
     requires room { sent < 2 ^ 63 + 2 ^ 16 }
     ensures sent { HasSent (S.contents sink.old) (S.contents sink.new) sent (sign ∷ decimal number) result }

@@ -30,7 +30,7 @@ fn answer_to<R: AllocGlobal>(rt: &R, words: &[&str]) -> Answer {
     }
 }
 
-fn assert_answer(
+pub fn assert_answer(
     rt: &(impl Abort + AllocGlobal),
     words: &[&str],
     status: u8,
@@ -44,7 +44,7 @@ fn assert_answer(
 }
 
 /// The words are refused with status 2, with a text on standard error and nothing on standard output.
-fn assert_wrong(rt: &(impl Abort + AllocGlobal), words: &[&str]) {
+pub fn assert_wrong(rt: &(impl Abort + AllocGlobal), words: &[&str]) {
     let answer = answer_to(rt, words);
     assert_eq!(rt; answer.status, 2, "{words:?}");
     assert_eq!(rt; answer.output.len(), 0, "{words:?}");
@@ -165,7 +165,7 @@ fn wrong_words_print_nothing_on_standard_output(rt: HostRuntime) {
     assert_wrong(&rt, [].as_slice());
     assert_wrong(&rt, ["morris"].as_slice());
     assert_wrong(&rt, ["morris", ""].as_slice());
-    assert_wrong(&rt, ["morris", "stats", "grid", "3-3"].as_slice());
+    assert_wrong(&rt, ["morris", "count", "grid", "3-3"].as_slice());
     assert_wrong(&rt, ["morris", "look", "grid"].as_slice());
     assert_wrong(
         &rt,
@@ -310,6 +310,7 @@ fn each_fault_has_its_number(rt: HostRuntime) {
         (Fault::Stones, 3),
         (Fault::Counts, 4),
         (Fault::Crowded, 5),
+        (Fault::TooDeep, 10),
         (Fault::Memory, 12),
         (Fault::Write(16), 23),
         (Fault::Board, 25),

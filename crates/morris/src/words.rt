@@ -2,9 +2,9 @@
 ghost use Rattle.std.specs.Prelude.{◌≡◌, [], IfErr, IfOk, OnOk, Some, codes, false, map};
 ghost use Rattle.clap.specs.Words.{FailsBy, app_of, found_of, kind_of, rows_of, rule_of};
 ghost use Rattle.clap.specs.Words.{subcommand_rows_of};
-ghost use Rattle.morris.specs.Words.{AsksFor, HasLookValues, IsAnswerTo, IsAnswerToOneOf};
-ghost use Rattle.morris.specs.Words.{IsInRange, NamesRequest, depth_rule, faults_of, has_globals};
-ghost use Rattle.morris.specs.Words.{look_app, morris_app, named_by, required_rule};
+ghost use Rattle.morris.specs.Words.{AsksFor, HasLookValues, HasStatsValues, IsAnswerTo};
+ghost use Rattle.morris.specs.Words.{IsAnswerToOneOf, IsInRange, NamesRequest, depth_rule, faults_of};
+ghost use Rattle.morris.specs.Words.{has_globals, look_app, morris_app, named_by, required_rule, stats_app};
 
 use clap::error::ErrorKind;
 use clap::{Arg, ArgMatches, Command, Error, value_parser};
@@ -20,6 +20,11 @@ pub enum Request<'a> {
         board: &'a str,
         text: &'a str,
         depth: u8,
+    },
+    /// Count the values of the positions of the pair that `pair` names on the board named `board`.
+    Stats {
+        board: &'a str,
+        pair: &'a str,
     },
 }
 
@@ -65,7 +70,8 @@ fn morris_command<'a>(alloc: Global) -> Result<Command<'a>, AllocError>
         .bin_name("morris")?
         .about("Endgame tables for Nine Men's Morris")
         .subcommand_required(true)
-        .subcommand(look_command(alloc)?)
+        .subcommand(look_command(alloc)?)?
+        .subcommand(stats_command(alloc)?)
 }
 
 fn look_command<'a>(alloc: Global) -> Result<Command<'a>, AllocError>
@@ -81,6 +87,20 @@ fn look_command<'a>(alloc: Global) -> Result<Command<'a>, AllocError>
             "The position: for each point X own, O other or . vacant",
         ))?
         .arg(depth_arg(alloc))
+}
+
+fn stats_command<'a>(alloc: Global) -> Result<Command<'a>, AllocError>
+    ensures app { IfOk result (λ c. app_of c ≡ stats_app) }
+    ensures local { IfOk result (λ c. has_globals c ≡ false) }
+{
+    Command::new(alloc, "stats")
+        .about("Count the values of all positions with a pair's numbers of stones")
+        .arg(required_arg(alloc, "BOARD", "The board: nine or grid"))?
+        .arg(required_arg(
+            alloc,
+            "PAIR",
+            "The numbers of stones of the two players: 3-3, 4-3, ..",
+        ))
 }
 
 fn required_arg<'a>(alloc: Global, name: &'a str, help: &'a str) -> Arg<'a>
@@ -109,6 +129,7 @@ fn request_of<'a>(matches: &ArgMatches<'a>) -> Request<'a>
 {
     match matches.subcommand() {
         Some(("look", found)) => look_request(found),
+        Some(("stats", found)) => stats_request(found),
         _ => unreachable!(),
     }
 }
@@ -126,6 +147,17 @@ fn look_request<'a>(found: &ArgMatches<'a>) -> Request<'a>
         unreachable!()
     };
     Request::Look { board, text, depth }
+}
+
+fn stats_request<'a>(found: &ArgMatches<'a>) -> Request<'a>
+    requires { HasStatsValues (rows_of (found_of found.now)) }
+    ensures request { AsksFor (Some (codes "stats", rows_of (found_of found.now))) result }
+    ensures depth { IsInRange result }
+{
+    let (Some(board), Some(pair)) = (found.get_str("BOARD"), found.get_str("PAIR")) else {
+        unreachable!()
+    };
+    Request::Stats { board, pair }
 }
 
 fn refusal_of(alloc: Global, error: &Error) -> Refusal

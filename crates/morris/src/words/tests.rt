@@ -11,7 +11,16 @@ fn expect_look(rt: &(impl Abort + AllocGlobal), words: &[&str], wanted: (&str, &
         Ok(Request::Look { board, text, depth }) => {
             board == wanted.0 && text == wanted.1 && depth == wanted.2
         }
-        Err(_) => false,
+        _other => false,
+    };
+    assert!(rt; is_wanted, "{words:?}");
+}
+
+// The words make this request for `stats`.
+fn expect_stats(rt: &(impl Abort + AllocGlobal), words: &[&str], wanted: (&str, &str)) {
+    let is_wanted = match read_words(rt.alloc(), words) {
+        Ok(Request::Stats { board, pair }) => board == wanted.0 && pair == wanted.1,
+        _other => false,
     };
     assert!(rt; is_wanted, "{words:?}");
 }
@@ -48,6 +57,14 @@ fn reads_look(rt: HostRuntime) {
     expect_look(&rt, &between, ("grid", "X", 0));
     let last = ["m", "look", "grid", "X", "--depth", "6"];
     expect_look(&rt, &last, ("grid", "X", 6));
+}
+
+#[test]
+fn reads_stats(rt: HostRuntime) {
+    expect_stats(&rt, &["morris", "stats", "grid", "3-3"], ("grid", "3-3"));
+    expect_stats(&rt, &["m", "stats", "nine", "9-4"], ("nine", "9-4"));
+    expect_stats(&rt, &["", "stats", "--", "grid", "--"], ("grid", "--"));
+    expect_stats(&rt, &["m", "stats", "", "né"], ("", "né"));
 }
 
 #[test]
@@ -95,6 +112,10 @@ fn refuses_words(rt: HostRuntime) {
     expect_wrong(&rt, &["m", "look", "grid", "X", "O"]);
     expect_wrong(&rt, &["m", "look", "grid", "X", "--plies", "1"]);
     expect_wrong(&rt, &["m", "--", "look", "grid", "X"]);
+    expect_wrong(&rt, &["m", "stats"]);
+    expect_wrong(&rt, &["m", "stats", "grid"]);
+    expect_wrong(&rt, &["m", "stats", "grid", "3-3", "4-3"]);
+    expect_wrong(&rt, &["m", "stats", "grid", "3-3", "--depth", "1"]);
     expect_wrong(&rt, &["m", "--version"]);
     expect_wrong(&rt, &["m", "help", "peek"]);
 }
@@ -109,6 +130,9 @@ fn gives_help(rt: HostRuntime) {
     expect_help(&rt, &["m", "help", "look"], look_usage);
     expect_help(&rt, &["m", "look", "--help"], look_usage);
     expect_help(&rt, &["m", "look", "grid", "--help"], "[default: 2]");
+    let stats_usage = "Usage: morris stats <BOARD> <PAIR>";
+    expect_help(&rt, &["m", "help", "stats"], stats_usage);
+    expect_help(&rt, &["m", "stats", "--help"], stats_usage);
 }
 
 // The words, read twice: the answers differ only where memory ran out at one of them.
@@ -136,6 +160,7 @@ fn shortens_no_answer(rt: HostRuntime) {
     expect_same(&rt, &["m", "look", "grid", "X", "--dept", "7"]);
     expect_same(&rt, &["m", "lok", "grid"]);
     expect_same(&rt, &["m", "look", "grid", "X", "--depth", "3"]);
+    expect_same(&rt, &["m", "stats", "grid", "3-3"]);
 }
 
 static STORED: [&str; 6] = ["morris", "look", "grid", "XXX.OO.O.", "--depth", "3"];

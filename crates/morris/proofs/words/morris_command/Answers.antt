@@ -13,4 +13,6 @@ returns c =
     let wants : app_of c.subcommand_required.result ≡ program =
     ap app_of_fields c.subcommand_required.ensures ∙ ap (λ (a : App). record a { top = record a.top { subcommand_required = true } }) about in
     let look = ap (λ (a : App). a.top) c.in_ok-look_command.ensures.app in
-    IfOk-weaker c.subcommand.result _ _ (λ r h. h.shape c.in_ok-look_command.ensures.local ∙ ap₂ with_subcommand wants look) c.subcommand.ensures
+    let one = c.in_ok-subcommand.ensures.shape c.in_ok-look_command.ensures.local ∙ ap₂ with_subcommand wants look in
+    let stats = ap (λ (a : App). a.top) c.in_ok-stats_command.ensures.app in
+    IfOk-weaker c.subcommand-2.result _ _ (λ r h. h.shape c.in_ok-stats_command.ensures.local ∙ ap₂ with_subcommand one stats) c.subcommand-2.ensures

@@ -2,7 +2,7 @@ use Rattle.std.proofs.Common.{rules, ◌≡◌, ◌∙◌, ap, refl, subst, code
 use Rattle.std.proofs.lemmas.Result.{IfErr-weaker}
 use Rattle.clap.specs.Words.{Kinds, Text}
 use Rattle.clap.proofs.OnLiterals.{clap_on_literals}
-use Rattle.morris.specs.Words.{IsAnswerToOneOf, faults_of, look_app, morris_app}
+use Rattle.morris.specs.Words.{IsAnswerToOneOf, faults_of, look_app, morris_app, stats_app}
 use Rattle.morris.specs.declared.words.Refusal.{Refusal}
 use Rattle.morris.specs.declared.words.Refusal.TheVariants.{Memory, Help, Wrong}
 use Rattle.morris.proofs.words.tests.stored_request.Goals as goal
@@ -11,7 +11,7 @@ abbrev stored : List Text
 stored = codes "morris" ∷ codes "look" ∷ codes "grid" ∷ codes "XXX.OO.O." ∷ codes "--depth" ∷ codes "3" ∷ []
 
 no_fault : faults_of stored ≡ []
-unfolding clap_on_literals morris_app look_app
+unfolding clap_on_literals morris_app look_app stats_app
 no_fault = refl
 
 only_memory : (r : Refusal) → IsAnswerToOneOf [] r → r ≡ Memory

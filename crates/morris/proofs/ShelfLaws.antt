@@ -1,0 +1,37 @@
+-- A shelf that is filled pair by pair, in an order in which each pair comes after those that it needs.
+use Rattle.std.proofs.Common.{◌≡◌, ◌≢◌, true, List, [], ◌∷◌, ◌++◌, None, is_some, refl, sym, ap, subst, ◌∙◌, inl, inr, arith}
+use Rattle.std.specs.List.{Contains}
+use Rattle.std.proofs.lemmas.List.Elements.{Contains-append_right, Contains-push_cases}
+use Rattle.morris_index.specs.Pairs.{Counts, EndsIn, NeedsFirst}
+use Rattle.morris_table.specs.Shelves.{Stored, first_missing, table_on}
+use Rattle.morris_table.proofs.ShelfLaws.{cases_pair, none-missing}
+
+-- the shelf has the tables of these pairs
+abbrev pub HasTables : Stored → List Counts → Type 0
+HasTables shelf pairs = (c : Counts) → Contains pairs c → is_some (table_on shelf c) ≡ true
+
+first_of : (c : Counts) (cs : List Counts) → Contains (c ∷ cs) c
+first_of c cs = (0, omega arith, refl)
+
+-- the next pair of the order finds those that it needs
+pub none_missing : (shelf : Stored) (before after all : List Counts) (c : Counts) → NeedsFirst all → before ++ (c ∷ after) ≡ all
+    → HasTables shelf before → first_missing shelf c ≡ None
+none_missing shelf before after all c order split there =
+    none-missing shelf c (λ need m. there need (order before after c need (sym split) m))
+
+-- with its table the shelf has one pair more
+pub one_table_more : (old new : Stored) (before : List Counts) (c : Counts) → HasTables old before → is_some (table_on new c) ≡ true
+    → ((d : Counts) → d ≢ c → table_on new d ≡ table_on old d) → HasTables new (before ++ c ∷ [])
+one_table_more old new before c there here others = λ d m.
+    elim (cases_pair d c) [
+      | inl same ↦ subst (λ x. is_some (table_on new x) ≡ true) (sym same) here
+      | inr other ↦ elim (Contains-push_cases before c d m) [
+        | inl earlier ↦ ap is_some (others d other) ∙ there d earlier
+        | inr is ↦ absurd (other (sym is))
+      ]
+    ]
+
+-- the shelf has the last of the pairs
+pub last_there : (shelf : Stored) (pairs : List Counts) (c : Counts) → HasTables shelf pairs → EndsIn pairs c → is_some (table_on shelf c) ≡ true
+last_there shelf pairs c there last =
+    there c (subst (λ cs. Contains cs c) (sym last.1) (Contains-append_right last.0 (c ∷ []) c (first_of c [])))

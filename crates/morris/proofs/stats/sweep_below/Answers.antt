@@ -1,0 +1,28 @@
+use Rattle.std.proofs.Common.{◌≡◌, ◌∷◌, [], ◌++◌, sym, ap, subst, ◌∙◌, append_assoc}
+use Rattle.std.proofs.lemmas.List.{append-nil}
+use Rattle.morris_index.specs.Pairs.{below_of}
+use Rattle.morris.proofs.ShelfLaws.{HasTables, last_there, none_missing, one_table_more}
+use Rattle.morris.proofs.stats.sweep_below.Goals as goal
+
+pub sweep_onto-requires-after_bounds : goal.sweep_onto-requires-after_bounds
+sweep_onto-requires-after_bounds g c = λ κs within.
+    none_missing c.loop-below.shelf c.loop-below.yielded c.next.new.self (below_of c.args.pair) c.in-Some.below
+    c.below-below-items.ensures.needs_first
+    (ap (λ rest. c.loop-below.yielded ++ rest) (sym c.in-Some.ensures.steps) ∙ c.loop-below.invariant.split) c.loop-below.invariant.there
+
+pub loop-below-preserved : goal.loop-below-preserved
+loop-below-preserved g c = record {
+  split =
+      append_assoc c.loop-below.yielded (c.in-Some.below ∷ []) c.next.new.self
+      ∙ (ap (λ rest. c.loop-below.yielded ++ rest) (sym c.in-Some.ensures.steps) ∙ c.loop-below.invariant.split);
+  there =
+      one_table_more c.loop-below.shelf c.sweep_onto.new.shelf c.loop-below.yielded c.in-Some.below c.loop-below.invariant.there
+      c.in_ok-sweep_onto.ensures.there c.in_ok-sweep_onto.ensures.others;
+}
+
+pub returns-clause-there : goal.returns-clause-there
+returns-clause-there g c =
+    let all : c.loop-below.yielded ≡ below_of c.args.pair =
+    sym (append-nil c.loop-below.yielded) ∙ (ap (λ rest. c.loop-below.yielded ++ rest) (sym c.in-None.ensures.steps.0) ∙ c.loop-below.invariant.split) in
+    last_there c.loop-below.shelf (below_of c.args.pair) c.args.pair (subst (HasTables c.loop-below.shelf) all c.loop-below.invariant.there)
+    c.below-below-items.ensures.last

@@ -1,0 +1,100 @@
+//! The command `stats`.
+ghost use Rattle.std.specs.Prelude.{◌≡◌, ◌≢◌, ◌-◌, ◌^◌, ◌<◌, ◌≤◌, None, true, is_some, length, IfErr, IfOk, OnErr, OnOk};
+ghost use Rattle.morris_index.specs.Pairs.{Counts};
+ghost use Rattle.morris_table.specs.Shelves.{first_missing, table_on};
+ghost use Rattle.morris.specs.Faults.{CountsWrites};
+ghost use Rattle.morris.specs.Look.{board_of};
+ghost use Rattle.morris.specs.Stats.{AnswersOn, AnswersStats, HasTallies, IsRefusedAt, IsRefusedFor};
+
+use crate::fault::Fault;
+use crate::pairs::read_pair;
+use crate::print_stats::put_stats;
+use morris_board::board::{Board, Geometry};
+use morris_board::grid::Grid;
+use morris_board::nine::Nine;
+use morris_board::streams::Sink;
+use morris_index::pair::Pair;
+use morris_table::shelf::Shelf;
+use morris_table::sweeping::{BuildFault, sweep_pair};
+use std::alloc::Global;
+
+/// Counts the values of all positions of the pair that the text `pair` names on the board named `board`: how many positions there are, how
+/// many of them are lost or won in each depth that some position has, in ascending order, and how many are draws. The pairs below it are
+/// swept first, in order, since the values of a pair rest on theirs.
+///
+/// # Errors
+/// [`Fault::Board`] where there is no such board, else [`Fault::PairText`], [`Fault::Counts`] or [`Fault::Crowded`] where the text names no
+/// pair of the board, in this order; else [`Fault::Memory`] where memory is refused, or [`Fault::TooDeep`] where depths in the pair, or in
+/// one that it rests on, go past what a table can hold. Nothing is then written. Else [`Fault::Write`], with the bytes that went out, at the
+/// first write that fails.
+pub fn stats<S: Sink>(alloc: Global, board: &str, pair: &str, output: &mut S) -> Result<(), Fault>
+    requires { S.failures output.old < 2 ^ 64 - 1 }
+    ensures answer { AnswersStats (board_of board.now) pair.now (S.contents output.old) (S.contents output.new) result }
+    ensures counted { CountsWrites (S.failures output.old) (S.failures output.new) result }
+{
+    if board == Nine::NAME {
+        stats_on::<Nine, S>(alloc, pair, output)
+    } else if board == Grid::NAME {
+        stats_on::<Grid, S>(alloc, pair, output)
+    } else {
+        Err(Fault::Board)
+    }
+}
+
+fn stats_on<B: Board, S: Sink>(alloc: Global, text: &str, output: &mut S) -> Result<(), Fault>
+    requires { S.failures output.old < 2 ^ 64 - 1 }
+    ensures answer { AnswersOn B.shape text.now (S.contents output.old) (S.contents output.new) result }
+    ensures counted { CountsWrites (S.failures output.old) (S.failures output.new) result }
+{
+    let pair = read_pair::<B>(text)?;
+    let tallies = count_values(alloc, pair)?;
+    match put_stats(output, pair, tallies.as_slice()) {
+        Ok(_) => Ok(()),
+        Err(sent) => Err(Fault::Write(sent)),
+    }
+}
+
+/// How many positions of a pair have each code.
+fn count_values<B: Board>(alloc: Global, pair: Pair<B>) -> Result<Vec<u64>, Fault>
+    ensures counts { IfOk result (λ v. HasTallies B.shape pair v.items) }
+    ensures few { IfOk result (λ v. length v.items ≤ 2 ^ 16) }
+    ensures refused { IfErr result (IsRefusedFor B.shape pair) }
+{
+    let shelf = sweep_below(alloc, pair)?;
+    match shelf.get(pair) {
+        Some(table) => Ok(table.tallies(alloc)?),
+        None => unreachable!(),
+    }
+}
+
+/// The tables of all pairs below a pair, and its own.
+fn sweep_below<B: Board>(alloc: Global, pair: Pair<B>) -> Result<Shelf<B>, Fault>
+    ensures there { IfOk result (λ shelf. is_some (table_on shelf pair) ≡ true) }
+    ensures refused { IfErr result (IsRefusedFor B.shape pair) }
+{
+    let mut shelf = Shelf::new(alloc)?;
+    for below in pair.below() {
+        sweep_onto(alloc, &mut shelf, below)?;
+    }
+    Ok(shelf)
+}
+
+/// Puts the table of a pair on a shelf that has those that it needs.
+fn sweep_onto<B: Board>(alloc: Global, shelf: &mut Shelf<B>, pair: Pair<B>) -> Result<(), Fault>
+    requires { first_missing shelf.old pair ≡ None }
+    ensures there { OnOk result (is_some (table_on shelf.new pair) ≡ true) }
+    ensures others { OnOk result ((other : Counts) → other ≢ pair → table_on shelf.new other ≡ table_on shelf.old other) }
+    ensures unchanged { OnErr result (shelf.new ≡ shelf.old) }
+    ensures refused { IfErr result (IsRefusedAt B.shape pair) }
+{
+    let table = match sweep_pair(alloc, shelf, pair) {
+        Ok(table) => table,
+        Err(BuildFault::Memory) => return Err(Fault::Memory),
+        Err(BuildFault::TooDeep) => return Err(Fault::TooDeep),
+        Err(BuildFault::Needs(_)) => unreachable!(),
+    };
+    match shelf.put(table) {
+        Ok(()) => Ok(()),
+        Err(_) => unreachable!(),
+    }
+}

@@ -1,0 +1,172 @@
+use crate::fault::Fault;
+use crate::stats::stats;
+use crate::tests::{assert_answer, assert_wrong};
+use morris_board::streams::IntoWrite;
+use std::io;
+use std::io::Write;
+use std::process::Abort;
+
+const GRID_3_3: &str = "\
+3-3 1680 positions\n\
+won in 1: 936\n\
+lost in 2: 36\n\
+won in 3: 108\n\
+draw: 600\n";
+
+const GRID_4_3: &str = "\
+4-3 2520 positions\n\
+lost in 0: 12\n\
+won in 1: 452\n\
+lost in 2: 40\n\
+won in 3: 84\n\
+draw: 1932\n";
+
+const GRID_4_4: &str = "\
+4-4 630 positions\n\
+lost in 0: 81\n\
+won in 1: 172\n\
+lost in 2: 80\n\
+won in 3: 88\n\
+lost in 4: 72\n\
+won in 5: 32\n\
+lost in 6: 24\n\
+won in 7: 12\n\
+lost in 8: 4\n\
+draw: 65\n";
+
+const GRID_5_3: &str = "\
+5-3 1008 positions\n\
+lost in 0: 28\n\
+won in 1: 264\n\
+lost in 2: 44\n\
+won in 3: 56\n\
+lost in 4: 40\n\
+won in 5: 60\n\
+lost in 6: 60\n\
+won in 7: 48\n\
+lost in 8: 52\n\
+won in 9: 36\n\
+lost in 10: 28\n\
+won in 11: 28\n\
+lost in 12: 68\n\
+won in 13: 32\n\
+lost in 14: 32\n\
+won in 15: 4\n\
+draw: 128\n";
+
+const GRID_5_4: &str = "\
+5-4 252 positions\n\
+lost in 0: 252\n\
+draw: 0\n";
+
+const GRID_6_3: &str = "\
+6-3 168 positions\n\
+lost in 0: 168\n\
+draw: 0\n";
+
+fn assert_stats(rt: &(impl Abort + AllocGlobal), pair: &str, text: &str) {
+    assert_answer(
+        rt,
+        ["morris", "stats", "grid", pair].as_slice(),
+        0,
+        text,
+        "",
+    );
+}
+
+#[test]
+fn stats_counts_the_values_of_the_smallest_pair(rt: HostRuntime) {
+    assert_stats(&rt, "3-3", GRID_3_3);
+}
+
+#[test]
+fn stats_counts_the_values_of_pairs_of_seven_stones(rt: HostRuntime) {
+    assert_stats(&rt, "4-3", GRID_4_3);
+    assert_stats(&rt, "3-4", GRID_4_3);
+}
+
+#[test]
+fn stats_counts_the_values_of_pairs_of_eight_stones(rt: HostRuntime) {
+    assert_stats(&rt, "4-4", GRID_4_4);
+    assert_stats(&rt, "5-3", GRID_5_3);
+}
+
+#[test]
+fn stats_counts_the_values_of_full_boards(rt: HostRuntime) {
+    assert_stats(&rt, "5-4", GRID_5_4);
+    assert_stats(&rt, "6-3", GRID_6_3);
+}
+
+#[test]
+fn refused_stats_names_its_fault_and_prints_nothing(rt: HostRuntime) {
+    let cases = [
+        ("round", "3-3", "fault 25: no such board\n"),
+        ("round", "33", "fault 25: no such board\n"),
+        ("", "9-9", "fault 25: no such board\n"),
+        ("grid", "33", "fault 26: not a pair\n"),
+        ("grid", "", "fault 26: not a pair\n"),
+        ("grid", "3-é", "fault 26: not a pair\n"),
+        ("grid", "3-2", "fault 4: bad counts\n"),
+        ("grid", "9-0", "fault 4: bad counts\n"),
+        ("nine", "3-2", "fault 4: bad counts\n"),
+        ("grid", "9-9", "fault 5: more stones than points\n"),
+        ("grid", "7-3", "fault 5: more stones than points\n"),
+    ];
+    for (board, pair, fault) in cases {
+        let words = ["morris", "stats", board, pair];
+        assert_answer(&rt, words.as_slice(), 1, "", fault);
+    }
+}
+
+#[test]
+fn stats_takes_a_board_and_a_pair(rt: HostRuntime) {
+    assert_wrong(&rt, ["morris", "stats"].as_slice());
+    assert_wrong(&rt, ["morris", "stats", "grid"].as_slice());
+    assert_wrong(&rt, ["morris", "stats", "grid", "3-3", "4-3"].as_slice());
+}
+
+/// A writer that keeps one byte a call, and fails once it has as many as it has room for.
+#[derive(Drop)]
+struct Keeping {
+    kept: Vec<u8>,
+    room: usize,
+    calls_after: u64,
+}
+
+impl Write for Keeping {
+    fn write(&mut self, bytes: &[u8]) -> io::Result<usize> {
+        let Some(first) = bytes.first() else {
+            return Ok(0);
+        };
+        if self.kept.len() == self.room {
+            self.calls_after = self.calls_after.saturating_add(1);
+            return Err(io::Error::from(io::ErrorKind::Other));
+        }
+        self.kept.push(*first)?;
+        Ok(1)
+    }
+
+    fn flush(&mut self) -> io::Result<()> {
+        Ok(())
+    }
+}
+
+#[test]
+fn failed_write_of_stats_tells_what_went_out_and_is_not_tried_again(rt: HostRuntime) {
+    for room in [0, 1, 19, 20, 60, GRID_3_3.len() - 1] {
+        let keeping = Keeping {
+            kept: Vec::new(rt.alloc()),
+            room,
+            calls_after: 0,
+        };
+        let mut output = IntoWrite::new(keeping);
+        let answer = stats(rt.alloc(), "grid", "3-3", &mut output);
+        assert_eq!(rt; answer, Err(Fault::Write(room as u64)));
+        let keeping = output.into_inner();
+        assert_eq!(rt;
+            Some(keeping.kept.as_slice()),
+            GRID_3_3.as_bytes().get(..room)
+        );
+        assert_eq!(rt; keeping.calls_after, 1);
+    }
+}

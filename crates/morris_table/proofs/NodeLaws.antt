@@ -1,0 +1,259 @@
+-- The value of a node in the graph of a pair is the game's value at its position.
+use Rattle.std.proofs.Common.{◌≡◌, ℕ, zero, suc, ◌<◌, ◌≤◌, ◌%◌, Bool, true, false, not, ◌&&◌, ◌||◌, ltb, leb, List, [], ◌∷◌, filter, refl, sym, ap, ap₂, subst, ◌∙◌, inl, inr, arith}
+use Rattle.std.proofs.lemmas.Bool.{cases_lt, both_ways, and_from, and_left, or_cases, or_parts, or_from, or_left, or_right, le-leb, lt-leb, lt-ltb, eq-eqb, ne_eqb, not-true, not_from_false, not_from_true, false_from_ne_true}
+use Rattle.std.proofs.lemmas.List.Folds.{list_all-map}
+use Rattle.std.specs.List.{Contains, list_all, list_any}
+use Rattle.morris_board.specs.Boards.{Shape}
+use Rattle.morris_board.specs.Positions.{Sides, IsPosition}
+use Rattle.morris_moves.specs.declared.step.Move.{Move}
+use Rattle.morris_moves.specs.Rules.{moves_of, result_of}
+use Rattle.morris_moves.specs.Values.{IsOpen, IsLostIn, IsWonIn}
+use Rattle.morris_moves.specs.Values.{is_lost as is_lost_game, is_won as is_won_game}
+use Rattle.morris_moves.proofs.ValueLaws.{lost_longer, won_longer, never_both}
+use Rattle.morris_index.specs.Pairs.{Counts, IsPair, is_of, size_of, index_of, needed}
+use Rattle.morris_wave.specs.Exits.{is_odd, is_won_code}
+use Rattle.morris_wave.specs.Values.{is_lost, is_won, is_decided, some_lost, all_won, is_lost_exit, is_won_exit, HasCode}
+use Rattle.morris_wave.proofs.Depths.{decided_by_then, none_decided}
+use Rattle.morris_table.specs.Codes.{IsCodeOf, code_to}
+use Rattle.morris_table.specs.PairNets.{is_quiet, is_capture, quiet_results, capture_codes, pair_net}
+use Rattle.morris_table.specs.Known.{IsTabled, IsKnown}
+use Rattle.morris_table.specs.FilterLaws.{list_any-map, all_parts, any_parts}
+use Rattle.morris_table.proofs.CodeLaws.{code_cases, code_of_draw, code_of_lost, code_of_won, code_of_stuck, code_to-is}
+use Rattle.morris_table.proofs.PositionLaws.{position_at}
+use Rattle.morris_table.specs.NetLaws.{index_in, quiet-at, exits-at, result-position, quiet-stays, capture-leads}
+
+-- ---- a pair is known where the pairs that it needs are tabled
+
+pub known_by_tables : (board : Shape) (c : Counts) → board.points ≤ 24 → IsPair board.points c
+    → ((d : Counts) → Contains (needed c) d → IsTabled board d) → IsKnown board c
+known_by_tables board c few pair tables s h of m listed takes =
+    let there = result-position board few s h m listed in
+    elim (capture-leads board few s h m listed c pair of (not-true (is_quiet m) takes)) [
+      | inl two ↦ (1, omega arith, code_of_stuck board (result_of s m) (omega arith))
+      | inr d ↦ tables d.0 d.1 (result_of s m) there d.2
+    ]
+
+-- numbers of 16 bits that are the codes of the positions of a pair, by their indices, are a table of it
+pub tabled_by_codes : (board : Shape) (c : Counts) → board.points ≤ 24 → (codes : ℕ → ℕ)
+    → ((i : ℕ) → i < size_of board.points c → codes i ≤ 65535)
+    → ((s : Sides) → IsPosition board s → is_of c s ≡ true → IsCodeOf board s (codes (index_of board.points c s))) → IsTabled board c
+tabled_by_codes board c few codes small each s h of =
+    (codes (index_of board.points c s), small (index_of board.points c s) (index_in board few c s h of), each s h of)
+
+-- ---- lost and won in fewer than n plies, as graphs count: within n - 1, and for n = 0 never
+
+lost_before : ℕ → Shape → Sides → Bool
+lost_before zero board s = false
+lost_before (suc n) board s = is_lost_game n board s
+
+won_before : ℕ → Shape → Sides → Bool
+won_before zero board s = false
+won_before (suc n) board s = is_won_game n board s
+
+lost_before-suc : (n : ℕ) (board : Shape) (s : Sides) → lost_before (suc n) board s ≡ list_all (λ m. won_before n board (result_of s m)) (moves_of board s)
+unfolding is_lost_game lost_before won_before
+lost_before-suc zero board s = refl
+lost_before-suc (suc n) board s = refl
+
+none_of : {X : Type 0} (xs : List X) → false ≡ list_any (λ (x : X). false) xs
+none_of [] = refl
+none_of (x ∷ xs) = none_of xs
+
+won_before-suc : (n : ℕ) (board : Shape) (s : Sides) → won_before (suc n) board s ≡ list_any (λ m. lost_before n board (result_of s m)) (moves_of board s)
+unfolding is_won_game lost_before won_before
+won_before-suc zero board s = none_of (moves_of board s)
+won_before-suc (suc n) board s = refl
+
+-- ---- what a code says is what the game says
+
+is_odd-after_even : (depth : ℕ) → depth % 2 ≡ 0 → is_odd (suc depth) ≡ true
+is_odd-after_even depth e = eq-eqb (suc depth % 2) 1 (omega arith)
+
+is_odd-after_odd : (depth : ℕ) → depth % 2 ≡ 1 → is_odd (suc depth) ≡ false
+is_odd-after_odd depth e = ne_eqb (suc depth % 2) 1 (λ z. omega arith)
+
+is_won_code-after_odd : (depth : ℕ) → depth % 2 ≡ 1 → is_won_code (suc depth) ≡ true
+is_won_code-after_odd depth e = and_from (not (is_odd (suc depth))) (ltb 0 (suc depth)) (not_from_false _ (is_odd-after_odd depth e)) (lt-ltb 0 (suc depth) (omega arith))
+
+is_won_code-after_even : (depth : ℕ) → depth % 2 ≡ 0 → is_won_code (suc depth) ≡ false
+is_won_code-after_even depth e = and_left (not (is_odd (suc depth))) (ltb 0 (suc depth)) (not_from_true _ (is_odd-after_even depth e))
+
+module _ (board : Shape) (t : Sides) where
+  open_lost : (n : ℕ) → ((k : ℕ) → k < n → IsOpen board t k) → lost_before n board t ≡ false
+  unfolding lost_before
+  open_lost zero each = refl
+  open_lost (suc n) each = (each n (omega arith)).not_lost
+
+  open_won : (n : ℕ) → ((k : ℕ) → k < n → IsOpen board t k) → won_before n board t ≡ false
+  unfolding won_before
+  open_won zero each = refl
+  open_won (suc n) each = (each n (omega arith)).not_won
+
+  lost_by : (depth n : ℕ) → IsLostIn board t depth → lost_before n board t ≡ leb (suc depth) n
+  unfolding lost_before
+  lost_by depth zero h = sym (lt-leb (suc depth) zero (omega arith))
+  lost_by depth (suc n) h = elim (cases_lt n depth) [
+    | inl early ↦ (h.least n early).not_lost ∙ sym (lt-leb (suc depth) (suc n) (omega arith))
+    | inr reached ↦ lost_longer board t depth n reached h.lost ∙ sym (le-leb (suc depth) (suc n) (omega arith))
+  ]
+
+  won_by : (depth n : ℕ) → IsWonIn board t depth → won_before n board t ≡ leb (suc depth) n
+  unfolding won_before
+  won_by depth zero h = sym (lt-leb (suc depth) zero (omega arith))
+  won_by depth (suc n) h = elim (cases_lt n depth) [
+    | inl early ↦ (h.least n early).not_won ∙ sym (lt-leb (suc depth) (suc n) (omega arith))
+    | inr reached ↦ won_longer board t depth n reached h.won ∙ sym (le-leb (suc depth) (suc n) (omega arith))
+  ]
+
+  lost_not_won_before : (depth n : ℕ) → IsLostIn board t depth → won_before n board t ≡ false
+  unfolding won_before
+  lost_not_won_before depth zero h = refl
+  lost_not_won_before depth (suc n) h = false_from_ne_true _ (λ won. never_both board t depth n h.lost won)
+
+  won_not_lost_before : (depth n : ℕ) → IsWonIn board t depth → lost_before n board t ≡ false
+  unfolding lost_before
+  won_not_lost_before depth zero h = refl
+  won_not_lost_before depth (suc n) h = false_from_ne_true _ (λ lost. never_both board t n depth lost h.won)
+
+  exit_lost : (n code : ℕ) → IsCodeOf board t code → is_lost_exit n code ≡ lost_before n board t
+  exit_lost n code h = elim (code_cases board t code h) [
+    | inl draw ↦ ap (is_lost_exit n) draw.0 ∙ sym (open_lost n (λ k low. draw.1.never k))
+    | inr decided ↦ elim decided [
+      | inl lost ↦
+          ap (is_lost_exit n) lost.1 ∙ ap (λ b. b && leb (suc lost.0) n) (is_odd-after_even lost.0 lost.2) ∙ sym (lost_by lost.0 n lost.3)
+      | inr won ↦
+          ap (is_lost_exit n) won.1 ∙ ap (λ b. b && leb (suc won.0) n) (is_odd-after_odd won.0 won.2) ∙ sym (won_not_lost_before won.0 n won.3)
+    ]
+  ]
+
+  exit_won : (n code : ℕ) → IsCodeOf board t code → is_won_exit n code ≡ won_before n board t
+  exit_won n code h = elim (code_cases board t code h) [
+    | inl draw ↦ ap (is_won_exit n) draw.0 ∙ sym (open_won n (λ k low. draw.1.never k))
+    | inr decided ↦ elim decided [
+      | inl lost ↦
+          ap (is_won_exit n) lost.1 ∙ ap (λ b. b && leb (suc lost.0) n) (is_won_code-after_even lost.0 lost.2) ∙ sym (lost_not_won_before lost.0 n lost.3)
+      | inr won ↦
+          ap (is_won_exit n) won.1 ∙ ap (λ b. b && leb (suc won.0) n) (is_won_code-after_odd won.0 won.2) ∙ sym (won_by won.0 n won.3)
+    ]
+  ]
+
+-- ---- a node is lost, or won, where its position is
+
+module _ (board : Shape) (few : board.points ≤ 24) (c : Counts) (known : IsKnown board c) where
+  abbrev Agrees : ℕ → Sides → Type 0
+  Agrees n s =
+      (is_lost (pair_net board c) n (index_of board.points c s) ≡ lost_before n board s)
+      × (is_won (pair_net board c) n (index_of board.points c s) ≡ won_before n board s)
+
+  -- one ply more, where each quiet result agrees
+  module _ (n : ℕ) (s : Sides) (h : IsPosition board s) (of : is_of c s ≡ true) (each : (t : Sides) → IsPosition board t → is_of c t ≡ true → Agrees n t) where
+    there : (m : Move) → Contains (moves_of board s) m → is_quiet m ≡ true → Agrees n (result_of s m)
+    there m listed quiet = each (result_of s m) (result-position board few s h m listed) (quiet-stays board few s h m listed c of quiet)
+
+    code_there : (m : Move) → Contains (moves_of board s) m → is_quiet m ≡ false → IsCodeOf board (result_of s m) (code_to 65534 board (result_of s m))
+    code_there m listed takes =
+        let k = known s h of m listed (not_from_false (is_quiet m) takes) in
+        subst (IsCodeOf board (result_of s m)) (sym (code_to-is board (result_of s m) k.0 k.2 k.1)) k.2
+
+    all_agree : all_won (pair_net board c) (is_won (pair_net board c) n) n (index_of board.points c s) ≡ lost_before (suc n) board s
+    unfolding quiet_results capture_codes
+    all_agree =
+        ap₂ (λ quiet codes. list_all (is_won (pair_net board c) n) quiet && list_all (is_won_exit n) codes)
+        (quiet-at board few c s h of) (exits-at board few c s h of)
+        ∙ ap₂ (λ a b. a && b)
+        (list_all-map (is_won (pair_net board c) n) (λ m. index_of board.points c (result_of s m)) (filter is_quiet (moves_of board s)))
+        (list_all-map (is_won_exit n) (λ m. code_to 65534 board (result_of s m)) (filter is_capture (moves_of board s)))
+        ∙ all_parts is_quiet (λ m. won_before n board (result_of s m))
+        (λ m. is_won (pair_net board c) n (index_of board.points c (result_of s m))) (λ m. is_won_exit n (code_to 65534 board (result_of s m)))
+        (moves_of board s)
+        (λ m listed quiet. (there m listed quiet).1)
+        (λ m listed takes. exit_won board (result_of s m) n (code_to 65534 board (result_of s m)) (code_there m listed takes))
+        ∙ sym (lost_before-suc n board s)
+
+    some_agree : some_lost (pair_net board c) (is_lost (pair_net board c) n) n (index_of board.points c s) ≡ won_before (suc n) board s
+    unfolding quiet_results capture_codes
+    some_agree =
+        ap₂ (λ quiet codes. list_any (is_lost (pair_net board c) n) quiet || list_any (is_lost_exit n) codes)
+        (quiet-at board few c s h of) (exits-at board few c s h of)
+        ∙ ap₂ (λ a b. a || b)
+        (list_any-map (is_lost (pair_net board c) n) (λ m. index_of board.points c (result_of s m)) (filter is_quiet (moves_of board s)))
+        (list_any-map (is_lost_exit n) (λ m. code_to 65534 board (result_of s m)) (filter is_capture (moves_of board s)))
+        ∙ any_parts is_quiet (λ m. lost_before n board (result_of s m))
+        (λ m. is_lost (pair_net board c) n (index_of board.points c (result_of s m))) (λ m. is_lost_exit n (code_to 65534 board (result_of s m)))
+        (moves_of board s)
+        (λ m listed quiet. (there m listed quiet).0)
+        (λ m listed takes. exit_lost board (result_of s m) n (code_to 65534 board (result_of s m)) (code_there m listed takes))
+        ∙ sym (won_before-suc n board s)
+
+  agrees : (n : ℕ) (s : Sides) → IsPosition board s → is_of c s ≡ true → Agrees n s
+  unfolding is_lost is_won lost_before won_before
+  agrees zero s h of = (refl, refl)
+  agrees (suc n) s h of = (all_agree n s h of (agrees n), some_agree n s h of (agrees n))
+
+  module _ (s : Sides) (h : IsPosition board s) (of : is_of c s ≡ true) where
+    -- in fewer than n + 1 plies in the graph is within n plies in the game
+    pub lost_same : (n : ℕ) → is_lost (pair_net board c) (suc n) (index_of board.points c s) ≡ is_lost_game n board s
+    unfolding lost_before
+    lost_same n = (agrees (suc n) s h of).0
+
+    pub won_same : (n : ℕ) → is_won (pair_net board c) (suc n) (index_of board.points c s) ≡ is_won_game n board s
+    unfolding won_before
+    won_same n = (agrees (suc n) s h of).1
+
+    -- ---- codes
+
+    open_game : (n : ℕ) → is_decided (pair_net board c) (suc n) (index_of board.points c s) ≡ false → IsOpen board s n
+    open_game n e =
+        let w = or_parts (is_lost (pair_net board c) (suc n) (index_of board.points c s)) (is_won (pair_net board c) (suc n) (index_of board.points c s)) e in
+        record { not_lost = sym (lost_same n) ∙ w.0; not_won = sym (won_same n) ∙ w.1 }
+
+    open_node : (n : ℕ) → IsOpen board s n → is_decided (pair_net board c) (suc n) (index_of board.points c s) ≡ false
+    open_node n o =
+        or_from (is_lost (pair_net board c) (suc n) (index_of board.points c s)) (is_won (pair_net board c) (suc n) (index_of board.points c s))
+        (lost_same n ∙ o.not_lost) (won_same n ∙ o.not_won)
+
+    -- not before a depth in the graph is open below it in the game
+    open_below : (depth : ℕ) → is_decided (pair_net board c) depth (index_of board.points c s) ≡ false → (k : ℕ) → k < depth → IsOpen board s k
+    open_below depth e k low = open_game k (false_from_ne_true _ (λ d.
+        both_ways _ e (decided_by_then (pair_net board c) (suc k) depth (index_of board.points c s) (omega arith) d)))
+
+    open_before : (depth : ℕ) → ((k : ℕ) → k < depth → IsOpen board s k) → is_decided (pair_net board c) depth (index_of board.points c s) ≡ false
+    open_before zero each = none_decided (pair_net board c) (index_of board.points c s)
+    open_before (suc n) each = open_node n (each n (omega arith))
+
+    -- the code of the node is the code of the position
+    pub node_code : (code : ℕ) → HasCode (pair_net board c) (index_of board.points c s) code → IsCodeOf board s code
+    node_code zero never = code_of_draw board s (record { never = λ n. open_game n (never (suc n)) })
+    node_code (suc depth) d =
+        elim (or_cases (is_lost (pair_net board c) (suc depth) (index_of board.points c s)) (is_won (pair_net board c) (suc depth) (index_of board.points c s)) d.reached) [
+          | inl lost ↦ code_of_lost board s depth (record { lost = sym (lost_same depth) ∙ lost; least = open_below depth d.not_before })
+          | inr won ↦ code_of_won board s depth (record { won = sym (won_same depth) ∙ won; least = open_below depth d.not_before })
+        ]
+
+    pub code_node : (code : ℕ) → IsCodeOf board s code → HasCode (pair_net board c) (index_of board.points c s) code
+    code_node code h = elim (code_cases board s code h) [
+      | inl draw ↦ subst (HasCode (pair_net board c) (index_of board.points c s)) (sym draw.0) (λ n. open_before n (λ k low. draw.1.never k))
+      | inr decided ↦ elim decided [
+        | inl lost ↦ subst (HasCode (pair_net board c) (index_of board.points c s)) (sym lost.1) (record {
+          reached = or_left _ (is_won (pair_net board c) (suc lost.0) (index_of board.points c s)) (lost_same lost.0 ∙ lost.3.lost);
+          not_before = open_before lost.0 lost.3.least;
+        })
+        | inr won ↦ subst (HasCode (pair_net board c) (index_of board.points c s)) (sym won.1) (record {
+          reached = or_right (is_lost (pair_net board c) (suc won.0) (index_of board.points c s)) _ (won_same won.0 ∙ won.3.won);
+          not_before = open_before won.0 won.3.least;
+        })
+      ]
+    ]
+
+  -- numbers are the codes of all nodes exactly where they are the codes of all positions, by their indices
+  pub codes_of_nodes : (codes : ℕ → ℕ) → ((i : ℕ) → i < size_of board.points c → HasCode (pair_net board c) i (codes i))
+      → (s : Sides) → IsPosition board s → is_of c s ≡ true → IsCodeOf board s (codes (index_of board.points c s))
+  codes_of_nodes codes each s h of = node_code s h of (codes (index_of board.points c s)) (each (index_of board.points c s) (index_in board few c s h of))
+
+  pub nodes_of_codes : IsPair board.points c → (codes : ℕ → ℕ)
+      → ((s : Sides) → IsPosition board s → is_of c s ≡ true → IsCodeOf board s (codes (index_of board.points c s)))
+      → (i : ℕ) → i < size_of board.points c → HasCode (pair_net board c) i (codes i)
+  nodes_of_codes pair codes each i low =
+      let at = position_at board few c pair i low in
+      let s = at.0 in
+      subst (λ k. HasCode (pair_net board c) k (codes k)) at.3 (code_node s at.1 at.2 (codes (index_of board.points c s)) (each s at.1 at.2))

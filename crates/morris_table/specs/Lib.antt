@@ -1,0 +1,11 @@
+pub mod Codes
+pub mod PairNets
+pub mod FilterLaws
+pub mod NetLaws
+pub mod Known
+pub mod Backward
+pub mod Tables
+pub mod Shelves
+pub mod Summaries
+pub mod Graphs
+pub mod Sweeping

@@ -1,0 +1,157 @@
+//! Tables of the game's values.
+ghost use Rattle.std.specs.Prelude.{◌≡◌, ℕ, ◌+◌, ◌<◌, ◌≤◌, ◌^◌, true, length, slice_index, vec_len, IfOk};
+ghost use Rattle.morris_board.specs.Positions.{Sides, IsPosition};
+ghost use Rattle.morris_index.specs.Pairs.{is_of, size_of, index_of};
+ghost use Rattle.morris_wave.specs.Nets.{times};
+ghost use Rattle.morris_table.specs.Codes.{IsValue, value_in};
+ghost use Rattle.morris_table.specs.Tables.{table, IsTable, greatest_code, tallies_of};
+
+use crate::layout::Layout;
+use crate::value::Value;
+use morris_board::board::Geometry;
+use morris_board::position::Position;
+use morris_index::pair::Pair;
+use std::alloc::{AllocError, Global};
+use std::marker::Model;
+
+/// The table of a pair: for each of its positions the code of the value that best play of both players leads to. A code is 0 for a draw
+/// and otherwise one more than the depth in plies. Depths of losses are even and those of wins odd, so an odd code is a loss and an even
+/// one above 0 a win.
+#[derive(Drop)]
+pub struct Exact<B: Geometry> {
+    pair: Pair<B>,
+    codes: Vec<u16>,
+}
+
+impl<B: Geometry> Model for Exact<B> {
+    ghost use Rattle.morris_table.specs.Tables.{Table, table, IsTable};
+
+    ghost Value = { Table };
+
+    ghost view = { λ exact. table exact.pair exact.codes.items };
+
+    ghost invariant = { λ exact. IsTable B.shape (table exact.pair exact.codes.items) };
+}
+
+impl<B: Geometry> Exact<B> {
+    /// The table of a pair with these codes, which are those of its positions in the order of their indices.
+    pub(crate) fn new(pair: Pair<B>, codes: Vec<u16>) -> Exact<B>
+        requires { IsTable B.shape (table pair codes.items) }
+        ensures { result ≡ table pair codes.items }
+    {
+        Exact { pair, codes }
+    }
+
+    /// The pair whose positions the table has.
+    pub fn pair(&self) -> Pair<B>
+        ensures value { result ≡ self.now.pair }
+        ensures lawful { IsTable B.shape self.now }
+    {
+        self.pair
+    }
+
+    /// How the entries are laid out.
+    pub fn layout(&self) -> Layout
+        ensures { result ≡ Layout.Full }
+    {
+        Layout::Full
+    }
+
+    /// How many entries the table has: one for each position of the pair.
+    pub fn len(&self) -> u64
+        ensures value { result ≡ length self.now.codes }
+        ensures size { result ≡ size_of B.POINTS self.now.pair }
+    {
+        self.codes.len() as u64
+    }
+
+    /// The code of the position with index `i`, which is below [`Exact::len`].
+    pub fn code(&self, i: u64) -> u16
+        requires { i < size_of B.POINTS self.now.pair }
+        ensures { result ≡ slice_index self.now.codes i }
+    {
+        self.codes[i as usize]
+    }
+
+    /// The value of a position of the pair.
+    pub fn value_of(&self, position: &Position<B>) -> Value
+        requires { is_of self.now.pair position.now ≡ true }
+        ensures value { IsValue B.shape position.now result }
+        ensures code { result ≡ value_in (slice_index self.now.codes (index_of B.POINTS self.now.pair position.now)) }
+    {
+        // The proof learns the rules of a position where its stones are read.
+        let _ = position.own();
+        let index = self.pair().index(position);
+        value_of_code(self.code(index))
+    }
+
+    /// How many entries have each code, from 0 up to the greatest code of the table.
+    ///
+    /// # Errors
+    /// [`AllocError`] where memory runs out.
+    pub fn tallies(&self, alloc: Global) -> Result<Vec<u64>, AllocError>
+        ensures { IfOk result (λ tallies. tallies.items ≡ tallies_of self.now.codes) }
+    {
+        count_codes(alloc, &self.codes)
+    }
+}
+
+/// The value that a code says.
+fn value_of_code(code: u16) -> Value
+    ensures { result ≡ value_in code }
+{
+    if code == 0 {
+        return Value::Draw;
+    }
+    let depth = code - 1;
+    if depth % 2 == 0 {
+        Value::Lost(depth)
+    } else {
+        Value::Won(depth)
+    }
+}
+
+/// The greatest code, or 0 where there is none.
+fn greatest_code(codes: &[u16]) -> u16
+    ensures { result ≡ greatest_code codes.now }
+{
+    codes.iter().copied().max().unwrap_or(0)
+}
+
+/// How many of the codes are 0, 1, 2 and so on, up to the greatest of them.
+fn count_codes(alloc: Global, codes: &[u16]) -> Result<Vec<u64>, AllocError>
+    ensures { IfOk result (λ tallies. tallies.items ≡ tallies_of codes.now) }
+{
+    let mut tallies = vec![in alloc; 0u64; greatest_code(codes) as usize + 1]?;
+    for code in codes {
+        tallies[*code as usize] += 1;
+    }
+    Ok(tallies)
+}
+
+#[cfg(test)]
+mod tests {
+    use super::*;
+    use std::process::Abort;
+    use std::test::Fail;
+
+    #[test]
+    fn codes_say_values(rt: HostRuntime) -> Result<(), Fail> {
+        assert_eq!(rt; value_of_code(0), Value::Draw);
+        assert_eq!(rt; value_of_code(1), Value::Lost(0));
+        assert_eq!(rt; value_of_code(2), Value::Won(1));
+        assert_eq!(rt; value_of_code(3), Value::Lost(2));
+        assert_eq!(rt; value_of_code(65_534), Value::Won(65_533));
+        assert_eq!(rt; value_of_code(65_535), Value::Lost(65_534));
+        Ok(())
+    }
+
+    #[test]
+    fn codes_are_counted(rt: HostRuntime) -> Result<(), Fail> {
+        let tallies = count_codes(rt.alloc(), &[0, 2, 2, 4, 0, 0])?;
+        assert_eq!(rt; tallies.as_slice(), [3, 0, 2, 0, 1].as_slice());
+        let none = count_codes(rt.alloc(), &[])?;
+        assert_eq!(rt; none.as_slice(), [0].as_slice());
+        Ok(())
+    }
+}

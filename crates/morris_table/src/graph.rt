@@ -1,0 +1,187 @@
+//! The graph of a pair.
+ghost use Rattle.std.specs.Prelude.{◌≡◌, ℕ, ◌+◌, ◌*◌, ◌<◌, ◌≤◌, ◌↔◌, true, Some, None, length, slice_index, vec_len, filter, is_some, IfOk, OnOk, IfSome, MatchResult};
+ghost use Rattle.std.specs.List.{Contains};
+ghost use Rattle.std.specs.Option.{option_copied};
+ghost use Rattle.morris_board.specs.Positions.{IsPosition};
+ghost use Rattle.morris_moves.specs.Rules.{moves_of};
+ghost use Rattle.morris_index.specs.Pairs.{IsPair, is_of, less_lesser, less_greater, needed};
+ghost use Rattle.morris_wave.specs.Exits.{exits_of};
+ghost use Rattle.morris_wave.specs.Values.{HasCode, IsTooDeep};
+ghost use Rattle.morris_table.specs.Codes.{IsCodeOf};
+ghost use Rattle.morris_table.specs.PairNets.{is_quiet, capture_codes, level_of, net_at};
+ghost use Rattle.morris_table.specs.Known.{IsBeyondCodes};
+ghost use Rattle.morris_table.specs.Tables.{table};
+ghost use Rattle.morris_table.specs.Shelves.{table_on, first_missing};
+ghost use Rattle.morris_table.specs.Graphs.{IsTableOf, IsNeeded, IsLedTo, HasGameValues};
+
+use crate::backward::list_predecessors;
+use crate::exact::Exact;
+use crate::levels::PairLevels;
+use crate::shelf::{Needs, Shelf};
+use crate::summary::{NO_EXITS, with_exit};
+use morris_board::board::{Board, Geometry};
+use morris_board::position::Position;
+use morris_index::pair::Pair;
+use morris_moves::rules::{moves, play};
+use morris_wave::{Exits, Graph};
+use std::alloc::AllocError;
+use std::marker::Model;
+
+/// The graph of a pair, over the tables of the pairs that it needs. Its nodes are the pair's positions, by their indices. Quiet moves lead
+/// to nodes, and captures out of the graph.
+#[derive(Drop)]
+pub struct PairGraph<'a, B: Geometry> {
+    pair: Pair<B>,
+    /// The table of the pair with one stone less in the lesser number, where there is such a pair.
+    less_lesser: Option<&'a Exact<B>>,
+    /// The table of the pair with one stone less in the greater number, where there is such a pair.
+    less_greater: Option<&'a Exact<B>>,
+}
+
+impl<'a, B: Geometry> Model for PairGraph<'a, B> {
+    ghost use Rattle.std.specs.Option.{option_copied};
+    ghost use Rattle.morris_index.specs.Pairs.{Counts};
+    ghost use Rattle.morris_table.specs.Graphs.{IsPairGraph};
+
+    ghost Value = { Counts };
+
+    ghost view = { λ graph. graph.pair };
+
+    ghost invariant = { λ graph. IsPairGraph B.shape graph.pair (option_copied graph.less_lesser) (option_copied graph.less_greater) };
+}
+
+/// The pairs that captures from a pair lead to: the one with one stone less in the lesser number, and the one with one stone less in the
+/// greater number.
+fn captured_pairs<B: Geometry>(pair: &Pair<B>) -> (Option<Pair<B>>, Option<Pair<B>>)
+    ensures lesser { result.0 ≡ less_lesser pair.now }
+    ensures greater { result.1 ≡ less_greater pair.now }
+    ensures lawful { IsPair B.POINTS pair.now }
+{
+    let (first, second) = pair.needs();
+    if 3 < pair.lesser() {
+        (first, second)
+    } else {
+        (None, first)
+    }
+}
+
+/// How many of the legal moves of a position are quiet.
+fn quiet_moves<B: Geometry>(position: &Position<B>) -> u16
+    ensures { result ≡ length (filter is_quiet (moves_of B.shape position.now)) }
+{
+    moves(position).filter(|m| m.taken.is_none()).count() as u16
+}
+
+/// The table of a needed pair.
+fn needed_table<'a, B: Geometry>(shelf: &'a Shelf<B>, need: Option<Pair<B>>) -> Option<&'a Exact<B>>
+    requires { IfSome need (λ d. is_some (table_on shelf.now d) ≡ true) }
+    ensures { IsNeeded B.shape need (option_copied result) }
+{
+    shelf.get(need?)
+}
+
+impl<'a, B: Geometry> PairGraph<'a, B> {
+    /// The graph of a pair over the tables of a shelf. It takes no memory.
+    ///
+    /// # Errors
+    /// [`Needs`] with the first of the pairs that the pair needs whose table isn't on the shelf.
+    pub fn new(shelf: &'a Shelf<B>, pair: Pair<B>) -> Result<PairGraph<'a, B>, Needs<B>>
+        ensures needs { MatchResult result (λ _. first_missing shelf.now pair ≡ None) (λ needs. first_missing shelf.now pair ≡ Some needs.0) }
+        ensures pair { IfOk result (λ graph. graph ≡ pair) }
+        ensures values { OnOk result (HasGameValues B.shape pair) }
+        ensures deep { OnOk result (IsTooDeep (net_at B.shape (level_of pair)) ↔ IsBeyondCodes B.shape pair) }
+    {
+        if let Some(needs) = shelf.missing(pair) {
+            return Err(needs);
+        }
+        let (less_lesser, less_greater) = captured_pairs(&pair);
+        Ok(PairGraph {
+            pair,
+            less_lesser: needed_table(shelf, less_lesser),
+            less_greater: needed_table(shelf, less_greater),
+        })
+    }
+
+    /// The table of the pair, of the codes of all nodes in order.
+    pub(crate) fn table(&self, codes: Vec<u16>) -> Exact<B>
+        requires len { vec_len codes ≡ (net_at B.shape (level_of self.now)).size }
+        requires codes { (i : ℕ) → i < (net_at B.shape (level_of self.now)).size → HasCode (net_at B.shape (level_of self.now)) i (slice_index codes.items i) }
+        ensures { result ≡ table self.now codes.items }
+    {
+        Exact::new(self.pair, codes)
+    }
+
+    /// The table of a pair that this one needs.
+    fn table_of(&self, need: Pair<B>) -> &Exact<B>
+        requires { Contains (needed self.now) need }
+        ensures { IsTableOf B.shape need result.now }
+    {
+        let table = if need.greater() == self.pair.greater() {
+            self.less_lesser
+        } else {
+            self.less_greater
+        };
+        match table {
+            Some(table) => table,
+            None => unreachable!(),
+        }
+    }
+
+    /// The code of a position that a capture from the pair leads to. A player to move with two stones has lost.
+    fn code_of(&self, position: &Position<B>) -> u16
+        requires { IsLedTo self.now position.now }
+        ensures { IsCodeOf B.shape position.now result }
+    {
+        // The proof learns here that the stones are those of a position.
+        let _ = position.own();
+        match Pair::of(position) {
+            Some(pair) => self.table_of(pair).code(pair.index(position)),
+            None => 1,
+        }
+    }
+
+    /// The summary of what the captures of a position of the pair lead to.
+    fn exits_at(&self, position: &Position<B>) -> Exits
+        requires counts { is_of self.now position.now ≡ true }
+        requires lawful { IsPosition B.shape position.now }
+        ensures { result ≡ exits_of (capture_codes B.shape position.now) }
+    {
+        // The proof learns here that the graph's numbers of stones are those of a pair.
+        let _ = &self.pair;
+        let mut exits = NO_EXITS;
+        for m in moves(position) {
+            if m.taken.is_some() {
+                exits = with_exit(exits, self.code_of(&play(position, m)));
+            }
+        }
+        exits
+    }
+}
+
+impl<'a, B: Board> Graph for PairGraph<'a, B> {
+    ghost use Rattle.morris_table.specs.PairNets.{level_of};
+
+    type Name = PairLevels<B>;
+
+    ghost level = { λ pair. level_of pair };
+
+    fn level(&self) -> u64 {
+        u64::from(self.pair.greater()) * 10 + u64::from(self.pair.lesser())
+    }
+
+    fn size(&self) -> u64 {
+        self.pair.size()
+    }
+
+    fn quiet_count(&self, i: u64) -> u16 {
+        quiet_moves(&self.pair.position(i))
+    }
+
+    fn exits(&self, i: u64) -> Exits {
+        self.exits_at(&self.pair.position(i))
+    }
+
+    fn back(&self, i: u64, out: &mut Vec<u64>) -> Result<(), AllocError> {
+        list_predecessors(&self.pair, &self.pair.position(i), out)
+    }
+}

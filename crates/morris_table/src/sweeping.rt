@@ -1,0 +1,79 @@
+//! Tables made on one thread by a plain way.
+ghost use Rattle.std.specs.Prelude.{◌≡◌, None, IfOk, OnOk, MatchResult};
+ghost use Rattle.morris_wave.specs.Values.{IsTooDeep};
+ghost use Rattle.morris_table.specs.PairNets.{level_of, net_at};
+ghost use Rattle.morris_table.specs.Known.{IsBeyondCodes};
+ghost use Rattle.morris_table.specs.Tables.{IsTable};
+ghost use Rattle.morris_table.specs.Shelves.{first_missing};
+ghost use Rattle.morris_table.specs.Sweeping.{needed_by};
+
+use crate::exact::Exact;
+use crate::graph::PairGraph;
+use crate::shelf::{Needs, Shelf};
+use morris_board::board::{Board, Geometry};
+use morris_index::pair::Pair;
+use morris_wave::{SweepFault, sweep};
+use std::alloc::Global;
+use thiserror::Error;
+
+/// Why a table wasn't made.
+#[derive(Drop, Error)]
+#[derive_where(Clone, Copy, Debug, PartialEq, Eq)]
+pub enum BuildFault<B: Geometry> {
+    /// The table of a pair that is needed isn't on the shelf.
+    #[error("{0}")]
+    Needs(Needs<B>),
+    /// Some depth is too great for a code of 16 bits.
+    #[error("depth is too great")]
+    TooDeep,
+    /// Want of memory.
+    #[error("out of memory")]
+    Memory,
+}
+
+impl<B: Geometry> From<Needs<B>> for BuildFault<B> {
+    ghost use Rattle.morris_table.specs.declared.sweeping.BuildFault.TheVariants.{Needs};
+
+    ghost from_gives = { λ needs fault. fault ≡ Needs needs };
+
+    fn from(needs: Needs<B>) -> BuildFault<B> {
+        BuildFault::Needs(needs)
+    }
+}
+
+impl<B: Geometry> From<SweepFault> for BuildFault<B> {
+    ghost use Rattle.morris_table.specs.Sweeping.{swept};
+
+    ghost from_gives = { λ fault result. result ≡ swept fault };
+
+    fn from(fault: SweepFault) -> BuildFault<B> {
+        match fault {
+            SweepFault::TooDeep => BuildFault::TooDeep,
+            SweepFault::Memory => BuildFault::Memory,
+        }
+    }
+}
+
+/// The exact table of a pair, over the tables of the pairs that it needs.
+///
+/// # Errors
+/// `Needs` with the first of the pairs that the pair needs whose table isn't on the shelf, before all else. Then `Memory` where memory is
+/// refused, and `TooDeep` where a code of 16 bits can't tell all values.
+pub fn sweep_pair<B: Board>(
+    alloc: Global,
+    shelf: &Shelf<B>,
+    pair: Pair<B>,
+) -> Result<Exact<B>, BuildFault<B>>
+    ensures needs { MatchResult result (λ _. first_missing shelf.now pair ≡ None) (λ fault. needed_by fault ≡ first_missing shelf.now pair) }
+    ensures pair { IfOk result (λ t. t.pair ≡ pair) }
+    ensures exact { IfOk result (IsTable B.shape) }
+    ensures too_deep { result ≡ Err BuildFault.TooDeep → IsTooDeep (net_at B.shape (level_of pair)) }
+    ensures not_too_deep { OnOk result (¬ IsTooDeep (net_at B.shape (level_of pair))) }
+    // The same in the words of the game.
+    ensures beyond { result ≡ Err BuildFault.TooDeep → IsBeyondCodes B.shape pair }
+    ensures within { OnOk result (¬ IsBeyondCodes B.shape pair) }
+{
+    let graph = PairGraph::new(shelf, pair)?;
+    let codes = sweep(alloc, &graph)?;
+    Ok(graph.table(codes))
+}
