@@ -1,4 +1,4 @@
-// The nodes of each wave at which exits decide, chained without a list for each wave.
+//! The nodes of each wave at which exits decide, chained without a list for each wave.
 ghost use Rattle.std.specs.Prelude.{◌≡◌, ℕ, ◌+◌, ◌<◌, ◌≤◌, List, [], length, slice_index, IfOk, OnOk, vec_len};
 ghost use Rattle.std.specs.List.{All};
 ghost use Rattle.morris_wave.specs.Exits.{last_due_of, deciding_due};

@@ -1,4 +1,4 @@
-// Batches for all blocks of a cut, from the fresh nodes of one block.
+//! Batches for all blocks of a cut, from the fresh nodes of one block.
 ghost use Rattle.std.specs.Prelude.{◌≡◌, ℕ, ◌+◌, ◌<◌, ◌≤◌, [], ◌∷◌, ◌++◌, List, OnOk, IfOk, vec_len, length, slice_set, slice_index_or};
 ghost use Rattle.std.specs.List.{All};
 ghost use Rattle.morris_wave.specs.Blocks.{IsIn};

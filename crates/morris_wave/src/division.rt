@@ -1,3 +1,4 @@
+//! Graphs cut into blocks of neighbours.
 ghost use Rattle.std.specs.Prelude.{◌≡◌, ℕ, ◌+◌, ◌*◌, ◌/◌, ◌^◌, ◌<◌, ◌≤◌, ◌⊎◌, ◌↔◌, ◌==◌, ◌&&◌, IfOk, IsErr};
 
 use std::marker::Model;

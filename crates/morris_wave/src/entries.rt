@@ -1,4 +1,4 @@
-// The entries of a block, with the tallies that count them.
+//! The entries of a block, with the tallies that count them.
 ghost use Rattle.std.specs.Prelude.{◌≡◌, ℕ, ◌+◌, ◌-◌, ◌<◌, ◌≤◌, ◌&&◌, ◌==◌, slice_index, vec_len};
 ghost use Rattle.std.specs.List.{All, count_by};
 ghost use Rattle.morris_wave.specs.Exits.{is_odd, is_won_code};

@@ -1,4 +1,4 @@
-// The codes of a graph, gathered from its blocks.
+//! The codes of a graph, gathered from its blocks.
 ghost use Rattle.std.specs.Prelude.{◌≡◌, ℕ, ◌+◌, ◌<◌, ◌≤◌, Bool, true, false, Option, Some, None, [], length, is_some, slice_index, slice_index_or, replicate, IfOk, OnOk, IfErr, IfSome, IfNone, vec_len};
 ghost use Rattle.std.specs.List.{All};
 ghost use Rattle.morris_wave.specs.Values.{HasCode, IsTooDeep, code_within};

@@ -1,4 +1,4 @@
-// Entries that get their code, and the list of the nodes that got it.
+//! Entries that get their code, and the list of the nodes that got it.
 ghost use Rattle.std.specs.Prelude.{◌≡◌, ℕ, ◌+◌, ◌<◌, ◌≤◌, ◌&&◌, ◌==◌, length, slice_index, OnOk, IfOk, vec_len};
 ghost use Rattle.std.specs.List.{All};
 ghost use Rattle.morris_wave.specs.Nets.{times};

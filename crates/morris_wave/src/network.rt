@@ -1,3 +1,4 @@
+//! What a graph with exits is, and what a search has to know of its exits.
 ghost use Rattle.std.specs.Prelude.{◌≡◌, ℕ, ◌<◌, ◌≤◌, ◌^◌, ◌==◌, List, [], length, OnOk, OnErr, vec_len};
 ghost use Rattle.std.specs.List.{All};
 ghost use Rattle.morris_wave.specs.Nets.{Net, IsNet, times};

@@ -1,4 +1,4 @@
-// The first entries, counters and exits of a stretch of nodes, read from the graph.
+//! The first entries, counters and exits of a stretch of nodes, read from the graph.
 ghost use Rattle.std.specs.Prelude.{◌≡◌, ℕ, ◌+◌, ◌-◌, ◌<◌, ◌≤◌, ◌^◌, length, slice_index, IfOk, vec_len};
 ghost use Rattle.morris_wave.specs.Exits.{exits_of};
 ghost use Rattle.morris_wave.specs.Waves.{settles, marked};

@@ -1,4 +1,4 @@
-// Small graphs for the tests.
+//! Small graphs for the tests.
 ghost use Rattle.std.specs.Prelude.{◌≡◌, ℕ};
 ghost use Rattle.morris_wave.specs.Samples.{pair_net, pair_lawful, lone_net, lone_lawful, bare_net, bare_lawful};
 

@@ -1,3 +1,4 @@
+//! The codes of all nodes of a graph, by one sweep on one thread.
 ghost use Rattle.std.specs.Prelude.{◌≡◌, ℕ, ◌+◌, ◌<◌, ◌≤◌, ◌==◌, Bool, true, false, [], length, slice_index, OnOk, IfOk, vec_len, nat_le};
 ghost use Rattle.std.specs.List.{All, list_any};
 ghost use Rattle.morris_wave.specs.Nets.{times};

@@ -1,4 +1,4 @@
-// What a batch does to the entries and counters of a block, whose nodes begin at `first`.
+//! What a batch does to the entries and counters of a block, whose nodes begin at `first`.
 ghost use Rattle.std.specs.Prelude.{◌≡◌, ℕ, ◌+◌, ◌-◌, ◌<◌, ◌≤◌, ◌&&◌, ◌==◌, ◌^◌, Bool, true, false, IfOk, nat_lt, replicate, if◌then◌else◌, length, slice_index, vec_len};
 ghost use Rattle.std.specs.List.{All};
 ghost use Rattle.morris_wave.specs.Nets.{times};
