@@ -1,9 +1,7 @@
 use crate::fault::Fault;
 use crate::stats::stats;
-use crate::tests::{assert_answer, assert_wrong};
+use crate::tests::{Narrow, assert_answer, assert_wrong};
 use morris_board::streams::IntoWrite;
-use std::io;
-use std::io::Write;
 use std::process::Abort;
 
 const GRID_3_3: &str = "\
@@ -125,48 +123,17 @@ fn stats_takes_a_board_and_a_pair(rt: HostRuntime) {
     assert_wrong(&rt, ["morris", "stats", "grid", "3-3", "4-3"].as_slice());
 }
 
-/// A writer that keeps one byte a call, and fails once it has as many as it has room for.
-#[derive(Drop)]
-struct Keeping {
-    kept: Vec<u8>,
-    room: usize,
-    calls_after: u64,
-}
-
-impl Write for Keeping {
-    fn write(&mut self, bytes: &[u8]) -> io::Result<usize> {
-        let Some(first) = bytes.first() else {
-            return Ok(0);
-        };
-        if self.kept.len() == self.room {
-            self.calls_after = self.calls_after.saturating_add(1);
-            return Err(io::Error::from(io::ErrorKind::Other));
-        }
-        self.kept.push(*first)?;
-        Ok(1)
-    }
-
-    fn flush(&mut self) -> io::Result<()> {
-        Ok(())
-    }
-}
-
 #[test]
 fn failed_write_of_stats_tells_what_went_out_and_is_not_tried_again(rt: HostRuntime) {
     for room in [0, 1, 19, 20, 60, GRID_3_3.len() - 1] {
-        let keeping = Keeping {
-            kept: Vec::new(rt.alloc()),
-            room,
-            calls_after: 0,
-        };
-        let mut output = IntoWrite::new(keeping);
+        let mut output = IntoWrite::new(Narrow::new(rt.alloc(), room));
         let answer = stats(rt.alloc(), "grid", "3-3", &mut output);
         assert_eq!(rt; answer, Err(Fault::Write(room as u64)));
-        let keeping = output.into_inner();
+        let narrow = output.into_inner();
         assert_eq!(rt;
-            Some(keeping.kept.as_slice()),
+            Some(narrow.kept.as_slice()),
             GRID_3_3.as_bytes().get(..room)
         );
-        assert_eq!(rt; keeping.calls_after, 1);
+        assert_eq!(rt; narrow.calls_after, 1);
     }
 }

@@ -5,6 +5,7 @@ use crate::pairs::read_pair;
 use morris_board::grid::Grid;
 use morris_board::nine::Nine;
 use morris_board::streams::{FromRead, IntoWrite};
+use std::alloc::Global;
 use std::io;
 use std::io::Write;
 use std::process::Abort;
@@ -204,24 +205,34 @@ fn help_goes_to_standard_output(rt: HostRuntime) {
     }
 }
 
-/// A writer that takes one byte a call and fails once it has taken as many as it has room for.
+/// A writer that keeps one byte a call, and fails once it has as many as it has room for.
 #[derive(Drop)]
-struct Narrow {
-    room: u64,
-    taken: u64,
-    calls_after: u64,
+pub(crate) struct Narrow {
+    pub(crate) kept: Vec<u8>,
+    room: usize,
+    pub(crate) calls_after: u64,
+}
+
+impl Narrow {
+    pub(crate) fn new(alloc: Global, room: usize) -> Narrow {
+        Narrow {
+            kept: Vec::new(alloc),
+            room,
+            calls_after: 0,
+        }
+    }
 }
 
 impl Write for Narrow {
     fn write(&mut self, bytes: &[u8]) -> io::Result<usize> {
-        if self.taken == self.room {
+        let Some(first) = bytes.first() else {
+            return Ok(0);
+        };
+        if self.kept.len() == self.room {
             self.calls_after = self.calls_after.saturating_add(1);
             return Err(io::Error::from(io::ErrorKind::Other));
         }
-        if bytes.is_empty() {
-            return Ok(0);
-        }
-        self.taken = self.taken.saturating_add(1);
+        self.kept.push(*first)?;
         Ok(1)
     }
 
@@ -230,22 +241,12 @@ impl Write for Narrow {
     }
 }
 
-impl Narrow {
-    fn new(room: u64) -> Narrow {
-        Narrow {
-            room,
-            taken: 0,
-            calls_after: 0,
-        }
-    }
-}
-
 #[test]
 fn a_failed_write_tells_what_went_out_and_is_not_tried_again(rt: HostRuntime) {
     for room in [0, 1, 9, 10, 30] {
-        let mut output = IntoWrite::new(Narrow::new(room));
+        let mut output = IntoWrite::new(Narrow::new(rt.alloc(), room));
         let answer = look("grid", "XXX.OO.O.", 3, &mut output);
-        assert_eq!(rt; answer, Err(Fault::Write(room)));
+        assert_eq!(rt; answer, Err(Fault::Write(room as u64)));
         assert_eq!(rt; output.into_inner().calls_after, 1);
     }
 }
@@ -259,7 +260,7 @@ fn a_failed_write_is_a_fault_of_the_program(rt: HostRuntime) {
         (words.as_slice(), 16),
     ] {
         let mut input = FromRead::new([].as_slice());
-        let mut output = IntoWrite::new(Narrow::new(room));
+        let mut output = IntoWrite::new(Narrow::new(rt.alloc(), room));
         let mut errors = IntoWrite::new(Vec::new(rt.alloc()));
         let status = command(&rt, rt.alloc(), words, &mut input, &mut output, &mut errors);
         assert_eq!(rt; status, 1);
@@ -276,7 +277,7 @@ fn a_failed_write_is_a_fault_of_the_program(rt: HostRuntime) {
 fn a_fault_of_standard_error_is_ignored(rt: HostRuntime) {
     let mut input = FromRead::new([].as_slice());
     let mut output = IntoWrite::new(Vec::new(rt.alloc()));
-    let mut errors = IntoWrite::new(Narrow::new(3));
+    let mut errors = IntoWrite::new(Narrow::new(rt.alloc(), 3));
     let words = ["morris", "look", "round", "XXX.OO.O."];
     let status = command(
         &rt,
