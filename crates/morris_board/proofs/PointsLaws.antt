@@ -1,6 +1,7 @@
--- Laws of the sets of points: what each set has, its members in order, and when two sets are the same.
-use Rattle.std.proofs.Common.{◌≡◌, ◌≢◌, ℕ, zero, suc, ◌+◌, ◌-◌, ◌*◌, ◌/◌, ◌%◌, ◌^◌, ◌<◌, ◌≤◌, max, min, Bool, true, false, not, ◌&&◌, ◌||◌, cond, eqb, ltb, List, [], ◌∷◌, ◌++◌, length, refl, sym, ◌∙◌, ap, subst, inl, inr, ◌⊎◌, arith, rules}
-use Rattle.std.proofs.lemmas.Bool.{cases_Bool, cases_eq, eq-eqb, ne_eqb, eqb-true, eqb-false, ltb-true, lt-ltb, le-ltb, both_ways, and_parts, and_from, true_from_ne_false, false_from_ne_true}
+-- Laws of the sets of points: what each set has, its members in order, and when two sets are the
+-- same.
+use Rattle.std.proofs.Common.{◌≡◌, ◌≢◌, ℕ, zero, suc, ◌+◌, ◌-◌, ◌*◌, ◌/◌, ◌%◌, ◌^◌, ◌<◌, ◌≤◌, max, min, Bool, true, false, not, ◌&&◌, ◌||◌, cond, eqb, ltb, List, [], ◌∷◌, length, refl, sym, ◌∙◌, ap, inl, inr, arith}
+use Rattle.std.proofs.lemmas.Bool.{cases_Bool, cases_eq, eq-eqb, ne_eqb, eqb-true, lt-ltb, le-ltb, both_ways, and_parts}
 use Rattle.std.proofs.lemmas.Bool.Decides.{nat_tests}
 use Rattle.std.proofs.lemmas.Nat.Bits.{bit_at_or, bit_at_xor, bit_at_and, bit_at-pow_same, bit_at-pow_other, bit_at-lt, bit_at-zero, bit_at_above, same_from_bits}
 use Rattle.std.specs.Int.{bit_at}
@@ -24,7 +25,7 @@ use Rattle.std.proofs.Math.Pow.{pow-lt}
 use Rattle.std.specs.Int.{trailing_zeros, w32}
 use Rattle.std.proofs.lemmas.Nat.Bits.{shr_and_one, bit_at-trailing_zeros, bit_at_clear_same, bit_at_clear_other}
 use Rattle.std.proofs.Common.{pow-suc, lit<}
-use Rattle.morris_board.specs.Sets.{has, members, count_of, with_point, without_point, is_within, set_where, set_of}
+use Rattle.morris_board.specs.Sets.{has, members, count_of, with_point, without_point, is_within, set_where}
 
 -- ---- what a set has
 
@@ -281,7 +282,7 @@ pub each_within : (s t : ℕ) → ((p : ℕ) → has s p ≡ true → has t p �
 unfolding is_within
 each_within s t each = all_members s (has t) each
 
-has-and : (s t p : ℕ) → has (bit_and s t) p ≡ (has s p && has t p)
+pub has-and : (s t p : ℕ) → has (bit_and s t) p ≡ (has s p && has t p)
 unfolding has
 has-and s t p = ap (λ n. eqb n 1) (bit_at_and s t p) ∙ both (bit_at s p) (bit_at t p) (bit_at-lt s p) (bit_at-lt t p)
   where
@@ -442,3 +443,47 @@ count_below-ones s p small low =
     let mask : bit_and s (1 * 2 ^ p % 4294967296 - 1) ≡ s % 2 ^ p = ap (λ k. bit_and s (k - 1)) (shifted 32 p low) ∙ and_mask s p in
     let within : s % 2 ^ p < 2 ^ 32 = omega (arith, mod-le s (2 ^ p)) in
     ap ones mask ∙ sym (count_of-ones (s % 2 ^ p) within) ∙ counted_below s p
+
+-- ---- two sets together
+
+-- `(1 << n) - 1`
+pub has-below_mask : (n p : ℕ) → n < 32 → has (1 * 2 ^ n % 4294967296 - 1) p ≡ ltb p n
+unfolding has
+has-below_mask n p low =
+    let one : has (2 ^ p) p ≡ true = has_power p p ∙ eq-eqb p p refl in
+    let mask : has (bit_and (2 ^ p) (2 ^ n - 1)) p ≡ (ltb p n && has (2 ^ p) p) = ap (λ s. has s p) (and_mask (2 ^ p) n) ∙ has-low (2 ^ p) n p in
+    ap (λ k. has (k - 1) p) (shifted 32 n low)
+    ∙ sym (has-and (2 ^ p) (2 ^ n - 1) p ∙ ap (λ b. b && has (2 ^ n - 1) p) one)
+    ∙ mask ∙ ap (λ b. ltb p n && b) one ∙ and_true (ltb p n)
+  where
+    and_true : (b : Bool) → (b && true) ≡ b
+    and_true true = refl
+    and_true false = refl
+
+-- `mask | other`
+pub has-or : (s t p : ℕ) → has (bit_or s t) p ≡ (has s p || has t p)
+unfolding has
+has-or s t p = ap (λ n. eqb n 1) (bit_at_or s t p) ∙ bit_max (bit_at s p) (bit_at t p) (bit_at-lt s p) (bit_at-lt t p)
+
+abbrev differs : Bool → Bool → Bool
+differs true y = not y
+differs false y = y
+
+has-xor : (s t p : ℕ) → has (bit_xor s t) p ≡ differs (has s p) (has t p)
+unfolding has
+has-xor s t p = ap (λ n. eqb n 1) (bit_at_xor s t p) ∙ bits (bit_at s p) (bit_at t p) (bit_at-lt s p) (bit_at-lt t p)
+  where
+    bits : (x y : ℕ) → x < 2 → y < 2 → eqb ((x + y) % 2) 1 ≡ differs (eqb x 1) (eqb y 1)
+    bits zero y h k = ap (λ n. eqb n 1) (omega arith)
+    bits (suc zero) zero h k = refl
+    bits (suc zero) (suc zero) h k = refl
+    bits (suc zero) (suc (suc y)) h k = absurd (omega arith)
+    bits (suc (suc x)) y h k = absurd (omega arith)
+
+-- `mask & (mask ^ other)`
+pub has-less : (s t p : ℕ) → has (bit_and s (bit_xor s t)) p ≡ (has s p && not (has t p))
+has-less s t p = has-and s (bit_xor s t) p ∙ ap (λ b. has s p && b) (has-xor s t p) ∙ parts (has s p) (has t p)
+  where
+    parts : (x y : Bool) → (x && differs x y) ≡ (x && not y)
+    parts true y = refl
+    parts false y = refl

@@ -1,17 +1,16 @@
 -- The text of a position and the reading of it undo one another.
-use Rattle.std.proofs.Common.{◌≡◌, ◌≢◌, ℕ, ◌+◌, ◌^◌, ◌<◌, ◌≤◌, Bool, true, false, not, ◌&&◌, ◌||◌, cond, eqb, ltb, List, length, map, get_or, position, refl, sym, ◌∙◌, ap, inl, inr, arith, zero-add, Option, Some, None, Result, Ok, Err}
-use Rattle.std.proofs.lemmas.Bool.{cases_Bool, cases_eq, cases_lt, eq-eqb, ne_eqb, eqb-true, eqb-false, lt-ltb, le-ltb, ltb-true, ltb-false, both_ways, and_left, and_parts, or_cases, not-false, true_from_ne_false, false_from_ne_true}
-use Rattle.std.proofs.lemmas.List.{same_lists}
+use Rattle.std.proofs.Common.{◌≡◌, ◌≢◌, ℕ, ◌^◌, ◌<◌, ◌≤◌, true, false, not, ◌&&◌, cond, eqb, ltb, List, length, get_or, position, refl, sym, ◌∙◌, ap, inl, inr, arith, zero-add, Option, Some, None, Result, Ok, Err}
+use Rattle.std.proofs.lemmas.Bool.{cases_Bool, cases_eq, cases_lt, eq-eqb, ne_eqb, eqb-true, lt-ltb, le-ltb, ltb-true, ltb-false, both_ways, and_left, and_parts}
 use Rattle.std.proofs.lemmas.List.Quantifiers.{position-Some}
 use Rattle.std.proofs.lemmas.List.FromFn.{length-map-range_with_len, get_or-map-range_with_len}
-use Rattle.std.specs.List.{range_with_len, prefix_len}
+use Rattle.std.specs.List.{prefix_len}
 use Rattle.std.proofs.lemmas.Grind.{same_number_lists}
 use Rattle.std.proofs.lemmas.List.Sums.{prefix_len_passes}
 use Rattle.std.proofs.Math.Bool.{not-not}
 use Rattle.std.specs.Prelude.{nat_lt, MatchResult}
 use Rattle.morris_board.specs.declared.faults.TextFault.TheVariants as fault
 use Rattle.morris_board.specs.declared.faults.Stones.{Stones}
-use Rattle.morris_board.specs.Sets.{has, set_where}
+use Rattle.morris_board.specs.Sets.{has}
 use Rattle.morris_board.specs.Boards.{Shape}
 use Rattle.morris_board.specs.Positions.{Sides, IsApart, IsPosition, letter, text_of, is_letter, places_of, shown, read_of, read_letters, is_sized, made, sides}
 use Rattle.morris_board.proofs.PointsLaws.{has-set_where, set_where-lt, same_points, has-above}

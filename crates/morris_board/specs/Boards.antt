@@ -1,10 +1,11 @@
 -- Boards: their points, which of them are adjacent, and their mills.
-use Rattle.std.specs.Prelude.{ℕ, ◌+◌, ◌*◌, ◌%◌, Bool, true, false, not, ◌&&◌, ◌||◌, nat_eq, nat_lt, nat_le, List, [], ◌∷◌, ◌++◌, map}
+use Rattle.std.specs.Prelude.{ℕ, ◌+◌, ◌*◌, ◌%◌, Bool, false, not, ◌&&◌, ◌||◌, nat_eq, nat_lt, nat_le, List, [], ◌∷◌, ◌++◌, map, filter}
 use Rattle.std.specs.List.{range_with_len, list_any, list_all, flat_map}
-use Rattle.morris_board.specs.Sets.{set_where, set_of}
+use Rattle.morris_board.specs.Sets.{has, set_where, set_of}
 
--- A board: its number in the file of a table; how many points it has, numbered from 0; its edges, each from a point to a neighbour and
--- written in one direction; and its mills, each as its three points in ascending order.
+-- A board: its number in the file of a table; how many points it has, numbered from 0; its edges,
+-- each from a point to a neighbour and written in one direction; and its mills, each as its three
+-- points in ascending order.
 pub record Shape : Type 0 where
   pub id : ℕ
   pub points : ℕ
@@ -23,12 +24,17 @@ adjacent board p = set_where board.points (is_adjacent board p)
 unfoldable pub mills_of : Shape → List ℕ
 mills_of board = map set_of board.mills
 
+-- the mills that have the point p
+unfoldable pub mills_through : Shape → ℕ → List ℕ
+mills_through board p = filter (λ mill. has mill p) (mills_of board)
+
 -- whether a list is three points below n, in ascending order
 abbrev pub is_mill : ℕ → List ℕ → Bool
 is_mill n (p ∷ q ∷ r ∷ []) = nat_lt p q && (nat_lt q r && nat_lt r n)
 is_mill n _ = false
 
--- whether a shape is a board: at most 24 points, each edge between two different ones of them, and each mill three of them
+-- whether a shape is a board: at most 24 points, each edge between two different ones of them, and
+-- each mill three of them
 unfoldable pub is_board : Shape → Bool
 is_board board = nat_le board.points 24
     && (list_all (λ e. nat_lt e.0 board.points && (nat_lt e.1 board.points && not (nat_eq e.0 e.1))) board.edges && list_all (is_mill board.points) board.mills)
@@ -37,8 +43,9 @@ is_board board = nat_le board.points 24
 abbrev mill : ℕ → ℕ → ℕ → List ℕ
 mill p q r = p ∷ q ∷ r ∷ []
 
--- Grid: nine points in three rows and three columns, point 3 * r + c in row r and column c. Neighbours in a row and neighbours in a
--- column are adjacent; the rows and then the columns are the mills.
+-- Grid: nine points in three rows and three columns, point 3 * r + c in row r and column c.
+-- Neighbours in a row and neighbours in a column are adjacent; the rows and then the columns are
+-- the mills.
 unfoldable pub grid : Shape
 grid = record {
   id = 1;
@@ -48,9 +55,10 @@ grid = record {
   mills = mill 0 1 2 ∷ mill 3 4 5 ∷ mill 6 7 8 ∷ mill 0 3 6 ∷ mill 1 4 7 ∷ mill 2 5 8 ∷ [];
 }
 
--- Nine, the usual board: three rings of eight points, outer, middle and inner; point 8 * r + k is place k of ring r, clockwise from the
--- top left corner. Neighbours on a ring are adjacent, and the middles of the sides (k odd) are joined from ring to ring. The mills are
--- the four sides of each ring, and the three middles of each side.
+-- Nine, the usual board: three rings of eight points, outer, middle and inner; point 8 * r + k is
+-- place k of ring r, clockwise from the top left corner. Neighbours on a ring are adjacent, and the
+-- middles of the sides (k odd) are joined from ring to ring. The mills are the four sides of each
+-- ring, and the three middles of each side.
 unfoldable pub nine : Shape
 nine = record {
   id = 0;

@@ -3,3 +3,4 @@ pub mod Boards
 pub mod Positions
 pub mod BoardLaws
 pub mod Streams
+pub mod Buffered

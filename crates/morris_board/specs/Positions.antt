@@ -37,8 +37,8 @@ pub record IsPosition (board : Shape) (s : Sides) : Type 0 where
 abbrev pub made : Sides → Result Sides Stones
 made s = if is_sized s then Ok s else Err (record {})
 
--- The text of a position has a character for each point, in order: `X` (88) for a stone of the player to move, `O` (79) for one of the
--- opponent, `.` (46) for a vacant point.
+-- The text of a position has a character for each point, in order: `X` (88) for a stone of the
+-- player to move, `O` (79) for one of the opponent, `.` (46) for a vacant point.
 unfoldable pub letter : Sides → ℕ → ℕ
 letter s p = if has s.own p then 88 else (if has s.other p then 79 else 46)
 
@@ -56,8 +56,9 @@ places_of c text = set_where (length text) (λ p. nat_eq (slice_index text p) c)
 unfoldable pub shown : List ℕ → Sides
 shown text = record { own = places_of 88 text; other = places_of 79 text }
 
--- What reading a text gives: a refusal for a length that isn't one character per point, then for the first character that is none of the
--- three, then for the numbers of stones; and otherwise the stones that it shows.
+-- What reading a text gives: a refusal for a length that isn't one character per point, then for
+-- the first character that is none of the three, then for the numbers of stones; and otherwise the
+-- stones that it shows.
 abbrev pub read_letters : Option ℕ → Sides → Result Sides TextFault
 read_letters (Some place) s = Err (fault.Character place)
 read_letters None s = if is_sized s then Ok s else Err fault.Stones

@@ -1,6 +1,7 @@
 -- What the calls of a stream do, and how much of a text has gone out.
-use Rattle.std.specs.Prelude.{◌≡◌, ℕ, ◌+◌, ◌-◌, ◌<◌, ◌≤◌, List, length, take, Option, Result, MatchResult}
+use Rattle.std.specs.Prelude.{◌≡◌, ℕ, ◌+◌, ◌-◌, ◌<◌, ◌≤◌, ◌&&◌, nat_eq, not, List, length, take, Option, Result, Ok, Err, MatchResult, if◌then◌else◌}
 use Rattle.std.specs.Io.KnownBytes.{Appends}
+use Rattle.morris_board.specs.declared.streams.Failed.{Failed}
 
 -- a reader or writer, and how many of the calls on it have failed
 pub record Counted (X : Type 0) : Type 0 where
@@ -13,6 +14,18 @@ counted inner failures = record { inner = inner; failures = failures }
 -- a call that fails is counted once, and one that succeeds isn't counted
 abbrev pub CountsFailure : {T E : Type 0} → ℕ → ℕ → Result T E → Type 0
 CountsFailure old new r = MatchResult r (λ _. new ≡ old) (λ _. new ≡ old + 1)
+
+-- What a source answers where its reader answered this: as many bytes, or a failure for a fault,
+-- whatever the fault is.
+abbrev pub read_answer : {E : Type 0} → Result ℕ E → Result ℕ Failed
+read_answer (Ok count) = Ok count
+read_answer (Err fault) = Err (record {})
+
+-- What a sink answers where its writer answered this to a write of so many bytes: as many, or a
+-- failure for a fault, and for a write that took none of some bytes.
+abbrev pub write_answer : {E : Type 0} → ℕ → Result ℕ E → Result ℕ Failed
+write_answer length (Ok taken) = if nat_eq taken 0 && not (nat_eq length 0) then Err (record {}) else Ok taken
+write_answer length (Err fault) = Err (record {})
 
 -- the whole text went out; `now` counts its bytes and the `sent` bytes before it
 pub record AllSent (old new : Option (List ℕ)) (sent now : ℕ) (text : List ℕ) : Type 0 where

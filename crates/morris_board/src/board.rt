@@ -1,12 +1,13 @@
 //! The boards that the game is played on.
-ghost use Rattle.std.specs.Prelude.{◌≡◌, ℕ, ◌<◌, ◌≤◌, length, slice_index, true};
-ghost use Rattle.morris_board.specs.Boards.{Shape, adjacent, mills_of, is_board};
+ghost use Rattle.std.specs.Prelude.{◌≡◌, ℕ, ◌<◌, ◌≤◌, [], ◌∷◌, length, slice_index, true};
+ghost use Rattle.morris_board.specs.Boards.{Shape, adjacent, mills_of, mills_through, is_board};
 
 use crate::points::Points;
 
 /// A board as the rules of the game see it: its points, which of them are adjacent, and its mills.
 ///
-/// Code that is generic over the board is bounded by this trait. Only what starts threads asks for [`Board`].
+/// Code that is generic over the board is bounded by this trait. Only what starts threads asks for
+/// [`Board`].
 pub trait Geometry: Copy {
     /// The board, of which all members speak.
     ghost shape: { Shape };
@@ -38,6 +39,11 @@ pub trait Geometry: Copy {
     fn mill(number: u8) -> Points
         requires { number < MILLS }
         ensures { result ≡ slice_index (mills_of shape) number };
+
+    /// The two mills that have `point`, a point of the board.
+    fn mills_through(point: u8) -> (Points, Points)
+        requires { point < POINTS }
+        ensures { mills_through shape point ≡ result.0 ∷ result.1 ∷ [] };
 
     ghost is_lawful: { is_board shape ≡ true };
 

@@ -4,7 +4,8 @@ ghost use Rattle.morris_board.specs.declared.faults.TextFault.TheVariants as fau
 
 use thiserror::Error;
 
-/// A player has a number of stones that no position has: the player to move has 2 to 9, the opponent 3 to 9.
+/// A player has a number of stones that no position has: the player to move has 2 to 9, the
+/// opponent 3 to 9.
 #[derive(Clone, Copy, Debug, PartialEq, Eq, Error)]
 #[error("bad number of stones")]
 pub struct Stones;

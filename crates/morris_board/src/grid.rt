@@ -2,11 +2,13 @@
 use crate::board::{Board, Geometry};
 use crate::points::Points;
 
-/// The board with 9 points in three rows and three columns, for small tables. Point `3 * r + c` stands in row `r` and column `c`.
+/// The board with 9 points in three rows and three columns, for small tables. Point `3 * r + c`
+/// stands in row `r` and column `c`.
 #[derive(Clone, Copy, Debug)]
 pub struct Grid;
 
-/// The points adjacent to each point. Each group of three digits is a row of the board, the last row first.
+/// The points adjacent to each point. Each group of three digits is a row of the board, the last
+/// row first.
 const NEIGHBOURS: [u32; 9] = [
     0b000_001_010,
     0b000_010_101,
@@ -27,6 +29,19 @@ const MILLS: [u32; 6] = [
     0b001_001_001,
     0b010_010_010,
     0b100_100_100,
+];
+
+/// The two mills that have each point.
+const MILLS_THROUGH: [[u32; 2]; 9] = [
+    [0b000_000_111, 0b001_001_001],
+    [0b000_000_111, 0b010_010_010],
+    [0b000_000_111, 0b100_100_100],
+    [0b000_111_000, 0b001_001_001],
+    [0b000_111_000, 0b010_010_010],
+    [0b000_111_000, 0b100_100_100],
+    [0b111_000_000, 0b001_001_001],
+    [0b111_000_000, 0b010_010_010],
+    [0b111_000_000, 0b100_100_100],
 ];
 
 impl Geometry for Grid {
@@ -56,6 +71,11 @@ impl Geometry for Grid {
 
     fn mill(number: u8) -> Points {
         Points::from_mask(MILLS[number as usize])
+    }
+
+    fn mills_through(point: u8) -> (Points, Points) {
+        let [first, second] = MILLS_THROUGH[point as usize];
+        (Points::from_mask(first), Points::from_mask(second))
     }
 
     ghost is_lawful = { is_board-grid };

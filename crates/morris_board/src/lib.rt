@@ -1,4 +1,5 @@
-//! Boards and positions of Nine Men's Morris, and the streams that their texts and tables go through.
+//! Boards and positions of Nine Men's Morris, and the streams that their texts and tables go
+//! through.
 #![tactic(auto)]
 
 pub mod board;

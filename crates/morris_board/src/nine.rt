@@ -2,22 +2,53 @@
 use crate::board::{Board, Geometry};
 use crate::points::Points;
 
-/// The usual board with 24 points on three rings. Point `8 * r + k` is place `k` of ring `r`, where ring 0 is the outer one, and place 0
-/// the top left corner, from which the places go clockwise; odd places are the middles of the sides.
+/// The usual board with 24 points on three rings. Point `8 * r + k` is place `k` of ring `r`, where
+/// ring 0 is the outer one, and place 0 the top left corner, from which the places go clockwise;
+/// odd places are the middles of the sides.
 #[derive(Clone, Copy, Debug)]
 pub struct Nine;
 
-/// The points adjacent to each point. Each byte is a ring, the inner one first, and each line below is one too, the outer one first.
+/// The points adjacent to each point. Each byte is a ring, the inner one first, and each line below
+/// is one too, the outer one first.
 const NEIGHBOURS: [u32; 24] = [
     0x00_00_82, 0x00_02_05, 0x00_00_0a, 0x00_08_14, 0x00_00_28, 0x00_20_50, 0x00_00_a0, 0x00_80_41,
     0x00_82_00, 0x02_05_02, 0x00_0a_00, 0x08_14_08, 0x00_28_00, 0x20_50_20, 0x00_a0_00, 0x80_41_80,
     0x82_00_00, 0x05_02_00, 0x0a_00_00, 0x14_08_00, 0x28_00_00, 0x50_20_00, 0xa0_00_00, 0x41_80_00,
 ];
 
-/// The sides of the outer, the middle and the inner ring, and then the lines across the rings, each from the top or top left on, clockwise.
+/// The sides of the outer, the middle and the inner ring, and then the lines across the rings, each
+/// from the top or top left on, clockwise.
 const MILLS: [u32; 16] = [
     0x00_00_07, 0x00_00_1c, 0x00_00_70, 0x00_00_c1, 0x00_07_00, 0x00_1c_00, 0x00_70_00, 0x00_c1_00,
     0x07_00_00, 0x1c_00_00, 0x70_00_00, 0xc1_00_00, 0x02_02_02, 0x08_08_08, 0x20_20_20, 0x80_80_80,
+];
+
+/// The two mills that have each point.
+const MILLS_THROUGH: [[u32; 2]; 24] = [
+    [0x00_00_07, 0x00_00_c1],
+    [0x00_00_07, 0x02_02_02],
+    [0x00_00_07, 0x00_00_1c],
+    [0x00_00_1c, 0x08_08_08],
+    [0x00_00_1c, 0x00_00_70],
+    [0x00_00_70, 0x20_20_20],
+    [0x00_00_70, 0x00_00_c1],
+    [0x00_00_c1, 0x80_80_80],
+    [0x00_07_00, 0x00_c1_00],
+    [0x00_07_00, 0x02_02_02],
+    [0x00_07_00, 0x00_1c_00],
+    [0x00_1c_00, 0x08_08_08],
+    [0x00_1c_00, 0x00_70_00],
+    [0x00_70_00, 0x20_20_20],
+    [0x00_70_00, 0x00_c1_00],
+    [0x00_c1_00, 0x80_80_80],
+    [0x07_00_00, 0xc1_00_00],
+    [0x07_00_00, 0x02_02_02],
+    [0x07_00_00, 0x1c_00_00],
+    [0x1c_00_00, 0x08_08_08],
+    [0x1c_00_00, 0x70_00_00],
+    [0x70_00_00, 0x20_20_20],
+    [0x70_00_00, 0xc1_00_00],
+    [0xc1_00_00, 0x80_80_80],
 ];
 
 impl Geometry for Nine {
@@ -47,6 +78,11 @@ impl Geometry for Nine {
 
     fn mill(number: u8) -> Points {
         Points::from_mask(MILLS[number as usize])
+    }
+
+    fn mills_through(point: u8) -> (Points, Points) {
+        let [first, second] = MILLS_THROUGH[point as usize];
+        (Points::from_mask(first), Points::from_mask(second))
     }
 
     ghost is_lawful = { is_board-nine };

@@ -1,5 +1,5 @@
 //! Sets of points of a board.
-ghost use Rattle.std.specs.Prelude.{◌≡◌, ℕ, ◌<◌, ◌≤◌, ◌^◌, length, List, [], ◌∷◌, filter, nat_lt, true, IfSome, MatchOption};
+ghost use Rattle.std.specs.Prelude.{◌≡◌, ℕ, ◌<◌, ◌≤◌, ◌^◌, length, List, [], ◌∷◌, filter, nat_lt, true, not, ◌&&◌, ◌||◌, IfSome, MatchOption};
 ghost use Rattle.std.specs.Iterator.{YieldsFirst, item_count};
 ghost use Rattle.morris_board.specs.Sets.{has, members, count_of, with_point, without_point, is_within};
 
@@ -73,6 +73,43 @@ impl Points {
     {
         Points {
             mask: self.mask & !(1 << point),
+        }
+    }
+
+    /// The points below `count`.
+    pub fn below(count: u8) -> Points
+        requires { count < 32 }
+        ensures { (p : ℕ) → has result p ≡ nat_lt p count }
+    {
+        Points {
+            mask: (1 << count) - 1,
+        }
+    }
+
+    /// The points of this set and those of `other`.
+    pub fn joined(self, other: Points) -> Points
+        ensures { (p : ℕ) → has result p ≡ (has self p || has other p) }
+    {
+        Points {
+            mask: self.mask | other.mask,
+        }
+    }
+
+    /// The points of this set that are points of `other` too.
+    pub fn common(self, other: Points) -> Points
+        ensures { (p : ℕ) → has result p ≡ (has self p && has other p) }
+    {
+        Points {
+            mask: self.mask & other.mask,
+        }
+    }
+
+    /// The points of this set that aren't points of `other`.
+    pub fn less(self, other: Points) -> Points
+        ensures { (p : ℕ) → has result p ≡ (has self p && not (has other p)) }
+    {
+        Points {
+            mask: self.mask & (self.mask ^ other.mask),
         }
     }
 

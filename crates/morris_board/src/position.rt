@@ -8,7 +8,8 @@ use crate::faults::{Stones, TextFault};
 use crate::points::Points;
 use std::marker::{Model, PhantomData};
 
-/// The stones on a board: those of the player to move, 2 to 9, and those of the opponent, 3 to 9, on points of their own.
+/// The stones on a board: those of the player to move, 2 to 9, and those of the opponent, 3 to 9,
+/// on points of their own.
 #[derive_where(Clone, Copy, Debug)]
 pub struct Position<B: Geometry> {
     own: Points,
@@ -30,11 +31,12 @@ impl<B: Geometry> Model for Position<B> {
 }
 
 impl<B: Geometry> Position<B> {
-    /// The position with these stones of the player to move and of the opponent. Both are sets of points of the board with none in
-    /// common.
+    /// The position with these stones of the player to move and of the opponent. Both are sets of
+    /// points of the board with none in common.
     ///
     /// # Errors
-    /// [`Stones`] where `own` has fewer than 2 or more than 9, or `other` fewer than 3 or more than 9.
+    /// [`Stones`] where `own` has fewer than 2 or more than 9, or `other` fewer than 3 or more than
+    /// 9.
     pub fn new(own: Points, other: Points) -> Result<Position<B>, Stones>
         requires { IsApart B.shape (sides own other) }
         ensures { result ≡ made (sides own other) }
@@ -74,12 +76,13 @@ impl<B: Geometry> Position<B> {
         (self.own.count(), self.other.count())
     }
 
-    /// The position that a text shows: for each point of the board, in order, `X` for a stone of the player to move, `O` for one of the
-    /// opponent, `.` for a vacant point.
+    /// The position that a text shows: for each point of the board, in order, `X` for a stone of
+    /// the player to move, `O` for one of the opponent, `.` for a vacant point.
     ///
     /// # Errors
-    /// [`TextFault::Length`] where the text hasn't one byte per point, else [`TextFault::Character`] at its first byte that is none of
-    /// the three, else [`TextFault::Stones`] where a player has a number of stones that no position has.
+    /// [`TextFault::Length`] where the text hasn't one byte per point, else
+    /// [`TextFault::Character`] at its first byte that is none of the three, else
+    /// [`TextFault::Stones`] where a player has a number of stones that no position has.
     pub fn read(bytes: &[u8]) -> Result<Position<B>, TextFault>
         ensures answer { result ≡ read_of B.shape bytes.now }
         ensures shows { IfOk result (λ s. text_of B.shape s ≡ bytes.now) }
@@ -94,7 +97,8 @@ impl<B: Geometry> Position<B> {
         }
     }
 
-    /// Writes the text of the position, which [`Position::read`] reads back. `out` has one byte per point of the board.
+    /// Writes the text of the position, which [`Position::read`] reads back. `out` has one byte per
+    /// point of the board.
     pub fn write_to(&self, out: &mut [u8])
         requires { length out.old ≡ B.POINTS }
         ensures text { out.new ≡ text_of B.shape self.now }

@@ -3,14 +3,18 @@ ghost use Rattle.std.specs.Prelude.{◌≡◌, ℕ, ◌+◌, ◌-◌, ◌^◌, �
 ghost use Rattle.std.specs.Fmt.{decimal};
 ghost use Rattle.std.specs.Io.{ReadsAtMost, WritesAtMost};
 ghost use Rattle.std.specs.Io.KnownBytes.{ReadConsumes, WriteAppends};
-ghost use Rattle.morris_board.specs.Streams.{Counted, counted, CountsFailure, HasSent};
+ghost use Rattle.morris_board.specs.Streams.{Counted, counted, CountsFailure, HasSent, read_answer, write_answer};
 
 use itoa::Buffer;
+use std::io;
 use std::io::{Read, Write};
 use std::marker::Model;
 use thiserror::Error;
 
-/// A call of a stream failed. Why isn't kept: what matters is that it did, and the stream counts it.
+pub mod buffered;
+
+/// A call of a stream failed. Why isn't kept: what matters is that it did, and the stream counts
+/// it.
 #[derive(Debug, Clone, Copy, PartialEq, Eq, Error)]
 #[error("a call of a stream failed")]
 pub struct Failed;
@@ -25,9 +29,10 @@ pub trait Source {
 
     /// Reads bytes into the front of `buffer`, and answers how many, at most all of it.
     ///
-    /// What the buffer has past the answer, and all of it after a failure, is open. Fewer than `u64::MAX` calls may have failed before.
-    /// 0 for a buffer that isn't empty is the end of the source. A failed call has read nothing, is
-    /// counted by [`failures`](Source::failures), and isn't tried again.
+    /// What the buffer has past the answer, and all of it after a failure, is open. Fewer than
+    /// `u64::MAX` calls may have failed before. 0 for a buffer that isn't empty is the end of the
+    /// source. A failed call has read nothing, is counted by [`failures`](Source::failures), and
+    /// isn't tried again.
     fn read(&mut self, buffer: &mut [u8]) -> Result<usize, Failed>
         requires { failures self.old < 2 ^ 64 - 1 }
         ensures bound { ReadsAtMost result buffer.new }
@@ -99,13 +104,8 @@ impl<R: Read> Source for FromRead<R> {
     ghost failures = { λ s. s.failures };
 
     fn read(&mut self, buffer: &mut [u8]) -> Result<usize, Failed> {
-        match self.reader.read(buffer) {
-            Ok(count) => Ok(count),
-            Err(_) => {
-                self.failed += 1;
-                Err(Failed)
-            }
-        }
+        let answer = self.reader.read(buffer);
+        answer_to_read(answer, &mut self.failed)
     }
 
     fn failures(&self) -> u64 {
@@ -113,14 +113,14 @@ impl<R: Read> Source for FromRead<R> {
     }
 }
 
-/// A [`Sink`] over a writer of std. Each fault of the writer is a failure, `Interrupted` too, and so
-/// is a write that took 0 bytes of some.
+/// A [`Sink`] over a writer of std. Each fault of the writer is a failure, `Interrupted` too, and
+/// so is a write that took 0 bytes of some.
 ///
 /// `Ok` says that the writer took the bytes. `Stdout` keeps nothing back, since its `write` is the
 /// system call itself: the bytes have then left the process. A writer that does keep bytes back, as
-/// a `BufWriter`, has to be flushed after [`into_inner`](IntoWrite::into_inner), and a fault there is
-/// the caller's to report. The sink doesn't flush by itself: where the write took bytes and the flush
-/// then failed, the answer could be neither `Ok` nor "nothing was taken".
+/// a `BufWriter`, has to be flushed after [`into_inner`](IntoWrite::into_inner), and a fault there
+/// is the caller's to report. The sink doesn't flush by itself: where the write took bytes and the
+/// flush then failed, the answer could be neither `Ok` nor "nothing was taken".
 #[derive(Debug, Drop)]
 pub struct IntoWrite<W> {
     writer: W,
@@ -155,13 +155,8 @@ impl<W: Write> Sink for IntoWrite<W> {
     ghost failures = { λ s. s.failures };
 
     fn write(&mut self, bytes: &[u8]) -> Result<usize, Failed> {
-        match self.writer.write(bytes) {
-            Ok(taken) if 0 < taken || bytes.is_empty() => Ok(taken),
-            _ => {
-                self.failed += 1;
-                Err(Failed)
-            }
-        }
+        let answer = self.writer.write(bytes);
+        answer_to_write(answer, bytes.len(), &mut self.failed)
     }
 
     fn failures(&self) -> u64 {
@@ -169,11 +164,48 @@ impl<W: Write> Sink for IntoWrite<W> {
     }
 }
 
+/// What a source answers where the reader behind it answered this, and the count of its failures
+/// after it: each fault is a failure, and nothing else is.
+fn answer_to_read(answer: io::Result<usize>, failed: &mut u64) -> Result<usize, Failed>
+    requires { failed.old < 2 ^ 64 - 1 }
+    ensures answer { result ≡ read_answer answer }
+    ensures counted { CountsFailure failed.old failed.new result }
+{
+    match answer {
+        Ok(count) => Ok(count),
+        Err(_) => {
+            *failed += 1;
+            Err(Failed)
+        }
+    }
+}
+
+/// What a sink answers where the writer behind it answered this to a write of so many bytes, and
+/// the count of its failures after it: each fault is a failure, and so is a write that took none of
+/// some bytes, and nothing else is.
+fn answer_to_write(
+    answer: io::Result<usize>,
+    length: usize,
+    failed: &mut u64,
+) -> Result<usize, Failed>
+    requires { failed.old < 2 ^ 64 - 1 }
+    ensures answer { result ≡ write_answer length answer }
+    ensures counted { CountsFailure failed.old failed.new result }
+{
+    match answer {
+        Ok(taken) if 0 < taken || length == 0 => Ok(taken),
+        _ => {
+            *failed += 1;
+            Err(Failed)
+        }
+    }
+}
+
 /// Writes all of `text`, in as many writes as it takes, where `sent` bytes went out before.
 ///
 /// `Ok` is the number of bytes that have then gone out, those sent before included; it has to fit a
-/// `u64`. The first write that fails ends it: `Err` is the number of bytes that went out up to there,
-/// those sent before included, and nothing is tried again.
+/// `u64`. The first write that fails ends it: `Err` is the number of bytes that went out up to
+/// there, those sent before included, and nothing is tried again.
 pub fn put<S: Sink>(sink: &mut S, sent: u64, text: &[u8]) -> Result<u64, u64>
     requires failures { S.failures sink.old < 2 ^ 64 - 1 }
     requires room { sent + length text.now < 2 ^ 64 }
@@ -200,7 +232,8 @@ pub fn put_byte<S: Sink>(sink: &mut S, sent: u64, byte: u8) -> Result<u64, u64>
     put(sink, sent, &[byte])
 }
 
-/// Writes the decimal digits of `number`, at most 20, as [`put`] does. The count of bytes sent must have room for 20 more.
+/// Writes the decimal digits of `number`, at most 20, as [`put`] does. The count of bytes sent must
+/// have room for 20 more.
 pub fn put_number<S: Sink>(sink: &mut S, sent: u64, number: u64) -> Result<u64, u64>
     requires failures { S.failures sink.old < 2 ^ 64 - 1 }
     requires room { sent + 20 < 2 ^ 64 }

@@ -7,6 +7,7 @@ use crate::position::Position;
 use std::process::Abort;
 use std::test::Fail;
 
+/// The set of these points.
 fn set_of(rt: &impl Abort, list: &[u8]) -> Points {
     let mut set = Points::EMPTY;
     for point in list {
@@ -16,7 +17,8 @@ fn set_of(rt: &impl Abort, list: &[u8]) -> Points {
     set
 }
 
-/// The board has just these mills, in this order, and just these pairs of adjacent points.
+/// The board has just these mills, in this order, of which those with a point go through it, and just
+/// these pairs of adjacent points.
 fn assert_board<B: Geometry>(rt: &impl Abort, mills: &[[u8; 3]], pairs: &[(u8, u8)]) {
     assert_eq!(rt; mills.len(), B::MILLS as usize);
     for (number, points) in mills.iter().enumerate() {
@@ -27,6 +29,12 @@ fn assert_board<B: Geometry>(rt: &impl Abort, mills: &[[u8; 3]], pairs: &[(u8, u
         for q in 0..B::POINTS {
             let adjacent = pairs.contains(&(p, q)) || pairs.contains(&(q, p));
             assert_eq!(rt; B::neighbours(p).has(q), adjacent, "{p} and {q}");
+        }
+        let (first, second) = B::mills_through(p);
+        for points in mills {
+            let mill = set_of(rt, points);
+            let is_one = mill == first || mill == second;
+            assert_eq!(rt; is_one, points.contains(&p), "mills through {p}");
         }
     }
 }
@@ -132,6 +140,11 @@ fn the_points_of_a_set_come_in_ascending_order(rt: HostRuntime) -> Result<(), Fa
     assert_eq!(rt; set.without(4).without(22), Points::EMPTY.with(11));
     assert!(rt; Points::EMPTY.with(4).is_within(set) && !set.with(5).is_within(set));
     assert_eq!(rt; Points::EMPTY.first(), None);
+    let other = set_of(&rt, &[4, 5]);
+    assert_eq!(rt; set.joined(other), set_of(&rt, &[4, 5, 11, 22]));
+    assert_eq!(rt; set.common(other), set_of(&rt, &[4]));
+    assert_eq!(rt; set.less(other), set_of(&rt, &[11, 22]));
+    assert_eq!(rt; Points::below(3), set_of(&rt, &[0, 1, 2]));
     Ok(())
 }
 
@@ -150,6 +163,7 @@ fn a_text_shows_a_position(rt: HostRuntime) -> Result<(), Fail> {
     Ok(())
 }
 
+/// The fault of a text, if it has one.
 fn refusal<B: Geometry>(text: &[u8]) -> Option<TextFault> {
     Position::<B>::read(text).err()
 }

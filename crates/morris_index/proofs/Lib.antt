@@ -1,9 +1,13 @@
 pub mod BinomialTable
 pub mod ChooseLaws
 pub mod RankLaws
+pub mod Moving
 pub mod SetLaws
 pub mod Unranking
+pub mod Following
+pub mod SumLaws
 pub mod IndexLaws
 pub mod PairLaws
+pub mod MoveLaws
 pub mod BelowLaws
 pub mod ResultLaws

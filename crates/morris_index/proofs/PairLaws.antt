@@ -1,10 +1,10 @@
 -- Laws of the pairs of numbers of stones.
-use Rattle.std.proofs.Common.{◌≡◌, ℕ, ◌+◌, ◌≤◌, true, leb, refl, inl, inr, arith}
+use Rattle.std.proofs.Common.{◌≡◌, ℕ, ◌+◌, ◌≤◌, ◌&&◌, true, leb, refl, inl, inr, arith}
 use Rattle.std.proofs.lemmas.Bool.{cases_eq, ne_eqb, and_parts, leb-true, le-leb}
 use Rattle.std.specs.Result.{result_ok}
 use Rattle.morris_board.specs.Sets.{count_of}
 use Rattle.morris_board.specs.Positions.{Sides, is_between, is_sized}
-use Rattle.morris_index.specs.Pairs.{pair_made, pair_of}
+use Rattle.morris_index.specs.Pairs.{Counts, IsPair, is_pair, pair_made, pair_of}
 
 pub between : (low n high : ℕ) → is_between low n high ≡ true → (low ≤ n) × (n ≤ high)
 between low n high h = let parts = and_parts (leb low n) (leb n high) h in (leb-true _ _ parts.0, leb-true _ _ parts.1)
@@ -33,3 +33,19 @@ own_count s h = between 2 (count_of s.own) 9 ((and_parts (is_between 2 (count_of
 
 pub other_count : (s : Sides) → is_sized s ≡ true → (3 ≤ count_of s.other) × (count_of s.other ≤ 9)
 other_count s h = between 3 (count_of s.other) 9 ((and_parts (is_between 2 (count_of s.own) 9) (is_between 3 (count_of s.other) 9) h).1)
+
+-- the test of a pair
+pub pair_passes : (n : ℕ) (c : Counts) → IsPair n c → is_pair n c ≡ true
+pair_passes n c h = rw (le-leb c.greater 9 h.most, le-leb c.lesser c.greater h.ordered, le-leb 3 c.lesser h.least, le-leb (c.greater + c.lesser) n h.fits) refl
+
+pub pair_passed : (n : ℕ) (c : Counts) → is_pair n c ≡ true → IsPair n c
+pair_passed n c h =
+    let first = and_parts (leb c.greater 9) (leb c.lesser c.greater && (leb 3 c.lesser && leb (c.greater + c.lesser) n)) h in
+    let second = and_parts (leb c.lesser c.greater) (leb 3 c.lesser && leb (c.greater + c.lesser) n) first.1 in
+    let third = and_parts (leb 3 c.lesser) (leb (c.greater + c.lesser) n) second.1 in
+    record {
+      most = leb-true _ _ first.0;
+      ordered = leb-true _ _ second.0;
+      least = leb-true _ _ third.0;
+      fits = leb-true _ _ third.1;
+    }

@@ -1,4 +1,5 @@
--- Laws of ranks: the rank of a set is below the number of sets with as many points, and no two of these have the same rank.
+-- Laws of ranks: the rank of a set is below the number of sets with as many points, and no two of
+-- these have the same rank.
 use Rattle.std.proofs.Common.{◌≡◌, ℕ, zero, suc, ◌+◌, ◌-◌, ◌^◌, ◌<◌, ◌≤◌, Bool, true, false, not, cond, List, [], ◌∷◌, ◌++◌, map, length, filter, refl, sym, ◌∙◌, ap, inl, inr, arith, zero-add, length-append}
 use Rattle.std.specs.List.{range_with_len}
 use Rattle.std.proofs.lemmas.Bool.{cases_Bool, cases_eq}
@@ -7,6 +8,7 @@ use Rattle.std.proofs.lemmas.List.Elements.{filter-append}
 use Rattle.morris_board.specs.Sets.{has, members}
 use Rattle.morris_board.proofs.PointsLaws.{has-above}
 use Rattle.morris_index.specs.Binomials.{choose}
+unfoldable pub use Rattle.morris_index.specs.Numbering.{count_below}
 use Rattle.morris_index.specs.Numbering.{rank_from, rank_of, number_outside}
 use Rattle.morris_index.proofs.ChooseLaws.{choose-none, choose-suc, choose-le_suc}
 
@@ -43,9 +45,7 @@ members-passing s n within low =
     let e : 32 ≡ (32 - n) + n = omega arith in
     ap (passing (has s)) e ∙ passing-above (has s) n (32 - n) (λ k h. has-above s n k within h)
 
--- how many of them
-unfoldable pub count_below : (ℕ → Bool) → ℕ → ℕ
-count_below f n = length (passing f n)
+-- ---- how many of them
 
 pub count-none : (f : ℕ → Bool) → count_below f 0 ≡ 0
 unfolding count_below
@@ -101,7 +101,7 @@ module _ (outside : ℕ) where
   unfoldable pub rank_below : (ℕ → Bool) → ℕ → ℕ
   rank_below f n = rank_of (map (number_outside outside) (passing f n))
 
-  rank-yes : (f : ℕ → Bool) (n : ℕ) → f n ≡ true → rank_below f (suc n) ≡ rank_below f n + choose (number_outside outside n) (suc (count_below f n))
+  pub rank-yes : (f : ℕ → Bool) (n : ℕ) → f n ≡ true → rank_below f (suc n) ≡ rank_below f n + choose (number_outside outside n) (suc (count_below f n))
   unfolding rank_below count_below
   rank-yes f n h =
       ap (λ ps. rank_of (map (number_outside outside) ps)) (passing-yes f n h)
@@ -109,7 +109,7 @@ module _ (outside : ℕ) where
       ∙ rank_of-append (number_outside outside n) (map (number_outside outside) (passing f n))
       ∙ ap (λ k. rank_of (map (number_outside outside) (passing f n)) + choose (number_outside outside n) (suc k)) (length-map (passing f n) (number_outside outside))
 
-  rank-no : (f : ℕ → Bool) (n : ℕ) → f n ≡ false → rank_below f (suc n) ≡ rank_below f n
+  pub rank-no : (f : ℕ → Bool) (n : ℕ) → f n ≡ false → rank_below f (suc n) ≡ rank_below f n
   unfolding rank_below
   rank-no f n h = ap (λ ps. rank_of (map (number_outside outside) ps)) (passing-no f n h)
 

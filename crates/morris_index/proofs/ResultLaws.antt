@@ -1,5 +1,6 @@
--- What a move does to the numbers of stones. A quiet move from a position with x own and y other stones leads to one with y own and x
--- other stones; a move that captures leads to one with y - 1 own and x other stones.
+-- What a move does to the numbers of stones. A quiet move from a position with x own and y other
+-- stones leads to one with y own and x other stones; a move that captures leads to one with y - 1
+-- own and x other stones.
 use Rattle.std.proofs.Common.{◌≡◌, ℕ, suc, ◌-◌, ◌<◌, ◌≤◌, true, [], ◌∷◌, refl, sym, ◌∙◌, inl, inr, ◌⊎◌, arith, Some, lit<}
 use Rattle.std.specs.List.{Contains}
 use Rattle.std.specs.Option.{option_to_list}
@@ -69,7 +70,8 @@ is_of-quiet c s t of own other = elim (halves_of c s of) [
   | inr y ↦ is_of-first c t (made_of c.greater c.lesser t (own ∙ y.2) (other ∙ y.1))
 ]
 
--- the player to move after a capture has two stones left, or the result belongs to a pair that this one needs
+-- the player to move after a capture has two stones left, or the result belongs to a pair that this
+-- one needs
 pub is_of-capture : (n : ℕ) (c : Counts) (s t : Sides) → IsPair n c → is_of c s ≡ true
     → suc (count_of t.own) ≡ count_of s.other → count_of t.other ≡ count_of s.own
     → (count_of t.own ≡ 2) ⊎ ((d : Counts) × Contains (needed c) d × (is_of d t ≡ true))

@@ -1,4 +1,5 @@
--- Laws of sets of points that the numbering needs: the points of a set below a point, and a set with a new least point.
+-- Laws of sets of points that the numbering needs: the points of a set below a point, and a set
+-- with a new least point.
 use Rattle.std.proofs.Common.{◌≡◌, ℕ, zero, suc, ◌+◌, ◌-◌, ◌^◌, ◌<◌, ◌≤◌, Bool, true, false, ◌&&◌, ◌||◌, ltb, List, [], ◌∷◌, ◌++◌, length, filter, refl, sym, ◌∙◌, ap, inl, inr, arith}
 use Rattle.std.specs.List.{range_with_len, list_all}
 use Rattle.std.proofs.lemmas.Bool.{cases_Bool, cases_eq, cases_lt, both_ways, eq-eqb, ne_eqb, lt-ltb, le-ltb, ltb-true, and_parts, and_right}

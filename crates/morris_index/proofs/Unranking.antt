@@ -9,7 +9,8 @@ use Rattle.morris_index.proofs.ChooseLaws.{choose-none, choose-zero, choose-suc,
 use Rattle.morris_index.proofs.RankLaws.{number-outside, number-inside}
 use Rattle.morris_index.proofs.SetLaws.{with_point-lt, members-with}
 
--- The points from `point` on have been looked at: those in `taken` are the last of the set, `left` are still to come, of rank `rest`.
+-- The points from `point` on have been looked at: those in `taken` are the last of the set, `left`
+-- are still to come, of rank `rest`.
 pub record IsUnranking (n outside count rank point left rest taken : ℕ) : Type 0 where
   pub within : taken < 2 ^ n
   pub above : (p : ℕ) → has taken p ≡ true → point ≤ p

@@ -1,3 +1,5 @@
 pub mod Binomials
 pub mod Numbering
 pub mod Pairs
+pub mod Sums
+pub mod Moves

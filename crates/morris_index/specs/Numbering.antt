@@ -1,11 +1,12 @@
 -- The numbering of sets of points, and of the positions with given numbers of stones.
-use Rattle.std.specs.Prelude.{◌≡◌, ◌<◌, ◌^◌, true, false, ℕ, suc, ◌+◌, ◌-◌, ◌*◌, not, List, [], ◌∷◌, map, filter, length}
+use Rattle.std.specs.Prelude.{◌≡◌, ◌<◌, ◌^◌, true, false, Bool, ℕ, suc, ◌+◌, ◌-◌, ◌*◌, not, List, [], ◌∷◌, map, filter, length}
 use Rattle.std.specs.List.{range_with_len}
 use Rattle.morris_board.specs.Sets.{has, members, count_of}
 use Rattle.morris_board.specs.Positions.{Sides}
 use Rattle.morris_index.specs.Binomials.{choose}
 
--- The rank of ascending points p0 < p1 < .. is C(p0, 1) + C(p1, 2) + ..; `place` is 1 for the first of them.
+-- The rank of ascending points p0 < p1 < .. is C(p0, 1) + C(p1, 2) + ..; `place` is 1 for the first
+-- of them.
 abbrev pub rank_from : ℕ → List ℕ → ℕ
 rank_from place [] = 0
 rank_from place (p ∷ ps) = choose p place + rank_from (suc place) ps
@@ -13,7 +14,12 @@ rank_from place (p ∷ ps) = choose p place + rank_from (suc place) ps
 unfoldable pub rank_of : List ℕ → ℕ
 rank_of points = rank_from 1 points
 
--- The points that aren't in `own` are renumbered 0, 1, 2, .. in ascending order: the number of p is how many of them lie below it.
+-- how many of the numbers below n pass a test
+unfoldable pub count_below : (ℕ → Bool) → ℕ → ℕ
+count_below f n = length (filter f (range_with_len 0 n))
+
+-- The points that aren't in `own` are renumbered 0, 1, 2, .. in ascending order: the number of p is
+-- how many of them lie below it.
 unfoldable pub number_outside : ℕ → ℕ → ℕ
 number_outside own p = length (filter (λ q. not (has own q)) (range_with_len 0 p))
 

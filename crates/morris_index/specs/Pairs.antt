@@ -23,12 +23,16 @@ pub record IsPair (n : ℕ) (c : Counts) : Type 0 where
   pub least : 3 ≤ c.lesser
   pub fits : c.greater + c.lesser ≤ n
 
+-- whether two numbers of stones are a pair of a board of n points
+abbrev pub is_pair : ℕ → Counts → Bool
+is_pair n c = nat_le c.greater 9 && (nat_le c.lesser c.greater && (nat_le 3 c.lesser && nat_le (c.greater + c.lesser) n))
+
 -- the pair of two numbers of stones, given in either order
 abbrev pub ordered : ℕ → ℕ → Counts
 ordered a b = if nat_le b a then counts a b else counts b a
 
--- What two numbers of stones make on n points: a refusal where one of them isn't 3 to 9, then one where there are more stones than
--- points, and otherwise their pair.
+-- What two numbers of stones make on n points: a refusal where one of them isn't 3 to 9, then one
+-- where there are more stones than points, and otherwise their pair.
 abbrev pub pair_made : ℕ → ℕ → ℕ → Result Counts PairFault
 pair_made n a b =
     if is_between 3 a 9 && is_between 3 b 9 then (if nat_le (a + b) n then Ok (ordered a b) else Err fault.Crowded) else Err fault.Counts
@@ -49,7 +53,8 @@ pub record IsHalf (n own other : ℕ) : Type 0 where
   pub other_most : other ≤ 9
   pub fits : own + other ≤ n
 
--- whether a position has the pair's numbers of stones in the given order: the first number is the player's to move
+-- whether a position has the pair's numbers of stones in the given order: the first number is the
+-- player's to move
 abbrev pub has_counts : ℕ → ℕ → Sides → Bool
 has_counts a b s = nat_eq (count_of s.own) a && nat_eq (count_of s.other) b
 
@@ -57,13 +62,15 @@ has_counts a b s = nat_eq (count_of s.own) a && nat_eq (count_of s.other) b
 abbrev pub is_of : Counts → Sides → Bool
 is_of c s = has_counts c.greater c.lesser s || has_counts c.lesser c.greater s
 
--- How many positions the pair has: with a = b one half, else the half (a, b) and then the half (b, a).
+-- How many positions the pair has: with a = b one half, else the half (a, b) and then the half (b,
+-- a).
 unfoldable pub size_of : ℕ → Counts → ℕ
 size_of n c =
     if nat_eq c.greater c.lesser then half_size n c.greater c.lesser
     else half_size n c.greater c.lesser + half_size n c.lesser c.greater
 
--- The index of a position in its pair: the positions with a own stones stand first, those with b follow.
+-- The index of a position in its pair: the positions with a own stones stand first, those with b
+-- follow.
 unfoldable pub index_of : ℕ → Counts → Sides → ℕ
 index_of n c s = if nat_eq (count_of s.own) c.greater then half_index n s else half_size n c.greater c.lesser + half_index n s
 
@@ -92,7 +99,8 @@ all_pairs =
 abbrev pub is_below : Counts → Counts → Bool
 is_below c d = nat_le d.greater c.greater && nat_le d.lesser c.lesser
 
--- the pairs below a pair, itself among them, in that order; and those of them that come after the first `place` of all pairs
+-- the pairs below a pair, itself among them, in that order; and those of them that come after the
+-- first `place` of all pairs
 unfoldable pub below_of : Counts → List Counts
 below_of c = filter (is_below c) all_pairs
 

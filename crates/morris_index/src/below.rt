@@ -43,7 +43,9 @@ const PAIRS: [(u8, u8); 28] = [
 #[derive(Drop)]
 #[derive_where(Debug)]
 pub struct Below<B: Geometry> {
+    /// The pair.
     pair: Pair<B>,
+    /// How many of all pairs are passed.
     place: usize,
 }
 

@@ -1,12 +1,13 @@
-//! The half of a pair: the positions in which the player to move and the opponent have given numbers of stones.
-ghost use Rattle.std.specs.Prelude.{◌≡◌, ◌+◌, ◌<◌, ◌≤◌, ◌^◌, true};
+//! The half of a pair: the positions in which the player to move and the opponent have given
+//! numbers of stones.
+ghost use Rattle.std.specs.Prelude.{◌≡◌, ◌+◌, ◌<◌, ◌≤◌, ◌^◌, true, IfSome};
 ghost use Rattle.morris_board.specs.Sets.{count_of};
 ghost use Rattle.morris_board.specs.Positions.{IsPosition};
 ghost use Rattle.morris_index.specs.Numbering.{half_size, half_index};
 ghost use Rattle.morris_index.specs.Pairs.{has_counts, IsHalf};
 
 use crate::binomials::binomial;
-use crate::ranks::{rank, unrank};
+use crate::ranks::{following, rank, unrank};
 use morris_board::board::Geometry;
 use morris_board::points::Points;
 use morris_board::position::Position;
@@ -32,7 +33,8 @@ pub(crate) fn half_index<B: Geometry>(position: &Position<B>) -> u64
     rank(own, Points::EMPTY) * choices + rank(other, own)
 }
 
-/// The position with this index among those with `own` stones of the player to move and `other` of the opponent.
+/// The position with this index among those with `own` stones of the player to move and `other` of
+/// the opponent.
 pub(crate) fn half_position<B: Geometry>(own: u8, other: u8, index: u64) -> Position<B>
     requires half { IsHalf B.POINTS own other }
     requires small { index < half_size B.POINTS own other }
@@ -46,5 +48,21 @@ pub(crate) fn half_position<B: Geometry>(own: u8, other: u8, index: u64) -> Posi
     match Position::new(own_points, other_points) {
         Ok(position) => position,
         Err(_) => unreachable!(),
+    }
+}
+
+/// The position that comes next among those with the same points of the player to move and as many
+/// stones of the opponent.
+pub(crate) fn next_of_own<B: Geometry>(position: &Position<B>) -> Option<Position<B>>
+    ensures index { IfSome result (λ next. half_index B.POINTS next ≡ half_index B.POINTS position.now + 1) }
+    ensures own { IfSome result (λ next. next.own ≡ position.now.own) }
+    ensures other { IfSome result (λ next. count_of next.other ≡ count_of position.now.other) }
+    ensures lawful { IfSome result (IsPosition B.shape) }
+{
+    let own = position.own();
+    let other = following(B::POINTS, own, position.other())?;
+    match Position::new(own, other) {
+        Ok(next) => Some(next),
+        Err(_) => None,
     }
 }

@@ -6,6 +6,9 @@ mod binomials;
 pub mod faults;
 mod halves;
 pub mod pair;
+pub mod predecessors;
 mod ranks;
+pub mod successors;
+mod sums;
 #[cfg(test)]
 mod tests;

@@ -1,23 +1,28 @@
 //! Pairs of numbers of stones.
-ghost use Rattle.std.specs.Prelude.{◌≡◌, ◌<◌, ◌≤◌, ◌^◌, ◌++◌, length, true, IfSome};
+ghost use Rattle.std.specs.Prelude.{◌≡◌, ◌+◌, ◌<◌, ◌≤◌, ◌^◌, ◌++◌, length, true, IfSome};
 ghost use Rattle.std.specs.Option.{option_to_list};
 ghost use Rattle.morris_board.specs.Positions.{Sides, IsPosition, is_between};
 ghost use Rattle.morris_index.specs.Pairs.{counts, IsPair, pair_made, pair_of, is_of, size_of, index_of, needs_of, needed, below_of, EndsIn, NeedsFirst};
+ghost use Rattle.morris_index.specs.Moves.{start_of};
 
 use crate::below::Below;
 use crate::faults::PairFault;
-use crate::halves::{half_index, half_position, half_size};
+use crate::halves::{half_index, half_position, half_size, next_of_own};
 use morris_board::board::Geometry;
 use morris_board::position::Position;
 use std::fmt;
 use std::marker::{Model, PhantomData};
 
-/// Two numbers of stones, each 3 to 9 and together no more than the board has points. The pair stands for all positions in which one
-/// player has the greater number and the other the lesser one.
+/// Two numbers of stones, each 3 to 9 and together no more than the board has points. The pair
+/// stands for all positions in which one player has the greater number and the other the lesser
+/// one.
 #[derive_where(Clone, Copy, Debug, PartialEq, Eq)]
 pub struct Pair<B: Geometry> {
+    /// The greater number.
     greater: u8,
+    /// The lesser number.
     lesser: u8,
+    /// The board, of which nothing is kept.
     #[derive_where(skip)]
     board: PhantomData<B>,
 }
@@ -38,8 +43,8 @@ impl<B: Geometry> Pair<B> {
     /// The pair of two numbers of stones, given in either order.
     ///
     /// # Errors
-    /// [`PairFault::Counts`] where a number isn't 3 to 9, else [`PairFault::Crowded`] where the board has fewer points than there are
-    /// stones.
+    /// [`PairFault::Counts`] where a number isn't 3 to 9, else [`PairFault::Crowded`] where the
+    /// board has fewer points than there are stones.
     pub fn new(a: u8, b: u8) -> Result<Pair<B>, PairFault>
         ensures { result ≡ pair_made B.POINTS a b }
     {
@@ -88,9 +93,10 @@ impl<B: Geometry> Pair<B> {
         self.lesser
     }
 
-    /// The pairs that captures from this one lead to, so that its values rest on theirs: the one with one stone less in the lesser
-    /// number, where that is above 3, and then the one with one stone less in the greater number, where that is above the lesser one.
-    /// Those that there are stand first.
+    /// The pairs that captures from this one lead to, so that its values rest on theirs: the one
+    /// with one stone less in the lesser number, where that is above 3, and then the one with one
+    /// stone less in the greater number, where that is above the lesser one. Those that there are
+    /// stand first.
     pub fn needs(&self) -> (Option<Pair<B>>, Option<Pair<B>>)
         ensures value { result ≡ needs_of self.now }
         ensures all { option_to_list result.0 ++ option_to_list result.1 ≡ needed self.now }
@@ -108,8 +114,9 @@ impl<B: Geometry> Pair<B> {
         }
     }
 
-    /// The pairs whose greater and lesser numbers are at most those of this pair, in order of the sum of their numbers and then of the
-    /// greater one. Each stands after the pairs that it needs, and the last one is this pair.
+    /// The pairs whose greater and lesser numbers are at most those of this pair, in order of the
+    /// sum of their numbers and then of the greater one. Each stands after the pairs that it needs,
+    /// and the last one is this pair.
     pub fn below(&self) -> Below<B>
         ensures pairs { result ≡ below_of self.now }
         ensures few { length (below_of self.now) ≤ 28 }
@@ -134,9 +141,24 @@ impl<B: Geometry> Pair<B> {
         }
     }
 
-    /// The index of a position of the pair, below [`Pair::size`]. The positions in which the player to move has the greater number of
-    /// stones come first, then those in which it is the opponent. Within either half they are ordered by the points of the player to
-    /// move, and then by the points of the opponent.
+    /// The index of the first position in which the player to move has `own` stones, one of the
+    /// pair's numbers.
+    pub(crate) fn start_of(&self, own: u8) -> u64
+        ensures value { result ≡ start_of B.POINTS self.now own }
+        ensures few { result ≤ 2 ^ 39 }
+        ensures lawful { IsPair B.POINTS self.now }
+    {
+        if own == self.greater {
+            0
+        } else {
+            half_size::<B>(self.greater, self.lesser)
+        }
+    }
+
+    /// The index of a position of the pair, below [`Pair::size`]. The positions in which the player
+    /// to move has the greater number of stones come first, then those in which it is the opponent.
+    /// Within either half they are ordered by the points of the player to move, and then by the
+    /// points of the opponent.
     pub fn index(&self, position: &Position<B>) -> u64
         requires { is_of self.now position.now ≡ true }
         ensures value { result ≡ index_of B.POINTS self.now position.now }
@@ -164,6 +186,23 @@ impl<B: Geometry> Pair<B> {
             half_position(self.greater, self.lesser, index)
         } else {
             half_position(self.lesser, self.greater, index - first)
+        }
+    }
+
+    /// [`Pair::position`], where the position before is at hand. It is found from that one while
+    /// the points of the player to move stay the same.
+    pub fn following(&self, before: &Position<B>, index: u64) -> Position<B>
+        requires counts { is_of self.now before.now ≡ true }
+        requires before { index_of B.POINTS self.now before.now + 1 ≡ index }
+        requires inside { index < size_of B.POINTS self.now }
+        ensures index { index_of B.POINTS self.now result ≡ index }
+        ensures counts { is_of self.now result ≡ true }
+        ensures lawful { IsPosition B.shape result }
+        ensures alone { (s : Sides) → IsPosition B.shape s → is_of self.now s ≡ true → index_of B.POINTS self.now s ≡ index → result ≡ s }
+    {
+        match next_of_own(before) {
+            Some(next) => next,
+            None => self.position(index),
         }
     }
 }

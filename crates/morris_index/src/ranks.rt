@@ -1,6 +1,6 @@
 //! Ranks of sets of points.
-ghost use Rattle.std.specs.Prelude.{◌≡◌, ℕ, ◌<◌, ◌≤◌, ◌^◌, nat_lt, length, filter, map};
-ghost use Rattle.morris_board.specs.Sets.{members, count_of};
+ghost use Rattle.std.specs.Prelude.{◌≡◌, ℕ, suc, ◌<◌, ◌≤◌, ◌^◌, true, false, nat_lt, length, filter, map, MatchOption};
+ghost use Rattle.morris_board.specs.Sets.{has, members, count_of};
 ghost use Rattle.morris_index.specs.Binomials.{choose};
 ghost use Rattle.morris_index.specs.Numbering.{rank_of, number_outside, IsRanked};
 
@@ -23,7 +23,7 @@ pub(crate) fn rank(set: Points, outside: Points) -> u64
 }
 
 /// The number of `point` among the points that aren't in `outside`, in ascending order.
-fn number_outside(outside: Points, point: u8) -> u8
+pub(crate) fn number_outside(outside: Points, point: u8) -> u8
     requires { point < 32 }
     ensures { result ≡ number_outside outside point }
 {
@@ -56,4 +56,46 @@ pub(crate) fn unrank(points: u8, outside: Points, count: u8, rank: u64) -> Point
         }
     }
     taken
+}
+
+/// The set of the least `count` points below `end` that aren't in `outside`.
+fn least(end: u8, outside: Points, count: u8) -> Points
+    requires board { end < 32 }
+    requires fits { count ≤ number_outside outside end }
+    ensures { IsRanked end outside count 0 result }
+{
+    let mut found = Points::EMPTY;
+    let mut left = count;
+    for point in 0..end {
+        if left == 0 {
+            return found;
+        }
+        if !outside.has(point) {
+            found = found.with(point);
+            left -= 1;
+        }
+    }
+    found
+}
+
+/// The set of as many points below `points`, none of them in `outside`, that comes next in the
+/// order of ranks.
+pub(crate) fn following(points: u8, outside: Points, set: Points) -> Option<Points>
+    requires board { points ≤ 24 }
+    requires within { set < 2 ^ points }
+    requires apart { (p : ℕ) → has set p ≡ true → has outside p ≡ false }
+    ensures { MatchOption result
+        (suc (rank_of (map (number_outside outside) (members set))) ≡ choose (number_outside outside points) (count_of set))
+        (λ next. IsRanked points outside (count_of set) (suc (rank_of (map (number_outside outside) (members set)))) next) }
+{
+    let mut passed = 0;
+    for point in 0..points {
+        if set.has(point) {
+            passed += 1;
+        } else if !outside.has(point) && passed > 0 {
+            let least = least(point, outside, passed - 1);
+            return Some(set.less(Points::below(point)).with(point).joined(least));
+        }
+    }
+    None
 }

@@ -1,5 +1,7 @@
 use crate::faults::PairFault;
 use crate::pair::Pair;
+use crate::predecessors::PredecessorIndices;
+use crate::successors::SuccessorIndices;
 use morris_board::board::Geometry;
 use morris_board::grid::Grid;
 use morris_board::nine::Nine;
@@ -129,4 +131,109 @@ fn position_and_index_are_inverse_on_grid(rt: HostRuntime) -> Result<(), Fail> {
 fn position_and_index_are_inverse_on_nine(rt: HostRuntime) -> Result<(), Fail> {
     assert_inverse(&rt, &Pair::<Nine>::new(3, 3)?, 1);
     Ok(())
+}
+
+/// Each position of a pair but the first is the one that follows the position before it.
+fn assert_following<B: Geometry>(rt: &impl Abort, pair: &Pair<B>) {
+    for index in 1..pair.size() {
+        let before = pair.position(index - 1);
+        let position = pair.position(index);
+        let next = pair.following(&before, index);
+        assert!(rt; next.own() == position.own() && next.other() == position.other());
+    }
+}
+
+#[test]
+fn positions_follow_one_another_on_grid(rt: HostRuntime) -> Result<(), Fail> {
+    assert_following(&rt, &Pair::<Grid>::new(3, 3)?);
+    assert_following(&rt, &Pair::<Grid>::new(4, 3)?);
+    Ok(())
+}
+
+/// The index of the position in which the opponent is to move and the stone on `from` stands on
+/// `to`, by the text of that position.
+fn index_by_text<B: Geometry>(
+    rt: &impl Abort,
+    alloc: Global,
+    pair: &Pair<B>,
+    position: &Position<B>,
+    from: u8,
+    to: u8,
+) -> Result<u64, Fail> {
+    let mut text = vec![in alloc; b'.'; B::POINTS as usize]?;
+    position.write_to(&mut text);
+    for character in text.iter_mut() {
+        *character = match *character {
+            b'X' => b'O',
+            b'O' => b'X',
+            other => other,
+        };
+    }
+    assert!(rt; (from as usize) < text.len() && (to as usize) < text.len());
+    text.swap(from as usize, to as usize);
+    let moved = Position::<B>::read(&text)?;
+    assert!(rt; Pair::of(&moved) == Some(*pair));
+    Ok(pair.index(&moved))
+}
+
+/// The index once the stone on `from`, if there is one, has gone to `to`, if that is vacant.
+fn assert_moved<B: Geometry>(
+    rt: &impl Abort,
+    alloc: Global,
+    pair: &Pair<B>,
+    index: u64,
+    from: u8,
+    to: u8,
+) -> Result<(), Fail> {
+    assert!(rt; index < pair.size() && from < B::POINTS && to < B::POINTS);
+    let position = pair.position(index);
+    if position.own().has(to) || position.other().has(to) {
+        return Ok(());
+    }
+    if position.own().has(from) {
+        let wanted = index_by_text(rt, alloc, pair, &position, from, to)?;
+        assert_eq!(rt;
+            SuccessorIndices::of(pair, &position).index(from, to),
+            wanted
+        );
+    }
+    if position.other().has(from) {
+        let wanted = index_by_text(rt, alloc, pair, &position, from, to)?;
+        assert_eq!(rt;
+            PredecessorIndices::of(pair, &position).index(to, from),
+            wanted
+        );
+    }
+    Ok(())
+}
+
+/// The indices after all moves of one stone, at every `step`th index.
+fn assert_all_moved<B: Geometry>(
+    rt: &impl Abort,
+    alloc: Global,
+    pair: &Pair<B>,
+    step: usize,
+) -> Result<(), Fail> {
+    assert!(rt; step > 0);
+    for index in (0..pair.size()).step_by(step) {
+        for from in 0..B::POINTS {
+            for to in 0..B::POINTS {
+                assert_moved(rt, alloc, pair, index, from, to)?;
+            }
+        }
+    }
+    Ok(())
+}
+
+#[test]
+fn indices_of_moved_stones_on_grid(rt: HostRuntime) -> Result<(), Fail> {
+    assert_all_moved(&rt, rt.alloc(), &Pair::<Grid>::new(3, 3)?, 1)?;
+    assert_all_moved(&rt, rt.alloc(), &Pair::<Grid>::new(4, 3)?, 1)
+}
+
+#[test]
+fn indices_of_moved_stones_on_nine(rt: HostRuntime) -> Result<(), Fail> {
+    assert_all_moved(&rt, rt.alloc(), &Pair::<Nine>::new(3, 3)?, 26_417)?;
+    assert_all_moved(&rt, rt.alloc(), &Pair::<Nine>::new(4, 3)?, 240_007)?;
+    assert_all_moved(&rt, rt.alloc(), &Pair::<Nine>::new(9, 9)?, 12_345_678_901)
 }

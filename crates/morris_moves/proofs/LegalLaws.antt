@@ -1,4 +1,5 @@
--- The legal moves: the list of them has exactly those that pass the test, and what is known of each.
+-- The legal moves: the list of them has exactly those that pass the test, and what is known of
+-- each.
 use Rattle.std.proofs.Common.{◌≡◌, ℕ, ◌<◌, ◌≤◌, Bool, true, false, not, ◌&&◌, cond, eqb, ltb, [], ◌↔◌, refl, sym, ap, ◌∙◌, inl, inr, arith, Option, Some, None}
 use Rattle.std.proofs.lemmas.Bool.{cases_Bool, eqb-true, ltb-true, and_parts, and_right, and_from, or_parts, not-true, not_from_false, both_ways, false_from_ne_true}
 use Rattle.std.specs.List.{Contains}

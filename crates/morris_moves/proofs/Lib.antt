@@ -1,8 +1,11 @@
 pub mod ListLaws
 pub mod SetLaws
-pub mod BoardLaws
+pub mod MaskLaws
 pub mod LegalLaws
 pub mod ResultLaws
+pub mod BackLaws
 pub mod OrderLaws
 pub mod ListingLaws
+pub mod BackListLaws
 pub mod ValueLaws
+pub mod BlockedLaws

@@ -16,10 +16,10 @@ use Rattle.morris_moves.proofs.LegalLaws.{moves_to_is, takable_is_other}
 
 -- ---- order
 
-by_from : (m n : Move) → m.from < n.from → Precedes m n
+pub by_from : (m n : Move) → m.from < n.from → Precedes m n
 by_from m n h = or_left _ _ (lt-ltb _ _ h)
 
-by_to : (m n : Move) → m.from ≡ n.from → m.to < n.to → Precedes m n
+pub by_to : (m n : Move) → m.from ≡ n.from → m.to < n.to → Precedes m n
 by_to m n e h = or_right _ _ (and_from _ _ (eq-eqb _ _ e) (or_left _ _ (lt-ltb _ _ h)))
 
 by_taken : (u v t r : ℕ) → t < r → Precedes (move u v (Some t)) (move u v (Some r))

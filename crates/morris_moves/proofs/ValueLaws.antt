@@ -1,4 +1,5 @@
--- The value of a position: what is lost or won within n plies stays so, is never both, and has one depth, even where lost and odd where won.
+-- The value of a position: what is lost or won within n plies stays so, is never both, and has one
+-- depth, even where lost and odd where won.
 use Rattle.std.proofs.Common.{◌≡◌, ℕ, zero, suc, ◌+◌, ◌-◌, ◌*◌, ◌/◌, ◌%◌, ◌<◌, ◌≤◌, true, false, refl, sym, ap, subst, ◌∙◌, inl, inr, ◌⊎◌, arith}
 use Rattle.std.proofs.lemmas.Bool.{cases_Bool, cases_eq, cases_lt, both_ways}
 use Rattle.std.specs.List.{list_all, list_any}

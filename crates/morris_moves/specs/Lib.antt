@@ -1,5 +1,6 @@
 pub mod Rules
 pub mod Order
+pub mod Backward
 pub mod Listing
 pub mod Values
 pub mod MoveText

@@ -1,4 +1,5 @@
--- The rules of a move: where a stone may go, when a mill closes, what may be taken, and what comes of it.
+-- The rules of a move: where a stone may go, when a mill closes, what may be taken, and what comes
+-- of it.
 use Rattle.std.specs.Prelude.{ℕ, Bool, not, ◌&&◌, ◌||◌, nat_eq, nat_lt, List, [], ◌∷◌, map, Option, Some, None, if◌then◌else◌}
 use Rattle.std.specs.List.{list_any, flat_map}
 use Rattle.morris_board.specs.Sets.{has, members, count_of, with_point, without_point, is_within, set_where}
@@ -22,16 +23,21 @@ closes board own u v = in_mill board (moved own u v) v
 abbrev pub is_vacant : Sides → ℕ → Bool
 is_vacant s v = not (has s.own v || has s.other v)
 
--- Where a stone on u may go: with more than three stones to an adjacent vacant point (a slide), with exactly three to any vacant
--- point (a jump), and with fewer nowhere.
+-- Between which points a stone of a player with n stones goes where nothing stands in its way: with
+-- more than three stones between adjacent points (a slide), with exactly three between any two (a
+-- jump), and with fewer nowhere.
+abbrev pub goes : Shape → ℕ → ℕ → ℕ → Bool
+goes board n u v = if nat_lt 3 n then is_adjacent board u v else nat_eq n 3
+
+-- a stone on u may go to a vacant point
 unfoldable pub may_go : Shape → Sides → ℕ → ℕ → Bool
-may_go board s u v = is_vacant s v && (if nat_lt 3 (count_of s.own) then is_adjacent board u v else nat_eq (count_of s.own) 3)
+may_go board s u v = is_vacant s v && goes board (count_of s.own) u v
 
 unfoldable pub reach : Shape → Sides → ℕ → ℕ
 reach board s u = set_where board.points (may_go board s u)
 
--- What a move that closes a mill may take: a stone of the opponent that stands in none of the opponent's mills, and any stone where
--- each stands in one.
+-- What a move that closes a mill may take: a stone of the opponent that stands in none of the
+-- opponent's mills, and any stone where each stands in one.
 unfoldable pub free_stones : Shape → ℕ → ℕ
 free_stones board other = set_where board.points (λ t. has other t && not (in_mill board other t))
 
@@ -41,16 +47,19 @@ takable board other = if nat_eq (free_stones board other) 0 then other else free
 abbrev pub move : ℕ → ℕ → Option ℕ → Move
 move u v t = record { from = u; to = v; taken = t }
 
--- Whether a move takes what it must: exactly one takable stone where it closes a mill, and none where it doesn't.
+-- Whether a move takes what it must: exactly one takable stone where it closes a mill, and none
+-- where it doesn't.
 abbrev pub takes_rightly : Shape → Sides → ℕ → ℕ → Option ℕ → Bool
 takes_rightly board s u v None = not (closes board s.own u v)
 takes_rightly board s u v (Some t) = closes board s.own u v && has (takable board s.other) t
 
--- A legal move goes from a stone of the player to move to a point in its reach, and takes what it must.
+-- A legal move goes from a stone of the player to move to a point in its reach, and takes what it
+-- must.
 unfoldable pub is_legal : Shape → Sides → Move → Bool
 is_legal board s m = has s.own m.from && (has (reach board s m.from) m.to && takes_rightly board s m.from m.to m.taken)
 
--- The legal moves, each once, in order of from, then to, then taken: a move that closes a mill is one for each takable stone.
+-- The legal moves, each once, in order of from, then to, then taken: a move that closes a mill is
+-- one for each takable stone.
 abbrev pub captures : ℕ → ℕ → ℕ → List Move
 captures u v takes = map (λ t. move u v (Some t)) (members takes)
 

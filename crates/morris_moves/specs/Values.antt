@@ -1,4 +1,5 @@
--- The value of a position: lost, won or drawn, and in how many plies, looking forward over the legal moves.
+-- The value of a position: lost, won or drawn, and in how many plies, looking forward over the
+-- legal moves.
 use Rattle.std.specs.Prelude.{◌≡◌, ℕ, zero, suc, ◌<◌, ◌≤◌, Bool, true, false}
 use Rattle.std.specs.List.{list_any, list_all}
 use Rattle.morris_board.specs.Boards.{Shape}
@@ -7,8 +8,9 @@ use Rattle.morris_moves.specs.Rules.{moves_of, result_of}
 use Rattle.morris_moves.specs.declared.search.Within.{Within}
 use Rattle.morris_moves.specs.declared.search.Within.TheVariants.{Lost, Won, Unknown}
 
--- The player to move has lost within n plies: there is no legal move, or n > 0 and the result of every legal move is won within n - 1.
--- The player to move has won within n plies: n > 0 and the result of some legal move is lost within n - 1.
+-- The player to move has lost within n plies: there is no legal move, or n > 0 and the result of
+-- every legal move is won within n - 1. The player to move has won within n plies: n > 0 and the
+-- result of some legal move is lost within n - 1.
 unfoldable mutual
   pub is_lost : ℕ → Shape → Sides → Bool
   is_lost zero board s = list_all (λ m. false) (moves_of board s)
@@ -37,7 +39,8 @@ pub record IsWonIn (board : Shape) (s : Sides) (d : ℕ) : Type 0 where
 pub record IsDraw (board : Shape) (s : Sides) : Type 0 where
   pub never : (n : ℕ) → IsOpen board s n
 
--- what a search to n plies answers: the value where its depth is at most n, and otherwise that it is open within n
+-- what a search to n plies answers: the value where its depth is at most n, and otherwise that it
+-- is open within n
 abbrev pub AnswersWithin : Shape → Sides → ℕ → Within → Type 0
 AnswersWithin board s n (Lost d) = (d ≤ n) × IsLostIn board s d
 AnswersWithin board s n (Won d) = (d ≤ n) × IsWonIn board s d

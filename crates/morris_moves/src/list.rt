@@ -10,19 +10,21 @@ use morris_board::points::Points;
 use morris_board::position::Position;
 use std::marker::Model;
 
-/// An iterator over the legal moves of a position, each once, in order of the point that the stone leaves, then of the one it goes to, then of the
-/// stone that is taken.
+/// An iterator over the legal moves of a position, each once, in order of the point that the stone
+/// leaves, then of the one it goes to, then of the stone that is taken.
 #[derive(Drop)]
 #[derive_where(Debug)]
 pub struct Moves<B: Geometry> {
     position: Position<B>,
     /// The stones whose moves are still to come.
     from_left: Points,
-    /// The stone whose moves are listed now, and the points that are still to come of those it may go to.
+    /// The stone whose moves are listed now.
     from: u8,
+    /// The points that are still to come of those it may go to.
     to_left: Points,
-    /// The point to which the captures that are listed now go, and the stones that are still to come of those that it may take.
+    /// The point to which the captures that are listed now go.
     to: u8,
+    /// The stones that are still to come of those that these captures may take.
     take_left: Points,
 }
 
@@ -35,7 +37,7 @@ impl<B: Geometry> Model for Moves<B> {
 
     ghost view = { λ list. moves_left B.shape list.position list.from_left list.from list.to_left list.to list.take_left };
 
-    ghost invariant = { λ list. (list.from_left < 2 ^ B.POINTS) × (list.from < 32) };
+    ghost invariant = { λ list. (list.from_left < 2 ^ B.POINTS) × (list.from < 32) × (list.to_left < 2 ^ B.POINTS) };
 }
 
 impl<B: Geometry> Moves<B> {

@@ -2,13 +2,14 @@
 ghost use Rattle.std.specs.Prelude.{◌≡◌, ℕ, ◌≤◌};
 ghost use Rattle.morris_moves.specs.Values.{is_lost, is_won, AnswersWithin, IsLostIn, IsWonIn, IsOpen};
 
-use crate::rules::{moves, play};
+use crate::rules::{moves, play, reach};
 use crate::search::Within;
 use morris_board::board::Geometry;
+use morris_board::points::Points;
 use morris_board::position::Position;
 
-/// The value of a position where its depth is at most `plies`, and otherwise that it is open. `plies` is at most 6. It looks forward over
-/// the legal moves, one ply more at a time.
+/// The value of a position where its depth is at most `plies`, and otherwise that it is open.
+/// `plies` is at most 6. It looks forward over the legal moves, one ply more at a time.
 pub fn within<B: Geometry>(position: &Position<B>, plies: u8) -> Within
     requires { plies ≤ 6 }
     ensures answer { AnswersWithin B.shape position.now plies result }
@@ -29,13 +30,26 @@ pub fn within<B: Geometry>(position: &Position<B>, plies: u8) -> Within
     Within::Unknown
 }
 
+/// Whether the player to move has no legal move, and so has lost at once. No move is made for it: a
+/// stone that may go somewhere has a legal move, since what a move must take is always there.
+fn is_blocked<B: Geometry>(position: &Position<B>) -> bool
+    ensures { result ≡ is_lost 0 B.shape position.now }
+{
+    for from in position.own().iter() {
+        if reach(position, from) != Points::EMPTY {
+            return false;
+        }
+    }
+    true
+}
+
 /// Whether the player to move has lost within `plies`.
 #[cycle(look_ahead)]
 fn is_lost<B: Geometry>(position: &Position<B>, plies: u8) -> bool
     ensures { result ≡ is_lost plies B.shape position.now }
 {
     if plies == 0 {
-        return moves(position).next().is_none();
+        return is_blocked(position);
     }
     for m in moves(position) {
         if !is_won(&play(position, m), plies - 1) {

@@ -4,7 +4,8 @@ ghost use Rattle.morris_moves.specs.MoveText.{move_text};
 
 use std::fmt;
 
-/// A move of one stone from a point to another, and the stone of the opponent that it takes from the board, if any.
+/// A move of one stone from a point to another, and the stone of the opponent that it takes from
+/// the board, if any.
 ///
 /// It is printed as `3-2`, and with a capture as `3-2x22`.
 #[derive(Clone, Copy, PartialEq, Eq, Debug)]
@@ -13,7 +14,8 @@ pub struct Move {
     pub from: u8,
     /// The point that it goes to.
     pub to: u8,
-    /// The point of the stone that is taken: one where the move closes a mill, none where it doesn't.
+    /// The point of the stone that is taken: one where the move closes a mill, none where it
+    /// doesn't.
     pub taken: Option<u8>,
 }
 

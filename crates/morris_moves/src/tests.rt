@@ -1,5 +1,5 @@
 use crate::look_ahead::within;
-use crate::rules::{is_legal, moves, play};
+use crate::rules::{backs, is_legal, moves, play};
 use crate::search::Within;
 use crate::step::Move;
 use morris_board::board::Geometry;
@@ -10,7 +10,8 @@ use std::alloc::Global;
 use std::process::Abort;
 use std::test::Fail;
 
-/// The legal moves of the position that a text shows, each as it is printed, with a space after it. Each is legal.
+/// The legal moves of the position that a text shows, each as it is printed, with a space after it.
+/// Each is legal.
 fn listed<B: Geometry>(rt: &impl Abort, alloc: Global, text: &[u8]) -> Result<String, Fail> {
     let position = Position::<B>::read(text)?;
     let mut list = String::new(alloc);
@@ -51,6 +52,7 @@ fn the_legal_moves_are_listed_in_order(rt: HostRuntime) -> Result<(), Fail> {
     Ok(())
 }
 
+/// A quiet move.
 fn slide(from: u8, to: u8) -> Move {
     Move {
         from,
@@ -59,6 +61,7 @@ fn slide(from: u8, to: u8) -> Move {
     }
 }
 
+/// A move that takes the stone on `taken`.
 fn capture(from: u8, to: u8, taken: u8) -> Move {
     Move {
         from,
@@ -117,6 +120,83 @@ fn a_move_is_played(rt: HostRuntime) -> Result<(), Fail> {
     Ok(())
 }
 
+/// The quiet moves that lead to the position that a text shows, each as it is printed, with a space
+/// after it. Each is legal in the position before it and leads to the position.
+fn taken_back<B: Geometry>(rt: &impl Abort, alloc: Global, text: &[u8]) -> Result<String, Fail> {
+    let position = Position::<B>::read(text)?;
+    let mut list = String::new(alloc);
+    for (before, m) in backs(&position) {
+        assert!(rt; m.taken.is_none() && is_legal(&before, m), "{m}");
+        assert!(rt; is_same(&play(&before, m), &position), "{m}");
+        list.push_str(format!(in alloc; "{m} ")?.as_str())?;
+    }
+    Ok(list)
+}
+
+/// Whether two positions have the same stones.
+fn is_same<B: Geometry>(one: &Position<B>, two: &Position<B>) -> bool {
+    one.own() == two.own() && one.other() == two.other()
+}
+
+#[test]
+fn quiet_moves_are_taken_back_in_order(rt: HostRuntime) -> Result<(), Fail> {
+    let table: [(&[u8], &str); 4] = [
+        (b"OO.OXX.X.", "2-0 2-1 2-3 6-0 6-1 6-3 8-0 8-1 8-3 "),
+        // Each stone of the opponent stands in a mill.
+        (b"OOOXXX...", ""),
+        // One of four stones stands in no mill, and it slid.
+        (b"OOOXX.X.O", "5-8 7-8 "),
+        // The player to move has two stones, so the opponent of the one who moved had too few.
+        (b"OO.OX..X.", ""),
+    ];
+    for (text, wanted) in table {
+        assert_eq!(rt; taken_back::<Grid>(&rt, rt.alloc(), text)?.as_str(), wanted);
+    }
+    let position = Position::<Grid>::read(b"OO.OXX.X.")?;
+    assert_eq!(rt; backs(&position).count(), 9);
+    let position = Position::<Nine>::read(b"OO.X.X.X..........O.....")?;
+    assert_eq!(rt; backs(&position).count(), 54);
+    Ok(())
+}
+
+/// The text with this number: its characters are the digits to base 3, the lowest first.
+fn numbered(number: u16) -> [u8; 9] {
+    let mut text = [0; 9];
+    let mut rest = number;
+    for character in text.iter_mut() {
+        *character = [b'.', b'X', b'O'][(rest % 3) as usize];
+        rest /= 3;
+    }
+    text
+}
+
+/// Each quiet move of each position of Grid is among those that are taken back from its result, and
+/// these are as many together.
+#[test]
+fn what_is_taken_back_are_the_quiet_moves(rt: HostRuntime) {
+    let mut played = 0_u32;
+    let mut taken_back = 0_u32;
+    for number in 0..19683 {
+        if let Ok(position) = Position::<Grid>::read(&numbered(number)) {
+            for m in moves(&position) {
+                if m.taken.is_none() {
+                    played = played.wrapping_add(1);
+                    let mut found = false;
+                    for (before, quiet) in backs(&play(&position, m)) {
+                        found = found || quiet == m && is_same(&before, &position);
+                    }
+                    assert!(rt; found, "{m}");
+                }
+            }
+            for _ in backs(&position) {
+                taken_back = taken_back.wrapping_add(1);
+            }
+        }
+    }
+    assert!(rt; played > 0);
+    assert_eq!(rt; played, taken_back);
+}
+
 #[test]
 fn the_search_gives_the_value_or_none(rt: HostRuntime) -> Result<(), Fail> {
     let table: [(&[u8], u8, Within); 12] = [
@@ -151,6 +231,8 @@ fn positions_of_nine(rt: HostRuntime) -> Result<(), Fail> {
     // X {0,1,12}, O {5,14,19}
     let two_in_a_mill = Position::<Nine>::read(b"XX...O......X.O....O....")?;
     assert_eq!(rt; within(&two_in_a_mill, 1), Within::Won(1));
+    let captures = listed::<Nine>(&rt, rt.alloc(), b"XX...O......X.O....O....")?;
+    assert!(rt; captures.as_str().contains(" 12-2x5 12-2x14 12-2x19 "));
     let all_in_mills = listed::<Nine>(&rt, rt.alloc(), b"XX..........X...OOO.....")?;
     assert!(rt; all_in_mills.as_str().contains("12-2x16 12-2x17 12-2x18 "));
     assert_eq!(rt;

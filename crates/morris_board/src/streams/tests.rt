@@ -217,6 +217,11 @@ fn the_adapters_read_and_write_memory(rt: HostRuntime) -> Result<(), Fail> {
     assert_eq!(rt; put_score(&mut sink, b"moves ", 9), Ok(8));
     assert_eq!(rt; sink.failures(), 0);
     assert_eq!(rt; sink.into_inner().as_slice(), b"moves 9\n".as_slice());
+
+    let long = "X".repeat(rt.alloc(), 100_000)?;
+    let mut sink = IntoWrite::new(Vec::new(rt.alloc()));
+    assert_eq!(rt; sink.write(long.as_bytes()), Ok(100_000));
+    assert_eq!(rt; sink.into_inner().as_slice(), long.as_bytes());
     Ok(())
 }
 

@@ -1,4 +1,4 @@
-use Rattle.std.proofs.Common.{◌≡◌, ◌∙◌, sym, refl, lit<}
+use Rattle.std.proofs.Common.{lit<}
 use Rattle.morris_board.specs.Boards.{grid}
 use Rattle.morris_board.proofs.PointsLaws.{has-none}
 use Rattle.morris_board.proofs.tests.two_sets_make_a_position_if_their_sizes_allow_it.Goals as goal

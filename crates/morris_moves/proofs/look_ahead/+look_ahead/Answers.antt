@@ -1,25 +1,14 @@
-use Rattle.std.proofs.Common.{◌≡◌, ◌-◌, ◌<◌, true, false, not, List, refl, sym, ap, ◌∙◌, arith, Option, Some, None}
-use Rattle.std.specs.List.{list_all}
-use Rattle.morris_moves.specs.declared.step.Move.{Move}
-use Rattle.morris_moves.specs.Rules.{moves_of, result_of}
+use Rattle.std.proofs.Common.{◌≡◌, ◌-◌, ◌<◌, true, false, sym, ap, ◌∙◌, arith}
+use Rattle.morris_moves.specs.Rules.{result_of}
 use Rattle.morris_moves.specs.Values.{is_lost, is_won}
-use Rattle.std.specs.Iterator.{YieldsFirst}
-use Rattle.std.specs.Option.{is_some}
-use Rattle.std.proofs.Math.Bool.{not-not}
 use Rattle.morris_moves.proofs.ListLaws.{all_stopped, any_stopped, all_done, any_done}
-use Rattle.morris_moves.proofs.ValueLaws.{lost_now, won_now, lost_next, won_next}
+use Rattle.morris_moves.proofs.ValueLaws.{won_now, lost_next, won_next}
 use Rattle.morris_moves.proofs.look_ahead.+look_ahead.Goals as goal
-
-nothing_first : (s t : List Move) (first : Option Move) → YieldsFirst (λ list. list) s first t → list_all (λ (m : Move). false) s ≡ not (is_some first)
-nothing_first s t None y = rw y.0 refl
-nothing_first s t (Some m) y = rw y refl
 
 pub is_lost-returns-then-plies-eq0 : goal.is_lost-returns-then-plies-eq0
 is_lost-returns-then-plies-eq0 g t c =
-    let listed : list_all (λ (m : Move). false) (moves_of g.B.Geometry.shape c.args.position.now) ≡ not (is_some c.next.result) =
-    rw (← c.moves.ensures.listed) (nothing_first _ _ c.next.result c.next.ensures.steps) in
-    sym (not-not c.is_none.result) ∙ ap not (sym c.is_none.ensures) ∙ sym listed
-    ∙ sym (lost_now g.B.Geometry.shape c.args.position.now c.args.plies c.if-plies-eq0.true)
+    let none : c.args.plies ≡ 0 = c.if-plies-eq0.true in
+    c.is_blocked.ensures ∙ ap (λ n. is_lost n g.B.Geometry.shape c.args.position.now) (sym none)
 
 pub is_lost-returns-then-not-is_won : goal.is_lost-returns-then-not-is_won
 is_lost-returns-then-not-is_won g t c =

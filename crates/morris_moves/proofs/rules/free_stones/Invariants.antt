@@ -1,7 +1,7 @@
-use Rattle.std.proofs.Common.{◌≡◌, ◌&&◌, not}
-use Rattle.morris_board.specs.Sets.{has, set_where}
-use Rattle.morris_moves.specs.Rules.{in_mill}
+use Rattle.std.proofs.Common.{take}
+use Rattle.morris_board.specs.Boards.{mills_of}
+use Rattle.morris_moves.proofs.MaskLaws.{IsFree}
 use Rattle.morris_moves.proofs.rules.free_stones.Given as goal
 
-abbrev pub invariant-loop-point : goal.invariant-loop-point
-invariant-loop-point g l = l.free ≡ set_where l.point (λ t. has l.other t && not (in_mill g.B.Geometry.shape l.other t))
+abbrev pub invariant-loop-number : goal.invariant-loop-number
+invariant-loop-number g l = IsFree (take l.number (mills_of g.B.Geometry.shape)) l.other l.free

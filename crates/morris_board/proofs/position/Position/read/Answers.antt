@@ -1,5 +1,5 @@
-use Rattle.std.proofs.Common.{◌≡◌, ◌≢◌, ◌∙◌, sym, ap, arith, Ok, Err, None, length, rules}
-use Rattle.morris_board.specs.Positions.{text_of, read_of, shown, made, sides}
+use Rattle.std.proofs.Common.{◌≡◌, ◌≢◌, ◌∙◌, sym, arith, Err, length, rules}
+use Rattle.morris_board.specs.Positions.{read_of, shown}
 use Rattle.morris_board.specs.declared.faults.TextFault.TheVariants as fault
 use Rattle.morris_board.proofs.TextLaws.{IsApart-shown, complete_of, shows_of, ok_made, err_made, read_short, read_bad}
 use Rattle.morris_board.proofs.position.Position.read.Goals as goal

@@ -1,6 +1,6 @@
-use Rattle.std.proofs.Common.{◌≡◌, ◌<◌, ◌≤◌, length, arith, ◌∙◌, sym, ap}
+use Rattle.std.proofs.Common.{◌≡◌, ◌<◌, ◌≤◌, length, arith, ◌∙◌, sym}
 use Rattle.std.proofs.lemmas.Grind.{same_number_lists}
-use Rattle.morris_board.specs.Positions.{text_of, read_of}
+use Rattle.morris_board.specs.Positions.{text_of}
 use Rattle.morris_board.proofs.TextLaws.{length-text_of, get_or-text_of, read_of-text_of}
 use Rattle.morris_board.proofs.position.Position.write_to.Goals as goal
 

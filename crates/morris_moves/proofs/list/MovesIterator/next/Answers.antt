@@ -1,4 +1,5 @@
--- The loop keeps what is still to come of the list, and each arm of it takes one step along that list.
+-- The loop keeps what is still to come of the list, and each arm of it takes one step along that
+-- list.
 use Rattle.std.proofs.Common.{◌≡◌, ℕ, suc, ◌+◌, ◌*◌, ◌<◌, ◌≤◌, true, false, List, ◌∷◌, length, sym, ap, ◌∙◌, arith, Some}
 use Rattle.std.specs.Iterator.{MakesProgress, item_count}
 use Rattle.morris_board.specs.Sets.{members, count_of}
@@ -6,6 +7,7 @@ use Rattle.morris_board.proofs.PointsLaws.{count_of-le}
 use Rattle.morris_moves.specs.declared.step.Move.{Move}
 use Rattle.morris_moves.specs.Rules.{closes}
 use Rattle.morris_moves.proofs.SetLaws.{point_lt, without_point-lt, count_of-first}
+use Rattle.morris_moves.proofs.MaskLaws.{reach-lt}
 use Rattle.morris_moves.proofs.ListingLaws.{capture_next, quiet_next, closing_next, stone_next, moves_left_none}
 use Rattle.morris_moves.proofs.list.MovesIterator.next.Goals as goal
 
@@ -16,7 +18,8 @@ progress s t m e = record {
   rests = λ f. tt;
 }
 
--- the measure goes down where a point is taken from `to_left`, whatever may then be captured, and where a stone is taken from `from_left`
+-- the measure goes down where a point is taken from `to_left`, whatever may then be captured, and
+-- where a stone is taken from `from_left`
 fewer_points : (stones points less takes more : ℕ) → points ≡ suc less → more ≤ 32
     → 10000 * stones + (100 * less + more) < 10000 * stones + (100 * points + takes)
 fewer_points stones points less takes more e few = omega arith
@@ -67,6 +70,7 @@ loop-taken-preserved-in-Some-first g c =
           c.loop-taken.self-inside.take_left c.without-self-inside-in-Some-first.result c.in-Some-first.to c.in-None.ensures.rest next shut) ∙ c.loop-taken.invariant.same);
       stones = c.loop-taken.invariant.stones;
       stone = c.loop-taken.invariant.stone;
+      ends = rw c.without-self-inside-in-Some-first.ensures (without_point-lt _ _ _ c.loop-taken.invariant.ends);
     }
 
 pub returns-in_err-from-in-None-first-clause-steps : goal.returns-in_err-from-in-None-first-clause-steps
@@ -99,4 +103,16 @@ loop-taken-preserved g c =
           ∙ c.loop-taken.invariant.same);
       stones = rw c.without-self-inside-in-None-first.ensures (without_point-lt _ _ _ c.loop-taken.invariant.stones);
       stone = c.in_ok-from-in-None-first.ensures.point.0;
+      ends = reach-lt g.B.Geometry.shape g.B.Geometry.POINTS g.met.B.Geometry.point_count _ _ _ c.reach-self-inside.ensures;
     }
+
+pub closes-requires-clause-end : goal.closes-requires-clause-end
+closes-requires-clause-end g c =
+    point_lt c.loop-taken.self-inside.to_left g.B.Geometry.POINTS c.in-Some-first.to c.loop-taken.invariant.ends c.in-Some-first.ensures.point.1
+
+pub invariant_of-self-then-not-closes : goal.invariant_of-self-then-not-closes
+invariant_of-self-then-not-closes g c = (
+  c.loop-taken.invariant.stones,
+  c.loop-taken.invariant.stone,
+  rw c.without-self-inside-in-Some-first.ensures (without_point-lt _ _ _ c.loop-taken.invariant.ends),
+)

@@ -9,6 +9,7 @@ invariant-loop-taken g l = record {
       l.self-inside.take_left ≡ l.fn.self;
   stones : l.self-inside.from_left < 2 ^ g.B.Geometry.POINTS;
   stone : l.self-inside.from < 32;
+  ends : l.self-inside.to_left < 2 ^ g.B.Geometry.POINTS;
 }
 
 abbrev pub decreases-loop-taken : goal.decreases-loop-taken

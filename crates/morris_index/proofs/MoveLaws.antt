@@ -1,0 +1,188 @@
+-- The index of a position that differs from a given one by a moved stone.
+use Rattle.std.proofs.Common.{◌≡◌, ℕ, ◌+◌, ◌-◌, ◌*◌, ◌^◌, ◌<◌, ◌≤◌, Bool, true, false, not, ◌&&◌, ◌||◌, eqb, map, refl, sym, ◌∙◌, ap, ap₂, inl, inr, ◌⊎◌, arith}
+use Rattle.std.proofs.lemmas.Bool.{cases_Bool, cases_eq, cases_lt, both_ways, eq-eqb, ne_eqb}
+use Rattle.morris_board.specs.Boards.{Shape}
+use Rattle.morris_board.specs.Sets.{has, members, count_of, with_point, without_point}
+use Rattle.morris_board.specs.Positions.{Sides, sides, IsPosition}
+use Rattle.morris_board.proofs.PointsLaws.{has-without, has-above, count_of-with, count_of-without}
+use Rattle.morris_index.specs.Binomials.{choose}
+use Rattle.morris_index.specs.Numbering.{rank_of, number_outside, half_index}
+use Rattle.morris_index.specs.Pairs.{Counts, IsPair, IsHalf, index_of}
+use Rattle.morris_index.specs.Moves.{taken_back, moved_on, start_of}
+use Rattle.morris_index.proofs.SetLaws.{with_point-lt}
+use Rattle.morris_index.proofs.IndexLaws.{IsPlaced, placed, within_24, counts_fit, half_size-few, index-first, index-second, map_number-none, half_index-few}
+use Rattle.morris_index.proofs.SumLaws.{without_point-lt, rest}
+
+-- ---- a vacant point
+
+pub vacant_own : (a b : Bool) → not (a || b) ≡ true → a ≡ false
+vacant_own true b h = absurd (both_ways false refl h)
+vacant_own false b h = refl
+
+pub vacant_other : (a b : Bool) → not (a || b) ≡ true → b ≡ false
+vacant_other true b h = absurd (both_ways false refl h)
+vacant_other false true h = absurd (both_ways false refl h)
+vacant_other false false h = refl
+
+-- ---- a stone of a set that has gone from v to u
+
+pub point-lt : (s n p : ℕ) → s < 2 ^ n → has s p ≡ true → p < n
+point-lt s n p within y = elim (cases_lt p n) [
+  | inl l ↦ l
+  | inr g ↦ absurd (both_ways (has s p) (has-above s n p within g) y)
+]
+
+module _ (s u v n : ℕ) (within : s < 2 ^ n) (low : n ≤ 32) (free : has s u ≡ false) (here : has s v ≡ true) (u_in : u < n) where
+  abbrev moved : ℕ
+  moved = with_point (without_point s v) u
+
+  pub moved-lt : moved < 2 ^ n
+  moved-lt = with_point-lt (without_point s v) u n (without_point-lt s n v within) u_in
+
+  pub count_of-moved : count_of moved ≡ count_of s
+  count_of-moved =
+      let none : has (without_point s v) u ≡ false = has-without s v u ∙ rw free (and_false (not (eqb u v))) in
+      count_of-with (without_point s v) u (omega arith) none ∙ sym (count_of-without s v (omega (arith, point-lt s n v within here)) here)
+    where
+      and_false : (b : Bool) → (b && false) ≡ false
+      and_false true = refl
+      and_false false = refl
+
+  -- the point is one of the others, or the one that it went to
+  pub moved-cases : (p : ℕ) → has moved p ≡ true → (p ≡ u) ⊎ (has s p ≡ true)
+  moved-cases p y = elim (cases_eq p u) [
+    | inl e ↦ inl e
+    | inr d ↦ elim (cases_eq p v) [
+      | inl e ↦ inr (ap (has s) e ∙ here)
+      | inr e ↦ inr (sym (rest s u v free here p d e) ∙ y)
+    ]
+  ]
+
+-- ---- a position by the sets of its stones
+
+module _ (b : Shape) (n : ℕ) (points : b.points ≡ n) (low : n ≤ 24) (s : Sides) (lawful : IsPosition b s) where
+  pub own_24 : s.own < 2 ^ 24
+  own_24 = within_24 s.own n (placed b n s points lawful).own_within low
+
+  pub other_24 : s.other < 2 ^ 24
+  other_24 = within_24 s.other n (placed b n s points lawful).other_within low
+
+  pub other_fits : count_of s.other ≤ n
+  other_fits = omega (arith, counts_fit n (omega arith) s (placed b n s points lawful))
+
+  pub own_lt : (p : ℕ) → has s.own p ≡ true → p < n
+  own_lt p y = point-lt s.own n p (placed b n s points lawful).own_within y
+
+  pub other_lt : (p : ℕ) → has s.other p ≡ true → p < n
+  other_lt p y = point-lt s.other n p (placed b n s points lawful).other_within y
+
+-- ---- the index by its three parts
+
+pub start-few : (n : ℕ) (c : Counts) (k : ℕ) → n ≤ 24 → IsPair n c → start_of n c k ≤ 549755813888
+start-few n c k low pair = elim (cases_eq k c.greater) [
+  | inl e ↦ rw (eq-eqb k c.greater e) (omega arith)
+  | inr d ↦ rw (ne_eqb k c.greater d) (half_size-few n c.greater c.lesser low half)
+]
+  where
+    half : IsHalf n c.greater c.lesser
+    half = record {
+      own_least = omega (arith, pair.least, pair.ordered);
+      own_most = pair.most;
+      other_least = pair.least;
+      other_most = omega (arith, pair.most, pair.ordered);
+      fits = pair.fits;
+    }
+
+pub index-parts : (n : ℕ) (c : Counts) (p : Sides) → index_of n c p ≡ start_of n c (count_of p.own) + half_index n p
+index-parts n c p = elim (cases_eq (count_of p.own) c.greater) [
+  | inl e ↦ index-first n c p e ∙ rw (eq-eqb (count_of p.own) c.greater e) (omega arith)
+  | inr d ↦ index-second n c p d ∙ rw (ne_eqb (count_of p.own) c.greater d) refl
+]
+
+module _ (n : ℕ) (low : n ≤ 24) (c : Counts) (s : Sides) (placed : IsPlaced n s) (own_few : count_of s.own ≤ 9) (other_few : count_of s.other ≤ 9) (u v : ℕ)
+    (u_in : u < n) (free_own : has s.own u ≡ false) (free_other : has s.other u ≡ false) (here : has s.other v ≡ true) where
+  before_count : count_of (taken_back s u v).own ≡ count_of s.other
+  before_count = count_of-moved s.other u v n placed.other_within (omega arith) free_other here u_in
+
+  pub before_placed : IsPlaced n (taken_back s u v)
+  before_placed = record {
+    own_within = moved-lt s.other u v n placed.other_within (omega arith) free_other here u_in;
+    other_within = placed.own_within;
+    apart = λ p y. elim (moved-cases s.other u v n placed.other_within (omega arith) free_other here u_in p y) [
+      | inl e ↦ ap (has s.own) e ∙ free_own
+      | inr z ↦ elim (cases_Bool (has s.own p)) [
+        | inl x ↦ absurd (both_ways (has s.other p) (placed.apart p x) z)
+        | inr x ↦ x
+      ]
+    ];
+  }
+
+  -- what the code adds up
+  abbrev pub before_sum : ℕ
+  before_sum = rank_of (map (number_outside 0) (members (taken_back s u v).own)) * choose (n - count_of s.other) (count_of s.own)
+      + rank_of (map (number_outside (taken_back s u v).own) (members s.own))
+
+  before_half : before_sum ≡ half_index n (taken_back s u v)
+  unfolding half_index
+  before_half = rw (map_number-none (members (taken_back s u v).own), before_count) refl
+
+  pub before_few : before_sum < 1307504 * 1307504
+  before_few = rw before_half (half_index-few n (taken_back s u v) low before_placed (rw before_count other_few) own_few)
+
+  pub before_index : start_of n c (count_of s.other) + before_sum ≡ index_of n c (taken_back s u v)
+  before_index = sym (index-parts n c (taken_back s u v) ∙ ap₂ (λ k h. start_of n c k + h) before_count (sym before_half))
+
+-- ---- the position after a quiet move
+
+module _ (n : ℕ) (low : n ≤ 24) (c : Counts) (s : Sides) (placed : IsPlaced n s) (own_few : count_of s.own ≤ 9) (other_few : count_of s.other ≤ 9) (u v : ℕ)
+    (v_in : v < n) (free_own : has s.own v ≡ false) (free_other : has s.other v ≡ false) (here : has s.own u ≡ true) where
+  after_count : count_of (moved_on s u v).other ≡ count_of s.own
+  after_count = count_of-moved s.own v u n placed.own_within (omega arith) free_own here v_in
+
+  after_placed : IsPlaced n (moved_on s u v)
+  after_placed = record {
+    own_within = placed.other_within;
+    other_within = moved-lt s.own v u n placed.own_within (omega arith) free_own here v_in;
+    apart = λ p y. elim (cases_Bool (has (moved_on s u v).other p)) [
+      | inr x ↦ x
+      | inl x ↦ elim (moved-cases s.own v u n placed.own_within (omega arith) free_own here v_in p x) [
+        | inl e ↦ absurd (both_ways (has s.other p) (ap (has s.other) e ∙ free_other) y)
+        | inr z ↦ absurd (both_ways (has s.other p) (placed.apart p z) y)
+      ]
+    ];
+  }
+
+  -- what the code adds up
+  abbrev pub after_sum : ℕ
+  after_sum = rank_of (members s.other) * choose (n - count_of s.other) (count_of s.own) + rank_of (map (number_outside s.other) (members (moved_on s u v).other))
+
+  after_half : after_sum ≡ half_index n (moved_on s u v)
+  unfolding half_index
+  after_half = rw after_count refl
+
+  pub after_few : after_sum < 1307504 * 1307504
+  after_few = rw after_half (half_index-few n (moved_on s u v) low after_placed other_few (rw after_count own_few))
+
+  pub after_index : start_of n c (count_of s.other) + after_sum ≡ index_of n c (moved_on s u v)
+  after_index = sym (index-parts n c (moved_on s u v) ∙ ap (λ h. start_of n c (count_of s.other) + h) (sym after_half))
+
+pub regrouped : (a b c : ℕ) → a + b + c ≡ a + (b + c)
+regrouped a b c = omega arith
+
+-- the index that the positions begin with in which the player to move has the stones that the
+-- opponent has here
+pub start_few : (n : ℕ) (s : Sides) → n ≤ 24 → IsPlaced n s → count_of s.own ≤ 9 → count_of s.other ≤ 9
+    → rank_of (members s.other) * choose (n - count_of s.other) (count_of s.own) < 1307504 * 1307504
+unfolding half_index
+start_few n s low placed own_few other_few =
+    omega (
+      arith,
+      half_index-few n (sides s.other s.own) low (record {
+        own_within = placed.other_within;
+        other_within = placed.own_within;
+        apart = λ p y. elim (cases_Bool (has s.own p)) [
+          | inl x ↦ absurd (both_ways (has s.other p) (placed.apart p x) y)
+          | inr x ↦ x
+        ];
+      }) other_few own_few,
+    )

@@ -1,0 +1,70 @@
+use Rattle.std.proofs.Common.{◌≡◌, ◌+◌, ◌-◌, ◌*◌, ap, ap₂, ◌∙◌, arith}
+use Rattle.morris_board.specs.Sets.{members, count_of}
+use Rattle.morris_index.specs.Binomials.{choose}
+use Rattle.morris_index.specs.Numbering.{rank_of}
+use Rattle.morris_index.specs.Moves.{start_of}
+use Rattle.morris_index.proofs.IndexLaws.{placed, map_number-none}
+use Rattle.morris_index.proofs.PairLaws.{own_count, other_count}
+use Rattle.morris_index.proofs.MoveLaws.{own_24, other_24, other_fits, start_few}
+use Rattle.morris_index.proofs.successors.SuccessorIndices.of.Goals as goal
+
+pub overflow_sub-POINTS : goal.overflow_sub-POINTS
+overflow_sub-POINTS g c =
+    omega (
+      arith,
+      c.count.ensures.value,
+      c.POINTS.ensures,
+      ap count_of c.other-other.ensures.points,
+      other_fits g.B.Geometry.shape g.B.Geometry.POINTS g.met.B.Geometry.point_count (omega (arith, g.met.B.Geometry.few)) c.args.position.now c.own-own.ensures.lawful,
+    )
+
+pub of-requires-clause-board : goal.of-requires-clause-board
+of-requires-clause-board g c = rw c.own-own.ensures.points (own_24 g.B.Geometry.shape g.B.Geometry.POINTS g.met.B.Geometry.point_count (omega (arith, g.met.B.Geometry.few)) c.args.position.now c.own-own.ensures.lawful)
+
+pub rank-requires-clause-board : goal.rank-requires-clause-board
+rank-requires-clause-board g c = rw c.other-other.ensures.points (other_24 g.B.Geometry.shape g.B.Geometry.POINTS g.met.B.Geometry.point_count (omega (arith, g.met.B.Geometry.few)) c.args.position.now c.own-own.ensures.lawful)
+
+pub overflow_mul-result : goal.overflow_mul-result
+overflow_mul-result g c =
+    let rank_is : c.rank.result ≡ rank_of (members c.args.position.now.other) =
+    c.rank.ensures ∙ (ap rank_of (map_number-none (members c.other-other.result)) ∙ ap (λ o. rank_of (members o)) c.other-other.ensures.points) in
+    let choices_is : c.binomial-choices.result ≡ choose (g.B.Geometry.POINTS - count_of c.args.position.now.other) (count_of c.args.position.now.own) =
+    c.binomial-choices.ensures.value ∙ ap₂ choose (ap₂ (λ n k. n - k) c.POINTS.ensures (c.count.ensures.value ∙ ap count_of c.other-other.ensures.points))
+    (c.count-2.ensures.value ∙ ap count_of c.own-own.ensures.points) in
+    rw (rank_is, choices_is) (omega (
+      arith,
+      start_few g.B.Geometry.POINTS c.args.position.now (omega (arith, g.met.B.Geometry.few))
+          (placed g.B.Geometry.shape g.B.Geometry.POINTS c.args.position.now g.met.B.Geometry.point_count c.own-own.ensures.lawful)
+          ((own_count c.args.position.now c.own-own.ensures.lawful.sized).1) ((other_count c.args.position.now c.own-own.ensures.lawful.sized).1),
+    ))
+
+pub overflow_add-result : goal.overflow_add-result
+overflow_add-result g c =
+    let rank_is : c.rank.result ≡ rank_of (members c.args.position.now.other) =
+    c.rank.ensures ∙ (ap rank_of (map_number-none (members c.other-other.result)) ∙ ap (λ o. rank_of (members o)) c.other-other.ensures.points) in
+    let choices_is : c.binomial-choices.result ≡ choose (g.B.Geometry.POINTS - count_of c.args.position.now.other) (count_of c.args.position.now.own) =
+    c.binomial-choices.ensures.value ∙ ap₂ choose (ap₂ (λ n k. n - k) c.POINTS.ensures (c.count.ensures.value ∙ ap count_of c.other-other.ensures.points))
+    (c.count-2.ensures.value ∙ ap count_of c.own-own.ensures.points) in
+    rw (rank_is, choices_is) (omega (
+      arith,
+      c.start_of.ensures.few,
+      start_few g.B.Geometry.POINTS c.args.position.now (omega (arith, g.met.B.Geometry.few))
+          (placed g.B.Geometry.shape g.B.Geometry.POINTS c.args.position.now g.met.B.Geometry.point_count c.own-own.ensures.lawful)
+          ((own_count c.args.position.now c.own-own.ensures.lawful.sized).1) ((other_count c.args.position.now c.own-own.ensures.lawful.sized).1),
+    ))
+
+pub invariant_of-result : goal.invariant_of-result
+invariant_of-result g c =
+    let rank_is : c.rank.result ≡ rank_of (members c.args.position.now.other) =
+    c.rank.ensures ∙ (ap rank_of (map_number-none (members c.other-other.result)) ∙ ap (λ o. rank_of (members o)) c.other-other.ensures.points) in
+    let choices_is : c.binomial-choices.result ≡ choose (g.B.Geometry.POINTS - count_of c.args.position.now.other) (count_of c.args.position.now.own) =
+    c.binomial-choices.ensures.value ∙ ap₂ choose (ap₂ (λ n k. n - k) c.POINTS.ensures (c.count.ensures.value ∙ ap count_of c.other-other.ensures.points))
+    (c.count-2.ensures.value ∙ ap count_of c.own-own.ensures.points) in
+    let others : c.count-3.result ≡ count_of c.args.position.now.other = c.count-3.ensures.value ∙ ap count_of c.other-other.ensures.points in
+    record {
+      counts = c.requires;
+      lawful = c.own-own.ensures.lawful;
+      pair = c.start_of.ensures.lawful;
+      moved = rw (c.other-other.ensures.points, c.own-own.ensures.points) at c.of.ensures;
+      start = ap₂ (λ x y. x + y) (c.start_of.ensures.value ∙ ap (start_of g.B.Geometry.POINTS c.args.pair.now) others) (ap₂ (λ x y. x * y) rank_is choices_is);
+    }

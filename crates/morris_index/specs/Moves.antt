@@ -1,0 +1,52 @@
+-- The positions that differ from a given one by a moved stone, and where they stand in the
+-- numbering.
+use Rattle.std.specs.Prelude.{◌≡◌, ℕ, ◌+◌, ◌-◌, ◌*◌, nat_eq, true, if◌then◌else◌}
+use Rattle.morris_board.specs.Boards.{Shape}
+use Rattle.morris_board.specs.Sets.{members, count_of, with_point, without_point}
+use Rattle.morris_board.specs.Positions.{Sides, sides, IsPosition}
+use Rattle.morris_index.specs.Binomials.{choose}
+use Rattle.morris_index.specs.Numbering.{rank_of, half_size}
+use Rattle.morris_index.specs.Pairs.{Counts, IsPair, is_of}
+use Rattle.morris_index.specs.Sums.{IsMoved, IsRenumbered}
+use Rattle.morris_index.specs.declared.sums.MovedSums.{MovedSums}
+use Rattle.morris_index.specs.declared.sums.RenumberedSums.{RenumberedSums}
+
+-- a position, and the pair that it is one of
+pub record InPair : Type 0 where
+  pub pair : Counts
+  pub position : Sides
+
+abbrev pub in_pair : Counts → Sides → InPair
+in_pair c s = record { pair = c; position = s }
+
+-- The position before a quiet move from u to v led to s: its stone stands on u again, and the
+-- player who made it is to move.
+abbrev pub taken_back : Sides → ℕ → ℕ → Sides
+taken_back s u v = sides (with_point (without_point s.other v) u) s.own
+
+-- the index of the first position of a pair in which the player to move has so many stones
+abbrev pub start_of : ℕ → Counts → ℕ → ℕ
+start_of n c own = if nat_eq own c.greater then 0 else half_size n c.greater c.lesser
+
+-- what is kept of a position, on n points, for the indices of those before it
+pub record IsTakenBack (board : Shape) (n : ℕ) (q : InPair) (mover : MovedSums) (waiting : RenumberedSums) (first sets : ℕ) : Type 0 where
+  pub counts : is_of q.pair q.position ≡ true
+  pub lawful : IsPosition board q.position
+  pub pair : IsPair n q.pair
+  pub moved : IsMoved 0 q.position.other mover
+  pub renumbered : IsRenumbered q.position.other q.position.own waiting
+  pub start : first ≡ start_of n q.pair (count_of q.position.other)
+  pub choices : sets ≡ choose (n - count_of q.position.other) (count_of q.position.own)
+
+-- The position after a quiet move from u to v: the stone stands on v, and the opponent is to move.
+abbrev pub moved_on : Sides → ℕ → ℕ → Sides
+moved_on s u v = sides s.other (with_point (without_point s.own u) v)
+
+-- what is kept of a position, on n points, for the indices of those after it
+pub record IsMovedOn (board : Shape) (n : ℕ) (q : InPair) (mover : MovedSums) (first : ℕ) : Type 0 where
+  pub counts : is_of q.pair q.position ≡ true
+  pub lawful : IsPosition board q.position
+  pub pair : IsPair n q.pair
+  pub moved : IsMoved q.position.other q.position.own mover
+  pub start : first ≡ start_of n q.pair (count_of q.position.other)
+      + rank_of (members q.position.other) * choose (n - count_of q.position.other) (count_of q.position.own)

@@ -1,0 +1,53 @@
+-- Sums over the stones below a point, from which the rank of a set is found where a stone has
+-- moved.
+use Rattle.std.specs.Prelude.{◌≡◌, ℕ, zero, suc, ◌+◌, ◌-◌, ◌≤◌, Bool, length, slice_index, if◌then◌else◌}
+use Rattle.morris_board.specs.Sets.{has}
+use Rattle.morris_index.specs.Binomials.{choose}
+use Rattle.morris_index.specs.Numbering.{number_outside, count_below}
+use Rattle.morris_index.specs.declared.sums.MovedSums.{MovedSums}
+use Rattle.morris_index.specs.declared.sums.RenumberedSums.{RenumberedSums}
+
+-- what stands at the points below n, added up
+unfoldable pub total : (ℕ → ℕ) → ℕ → ℕ
+total t zero = 0
+total t (suc n) = total t n + t n
+
+-- What a point p of a set adds to the rank, and 0 for the other points: the binomial coefficient of
+-- its number and its place, where the first point has the place `first`. That is 1 in a rank; 2 or
+-- 0 where each point stands a place later or earlier.
+abbrev pub term : (ℕ → Bool) → (ℕ → ℕ) → ℕ → ℕ → ℕ
+term f number first p = if f p then choose (number p) (count_below f p + first) else 0
+
+-- the sum of these over the points of a set below n
+abbrev pub sum_below : ℕ → (ℕ → ℕ) → ℕ → ℕ → ℕ
+sum_below set number first n = total (term (has set) number first) n
+
+-- what is added to each of the kept differences, so that none is below 0
+abbrev pub bias : ℕ
+bias = 33554432
+
+-- The kept sums of a set whose points are numbered outside another. What is kept for k points is
+-- that of all n that have k points of the set below them.
+pub record IsMoved (outside set : ℕ) (sums : MovedSums) : Type 0 where
+  pub later_len : length sums.later ≡ 10
+  pub earlier_len : length sums.earlier ≡ 10
+  pub later : (n : ℕ) → n ≤ 24
+      → slice_index sums.later (count_below (has set) n) + sum_below set (number_outside outside) 2 n
+      ≡ bias + sum_below set (number_outside outside) 1 n
+  pub earlier : (n : ℕ) → n ≤ 24
+      → slice_index sums.earlier (count_below (has set) n) + sum_below set (number_outside outside) 1 n
+      ≡ bias + sum_below set (number_outside outside) 0 n
+  pub rank : sums.rank ≡ sum_below set (number_outside outside) 1 24
+
+-- The same where not a point of the set moves but one of those outside which it is numbered: the
+-- points between get the number before or after their own.
+pub record IsRenumbered (outside set : ℕ) (sums : RenumberedSums) : Type 0 where
+  pub before_len : length sums.before ≡ 10
+  pub after_len : length sums.after ≡ 10
+  pub before : (n : ℕ) → n ≤ 24
+      → slice_index sums.before (count_below (has set) n) + sum_below set (λ p. number_outside outside p - 1) 1 n
+      ≡ bias + sum_below set (number_outside outside) 1 n
+  pub after : (n : ℕ) → n ≤ 24
+      → slice_index sums.after (count_below (has set) n) + sum_below set (number_outside outside) 1 n
+      ≡ bias + sum_below set (λ p. number_outside outside p + 1) 1 n
+  pub rank : sums.rank ≡ sum_below set (number_outside outside) 1 24

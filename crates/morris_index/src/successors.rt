@@ -1,0 +1,71 @@
+//! The indices of the positions after a position.
+ghost use Rattle.std.specs.Prelude.{◌≡◌, ◌<◌, ◌||◌, not, true};
+ghost use Rattle.morris_board.specs.Sets.{has};
+ghost use Rattle.morris_index.specs.Pairs.{is_of, index_of};
+ghost use Rattle.morris_index.specs.Moves.{in_pair, moved_on};
+
+use crate::binomials::binomial;
+use crate::pair::Pair;
+use crate::ranks::rank;
+use crate::sums::MovedSums;
+use morris_board::board::Geometry;
+use morris_board::points::Points;
+use morris_board::position::Position;
+use std::marker::Model;
+
+/// What is kept of a position, so that the index of each position after a quiet move from it is
+/// found in constant time.
+#[derive(Drop)]
+#[derive_where(Debug)]
+pub struct SuccessorIndices<B: Geometry> {
+    /// The pair that the position is one of.
+    pair: Pair<B>,
+    /// The position.
+    position: Position<B>,
+    /// The sums of the stones of the player to move, of which one moves.
+    moved: MovedSums,
+    /// The index of the first position in which the player to move has the stones that the opponent
+    /// has here.
+    start: u64,
+}
+
+impl<B: Geometry> Model for SuccessorIndices<B> {
+    ghost use Rattle.morris_index.specs.Moves.{InPair, in_pair, IsMovedOn};
+
+    ghost Value = { InPair };
+
+    ghost view = { λ indices. in_pair indices.pair indices.position };
+
+    ghost invariant = { λ indices. IsMovedOn B.shape B.POINTS (in_pair indices.pair indices.position) indices.moved indices.start };
+}
+
+impl<B: Geometry> SuccessorIndices<B> {
+    /// What is to be kept of a position of the pair.
+    pub fn of(pair: &Pair<B>, position: &Position<B>) -> SuccessorIndices<B>
+        requires { is_of pair.now position.now ≡ true }
+        ensures { result ≡ in_pair pair.now position.now }
+    {
+        let own = position.own();
+        let other = position.other();
+        let choices = binomial(B::POINTS - other.count(), own.count());
+        SuccessorIndices {
+            pair: *pair,
+            position: *position,
+            moved: MovedSums::of(own, other),
+            start: pair.start_of(other.count()) + rank(other, Points::EMPTY) * choices,
+        }
+    }
+
+    /// The index of the position after a quiet move from `from` to `to`: a stone of the player to
+    /// move stands on `from`, and `to` is vacant.
+    pub fn index(&self, from: u8, to: u8) -> u64
+        requires start { has self.now.position.own from ≡ true }
+        requires end { to < B.POINTS }
+        requires vacant { not (has self.now.position.own to || has self.now.position.other to) ≡ true }
+        ensures { result ≡ index_of B.POINTS self.now.pair (moved_on self.now.position from to) }
+    {
+        let own = self.position.own();
+        let other = self.position.other();
+        self.start + self.moved.rank(other, own, from, to)
+    }
+}

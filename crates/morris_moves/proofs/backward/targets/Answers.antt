@@ -1,0 +1,14 @@
+use Rattle.std.proofs.Common.{◌≡◌, ap, ◌∙◌}
+use Rattle.morris_board.specs.Sets.{count_of}
+use Rattle.morris_moves.proofs.MaskLaws.{IsSteps, steps-known}
+use Rattle.morris_moves.proofs.ListingLaws.{targets-steps}
+use Rattle.morris_moves.proofs.backward.targets.Goals as goal
+
+pub returns : goal.returns
+returns g c =
+    let stones : c.count.result ≡ count_of c.args.position.now.other = c.count.ensures.value ∙ ap count_of c.other.ensures.points in
+    let near : IsSteps g.B.Geometry.shape (count_of c.args.position.now.other) c.args.from c.steps.result =
+    steps-known g.B.Geometry.shape g.B.Geometry.POINTS (count_of c.args.position.now.other) c.args.from c.steps.result g.met.B.Geometry.point_count
+    (rw (← stones) c.steps.ensures) in
+    targets-steps g.B.Geometry.shape c.args.position.now c.args.from c.steps.result c.common.result near
+    (rw (← c.requires.stones) c.common.ensures)
