@@ -8,7 +8,6 @@ use Rattle.std.proofs.lemmas.List.{drop_more, drop_all, take_more, get_or-replic
 use Rattle.std.proofs.lemmas.List.Folds.{list_any_more, list_any-append}
 use Rattle.std.proofs.lemmas.List.Elements.{All-head, All-tail, All-nil, All-cons}
 use Rattle.morris_wave.specs.Nets.{Net, IsNet}
-use Rattle.morris_wave.specs.declared.network.Exits.{Exits}
 use Rattle.morris_wave.specs.Values.{is_decided, code_within, HasDepth, HasCode, IsTooDeep}
 use Rattle.morris_wave.specs.Waves.{is_fresh}
 use Rattle.morris_wave.specs.Blocks.{Parts, IsCut, IsIn, first_of, block_of, BlockState, BlockHolds, is_complete, first_node, count_of, IsSettled}
@@ -16,8 +15,8 @@ use Rattle.morris_wave.specs.Answering.{is_same_cut}
 use Rattle.morris_wave.specs.declared.gathering.GatherFault.{GatherFault}
 use Rattle.morris_wave.specs.Gathering.{has_number, complaint, first_fault, first_complaint, HasAll, ComesOnce, Fits, ArePlaces}
 use Rattle.morris_wave.proofs.Tests.{count_yes, count_no, some_counted}
-use Rattle.morris_wave.proofs.Advancing.{entry_all}
-use Rattle.morris_wave.proofs.Blocking.{codes_complete, same_parts, block_of-lt}
+use Rattle.morris_wave.proofs.Stretches.{codes_within}
+use Rattle.morris_wave.proofs.Blocking.{complete_holds, same_parts, block_of-lt}
 use Rattle.morris_wave.proofs.Cutting.{is_in_block}
 use Rattle.morris_wave.proofs.Settling.{IsQuiet, quiet_codes, not_too_deep}
 
@@ -180,11 +179,11 @@ all_places blocks k places e h = record {
 }
 
 -- the entries of a complete block
-pub entries_are : (g : Net) (law : IsNet g) (s : BlockState) (codes counters : List ℕ) (exits : List Exits) (h : BlockHolds g s codes counters exits) → is_complete s ≡ true
+pub entries_are : (g : Net) (law : IsNet g) (s : BlockState) (first : ℕ) (codes counters due : List ℕ) (last_due : ℕ) (h : BlockHolds g s first codes counters due last_due) → is_complete s ≡ true
     → (k : ℕ) → k < count_of s → get_or codes k 0 ≡ code_within g (s.wave + 1) (first_node s + k)
-entries_are g law s codes counters exits h complete k l =
-    codes_complete g law s codes counters exits h complete k l
-    ∙ (entry_all g s.wave (first_node s + k) ∙ ap (λ n. code_within g n (first_node s + k)) (omega arith))
+entries_are g law s first codes counters due last_due h complete k l =
+    codes_within g law s.wave first codes counters due last_due (complete_holds g law s first codes counters due last_due h complete) k (omega (arith, h.count_is, l))
+    ∙ (ap (λ n. code_within g n (first + k)) (omega arith) ∙ ap (λ f. code_within g (s.wave + 1) (f + k)) h.first_is)
 
 -- the last block ends with the last node
 pub first_last : (c : Parts) → 1 ≤ c.blocks → first_of c c.blocks ≡ c.size

@@ -1,12 +1,11 @@
 -- Cuts of a graph into blocks, and what a block, its fresh nodes and a batch hold.
-use Rattle.std.specs.Prelude.{◌≡◌, ℕ, ◌+◌, ◌-◌, ◌*◌, ◌/◌, ◌^◌, ◌<◌, ◌≤◌, Bool, true, false, List, length, map, replicate, slice_index, slice_index_or}
+use Rattle.std.specs.Prelude.{◌≡◌, ℕ, ◌+◌, ◌-◌, ◌*◌, ◌/◌, ◌^◌, ◌<◌, ◌≤◌, Bool, true, false, List, length, map, replicate, slice_index_or}
 use Rattle.std.specs.List.{list_all, range_with_len}
-use Rattle.morris_wave.specs.declared.network.Exits.{Exits}
 use Rattle.morris_wave.specs.Exits.{exits_of, last_due_of}
 use Rattle.morris_wave.specs.Nets.{Net}
 use Rattle.morris_wave.specs.Values.{HasDepth}
-use Rattle.morris_wave.specs.Waves.{entry_at, open_at}
-use Rattle.morris_wave.specs.Solving.{exits_at}
+use Rattle.morris_wave.specs.Waves.{entry_at}
+use Rattle.morris_wave.specs.Keeping.{StretchHolds}
 
 -- so many nodes, cut into so many blocks
 pub record Parts : Type 0 where
@@ -57,18 +56,15 @@ abbrev pub count_of : BlockState → ℕ
 count_of s = first_of s.cut (s.number + 1) - first_of s.cut s.number
 
 -- A block holds, at every moment, what its wave and its applied sources say.
-pub record BlockHolds (g : Net) (s : BlockState) (codes counters : List ℕ) (exits : List Exits) : Type 0 where
+pub record BlockHolds (g : Net) (s : BlockState) (first : ℕ) (codes counters due : List ℕ) (last_due : ℕ) : Type 0 where
   pub cut : IsCut s.cut
   pub size : g.size ≡ s.cut.size
   pub number : s.number < s.cut.blocks
   pub sources : length s.applied ≡ s.cut.blocks
   pub wave : s.wave ≤ 65534
-  pub codes_len : length codes ≡ count_of s
-  pub counters_len : length counters ≡ count_of s
-  pub exits_len : length exits ≡ count_of s
-  pub codes_are : (k : ℕ) → k < count_of s → slice_index codes k ≡ entry_at g s.wave (in_applied s) (first_node s + k)
-  pub counters_are : (k : ℕ) → k < count_of s → slice_index counters k ≡ open_at g s.wave (in_applied s) (first_node s + k)
-  pub exits_are : (k : ℕ) → k < count_of s → exits_at exits k ≡ exits_of (g.exits (first_node s + k))
+  pub first_is : first ≡ first_node s
+  pub count_is : length codes ≡ count_of s
+  pub kept : StretchHolds g s.wave (in_applied s) first codes counters due last_due
 
 -- before the first wave, where every source counts as applied
 abbrev pub first_wave : ℕ → Parts → ℕ → BlockState

@@ -60,11 +60,6 @@ due_of (Some depth) = depth + 1
 abbrev pub last_due_of : Exits → ℕ
 last_due_of e = max (due_of e.least_lost) (due_of e.greatest_won)
 
--- The wave at which the exits of a node decide it, if no quiet result speaks against it: the first
--- one that is lost, or where none is lost the last one that is won.
-abbrev pub deciding_due : Exits → ℕ
-deciding_due e = elim e.least_lost [ None ↦ due_of e.greatest_won | Some depth ↦ depth + 1 ]
-
 -- the exits of a node without any
 abbrev pub no_exits : Exits
 no_exits = record { least_lost = None; greatest_won = None; drawn = false }

@@ -1,9 +1,11 @@
 -- What the contracts of this crate speak of.
 pub mod Nets
 pub mod Exits
+pub mod Summaries
 pub mod Values
 pub mod Waves
 pub mod Solving
+pub mod Keeping
 pub mod Blocks
 pub mod Batches
 pub mod Answering

@@ -64,3 +64,33 @@ bare_lawful level = record {
   few = λ i l. omega arith;
   codes = λ i l. All-nil (λ c. c ≤ 65535);
 }
+
+-- Three nodes. Node 2 has the quiet result node 1. The exits of node 0 are of codes 5 and 2, those of node 1
+-- of codes 2 and 8, and that of node 2 of code 43.
+abbrev pub trio_quiet : ℕ → List ℕ
+trio_quiet i = if i == 2 then 1 ∷ [] else []
+
+abbrev pub trio_exits : ℕ → List ℕ
+trio_exits i = if i == 0 then 5 ∷ 2 ∷ [] else (if i == 1 then 2 ∷ 8 ∷ [] else 43 ∷ [])
+
+abbrev pub trio_net : Net
+trio_net = record { size = 3; quiet = trio_quiet; exits = trio_exits }
+
+trio_inside : (b : Bool) → All (λ j. j < 3) (if b then 1 ∷ [] else [])
+trio_inside true = All-cons (λ j. j < 3) 1 [] (omega arith) (All-nil (λ j. j < 3))
+trio_inside false = All-nil (λ j. j < 3)
+
+trio_few : (b : Bool) → length {A = ℕ} (if b then 1 ∷ [] else []) ≤ 65535
+trio_few true = omega arith
+trio_few false = omega arith
+
+two_codes : (c d : ℕ) → c ≤ 65535 → d ≤ 65535 → All (λ x. x ≤ 65535) (c ∷ d ∷ [])
+two_codes c d p q = All-cons (λ x. x ≤ 65535) c (d ∷ []) p (All-cons (λ x. x ≤ 65535) d [] q (All-nil (λ x. x ≤ 65535)))
+
+trio_codes : (a b : Bool) → All (λ c. c ≤ 65535) (if a then 5 ∷ 2 ∷ [] else (if b then 2 ∷ 8 ∷ [] else 43 ∷ []))
+trio_codes true b = two_codes 5 2 (omega arith) (omega arith)
+trio_codes false true = two_codes 2 8 (omega arith) (omega arith)
+trio_codes false false = All-cons (λ c. c ≤ 65535) 43 [] (omega arith) (All-nil (λ c. c ≤ 65535))
+
+pub trio_lawful : IsNet trio_net
+trio_lawful = record { small = omega arith; inside = λ i l. trio_inside (i == 2); few = λ i l. trio_few (i == 2); codes = λ i l. trio_codes (i == 0) (i == 1) }

@@ -5,7 +5,7 @@ ghost use Rattle.morris_wave.specs.Blocks.{IsIn};
 ghost use Rattle.morris_wave.specs.Batches.{BatchState, BatchHolds};
 ghost use Rattle.morris_wave.specs.Delivery.{contents, list_at, AreSorted, Deals, LeadTo, batch_of, IsBatchOf};
 
-use crate::division::Cut;
+use crate::division::{Cut, Finder};
 use crate::engine::{Batch, Fresh};
 use crate::network::{Graph, Levels};
 use std::alloc::{AllocError, Global};
@@ -36,16 +36,16 @@ fn put(lists: &mut Vec<Vec<u64>>, target: usize, node: u64) -> Result<(), AllocE
 }
 
 // Puts each node into the list of its block.
-fn deal(lists: &mut Vec<Vec<u64>>, cut: &Cut, nodes: &[u64]) -> Result<(), AllocError>
-    requires count { vec_len lists.old ≡ cut.now.blocks }
-    requires inside { All (λ i. i < cut.now.size) nodes.now }
-    requires sorted { AreSorted cut.now (contents lists.old.items) }
+fn deal(lists: &mut Vec<Vec<u64>>, finder: &Finder, nodes: &[u64]) -> Result<(), AllocError>
+    requires count { vec_len lists.old ≡ finder.now.cut.blocks }
+    requires inside { All (λ i. i < finder.now.cut.size) nodes.now }
+    requires sorted { AreSorted finder.now.cut (contents lists.old.items) }
     ensures len { vec_len lists.new ≡ vec_len lists.old }
-    ensures sorted { OnOk result (AreSorted cut.now (contents lists.new.items)) }
-    ensures dealt { OnOk result (Deals cut.now (contents lists.old.items) (contents lists.new.items) nodes.now) }
+    ensures sorted { OnOk result (AreSorted finder.now.cut (contents lists.new.items)) }
+    ensures dealt { OnOk result (Deals finder.now.cut (contents lists.old.items) (contents lists.new.items) nodes.now) }
 {
     for node in nodes {
-        put(lists, cut.block_of(*node) as usize, *node)?;
+        put(lists, finder.find(*node) as usize, *node)?;
     }
     Ok(())
 }
@@ -64,10 +64,11 @@ fn behind<G: Graph>(
     ensures behind { IfOk result (λ v. LeadTo (G.Name.net (G.level graph.now)) cut.now (contents v.items) nodes.now) }
 {
     let mut lists = no_lists(alloc, cut.blocks() as usize)?;
+    let finder = Finder::new(cut);
     let mut before = Vec::new(alloc);
     for node in nodes {
         graph.back(*node, &mut before)?;
-        deal(&mut lists, cut, &before)?;
+        deal(&mut lists, &finder, &before)?;
     }
     Ok(lists)
 }

@@ -1,9 +1,13 @@
 //! Graphs cut into blocks of neighbours.
 ghost use Rattle.std.specs.Prelude.{◌≡◌, ℕ, ◌+◌, ◌*◌, ◌/◌, ◌^◌, ◌<◌, ◌≤◌, ◌⊎◌, ◌↔◌, ◌==◌, ◌&&◌, IfOk, IsErr};
+ghost use Rattle.morris_wave.specs.Blocks.{block_of, IsIn};
 
 use std::marker::Model;
 use std::ops::Range;
 use thiserror::Error;
+
+// 2^53: a factor counts in such parts, and 1,024 blocks of them are below 2^64.
+const PARTS: u64 = 9007199254740992;
 
 /// The number of blocks isn't 1 to 1,024.
 #[derive(Clone, Copy, Debug, PartialEq, Eq, Error)]
@@ -34,7 +38,7 @@ impl Model for Cut {
 }
 
 impl Cut {
-    ghost use Rattle.morris_wave.specs.Blocks.{Parts, first_of, block_of, IsIn};
+    ghost use Rattle.morris_wave.specs.Blocks.{Parts, first_of};
 
     /// Cuts `size` nodes, which are at most 2^40, into `blocks` blocks.
     ///
@@ -98,6 +102,37 @@ impl Cut {
         ((i + 1) * self.blocks - 1) / size
     }
 
+    // The block that holds node `i`. Where a guess is right or one too low, it costs no division.
+    #[tactic(auto, using(crate::proofs::Cutting::quotient_is))]
+    fn near(&self, i: u64, guess: u64) -> u64
+        requires node { i < self.now.size }
+        requires guess { guess < 2 ^ 11 }
+        ensures { result ≡ block_of self.now i }
+    {
+        let size = self.size;
+        let last = (i + 1) * self.blocks - 1;
+        let start = size * guess;
+        if start <= last && last < start + size {
+            return guess;
+        }
+        if start + size <= last && last < start + size + size {
+            return guess + 1;
+        }
+        self.block_of(i)
+    }
+
+    // The same from a factor that `Finder` keeps. Any factor will do, a good one is quick.
+    pub(crate) fn find(&self, i: u64, factor: u64) -> u64
+        requires { i < self.now.size }
+        ensures value { result ≡ block_of self.now i }
+        ensures within { result < self.now.blocks }
+        ensures holds { IsIn self.now result i }
+    {
+        // The proof learns here that the blocks are 1 to 1,024.
+        let _blocks = self.blocks;
+        self.near(i, i.wrapping_mul(factor) / PARTS)
+    }
+
     /// The nodes of block `k`.
     ///
     /// The ranges follow one another without gap from 0 to the size.
@@ -112,5 +147,35 @@ impl Cut {
     {
         let _blocks = self.blocks;
         self.first(k)..self.first(k + 1)
+    }
+}
+
+/// Finds the blocks of nodes of a cut without a division for each.
+#[derive(Clone, Copy)]
+pub(crate) struct Finder {
+    pub(crate) cut: Cut,
+    factor: u64,
+}
+
+impl Finder {
+    pub(crate) fn new(cut: &Cut) -> Finder
+        ensures { result.cut ≡ cut.now }
+    {
+        let factor = if cut.size() == 0 {
+            0
+        } else {
+            cut.blocks() * PARTS / cut.size()
+        };
+        Finder { cut: *cut, factor }
+    }
+
+    // The block that holds node `i`.
+    pub(crate) fn find(&self, i: u64) -> u64
+        requires { i < self.now.cut.size }
+        ensures value { result ≡ block_of self.now.cut i }
+        ensures within { result < self.now.cut.blocks }
+        ensures holds { IsIn self.now.cut result i }
+    {
+        self.cut.find(i, self.factor)
     }
 }

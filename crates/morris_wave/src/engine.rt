@@ -1,16 +1,16 @@
 //! Blocks of a graph, which go from wave to wave, and what they find and send to one another.
-ghost use Rattle.std.specs.Prelude.{◌≡◌, ℕ, ◌+◌, ◌-◌, ◌<◌, ◌≤◌, Bool, true, false, ◌&&◌, ◌==◌, ◌↔◌, IsTrue, length, IfOk, OnOk, OnErr, IfErr, vec_len, slice_index, if◌then◌else◌};
+ghost use Rattle.std.specs.Prelude.{◌≡◌, ℕ, ◌+◌, ◌-◌, ◌<◌, ◌≤◌, Bool, true, false, ◌&&◌, ◌==◌, ◌↔◌, IsTrue, length, replicate, IfOk, OnOk, OnErr, IfErr, vec_len, slice_index, if◌then◌else◌};
 ghost use Rattle.std.specs.List.{All, count_by};
+ghost use Rattle.std.specs.List.Sorted.{IsNonDecreasingBy};
 ghost use Rattle.morris_wave.specs.Nets.{times};
 ghost use Rattle.morris_wave.specs.Waves.{entry_at, is_decided_at, is_fresh};
 
 use crate::division::Cut;
-use crate::entries::Entries;
-use crate::network::{Exits, Graph, Levels};
-use crate::reading::{first_codes, read_counters, read_exits};
-use crate::taking::{all_applied, clear, fresh_nodes, latest, settle_all, take_nodes};
+use crate::network::{Graph, Levels};
+use crate::stretch::Stretch;
 use std::alloc::{AllocError, Global};
 use std::marker::{Model, PhantomData};
+use std::ops::Range;
 use thiserror::Error;
 
 /// What a block did with a batch.
@@ -122,15 +122,15 @@ impl<N: Levels> Drop for Batch<N> {
 /// `n - 1` plies or some quiet result is known and lost, or every exit is won within `n - 1` and every
 /// quiet result is known and won. A result is known where its depth is at most `n - 2`, or is `n - 1` and
 /// its block is applied. A decided node's entry is its code, an open node's is 0.
+///
+/// A block keeps 4 bytes a node, 8 for each decided node and 8 for each node that comes due by its exits.
+/// Room for all of them is taken in `make`.
 pub struct Block<N: Levels> {
     level: u64,
     pub(crate) cut: Cut,
     number: u64,
-    wave: u16,
     applied: Vec<bool>,
-    pub(crate) entries: Entries,
-    counters: Vec<u16>,
-    exits: Vec<Exits>,
+    pub(crate) kept: Stretch,
     family: PhantomData<N>,
 }
 
@@ -139,11 +139,11 @@ impl<N: Levels> Model for Block<N> {
 
     ghost Value = { BlockState };
 
-    ghost view = { λ b. record { level = b.level; cut = b.cut; number = b.number; wave = b.wave; applied = b.applied.items } };
+    ghost view = { λ b. record { level = b.level; cut = b.cut; number = b.number; wave = b.kept.entries.wave; applied = b.applied.items } };
 
     ghost invariant = { λ b. BlockHolds (N.net b.level)
-        (record { level = b.level; cut = b.cut; number = b.number; wave = b.wave; applied = b.applied.items })
-        b.entries.codes.items b.counters.items b.exits.items };
+        (record { level = b.level; cut = b.cut; number = b.number; wave = b.kept.entries.wave; applied = b.applied.items })
+        b.kept.entries.first b.kept.entries.entries.codes.items b.kept.counters.items b.kept.due.items b.kept.last_due };
 }
 
 impl<N: Levels> Drop for Block<N> {
@@ -152,11 +152,8 @@ impl<N: Levels> Drop for Block<N> {
             level: _,
             cut: _,
             number: _,
-            wave: _,
             applied: _,
-            entries: _,
-            counters: _,
-            exits: _,
+            kept: _,
             family: _,
         } = self;
     }
@@ -181,7 +178,7 @@ impl<N: Levels> Fresh<N> {
 }
 
 impl<N: Levels> Block<N> {
-    ghost use Rattle.morris_wave.specs.Blocks.{BlockState, first_wave, next_wave_of, is_complete, in_applied, IsIn, entries_of, IsLastDue, IsSettled};
+    ghost use Rattle.morris_wave.specs.Blocks.{BlockState, first_of, first_wave, next_wave_of, is_complete, in_applied, IsIn, entries_of, IsLastDue, IsSettled};
     ghost use Rattle.morris_wave.specs.Exits.{is_odd, is_won_code};
     ghost use Rattle.morris_wave.specs.Values.{IsTooDeep, HasCode};
     ghost use Rattle.morris_wave.specs.Answering.{answer_to, after_batch};
@@ -203,22 +200,25 @@ impl<N: Levels> Block<N> {
         requires number { number < cut.now.blocks }
         ensures { IfOk result (λ b. b ≡ first_wave (G.level graph.now) cut.now number) }
     {
+        let blocks = cut.blocks() as usize;
         let range = cut.range(number);
-        let exits = read_exits(alloc, graph, range.start, range.end)?;
-        let counters = read_counters(alloc, graph, range.start, range.end)?;
-        let codes = first_codes(alloc, &counters, &exits)?;
-        let applied = all_applied(alloc, cut.blocks() as usize)?;
+        let kept = Stretch::read(alloc, graph, range.start, range.end)?;
+        let applied = vec![in alloc; true; blocks]?;
         Ok(Block {
             level: graph.level(),
             cut: *cut,
             number,
-            wave: 0,
             applied,
-            entries: Entries::of_codes(codes),
-            counters,
-            exits,
+            kept,
             family: PhantomData,
         })
+    }
+
+    /// The cut that the block is one of.
+    pub fn cut(&self) -> &Cut
+        ensures { result.now ≡ self.now.cut }
+    {
+        &self.cut
     }
 
     /// The number of the block within its cut, counted from 0.
@@ -228,12 +228,20 @@ impl<N: Levels> Block<N> {
         self.number
     }
 
+    /// The nodes of the block: the entry of each can be asked for.
+    pub fn range(&self) -> Range<u64>
+        ensures start { result.start ≡ first_of self.now.cut self.now.number }
+        ensures end { result.end ≡ first_of self.now.cut (self.now.number + 1) }
+    {
+        self.cut.range(self.number)
+    }
+
     /// The wave, from 0 to 65,534.
     pub fn wave(&self) -> u16
         ensures value { result ≡ self.now.wave }
         ensures last { result ≤ 65534 }
     {
-        self.wave
+        self.kept.entries.wave
     }
 
     /// The level of its graph.
@@ -254,7 +262,8 @@ impl<N: Levels> Block<N> {
         // And an entry is open exactly where the node isn't decided.
         ensures undecided { (result ≡ 0) ↔ (is_decided_at (N.net self.now.level) self.now.wave (in_applied self.now) i ≡ false) }
     {
-        self.entries.codes[(i - self.cut.first(self.number)) as usize]
+        let entries = &self.kept.entries;
+        entries.entries.codes[(i - entries.first) as usize]
     }
 
     /// How many entries are won, lost and still open.
@@ -263,11 +272,11 @@ impl<N: Levels> Block<N> {
         ensures lost { result.lost ≡ count_by is_odd (entries_of (N.net self.now.level) self.now) }
         ensures undecided { result.undecided ≡ count_by (λ c. c == 0) (entries_of (N.net self.now.level) self.now) }
     {
-        let decided = self.entries.won + self.entries.lost;
+        let entries = &self.kept.entries.entries;
         Tallies {
-            won: self.entries.won,
-            lost: self.entries.lost,
-            undecided: self.entries.codes.len() as u64 - decided,
+            won: entries.won,
+            lost: entries.lost,
+            undecided: entries.codes.len() as u64 - (entries.won + entries.lost),
         }
     }
 
@@ -275,7 +284,7 @@ impl<N: Levels> Block<N> {
     pub fn last_due(&self) -> u32
         ensures { IsLastDue (N.net self.now.level) self.now result }
     {
-        latest(&self.exits)
+        self.kept.last_due
     }
 
     /// Whether the wave is complete, all exits of the block are due, and none of its nodes has the depth
@@ -288,15 +297,13 @@ impl<N: Levels> Block<N> {
         ensures deep { result ≡ false → is_complete self.now ≡ true → self.now.wave ≡ 65534
             → IsTooDeep (N.net self.now.level) }
     {
-        let wave = self.wave;
         if !self.is_complete() {
             return false;
         }
-        let due = self.last_due();
-        if u32::from(wave) < due {
+        if u32::from(self.kept.entries.wave) < self.kept.last_due {
             return false;
         }
-        !self.entries.codes.contains(&(wave + 1))
+        !self.kept.entries.has_news()
     }
 
     /// Whether all sources of this wave are applied: one batch of each block of the cut, itself included.
@@ -317,7 +324,7 @@ impl<N: Levels> Block<N> {
     {
         if batch.level != self.level
             || !batch.cut.is_same(&self.cut)
-            || batch.wave != self.wave
+            || batch.wave != self.kept.entries.wave
             || batch.target != self.number
         {
             return Applied::Stranger;
@@ -325,15 +332,7 @@ impl<N: Levels> Block<N> {
         if self.applied[batch.source as usize] {
             return Applied::Again;
         }
-        let first = self.cut.first(self.number);
-        take_nodes(
-            &mut self.entries,
-            &mut self.counters,
-            &self.exits,
-            first,
-            &batch.nodes,
-            self.wave,
-        );
+        self.kept.take_in(&batch.nodes);
         self.applied[batch.source as usize] = true;
         Applied::Done
     }
@@ -353,13 +352,22 @@ impl<N: Levels> Block<N> {
         if !self.is_complete() {
             return Err(AdvanceFault::NotComplete);
         }
-        if self.wave == 65534 {
+        if self.kept.entries.wave == 65534 {
             return Err(AdvanceFault::TooDeep);
         }
-        self.wave += 1;
-        settle_all(&mut self.entries, &self.counters, &self.exits, self.wave);
+        self.kept.next_wave();
         clear(&mut self.applied);
         Ok(())
+    }
+
+    /// The decided nodes of the block, each once, in ascending order of their depths.
+    pub fn decided(&self) -> &[u64]
+        ensures inside { All (IsIn self.now.cut self.now.number) result.now }
+        ensures once { (i : ℕ) → IsIn self.now.cut self.now.number i
+            → times i result.now ≡ (if is_decided_at (N.net self.now.level) self.now.wave (in_applied self.now) i then 1 else 0) }
+        ensures order { IsNonDecreasingBy (entry_at (N.net self.now.level) self.now.wave (in_applied self.now)) result.now }
+    {
+        self.kept.entries.decided.as_slice()
     }
 
     /// The nodes of the block that have the depth one less than its wave, each once; none at wave 0.
@@ -376,19 +384,23 @@ impl<N: Levels> Block<N> {
         ensures nodes { IfOk result (λ f. (i : ℕ) → IsIn self.now.cut self.now.number i
             → times i f.nodes ≡ (if is_fresh (N.net self.now.level) self.now.wave i then 1 else 0)) }
     {
-        let nodes = fresh_nodes(
-            alloc,
-            &self.entries.codes,
-            self.cut.first(self.number),
-            self.wave,
-        )?;
+        let nodes = self.kept.entries.of_this_wave(alloc)?;
         Ok(Fresh {
             level: self.level,
             cut: self.cut,
-            wave: self.wave,
+            wave: self.kept.entries.wave,
             source: self.number,
             nodes,
             family: PhantomData,
         })
+    }
+}
+
+// Forgets which sources are applied.
+fn clear(applied: &mut Vec<bool>)
+    ensures { applied.new.items ≡ replicate (vec_len applied.old) false }
+{
+    for one in applied.iter_mut() {
+        *one = false;
     }
 }

@@ -1,5 +1,6 @@
 use crate::division::{Blocks, Cut};
 use crate::engine::{AdvanceFault, Block, Tallies};
+use crate::network::{Exits, Graph};
 use crate::samples::{LoneGraph, PairGraph, Pairs};
 use std::test::Fail;
 
@@ -82,5 +83,47 @@ fn exit_comes_due_a_wave_after_its_depth(rt: HostRuntime) -> Result<(), Fail> {
             undecided: 0
         }
     );
+    Ok(())
+}
+
+#[test]
+fn a_block_tells_its_cut(rt: HostRuntime) -> Result<(), Fail> {
+    let cut = Cut::new(2, 2)?;
+    let block: Block<Pairs> = Block::make(rt.alloc(), &PairGraph { level: 7 }, &cut, 1)?;
+    assert_eq!(rt; block.cut().size(), 2);
+    assert_eq!(rt; block.cut().blocks(), 2);
+    Ok(())
+}
+
+#[test]
+fn stretches_are_read_as_single_nodes_are(rt: HostRuntime) -> Result<(), Fail> {
+    let graph = PairGraph { level: 7 };
+    assert_eq!(rt; graph.size(), 2);
+    let mut counts = [7u16; 2];
+    graph.read_counts(0, &mut counts);
+    assert_eq!(rt; counts, [1, 0]);
+    let mut last = [7u16; 1];
+    graph.read_counts(1, &mut last);
+    assert_eq!(rt; last, [graph.quiet_count(1)]);
+    let mut exits = [Exits::NONE; 1];
+    graph.read_exits(1, &mut exits);
+    assert_eq!(rt; exits, [graph.exits(1)]);
+    assert_eq!(rt; exits, [Exits::NONE.with(0).with(41)]);
+    Ok(())
+}
+
+#[test]
+fn summaries_take_one_exit_after_another(rt: HostRuntime) -> Result<(), Fail> {
+    let mut exits = Exits::NONE;
+    for code in [5, 2, 9, 8] {
+        exits = exits.with(code);
+    }
+    let expected = Exits {
+        least_lost: Some(4),
+        greatest_won: Some(7),
+        drawn: false,
+    };
+    assert_eq!(rt; exits, expected);
+    assert!(rt; exits.with(0).drawn);
     Ok(())
 }

@@ -122,7 +122,7 @@ fn entries_of<N: Levels>(block: &Block<N>) -> &[u16]
     ensures codes { is_complete block.now ≡ true → (k : ℕ) → k < count_of block.now
         → slice_index result.now k ≡ code_within (N.net block.now.level) (block.now.wave + 1) (first_node block.now + k) }
 {
-    &block.entries.codes
+    &block.kept.entries.entries.codes
 }
 
 // The entries of all blocks, in the order of their numbers.

@@ -3,7 +3,7 @@ use crate::division::Cut;
 use crate::engine::{AdvanceFault, Applied, Block, Tallies};
 use crate::gathering::{GatherFault, gather};
 use crate::network::{Graph, Levels};
-use crate::samples::{LoneGraph, PairGraph, Pairs};
+use crate::samples::{LoneGraph, PairGraph, Pairs, TrioGraph};
 use std::alloc::Global;
 use std::process::Abort;
 use std::test::Fail;
@@ -78,7 +78,7 @@ fn pair_blocks(
 
 // The entry of a node of a block.
 fn entry<N: Levels>(rt: &impl Abort, block: &Block<N>, node: u64) -> u16 {
-    let range = block.cut.range(block.number());
+    let range = block.range();
     assert!(rt; range.start <= node);
     assert!(rt; node < range.end);
     block.code(node)
@@ -251,5 +251,43 @@ fn last_wave_is_65534(rt: HostRuntime) -> Result<(), Fail> {
     assert_eq!(rt; blocks[0].tallies(), won);
     assert!(rt; blocks[0].settled());
     assert_eq!(rt; entry(&rt, &blocks[0], 0), 65534);
+    Ok(())
+}
+
+#[test]
+fn decided_nodes_stand_in_order_of_their_depths(rt: HostRuntime) -> Result<(), Fail> {
+    for (waves, count) in [(40, 0), (41, 1), (42, 2)] {
+        let blocks = pair_blocks(&rt, rt.alloc(), 7, 1, waves)?;
+        assert_eq!(rt; blocks.len(), 1);
+        let decided = blocks[0].decided();
+        assert_eq!(rt; decided.len(), count, "at wave {waves}");
+        for (node, expected) in decided.iter().zip([1, 0]) {
+            assert_eq!(rt; *node, expected, "at wave {waves}");
+        }
+    }
+    Ok(())
+}
+
+#[test]
+fn trio_finds_a_node_at_waves_6_9_and_10(rt: HostRuntime) -> Result<(), Fail> {
+    let graph = TrioGraph { level: 0 };
+    let cut = Cut::new(3, 1)?;
+    let mut blocks = blocks_of(&rt, rt.alloc(), &graph, &cut)?;
+    for wave in 1..44u16 {
+        assert_eq!(rt; blocks.len(), 1);
+        assert_eq!(rt; blocks[0].last_due(), 43);
+        assert!(rt; !blocks[0].settled(), "before wave {wave}");
+        run_wave(&rt, rt.alloc(), &graph, &mut blocks)?;
+        assert_eq!(rt; blocks.len(), 1);
+        let fresh = blocks[0].fresh(rt.alloc())?;
+        match wave {
+            6 => assert_eq!(rt; fresh.nodes(), [0].as_slice()),
+            9 => assert_eq!(rt; fresh.nodes(), [1].as_slice()),
+            10 => assert_eq!(rt; fresh.nodes(), [2].as_slice()),
+            _ => assert!(rt; fresh.nodes().is_empty(), "at wave {wave}"),
+        }
+    }
+    assert_eq!(rt; blocks.len(), 1);
+    assert!(rt; blocks[0].settled());
     Ok(())
 }

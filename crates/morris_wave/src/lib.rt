@@ -3,17 +3,17 @@
 //! The crate knows no game. A [`Graph`] gives each node's results, and [`sweep`] the code of each node.
 #![tactic(auto)]
 
-mod chains;
 mod delivery;
 mod division;
+mod due;
 mod engine;
 #[cfg(test)]
 mod engine_tests;
-mod entries;
+mod falls;
 mod gathering;
 #[cfg(test)]
 mod gathering_tests;
-mod marks;
+mod listed;
 mod network;
 mod reading;
 #[cfg(test)]
@@ -21,7 +21,7 @@ mod samples;
 mod solver;
 #[cfg(test)]
 mod solver_tests;
-mod taking;
+mod stretch;
 
 pub use delivery::scatter;
 pub use division::{Blocks, Cut};

@@ -1,8 +1,9 @@
 //! What a graph with exits is, and what a search has to know of its exits.
-ghost use Rattle.std.specs.Prelude.{◌≡◌, ℕ, ◌<◌, ◌≤◌, ◌^◌, ◌==◌, List, [], length, OnOk, OnErr, vec_len};
+ghost use Rattle.std.specs.Prelude.{◌≡◌, ℕ, ◌+◌, ◌<◌, ◌≤◌, ◌^◌, ◌==◌, ◌++◌, ◌∷◌, List, [], Option, length, slice_index, OnOk, OnErr, vec_len};
 ghost use Rattle.std.specs.List.{All};
 ghost use Rattle.morris_wave.specs.Nets.{Net, IsNet, times};
 ghost use Rattle.morris_wave.specs.Exits.{due_of};
+ghost use Rattle.morris_wave.specs.Summaries.{least_with, greatest_with, added};
 
 use std::alloc::AllocError;
 
@@ -19,30 +20,34 @@ pub struct Exits {
 
 impl Exits {
     ghost use Rattle.std.specs.Prelude.{nat_lt};
-    ghost use Rattle.morris_wave.specs.Exits.{exits_lost, exits_won, last_due_of, deciding_due};
+    ghost use Rattle.morris_wave.specs.Exits.{exits_of, exits_won, last_due_of};
+    ghost use Rattle.morris_wave.specs.Keeping.{due_wave};
+    ghost use Rattle.morris_wave.specs.Summaries.{added};
 
-    // Whether some exit is lost in fewer than `wave` plies.
-    pub(crate) fn is_lost_by(self, wave: u16) -> bool
-        ensures { result ≡ exits_lost wave self }
+    /// The exits of a node without any.
+    pub const NONE: Exits = Exits {
+        least_lost: None,
+        greatest_won: None,
+        drawn: false,
+    };
+
+    /// The same with one more exit, of this code.
+    ///
+    /// A code is 0 for a draw, and otherwise one more than the depth in plies: an odd code is a loss, an
+    /// even one above 0 a win.
+    pub fn with(self, code: u16) -> Exits
+        ensures value { result ≡ added self code }
+        // What is known of a list of exits becomes what is known of the list with this one at its end.
+        ensures more { (codes : List ℕ) → self ≡ exits_of codes → result ≡ exits_of (codes ++ code ∷ []) }
     {
-        matches!(self.least_lost, Some(depth) if depth < wave)
+        one_more(self, code)
     }
 
-    // Whether every exit is won in fewer than `wave` plies.
-    pub(crate) fn is_won_by(self, wave: u16) -> bool
-        ensures { result ≡ exits_won wave self }
+    // Whether there is none, so that every exit is won before the first wave.
+    pub(crate) fn is_none(self) -> bool
+        ensures { result ≡ exits_won 0 self }
     {
-        match self {
-            Exits {
-                least_lost: None,
-                greatest_won,
-                drawn: false,
-            } => match greatest_won {
-                Some(depth) => depth < wave,
-                None => true,
-            },
-            _ => false,
-        }
+        self.least_lost.is_none() && self.greatest_won.is_none() && !self.drawn
     }
 
     // The last wave at which an exit comes due, 0 if none does.
@@ -52,14 +57,60 @@ impl Exits {
         due(self.least_lost).max(due(self.greatest_won))
     }
 
-    // The wave at which the exits decide the node, if no quiet result speaks against it.
-    pub(crate) fn deciding_due(self) -> u32
-        ensures { result ≡ deciding_due self }
+    // The wave at which the exits come due: where one is lost the first such, otherwise the last one that
+    // is won, or never beside a draw.
+    pub(crate) fn due_wave(self) -> u32
+        ensures { result ≡ due_wave self }
     {
         if self.least_lost.is_some() {
             due(self.least_lost)
+        } else if self.drawn {
+            0
         } else {
             due(self.greatest_won)
+        }
+    }
+}
+
+// The lesser of a depth and one that is known already, if there is one.
+fn least_with(known: Option<u16>, depth: u16) -> u16
+    ensures { result ≡ least_with known depth }
+{
+    match known {
+        None => depth,
+        Some(known) => known.min(depth),
+    }
+}
+
+// The greater of a depth and one that is known already, if there is one.
+fn greatest_with(known: Option<u16>, depth: u16) -> u16
+    ensures { result ≡ greatest_with known depth }
+{
+    match known {
+        None => depth,
+        Some(known) => known.max(depth),
+    }
+}
+
+// The exits with one more, of this code.
+#[tactic(auto, unfolding(crate::specs::Summaries::added))]
+fn one_more(exits: Exits, code: u16) -> Exits
+    ensures { result ≡ added exits code }
+{
+    if code % 2 == 1 {
+        Exits {
+            least_lost: Some(least_with(exits.least_lost, code - 1)),
+            ..exits
+        }
+    } else if code > 0 {
+        Exits {
+            greatest_won: Some(greatest_with(exits.greatest_won, code - 1)),
+            ..exits
+        }
+    } else {
+        Exits {
+            drawn: true,
+            ..exits
         }
     }
 }
@@ -92,6 +143,7 @@ pub trait Levels: Send + Sync {
 /// Its nodes are 0, 1, .. below its size, which is at most 2^40. A node `i` of a call is below the size.
 pub trait Graph {
     ghost use Rattle.morris_wave.specs.Exits.{exits_of};
+    ghost use Rattle.morris_wave.specs.Solving.{exits_at};
 
     /// The family that the graph is of.
     type Name: Levels;
@@ -115,6 +167,26 @@ pub trait Graph {
     fn exits(&self, i: u64) -> Exits
         requires { i < (Self.Name.net (level self.now)).size }
         ensures { result ≡ exits_of ((Self.Name.net (level self.now)).exits i) };
+
+    /// The numbers of quiet results of the nodes from `first` on, as many as there is room for.
+    fn read_counts(&self, first: u64, counts: &mut [u16])
+        requires { first + length counts.old ≤ (Self.Name.net (level self.now)).size }
+        ensures { (k : ℕ) → k < length counts.old → slice_index counts.new k ≡ length ((Self.Name.net (level self.now)).quiet (first + k)) }
+    {
+        for place in 0..counts.len() {
+            counts[place] = self.quiet_count(first + place as u64);
+        }
+    }
+
+    /// The summaries of the results outside of the graph of the nodes from `first` on, as many as there is room for.
+    fn read_exits(&self, first: u64, exits: &mut [Exits])
+        requires { first + length exits.old ≤ (Self.Name.net (level self.now)).size }
+        ensures { (k : ℕ) → k < length exits.old → exits_at exits.new k ≡ exits_of ((Self.Name.net (level self.now)).exits (first + k)) }
+    {
+        for place in 0..exits.len() {
+            exits[place] = self.exits(first + place as u64);
+        }
+    }
 
     /// Lists the nodes that have node `i` as a quiet result, each as often as it leads there.
     ///

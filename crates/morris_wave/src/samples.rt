@@ -1,6 +1,6 @@
 //! Small graphs for the tests.
 ghost use Rattle.std.specs.Prelude.{◌≡◌, ℕ};
-ghost use Rattle.morris_wave.specs.Samples.{pair_net, pair_lawful, lone_net, lone_lawful, bare_net, bare_lawful};
+ghost use Rattle.morris_wave.specs.Samples.{pair_net, pair_lawful, lone_net, lone_lawful, bare_net, bare_lawful, trio_net, trio_lawful};
 
 use crate::network::{Exits, Graph, Levels};
 use std::alloc::AllocError;
@@ -163,6 +163,69 @@ impl Graph for BareGraph {
 
     fn back(&self, _i: u64, out: &mut Vec<u64>) -> Result<(), AllocError> {
         out.clear();
+        Ok(())
+    }
+}
+
+// Node 2 leads to node 1. The exits of node 0 are of codes 5 and 2, those of node 1 of codes 2 and 8, and
+// that of node 2 of code 43. Every level is alike.
+pub(crate) struct Trios;
+
+impl Levels for Trios {
+    ghost net = { λ _. trio_net };
+
+    ghost lawful = { λ _. trio_lawful };
+}
+
+#[derive(Drop)]
+pub(crate) struct TrioGraph {
+    pub(crate) level: u64,
+}
+
+impl Graph for TrioGraph {
+    type Name = Trios;
+
+    ghost level = { λ g. g.level };
+
+    fn level(&self) -> u64 {
+        self.level
+    }
+
+    fn size(&self) -> u64 {
+        3
+    }
+
+    fn quiet_count(&self, i: u64) -> u16 {
+        if i == 2 { 1 } else { 0 }
+    }
+
+    fn exits(&self, i: u64) -> Exits {
+        if i == 0 {
+            Exits {
+                least_lost: Some(4),
+                greatest_won: Some(1),
+                drawn: false,
+            }
+        } else if i == 1 {
+            Exits {
+                least_lost: None,
+                greatest_won: Some(7),
+                drawn: false,
+            }
+        } else {
+            Exits {
+                least_lost: Some(42),
+                greatest_won: None,
+                drawn: false,
+            }
+        }
+    }
+
+    fn back(&self, i: u64, out: &mut Vec<u64>) -> Result<(), AllocError> {
+        out.clear();
+        if i == 1 {
+            out.push(2)?;
+        }
         Ok(())
     }
 }

@@ -1,15 +1,12 @@
 //! The codes of all nodes of a graph, by one sweep on one thread.
-ghost use Rattle.std.specs.Prelude.{◌≡◌, ℕ, ◌+◌, ◌<◌, ◌≤◌, ◌==◌, Bool, true, false, [], length, slice_index, OnOk, IfOk, vec_len, nat_le};
+ghost use Rattle.std.specs.Prelude.{◌≡◌, ℕ, ◌+◌, ◌<◌, ◌≤◌, ◌==◌, ◌&&◌, Bool, true, false, not, length, slice_index, OnOk, IfOk, vec_len, nat_le};
 ghost use Rattle.std.specs.List.{All, list_any};
-ghost use Rattle.morris_wave.specs.Nets.{times};
-ghost use Rattle.morris_wave.specs.Exits.{is_odd, last_due_of, deciding_due};
 ghost use Rattle.morris_wave.specs.Values.{HasCode, IsTooDeep, PlyRules, CodeRules};
-ghost use Rattle.morris_wave.specs.Solving.{Lists, Marks, Falls, TakesIn, IsChain, IsAt, ListsFresh, comes_due, exits_at, every, none};
+ghost use Rattle.morris_wave.specs.Solving.{every, none};
+ghost use Rattle.morris_wave.specs.Keeping.{StretchHolds};
 
-use crate::chains::Chains;
-use crate::marks::{close_all, lower, mark, mark_all, settles};
-use crate::network::{Exits, Graph};
-use crate::reading::{first_codes, places_of, read_counters, read_exits};
+use crate::network::Graph;
+use crate::stretch::Stretch;
 use std::alloc::{AllocError, Global};
 use thiserror::Error;
 
@@ -37,182 +34,68 @@ impl From<AllocError> for SweepFault {
 // The last wave that an entry of 16 bits can tell of.
 const LAST_WAVE: u16 = 65534;
 
-// Entries, counters of open quiet results and exits of each node, and the nodes that got their code
-// in this wave.
-#[derive(Drop)]
-pub(crate) struct Work {
-    codes: Vec<u16>,
-    counters: Vec<u16>,
-    exits: Vec<Exits>,
-    found: Vec<u64>,
-}
-
-// Takes in the nodes that lead to a fresh node of this wave, each as often as it leads there.
-fn take_in(work: &mut Work, nodes: &[u64], wave: u16) -> Result<(), AllocError>
-    requires wave { wave < 65535 }
-    requires inside { All (λ k. k < vec_len work.old.codes) nodes.now }
-    requires counters { vec_len work.old.counters ≡ vec_len work.old.codes }
-    requires exits { vec_len work.old.exits ≡ vec_len work.old.codes }
-    requires enough { is_odd wave ≡ false
-        → (k : ℕ) → k < vec_len work.old.codes → times k nodes.now ≤ slice_index work.old.counters.items k }
-    requires listed { Lists work.old.codes.items (wave + 1) work.old.found.items }
-    ensures codes_len { vec_len work.new.codes ≡ vec_len work.old.codes }
-    ensures counters_len { vec_len work.new.counters ≡ vec_len work.old.counters }
-    ensures exits { work.new.exits ≡ work.old.exits }
-    ensures taken { OnOk result (TakesIn wave nodes.now work.old.codes.items work.new.codes.items
-        work.old.counters.items work.new.counters.items work.old.exits.items) }
-    ensures listed { OnOk result (Lists work.new.codes.items (wave + 1) work.new.found.items) }
+// Goes back from each fresh node of the wave, and takes in what leads there.
+fn spread<G: Graph>(graph: &G, whole: &mut Stretch, back: &mut Vec<u64>) -> Result<(), AllocError>
+    requires first { whole.old.entries.first ≡ 0 }
+    requires len { vec_len whole.old.entries.entries.codes ≡ (G.Name.net (G.level graph.now)).size }
+    requires start { StretchHolds (G.Name.net (G.level graph.now)) whole.old.entries.wave none 0
+        whole.old.entries.entries.codes.items whole.old.counters.items whole.old.due.items whole.old.last_due }
+    ensures first { whole.new.entries.first ≡ 0 }
+    ensures wave { whole.new.entries.wave ≡ whole.old.entries.wave }
+    ensures len { vec_len whole.new.entries.entries.codes ≡ vec_len whole.old.entries.entries.codes }
+    ensures done { OnOk result (StretchHolds (G.Name.net (G.level graph.now)) whole.old.entries.wave every 0
+        whole.new.entries.entries.codes.items whole.new.counters.items whole.new.due.items whole.new.last_due) }
 {
-    if wave % 2 == 1 {
-        mark_all(&mut work.codes, &mut work.found, nodes, wave + 1)
-    } else {
-        lower(&mut work.counters, nodes);
-        close_all(
-            &mut work.codes,
-            &mut work.found,
-            &work.counters,
-            &work.exits,
-            nodes,
-            wave,
-        )
-    }
-}
-
-// Gives their codes to the open nodes whose exits decide them at this wave.
-fn come_due(
-    codes: &mut Vec<u16>,
-    found: &mut Vec<u64>,
-    counters: &[u16],
-    exits: &[Exits],
-    chains: &Chains,
-    wave: u16,
-) -> Result<(), AllocError>
-    requires wave { wave < vec_len chains.now.heads }
-    requires waves { vec_len chains.now.heads ≡ 65535 }
-    requires counters { length counters.now ≡ vec_len codes.old }
-    requires exits { length exits.now ≡ vec_len codes.old }
-    requires links { vec_len chains.now.links ≡ vec_len codes.old }
-    requires chains { IsChain (λ k. deciding_due (exits_at exits.now k)) (vec_len codes.old)
-        chains.now.heads.items chains.now.links.items }
-    requires listed { Lists codes.old.items (wave + 1) found.old.items }
-    ensures len { vec_len codes.new ≡ vec_len codes.old }
-    ensures codes { OnOk result (Marks codes.old.items codes.new.items (comes_due wave counters.now exits.now) (wave + 1)) }
-    ensures listed { OnOk result (Lists codes.new.items (wave + 1) found.new.items) }
-{
-    let mut link = chains.heads[wave as usize];
-    while link > 0 {
-        let node = link - 1;
-        let place = node as usize;
-        let ready = settles(counters[place], exits[place], wave);
-        mark(codes, found, node, ready, wave + 1)?;
-        link = chains.links[place];
+    for place in whole.entries.before..whole.entries.here {
+        graph.back(whole.entries.decided[place], back)?;
+        whole.take_in(back);
     }
     Ok(())
 }
 
-// Goes back from each fresh node of the wave.
-fn spread<G: Graph>(
-    alloc: Global,
+// Goes on from a complete wave to the next one, and completes it.
+fn next_wave<G: Graph>(
     graph: &G,
-    fresh: &[u64],
-    work: &mut Work,
-    wave: u16,
+    whole: &mut Stretch,
+    back: &mut Vec<u64>,
 ) -> Result<(), AllocError>
-    requires wave { wave < 65535 }
-    requires start { IsAt (G.Name.net (G.level graph.now)) wave none work.old.codes.items work.old.counters.items work.old.exits.items }
-    requires fresh { ListsFresh (G.Name.net (G.level graph.now)) wave fresh.now }
-    requires listed { Lists work.old.codes.items (wave + 1) work.old.found.items }
-    ensures exits { work.new.exits ≡ work.old.exits }
-    ensures done { OnOk result (IsAt (G.Name.net (G.level graph.now)) wave every work.new.codes.items work.new.counters.items work.new.exits.items) }
-    ensures listed { OnOk result (Lists work.new.codes.items (wave + 1) work.new.found.items) }
+    requires wave { whole.old.entries.wave < 65534 }
+    requires first { whole.old.entries.first ≡ 0 }
+    requires len { vec_len whole.old.entries.entries.codes ≡ (G.Name.net (G.level graph.now)).size }
+    requires start { StretchHolds (G.Name.net (G.level graph.now)) whole.old.entries.wave every 0
+        whole.old.entries.entries.codes.items whole.old.counters.items whole.old.due.items whole.old.last_due }
+    ensures first { whole.new.entries.first ≡ 0 }
+    ensures wave { whole.new.entries.wave ≡ whole.old.entries.wave + 1 }
+    ensures len { vec_len whole.new.entries.entries.codes ≡ vec_len whole.old.entries.entries.codes }
+    ensures done { OnOk result (StretchHolds (G.Name.net (G.level graph.now)) (whole.old.entries.wave + 1) every 0
+        whole.new.entries.entries.codes.items whole.new.counters.items whole.new.due.items whole.new.last_due) }
+{
+    whole.next_wave();
+    spread(graph, whole, back)
+}
+
+// Goes from wave to wave until nothing more is to come, and says whether it got so far.
+fn run<G: Graph>(alloc: Global, graph: &G, whole: &mut Stretch) -> Result<bool, AllocError>
+    requires first { whole.old.entries.first ≡ 0 }
+    requires wave { whole.old.entries.wave ≡ 0 }
+    requires len { vec_len whole.old.entries.entries.codes ≡ (G.Name.net (G.level graph.now)).size }
+    requires start { StretchHolds (G.Name.net (G.level graph.now)) 0 every 0
+        whole.old.entries.entries.codes.items whole.old.counters.items whole.old.due.items whole.old.last_due }
+    ensures len { vec_len whole.new.entries.entries.codes ≡ vec_len whole.old.entries.entries.codes }
+    ensures done { OnOk result (StretchHolds (G.Name.net (G.level graph.now)) whole.new.entries.wave every 0
+        whole.new.entries.entries.codes.items whole.new.counters.items whole.new.due.items whole.new.last_due) }
+    ensures quiet { IfOk result (λ quiet. quiet ≡ (nat_le whole.new.last_due whole.new.entries.wave
+        && not (list_any (λ c. c == (whole.new.entries.wave + 1)) whole.new.entries.entries.codes.items))) }
+    ensures last { IfOk result (λ quiet. quiet ≡ false → whole.new.entries.wave ≡ 65534) }
 {
     let mut back = Vec::new(alloc);
-    for node in fresh {
-        graph.back(*node, &mut back)?;
-        take_in(work, &back, wave)?;
-    }
-    Ok(())
-}
-
-// Goes on from the complete wave `done` to the next one, and completes it.
-fn next_wave<G: Graph>(
-    alloc: Global,
-    graph: &G,
-    chains: &Chains,
-    fresh: &mut Vec<u64>,
-    work: &mut Work,
-    done: u16,
-) -> Result<(), AllocError>
-    requires wave { done + 1 < vec_len chains.now.heads }
-    requires waves { vec_len chains.now.heads ≡ 65535 }
-    requires links { vec_len chains.now.links ≡ vec_len work.old.codes }
-    requires chains { IsChain (λ k. deciding_due (exits_at work.old.exits.items k)) (vec_len work.old.codes)
-        chains.now.heads.items chains.now.links.items }
-    requires start { IsAt (G.Name.net (G.level graph.now)) done every work.old.codes.items work.old.counters.items work.old.exits.items }
-    requires listed { Lists work.old.codes.items (done + 1) work.old.found.items }
-    ensures exits { work.new.exits ≡ work.old.exits }
-    ensures done { OnOk result (IsAt (G.Name.net (G.level graph.now)) (done + 1) every work.new.codes.items work.new.counters.items work.new.exits.items) }
-    ensures listed { OnOk result (Lists work.new.codes.items (done + 1 + 1) work.new.found.items) }
-{
-    let wave = done + 1;
-    std::mem::swap(fresh, &mut work.found);
-    work.found.clear();
-    come_due(
-        &mut work.codes,
-        &mut work.found,
-        &work.counters,
-        &work.exits,
-        chains,
-        wave,
-    )?;
-    spread(alloc, graph, fresh, work, wave)
-}
-
-// Whether some exit comes due after the last wave.
-fn has_late_exit(exits: &[Exits]) -> bool
-    ensures { result ≡ list_any (λ e. nat_le 65535 (last_due_of e)) exits.now }
-{
-    exits.iter().any(|outward| outward.last_due() >= 65535)
-}
-
-// Reads the graph and gives their entries before the first wave.
-fn start<G: Graph>(alloc: Global, graph: &G) -> Result<Work, SweepFault>
-    ensures first { IfOk result (λ w. IsAt (G.Name.net (G.level graph.now)) 0 every w.codes.items w.counters.items w.exits.items) }
-    ensures listed { IfOk result (λ w. Lists w.codes.items 1 w.found.items) }
-    ensures due { IfOk result (λ w. All (λ e. last_due_of e < 65535) w.exits.items) }
-    ensures too_deep { result ≡ Err SweepFault.TooDeep → IsTooDeep (G.Name.net (G.level graph.now)) }
-{
-    let size = graph.size();
-    let exits = read_exits(alloc, graph, 0, size)?;
-    if has_late_exit(&exits) {
-        return Err(SweepFault::TooDeep);
-    }
-    let counters = read_counters(alloc, graph, 0, size)?;
-    let codes = first_codes(alloc, &counters, &exits)?;
-    let found = places_of(alloc, &codes, 1)?;
-    Ok(Work {
-        codes,
-        counters,
-        exits,
-        found,
-    })
-}
-
-// Goes through all waves.
-fn run<G: Graph>(alloc: Global, graph: &G, work: &mut Work) -> Result<(), AllocError>
-    requires start { IsAt (G.Name.net (G.level graph.now)) 0 every work.old.codes.items work.old.counters.items work.old.exits.items }
-    requires listed { Lists work.old.codes.items 1 work.old.found.items }
-    requires due { All (λ e. last_due_of e < 65535) work.old.exits.items }
-    ensures exits { work.new.exits ≡ work.old.exits }
-    ensures done { OnOk result (IsAt (G.Name.net (G.level graph.now)) 65534 every work.new.codes.items work.new.counters.items work.new.exits.items) }
-    ensures listed { OnOk result (Lists work.new.codes.items 65535 work.new.found.items) }
-{
-    let chains = Chains::make(alloc, &work.exits)?;
-    let mut fresh = Vec::with_capacity(alloc, work.codes.len())?;
     for done in 0..LAST_WAVE {
-        next_wave(alloc, graph, &chains, &mut fresh, work, done)?;
+        if whole.is_quiet() {
+            return Ok(true);
+        }
+        next_wave(graph, whole, &mut back)?;
     }
-    Ok(())
+    Ok(whole.is_quiet())
 }
 
 /// The code of each node of a graph: 0 for a draw, otherwise one more than its depth.
@@ -221,8 +104,9 @@ fn run<G: Graph>(alloc: Global, graph: &G, work: &mut Work) -> Result<(), AllocE
 /// result, and lost, where all its results are won, in one ply more than the greatest of these. Codes
 /// of lost nodes are odd. A node that is neither for any number of plies is a draw.
 ///
-/// The work is in proportion to nodes, quiet results and depths. Beside the codes it takes 36 bytes a
-/// node, one list of 65,535 places and one of predecessors.
+/// The work is in proportion to nodes, quiet results and depths. It takes 4 bytes a node, 8 for each node
+/// that is decided and 8 for each that comes due by its exits, and one list of predecessors. While it reads
+/// the graph it takes 2 bytes a node more.
 ///
 /// # Errors
 ///
@@ -240,10 +124,9 @@ pub fn sweep<G: Graph>(alloc: Global, graph: &G) -> Result<Vec<u16>, SweepFault>
     // And it tells who wins: codes of lost nodes are odd, those of won nodes even.
     ensures outcome { CodeRules (G.Name.net (G.level graph.now)) }
 {
-    let mut work = start(alloc, graph)?;
-    run(alloc, graph, &mut work)?;
-    if work.found.is_empty() {
-        Ok(work.codes)
+    let mut whole = Stretch::read(alloc, graph, 0, graph.size())?;
+    if run(alloc, graph, &mut whole)? {
+        Ok(whole.entries.entries.codes)
     } else {
         Err(SweepFault::TooDeep)
     }

@@ -1,4 +1,4 @@
-use crate::samples::{BareGraph, LoneGraph, PairGraph};
+use crate::samples::{BareGraph, LoneGraph, PairGraph, TrioGraph};
 use crate::solver::{SweepFault, sweep};
 use std::test::Fail;
 
@@ -30,6 +30,13 @@ fn exits_decide_a_lone_node(rt: HostRuntime) -> Result<(), Fail> {
         },
     )?;
     assert_eq!(rt; drawn.as_slice(), [0].as_slice());
+    Ok(())
+}
+
+#[test]
+fn exits_and_quiet_results_decide_a_trio(rt: HostRuntime) -> Result<(), Fail> {
+    let codes = sweep(rt.alloc(), &TrioGraph { level: 0 })?;
+    assert_eq!(rt; codes.as_slice(), [6, 9, 10].as_slice());
     Ok(())
 }
 

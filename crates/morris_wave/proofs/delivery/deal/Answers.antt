@@ -8,17 +8,17 @@ use Rattle.morris_wave.proofs.delivery.deal.Goals as goal
 pub loop-node-preserved : goal.loop-node-preserved
 loop-node-preserved c =
     let inv = c.loop-node.invariant in
-    let cut = c.args.cut.now in
+    let cut = c.args.finder.now.cut in
     let nodes = c.args.nodes.now in
     let node = slice_index nodes c.loop-node.node-index in
     let old = contents c.args.lists.now.items in
     let mid = contents c.loop-node.lists.items in
     let put : contents c.put.new.lists.items ≡ set mid (block_of cut node) (list_at mid (block_of cut node) ++ node ∷ []) =
-    c.in_ok-put.ensures.put ∙ ap (λ (t : ℕ). set mid t (list_at mid t ++ node ∷ [])) c.block_of.ensures.value in
+    c.in_ok-put.ensures.put ∙ ap (λ (t : ℕ). set mid t (list_at mid t ++ node ∷ [])) c.find.ensures.value in
     let many : length mid ≡ length c.loop-node.lists.items = length-map c.loop-node.lists.items (λ v. v.items) in
     let within : block_of cut node < length mid =
-    omega (arith, c.block_of.ensures.value, c.block_of.ensures.within, many, inv.0, c.requires.count, c.args.lists.now.ok.0) in
-    let holds = subst (λ (b : ℕ). IsIn cut b node) c.block_of.ensures.value c.block_of.ensures.holds in (
+    omega (arith, c.find.ensures.value, c.find.ensures.within, many, inv.0, c.requires.count, c.args.lists.now.ok.0) in
+    let holds = subst (λ (b : ℕ). IsIn cut b node) c.find.ensures.value c.find.ensures.holds in (
       omega (arith, c.put.ensures.len, c.put.new.lists.ok.0, c.loop-node.lists.ok.0, inv.0),
       subst (λ (ls : List (List ℕ)). AreSorted cut ls) (sym put) (deal_sorted cut nodes c.loop-node.node-index node (omega arith) refl old mid within holds inv.1),
       subst (λ (ls : List (List ℕ)). Deals cut old ls (take (c.loop-node.node-index + 1) nodes)) (sym put)

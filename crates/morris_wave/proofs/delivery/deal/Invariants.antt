@@ -5,5 +5,5 @@ use Rattle.morris_wave.proofs.delivery.deal.Given as goal
 abbrev pub invariant-loop-node : goal.invariant-loop-node
 invariant-loop-node l =
     (length l.lists.items ≡ length l.initial.lists.items)
-    × AreSorted l.cut (contents l.lists.items)
-    × Deals l.cut (contents l.initial.lists.items) (contents l.lists.items) (take l.node-index l.nodes)
+    × AreSorted l.finder.cut (contents l.lists.items)
+    × Deals l.finder.cut (contents l.initial.lists.items) (contents l.lists.items) (take l.node-index l.nodes)

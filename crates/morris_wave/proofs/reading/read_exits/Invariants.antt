@@ -1,9 +1,11 @@
-use Rattle.std.proofs.Common.{◌≡◌, ℕ, ◌+◌, ◌-◌, ◌<◌, length}
-use Rattle.morris_wave.specs.Exits.{exits_of}
-use Rattle.morris_wave.specs.Solving.{exits_at}
+use Rattle.std.proofs.Common.{◌≡◌, ◌*◌, length, min, vec_len}
+use Rattle.morris_wave.specs.Keeping.{HasRead}
 use Rattle.morris_wave.proofs.reading.read_exits.Given as goal
 
-abbrev pub invariant-loop-node : goal.invariant-loop-node
-invariant-loop-node g l =
-    (length l.exits.items ≡ l.node - l.first)
-    × ((k : ℕ) → k < l.node - l.first → exits_at l.exits.items k ≡ exits_of ((g.G.Name.Levels.net (g.G.Graph.level l.graph)).exits (l.first + k)))
+abbrev pub invariant-loop-piece : goal.invariant-loop-piece
+invariant-loop-piece g l =
+    (vec_len l.reading.entries.entries.codes ≡ vec_len l.initial.reading.entries.entries.codes)
+    × (l.reading.entries.first ≡ l.initial.reading.entries.first)
+    × (l.reading.entries.wave ≡ 0)
+    × (length l.exits ≡ 1024)
+    × HasRead (g.G.Name.Levels.net (g.G.Graph.level l.graph)) l.initial.reading.entries.first (min (l.piece * 1024) (vec_len l.initial.reading.entries.entries.codes)) l.reading.entries.entries.codes.items l.reading.counters.items l.reading.waves.items l.reading.last_due

@@ -1,31 +1,25 @@
-use Rattle.std.proofs.Common.{ℕ, ◌+◌, List, sym, ap, subst, ◌∙◌, arith}
-use Rattle.morris_wave.specs.declared.network.Exits.{Exits}
-use Rattle.morris_wave.specs.Solving.{Lists, ListsFresh, Marks, comes_due}
-use Rattle.morris_wave.proofs.Sweeping.{advance_at, lists_fresh, lists_none}
+use Rattle.std.proofs.Common.{◌≤◌, ℕ, ◌+◌, List, length, sym, ap, subst, arith}
+use Rattle.morris_wave.specs.Solving.{none}
+use Rattle.morris_wave.specs.Keeping.{StretchHolds, UsedUpTo}
+use Rattle.morris_wave.proofs.Stretches.{next_holds}
 use Rattle.morris_wave.proofs.solver.next_wave.Goals as goal
 
-pub come_due-requires-clause-listed : goal.come_due-requires-clause-listed
-come_due-requires-clause-listed g c =
-    let net = g.G.Name.Levels.net (g.G.Graph.level c.args.graph.now) in
-    let work = c.args.work.now in
-    subst (λ (xs : List ℕ). Lists work.codes.items (c.args.done + 1 + 1) xs) (sym {A = List ℕ} c.clear.ensures.items)
-    (lists_none net c.args.done work.codes.items work.counters.items work.exits.items c.requires.start)
-
 pub spread-requires-clause-start : goal.spread-requires-clause-start
-spread-requires-clause-start g c κs within =
+spread-requires-clause-start g c = λ _ _.
     let net = g.G.Name.Levels.net (g.G.Graph.level c.args.graph.now) in
-    let work = c.args.work.now in
-    let new = c.come_due.new.codes in
-    let marks =
-    subst (λ (es : List Exits). Marks work.codes.items new.items (comes_due (c.args.done + 1) work.counters.items es) (c.args.done + 1 + 1)) c.deref-2.ensures.value
-    (subst (λ (cs : List ℕ). Marks work.codes.items new.items (comes_due (c.args.done + 1) cs c.deref-2.result.now) (c.args.done + 1 + 1)) c.deref.ensures.value
-    c.in_ok-come_due.ensures.codes) in
-    advance_at net c.args.done work.codes.items new.items work.counters.items work.exits.items
-    (omega (arith, c.in_ok-come_due.ensures.len, new.ok.0, work.codes.ok.0)) c.requires.start marks
-
-pub spread-requires-clause-fresh : goal.spread-requires-clause-fresh
-spread-requires-clause-fresh g c κs within =
-    let net = g.G.Name.Levels.net (g.G.Graph.level c.args.graph.now) in
-    let work = c.args.work.now in
-    subst (λ (xs : List ℕ). ListsFresh net (c.args.done + 1) xs) (sym {A = List ℕ} (c.deref-3.ensures.value ∙ ap (λ v. v.items) c.swap.ensures.x_after))
-    (lists_fresh net c.args.done work.codes.items work.counters.items work.found.items work.exits.items c.requires.start c.requires.listed)
+    let law = g.G.Name.Levels.lawful (g.G.Graph.level c.args.graph.now) in
+    let old = c.args.whole.now in
+    let codes = old.entries.entries.codes in
+    let made = c.next_wave.ensures in
+    let new = c.next_wave.new.self in
+    let codes' = new.entries.entries.codes in
+    let used : UsedUpTo (old.entries.wave + 1) old.due.items new.used =
+    subst (λ (w : ℕ). UsedUpTo w old.due.items new.used) made.wave (subst (λ (xs : List ℕ). UsedUpTo new.entries.wave xs new.used) (ap (λ v. v.items) made.due) new.used_is) in
+    let small : length codes.items ≤ 1099511627776 = omega (arith, c.requires.start.in_graph, law.small) in
+    let holds = next_holds net law old.entries.wave 0 codes.items old.counters.items old.due.items old.last_due c.requires.start small c.requires.wave new.used used
+    codes'.items new.counters.items
+    (omega (arith, made.len, codes.ok.0, codes'.ok.0))
+    (omega (arith, new.counted, old.counted, made.len, new.counters.ok.0, old.counters.ok.0)) made.small made.comes in
+    subst (λ (w : ℕ). StretchHolds net w none 0 codes'.items new.counters.items new.due.items new.last_due) (sym made.wave)
+    (subst (λ (xs : List ℕ). StretchHolds net (old.entries.wave + 1) none 0 codes'.items new.counters.items xs new.last_due) (sym (ap (λ v. v.items) made.due))
+    (subst (λ (d : ℕ). StretchHolds net (old.entries.wave + 1) none 0 codes'.items new.counters.items old.due.items d) (sym made.last_due) holds))

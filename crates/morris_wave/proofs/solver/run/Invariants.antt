@@ -1,9 +1,11 @@
-use Rattle.std.proofs.Common.{◌≡◌, ◌+◌}
-use Rattle.morris_wave.specs.Solving.{Lists, IsAt, every}
+use Rattle.std.proofs.Common.{◌≡◌, vec_len}
+use Rattle.morris_wave.specs.Solving.{every}
+use Rattle.morris_wave.specs.Keeping.{StretchHolds}
 use Rattle.morris_wave.proofs.solver.run.Given as goal
 
 abbrev pub invariant-loop-done : goal.invariant-loop-done
 invariant-loop-done g l =
-    IsAt (g.G.Name.Levels.net (g.G.Graph.level l.graph)) l.done every l.work.codes.items l.work.counters.items l.work.exits.items
-    × Lists l.work.codes.items (l.done + 1) l.work.found.items
-    × (l.work.exits ≡ l.initial.work.exits)
+    (l.whole.entries.wave ≡ l.done)
+    × (l.whole.entries.first ≡ 0)
+    × (vec_len l.whole.entries.entries.codes ≡ vec_len l.initial.whole.entries.entries.codes)
+    × StretchHolds (g.G.Name.Levels.net (g.G.Graph.level l.graph)) l.whole.entries.wave every 0 l.whole.entries.entries.codes.items l.whole.counters.items l.whole.due.items l.whole.last_due

@@ -1,45 +1,111 @@
-use Rattle.std.proofs.Common.{◌≡◌, ℕ, ◌<◌, ◌+◌, List, take, slice_index, refl, sym, ap, subst, ◌∙◌, arith}
-use Rattle.std.proofs.lemmas.List.{take_all}
+use Rattle.std.proofs.Common.{◌≡◌, ◌<◌, ◌≤◌, ℕ, ◌+◌, ◌-◌, false, List, drop, length, refl, slice_index, sym, take, ap, subst, ◌∙◌, arith}
+use Rattle.std.proofs.lemmas.List.{get_or_read, take_all}
 use Rattle.morris_wave.specs.Nets.{times}
-use Rattle.morris_wave.specs.Solving.{IsAt, among}
-use Rattle.morris_wave.proofs.Sweeping.{enough, spread_more, spread_all}
+use Rattle.morris_wave.specs.Exits.{is_odd}
+use Rattle.morris_wave.specs.Solving.{ListsFresh, among, none}
+use Rattle.morris_wave.specs.Keeping.{StretchHolds, Ranked, Takes, left_of}
+use Rattle.morris_wave.proofs.Sweeping.{fresh_listed, fresh_at, fresh_length, spread_none, spread_enough, spread_more, spread_all}
 use Rattle.morris_wave.proofs.solver.spread.Goals as goal
+
+pub loop-place-init : goal.loop-place-init
+loop-place-init g c =
+    let net = g.G.Name.Levels.net (g.G.Graph.level c.args.graph.now) in
+    let law = g.G.Name.Levels.lawful (g.G.Graph.level c.args.graph.now) in
+    let start = c.args.whole.now in
+    let e = start.entries in (
+      refl,
+      refl,
+      refl,
+      c.requires.first,
+      refl,
+      refl,
+      omega arith,
+      spread_none net law e.wave 0 e.entries.codes.items start.counters.items start.due.items start.last_due
+          (take (e.here - e.before) (drop e.before e.decided.items)) (e.before - e.before) (omega arith) c.requires.start,
+    )
 
 pub take_in-requires-clause-enough : goal.take_in-requires-clause-enough
 take_in-requires-clause-enough g c =
     let net = g.G.Name.Levels.net (g.G.Graph.level c.args.graph.now) in
-    let inv = c.loop-node.invariant in
-    let fresh = c.args.fresh.now in
-    let node = slice_index fresh c.loop-node.node-index in
+    let law = g.G.Name.Levels.lawful (g.G.Graph.level c.args.graph.now) in
+    let inv = c.loop-place.invariant in
+    let start = c.args.whole.now in
+    let e = start.entries in
+    let now = c.loop-place.whole in
+    let codes = now.entries.entries.codes in
+    let fresh = take (e.here - e.before) (drop e.before e.decided.items) in
+    let i = c.loop-place.place - e.before in
+    let listed : ListsFresh net e.wave fresh =
+    fresh_listed net law e.wave none e.entries.codes.items start.counters.items start.due.items start.last_due c.requires.start (omega (arith, c.requires.len, e.entries.codes.ok.0))
+    e.decided.items e.before e.here (subst (λ (f : ℕ). Ranked f e.wave e.entries.codes.items e.decided.items e.before e.here) c.requires.first e.ranked) in
+    let node = c.index.result.now in
+    let within : i < length fresh = omega (arith, fresh_length e.decided.items e.before e.here e.ranked.within, c.loop-place-test.true, inv.6) in
+    let read : node ≡ slice_index now.entries.decided.items c.loop-place.place =
+    get_or_read now.entries.decided.items c.loop-place.place node (omega (arith, c.loop-place-test.true, inv.1, now.entries.ranked.within)) c.index.ensures 0 in
+    let is : node ≡ slice_index fresh i = read ∙ fresh_at e.decided.items now.entries.decided.items e.before e.here c.loop-place.place inv.2 inv.6 c.loop-place-test.true in
     let behind : (k : ℕ) → k < net.size → times k c.deref.result.now ≡ times node (net.quiet k) = λ k l. ap (times k) c.deref.ensures.value ∙ c.in_ok-back.ensures.times k l in
-    λ even k l. let within : k < net.size = omega (arith, inv.0.codes_len, c.loop-node.work.codes.ok.0) in
-    omega (arith, enough net c.args.wave fresh c.requires.fresh c.loop-node.node-index node (omega arith) refl c.deref.result.now behind even k within, inv.0.counters_are k within)
+    λ even k l.
+    let even_here : is_odd e.wave ≡ false = ap is_odd (sym inv.4) ∙ even in
+    subst (λ (f : ℕ). times (f + k) c.deref.result.now ≤ left_of (slice_index now.counters.items k)) (sym inv.3)
+    (spread_enough net e.wave fresh listed i node within is c.deref.result.now behind law 0 codes.items now.counters.items now.due.items now.last_due inv.7 even_here k (omega (arith, l, codes.ok.0)))
 
-pub loop-node-preserved : goal.loop-node-preserved
-loop-node-preserved g c =
+pub loop-place-preserved : goal.loop-place-preserved
+loop-place-preserved g c =
     let net = g.G.Name.Levels.net (g.G.Graph.level c.args.graph.now) in
-    let inv = c.loop-node.invariant in
-    let fresh = c.args.fresh.now in
-    let node = slice_index fresh c.loop-node.node-index in
+    let law = g.G.Name.Levels.lawful (g.G.Graph.level c.args.graph.now) in
+    let inv = c.loop-place.invariant in
+    let start = c.args.whole.now in
+    let e = start.entries in
+    let now = c.loop-place.whole in
+    let codes = now.entries.entries.codes in
+    let fresh = take (e.here - e.before) (drop e.before e.decided.items) in
+    let i = c.loop-place.place - e.before in
+    let listed : ListsFresh net e.wave fresh =
+    fresh_listed net law e.wave none e.entries.codes.items start.counters.items start.due.items start.last_due c.requires.start (omega (arith, c.requires.len, e.entries.codes.ok.0))
+    e.decided.items e.before e.here (subst (λ (f : ℕ). Ranked f e.wave e.entries.codes.items e.decided.items e.before e.here) c.requires.first e.ranked) in
+    let node = c.index.result.now in
+    let within : i < length fresh = omega (arith, fresh_length e.decided.items e.before e.here e.ranked.within, c.loop-place-test.true, inv.6) in
+    let read : node ≡ slice_index now.entries.decided.items c.loop-place.place =
+    get_or_read now.entries.decided.items c.loop-place.place node (omega (arith, c.loop-place-test.true, inv.1, now.entries.ranked.within)) c.index.ensures 0 in
+    let is : node ≡ slice_index fresh i = read ∙ fresh_at e.decided.items now.entries.decided.items e.before e.here c.loop-place.place inv.2 inv.6 c.loop-place-test.true in
     let behind : (k : ℕ) → k < net.size → times k c.deref.result.now ≡ times node (net.quiet k) = λ k l. ap (times k) c.deref.ensures.value ∙ c.in_ok-back.ensures.times k l in
-    let old = c.loop-node.work in
-    let new = c.take_in.new.work in
-    let same : new.exits ≡ old.exits = c.in_ok-take_in.ensures.exits in (
-      subst (λ e. IsAt net c.args.wave (among (take (c.loop-node.node-index + 1) fresh)) new.codes.items new.counters.items e) (ap (λ v. v.items) (sym same))
-          (spread_more net c.args.wave fresh c.requires.fresh c.loop-node.node-index node (omega arith) refl c.deref.result.now behind
-          old.codes.items new.codes.items old.counters.items new.counters.items old.exits.items
-          (omega (arith, c.in_ok-take_in.ensures.codes_len, old.codes.ok.0, new.codes.ok.0))
-          (omega (arith, c.in_ok-take_in.ensures.counters_len, old.counters.ok.0, new.counters.ok.0))
-          inv.0 c.in_ok-take_in.ensures.taken),
-      c.in_ok-take_in.ensures.listed,
-      same ∙ inv.2,
+    let made = c.take_in.ensures in
+    let new = c.take_in.new.self in
+    let codes' = new.entries.entries.codes in
+    let takes : Takes e.wave 0 c.deref.result.now codes.items codes'.items now.counters.items new.counters.items =
+    subst (λ (w : ℕ). Takes w 0 c.deref.result.now codes.items codes'.items now.counters.items new.counters.items) inv.4
+    (subst (λ (f : ℕ). Takes now.entries.wave f c.deref.result.now codes.items codes'.items now.counters.items new.counters.items) inv.3 made.taken) in
+    let more = spread_more net e.wave fresh listed i node within is c.deref.result.now behind law 0 codes.items now.counters.items now.due.items now.last_due inv.7
+    codes'.items new.counters.items
+    (omega (arith, made.len, codes.ok.0, codes'.ok.0))
+    (omega (arith, new.counted, now.counted, made.len, new.counters.ok.0, now.counters.ok.0)) made.small takes in
+    let next : i + 1 ≡ c.loop-place.place + 1 - e.before = omega (arith, inv.6) in (
+      made.before ∙ inv.0,
+      made.here ∙ inv.1,
+      subst (λ (n : ℕ). take n new.entries.decided.items ≡ take n now.entries.decided.items) inv.1 made.list ∙ inv.2,
+      made.first ∙ inv.3,
+      made.wave ∙ inv.4,
+      made.len ∙ inv.5,
+      omega (arith, inv.6),
+      subst (λ (p : ℕ). StretchHolds net e.wave (among (take p fresh)) 0 codes'.items new.counters.items new.due.items new.last_due) next
+          (subst (λ (xs : List ℕ). StretchHolds net e.wave (among (take (i + 1) fresh)) 0 codes'.items new.counters.items xs new.last_due) (sym (ap (λ v. v.items) made.due))
+          (subst (λ (d : ℕ). StretchHolds net e.wave (among (take (i + 1) fresh)) 0 codes'.items new.counters.items now.due.items d) (sym made.last_due) more)),
     )
 
 pub returns-clause-done : goal.returns-clause-done
 returns-clause-done g c =
     let net = g.G.Name.Levels.net (g.G.Graph.level c.args.graph.now) in
-    let fresh = c.args.fresh.now in
-    let work = c.loop-node.work in
-    let whole : take c.loop-node.node-index fresh ≡ fresh = take_all c.loop-node.node-index fresh c.loop-node-test.false in
-    spread_all net (g.G.Name.Levels.lawful (g.G.Graph.level c.args.graph.now)) c.args.wave fresh c.requires.fresh work.codes.items work.counters.items work.exits.items
-    (subst (λ (xs : List ℕ). IsAt net c.args.wave (among xs) work.codes.items work.counters.items work.exits.items) whole c.loop-node.invariant.0)
+    let law = g.G.Name.Levels.lawful (g.G.Graph.level c.args.graph.now) in
+    let inv = c.loop-place.invariant in
+    let start = c.args.whole.now in
+    let e = start.entries in
+    let now = c.loop-place.whole in
+    let codes = now.entries.entries.codes in
+    let fresh = take (e.here - e.before) (drop e.before e.decided.items) in
+    let i = c.loop-place.place - e.before in
+    let listed : ListsFresh net e.wave fresh =
+    fresh_listed net law e.wave none e.entries.codes.items start.counters.items start.due.items start.last_due c.requires.start (omega (arith, c.requires.len, e.entries.codes.ok.0))
+    e.decided.items e.before e.here (subst (λ (f : ℕ). Ranked f e.wave e.entries.codes.items e.decided.items e.before e.here) c.requires.first e.ranked) in
+    let whole : take i fresh ≡ fresh = take_all i fresh (omega (arith, fresh_length e.decided.items e.before e.here e.ranked.within, c.loop-place-test.false, inv.6)) in
+    spread_all net law e.wave 0 codes.items now.counters.items now.due.items now.last_due fresh listed
+    (subst (λ (xs : List ℕ). StretchHolds net e.wave (among xs) 0 codes.items now.counters.items now.due.items now.last_due) whole inv.7)

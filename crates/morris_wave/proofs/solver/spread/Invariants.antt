@@ -1,9 +1,17 @@
-use Rattle.std.proofs.Common.{◌≡◌, ◌+◌, take}
-use Rattle.morris_wave.specs.Solving.{Lists, IsAt, among}
+use Rattle.std.proofs.Common.{◌≡◌, ◌≤◌, ◌-◌, drop, take, vec_len}
+use Rattle.morris_wave.specs.Solving.{among}
+use Rattle.morris_wave.specs.Keeping.{StretchHolds}
 use Rattle.morris_wave.proofs.solver.spread.Given as goal
 
-abbrev pub invariant-loop-node : goal.invariant-loop-node
-invariant-loop-node g l =
-    IsAt (g.G.Name.Levels.net (g.G.Graph.level l.graph)) l.wave (among (take l.node-index l.fresh)) l.work.codes.items l.work.counters.items l.work.exits.items
-    × Lists l.work.codes.items (l.wave + 1) l.work.found.items
-    × (l.work.exits ≡ l.initial.work.exits)
+abbrev pub invariant-loop-place : goal.invariant-loop-place
+invariant-loop-place g l =
+    (l.whole.entries.before ≡ l.initial.whole.entries.before)
+    × (l.whole.entries.here ≡ l.initial.whole.entries.here)
+    × (take l.initial.whole.entries.here l.whole.entries.decided.items ≡ take l.initial.whole.entries.here l.initial.whole.entries.decided.items)
+    × (l.whole.entries.first ≡ 0)
+    × (l.whole.entries.wave ≡ l.initial.whole.entries.wave)
+    × (vec_len l.whole.entries.entries.codes ≡ vec_len l.initial.whole.entries.entries.codes)
+    × (l.initial.whole.entries.before ≤ l.place)
+    × StretchHolds (g.G.Name.Levels.net (g.G.Graph.level l.graph)) l.initial.whole.entries.wave
+    (among (take (l.place - l.initial.whole.entries.before) (take (l.initial.whole.entries.here - l.initial.whole.entries.before) (drop l.initial.whole.entries.before l.initial.whole.entries.decided.items)))) 0
+    l.whole.entries.entries.codes.items l.whole.counters.items l.whole.due.items l.whole.last_due

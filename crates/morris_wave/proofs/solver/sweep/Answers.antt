@@ -1,35 +1,49 @@
-use Rattle.std.proofs.Common.{◌≡◌, ◌<◌, ℕ, List, [], length, sym, ap, subst, arith, eqb-true}
-use Rattle.std.specs.List.{All}
-use Rattle.std.proofs.lemmas.List.{nil_from_length}
-use Rattle.std.proofs.lemmas.Bool.{eqb-false}
-use Rattle.morris_wave.specs.declared.network.Exits.{Exits}
-use Rattle.morris_wave.specs.Exits.{last_due_of}
-use Rattle.morris_wave.specs.Solving.{Lists}
-use Rattle.morris_wave.proofs.Sweeping.{finished, finished_shallow, found_deep}
+use Rattle.std.proofs.Common.{◌≡◌, ◌≤◌, ℕ, ◌+◌, false, not, leb, eqb, length, inl, inr, ⊎_elim, sym, ◌∙◌, arith}
+use Rattle.std.specs.List.{list_any}
+use Rattle.std.proofs.lemmas.Bool.{and_parts, and_cases, leb-true, leb-false, not-true, not-false}
+use Rattle.morris_wave.proofs.Stretches.{last_deep}
+use Rattle.morris_wave.proofs.Sweeping.{finished, finished_shallow}
 use Rattle.morris_wave.proofs.solver.sweep.Goals as goal
 
-pub returns-then-is_empty-clause-codes : goal.returns-then-is_empty-clause-codes
-returns-then-is_empty-clause-codes g c =
+pub returns-then-branch-clause-codes : goal.returns-then-branch-clause-codes
+returns-then-branch-clause-codes g c =
     let net = g.G.Name.Levels.net (g.G.Graph.level c.args.graph.now) in
-    let work = c.run.new.work in
-    let empty : work.found.items ≡ [] = nil_from_length work.found.items (omega (arith, eqb-true work.found.len 0 (sym c.if-is_empty.ensures), work.found.ok.0)) in
-    finished net (g.G.Name.Levels.lawful (g.G.Graph.level c.args.graph.now)) 65534 work.codes.items work.counters.items work.exits.items c.in_ok-run.ensures.done
-    (subst (λ (xs : List ℕ). Lists work.codes.items 65535 xs) empty c.in_ok-run.ensures.listed)
-    (subst (λ (es : List Exits). All (λ e. last_due_of e < 65535) es) (sym {A = List Exits} (ap (λ v. v.items) c.in_ok-run.ensures.exits)) c.in_ok-work.ensures.due)
+    let law = g.G.Name.Levels.lawful (g.G.Graph.level c.args.graph.now) in
+    let whole = c.run.new.whole in
+    let codes = whole.entries.entries.codes in
+    let late = leb whole.last_due whole.entries.wave in
+    let found = list_any (λ (x : ℕ). eqb x (whole.entries.wave + 1)) codes.items in
+    let w = and_parts late (not found) (sym c.in_ok-run.ensures.quiet ∙ c.if-branch.true) in
+    let due : whole.last_due ≤ whole.entries.wave = leb-true whole.last_due whole.entries.wave w.0 in
+    let nothing : found ≡ false = not-true found w.1 in
+    let len : length codes.items ≡ net.size = omega (arith, c.in_ok-run.ensures.len, c.in_ok-whole.ensures.len, c.size.ensures, codes.ok.0) in
+    finished net law whole.entries.wave codes.items whole.counters.items whole.due.items whole.last_due c.in_ok-run.ensures.done len due nothing
 
-pub returns-then-is_empty-clause-not_too_deep : goal.returns-then-is_empty-clause-not_too_deep
-returns-then-is_empty-clause-not_too_deep g c =
+pub returns-then-branch-clause-not_too_deep : goal.returns-then-branch-clause-not_too_deep
+returns-then-branch-clause-not_too_deep g c =
     let net = g.G.Name.Levels.net (g.G.Graph.level c.args.graph.now) in
-    let work = c.run.new.work in
-    let empty : work.found.items ≡ [] = nil_from_length work.found.items (omega (arith, eqb-true work.found.len 0 (sym c.if-is_empty.ensures), work.found.ok.0)) in
-    finished_shallow net (g.G.Name.Levels.lawful (g.G.Graph.level c.args.graph.now)) 65534 work.codes.items work.counters.items work.exits.items c.in_ok-run.ensures.done
-    (subst (λ (xs : List ℕ). Lists work.codes.items 65535 xs) empty c.in_ok-run.ensures.listed)
-    (subst (λ (es : List Exits). All (λ e. last_due_of e < 65535) es) (sym {A = List Exits} (ap (λ v. v.items) c.in_ok-run.ensures.exits)) c.in_ok-work.ensures.due)
-    (omega arith)
+    let law = g.G.Name.Levels.lawful (g.G.Graph.level c.args.graph.now) in
+    let whole = c.run.new.whole in
+    let codes = whole.entries.entries.codes in
+    let late = leb whole.last_due whole.entries.wave in
+    let found = list_any (λ (x : ℕ). eqb x (whole.entries.wave + 1)) codes.items in
+    let w = and_parts late (not found) (sym c.in_ok-run.ensures.quiet ∙ c.if-branch.true) in
+    let due : whole.last_due ≤ whole.entries.wave = leb-true whole.last_due whole.entries.wave w.0 in
+    let nothing : found ≡ false = not-true found w.1 in
+    let len : length codes.items ≡ net.size = omega (arith, c.in_ok-run.ensures.len, c.in_ok-whole.ensures.len, c.size.ensures, codes.ok.0) in
+    finished_shallow net law whole.entries.wave codes.items whole.counters.items whole.due.items whole.last_due c.in_ok-run.ensures.done len due nothing whole.entries.last
 
-pub returns-else-is_empty-clause-too_deep : goal.returns-else-is_empty-clause-too_deep
-returns-else-is_empty-clause-too_deep g c = λ _.
+pub returns-else-branch-clause-too_deep : goal.returns-else-branch-clause-too_deep
+returns-else-branch-clause-too_deep g c = λ _.
     let net = g.G.Name.Levels.net (g.G.Graph.level c.args.graph.now) in
-    let work = c.run.new.work in
-    let some : 0 < length work.found.items = omega (arith, eqb-false work.found.len 0 (sym c.if-is_empty.ensures), work.found.ok.0) in
-    found_deep net 65534 work.codes.items work.counters.items work.found.items work.exits.items (omega arith) c.in_ok-run.ensures.done c.in_ok-run.ensures.listed some
+    let law = g.G.Name.Levels.lawful (g.G.Graph.level c.args.graph.now) in
+    let whole = c.run.new.whole in
+    let codes = whole.entries.entries.codes in
+    let late = leb whole.last_due whole.entries.wave in
+    let found = list_any (λ (x : ℕ). eqb x (whole.entries.wave + 1)) codes.items in
+    let wave : whole.entries.wave ≡ 65534 = c.in_ok-run.ensures.last c.if-branch.false in
+    last_deep net law whole.entries.wave 0 codes.items whole.counters.items whole.due.items whole.last_due c.in_ok-run.ensures.done wave
+    (⊎_elim
+    (λ e. inl (leb-false whole.last_due whole.entries.wave e))
+    (λ e. inr (not-false found e))
+    (and_cases late (not found) (sym c.in_ok-run.ensures.quiet ∙ c.if-branch.false)))

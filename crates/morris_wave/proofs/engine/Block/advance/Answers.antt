@@ -1,27 +1,32 @@
-use Rattle.std.proofs.Common.{◌≡◌, ℕ, ◌+◌, List, Bool, true, false, replicate, slice_index, sym, ap, subst, ◌∙◌, arith}
-use Rattle.morris_wave.specs.declared.network.Exits.{Exits}
-use Rattle.morris_wave.specs.Waves.{settles}
-use Rattle.morris_wave.specs.Solving.{Marks, exits_at}
+use Rattle.std.proofs.Common.{◌≡◌, ◌<◌, ℕ, ◌+◌, Bool, false, true, List, replicate, sym, ap, subst, ◌∙◌, arith}
 use Rattle.morris_wave.specs.Blocks.{BlockState, BlockHolds, is_complete}
+use Rattle.morris_wave.specs.Keeping.{UsedUpTo}
 use Rattle.morris_wave.proofs.Blocking.{advance_holds}
 use Rattle.morris_wave.proofs.engine.Block.advance.Goals as goal
 
 pub invariant_of-self : goal.invariant_of-self
 invariant_of-self g c =
     let inside = c.self.inside in
+    let kept = inside.kept in
     let net = g.N.Levels.net inside.level in
-    let s : BlockState = record { level = inside.level; cut = inside.cut; number = inside.number; wave = inside.wave; applied = inside.applied.items } in
-    let codes = inside.entries.codes in
-    let counters = inside.counters.items in
-    let exits = inside.exits.items in
-    let new = c.settle_all.new.entries.codes in
+    let law = g.N.Levels.lawful inside.level in
+    let codes = kept.entries.entries.codes in
+    let s : BlockState = record { level = inside.level; cut = inside.cut; number = inside.number; wave = kept.entries.wave; applied = inside.applied.items } in
+    let after = c.next_wave.new.self in
+    let made = c.next_wave.ensures in
+    let new = after.entries.entries.codes in
     let complete : is_complete s ≡ true = ap is_complete c.self.view_is ∙ (sym c.is_complete.ensures ∙ c.if-not-is_complete.false) in
-    let marks =
-    subst (λ (es : List Exits). Marks codes.items new.items (λ k. settles (inside.wave + 1) (slice_index counters k) (exits_at es k)) (inside.wave + 1 + 1)) c.deref-2.ensures.value
-    (subst (λ (cs : List ℕ). Marks codes.items new.items (λ k. settles (inside.wave + 1) (slice_index cs k) (exits_at c.deref-2.result.now k)) (inside.wave + 1 + 1)) c.deref.ensures.value
-    c.settle_all.ensures.codes) in
-    let holds = advance_holds net (g.N.Levels.lawful inside.level) s codes.items counters exits c.self.invariant complete
-    (omega (arith, c.self.invariant.wave, c.if-self.false)) new.items (omega (arith, c.settle_all.ensures.len, new.ok.0, codes.ok.0)) marks in
+    let early : s.wave < 65534 = omega (arith, c.self.invariant.wave, c.if-self.false) in
+    let used : UsedUpTo (kept.entries.wave + 1) kept.due.items after.used =
+    subst (λ (w : ℕ). UsedUpTo w kept.due.items after.used) made.wave (subst (λ (xs : List ℕ). UsedUpTo after.entries.wave xs after.used) (ap (λ v. v.items) made.due) after.used_is) in
+    let holds = advance_holds net law s kept.entries.first codes.items kept.counters.items kept.due.items kept.last_due c.self.invariant complete early after.used used new.items after.counters.items
+    (omega (arith, made.len, new.ok.0, codes.ok.0))
+    (omega (arith, after.counted, kept.counted, made.len, after.counters.ok.0, kept.counters.ok.0)) made.small made.comes in
     let none : c.clear.new.applied.items ≡ replicate inside.cut.blocks false =
     c.clear.ensures ∙ ap (λ (n : ℕ). replicate n false) (inside.applied.ok.0 ∙ c.self.invariant.sources) in
-    subst (λ (xs : List Bool). BlockHolds net (record { level = inside.level; cut = inside.cut; number = inside.number; wave = inside.wave + 1; applied = xs }) new.items counters exits) (sym none) holds
+    let now : ℕ → List Bool → BlockState = λ w xs. record { level = inside.level; cut = inside.cut; number = inside.number; wave = w; applied = xs } in
+    subst (λ (w : ℕ). BlockHolds net (now w c.clear.new.applied.items) after.entries.first new.items after.counters.items after.due.items after.last_due) (sym made.wave)
+    (subst (λ (f : ℕ). BlockHolds net (now (kept.entries.wave + 1) c.clear.new.applied.items) f new.items after.counters.items after.due.items after.last_due) (sym made.first)
+    (subst (λ (xs : List ℕ). BlockHolds net (now (kept.entries.wave + 1) c.clear.new.applied.items) kept.entries.first new.items after.counters.items xs after.last_due) (sym (ap (λ v. v.items) made.due))
+    (subst (λ (d : ℕ). BlockHolds net (now (kept.entries.wave + 1) c.clear.new.applied.items) kept.entries.first new.items after.counters.items kept.due.items d) (sym made.last_due)
+    (subst (λ (xs : List Bool). BlockHolds net (now (kept.entries.wave + 1) xs) kept.entries.first new.items after.counters.items kept.due.items kept.last_due) (sym none) holds))))

@@ -1,18 +1,43 @@
-use Rattle.std.proofs.Common.{◌≡◌, ◌<◌, ℕ, ◌+◌, Bool, false, List, get_or, length, sym, ap, ap₂, subst, ◌∙◌, arith}
+use Rattle.std.proofs.Common.{◌≡◌, ◌<◌, ◌≤◌, ℕ, ◌+◌, Bool, false, true, List, get_or, set, length, sym, ap, subst, ◌∙◌, arith}
+use Rattle.std.specs.List.{All}
 use Rattle.std.proofs.lemmas.List.{get_or_read}
-use Rattle.morris_wave.specs.declared.network.Exits.{Exits}
 use Rattle.morris_wave.specs.Nets.{times}
-use Rattle.morris_wave.specs.Blocks.{BlockState, first_node}
-use Rattle.morris_wave.specs.Batches.{BatchState, BatchHolds, TakesFrom}
-use Rattle.morris_wave.proofs.Blocking.{same_parts, apply_enough, apply_holds}
+use Rattle.morris_wave.specs.Blocks.{BlockState, BlockHolds}
+use Rattle.morris_wave.specs.Batches.{BatchState, BatchHolds}
+use Rattle.morris_wave.specs.Keeping.{Takes, left_of}
+use Rattle.morris_wave.proofs.Blocking.{same_parts, batch_inside, apply_enough, apply_holds}
 use Rattle.morris_wave.proofs.engine.Block.apply.Goals as goal
 
-pub take_nodes-requires-clause-enough : goal.take_nodes-requires-clause-enough
-take_nodes-requires-clause-enough g c =
+pub take_in-requires-clause-inside : goal.take_in-requires-clause-inside
+take_in-requires-clause-inside g c =
     let inside = c.self.inside in
-    let batch = c.batch.inside in
+    let kept = inside.kept in
     let net = g.N.Levels.net inside.level in
-    let s : BlockState = record { level = inside.level; cut = inside.cut; number = inside.number; wave = inside.wave; applied = inside.applied.items } in
+    let law = g.N.Levels.lawful inside.level in
+    let codes = kept.entries.entries.codes in
+    let s : BlockState = record { level = inside.level; cut = inside.cut; number = inside.number; wave = kept.entries.wave; applied = inside.applied.items } in
+    let batch = c.batch.inside in
+    let b : BatchState = record { level = batch.level; cut = batch.cut; wave = batch.wave; source = batch.source; target = batch.target; nodes = batch.nodes.items } in
+    let hb : BatchHolds net b = subst (λ (l : ℕ). BatchHolds (g.N.Levels.net l) b) c.if-batch-self.false c.batch.invariant in
+    let cut : batch.cut ≡ inside.cut = same_parts batch.cut inside.cut (sym c.is_same.ensures ∙ c.if-not-is_same.false) in
+    let source : batch.source < length inside.applied.items = omega (arith, hb.source, c.self.invariant.sources, ap (λ p. p.blocks) cut) in
+    let open_source : get_or inside.applied.items batch.source false ≡ false =
+    sym {A = Bool} (get_or_read inside.applied.items batch.source c.index.result.now source c.index.ensures false) ∙ c.if-index.false in
+    λ p d l.
+    let nodes : c.deref.result.now ≡ batch.nodes.items = c.deref.ensures.value in
+    let at = subst (λ (xs : List ℕ). All (λ i. (kept.entries.first ≤ i) × (i < kept.entries.first + length codes.items)) xs) (sym nodes)
+    (batch_inside net law s kept.entries.first codes.items kept.counters.items kept.due.items kept.last_due c.self.invariant b hb cut c.if-batch-self-2.false c.if-batch-self-3.false open_source) p d l in
+    (at.0, omega (arith, at.1, codes.ok.0))
+
+pub take_in-requires-clause-enough : goal.take_in-requires-clause-enough
+take_in-requires-clause-enough g c =
+    let inside = c.self.inside in
+    let kept = inside.kept in
+    let net = g.N.Levels.net inside.level in
+    let law = g.N.Levels.lawful inside.level in
+    let codes = kept.entries.entries.codes in
+    let s : BlockState = record { level = inside.level; cut = inside.cut; number = inside.number; wave = kept.entries.wave; applied = inside.applied.items } in
+    let batch = c.batch.inside in
     let b : BatchState = record { level = batch.level; cut = batch.cut; wave = batch.wave; source = batch.source; target = batch.target; nodes = batch.nodes.items } in
     let hb : BatchHolds net b = subst (λ (l : ℕ). BatchHolds (g.N.Levels.net l) b) c.if-batch-self.false c.batch.invariant in
     let cut : batch.cut ≡ inside.cut = same_parts batch.cut inside.cut (sym c.is_same.ensures ∙ c.if-not-is_same.false) in
@@ -20,35 +45,34 @@ take_nodes-requires-clause-enough g c =
     let open_source : get_or inside.applied.items batch.source false ≡ false =
     sym {A = Bool} (get_or_read inside.applied.items batch.source c.index.result.now source c.index.ensures false) ∙ c.if-index.false in
     λ even k l.
-    let place = ap (λ (x : ℕ). x + k) c.first-first.ensures.value in
-    let same : times (c.first-first.result + k) c.deref-2.result.now ≡ times (first_node s + k) batch.nodes.items = ap₂ times place c.deref-2.ensures.value in
-    omega (
-      arith,
-      same,
-      apply_enough net s b inside.entries.codes.items inside.counters.items inside.exits.items c.self.invariant hb cut c.if-batch-self-2.false c.if-batch-self-3.false open_source
-          even k (omega (arith, inside.counters.ok.0, c.self.invariant.counters_len)),
-    )
+    subst (λ (xs : List ℕ). times (kept.entries.first + k) xs ≤ left_of (get_or kept.counters.items k 0)) (sym c.deref.ensures.value)
+    (apply_enough net law s kept.entries.first codes.items kept.counters.items kept.due.items kept.last_due c.self.invariant b hb cut c.if-batch-self-2.false c.if-batch-self-3.false open_source even k (omega (arith, l, codes.ok.0)))
 
 pub invariant_of-self : goal.invariant_of-self
 invariant_of-self g c =
     let inside = c.self.inside in
-    let batch = c.batch.inside in
+    let kept = inside.kept in
     let net = g.N.Levels.net inside.level in
-    let s : BlockState = record { level = inside.level; cut = inside.cut; number = inside.number; wave = inside.wave; applied = inside.applied.items } in
+    let law = g.N.Levels.lawful inside.level in
+    let codes = kept.entries.entries.codes in
+    let s : BlockState = record { level = inside.level; cut = inside.cut; number = inside.number; wave = kept.entries.wave; applied = inside.applied.items } in
+    let batch = c.batch.inside in
     let b : BatchState = record { level = batch.level; cut = batch.cut; wave = batch.wave; source = batch.source; target = batch.target; nodes = batch.nodes.items } in
     let hb : BatchHolds net b = subst (λ (l : ℕ). BatchHolds (g.N.Levels.net l) b) c.if-batch-self.false c.batch.invariant in
     let cut : batch.cut ≡ inside.cut = same_parts batch.cut inside.cut (sym c.is_same.ensures ∙ c.if-not-is_same.false) in
     let source : batch.source < length inside.applied.items = omega (arith, hb.source, c.self.invariant.sources, ap (λ p. p.blocks) cut) in
     let open_source : get_or inside.applied.items batch.source false ≡ false =
     sym {A = Bool} (get_or_read inside.applied.items batch.source c.index.result.now source c.index.ensures false) ∙ c.if-index.false in
-    let codes = c.take_nodes.new.entries.codes in
-    let counters = c.take_nodes.new.counters in
-    let takes =
-    subst (λ (es : List Exits). TakesFrom inside.wave (first_node s) batch.nodes.items inside.entries.codes.items codes.items inside.counters.items counters.items es) c.deref.ensures.value
-    (subst (λ (ns : List ℕ). TakesFrom inside.wave (first_node s) ns inside.entries.codes.items codes.items inside.counters.items counters.items c.deref.result.now) c.deref-2.ensures.value
-    (subst (λ (f : ℕ). TakesFrom inside.wave f c.deref-2.result.now inside.entries.codes.items codes.items inside.counters.items counters.items c.deref.result.now) c.first-first.ensures.value
-    c.take_nodes.ensures.taken)) in
-    apply_holds net s b inside.entries.codes.items inside.counters.items inside.exits.items c.self.invariant hb cut c.if-batch-self-2.false c.if-batch-self-3.false open_source
-    codes.items counters.items
-    (omega (arith, c.take_nodes.ensures.codes_len, codes.ok.0, inside.entries.codes.ok.0))
-    (omega (arith, c.take_nodes.ensures.counters_len, counters.ok.0, inside.counters.ok.0)) takes
+    let after = c.take_in.new.self in
+    let made = c.take_in.ensures in
+    let new = after.entries.entries.codes in
+    let takes = subst (λ (ns : List ℕ). Takes kept.entries.wave kept.entries.first ns codes.items new.items kept.counters.items after.counters.items) c.deref.ensures.value made.taken in
+    let holds = apply_holds net law s kept.entries.first codes.items kept.counters.items kept.due.items kept.last_due c.self.invariant b hb cut c.if-batch-self-2.false c.if-batch-self-3.false open_source
+    new.items after.counters.items
+    (omega (arith, made.len, new.ok.0, codes.ok.0))
+    (omega (arith, after.counted, kept.counted, made.len, after.counters.ok.0, kept.counters.ok.0)) made.small takes in
+    let now : ℕ → BlockState = λ w. record { level = inside.level; cut = inside.cut; number = inside.number; wave = w; applied = set inside.applied.items batch.source true } in
+    subst (λ (w : ℕ). BlockHolds net (now w) after.entries.first new.items after.counters.items after.due.items after.last_due) (sym made.wave)
+    (subst (λ (f : ℕ). BlockHolds net (now kept.entries.wave) f new.items after.counters.items after.due.items after.last_due) (sym made.first)
+    (subst (λ (xs : List ℕ). BlockHolds net (now kept.entries.wave) kept.entries.first new.items after.counters.items xs after.last_due) (sym (ap (λ v. v.items) made.due))
+    (subst (λ (d : ℕ). BlockHolds net (now kept.entries.wave) kept.entries.first new.items after.counters.items kept.due.items d) (sym made.last_due) holds)))

@@ -1,0 +1,91 @@
+-- Counters of 16 bits that fall, and the nodes that are spent.
+use Rattle.std.proofs.Common.{◌≡◌, ℕ, ◌+◌, ◌-◌, ◌%◌, ◌<◌, ◌≤◌, Bool, true, false, ◌&&◌, ◌||◌, cond, eqb, List, length, get_or, set, take, refl, sym, ap, ap₂, ◌∙◌, subst, ⊎_elim, arith, get_or-set_other, get_or-set_same}
+use Rattle.std.proofs.lemmas.Bool.{and_left, and_right, cond-true, cond-false, eq-eqb, ne_eqb, cases_eq, cases_lt, le-ltb}
+use Rattle.std.proofs.lemmas.List.Sums.{sum_by-take-le}
+use Rattle.morris_wave.specs.Nets.{times}
+use Rattle.morris_wave.specs.Solving.{Marks, among}
+use Rattle.morris_wave.specs.Keeping.{LowersBy, left_of}
+use Rattle.morris_wave.proofs.Tests.{some_counted}
+use Rattle.morris_wave.proofs.Marking.{marks_twice, among_more, times_more}
+
+-- One number more of a list, which stands for a place: that of k is `e k`.
+module _ (e : ℕ → ℕ) (nodes : List ℕ) (i node place : ℕ) (inside : i < length nodes) (is : node ≡ get_or nodes i 0) (old mid : List ℕ)
+    (at_place : (k : ℕ) → k < length old → eqb place k ≡ eqb node (e k)) (len : length mid ≡ length old) (h : LowersBy e old mid (take i nodes)) (l : place < length old) where
+  times_here : times (e place) (take (i + 1) nodes) ≡ times (e place) (take i nodes) + 1
+  times_here = times_more nodes i node inside is (e place) ∙ ap (λ n. times (e place) (take i nodes) + n) (cond-true {A = ℕ} (eqb node (e place)) 1 0 (sym (at_place place l) ∙ eq-eqb place place refl))
+
+  pub lowers_more : LowersBy e old (set mid place ((get_or mid place 0 + 65535) % 65536)) (take (i + 1) nodes)
+  lowers_more k kl =
+      ⊎_elim
+      (λ q. subst (λ x. (get_or (set mid place ((get_or mid place 0 + 65535) % 65536)) x 0 + times (e x) (take (i + 1) nodes)) % 65536 ≡ get_or old x 0) q here)
+      (λ q. let other : get_or (set mid place ((get_or mid place 0 + 65535) % 65536)) k 0 ≡ get_or mid k 0 = get_or-set_other mid place k ((get_or mid place 0 + 65535) % 65536) 0 (λ z. q (sym z)) in
+      let same_times : times (e k) (take (i + 1) nodes) ≡ times (e k) (take i nodes) + 0 =
+      times_more nodes i node inside is (e k) ∙ ap (λ n. times (e k) (take i nodes) + n) (cond-false {A = ℕ} (eqb node (e k)) 1 0 (sym (at_place k kl) ∙ ne_eqb place k q)) in
+      omega (arith, other, same_times, h k kl))
+      (cases_eq place k)
+    where
+      here : (get_or (set mid place ((get_or mid place 0 + 65535) % 65536)) place 0 + times (e place) (take (i + 1) nodes)) % 65536 ≡ get_or old place 0
+      here =
+          let same : get_or (set mid place ((get_or mid place 0 + 65535) % 65536)) place 0 ≡ (get_or mid place 0 + 65535) % 65536 =
+          get_or-set_same mid place ((get_or mid place 0 + 65535) % 65536) 0 (omega arith) in
+          omega (arith, same, times_here, h place l)
+
+  -- a counter that fell isn't spent before its last fall
+  not_spent : times (e place) nodes ≤ left_of (get_or old place 0) → (among (take i nodes) (e place) && eqb (get_or mid place 0) 0) ≡ false
+  not_spent enough =
+      ⊎_elim
+      (λ (some : 0 < times (e place) (take i nodes)).
+      let le : times (e place) (take (i + 1) nodes) ≤ times (e place) nodes = sum_by-take-le (λ x. cond {A = ℕ} (eqb x (e place)) 1 0) nodes (i + 1) in
+      and_right (among (take i nodes) (e place)) (eqb (get_or mid place 0) 0)
+      (ne_eqb (get_or mid place 0) 0 (λ z. omega (arith, z, h place l, some, le, times_here, enough))))
+      (λ (none_yet : times (e place) (take i nodes) ≤ 0).
+      and_left (among (take i nodes) (e place)) (eqb (get_or mid place 0) 0)
+      (sym (some_counted (λ x. eqb x (e place)) (take i nodes)) ∙ le-ltb 0 (times (e place) (take i nodes)) none_yet))
+      (cases_lt 0 (times (e place) (take i nodes)))
+
+  -- so each is closed as it is spent
+  pub spent_more : (codes mcodes ncodes : List ℕ) (code now : ℕ) (ready : Bool) → 0 < code → length mcodes ≡ length codes → length codes ≡ length old
+      → times (e place) nodes ≤ left_of (get_or old place 0)
+      → ready ≡ eqb now 0
+      → Marks codes mcodes (λ k. among (take i nodes) (e k) && eqb (get_or mid k 0) 0) code
+      → Marks mcodes ncodes (λ k. eqb place k && ready) code
+      → Marks codes ncodes (λ k. among (take (i + 1) nodes) (e k) && eqb (get_or (set mid place now) k 0) 0) code
+  spent_more codes mcodes ncodes code now ready pos clen olen enough q a b =
+      marks_twice codes mcodes ncodes (λ k. among (take i nodes) (e k) && eqb (get_or mid k 0) 0) (λ k. eqb place k && ready)
+      (λ k. among (take (i + 1) nodes) (e k) && eqb (get_or (set mid place now) k 0) 0) code pos clen
+      (λ k kl. ap (λ t. t && eqb (get_or (set mid place now) k 0) 0) (among_more nodes i node inside is (e k) ∙ ap (λ t. among (take i nodes) (e k) || t) (sym (at_place k (omega (arith, kl, olen)))))
+      ∙ ⊎_elim
+      (λ (z : place ≡ k).
+      let same : eqb (get_or (set mid place now) k 0) 0 ≡ ready =
+      ap (λ x. eqb x 0) (subst (λ x. get_or (set mid place now) x 0 ≡ now) z (get_or-set_same mid place now 0 (omega arith))) ∙ sym q in
+      let before : (among (take i nodes) (e k) && eqb (get_or mid k 0) 0) ≡ false = subst (λ x. (among (take i nodes) (e x) && eqb (get_or mid x 0) 0) ≡ false) z (not_spent enough) in
+      ap₂ (λ t r. (among (take i nodes) (e k) || t) && r) (eq-eqb place k z) same
+      ∙ (or_true (among (take i nodes) (e k)) ready
+      ∙ sym (ap₂ (λ x t. x || (t && ready)) before (eq-eqb place k z))))
+      (λ (z : place ≡ k → ⊥).
+      let other : get_or (set mid place now) k 0 ≡ get_or mid k 0 = get_or-set_other mid place k now 0 (λ y. z (sym y)) in
+      ap₂ (λ t r. (among (take i nodes) (e k) || t) && r) (ne_eqb place k z) (ap (λ x. eqb x 0) other)
+      ∙ (or_false_and (among (take i nodes) (e k)) (eqb (get_or mid k 0) 0)
+      ∙ sym (ap (λ t. (among (take i nodes) (e k) && eqb (get_or mid k 0) 0) || (t && ready)) (ne_eqb place k z))))
+      (cases_eq place k)) a b
+    where
+      or_true : (p q : Bool) → ((p || true) && q) ≡ q
+      or_true true q = refl
+      or_true false q = refl
+
+      or_false_and : (p q : Bool) → ((p || false) && q) ≡ ((p && q) || false)
+      or_false_and true true = refl
+      or_false_and true false = refl
+      or_false_and false q = refl
+
+-- the place of a node of a block
+pub node_place : (first node : ℕ) → first ≤ node → (k : ℕ) → eqb (node - first) k ≡ eqb node (first + k)
+node_place first node from k =
+    ⊎_elim
+    (λ e. eq-eqb (node - first) k e ∙ sym (eq-eqb node (first + k) (omega arith)))
+    (λ e. ne_eqb (node - first) k e ∙ sym (ne_eqb node (first + k) (λ z. e (omega arith))))
+    (cases_eq (node - first) k)
+
+-- nothing fell yet
+pub lowers_none : (e : ℕ → ℕ) (old : List ℕ) (xs : List ℕ) → ((k : ℕ) → k < length old → get_or old k 0 < 65536) → ((k : ℕ) → k < length old → times (e k) xs ≡ 0) → LowersBy e old old xs
+lowers_none e old xs small zeros k l = omega (arith, small k l, zeros k l)

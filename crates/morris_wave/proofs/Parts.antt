@@ -1,0 +1,95 @@
+-- What is known, and the entries, in other words for the parts that are applied.
+use Rattle.std.proofs.Common.{◌≡◌, ℕ, zero, suc, Bool, true, false, not, ◌&&◌, ◌||◌, eqb, ltb, get_or, refl, sym, ap, ap₂, ◌∙◌, ⊎_elim, arith}
+use Rattle.std.specs.List.{All}
+use Rattle.std.proofs.lemmas.Bool.{false≢true, and_right, cases_Bool, cond-true, cond-false, eq-eqb, ne_eqb, lt-ltb}
+use Rattle.morris_wave.specs.Nets.{Net}
+use Rattle.morris_wave.specs.Values.{is_lost, is_won, is_decided, code_within}
+use Rattle.morris_wave.specs.Waves.{known_lost, known_won, is_decided_at, entry_at, open_at, is_fresh}
+use Rattle.morris_wave.specs.Solving.{every}
+use Rattle.morris_wave.proofs.Depths.{lost_more, won_more, apart, code_is, code_kept, code_new, code_open}
+use Rattle.morris_wave.proofs.Known.{entry_same, open_same, decided_at_least, decided_at_most}
+
+-- what is known depends on the parts alone
+pub known_won_cong : (g : Net) (n : ℕ) (a b : ℕ → Bool) (j : ℕ) → a j ≡ b j → known_won g n a j ≡ known_won g n b j
+unfolding known_won
+known_won_cong g zero a b j e = refl
+known_won_cong g (suc n) a b j e = ap (λ t. is_won g n j || (t && is_won g (suc n) j)) e
+
+pub known_lost_cong : (g : Net) (n : ℕ) (a b : ℕ → Bool) (j : ℕ) → a j ≡ b j → known_lost g n a j ≡ known_lost g n b j
+unfolding known_lost
+known_lost_cong g zero a b j e = refl
+known_lost_cong g (suc n) a b j e = ap (λ t. is_lost g n j || (t && is_lost g (suc n) j)) e
+
+-- a part that has each fresh node is as good as every part
+covers : (l w l' w' a : Bool) → (l ≡ true → l' ≡ true) → (l' ≡ true → w' ≡ true → ⊥) → ((not (l || w) && (l' || w')) ≡ true → a ≡ true) → (w || (a && w')) ≡ (w || (true && w'))
+covers l true l' w' a more apart has = refl
+covers l false l' false true more apart has = refl
+covers l false l' false false more apart has = refl
+covers l false l' true true more apart has = refl
+covers true false l' true false more apart has = absurd (apart (more refl) refl)
+covers false false true true false more apart has = absurd (false≢true (has refl))
+covers false false false true false more apart has = absurd (false≢true (has refl))
+
+covers_lost : (l w l' w' a : Bool) → (w ≡ true → w' ≡ true) → (l' ≡ true → w' ≡ true → ⊥) → ((not (l || w) && (l' || w')) ≡ true → a ≡ true) → (l || (a && l')) ≡ (l || (true && l'))
+covers_lost true w l' w' a more apart has = refl
+covers_lost false w false w' true more apart has = refl
+covers_lost false w false w' false more apart has = refl
+covers_lost false w true w' true more apart has = refl
+covers_lost false true true w' false more apart has = absurd (apart refl (more refl))
+covers_lost false false true w' false more apart has = absurd (false≢true (has refl))
+
+pub known_won_covered : (g : Net) (n : ℕ) (a : ℕ → Bool) (j : ℕ) → (is_fresh g n j ≡ true → a j ≡ true) → known_won g n a j ≡ known_won g n every j
+unfolding known_won is_fresh
+known_won_covered g zero a j has = refl
+known_won_covered g (suc n) a j has = covers (is_lost g n j) (is_won g n j) (is_lost g (suc n) j) (is_won g (suc n) j) (a j) (lost_more g n j) (apart g (suc n) j) has
+
+pub known_lost_covered : (g : Net) (n : ℕ) (a : ℕ → Bool) (j : ℕ) → (is_fresh g n j ≡ true → a j ≡ true) → known_lost g n a j ≡ known_lost g n every j
+unfolding known_lost is_fresh
+known_lost_covered g zero a j has = refl
+known_lost_covered g (suc n) a j has = covers_lost (is_lost g n j) (is_won g n j) (is_lost g (suc n) j) (is_won g (suc n) j) (a j) (won_more g n j) (apart g (suc n) j) has
+
+-- the parts that are applied may be told in other words
+module _ (g : Net) (n : ℕ) (a b : ℕ → Bool) (i : ℕ) (same : All (λ j. a j ≡ b j) (g.quiet i)) where
+  pub entry_cong : entry_at g n a i ≡ entry_at g n b i
+  entry_cong =
+      entry_same g n a b i (λ p d h. known_won_cong g n a b (get_or (g.quiet i) p d) (same p d h))
+      (λ p d h. known_lost_cong g n a b (get_or (g.quiet i) p d) (same p d h))
+
+  pub open_cong : open_at g n a i ≡ open_at g n b i
+  open_cong = open_same g n n a b i (λ p d h. known_won_cong g n a b (get_or (g.quiet i) p d) (same p d h))
+
+-- the nodes of code n are the fresh ones of wave n
+pub fresh_code : (g : Net) (n i : ℕ) → eqb (code_within g (suc n) i) (suc n) ≡ is_fresh g (suc n) i
+unfolding is_fresh
+fresh_code g n i =
+    ⊎_elim
+    (λ e. ne_eqb (code_within g (suc n) i) (suc n) (λ z. omega (arith, code_kept g n i e, (code_is g n i e).1))
+    ∙ sym (ap (λ t. not t && is_decided g (suc n) i) e))
+    (λ e. ⊎_elim
+    (λ f. eq-eqb (code_within g (suc n) i) (suc n) (code_new g n i e f) ∙ sym (ap₂ (λ s t. not s && t) e f))
+    (λ f. ne_eqb (code_within g (suc n) i) (suc n) (λ z. omega (arith, code_open g (suc n) i f)) ∙ sym (ap₂ (λ s t. not s && t) e f))
+    (cases_Bool (is_decided g (suc n) i)))
+    (cases_Bool (is_decided g n i))
+
+-- the fresh nodes are those whose entry is the wave
+pub fresh_entry : (g : Net) (n : ℕ) (a : ℕ → Bool) (i : ℕ) → (ltb 0 n && eqb (entry_at g n a i) n) ≡ is_fresh g n i
+unfolding is_fresh
+fresh_entry g zero a i = refl
+fresh_entry g (suc n) a i =
+    ⊎_elim
+    (λ e. let at : entry_at g (suc n) a i ≡ code_within g (suc n) i =
+    cond-true {A = ℕ} (is_decided_at g (suc n) a i) (code_within g (suc (suc n)) i) 0 (decided_at_least g (suc n) a i e) ∙ code_kept g (suc n) i e in
+    ap (λ x. ltb 0 (suc n) && eqb x (suc n)) at ∙ (ap (λ t. t && eqb (code_within g (suc n) i) (suc n)) (lt-ltb 0 (suc n) (omega arith)) ∙ fresh_code g n i))
+    (λ e. let other : eqb (entry_at g (suc n) a i) (suc n) ≡ false = ne_eqb (entry_at g (suc n) a i) (suc n) (not_this e) in
+    and_right (ltb 0 (suc n)) (eqb (entry_at g (suc n) a i) (suc n)) other ∙ sym (and_right (not (is_decided g n i)) (is_decided g (suc n) i) e))
+    (cases_Bool (is_decided g (suc n) i))
+  where
+    not_this : is_decided g (suc n) i ≡ false → entry_at g (suc n) a i ≡ suc n → ⊥
+    not_this e z =
+        ⊎_elim
+        (λ d. let new : code_within g (suc (suc n)) i ≡ suc (suc n) = code_new g (suc n) i e (decided_at_most g (suc n) a i d) in
+        let at : entry_at g (suc n) a i ≡ code_within g (suc (suc n)) i = cond-true {A = ℕ} (is_decided_at g (suc n) a i) (code_within g (suc (suc n)) i) 0 d in
+        omega (arith, new, at, z))
+        (λ d. let at : entry_at g (suc n) a i ≡ 0 = cond-false {A = ℕ} (is_decided_at g (suc n) a i) (code_within g (suc (suc n)) i) 0 d in
+        omega (arith, at, z))
+        (cases_Bool (is_decided_at g (suc n) a i))

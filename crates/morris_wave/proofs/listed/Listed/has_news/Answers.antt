@@ -1,0 +1,8 @@
+use Rattle.std.proofs.Common.{ltb, ap, ◌∙◌}
+use Rattle.morris_wave.proofs.Ranks.{some_this}
+use Rattle.morris_wave.proofs.listed.Listed.has_news.Goals as goal
+
+pub returns : goal.returns
+returns c =
+    let s = c.args.self.now in
+    ap (ltb s.here) (c.len.ensures ∙ s.decided.ok.0) ∙ some_this s.first s.wave s.before s.here s.entries.codes.items s.decided.items s.ranked

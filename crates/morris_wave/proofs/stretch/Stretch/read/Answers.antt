@@ -1,0 +1,37 @@
+use Rattle.std.proofs.Common.{◌≡◌, ◌≤◌, ℕ, List, length, slice_index, vec_len, sym, subst, arith}
+use Rattle.morris_wave.specs.Keeping.{HasRead, ListsDue, UsedUpTo}
+use Rattle.morris_wave.proofs.Readings.{read_all, nothing_used}
+use Rattle.morris_wave.proofs.DueLists.{due_once}
+use Rattle.morris_wave.proofs.stretch.Stretch.read.Goals as goal
+
+pub invariant_of-result : goal.invariant_of-result
+invariant_of-result g c =
+    let r = c.read_exits.new.reading in
+    let due = c.in_ok-due.due.items in
+    let listed : ListsDue (λ k. slice_index r.waves.items k) (length r.waves.items) due =
+    subst (λ (xs : List ℕ). ListsDue (λ k. slice_index xs k) (length xs) due) c.deref.ensures.value c.in_ok-due.ensures in
+    let many : length r.waves.items ≡ vec_len r.entries.entries.codes = omega (arith, r.waved, r.waves.ok.0) in
+    let small : length r.waves.items ≤ 1099511627776 = omega (arith, many, r.entries.ends) in
+    record {
+      counted = r.counted;
+      order = listed.order;
+      inside = λ k d l. omega (arith, (listed.holds.inside k d l).0, many);
+      once = λ w k l. due_once (λ j. slice_index r.waves.items j) (length r.waves.items) due listed.holds small w k (omega (arith, l, many));
+      used_is = subst (λ (w : ℕ). UsedUpTo w due 0) (sym c.read_exits.ensures.wave) (nothing_used (λ j. slice_index r.waves.items j) (length r.waves.items) due listed.holds);
+    }
+
+pub returns-clause-holds : goal.returns-clause-holds
+returns-clause-holds g c =
+    let net = g.G.Name.Levels.net (g.G.Graph.level c.args.graph.now) in
+    let before = c.in_ok-reading.reading in
+    let r = c.read_exits.new.reading in
+    let codes = r.entries.entries.codes in
+    let due = c.in_ok-due.due.items in
+    let listed : ListsDue (λ k. slice_index r.waves.items k) (length r.waves.items) due =
+    subst (λ (xs : List ℕ). ListsDue (λ k. slice_index xs k) (length xs) due) c.deref.ensures.value c.in_ok-due.ensures in
+    let len : vec_len before.entries.entries.codes ≡ length codes.items = omega (arith, c.read_exits.ensures.len, codes.ok.0) in
+    let read : HasRead net c.args.first (length codes.items) codes.items r.counters.items r.waves.items r.last_due =
+    subst (λ (n : ℕ). HasRead net c.args.first n codes.items r.counters.items r.waves.items r.last_due) len
+    (subst (λ (f : ℕ). HasRead net f (vec_len before.entries.entries.codes) codes.items r.counters.items r.waves.items r.last_due) c.in_ok-reading.ensures.first c.read_exits.ensures.read) in
+    read_all net c.args.first codes.items r.counters.items r.waves.items due r.last_due read
+    (omega (arith, len, c.in_ok-reading.ensures.len, c.requires.end, c.requires.order)) (omega (arith, r.counted, r.counters.ok.0, codes.ok.0)) (omega (arith, r.waved, r.waves.ok.0, codes.ok.0)) listed

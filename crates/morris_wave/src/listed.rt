@@ -1,0 +1,142 @@
+//! The entries of a block, the list of those that are decided, and the tallies that count them.
+ghost use Rattle.std.specs.Prelude.{◌≡◌, ℕ, ◌+◌, ◌-◌, ◌<◌, ◌≤◌, ◌&&◌, ◌==◌, ◌^◌, ◌++◌, ◌∷◌, [], IfOk, nat_lt, length, if◌then◌else◌, replicate, take, slice_index, slice_set, vec_len, vec_capacity};
+ghost use Rattle.std.specs.List.{All, list_any, count_by};
+ghost use Rattle.morris_wave.specs.Exits.{is_odd, is_won_code};
+ghost use Rattle.morris_wave.specs.Solving.{Marks};
+ghost use Rattle.morris_wave.specs.Nets.{times};
+ghost use Rattle.morris_wave.specs.Keeping.{Ranked};
+
+use std::alloc::{AllocError, Global};
+
+// Entries and how many of them are won and lost.
+#[derive(Drop)]
+pub(crate) struct Counted {
+    pub(crate) codes: Vec<u16>,
+    pub(crate) won: u64,
+    pub(crate) lost: u64,
+    ghost won_counted: { won ≡ count_by is_won_code codes.items },
+    ghost lost_counted: { lost ≡ count_by is_odd codes.items },
+}
+
+impl Counted {
+    // Gives an open entry its code.
+    fn put(&mut self, place: usize, code: u16)
+        requires inside { place < vec_len self.old.codes }
+        requires open { slice_index self.old.codes.items place ≡ 0 }
+        requires code { 0 < code }
+        ensures codes { self.new.codes.items ≡ slice_set self.old.codes.items place code }
+        ensures len { vec_len self.new.codes ≡ vec_len self.old.codes }
+        ensures more { self.new.won + self.new.lost ≡ self.old.won + self.old.lost + 1 }
+    {
+        if code % 2 == 1 {
+            self.lost += 1;
+        } else {
+            self.won += 1;
+        }
+        self.codes[place] = code;
+    }
+}
+
+// The entries of the nodes from `first` on at a wave, and the decided nodes in order of their codes. Those
+// from the place `before` up to, not including, `here` have the code of the wave; those behind it got
+// theirs at this wave. There is room for every node.
+#[derive(Drop)]
+pub(crate) struct Listed {
+    pub(crate) first: u64,
+    pub(crate) wave: u16,
+    pub(crate) entries: Counted,
+    pub(crate) decided: Vec<u64>,
+    pub(crate) before: usize,
+    pub(crate) here: usize,
+    ghost ranked: { Ranked first wave entries.codes.items decided.items before here },
+    ghost room: { vec_len entries.codes ≤ vec_capacity decided },
+    ghost ends: { first + vec_len entries.codes ≤ 2 ^ 40 },
+    ghost last: { wave ≤ 65534 },
+    ghost all_counted: { vec_len decided ≡ entries.won + entries.lost },
+}
+
+impl Listed {
+    // So many open entries before the first wave.
+    pub(crate) fn open(alloc: Global, first: u64, count: usize) -> Result<Listed, AllocError>
+        requires { first + count ≤ 2 ^ 40 }
+        ensures first { IfOk result (λ e. e.first ≡ first) }
+        ensures wave { IfOk result (λ e. e.wave ≡ 0) }
+        ensures codes { IfOk result (λ e. e.entries.codes.items ≡ replicate count 0) }
+    {
+        let decided = Vec::with_capacity(alloc, count)?;
+        let codes = vec![in alloc; 0u16; count]?;
+        let entries = Counted {
+            codes,
+            won: 0,
+            lost: 0,
+        };
+        Ok(Listed {
+            first,
+            wave: 0,
+            entries,
+            decided,
+            before: 0,
+            here: 0,
+        })
+    }
+
+    // Gives the entry at a place the code of this wave, if it is open and ready.
+    pub(crate) fn mark(&mut self, place: u64, ready: bool)
+        requires inside { place < vec_len self.old.entries.codes }
+        ensures len { vec_len self.new.entries.codes ≡ vec_len self.old.entries.codes }
+        ensures first { self.new.first ≡ self.old.first }
+        ensures wave { self.new.wave ≡ self.old.wave }
+        ensures before { self.new.before ≡ self.old.before }
+        ensures here { self.new.here ≡ self.old.here }
+        ensures list { take self.old.here self.new.decided.items ≡ take self.old.here self.old.decided.items }
+        ensures codes { Marks self.old.entries.codes.items self.new.entries.codes.items (λ k. (place == k) && ready) (self.old.wave + 1) }
+    {
+        let node = self.first + place;
+        let place = place as usize;
+        if ready && self.entries.codes[place] == 0 {
+            self.entries.put(place, self.wave + 1);
+            put_last(&mut self.decided, node);
+        }
+    }
+
+    // Begins the next wave.
+    pub(crate) fn next_wave(&mut self)
+        requires { self.old.wave < 65534 }
+        ensures first { self.new.first ≡ self.old.first }
+        ensures wave { self.new.wave ≡ self.old.wave + 1 }
+        ensures codes { self.new.entries.codes ≡ self.old.entries.codes }
+    {
+        self.wave += 1;
+        self.before = self.here;
+        self.here = self.decided.len();
+    }
+
+    // Whether some entry got its code at this wave.
+    pub(crate) fn has_news(&self) -> bool
+        ensures { result ≡ list_any (λ c. c == (self.now.wave + 1)) self.now.entries.codes.items }
+    {
+        self.here < self.decided.len()
+    }
+
+    // The nodes whose code is the wave, each once; none at wave 0.
+    pub(crate) fn of_this_wave(&self, alloc: Global) -> Result<Vec<u64>, AllocError>
+        ensures inside { IfOk result (λ v. All (λ i. (self.now.first ≤ i) × (i < self.now.first + length self.now.entries.codes.items)) v.items) }
+        ensures once { IfOk result (λ v. (k : ℕ) → k < length self.now.entries.codes.items
+            → times (self.now.first + k) v.items ≡ (if nat_lt 0 self.now.wave && (slice_index self.now.entries.codes.items k == self.now.wave) then 1 else 0)) }
+    {
+        let stretch = &self.decided[self.before..self.here];
+        let mut nodes = Vec::with_capacity(alloc, stretch.len())?;
+        nodes.extend_from_slice(stretch)?;
+        Ok(nodes)
+    }
+}
+
+// Puts a number at the end of a list that has room for it.
+fn put_last(list: &mut Vec<u64>, x: u64)
+    requires { vec_len list.old < vec_capacity list.old }
+    ensures items { list.new.items ≡ list.old.items ++ x ∷ [] }
+    ensures len { vec_len list.new ≡ vec_len list.old + 1 }
+    ensures capacity { vec_capacity list.old ≤ vec_capacity list.new }
+{
+    let Ok(()) = list.push(x) else { unreachable!() };
+}

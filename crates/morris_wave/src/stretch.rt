@@ -1,0 +1,73 @@
+//! A stretch of nodes of a graph, which goes from wave to wave.
+ghost use Rattle.std.specs.Prelude.{◌≡◌, ℕ, ◌+◌, ◌-◌, ◌*◌, ◌<◌, ◌≤◌, ◌&&◌, ◌==◌, ◌^◌, Bool, true, false, not, nat_le, length, take, slice_index, vec_len};
+ghost use Rattle.std.specs.List.{All, list_any};
+ghost use Rattle.std.specs.List.Sorted.{IsNonDecreasing};
+ghost use Rattle.morris_wave.specs.Nets.{times};
+ghost use Rattle.morris_wave.specs.Exits.{is_odd};
+ghost use Rattle.morris_wave.specs.Keeping.{Takes, ComesDue, UsedUpTo, left_of, due_word, place_of};
+
+use crate::falls;
+use crate::listed::Listed;
+
+// Nodes in their order, from the first one of the entries on. For each there is its entry and a counter of
+// the results that it waits for; its exits count as one of these until all of them are won. A node whose
+// exits decide stands once in `due` with the wave at which they do, and those up to `used` came due.
+#[derive(Drop)]
+pub(crate) struct Stretch {
+    pub(crate) entries: Listed,
+    pub(crate) counters: Vec<u16>,
+    pub(crate) due: Vec<u64>,
+    pub(crate) used: usize,
+    pub(crate) last_due: u32,
+    ghost counted: { vec_len counters ≡ vec_len entries.entries.codes },
+    ghost order: { IsNonDecreasing due.items },
+    ghost inside: { All (λ d. place_of d < vec_len entries.entries.codes) due.items },
+    ghost once: { (w k : ℕ) → k < vec_len entries.entries.codes → times (due_word w k) due.items ≤ 1 },
+    ghost used_is: { UsedUpTo entries.wave due.items used },
+}
+
+impl Stretch {
+    // Takes in nodes that lead to fresh nodes of the wave, each as often as it leads there.
+    pub(crate) fn take_in(&mut self, nodes: &[u64])
+        requires inside { All (λ i. (self.old.entries.first ≤ i) × (i < self.old.entries.first + vec_len self.old.entries.entries.codes)) nodes.now }
+        requires enough { is_odd self.old.entries.wave ≡ false → (k : ℕ) → k < vec_len self.old.entries.entries.codes
+            → times (self.old.entries.first + k) nodes.now ≤ left_of (slice_index self.old.counters.items k) }
+        ensures len { vec_len self.new.entries.entries.codes ≡ vec_len self.old.entries.entries.codes }
+        ensures first { self.new.entries.first ≡ self.old.entries.first }
+        ensures wave { self.new.entries.wave ≡ self.old.entries.wave }
+        ensures before { self.new.entries.before ≡ self.old.entries.before }
+        ensures here { self.new.entries.here ≡ self.old.entries.here }
+        ensures list { take self.old.entries.here self.new.entries.decided.items ≡ take self.old.entries.here self.old.entries.decided.items }
+        ensures due { self.new.due ≡ self.old.due }
+        ensures last_due { self.new.last_due ≡ self.old.last_due }
+        ensures small { (k : ℕ) → k < length self.new.counters.items → slice_index self.new.counters.items k < 65536 }
+        ensures taken { Takes self.old.entries.wave self.old.entries.first nodes.now
+            self.old.entries.entries.codes.items self.new.entries.entries.codes.items self.old.counters.items self.new.counters.items }
+    {
+        falls::take_in(&mut self.entries, &mut self.counters, nodes);
+    }
+
+    // Goes on to the next wave, and takes in what comes due at it.
+    pub(crate) fn next_wave(&mut self)
+        requires { self.old.entries.wave < 65534 }
+        ensures len { vec_len self.new.entries.entries.codes ≡ vec_len self.old.entries.entries.codes }
+        ensures first { self.new.entries.first ≡ self.old.entries.first }
+        ensures wave { self.new.entries.wave ≡ self.old.entries.wave + 1 }
+        ensures due { self.new.due ≡ self.old.due }
+        ensures last_due { self.new.last_due ≡ self.old.last_due }
+        ensures small { (k : ℕ) → k < length self.new.counters.items → slice_index self.new.counters.items k < 65536 }
+        ensures comes { ComesDue (self.old.entries.wave + 1) self.old.due.items
+            self.old.entries.entries.codes.items self.new.entries.entries.codes.items self.old.counters.items self.new.counters.items self.new.used }
+    {
+        self.entries.next_wave();
+        self.used = falls::come_due(&mut self.entries, &mut self.counters, &self.due, self.used);
+    }
+
+    // Whether all exits are due, and no node got its code at this wave.
+    pub(crate) fn is_quiet(&self) -> bool
+        ensures { result ≡ (nat_le self.now.last_due self.now.entries.wave
+            && not (list_any (λ c. c == (self.now.entries.wave + 1)) self.now.entries.entries.codes.items)) }
+    {
+        self.last_due <= u32::from(self.entries.wave) && !self.entries.has_news()
+    }
+}
