@@ -23,10 +23,12 @@ use Rattle.morris_index.proofs.PairLaws.{from_between, other_count}
 use Rattle.morris_index.proofs.ResultLaws.{is_of-quiet}
 use Rattle.morris_wave.specs.Nets.{times}
 use Rattle.morris_table.specs.PairNets.{at_index, is_quiet, quiet_results, pair_net}
-use Rattle.morris_table.specs.Backward.{before, has_come, moves_into, moves_before, indices_before}
+use Rattle.morris_moves.specs.Backward.{before, has_come}
+use Rattle.morris_table.specs.Backward.{moves_into, moves_before, indices_before}
 use Rattle.morris_table.specs.FilterLaws.{filter-contains, contained-filter, range_bounds}
 use Rattle.morris_table.proofs.BackLawsLists.{Contains-range, Ascends-range, Ascends-filter, Ascends-weaker, Ascends-from_AllPairs, counted, found, at_most_one, count_by-map, one_each}
-use Rattle.morris_table.proofs.BackLawsMoves.{moved_here, moved_gone, moved_back, moved_same, vacant_parts, vacant_from, IsApart-before, count_of-before_own, count_of-before_other, before_mover, alike}
+use Rattle.morris_moves.proofs.BackLaws.{moved_here, moved_gone, moved_back, vacant_parts, vacant_from, IsApart-before, count_of-before_own, count_of-before_other}
+use Rattle.morris_table.proofs.BackLawsMoves.{moved_same, before_mover, alike}
 use Rattle.morris_table.proofs.BackLawsNodes.{IsIndexed, at_index-indexed, indexed-at_index, indexed_same, none_or_one}
 
 -- ---- the quiet moves that led to a position
@@ -125,12 +127,6 @@ module _ (b : Shape) (small : b.points ≤ 24) (c : Counts) (pair : IsPair b.poi
     | inr y ↦
         and_from _ _ (from_between 2 (count_of s.own) 9 (omega (arith, y.1, pair.least)) (omega (arith, y.1, pair.ordered, pair.most)))
         (from_between 3 (count_of s.other) 9 (omega (arith, y.2, pair.least, pair.ordered)) (omega (arith, y.2, pair.most)))
-  ]
-
-  pub enough_own : (s : Sides) → is_of c s ≡ true → 3 ≤ count_of s.own
-  enough_own s of = elim (halves_of c s of) [
-    | inl y ↦ omega (arith, y.0, pair.least, pair.ordered)
-    | inr y ↦ omega (arith, y.1, pair.least)
   ]
 
   is_apart : (s : Sides) → IsPlaced b.points s → IsApart b s

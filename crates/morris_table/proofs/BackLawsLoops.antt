@@ -1,19 +1,18 @@
 -- The list of the positions before the quiet moves to a position, and the loops that make it.
-use Rattle.std.proofs.Common.{◌≡◌, ℕ, ◌+◌, ◌*◌, ◌<◌, ◌≤◌, true, false, List, [], ◌∷◌, ◌++◌, length, map, refl, sym, ap, ◌∙◌, subst, arith, None, cond, zero-add, append_assoc}
+use Rattle.std.proofs.Common.{◌≡◌, ℕ, ◌*◌, ◌<◌, ◌≤◌, true, List, [], ◌∷◌, ◌++◌, length, map, refl, sym, ap, ◌∙◌, subst, arith, append_assoc}
 use Rattle.std.proofs.lemmas.List.Elements.{Contains-append_right}
-use Rattle.std.proofs.lemmas.List.FromFn.{filter_of_map_range_with_len_more}
 use Rattle.std.proofs.lemmas.List.{append-nil, map-append, flat_map_more}
 use Rattle.std.specs.List.{All, Contains, flat_map}
 use Rattle.morris_board.specs.Sets.{has, members}
 use Rattle.morris_board.specs.Boards.{Shape}
 use Rattle.morris_board.specs.Positions.{Sides, IsPosition}
-use Rattle.morris_moves.specs.Rules.{move}
 use Rattle.morris_moves.proofs.ListLaws.{Contains-head}
 use Rattle.morris_moves.proofs.SetLaws.{has-member}
 use Rattle.morris_index.specs.Pairs.{Counts, IsPair, is_of, size_of, index_of}
 use Rattle.morris_wave.specs.Nets.{times}
 use Rattle.morris_table.specs.PairNets.{pair_net}
-use Rattle.morris_table.specs.Backward.{before, has_come, moves_into, moves_before, indices_before}
+use Rattle.morris_moves.specs.Backward.{before}
+use Rattle.morris_table.specs.Backward.{moves_into, moves_before, indices_before}
 use Rattle.morris_table.proofs.BackLaws.{times_before, nodes_before, few_before}
 
 -- ---- what the list of all of them is, with the number of points given apart
@@ -38,31 +37,6 @@ are_before b n e small c pair q h of =
 -- ---- the loops over the points
 
 module _ (b : Shape) (n : ℕ) (c : Counts) (q : Sides) where
-  pub into_none : (v : ℕ) → indices_before n c q (moves_into b q v 0) ≡ []
-  unfolding indices_before moves_into
-  into_none v = refl
-
-  into_more : (v u : ℕ) → indices_before n c q (moves_into b q v (u + 1))
-      ≡ indices_before n c q (moves_into b q v u) ++ map (λ m. index_of n c (before q m)) (cond (has_come b q (move u v None)) (move u v None ∷ []) [])
-  unfolding indices_before moves_into
-  into_more v u =
-      ap (map (λ m. index_of n c (before q m))) (filter_of_map_range_with_len_more (has_come b q) (λ k. move k v None) 0 u u (zero-add u))
-      ∙ map-append (λ m. index_of n c (before q m)) _ _
-
-  pub into_yes : (v u : ℕ) (old now new : List ℕ) (i : ℕ) → has_come b q (move u v None) ≡ true → now ≡ old ++ indices_before n c q (moves_into b q v u)
-      → i ≡ index_of n c (before q (move u v None)) → new ≡ now ++ i ∷ [] → new ≡ old ++ indices_before n c q (moves_into b q v (u + 1))
-  into_yes v u old now new i come e at f =
-      f ∙ (ap (λ xs. xs ++ i ∷ []) e ∙ (append_assoc old _ _
-      ∙ ap (λ xs. old ++ xs) (ap (λ k. indices_before n c q (moves_into b q v u) ++ k ∷ []) at
-      ∙ sym (into_more v u ∙ ap (λ t. indices_before n c q (moves_into b q v u) ++ map (λ m. index_of n c (before q m)) (cond t (move u v None ∷ []) [])) come))))
-
-  pub into_no : (v u : ℕ) (old now : List ℕ) → has_come b q (move u v None) ≡ false → now ≡ old ++ indices_before n c q (moves_into b q v u)
-      → now ≡ old ++ indices_before n c q (moves_into b q v (u + 1))
-  into_no v u old now come e =
-      e ∙ ap (λ xs. old ++ xs) (sym (into_more v u
-      ∙ (ap (λ t. indices_before n c q (moves_into b q v u) ++ map (λ m. index_of n c (before q m)) (cond t (move u v None ∷ []) [])) come
-      ∙ append-nil _)))
-
   pub before_none : indices_before n c q (moves_before b q n []) ≡ []
   unfolding indices_before moves_before
   before_none = refl

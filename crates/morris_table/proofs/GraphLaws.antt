@@ -1,17 +1,16 @@
 -- The graph of a pair: the codes of what captures lead to, and their summary.
-use Rattle.std.proofs.Common.{◌≡◌, ◌↔◌, ℕ, ◌-◌, ◌<◌, ◌≤◌, true, false, not, List, [], ◌∷◌, ◌++◌, Option, Some, None, is_some, map, refl, sym, ap, subst, ◌∙◌, inl, inr, ◌⊎◌, arith, IfSome, get_or, ltb, length, append-nil, append_assoc}
+use Rattle.std.proofs.Common.{◌≡◌, ◌↔◌, ℕ, ◌-◌, ◌<◌, ◌≤◌, true, false, not, List, [], ◌∷◌, ◌++◌, Option, Some, None, is_some, map, refl, sym, ap, subst, ◌∙◌, inl, inr, ◌⊎◌, arith, IfSome, get_or, ltb, length, append-nil}
 use Rattle.std.specs.List.{All, Contains, filter}
 use Rattle.std.proofs.lemmas.Bool.{cases_eq, ne_eqb, ltb-true}
 use Rattle.std.proofs.lemmas.Option.{cond_some, none-some}
 use Rattle.std.specs.Option.{option_to_list}
 use Rattle.std.proofs.lemmas.List.{map-append, length-map}
-use Rattle.std.proofs.lemmas.List.Elements.{filter-append, Contains-append_cases, Contains-append_right}
+use Rattle.std.proofs.lemmas.List.Elements.{filter-append, Contains-append_cases}
 use Rattle.morris_board.specs.Boards.{Shape, is_board}
 use Rattle.morris_board.specs.Sets.{count_of}
 use Rattle.morris_board.specs.Positions.{Sides, IsPosition}
 use Rattle.morris_moves.specs.declared.step.Move.{Move}
 use Rattle.morris_moves.specs.Rules.{moves_of, result_of}
-use Rattle.morris_moves.proofs.ListLaws.{Contains-head}
 use Rattle.morris_index.specs.Pairs.{Counts, counts, IsPair, pair_of, ordered, is_of, size_of, index_of, needed, less_lesser, less_greater}
 use Rattle.morris_index.proofs.IndexLaws.{placed, index-lt}
 use Rattle.morris_index.proofs.ResultLaws.{pair_of-is_of}
@@ -83,18 +82,6 @@ capture_led_to board few c pair s h of m listed takes = elim (capture-leads boar
   | inl two ↦ subst (λ o. IfSome o (λ d. Contains (needed c) d)) (sym (none_of_two (result_of s m) two)) tt
   | inr there ↦ subst (λ o. IfSome o (λ d. Contains (needed c) d)) (sym (pair_of-is_of board.points there.0 (result_of s m) (IsPair-needed board.points c there.0 pair there.1) there.2)) there.1
 ]
-
--- ---- a list of moves, one after another
-
-pub listed_next : (past left rest all : List Move) (m : Move) → past ++ left ≡ all → left ≡ m ∷ rest → (past ++ m ∷ []) ++ rest ≡ all
-listed_next past left rest all m h e = append_assoc past (m ∷ []) rest ∙ ap (λ ms. past ++ ms) (sym e) ∙ h
-
-pub listed_here : (past left rest all : List Move) (m : Move) → past ++ left ≡ all → left ≡ m ∷ rest → Contains all m
-listed_here past left rest all m h e =
-    subst (λ ms. Contains ms m) h (Contains-append_right past left m (subst (λ ms. Contains ms m) (sym e) (Contains-head m rest)))
-
-pub listed_all : (past left all : List Move) → past ++ left ≡ all → left ≡ [] → past ≡ all
-listed_all past left all h e = sym (append-nil past) ∙ ap (λ ms. past ++ ms) (sym e) ∙ h
 
 -- ---- the summary of the captures
 

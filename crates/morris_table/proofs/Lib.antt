@@ -11,6 +11,13 @@ pub mod BackLawsLists
 pub mod BackLawsLoops
 pub mod BackLawsMoves
 pub mod BackLawsNodes
+pub mod BackLawsSources
 pub mod SummaryLaws
+pub mod QuietLaws
+pub mod RowLaws
 pub mod GraphLaws
+pub mod CaptureLaws
 pub mod SweepLaws
+pub mod AgreementLaws
+pub mod FileLaws
+pub mod ReadingLaws

@@ -4,8 +4,15 @@ pub mod FilterLaws
 pub mod NetLaws
 pub mod Known
 pub mod Backward
+pub mod Rows
 pub mod Tables
+pub mod Raws
+pub mod TableFiles
+pub mod FileReading
+pub mod Headers
 pub mod Shelves
 pub mod Summaries
 pub mod Graphs
 pub mod Sweeping
+pub mod Agreement
+pub mod Verifying

@@ -184,7 +184,7 @@ is_none-true : {X : Type 0} (o : Option X) → is_none o ≡ true → o ≡ None
 is_none-true None h = refl
 is_none-true (Some x) h = absurd (both_ways false refl h)
 
-is_none-false : {X : Type 0} (o : Option X) → is_none o ≡ false → (x : X) × (o ≡ Some x)
+pub is_none-false : {X : Type 0} (o : Option X) → is_none o ≡ false → (x : X) × (o ≡ Some x)
 is_none-false None h = absurd (both_ways true h refl)
 is_none-false (Some x) h = (x, refl)
 

@@ -7,6 +7,7 @@ ghost use Rattle.morris_table.specs.Codes.{IsValue, value_in};
 ghost use Rattle.morris_table.specs.Tables.{table, IsTable, greatest_code, tallies_of};
 
 use crate::layout::Layout;
+use crate::raw::Raw;
 use crate::value::Value;
 use morris_board::board::Geometry;
 use morris_board::position::Position;
@@ -83,6 +84,13 @@ impl<B: Geometry> Exact<B> {
         let _ = position.own();
         let index = self.pair().index(position);
         value_of_code(self.code(index))
+    }
+
+    /// The same pair and codes, to be judged again by whoever gets them.
+    pub fn into_raw(self) -> Raw<B>
+        ensures { result ≡ self }
+    {
+        Raw::new(self.pair, self.codes)
     }
 
     /// How many entries have each code, from 0 up to the greatest code of the table.

@@ -1,34 +1,41 @@
 //! The graph of a pair.
-ghost use Rattle.std.specs.Prelude.{◌≡◌, ℕ, ◌+◌, ◌*◌, ◌<◌, ◌≤◌, ◌↔◌, true, Some, None, length, slice_index, vec_len, filter, is_some, IfOk, OnOk, IfSome, MatchResult};
-ghost use Rattle.std.specs.List.{Contains};
+ghost use Rattle.std.specs.Prelude.{◌≡◌, ℕ, ◌+◌, ◌*◌, ◌<◌, ◌≤◌, ◌↔◌, true, Some, None, List, ◌++◌, length, slice_index, vec_len, is_some, IfOk, OnOk, IfSome, MatchResult};
+ghost use Rattle.std.specs.List.{Contains, flat_map};
 ghost use Rattle.std.specs.Option.{option_copied};
 ghost use Rattle.morris_board.specs.Positions.{IsPosition};
-ghost use Rattle.morris_moves.specs.Rules.{moves_of};
-ghost use Rattle.morris_index.specs.Pairs.{IsPair, is_of, less_lesser, less_greater, needed};
+ghost use Rattle.morris_board.specs.Sets.{has, members};
+ghost use Rattle.morris_moves.specs.declared.step.Move.{Move};
+ghost use Rattle.morris_moves.specs.Rules.{closes, reach, takable, moves_to};
+ghost use Rattle.morris_index.specs.Pairs.{IsPair, is_of, size_of, less_lesser, less_greater, needed};
+ghost use Rattle.morris_table.specs.Rows.{IsRow};
+ghost use Rattle.morris_wave.specs.Solving.{exits_at};
 ghost use Rattle.morris_wave.specs.Exits.{exits_of};
 ghost use Rattle.morris_wave.specs.Values.{HasCode, IsTooDeep};
 ghost use Rattle.morris_table.specs.Codes.{IsCodeOf};
-ghost use Rattle.morris_table.specs.PairNets.{is_quiet, capture_codes, level_of, net_at};
+ghost use Rattle.morris_table.specs.PairNets.{capture_codes, level_of, net_at};
 ghost use Rattle.morris_table.specs.Known.{IsBeyondCodes};
 ghost use Rattle.morris_table.specs.Tables.{table};
 ghost use Rattle.morris_table.specs.Shelves.{table_on, first_missing};
-ghost use Rattle.morris_table.specs.Graphs.{IsTableOf, IsNeeded, IsLedTo, HasGameValues};
+ghost use Rattle.morris_table.specs.Graphs.{IsTableOf, IsNeeded, IsLedTo, exits_by, HasGameValues};
 
 use crate::backward::list_predecessors;
 use crate::exact::Exact;
 use crate::levels::PairLevels;
+use crate::rows::{Row, advance, read_counts};
 use crate::shelf::{Needs, Shelf};
-use crate::summary::{NO_EXITS, with_exit};
+use crate::summary::{LOST_AT_ONCE, NO_EXITS, with_exit};
 use morris_board::board::{Board, Geometry};
+use morris_board::points::Points;
 use morris_board::position::Position;
 use morris_index::pair::Pair;
-use morris_moves::rules::{moves, play};
+use morris_moves::rules::{closes, play, reach, takable};
+use morris_moves::step::Move;
 use morris_wave::{Exits, Graph};
 use std::alloc::AllocError;
 use std::marker::Model;
 
-/// The graph of a pair, over the tables of the pairs that it needs. Its nodes are the pair's positions, by their indices. Quiet moves lead
-/// to nodes, and captures out of the graph.
+/// The graph of a pair, over the tables of the pairs that it needs. Its nodes are the pair's
+/// positions, by their indices. Quiet moves lead to nodes, and captures out of the graph.
 #[derive(Drop)]
 pub struct PairGraph<'a, B: Geometry> {
     pair: Pair<B>,
@@ -50,8 +57,8 @@ impl<'a, B: Geometry> Model for PairGraph<'a, B> {
     ghost invariant = { λ graph. IsPairGraph B.shape graph.pair (option_copied graph.less_lesser) (option_copied graph.less_greater) };
 }
 
-/// The pairs that captures from a pair lead to: the one with one stone less in the lesser number, and the one with one stone less in the
-/// greater number.
+/// The pairs that captures from a pair lead to: the one with one stone less in the lesser number,
+/// and the one with one stone less in the greater number.
 fn captured_pairs<B: Geometry>(pair: &Pair<B>) -> (Option<Pair<B>>, Option<Pair<B>>)
     ensures lesser { result.0 ≡ less_lesser pair.now }
     ensures greater { result.1 ≡ less_greater pair.now }
@@ -63,13 +70,6 @@ fn captured_pairs<B: Geometry>(pair: &Pair<B>) -> (Option<Pair<B>>, Option<Pair<
     } else {
         (None, first)
     }
-}
-
-/// How many of the legal moves of a position are quiet.
-fn quiet_moves<B: Geometry>(position: &Position<B>) -> u16
-    ensures { result ≡ length (filter is_quiet (moves_of B.shape position.now)) }
-{
-    moves(position).filter(|m| m.taken.is_none()).count() as u16
 }
 
 /// The table of a needed pair.
@@ -127,7 +127,8 @@ impl<'a, B: Geometry> PairGraph<'a, B> {
         }
     }
 
-    /// The code of a position that a capture from the pair leads to. A player to move with two stones has lost.
+    /// The code of a position that a capture from the pair leads to. A player to move with two
+    /// stones has lost.
     fn code_of(&self, position: &Position<B>) -> u16
         requires { IsLedTo self.now position.now }
         ensures { IsCodeOf B.shape position.now result }
@@ -140,21 +141,120 @@ impl<'a, B: Geometry> PairGraph<'a, B> {
         }
     }
 
+    /// Goes on with the summary `known`: each capture of a stone of `takes` by the move from `from`
+    /// to `to`.
+    fn with_captures(
+        &self,
+        position: &Position<B>,
+        from: u8,
+        to: u8,
+        takes: Points,
+        known: Exits,
+    ) -> Exits
+        requires counts { is_of self.now position.now ≡ true }
+        requires lawful { IsPosition B.shape position.now }
+        requires start { has position.now.own from ≡ true }
+        requires end { has (reach B.shape position.now from) to ≡ true }
+        requires closing { closes B.shape position.now.own from to ≡ true }
+        requires takes { takes ≡ takable B.shape position.now.other }
+        ensures { (done : List Move) → known ≡ exits_by B.shape position.now done
+            → result ≡ exits_by B.shape position.now (done ++ moves_to B.shape position.now from to) }
+    {
+        // The proof learns here that the graph's numbers of stones are those of a pair.
+        let _ = &self.pair;
+        let mut exits = known;
+        for taken in takes.iter() {
+            let capture = Move {
+                from,
+                to,
+                taken: Some(taken),
+            };
+            exits = with_exit(exits, self.code_of(&play(position, capture)));
+        }
+        exits
+    }
+
+    /// Goes on with the summary `known`: each capture by a move of the stone on `from` to one of
+    /// `ends`, which are in its reach.
+    fn with_captures_from(
+        &self,
+        position: &Position<B>,
+        from: u8,
+        ends: Points,
+        takes: Points,
+        known: Exits,
+    ) -> Exits
+        requires counts { is_of self.now position.now ≡ true }
+        requires lawful { IsPosition B.shape position.now }
+        requires start { has position.now.own from ≡ true }
+        requires ends { (v : ℕ) → has ends v ≡ true → has (reach B.shape position.now from) v ≡ true }
+        requires takes { takes ≡ takable B.shape position.now.other }
+        ensures { (done : List Move) → known ≡ exits_by B.shape position.now done
+            → result ≡ exits_by B.shape position.now (done ++ flat_map (moves_to B.shape position.now from) (members ends)) }
+    {
+        let mut exits = known;
+        for to in ends.iter() {
+            if closes::<B>(position.own(), from, to) {
+                exits = self.with_captures(position, from, to, takes, exits);
+            }
+        }
+        exits
+    }
+
+    /// The summary of what the captures of a position of the pair lead to, from what is kept of its
+    /// own stones.
+    fn exits_by_row(&self, row: &Row, position: &Position<B>) -> Exits
+        requires counts { is_of self.now position.now ≡ true }
+        requires lawful { IsPosition B.shape position.now }
+        requires own { row.now.own ≡ position.now.own }
+        requires row { IsRow B.shape B.POINTS row.now }
+        ensures { result ≡ exits_of (capture_codes B.shape position.now) }
+    {
+        if !row.has_captures(position) {
+            return NO_EXITS;
+        }
+        // Any capture from three stones leaves the opponent two, and so lost.
+        if position.other().count() == 3 {
+            return LOST_AT_ONCE;
+        }
+        let takes = takable::<B>(position.other());
+        let mut exits = NO_EXITS;
+        for from in position.own().iter() {
+            let ends = reach(position, from).common(row.closing);
+            exits = self.with_captures_from(position, from, ends, takes, exits);
+        }
+        exits
+    }
+
     /// The summary of what the captures of a position of the pair lead to.
     fn exits_at(&self, position: &Position<B>) -> Exits
         requires counts { is_of self.now position.now ≡ true }
         requires lawful { IsPosition B.shape position.now }
         ensures { result ≡ exits_of (capture_codes B.shape position.now) }
     {
-        // The proof learns here that the graph's numbers of stones are those of a pair.
-        let _ = &self.pair;
-        let mut exits = NO_EXITS;
-        for m in moves(position) {
-            if m.taken.is_some() {
-                exits = with_exit(exits, self.code_of(&play(position, m)));
+        self.exits_by_row(&Row::of::<B>(position.own()), position)
+    }
+
+    /// The summaries of the positions of the pair from the index `first` on, as many as there is
+    /// room for.
+    fn read_exits_from(&self, first: u64, exits: &mut [Exits])
+        requires { first + length exits.old ≤ size_of B.POINTS self.now }
+        ensures { (k : ℕ) → k < length exits.old → exits_at exits.new k ≡ exits_of ((net_at B.shape (level_of self.now)).exits (first + k)) }
+    {
+        let pair = self.pair;
+        let _ = pair.greater();
+        let _ = pair.size();
+        if exits.is_empty() {
+            return;
+        }
+        let mut position = pair.position(first);
+        let mut row = Row::of::<B>(position.own());
+        for place in 0..exits.len() {
+            exits[place] = self.exits_by_row(&row, &position);
+            if place + 1 < exits.len() {
+                advance(&pair, &mut position, &mut row, first + place as u64 + 1);
             }
         }
-        exits
     }
 }
 
@@ -174,11 +274,22 @@ impl<'a, B: Board> Graph for PairGraph<'a, B> {
     }
 
     fn quiet_count(&self, i: u64) -> u16 {
-        quiet_moves(&self.pair.position(i))
+        let position = self.pair.position(i);
+        Row::of::<B>(position.own()).quiet_moves(&position)
     }
 
     fn exits(&self, i: u64) -> Exits {
         self.exits_at(&self.pair.position(i))
+    }
+
+    fn read_counts(&self, first: u64, counts: &mut [u16]) {
+        read_counts(&self.pair, first, counts)
+    }
+
+    fn read_exits(&self, first: u64, exits: &mut [Exits]) {
+        // The proof learns here that the graph's numbers of stones are those of a pair.
+        let _ = &self.pair;
+        self.read_exits_from(first, exits)
     }
 
     fn back(&self, i: u64, out: &mut Vec<u64>) -> Result<(), AllocError> {

@@ -3,7 +3,8 @@ use morris_board::board::Board;
 use morris_wave::Levels;
 use std::marker::PhantomData;
 
-/// The family of the graphs of a board's pairs. The level of a pair is its two numbers of stones as digits, such as 43 for 4-3.
+/// The family of the graphs of a board's pairs. The level of a pair is its two numbers of stones as
+/// digits, such as 43 for 4-3.
 pub struct PairLevels<B: Board> {
     board: PhantomData<B>,
 }

@@ -12,6 +12,13 @@ pub(crate) const NO_EXITS: Exits = Exits {
     drawn: false,
 };
 
+/// The summary of the exits of a node that has some, each of them lost already.
+pub(crate) const LOST_AT_ONCE: Exits = Exits {
+    least_lost: Some(0),
+    greatest_won: None,
+    drawn: false,
+};
+
 /// The lesser of a depth and one that is known already, if there is one.
 fn least_with(known: Option<u16>, depth: u16) -> u16
     ensures { result ≡ least_with known depth }
@@ -32,8 +39,8 @@ fn greatest_with(known: Option<u16>, depth: u16) -> u16
     }
 }
 
-/// The summary with one more exit, of this code: 0 for a draw, and otherwise one more than the depth, so that an odd code is a loss and
-/// an even one above 0 a win.
+/// The summary with one more exit, of this code: 0 for a draw, and otherwise one more than the
+/// depth, so that an odd code is a loss and an even one above 0 a win.
 #[tactic(auto, unfolding(crate::specs::Summaries::added))]
 pub(crate) fn with_exit(exits: Exits, code: u16) -> Exits
     ensures { result ≡ added exits code }

@@ -4,6 +4,7 @@ use crate::shelf::{Needs, Shelf};
 use crate::sweeping::{BuildFault, sweep_pair};
 use crate::value::Value;
 use morris_board::grid::Grid;
+use morris_board::nine::Nine;
 use morris_board::position::Position;
 use morris_index::pair::Pair;
 use morris_wave::{Applied, Block, Cut, Graph, Levels, gather, scatter};
@@ -44,6 +45,25 @@ fn tallies_of_three_and_three(rt: HostRuntime) -> Result<(), Fail> {
     let table = sweep_pair(rt.alloc(), &shelf, Pair::<Grid>::new(3, 3)?)?;
     let tallies = table.tallies(rt.alloc())?;
     assert_eq!(rt; tallies.as_slice(), [600, 0, 936, 36, 108].as_slice());
+    Ok(())
+}
+
+#[test]
+fn a_pair_of_more_than_a_million_positions_is_swept(rt: HostRuntime) -> Result<(), Fail> {
+    let shelf = Shelf::new(rt.alloc())?;
+    let table = sweep_pair(rt.alloc(), &shelf, Pair::<Nine>::new(3, 3)?)?;
+    let tallies = table.tallies(rt.alloc())?;
+    let mut sum = 0;
+    for tally in tallies.iter() {
+        assert!(rt; sum < 10_000_000 && *tally < 10_000_000);
+        sum += *tally;
+    }
+    assert_eq!(rt; sum, 2_691_920);
+    // No position is lost at once, as three stones may always jump.
+    assert!(rt; tallies.len() > 2);
+    assert_eq!(rt; tallies[1], 0);
+    // Won in 1.
+    assert_eq!(rt; tallies[2], 1_056_096);
     Ok(())
 }
 

@@ -1,5 +1,6 @@
-use Rattle.std.proofs.Common.{ℕ, ◌++◌, List, sym, ap, ◌∙◌, arith}
+use Rattle.std.proofs.Common.{ℕ, ◌++◌, List, sym, ap, ap₂, ◌∙◌, arith}
 use Rattle.morris_board.specs.Sets.{members}
+use Rattle.morris_index.specs.Moves.{InPair}
 use Rattle.morris_table.specs.Backward.{moves_into, indices_before}
 use Rattle.morris_table.proofs.BackLawsLoops.{are_all, before_none, before_more, end_of, next_points}
 use Rattle.morris_table.proofs.backward.list_predecessors.Goals as goal
@@ -20,7 +21,8 @@ loop-to-preserved g c = record {
   points = next_points c.loop-to.yielded c.in-Some.to c.loop-to.to-iterator c.next.new.self (members c.args.position.now.other) c.loop-to.invariant.points
       c.in-Some.ensures.steps;
   indices = c.in_default.ensures
-      ∙ (ap (λ (xs : List ℕ). xs ++ indices_before g.B.Geometry.POINTS c.args.pair.now c.args.position.now (moves_into g.B.Geometry.shape c.args.position.now c.in-Some.to g.B.Geometry.POINTS)) c.loop-to.invariant.indices
+      ∙ (ap₂ (λ (xs : List ℕ) (q : InPair). xs ++ indices_before g.B.Geometry.POINTS q.pair c.args.position.now
+      (moves_into g.B.Geometry.shape c.args.position.now c.in-Some.to g.B.Geometry.POINTS)) c.loop-to.invariant.indices c.of-indices.ensures
       ∙ before_more g.B.Geometry.shape g.B.Geometry.POINTS c.args.pair.now c.args.position.now c.loop-to.yielded c.in-Some.to);
 }
 

@@ -1,0 +1,12 @@
+use Rattle.std.proofs.Common.{◌≡◌, ◌++◌}
+use Rattle.morris_board.specs.Sets.{members}
+use Rattle.morris_moves.specs.Rules.{reach}
+use Rattle.morris_table.specs.Agreement.{all_added}
+use Rattle.morris_table.proofs.AgreementLaws.{codes_to}
+use Rattle.morris_table.proofs.agreeing.with_moves_from.Given as goal
+
+abbrev pub invariant-loop-to : goal.invariant-loop-to
+invariant-loop-to g l = record {
+  points : l.yielded ++ members l.to-iterator ≡ members (reach g.B.Geometry.shape l.position l.from);
+  added : l.results ≡ all_added l.fn.known (codes_to g.B.Geometry.shape l.raw l.position l.from l.yielded);
+}

@@ -1,0 +1,41 @@
+use Rattle.std.proofs.Common.{◌≡◌, ◌+◌, ap, ◌∙◌, arith}
+use Rattle.std.proofs.lemmas.List.{length-set}
+use Rattle.morris_index.specs.Pairs.{is_of, index_of}
+use Rattle.morris_wave.specs.Exits.{exits_of}
+use Rattle.morris_table.specs.PairNets.{level_of, net_at}
+use Rattle.morris_table.proofs.RowLaws.{exits_more}
+use Rattle.morris_table.proofs.GraphLaws.{exits_same}
+use Rattle.morris_table.proofs.graph.PairGraph.read_exits_from.Goals as goal
+use Rattle.morris_table.proofs.graph.PairGraph.read_exits_from.Goals.{then-place-exits, else-place-exits}
+
+pub loop-place-preserved : goal.loop-place-preserved
+loop-place-preserved g c =
+    let here : c.exits_by_row.result ≡ exits_of ((net_at g.B.Geometry.shape (level_of c.self.inside.pair)).exits (c.args.first + c.loop-place.place)) =
+    c.exits_by_row.ensures
+    ∙ exits_same g.B.Geometry.shape g.met.B.Geometry.is_lawful g.B.Geometry.POINTS g.met.B.Geometry.point_count c.self.inside.pair c.self.invariant.lawful
+    c.loop-place.position c.loop-place.invariant.lawful c.loop-place.invariant.counts (c.args.first + c.loop-place.place) (c.loop-place.invariant.at (omega arith)) in
+    record {
+      len = length-set c.loop-place.exits c.loop-place.place c.exits_by_row.result ∙ c.loop-place.invariant.len;
+      read = exits_more (λ k. exits_of ((net_at g.B.Geometry.shape (level_of c.self.inside.pair)).exits (c.args.first + k))) c.loop-place.exits c.loop-place.place
+          c.exits_by_row.result (omega arith) here c.loop-place.invariant.read;
+      at = elim c.if-place-exits.branch [
+        | then-place-exits w ↦ λ h. ap (index_of g.B.Geometry.POINTS c.self.inside.pair) w.position-is ∙ (w.advance.ensures.index ∙ omega arith)
+        | else-place-exits w ↦ λ h. absurd (omega (arith, w.if-place-exits.false))
+      ];
+      counts = elim c.if-place-exits.branch [
+        | then-place-exits w ↦ ap (is_of c.self.inside.pair) w.position-is ∙ w.advance.ensures.counts
+        | else-place-exits w ↦ ap (is_of c.self.inside.pair) w.position-is ∙ c.loop-place.invariant.counts
+      ];
+      lawful = elim c.if-place-exits.branch [
+        | then-place-exits w ↦ rw w.position-is w.advance.ensures.lawful
+        | else-place-exits w ↦ rw w.position-is c.loop-place.invariant.lawful
+      ];
+      row = elim c.if-place-exits.branch [
+        | then-place-exits w ↦ rw w.row-is w.advance.ensures.row
+        | else-place-exits w ↦ rw w.row-is c.loop-place.invariant.row
+      ];
+      own = elim c.if-place-exits.branch [
+        | then-place-exits w ↦ rw (w.row-is, w.position-is) w.advance.ensures.own
+        | else-place-exits w ↦ rw (w.row-is, w.position-is) c.loop-place.invariant.own
+      ];
+    }

@@ -1,0 +1,9 @@
+use Rattle.std.proofs.Common.{◌+◌, ◌≤◌, length, subst}
+use Rattle.morris_table.proofs.GraphLaws.{size_at}
+use Rattle.morris_table.proofs.graph.PairGraphGraph.read_exits.Goals as goal
+
+pub read_exits_from-requires : goal.read_exits_from-requires
+read_exits_from-requires g c =
+    rw (← c.self.view_is) (subst (λ k. c.args.first + length c.args.exits.now ≤ k)
+    (size_at g.B.Geometry.shape g.met.B.Geometry.is_lawful g.B.Geometry.POINTS g.met.B.Geometry.point_count c.self.inside.pair c.self.invariant.lawful)
+    (rw (← c.self.view_is) at c.requires))

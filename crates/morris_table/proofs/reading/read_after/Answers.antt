@@ -1,0 +1,153 @@
+-- What was read after a header, and what the steps of the format make of it.
+use Rattle.std.proofs.Common.{◌≡◌, Bool, true, false, not, ◌+◌, ◌*◌, ◌<◌, [], ◌++◌, length, take, Ok, Err, sym, ap, ◌∙◌, subst, refl, arith, length-append, length-take}
+use Rattle.std.proofs.KnownBytes.{Consumes-trans}
+use Rattle.std.proofs.lemmas.Result.{err_from_is_err_and}
+use Rattle.std.proofs.lemmas.List.{take_all}
+use Rattle.std.specs.Io.KnownBytes.{Consumes}
+use Rattle.std.specs.Str.{bytes_eq}
+use Rattle.std.proofs.lemmas.Slice.Eq.{bytes_eq-Decides}
+use Rattle.sha2.specs.Sha256.{sha256}
+use Rattle.morris_index.specs.Pairs.{size_of}
+use Rattle.morris_table.specs.Tables.{Table, table}
+use Rattle.morris_table.specs.TableFiles.{code_bytes, file_of}
+use Rattle.morris_table.specs.FileReading.{file_in, header_in, header_at, pair_in}
+use Rattle.morris_table.specs.declared.file_faults.ReadFault.TheVariants as fault
+use Rattle.morris_table.proofs.FileLaws.{length-code_bytes, unless-true, unless-false, file_of-read}
+use Rattle.morris_table.proofs.ReadingLaws.{reads_ok, reads_refused, reads_err, reads_end, reads_early, header_in-is, file_in-bad_header, file_in-short_body, file_in-whole}
+use Rattle.morris_table.proofs.reading.read_after.Goals as goal
+
+pub returns-in_err-pair-clause-outcome : goal.returns-in_err-pair-clause-outcome
+returns-in_err-pair-clause-outcome g c =
+    let failed = err_from_is_err_and c.from_residual.result c.from_residual.ensures.1 in
+    let board = g.B.Geometry.shape in
+    let header = c.args.header.now in
+    let long : length header ≡ 16 = c.told-header in
+    let named : pair_in board (header_at header) ≡ Err c.in_err-pair.field-0.0 = ap (pair_in board) (sym c.from_bytes.ensures) ∙ sym c.in_err-pair.ensures.value in
+    rw (failed.1, failed.2)
+    (reads_refused {A = Table} (λ bytes. file_in board (header ++ bytes)) (g.S.Source.remaining c.args.source.now) (g.S.Source.remaining c.args.source.now)
+    c.in_err-pair.field-0.0 (λ bytes _. file_in-bad_header board header long bytes c.in_err-pair.field-0.0 named))
+
+pub returns-in_err-codes-clause-outcome : goal.returns-in_err-codes-clause-outcome
+returns-in_err-codes-clause-outcome g c =
+    let failed = err_from_is_err_and c.from_residual-in_err-codes.result c.from_residual-in_err-codes.ensures.1 in
+    let board = g.B.Geometry.shape in
+    let header = c.args.header.now in
+    let long : length header ≡ 16 = c.told-header in
+    let pair = c.in_ok-pair.pair in
+    let named : pair_in board (header_at header) ≡ Ok pair = ap (pair_in board) (sym c.from_bytes.ensures) ∙ sym c.in_ok-pair.ensures.value in
+    let sized : c.size.result ≡ size_of board.points pair = c.size.ensures.value ∙ ap (λ n. size_of n pair) (sym g.met.B.Geometry.point_count) in
+    rw (failed.1, failed.2)
+    (reads_early {A = Table} (λ bytes. file_in board (header ++ bytes)) (2 * c.size.result) (g.S.Source.remaining c.args.source.now)
+    (g.S.Source.remaining c.read_codes.new.source) c.in_err-codes.field-0.0 c.in_err-codes.ensures.refused
+    (λ bytes few. file_in-short_body board header long pair c.size.result named sized bytes (omega arith)))
+
+pub returns-in_err-codes-clause-memory : goal.returns-in_err-codes-clause-memory
+returns-in_err-codes-clause-memory g c = λ _.
+    let board = g.B.Geometry.shape in
+    let header = c.args.header.now in
+    let long : length header ≡ 16 = c.told-header in
+    let named : header_in board header ≡ Ok c.in_ok-pair.pair =
+    header_in-is board header long ∙ ap (pair_in board) (sym c.from_bytes.ensures) ∙ sym c.in_ok-pair.ensures.value in
+    rw named refl
+
+pub returns-then-branch-lt-DIGEST-clause-outcome : goal.returns-then-branch-lt-DIGEST-clause-outcome
+returns-then-branch-lt-DIGEST-clause-outcome g c =
+    let board = g.B.Geometry.shape in
+    let header = c.args.header.now in
+    let long : length header ≡ 16 = c.told-header in
+    let pair = c.in_ok-pair.pair in
+    let named : pair_in board (header_at header) ≡ Ok pair = ap (pair_in board) (sym c.from_bytes.ensures) ∙ sym c.in_ok-pair.ensures.value in
+    let sized : c.size.result ≡ size_of board.points pair = c.size.ensures.value ∙ ap (λ n. size_of n pair) (sym g.met.B.Geometry.point_count) in
+    let stated = code_bytes c.in_ok-codes.codes.items in
+    let part = take c.in_ok-fill.field-0 c.fill.new.buffer in
+    let len : length c.in_ok-codes.codes.items ≡ c.size.result = omega (arith, c.in_ok-codes.ensures.count) in
+    let few : length (stated ++ part) < 2 * c.size.result + 32 =
+    omega (arith, length-append stated part, length-code_bytes c.in_ok-codes.codes.items, length-take c.in_ok-fill.field-0 c.fill.new.buffer) in
+    reads_end {A = Table} (λ bytes. file_in board (header ++ bytes)) (g.S.Source.remaining c.args.source.now) (g.S.Source.remaining c.fill.new.source)
+    (stated ++ part) fault.Short (Consumes-trans _ _ _ _ _ c.in_ok-codes.ensures.bytes c.in_ok-fill.ensures.bytes)
+    (c.in_ok-fill.ensures.end (omega (arith, c.fill.auto.buffer)))
+    (file_in-short_body board header long pair c.size.result named sized (stated ++ part) few)
+
+not_true : (b : Bool) → not b ≡ true → b ≡ false
+not_true true h = cc
+not_true false h = refl
+
+not_false : (b : Bool) → not b ≡ false → b ≡ true
+not_false true h = refl
+not_false false h = cc
+
+pub returns-then-ne-clause-outcome : goal.returns-then-ne-clause-outcome
+returns-then-ne-clause-outcome g c =
+    let board = g.B.Geometry.shape in
+    let header = c.args.header.now in
+    let long : length header ≡ 16 = c.told-header in
+    let pair = c.in_ok-pair.pair in
+    let named : pair_in board (header_at header) ≡ Ok pair = ap (pair_in board) (sym c.from_bytes.ensures) ∙ sym c.in_ok-pair.ensures.value in
+    let sized : c.size.result ≡ size_of board.points pair = c.size.ensures.value ∙ ap (λ n. size_of n pair) (sym g.met.B.Geometry.point_count) in
+    let codes = c.in_ok-codes.codes.items in
+    let stated = code_bytes codes in
+    let digest = c.fill.new.buffer in
+    let len : length codes ≡ c.size.result = omega (arith, c.in_ok-codes.ensures.count) in
+    let whole : length digest ≡ 32 = omega (arith, c.fill.auto.buffer) in
+    let all : take c.in_ok-fill.field-0 digest ≡ digest = take_all c.in_ok-fill.field-0 digest (omega arith) in
+    let read = subst (Consumes (g.S.Source.remaining c.read_codes.new.source) (g.S.Source.remaining c.fill.new.source)) all c.in_ok-fill.ensures.bytes in
+    let right : c.finalize.result ≡ sha256 (header ++ stated) =
+    c.finalize.ensures (header ++ stated) (c.in_ok-codes.ensures.hashed header (c.update.ensures [] c.new-hasher.ensures)) in
+    let differs : bytes_eq digest (sha256 (header ++ stated)) ≡ false =
+    ap (bytes_eq digest) (sym right) ∙ not_true (bytes_eq digest c.finalize.result) (sym c.ne.ensures ∙ c.if-ne.true) in
+    reads_err {A = Table} (λ bytes. file_in board (header ++ bytes)) (g.S.Source.remaining c.args.source.now) (g.S.Source.remaining c.fill.new.source)
+    (stated ++ digest) fault.Digest
+    (Consumes-trans (g.S.Source.remaining c.args.source.now) (g.S.Source.remaining c.read_codes.new.source) (g.S.Source.remaining c.fill.new.source) stated digest
+    c.in_ok-codes.ensures.bytes read)
+    (λ left. file_in-whole board header long pair c.size.result named sized codes digest left len (λ i _. c.in_ok-codes.ensures.small i) whole
+    ∙ unless-false (bytes_eq digest (sha256 (header ++ stated))) fault.Digest (Ok (table pair codes, left)) differs)
+
+pub returns-clause-outcome : goal.returns-clause-outcome
+returns-clause-outcome g c =
+    let board = g.B.Geometry.shape in
+    let header = c.args.header.now in
+    let long : length header ≡ 16 = c.told-header in
+    let pair = c.in_ok-pair.pair in
+    let named : pair_in board (header_at header) ≡ Ok pair = ap (pair_in board) (sym c.from_bytes.ensures) ∙ sym c.in_ok-pair.ensures.value in
+    let sized : c.size.result ≡ size_of board.points pair = c.size.ensures.value ∙ ap (λ n. size_of n pair) (sym g.met.B.Geometry.point_count) in
+    let codes = c.in_ok-codes.codes.items in
+    let stated = code_bytes codes in
+    let digest = c.fill.new.buffer in
+    let len : length codes ≡ c.size.result = omega (arith, c.in_ok-codes.ensures.count) in
+    let whole : length digest ≡ 32 = omega (arith, c.fill.auto.buffer) in
+    let all : take c.in_ok-fill.field-0 digest ≡ digest = take_all c.in_ok-fill.field-0 digest (omega arith) in
+    let read = subst (Consumes (g.S.Source.remaining c.read_codes.new.source) (g.S.Source.remaining c.fill.new.source)) all c.in_ok-fill.ensures.bytes in
+    let right : c.finalize.result ≡ sha256 (header ++ stated) =
+    c.finalize.ensures (header ++ stated) (c.in_ok-codes.ensures.hashed header (c.update.ensures [] c.new-hasher.ensures)) in
+    let same : bytes_eq digest (sha256 (header ++ stated)) ≡ true =
+    ap (bytes_eq digest) (sym right) ∙ not_false (bytes_eq digest c.finalize.result) (sym c.ne.ensures ∙ c.if-ne.false) in
+    rw c.new.ensures
+    (reads_ok {A = Table} (λ bytes. file_in board (header ++ bytes)) (g.S.Source.remaining c.args.source.now) (g.S.Source.remaining c.fill.new.source)
+    (stated ++ digest) (table pair codes)
+    (Consumes-trans (g.S.Source.remaining c.args.source.now) (g.S.Source.remaining c.read_codes.new.source) (g.S.Source.remaining c.fill.new.source) stated digest
+    c.in_ok-codes.ensures.bytes read)
+    (λ left. file_in-whole board header long pair c.size.result named sized codes digest left len (λ i _. c.in_ok-codes.ensures.small i) whole
+    ∙ unless-true (bytes_eq digest (sha256 (header ++ stated))) fault.Digest (Ok (table pair codes, left)) same))
+
+pub returns-clause-file : goal.returns-clause-file
+returns-clause-file g c =
+    let board = g.B.Geometry.shape in
+    let header = c.args.header.now in
+    let pair = c.in_ok-pair.pair in
+    let named : pair_in board (header_at header) ≡ Ok pair = ap (pair_in board) (sym c.from_bytes.ensures) ∙ sym c.in_ok-pair.ensures.value in
+    let sized : c.size.result ≡ size_of board.points pair = c.size.ensures.value ∙ ap (λ n. size_of n pair) (sym g.met.B.Geometry.point_count) in
+    let codes = c.in_ok-codes.codes.items in
+    let stated = code_bytes codes in
+    let digest = c.fill.new.buffer in
+    let counted : length codes ≡ size_of board.points pair = omega (arith, c.in_ok-codes.ensures.count, sized) in
+    let all : take c.in_ok-fill.field-0 digest ≡ digest = take_all c.in_ok-fill.field-0 digest (omega (arith, c.fill.auto.buffer)) in
+    let read = subst (Consumes (g.S.Source.remaining c.read_codes.new.source) (g.S.Source.remaining c.fill.new.source)) all c.in_ok-fill.ensures.bytes in
+    let right : c.finalize.result ≡ sha256 (header ++ stated) =
+    c.finalize.ensures (header ++ stated) (c.in_ok-codes.ensures.hashed header (c.update.ensures [] c.new-hasher.ensures)) in
+    let same : digest ≡ c.finalize.result =
+    (bytes_eq-Decides digest c.finalize.result).0 (not_false (bytes_eq digest c.finalize.result) (sym c.ne.ensures ∙ c.if-ne.false)) in (
+      stated ++ digest,
+      Consumes-trans (g.S.Source.remaining c.args.source.now) (g.S.Source.remaining c.read_codes.new.source) (g.S.Source.remaining c.fill.new.source) stated digest
+          c.in_ok-codes.ensures.bytes read,
+      ap (file_of board) c.new.ensures ∙ file_of-read board header digest codes pair c.fits-header c.told-header named counted (same ∙ right),
+    )

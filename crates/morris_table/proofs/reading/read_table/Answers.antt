@@ -1,0 +1,41 @@
+-- A file alone: what refuses the next file, and what follows it.
+use Rattle.std.proofs.Common.{◌≡◌, [], take, Ok, ap, subst, arith, length-take}
+use Rattle.std.proofs.lemmas.Result.{err_from_is_err_and}
+use Rattle.std.specs.Io.KnownBytes.{Consumes}
+use Rattle.morris_table.specs.FileReading.{Reads, next_file_in}
+use Rattle.morris_table.proofs.ReadingLaws.{reads_only_err, reads_only_none, reads_only_trailing, reads_only_ok}
+use Rattle.morris_table.proofs.reading.read_table.Goals as goal
+
+pub returns-in_err-raw-clause-outcome : goal.returns-in_err-raw-clause-outcome
+returns-in_err-raw-clause-outcome g c =
+    let failed = err_from_is_err_and c.from_residual.result c.from_residual.ensures.1 in
+    rw (failed.1, failed.2)
+    (reads_only_err g.B.Geometry.shape (g.S.Source.remaining c.args.source.now) (g.S.Source.remaining c.read_next.new.source) c.in_err-raw.field-0.0
+    c.in_err-raw.ensures.outcome)
+
+pub returns-in_default-clause-outcome : goal.returns-in_default-clause-outcome
+returns-in_default-clause-outcome g c =
+    reads_only_none g.B.Geometry.shape (g.S.Source.remaining c.args.source.now) (g.S.Source.remaining c.read_next.new.source)
+    (subst (λ found. Reads (next_file_in g.B.Geometry.shape) (g.S.Source.remaining c.args.source.now) (g.S.Source.remaining c.read_next.new.source) (Ok found))
+    c.in_default.is c.in_ok-raw.ensures.outcome)
+
+pub returns-then-branch-gt0-clause-outcome : goal.returns-then-branch-gt0-clause-outcome
+returns-then-branch-gt0-clause-outcome g c =
+    let more = take c.in_ok-fill.field-0 c.fill.new.buffer in
+    reads_only_trailing g.B.Geometry.shape (g.S.Source.remaining c.args.source.now) (g.S.Source.remaining c.read_next.new.source)
+    (g.S.Source.remaining c.fill.new.source) c.in-Some.raw more
+    (subst (λ found. Reads (next_file_in g.B.Geometry.shape) (g.S.Source.remaining c.args.source.now) (g.S.Source.remaining c.read_next.new.source) (Ok found))
+    c.in-Some.is c.in_ok-raw.ensures.outcome)
+    c.in_ok-fill.ensures.bytes
+    (omega (arith, length-take c.in_ok-fill.field-0 c.fill.new.buffer, c.in_ok-fill.ensures.within))
+
+pub returns-clause-outcome : goal.returns-clause-outcome
+returns-clause-outcome g c =
+    let zero_read : c.in_ok-fill.field-0 ≡ 0 = omega arith in
+    let none : take c.in_ok-fill.field-0 c.fill.new.buffer ≡ [] = ap (λ n. take n c.fill.new.buffer) zero_read in
+    reads_only_ok g.B.Geometry.shape (g.S.Source.remaining c.args.source.now) (g.S.Source.remaining c.read_next.new.source)
+    (g.S.Source.remaining c.fill.new.source) c.in-Some.raw
+    (subst (λ found. Reads (next_file_in g.B.Geometry.shape) (g.S.Source.remaining c.args.source.now) (g.S.Source.remaining c.read_next.new.source) (Ok found))
+    c.in-Some.is c.in_ok-raw.ensures.outcome)
+    (subst (Consumes (g.S.Source.remaining c.read_next.new.source) (g.S.Source.remaining c.fill.new.source)) none c.in_ok-fill.ensures.bytes)
+    (c.in_ok-fill.ensures.end (omega (arith, c.fill.auto.buffer)))

@@ -1,0 +1,37 @@
+use Rattle.std.proofs.Common.{◌≡◌, ℕ, ◌<◌, ◌++◌, List, sym, ap, ◌∙◌, arith}
+use Rattle.std.proofs.lemmas.List.{append-nil}
+use Rattle.morris_board.specs.Sets.{members}
+use Rattle.morris_moves.proofs.SetLaws.{point_lt}
+use Rattle.morris_table.proofs.BackLawsLoops.{end_of}
+use Rattle.morris_table.proofs.RowLaws.{closing_among, may_close-own, may_close-all, may_close-here}
+use Rattle.morris_table.proofs.rows.may_close.Goals as goal
+
+pub returns-then-has : goal.returns-then-has
+returns-then-has g c = may_close-own g.B.Geometry.shape c.args.own c.args.to (sym c.has.ensures ∙ c.if-has.true)
+
+pub may_come-requires-clause-start : goal.may_come-requires-clause-start
+may_come-requires-clause-start g c =
+    point_lt c.args.own g.B.Geometry.POINTS c.in-Some.from c.requires.within
+    (end_of c.args.own c.loop-from.yielded c.in-Some.from (members c.next.new.self)
+    (ap (λ (zs : List ℕ). c.loop-from.yielded ++ zs) (sym c.in-Some.ensures.steps) ∙ c.loop-from.invariant.points))
+
+pub closes-requires-clause-start : goal.closes-requires-clause-start
+closes-requires-clause-start g c =
+    let low : c.in-Some.from < g.B.Geometry.POINTS =
+    point_lt c.args.own g.B.Geometry.POINTS c.in-Some.from c.requires.within
+    (end_of c.args.own c.loop-from.yielded c.in-Some.from (members c.next.new.self)
+    (ap (λ (zs : List ℕ). c.loop-from.yielded ++ zs) (sym c.in-Some.ensures.steps) ∙ c.loop-from.invariant.points)) in
+    omega (arith, g.met.B.Geometry.few)
+
+pub returns-then-closes : goal.returns-then-closes
+returns-then-closes g c =
+    may_close-here g.B.Geometry.shape c.args.own c.args.to c.in-Some.from c.loop-from.yielded (members c.next.new.self)
+    (ap (λ (zs : List ℕ). c.loop-from.yielded ++ zs) (sym c.in-Some.ensures.steps) ∙ c.loop-from.invariant.points)
+    (sym c.has.ensures ∙ c.if-has.false) (sym c.may_come.ensures ∙ c.if-may_come.true) (sym c.closes.ensures ∙ c.if-closes.true)
+
+pub returns : goal.returns
+returns g c =
+    let each : c.loop-from.yielded ≡ members c.args.own =
+    sym (append-nil _) ∙ (ap (λ (zs : List ℕ). c.loop-from.yielded ++ zs) (sym c.in-None.ensures.steps.0) ∙ c.loop-from.invariant.points) in
+    sym c.loop-from.invariant.none
+    ∙ (ap (closing_among g.B.Geometry.shape c.args.own c.args.to) each ∙ may_close-all g.B.Geometry.shape c.args.own c.args.to (sym c.has.ensures ∙ c.if-has.false))

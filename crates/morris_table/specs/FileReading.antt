@@ -1,0 +1,143 @@
+-- What reading any bytes as the file of a table gives: the table, or the refusal of the first step
+-- that refuses.
+use Rattle.std.specs.Prelude.{◌≡◌, ℕ, ◌+◌, ◌*◌, ◌<◌, Bool, true, false, ◌&&◌, nat_eq, nat_le, List, [], ◌∷◌, ◌++◌, length, take, drop, slice_index, Option, Some, None, Result, Ok, Err, IsOk, IfSome}
+use Rattle.std.specs.Int.{w16, w64, from_be_bytes}
+use Rattle.std.specs.Str.{bytes_eq}
+use Rattle.std.specs.Io.KnownBytes.{Consumes}
+use Rattle.sha2.specs.Sha256.{sha256}
+use Rattle.morris_board.specs.Boards.{Shape}
+use Rattle.morris_board.specs.Positions.{is_between}
+use Rattle.morris_index.specs.Pairs.{Counts, counts, size_of}
+use Rattle.morris_table.specs.Tables.{Table, table}
+use Rattle.morris_table.specs.TableFiles.{magic}
+use Rattle.morris_table.specs.declared.header.Header.{Header}
+use Rattle.morris_table.specs.declared.file_faults.ReadFault.{ReadFault}
+use Rattle.morris_table.specs.declared.file_faults.ReadFault.TheVariants as fault
+
+-- a step that refuses with this fault unless its test holds, and what comes after it
+abbrev pub unless : {A : Type 0} → Bool → ReadFault → Result A ReadFault → Result A ReadFault
+unless true refusal next = next
+unless false refusal next = Err refusal
+
+-- what comes after steps that may have refused
+abbrev pub and_then : {A B : Type 0} → Result A ReadFault → (A → Result B ReadFault) → Result B ReadFault
+and_then (Ok found) next = next found
+and_then (Err refusal) next = Err refusal
+
+-- ---- the header
+
+-- the fields of a header, by their places in its 16 bytes
+abbrev pub header_at : List ℕ → Header
+header_at bytes = record {
+  magic = take 4 bytes;
+  version = slice_index bytes 4;
+  board = slice_index bytes 5;
+  greater = slice_index bytes 6;
+  lesser = slice_index bytes 7;
+  entries = from_be_bytes w64 (drop 8 bytes);
+}
+
+-- whether two numbers are the greater and the lesser number of stones of a pair, on a board with
+-- points enough
+abbrev pub are_counts : ℕ → ℕ → Bool
+are_counts greater lesser = is_between 3 greater 9 && (is_between 3 lesser 9 && nat_le lesser greater)
+
+-- The pair of a header, in steps: it begins with NMMT; its version is 1; the board is the one that
+-- is asked for; the numbers of stones are those of a pair, the greater one first; the board has
+-- points for them; and the number of entries is the pair's size.
+unfoldable pub pair_in : Shape → Header → Result Counts ReadFault
+pair_in board header =
+    let pair = counts header.greater header.lesser in
+    unless (bytes_eq header.magic magic) fault.Magic (
+    unless (nat_eq header.version 1) fault.Version (
+    unless (nat_eq header.board board.id) fault.BoardId (
+    unless (are_counts header.greater header.lesser) fault.Counts (
+    unless (nat_le (header.greater + header.lesser) board.points) fault.Crowded (
+    unless (nat_eq header.entries (size_of board.points pair)) fault.Count (
+    Ok pair))))))
+
+-- the pair that bytes begin with: there are 16 bytes, and these are a header
+unfoldable pub header_in : Shape → List ℕ → Result Counts ReadFault
+header_in board bytes = unless (nat_le 16 (length bytes)) fault.Short (pair_in board (header_at (take 16 bytes)))
+
+-- ---- the codes and the digest
+
+-- the codes that bytes state, two bytes each
+abbrev pub codes_in : List ℕ → List ℕ
+codes_in [] = []
+codes_in (high ∷ []) = []
+codes_in (high ∷ low ∷ bytes) = from_be_bytes w16 (high ∷ low ∷ []) ∷ codes_in bytes
+
+-- The table of n entries in the bytes after its header, and what is left of them, in steps: there
+-- are 2 bytes for each code and 32 for the digest; and the digest is the SHA-256 of the header and
+-- the codes.
+unfoldable pub body_in : Counts → ℕ → List ℕ → List ℕ → Result (Table × List ℕ) ReadFault
+body_in pair n header bytes =
+    let stated = take (2 * n) bytes in
+    let digest = take 32 (drop (2 * n) bytes) in
+    unless (nat_le (2 * n + 32) (length bytes)) fault.Short (
+    unless (bytes_eq digest (sha256 (header ++ stated))) fault.Digest (
+    Ok (table pair (codes_in stated), drop (2 * n + 32) bytes)))
+
+-- ---- the whole
+
+-- the table whose file bytes begin with, and the bytes after it
+unfoldable pub file_in : Shape → List ℕ → Result (Table × List ℕ) ReadFault
+file_in board bytes = and_then (header_in board bytes) (λ pair. body_in pair (size_of board.points pair) (take 16 bytes) (drop 16 bytes))
+
+-- whether nothing is left
+abbrev pub is_end : List ℕ → Bool
+is_end [] = true
+is_end (byte ∷ bytes) = false
+
+-- the table whose file the bytes are: after the file there is nothing
+unfoldable pub only_file_in : Shape → List ℕ → Result (Table × List ℕ) ReadFault
+only_file_in board bytes = and_then (file_in board bytes) (λ found. unless (is_end found.1) fault.Trailing (Ok found))
+
+-- the same of bytes that have files one after the other: no table where there is no byte
+unfoldable pub next_file_in : Shape → List ℕ → Result (Option Table × List ℕ) ReadFault
+next_file_in board [] = Ok (None, [])
+next_file_in board (byte ∷ bytes) = and_then (file_in board (byte ∷ bytes)) (λ found. Ok (Some found.0, found.1))
+
+-- ---- what a call that reads answers
+
+-- What a call answers of a source, whose bytes were `old` before and are `new` after it, where they
+-- are known: what the steps `found` find in them, so that what they left is left; or the refusal of
+-- the first step that refuses. Room may be missing, and a read may fail, at any bytes.
+abbrev pub Reads : {A : Type 0} → (List ℕ → Result (A × List ℕ) ReadFault) → Option (List ℕ) → Option (List ℕ) → Result A ReadFault → Type 0
+Reads found None new answer = Unit {0}
+Reads found (Some bytes) new (Ok x) = (left : List ℕ) × (new ≡ Some left) × (found bytes ≡ Ok (x, left))
+Reads found (Some bytes) new (Err fault.Memory) = Unit {0}
+Reads found (Some bytes) new (Err fault.Read) = Unit {0}
+Reads found (Some bytes) new (Err refusal) = found bytes ≡ Err refusal
+
+-- where bytes are known, they begin with a header of this board
+abbrev pub HasHeader : Shape → Option (List ℕ) → Type 0
+HasHeader board None = Unit {0}
+HasHeader board (Some bytes) = IsOk (header_in board bytes)
+
+-- one failed read was counted where the answer is Read, and none where it is another
+abbrev pub CountsRead : {A : Type 0} → ℕ → ℕ → Result A ReadFault → Type 0
+CountsRead old new (Ok x) = new ≡ old
+CountsRead old new (Err fault.Read) = new ≡ old + 1
+CountsRead old new (Err refusal) = new ≡ old
+
+-- ---- parts of a call that reads
+
+-- why reading n bytes and more was refused: where bytes are known, there are fewer; or room was
+-- missing, or a read failed
+abbrev pub EndsEarly : ℕ → Option (List ℕ) → ReadFault → Type 0
+EndsEarly n old fault.Short = IfSome old (λ bytes. length bytes < n)
+EndsEarly n old fault.Memory = Unit {0}
+EndsEarly n old fault.Read = Unit {0}
+EndsEarly n old refusal = ⊥
+
+-- the bytes that were read are those of a file after its first ones
+abbrev pub ContinuesFile : Option (List ℕ) → Option (List ℕ) → List ℕ → List ℕ → Type 0
+ContinuesFile old new first file = (rest : List ℕ) × Consumes old new rest × (file ≡ first ++ rest)
+
+-- a refusal because of the bytes: neither room was missing, nor did a read fail
+abbrev pub IsOfBytes : ReadFault → Type 0
+IsOfBytes fault.Memory = ⊥
+IsOfBytes fault.Read = ⊥
+IsOfBytes refusal = Unit {0}

@@ -1,0 +1,172 @@
+//! Reading a table file.
+ghost use Rattle.std.specs.Prelude.{◌≡◌, ℕ, ◌+◌, ◌*◌, ◌-◌, ◌/◌, ◌%◌, ◌<◌, ◌≤◌, ◌^◌, ◌++◌, List, length, take, slice_index, Err, IsOk, IfOk, IfErr, vec_len, vec_capacity};
+ghost use Rattle.std.specs.Io.KnownBytes.{Consumes, IsAtEnd};
+ghost use Rattle.sha2.specs.Hashers.{Holds256};
+ghost use Rattle.morris_board.specs.Streams.{CountsFailure};
+ghost use Rattle.morris_table.specs.TableFiles.{code_bytes, file_of, next_file_of};
+ghost use Rattle.morris_table.specs.FileReading.{Reads, HasHeader, CountsRead, EndsEarly, ContinuesFile, only_file_in, next_file_in, file_in, header_in};
+
+use crate::file_faults::ReadFault;
+use crate::header::{HEADER, Header};
+use crate::raw::Raw;
+use morris_board::board::Geometry;
+use morris_board::streams::{Failed, Source};
+use sha2::{Digest, Sha256};
+use std::alloc::Global;
+
+/// How many bytes are read at a time, at most.
+const PIECE: usize = 4096;
+
+/// How many bytes a digest has.
+const DIGEST: usize = 32;
+
+/// Reads a table from its file, after which the source has to end. The codes may be wrong.
+///
+/// Bytes are read in pieces of several KiB. The codes are all that memory is taken for, and only
+/// once the header is known to be right. Fewer than `u64::MAX` calls of the source may have failed
+/// before.
+///
+/// # Errors
+/// The first step that refuses decides, in the order of [`ReadFault`]: the source ends within the
+/// header (`Short`); the header isn't one of a table of this board (`Magic`, `Version`, `BoardId`,
+/// `Counts`, `Crowded`, `Count`); there is no room for the codes (`Memory`); the source ends within
+/// the codes or the digest (`Short`); the digest is wrong (`Digest`); a byte follows (`Trailing`).
+/// `Read` where a read failed, which isn't tried again. After a refusal the source stands somewhere
+/// in what was refused.
+pub fn read_table<B: Geometry, S: Source>(
+    alloc: Global,
+    source: &mut S,
+) -> Result<Raw<B>, ReadFault>
+    requires { S.failures source.old < 2 ^ 64 - 1 }
+    ensures outcome { Reads (only_file_in B.shape) (S.remaining source.old) (S.remaining source.new) result }
+    ensures file { IfOk result (λ raw. Consumes (S.remaining source.old) (S.remaining source.new) (file_of B.shape raw)) }
+    ensures memory { result ≡ Err ReadFault.Memory → HasHeader B.shape (S.remaining source.old) }
+    ensures counted { CountsRead (S.failures source.old) (S.failures source.new) result }
+{
+    let Some(raw) = read_next(alloc, source)? else {
+        return Err(ReadFault::Short);
+    };
+    let mut next = [0];
+    if fill(source, &mut next)? > 0 {
+        return Err(ReadFault::Trailing);
+    }
+    Ok(raw)
+}
+
+/// Reads the next table of a source that has table files one after the other, or `None` where no
+/// byte is left. What follows the file isn't read. The codes may be wrong.
+///
+/// Fewer than `u64::MAX` calls of the source may have failed before.
+///
+/// # Errors
+/// Those of [`read_table`] but `Trailing`, in the same order.
+pub fn read_next<B: Geometry, S: Source>(
+    alloc: Global,
+    source: &mut S,
+) -> Result<Option<Raw<B>>, ReadFault>
+    requires { S.failures source.old < 2 ^ 64 - 1 }
+    ensures outcome { Reads (next_file_in B.shape) (S.remaining source.old) (S.remaining source.new) result }
+    ensures file { IfOk result (λ found. Consumes (S.remaining source.old) (S.remaining source.new) (next_file_of B.shape found)) }
+    ensures memory { result ≡ Err ReadFault.Memory → HasHeader B.shape (S.remaining source.old) }
+    ensures counted { CountsRead (S.failures source.old) (S.failures source.new) result }
+{
+    let mut header = [0; HEADER];
+    let count = fill(source, &mut header)?;
+    if count == 0 {
+        return Ok(None);
+    }
+    if count < HEADER {
+        return Err(ReadFault::Short);
+    }
+    Ok(Some(read_after(alloc, source, &header)?))
+}
+
+/// Reads what stands in a file after this header.
+fn read_after<B: Geometry, S: Source>(
+    alloc: Global,
+    source: &mut S,
+    header: &[u8; HEADER],
+) -> Result<Raw<B>, ReadFault>
+    requires { S.failures source.old < 2 ^ 64 - 1 }
+    ensures outcome { Reads (λ bytes. file_in B.shape (header.now ++ bytes)) (S.remaining source.old) (S.remaining source.new) result }
+    ensures file { IfOk result (λ raw. ContinuesFile (S.remaining source.old) (S.remaining source.new) header.now (file_of B.shape raw)) }
+    ensures memory { result ≡ Err ReadFault.Memory → IsOk (header_in B.shape header.now) }
+    ensures counted { CountsRead (S.failures source.old) (S.failures source.new) result }
+{
+    let pair = Header::from_bytes(header).pair()?;
+    let mut hasher = Sha256::new();
+    hasher.update(header);
+    let codes = read_codes(alloc, source, pair.size() as usize, &mut hasher)?;
+    let mut digest = [0; DIGEST];
+    if fill(source, &mut digest)? < DIGEST {
+        return Err(ReadFault::Short);
+    }
+    if digest != hasher.finalize() {
+        return Err(ReadFault::Digest);
+    }
+    Ok(Raw::new(pair, codes))
+}
+
+/// Reads this many codes, and feeds their bytes to the hasher.
+fn read_codes<S: Source>(
+    alloc: Global,
+    source: &mut S,
+    count: usize,
+    hasher: &mut Sha256,
+) -> Result<Vec<u16>, ReadFault>
+    requires failures { S.failures source.old < 2 ^ 64 - 1 }
+    requires few { count ≤ 2 ^ 40 }
+    ensures count { IfOk result (λ codes. vec_len codes ≡ count) }
+    ensures small { IfOk result (λ codes. (i : ℕ) → slice_index codes.items i ≤ 65535) }
+    ensures bytes { IfOk result (λ codes. Consumes (S.remaining source.old) (S.remaining source.new) (code_bytes codes.items)) }
+    ensures hashed { IfOk result (λ codes. (before : List ℕ) → Holds256 hasher.old before → Holds256 hasher.new (before ++ code_bytes codes.items)) }
+    ensures refused { IfErr result (EndsEarly (2 * count) (S.remaining source.old)) }
+    ensures counted { CountsRead (S.failures source.old) (S.failures source.new) result }
+{
+    let mut codes = Vec::with_capacity(alloc, count)?;
+    let mut buffer = [0; PIECE];
+    while codes.len() < count {
+        let wanted = PIECE.min(2 * (count - codes.len()));
+        let piece = &mut buffer[..wanted];
+        if fill(source, piece)? < wanted {
+            return Err(ReadFault::Short);
+        }
+        hasher.update(&*piece);
+        push_codes(&mut codes, piece);
+    }
+    Ok(codes)
+}
+
+/// Adds the codes that stand in these bytes, for which there is room.
+fn push_codes(codes: &mut Vec<u16>, bytes: &[u8])
+    requires even { length bytes.now % 2 ≡ 0 }
+    requires room { vec_len codes.old + length bytes.now / 2 ≤ vec_capacity codes.old }
+    ensures bytes { code_bytes codes.new.items ≡ code_bytes codes.old.items ++ bytes.now }
+    ensures small { ((i : ℕ) → slice_index codes.old.items i ≤ 65535) → (i : ℕ) → slice_index codes.new.items i ≤ 65535 }
+    ensures len { vec_len codes.new ≡ vec_len codes.old + length bytes.now / 2 }
+    ensures capacity { vec_capacity codes.new ≡ vec_capacity codes.old }
+{
+    for i in 0..bytes.len() / 2 {
+        codes.push_reserved(u16::from_be_bytes([bytes[2 * i], bytes[2 * i + 1]]));
+    }
+}
+
+/// Reads until the buffer is full or the source at its end, and answers how many bytes that are. A
+/// read that fails ends it.
+fn fill<S: Source>(source: &mut S, buffer: &mut [u8]) -> Result<usize, Failed>
+    requires { S.failures source.old < 2 ^ 64 - 1 }
+    ensures within { IfOk result (λ n. n ≤ length buffer.new) }
+    ensures bytes { IfOk result (λ n. Consumes (S.remaining source.old) (S.remaining source.new) (take n buffer.new)) }
+    ensures end { IfOk result (λ n. n < length buffer.new → IsAtEnd (S.remaining source.new)) }
+    ensures counted { CountsFailure (S.failures source.old) (S.failures source.new) result }
+{
+    let mut done = 0;
+    while done < buffer.len() {
+        match source.read(&mut buffer[done..]) {
+            Ok(0) => return Ok(done),
+            Ok(count) => done += count,
+            Err(Failed) => return Err(Failed),
+        }
+    }
+    Ok(done)
+}

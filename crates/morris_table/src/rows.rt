@@ -1,0 +1,174 @@
+//! What the moves of the stones of one player are, whatever the opponent has.
+ghost use Rattle.std.specs.Prelude.{◌≡◌, ℕ, ◌+◌, ◌<◌, ◌≤◌, ◌^◌, true, length, filter, slice_index};
+ghost use Rattle.std.specs.List.{list_any};
+ghost use Rattle.morris_board.specs.Sets.{has, members, count_of};
+ghost use Rattle.morris_moves.specs.Rules.{closes, moves_of};
+ghost use Rattle.morris_index.specs.Pairs.{is_of, index_of, size_of};
+ghost use Rattle.morris_board.specs.Positions.{IsPosition};
+ghost use Rattle.morris_table.specs.PairNets.{is_quiet, is_capture, level_of, net_at};
+ghost use Rattle.morris_table.specs.Rows.{may_come, arrivals, may_close, IsRow};
+
+use morris_board::board::Geometry;
+use morris_board::points::Points;
+use morris_board::position::Position;
+use morris_index::pair::Pair;
+use morris_moves::rules::closes;
+
+/// What is kept of the stones of one player.
+#[derive(Clone, Copy, Debug)]
+pub(crate) struct Row {
+    /// The stones.
+    pub(crate) own: Points,
+    /// For each point, how many of them may come there by a quiet move, where it is vacant.
+    pub(crate) arrivals: [u16; 24],
+    /// All of these together.
+    pub(crate) all: u16,
+    /// The points at which a move closes a mill, where they are vacant.
+    pub(crate) closing: Points,
+}
+
+/// Whether a stone on `from` may go to `to`, where that is vacant.
+fn may_come<B: Geometry>(own: Points, from: u8, to: u8) -> bool
+    requires start { from < B.POINTS }
+    requires end { to < B.POINTS }
+    ensures { result ≡ may_come B.shape own from to }
+{
+    let stones = own.count();
+    if 3 < stones {
+        B::neighbours(from).has(to)
+    } else {
+        stones == 3
+    }
+}
+
+/// How many of the stones may come to `to` by a quiet move, where that is vacant.
+fn arrivals<B: Geometry>(own: Points, to: u8) -> u16
+    requires within { own < 2 ^ B.POINTS }
+    requires end { to < B.POINTS }
+    ensures count { result ≡ arrivals B.shape own to }
+    ensures few { result ≤ 32 }
+{
+    if own.has(to) {
+        return 0;
+    }
+    let mut count = 0;
+    for from in own.iter() {
+        if may_come::<B>(own, from, to) && !closes::<B>(own, from, to) {
+            count += 1;
+        }
+    }
+    count
+}
+
+/// Whether one of the stones may come to `to` by a move that closes a mill, where that is vacant.
+fn may_close<B: Geometry>(own: Points, to: u8) -> bool
+    requires within { own < 2 ^ B.POINTS }
+    requires end { to < B.POINTS }
+    ensures { result ≡ may_close B.shape own to }
+{
+    if own.has(to) {
+        return false;
+    }
+    for from in own.iter() {
+        if may_come::<B>(own, from, to) && closes::<B>(own, from, to) {
+            return true;
+        }
+    }
+    false
+}
+
+impl Row {
+    /// What is to be kept of these stones.
+    pub(crate) fn of<B: Geometry>(own: Points) -> Row
+        requires { own < 2 ^ B.POINTS }
+        ensures own { result.own ≡ own }
+        ensures row { IsRow B.shape B.POINTS result }
+    {
+        let mut kept = [0; 24];
+        let mut all = 0;
+        let mut closing = Points::EMPTY;
+        for to in 0..B::POINTS {
+            let count = arrivals::<B>(own, to);
+            kept[to as usize] = count;
+            all += count;
+            if may_close::<B>(own, to) {
+                closing = closing.with(to);
+            }
+        }
+        Row {
+            own,
+            arrivals: kept,
+            all,
+            closing,
+        }
+    }
+
+    /// How many of the legal moves of a position with these own stones are quiet.
+    pub(crate) fn quiet_moves<B: Geometry>(&self, position: &Position<B>) -> u16
+        requires own { self.now.own ≡ position.now.own }
+        requires row { IsRow B.shape B.POINTS self.now }
+        ensures { result ≡ length (filter is_quiet (moves_of B.shape position.now)) }
+    {
+        let mut gone = 0;
+        for to in position.other().iter() {
+            gone += self.arrivals[to as usize];
+        }
+        self.all - gone
+    }
+
+    /// Whether a position with these own stones has captures.
+    pub(crate) fn has_captures<B: Geometry>(&self, position: &Position<B>) -> bool
+        requires own { self.now.own ≡ position.now.own }
+        requires row { IsRow B.shape B.POINTS self.now }
+        ensures { result ≡ list_any is_capture (moves_of B.shape position.now) }
+    {
+        let closing = self.closing.less(position.other());
+        closing != Points::EMPTY
+    }
+}
+
+/// Goes on to the position of the pair with the next index, and to what is kept of its own stones.
+pub(crate) fn advance<B: Geometry>(
+    pair: &Pair<B>,
+    position: &mut Position<B>,
+    row: &mut Row,
+    index: u64,
+)
+    requires counts { is_of pair.now position.old ≡ true }
+    requires before { index_of B.POINTS pair.now position.old + 1 ≡ index }
+    requires inside { index < size_of B.POINTS pair.now }
+    requires row { IsRow B.shape B.POINTS row.old }
+    ensures index { index_of B.POINTS pair.now position.new ≡ index }
+    ensures counts { is_of pair.now position.new ≡ true }
+    ensures lawful { IsPosition B.shape position.new }
+    ensures row { IsRow B.shape B.POINTS row.new }
+    ensures own { row.new.own ≡ position.new.own }
+{
+    *position = pair.following(position, index);
+    let own = position.own();
+    if own != row.own {
+        *row = Row::of::<B>(own);
+    }
+}
+
+/// The numbers of quiet moves of the positions of a pair from the index `first` on, as many as
+/// there is room for.
+pub(crate) fn read_counts<B: Geometry>(pair: &Pair<B>, first: u64, counts: &mut [u16])
+    requires { first + length counts.old ≤ size_of B.POINTS pair.now }
+    ensures { (k : ℕ) → k < length counts.old → slice_index counts.new k ≡ length ((net_at B.shape (level_of pair.now)).quiet (first + k)) }
+{
+    // The proof learns here what the pair's numbers are, and that its indices are small.
+    let _ = pair.greater();
+    let _ = pair.size();
+    if counts.is_empty() {
+        return;
+    }
+    let mut position = pair.position(first);
+    let mut row = Row::of::<B>(position.own());
+    for place in 0..counts.len() {
+        counts[place] = row.quiet_moves(&position);
+        if place + 1 < counts.len() {
+            advance(pair, &mut position, &mut row, first + place as u64 + 1);
+        }
+    }
+}
