@@ -1,0 +1,5 @@
+-- Lemmas on the definitions of this crate.
+pub mod ProbingLaws
+pub mod BestLaws
+pub mod SomeBest
+pub mod ReportLaws

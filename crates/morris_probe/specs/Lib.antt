@@ -1,0 +1,4 @@
+pub mod Probing
+pub mod Best
+pub mod Refusals
+pub mod Reports

@@ -1,0 +1,52 @@
+-- What a report prints of a position.
+use Rattle.std.specs.Prelude.{◌≡◌, ℕ, ◌<◌, List, [], ◌∷◌, ◌++◌, length, take, codes, Option, Result, Ok, Err}
+use Rattle.std.specs.List.{flat_map}
+use Rattle.std.specs.Fmt.{decimal}
+use Rattle.std.specs.Io.KnownBytes.{Appends, Keeps}
+use Rattle.morris_board.specs.Boards.{Shape}
+use Rattle.morris_board.specs.Positions.{Sides, text_of}
+use Rattle.morris_moves.specs.MoveText.{move_text}
+use Rattle.morris_moves.specs.declared.step.Move.{Move}
+use Rattle.morris_table.specs.declared.value.Value.{Value}
+use Rattle.morris_table.specs.declared.value.Value.TheVariants.{Draw, Won, Lost}
+use Rattle.morris_table.specs.Codes.{IsValue}
+use Rattle.morris_probe.specs.Best.{AreBest}
+use Rattle.morris_probe.specs.declared.fault.ProbeFault.{ProbeFault}
+use Rattle.morris_probe.specs.declared.fault.ProbeFault.TheVariants.{Needs, Memory, Write}
+
+-- a line ends with one line feed
+abbrev pub line : List ℕ → List ℕ
+line text = text ++ (10 ∷ [])
+
+-- a line of a label and a number
+abbrev pub number_line : List ℕ → ℕ → List ℕ
+number_line label n = label ++ decimal n ++ (10 ∷ [])
+
+abbrev pub move_line : Move → List ℕ
+move_line m = line (move_text m)
+
+-- `draw`, `won in D` or `lost in D`
+abbrev pub value_line : Value → List ℕ
+value_line Draw = line (codes "draw")
+value_line (Won depth) = number_line (codes "won in ") depth
+value_line (Lost depth) = number_line (codes "lost in ") depth
+
+-- the position's text, its value, and each of the moves, one a line
+unfoldable pub report_text : Shape → Sides → Value → List Move → List ℕ
+report_text board s value moves = line (text_of board s) ++ value_line value ++ flat_map move_line moves
+
+-- the text has the value of the position in the game, and exactly its best moves, in order
+pub record IsReport (board : Shape) (s : Sides) (text : List ℕ) : Type 0 where
+  pub value : Value
+  pub moves : List Move
+  pub valued : IsValue board s value
+  pub best : AreBest board s moves
+  pub written : text ≡ report_text board s value moves
+
+-- What went out. Done: exactly the report. A table is missing, or memory was refused: nothing. A
+-- write failed: the first `sent` bytes of the report, not all of it.
+abbrev pub Reports : {T B : Type 0} → Shape → Sides → Option (List ℕ) → Option (List ℕ) → Result T (ProbeFault B) → Type 0
+Reports board s old new (Ok done) = (text : List ℕ) × IsReport board s text × Appends old new text
+Reports board s old new (Err (Needs needs)) = Keeps old new
+Reports board s old new (Err Memory) = Keeps old new
+Reports board s old new (Err (Write sent)) = (text : List ℕ) × IsReport board s text × (sent < length text) × Appends old new (take sent text)

@@ -1,0 +1,10 @@
+//! What the tables say of a position: its value and its best moves.
+#![tactic(auto)]
+
+pub mod best;
+pub mod fault;
+pub mod print;
+pub mod report;
+#[cfg(test)]
+mod tests;
+pub mod value;
