@@ -1,7 +1,7 @@
 -- A shelf that is filled pair by pair, in an order in which each pair comes after those that it needs.
 use Rattle.std.proofs.Common.{◌≡◌, ◌≢◌, true, List, [], ◌∷◌, ◌++◌, None, is_some, refl, sym, ap, subst, ◌∙◌, inl, inr, arith}
 use Rattle.std.specs.List.{Contains}
-use Rattle.std.proofs.lemmas.List.Elements.{Contains-append_right, Contains-push_cases}
+use Rattle.std.proofs.lemmas.List.Elements.{Contains-append_left, Contains-push_cases}
 use Rattle.morris_index.specs.Pairs.{Counts, EndsIn, NeedsFirst}
 use Rattle.morris_table.specs.Shelves.{Stored, first_missing, table_on}
 use Rattle.morris_table.proofs.ShelfLaws.{cases_pair, none-missing}
@@ -9,9 +9,6 @@ use Rattle.morris_table.proofs.ShelfLaws.{cases_pair, none-missing}
 -- the shelf has the tables of these pairs
 abbrev pub HasTables : Stored → List Counts → Type 0
 HasTables shelf pairs = (c : Counts) → Contains pairs c → is_some (table_on shelf c) ≡ true
-
-first_of : (c : Counts) (cs : List Counts) → Contains (c ∷ cs) c
-first_of c cs = (0, omega arith, refl)
 
 -- the next pair of the order finds those that it needs
 pub none_missing : (shelf : Stored) (before after all : List Counts) (c : Counts) → NeedsFirst all → before ++ (c ∷ after) ≡ all
@@ -31,7 +28,8 @@ one_table_more old new before c there here others = λ d m.
       ]
     ]
 
--- the shelf has the last of the pairs
-pub last_there : (shelf : Stored) (pairs : List Counts) (c : Counts) → HasTables shelf pairs → EndsIn pairs c → is_some (table_on shelf c) ≡ true
-last_there shelf pairs c there last =
-    there c (subst (λ cs. Contains cs c) (sym last.1) (Contains-append_right last.0 (c ∷ []) c (first_of c [])))
+-- where the shelf has all of the pairs, the last one finds those that it needs
+pub before_last : (shelf : Stored) (pairs : List Counts) (c : Counts) → NeedsFirst pairs → HasTables shelf pairs → EndsIn pairs c → first_missing shelf c ≡ None
+before_last shelf pairs c order there last =
+    none_missing shelf last.0 [] pairs c order (sym last.1)
+    (λ d m. there d (subst (λ cs. Contains cs d) (sym last.1) (Contains-append_left last.0 (c ∷ []) d m)))

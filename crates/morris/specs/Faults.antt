@@ -1,6 +1,8 @@
 -- Which fault answers a refusal, and what an answer says of what was printed.
-use Rattle.std.specs.Prelude.{◌≡◌, ℕ, ◌+◌, ◌<◌, Bool, true, false, List, length, take, Option, Result, Ok, Err, if◌then◌else◌}
+use Rattle.std.specs.Prelude.{◌≡◌, ℕ, ◌+◌, ◌<◌, Bool, true, false, List, [], ◌∷◌, ◌++◌, length, take, codes, Option, Some, None, Result, Ok, Err, if◌then◌else◌}
+use Rattle.std.specs.Fmt.{decimal}
 use Rattle.std.specs.Io.KnownBytes.{Appends}
+use Rattle.morris_board.specs.Streams.{CountsFailure}
 use Rattle.morris_board.specs.declared.faults.TextFault.{TextFault}
 use Rattle.morris_board.specs.declared.faults.TextFault.TheVariants as text
 use Rattle.morris_index.specs.declared.faults.PairFault.{PairFault}
@@ -32,7 +34,30 @@ fault_number (fault.Write sent) = 23
 fault_number fault.Board = 25
 fault_number fault.PairText = 26
 
--- What was printed: all of the text where the answer is `Ok`, and its first `sent` bytes, not all of it, where it is `Write(sent)`.
+-- what comes before a number, the number where there is one, and what comes after it
+abbrev pub joined : List ℕ → Option ℕ → List ℕ → List ℕ
+joined before None after = before
+joined before (Some number) after = before ++ decimal number ++ after
+
+-- the text of a fault
+abbrev pub fault_text : Fault → List ℕ
+fault_text fault.Length = codes "text is not one character per point"
+fault_text (fault.Character place) = codes "bad character at " ++ decimal place
+fault_text fault.Stones = codes "bad number of stones"
+fault_text fault.Counts = codes "bad counts"
+fault_text fault.Crowded = codes "more stones than points"
+fault_text fault.TooDeep = codes "depth is too great"
+fault_text fault.Memory = codes "out of memory"
+fault_text (fault.Write sent) = codes "writing failed after " ++ decimal sent ++ codes " bytes"
+fault_text fault.Board = codes "no such board"
+fault_text fault.PairText = codes "not a pair"
+
+-- the line of a fault: `fault N: TEXT`
+unfoldable pub fault_line : Fault → List ℕ
+fault_line f = codes "fault " ++ decimal (fault_number f) ++ codes ": " ++ fault_text f ++ (10 ∷ [])
+
+-- What was printed: all of the text where the answer is `Ok`, and its first `sent` bytes, not all
+-- of it, where it is `Write(sent)`.
 abbrev pub Prints : {T : Type 0} → Option (List ℕ) → Option (List ℕ) → List ℕ → Result T Fault → Type 0
 Prints old new printed (Ok done) = Appends old new printed
 Prints old new printed (Err (fault.Write sent)) = (sent < length printed) × Appends old new (take sent printed)
@@ -47,3 +72,18 @@ is_write _ = false
 abbrev pub CountsWrites : {T : Type 0} → ℕ → ℕ → Result T Fault → Type 0
 CountsWrites old new (Ok done) = new ≡ old
 CountsWrites old new (Err f) = new ≡ (if is_write f then old + 1 else old)
+
+-- what went out of a text: all of it, or its first bytes up to the write that failed
+abbrev pub WentOut : {T : Type 0} → Option (List ℕ) → Option (List ℕ) → List ℕ → Result T ℕ → Type 0
+WentOut old new text (Ok done) = Appends old new text
+WentOut old new text (Err sent) = (sent < length text) × Appends old new (take sent text)
+
+-- the line of a fault was written, or its first bytes up to the write that failed
+abbrev pub ReportsFault : {E : Type 0} → (E → Option (List ℕ)) → (E → ℕ) → E → E → Fault → Type 0
+ReportsFault contents failures old new f =
+    (sent : Result (Unit {0}) ℕ) × WentOut (contents old) (contents new) (fault_line f) sent × CountsFailure (failures old) (failures new) sent
+
+-- what was reported of an answer: nothing where it is `Ok`, and else its fault
+abbrev pub Reports : {E T : Type 0} → (E → Option (List ℕ)) → (E → ℕ) → E → E → Result T Fault → Type 0
+Reports contents failures old new (Ok done) = new ≡ old
+Reports contents failures old new (Err f) = ReportsFault contents failures old new f

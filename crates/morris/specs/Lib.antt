@@ -1,5 +1,6 @@
 pub mod Faults
 pub mod Look
+pub mod BoardNames
 pub mod PairText
 pub mod Stats
 pub mod Words

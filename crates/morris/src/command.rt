@@ -1,26 +1,30 @@
 //! The command line: from its words to what goes out, and the exit status.
-ghost use Rattle.std.specs.Prelude.{◌≡◌, ◌-◌, ◌^◌, ◌<◌, ◌≤◌, [], map, if◌then◌else◌};
+ghost use Rattle.std.specs.Prelude.{◌≡◌, ◌≢◌, ◌-◌, ◌^◌, ◌<◌, ◌≤◌, [], IsTrue, map, if◌then◌else◌};
 ghost use Rattle.morris_board.specs.Streams.{CountsFailure};
-ghost use Rattle.morris.specs.Faults.{CountsWrites, Prints};
-ghost use Rattle.morris.specs.Words.{AsksFor, IsInRange, faults_of, named_by};
-ghost use Rattle.morris.specs.Command.{Answers, HasMistake, IsShown, status_of};
+ghost use Rattle.morris.specs.Faults.{CountsWrites, Prints, Reports, ReportsFault, WentOut, fault_line};
+ghost use Rattle.morris.specs.declared.fault.Fault.TheVariants as fault;
+ghost use Rattle.morris.specs.Words.{IsInRange, faults_of};
+ghost use Rattle.morris.specs.Command.{Answers, Ends, HasMistake, status_of};
 
 use crate::fault::Fault;
 use crate::look::look;
+use crate::print_fault::put_fault;
 use crate::stats::stats;
 use crate::words::{Refusal, Request, read_words};
-use arrayvec::ArrayString;
-use morris_board::streams::{Sink, Source, put};
+use morris_board::streams::buffered::Buffered;
+use morris_board::streams::{Failed, Sink, Source, put};
 use std::alloc::Global;
 use std::convert::AsStr;
-use std::fmt::Write;
 
-/// Reads the words of a command line, of which the first is the program's own name, runs the command that they name, and answers the
-/// exit status of the program.
+/// Reads the words of a command line, of which the first is the program's own name, runs the
+/// command that they name, and answers the exit status of the program.
 ///
-/// 0: the command is done, or help was asked for, and its text went to `output`. 1: the command was refused, or memory was; the fault went
-/// to `errors` as one line, `fault N: ` and its text. 2: the words name no command, or not the arguments that it takes; what is wrong with
-/// them went to `errors`, and nothing to `output`. A fault while `errors` is written is ignored.
+/// 0: the words have no mistake, and the whole text of the command, or of the help that was asked
+/// for, went to `output`, and nothing to `errors`. 1: the command was refused, or memory was, and
+/// `output` has got nothing, or a part of the text where a write failed; the fault went to `errors`
+/// as one line, `fault N: ` and its text. 2: the words name no command, or not the arguments that
+/// it takes; what is wrong with them went to `errors`, and nothing to `output`. A fault while
+/// `errors` is written is ignored. No command reads `input`.
 pub fn command<R, W: AsStr, I: Source, O: Sink, E: Sink>(
     _rt: &R,
     alloc: Global,
@@ -32,10 +36,11 @@ pub fn command<R, W: AsStr, I: Source, O: Sink, E: Sink>(
     requires output { O.failures output.old < 2 ^ 64 - 1 }
     requires errors { E.failures errors.old < 2 ^ 64 - 1 }
     ensures status { result ≤ 2 }
-    ensures shown { result ≡ 0 → faults_of (map W.text words.now) ≡ []
-        → (q : _) → AsksFor (named_by (map W.text words.now)) q → IsShown (O.contents output.old) (O.contents output.new) q }
     ensures mistaken { result ≡ 2 → HasMistake (faults_of (map W.text words.now)) }
     ensures silent { result ≡ 2 → output.new ≡ output.old }
+    ensures unread { _input.new ≡ _input.old }
+    ensures answer { result ≢ 2 → (answer : _) × Ends (map W.text words.now) (O.contents output.old) (O.contents output.new) answer
+        × (result ≡ status_of answer) × Reports E.contents E.failures errors.old errors.new answer }
 {
     match read_words(alloc, words) {
         Ok(request) => finish(run(alloc, request, output), errors),
@@ -48,11 +53,12 @@ pub fn command<R, W: AsStr, I: Source, O: Sink, E: Sink>(
     }
 }
 
-/// The exit status where the words of the command line can't be had: memory was refused, which is a fault, or a word isn't text, which is
-/// a mistake in the words.
+/// The exit status where the words of the command line can't be had: memory was refused, which is a
+/// fault, or a word isn't text, which is a mistake in the words.
 pub fn refuse_words<E: Sink>(out_of_memory: bool, errors: &mut E) -> u8
     requires { E.failures errors.old < 2 ^ 64 - 1 }
-    ensures { result ≡ (if out_of_memory then 1 else 2) }
+    ensures status { result ≡ (if out_of_memory then 1 else 2) }
+    ensures reported { IsTrue out_of_memory → ReportsFault E.contents E.failures errors.old errors.new fault.Memory }
 {
     if out_of_memory {
         return finish(Err(Fault::Memory), errors);
@@ -92,23 +98,28 @@ fn print_help<O: Sink>(text: &str, output: &mut O) -> Result<(), Fault>
 /// The exit status of a command; where it was refused, its fault goes to `errors`.
 fn finish<E: Sink>(done: Result<(), Fault>, errors: &mut E) -> u8
     requires { E.failures errors.old < 2 ^ 64 - 1 }
-    ensures { result ≡ status_of done }
+    ensures status { result ≡ status_of done }
+    ensures reported { Reports E.contents E.failures errors.old errors.new done }
 {
     match done {
         Ok(()) => 0,
         Err(fault) => {
-            put_fault(fault, errors);
+            // A fault of `errors` itself is ignored.
+            let _ = send_fault(fault, errors);
             1
         }
     }
 }
 
-/// The line of a fault. A fault of `errors` itself is ignored.
-fn put_fault<E: Sink>(fault: Fault, errors: &mut E)
+/// Sends the line of a fault: the whole, or as many bytes of it as went out.
+fn send_fault<E: Sink>(fault: Fault, errors: &mut E) -> Result<(), u64>
     requires { E.failures errors.old < 2 ^ 64 - 1 }
+    ensures sent { WentOut (E.contents errors.old) (E.contents errors.new) (fault_line fault) result }
+    ensures counted { CountsFailure (E.failures errors.old) (E.failures errors.new) result }
 {
-    let mut line = ArrayString::<80>::new();
-    let number = fault.number();
-    let _ = writeln!(line, "fault {number}: {fault}");
-    let _ = put(errors, 0, line.as_bytes());
+    let mut out = Buffered::new(errors);
+    match put_fault(&mut out, fault) {
+        Ok(()) => Ok(()),
+        Err(Failed) => Err(out.sent()),
+    }
 }

@@ -1,44 +1,37 @@
 //! What a command can be refused for.
-ghost use Rattle.std.specs.Prelude.{◌≡◌};
-ghost use Rattle.morris.specs.Faults.{text_fault, pair_fault, fault_number};
+ghost use Rattle.std.specs.Prelude.{◌≡◌, ◌+◌, ◌≤◌, length};
+ghost use Rattle.morris.specs.Faults.{text_fault, pair_fault, fault_number, fault_text, joined};
 
 use morris_board::faults::TextFault;
 use morris_index::faults::PairFault;
 use std::alloc::AllocError;
-use thiserror::Error;
+use std::fmt;
 
-/// Why a command refused. Each fault has a number, which stays the same from version to version.
-#[derive(Clone, Copy, Debug, PartialEq, Eq, Error)]
+/// Why a command refused. Each fault has a number, which stays the same from version to version,
+/// and a text.
+#[derive(Clone, Copy, Debug, PartialEq, Eq)]
 pub enum Fault {
     /// The text of a position hasn't one character per point of the board.
-    #[error("text is not one character per point")]
     Length,
-    /// The first character of a position's text that is none of `X`, `O` and `.` stands at this place, counted from 0.
-    #[error("bad character at {0}")]
+    /// The first character of a position's text that is none of `X`, `O` and `.` stands at this
+    /// place, counted from 0.
     Character(usize),
     /// A player has a number of stones that no position has.
-    #[error("bad number of stones")]
     Stones,
     /// A number of stones of a pair isn't 3 to 9.
-    #[error("bad counts")]
     Counts,
     /// The board has fewer points than a pair has stones.
-    #[error("more stones than points")]
     Crowded,
-    /// A position of the pair, or of a pair that it rests on, is won or lost in more plies than a table can hold.
-    #[error("depth is too great")]
+    /// A position of the pair, or of a pair that it rests on, is won or lost in more plies than a
+    /// table can hold.
     TooDeep,
     /// Memory was refused.
-    #[error("out of memory")]
     Memory,
     /// A write failed after this many bytes had gone out.
-    #[error("writing failed after {0} bytes")]
     Write(u64),
     /// There is no board of that name.
-    #[error("no such board")]
     Board,
     /// A text isn't that of a pair: a digit, a hyphen and a digit.
-    #[error("not a pair")]
     PairText,
 }
 
@@ -60,7 +53,44 @@ impl Fault {
             Fault::PairText => 26,
         }
     }
+
+    /// The text of the fault in its parts: what comes before its number, that number where it has
+    /// one, and what comes after.
+    pub fn parts(&self) -> (&'static str, Option<u64>, &'static str)
+        ensures text { joined result.0.now result.1 result.2.now ≡ fault_text self.now }
+        ensures short { length result.0.now + length result.2.now ≤ 64 }
+    {
+        match self {
+            Fault::Length => ("text is not one character per point", None, ""),
+            Fault::Character(place) => ("bad character at ", Some(*place as u64), ""),
+            Fault::Stones => ("bad number of stones", None, ""),
+            Fault::Counts => ("bad counts", None, ""),
+            Fault::Crowded => ("more stones than points", None, ""),
+            Fault::TooDeep => ("depth is too great", None, ""),
+            Fault::Memory => ("out of memory", None, ""),
+            Fault::Write(sent) => ("writing failed after ", Some(*sent), " bytes"),
+            Fault::Board => ("no such board", None, ""),
+            Fault::PairText => ("not a pair", None, ""),
+        }
+    }
 }
+
+impl fmt::Display for Fault {
+    ghost use Rattle.std.specs.Prelude.{Some};
+    ghost use Rattle.morris.specs.Faults.{fault_text};
+
+    ghost output = { λ fault. Some (fault_text fault) };
+
+    fn fmt<W: fmt::Write>(&self, f: &mut fmt::Formatter<W>) -> fmt::Result {
+        let (before, number, after) = self.parts();
+        match number {
+            Some(number) => write!(f, "{before}{number}{after}"),
+            None => f.write_str(before),
+        }
+    }
+}
+
+impl std::error::Error for Fault {}
 
 impl From<TextFault> for Fault {
     ghost from_gives = { λ refused e. e ≡ text_fault refused };

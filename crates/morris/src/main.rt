@@ -1,11 +1,13 @@
 //! Morris, the endgame database of Nine Men's Morris: the program.
 #![tactic(auto)]
 
+mod boards;
 mod command;
 mod fault;
 mod look;
 mod pairs;
 mod print;
+mod print_fault;
 mod print_stats;
 mod stats;
 #[cfg(test)]

@@ -9,8 +9,8 @@ use morris_index::pair::Pair;
 /// The pair that a text names: a digit, a hyphen and a digit, as `4-3`, in either order.
 ///
 /// # Errors
-/// [`Fault::PairText`] for any other text, else [`Fault::Counts`] where a number isn't 3 to 9, else [`Fault::Crowded`] where the board has
-/// fewer points than there are stones.
+/// [`Fault::PairText`] for any other text, else [`Fault::Counts`] where a number isn't 3 to 9, else
+/// [`Fault::Crowded`] where the board has fewer points than there are stones.
 pub fn read_pair<B: Geometry>(text: &str) -> Result<Pair<B>, Fault>
     ensures { result ≡ read_pair_of B.POINTS text.now }
 {

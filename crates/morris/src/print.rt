@@ -1,9 +1,9 @@
-//! What the commands print of positions, moves and values, piece by piece. `sent` counts the bytes that went out before a piece; each
-//! function answers how many have then gone out, or had when a write failed.
-ghost use Rattle.std.specs.Prelude.{◌≡◌, ◌+◌, ◌-◌, ◌^◌, ◌<◌, ◌≤◌, ◌*◌, [], ◌∷◌, ◌++◌, length, IfOk, codes};
+//! What the commands print of positions, moves and values, piece by piece, through a buffer. Each
+//! function ends at the first write that fails.
+ghost use Rattle.std.specs.Prelude.{◌≡◌, ◌+◌, ◌-◌, ◌^◌, ◌<◌, ◌≤◌, ◌*◌, [], ◌∷◌, ◌++◌, length, OnOk, codes};
 ghost use Rattle.std.specs.List.{flat_map};
 ghost use Rattle.std.specs.Fmt.{decimal};
-ghost use Rattle.morris_board.specs.Streams.{HasSent, CountsFailure};
+ghost use Rattle.morris_board.specs.Buffered.{Passes, held_of, sink_of, taken_of};
 ghost use Rattle.morris_board.specs.Positions.{text_of};
 ghost use Rattle.morris_moves.specs.Rules.{moves_of};
 ghost use Rattle.morris_moves.specs.MoveText.{move_text, taken_text};
@@ -11,196 +11,184 @@ ghost use Rattle.morris.specs.Look.{line, number_line, counts_line, move_line, v
 
 use morris_board::board::Geometry;
 use morris_board::position::Position;
-use morris_board::streams::{Sink, put, put_byte, put_number};
+use morris_board::streams::buffered::Buffered;
+use morris_board::streams::{Failed, Sink};
 use morris_moves::rules::moves;
 use morris_moves::search::Within;
 use morris_moves::step::Move;
 
 /// The text of a position.
-#[tactic(auto, using(morris_board::proofs::SentLaws::sent_laws))]
+#[tactic(auto, using(morris_board::proofs::BufferedLaws::passed_laws))]
 fn put_position<B: Geometry, S: Sink>(
-    sink: &mut S,
-    sent: u64,
+    out: &mut Buffered<'_, S>,
     position: &Position<B>,
-) -> Result<u64, u64>
-    requires failures { S.failures sink.old < 2 ^ 64 - 1 }
-    requires room { sent < 2 ^ 63 }
-    ensures sent { HasSent (S.contents sink.old) (S.contents sink.new) sent (line (text_of B.shape position.now)) result }
-    ensures counted { CountsFailure (S.failures sink.old) (S.failures sink.new) result }
-    ensures few { IfOk result (λ now. now ≤ sent + 64) }
+) -> Result<(), Failed>
+    requires failures { S.failures (sink_of out.old) < 2 ^ 64 - 1 }
+    requires room { taken_of out.old < 2 ^ 63 }
+    ensures passed { Passes S.contents S.failures out.old out.new (line (text_of B.shape position.now)) result }
+    ensures few { OnOk result (taken_of out.new ≤ taken_of out.old + 64) }
 {
     let mut line = [0; 24];
     let text = &mut line[..B::POINTS as usize];
     position.write_to(text);
-    let sent = put(sink, sent, text)?;
-    put_byte(sink, sent, b'\n')
+    out.put(text)?;
+    out.put_byte(b'\n')
 }
 
 /// A label and a number.
-#[tactic(auto, using(morris_board::proofs::SentLaws::sent_laws))]
-pub fn put_count<S: Sink>(sink: &mut S, sent: u64, label: &str, number: u64) -> Result<u64, u64>
-    requires failures { S.failures sink.old < 2 ^ 64 - 1 }
+#[tactic(auto, using(morris_board::proofs::BufferedLaws::passed_laws))]
+pub fn put_count<S: Sink>(out: &mut Buffered<'_, S>, label: &str, number: u64) -> Result<(), Failed>
+    requires failures { S.failures (sink_of out.old) < 2 ^ 64 - 1 }
     requires label { length label.now ≤ 32 }
-    requires room { sent < 2 ^ 63 + 2 ^ 16 }
-    ensures sent { HasSent (S.contents sink.old) (S.contents sink.new) sent (label.now ++ decimal number) result }
-    ensures counted { CountsFailure (S.failures sink.old) (S.failures sink.new) result }
-    ensures few { IfOk result (λ now. now ≤ sent + 52) }
+    requires room { taken_of out.old < 2 ^ 63 + 2 ^ 16 }
+    ensures passed { Passes S.contents S.failures out.old out.new (label.now ++ decimal number) result }
+    ensures few { OnOk result (taken_of out.new ≤ taken_of out.old + 52) }
 {
-    let sent = put(sink, sent, label.as_bytes())?;
-    put_number(sink, sent, number)
+    out.put(label.as_bytes())?;
+    out.put_number(number)
 }
 
 /// A line of a label and a number.
-#[tactic(auto, using(morris_board::proofs::SentLaws::sent_laws))]
+#[tactic(auto, using(morris_board::proofs::BufferedLaws::passed_laws))]
 pub fn put_number_line<S: Sink>(
-    sink: &mut S,
-    sent: u64,
+    out: &mut Buffered<'_, S>,
     label: &str,
     number: u64,
-) -> Result<u64, u64>
-    requires failures { S.failures sink.old < 2 ^ 64 - 1 }
+) -> Result<(), Failed>
+    requires failures { S.failures (sink_of out.old) < 2 ^ 64 - 1 }
     requires label { length label.now ≤ 32 }
-    requires room { sent < 2 ^ 63 + 2 ^ 10 }
-    ensures sent { HasSent (S.contents sink.old) (S.contents sink.new) sent (number_line label.now number) result }
-    ensures counted { CountsFailure (S.failures sink.old) (S.failures sink.new) result }
-    ensures few { IfOk result (λ now. now ≤ sent + 53) }
+    requires room { taken_of out.old < 2 ^ 63 + 2 ^ 10 }
+    ensures passed { Passes S.contents S.failures out.old out.new (number_line label.now number) result }
+    ensures few { OnOk result (taken_of out.new ≤ taken_of out.old + 53) }
 {
-    let sent = put_count(sink, sent, label, number)?;
-    put_byte(sink, sent, b'\n')
+    put_count(out, label, number)?;
+    out.put_byte(b'\n')
 }
 
 /// How many stones each side has.
-#[tactic(auto, using(morris_board::proofs::SentLaws::sent_laws))]
+#[tactic(auto, using(morris_board::proofs::BufferedLaws::passed_laws))]
 fn put_counts<B: Geometry, S: Sink>(
-    sink: &mut S,
-    sent: u64,
+    out: &mut Buffered<'_, S>,
     position: &Position<B>,
-) -> Result<u64, u64>
-    requires failures { S.failures sink.old < 2 ^ 64 - 1 }
-    requires room { sent < 2 ^ 63 }
-    ensures sent { HasSent (S.contents sink.old) (S.contents sink.new) sent (counts_line position.now) result }
-    ensures counted { CountsFailure (S.failures sink.old) (S.failures sink.new) result }
-    ensures few { IfOk result (λ now. now ≤ sent + 105) }
+) -> Result<(), Failed>
+    requires failures { S.failures (sink_of out.old) < 2 ^ 64 - 1 }
+    requires room { taken_of out.old < 2 ^ 63 }
+    ensures passed { Passes S.contents S.failures out.old out.new (counts_line position.now) result }
+    ensures few { OnOk result (taken_of out.new ≤ taken_of out.old + 105) }
 {
     let (own, other) = position.counts();
-    let sent = put_count(sink, sent, "own ", u64::from(own))?;
-    put_number_line(sink, sent, " other ", u64::from(other))
+    put_count(out, "own ", u64::from(own))?;
+    put_number_line(out, " other ", u64::from(other))
 }
 
 /// A sign and a number.
-#[tactic(auto, using(morris_board::proofs::SentLaws::sent_laws))]
-pub fn put_signed<S: Sink>(sink: &mut S, sent: u64, sign: u8, number: u8) -> Result<u64, u64>
-    requires failures { S.failures sink.old < 2 ^ 64 - 1 }
-    requires room { sent < 2 ^ 63 + 2 ^ 16 }
-    ensures sent { HasSent (S.contents sink.old) (S.contents sink.new) sent (sign ∷ decimal number) result }
-    ensures counted { CountsFailure (S.failures sink.old) (S.failures sink.new) result }
-    ensures few { IfOk result (λ now. now ≤ sent + 21) }
+#[tactic(auto, using(morris_board::proofs::BufferedLaws::passed_laws))]
+pub fn put_signed<S: Sink>(out: &mut Buffered<'_, S>, sign: u8, number: u8) -> Result<(), Failed>
+    requires failures { S.failures (sink_of out.old) < 2 ^ 64 - 1 }
+    requires room { taken_of out.old < 2 ^ 63 + 2 ^ 16 }
+    ensures passed { Passes S.contents S.failures out.old out.new (sign ∷ decimal number) result }
+    ensures few { OnOk result (taken_of out.new ≤ taken_of out.old + 21) }
 {
-    let sent = put_byte(sink, sent, sign)?;
-    put_number(sink, sent, u64::from(number))
+    out.put_byte(sign)?;
+    out.put_number(u64::from(number))
 }
 
 /// What a move takes, if anything.
-fn put_taken<S: Sink>(sink: &mut S, sent: u64, taken: Option<u8>) -> Result<u64, u64>
-    requires failures { S.failures sink.old < 2 ^ 64 - 1 }
-    requires room { sent < 2 ^ 63 + 2 ^ 16 }
-    ensures sent { HasSent (S.contents sink.old) (S.contents sink.new) sent (taken_text taken) result }
-    ensures counted { CountsFailure (S.failures sink.old) (S.failures sink.new) result }
-    ensures few { IfOk result (λ now. now ≤ sent + 21) }
+fn put_taken<S: Sink>(out: &mut Buffered<'_, S>, taken: Option<u8>) -> Result<(), Failed>
+    requires failures { S.failures (sink_of out.old) < 2 ^ 64 - 1 }
+    requires room { taken_of out.old < 2 ^ 63 + 2 ^ 16 }
+    ensures passed { Passes S.contents S.failures out.old out.new (taken_text taken) result }
+    ensures few { OnOk result (taken_of out.new ≤ taken_of out.old + 21) }
 {
     match taken {
-        None => Ok(sent),
-        Some(point) => put_signed(sink, sent, b'x', point),
+        None => Ok(()),
+        Some(point) => put_signed(out, b'x', point),
     }
 }
 
 /// A move.
-#[tactic(auto, using(morris_board::proofs::SentLaws::sent_laws), unfolding(morris_moves::specs::MoveText::move_text))]
-fn put_move<S: Sink>(sink: &mut S, sent: u64, m: Move) -> Result<u64, u64>
-    requires failures { S.failures sink.old < 2 ^ 64 - 1 }
-    requires room { sent < 2 ^ 63 + 2 ^ 10 }
-    ensures sent { HasSent (S.contents sink.old) (S.contents sink.new) sent (move_text m) result }
-    ensures counted { CountsFailure (S.failures sink.old) (S.failures sink.new) result }
-    ensures few { IfOk result (λ now. now ≤ sent + 62) }
+#[tactic(auto, using(morris_board::proofs::BufferedLaws::passed_laws), unfolding(morris_moves::specs::MoveText::move_text))]
+fn put_move<S: Sink>(out: &mut Buffered<'_, S>, m: Move) -> Result<(), Failed>
+    requires failures { S.failures (sink_of out.old) < 2 ^ 64 - 1 }
+    requires room { taken_of out.old < 2 ^ 63 + 2 ^ 10 }
+    ensures passed { Passes S.contents S.failures out.old out.new (move_text m) result }
+    ensures few { OnOk result (taken_of out.new ≤ taken_of out.old + 62) }
 {
-    let sent = put_number(sink, sent, u64::from(m.from))?;
-    let sent = put_signed(sink, sent, b'-', m.to)?;
-    put_taken(sink, sent, m.taken)
+    out.put_number(u64::from(m.from))?;
+    put_signed(out, b'-', m.to)?;
+    put_taken(out, m.taken)
 }
 
 /// A move's line.
-#[tactic(auto, using(morris_board::proofs::SentLaws::sent_laws))]
-fn put_move_line<S: Sink>(sink: &mut S, sent: u64, m: Move) -> Result<u64, u64>
-    requires failures { S.failures sink.old < 2 ^ 64 - 1 }
-    requires room { sent < 2 ^ 63 + 2 ^ 10 }
-    ensures sent { HasSent (S.contents sink.old) (S.contents sink.new) sent (move_line m) result }
-    ensures counted { CountsFailure (S.failures sink.old) (S.failures sink.new) result }
-    ensures few { IfOk result (λ now. now ≤ sent + 63) }
+#[tactic(auto, using(morris_board::proofs::BufferedLaws::passed_laws))]
+fn put_move_line<S: Sink>(out: &mut Buffered<'_, S>, m: Move) -> Result<(), Failed>
+    requires failures { S.failures (sink_of out.old) < 2 ^ 64 - 1 }
+    requires room { taken_of out.old < 2 ^ 63 + 2 ^ 10 }
+    ensures passed { Passes S.contents S.failures out.old out.new (move_line m) result }
+    ensures few { OnOk result (taken_of out.new ≤ taken_of out.old + 63) }
 {
-    let sent = put_move(sink, sent, m)?;
-    put_byte(sink, sent, b'\n')
+    put_move(out, m)?;
+    out.put_byte(b'\n')
 }
 
 /// The lines of the legal moves.
 fn put_moves<B: Geometry, S: Sink>(
-    sink: &mut S,
-    sent: u64,
+    out: &mut Buffered<'_, S>,
     position: &Position<B>,
-) -> Result<u64, u64>
-    requires failures { S.failures sink.old < 2 ^ 64 - 1 }
-    requires room { sent < 2 ^ 10 }
-    ensures sent { HasSent (S.contents sink.old) (S.contents sink.new) sent (flat_map move_line (moves_of B.shape position.now)) result }
-    ensures counted { CountsFailure (S.failures sink.old) (S.failures sink.new) result }
-    ensures few { IfOk result (λ now. now < 2 ^ 20) }
+) -> Result<(), Failed>
+    requires failures { S.failures (sink_of out.old) < 2 ^ 64 - 1 }
+    requires room { taken_of out.old < 2 ^ 10 }
+    ensures passed { Passes S.contents S.failures out.old out.new (flat_map move_line (moves_of B.shape position.now)) result }
+    ensures few { OnOk result (taken_of out.new < 2 ^ 20) }
 {
-    let mut now = sent;
     for m in moves(position) {
-        now = put_move_line(sink, now, m)?;
+        put_move_line(out, m)?;
     }
-    Ok(now)
+    Ok(())
 }
 
 /// The value of a position as far as `plies` plies show it.
-fn put_value<S: Sink>(sink: &mut S, sent: u64, plies: u8, found: Within) -> Result<u64, u64>
-    requires failures { S.failures sink.old < 2 ^ 64 - 1 }
-    requires room { sent < 2 ^ 63 }
-    ensures sent { HasSent (S.contents sink.old) (S.contents sink.new) sent (value_line plies found) result }
-    ensures counted { CountsFailure (S.failures sink.old) (S.failures sink.new) result }
+fn put_value<S: Sink>(out: &mut Buffered<'_, S>, plies: u8, found: Within) -> Result<(), Failed>
+    requires failures { S.failures (sink_of out.old) < 2 ^ 64 - 1 }
+    requires room { taken_of out.old < 2 ^ 63 }
+    ensures passed { Passes S.contents S.failures out.old out.new (value_line plies found) result }
+    ensures few { OnOk result (taken_of out.new ≤ taken_of out.old + 53) }
 {
     match found {
-        Within::Lost(depth) => put_number_line(sink, sent, "lost in ", u64::from(depth)),
-        Within::Won(depth) => put_number_line(sink, sent, "won in ", u64::from(depth)),
-        Within::Unknown => put_number_line(sink, sent, "unknown within ", u64::from(plies)),
+        Within::Lost(depth) => put_number_line(out, "lost in ", u64::from(depth)),
+        Within::Won(depth) => put_number_line(out, "won in ", u64::from(depth)),
+        Within::Unknown => put_number_line(out, "unknown within ", u64::from(plies)),
     }
 }
 
 /// A position and how many stones each side has.
-#[tactic(auto, using(morris_board::proofs::SentLaws::sent_laws))]
-fn put_head<B: Geometry, S: Sink>(sink: &mut S, position: &Position<B>) -> Result<u64, u64>
-    requires failures { S.failures sink.old < 2 ^ 64 - 1 }
-    ensures sent { HasSent (S.contents sink.old) (S.contents sink.new) 0 (head_text B.shape position.now) result }
-    ensures counted { CountsFailure (S.failures sink.old) (S.failures sink.new) result }
-    ensures few { IfOk result (λ now. now < 2 ^ 10) }
+#[tactic(auto, using(morris_board::proofs::BufferedLaws::passed_laws))]
+fn put_head<B: Geometry, S: Sink>(
+    out: &mut Buffered<'_, S>,
+    position: &Position<B>,
+) -> Result<(), Failed>
+    requires failures { S.failures (sink_of out.old) < 2 ^ 64 - 1 }
+    requires new { taken_of out.old ≡ 0 }
+    ensures passed { Passes S.contents S.failures out.old out.new (head_text B.shape position.now) result }
+    ensures few { OnOk result (taken_of out.new < 2 ^ 10) }
 {
-    let sent = put_position(sink, 0, position)?;
-    put_counts(sink, sent, position)
+    put_position(out, position)?;
+    put_counts(out, position)
 }
 
 /// The legal moves and how many there are.
-#[tactic(auto, using(morris_board::proofs::SentLaws::sent_laws))]
+#[tactic(auto, using(morris_board::proofs::BufferedLaws::passed_laws))]
 fn put_list<B: Geometry, S: Sink>(
-    sink: &mut S,
-    sent: u64,
+    out: &mut Buffered<'_, S>,
     position: &Position<B>,
-) -> Result<u64, u64>
-    requires failures { S.failures sink.old < 2 ^ 64 - 1 }
-    requires room { sent < 2 ^ 10 }
-    ensures sent { HasSent (S.contents sink.old) (S.contents sink.new) sent (list_text B.shape position.now) result }
-    ensures counted { CountsFailure (S.failures sink.old) (S.failures sink.new) result }
-    ensures few { IfOk result (λ now. now < 2 ^ 21) }
+) -> Result<(), Failed>
+    requires failures { S.failures (sink_of out.old) < 2 ^ 64 - 1 }
+    requires room { taken_of out.old < 2 ^ 10 }
+    ensures passed { Passes S.contents S.failures out.old out.new (list_text B.shape position.now) result }
+    ensures few { OnOk result (taken_of out.new < 2 ^ 21) }
 {
-    let sent = put_moves(sink, sent, position)?;
-    put_number_line(sink, sent, "moves ", move_count(position))
+    put_moves(out, position)?;
+    put_number_line(out, "moves ", move_count(position))
 }
 
 /// How many legal moves there are.
@@ -210,19 +198,21 @@ fn move_count<B: Geometry>(position: &Position<B>) -> u64
     moves(position).count() as u64
 }
 
-/// All that `look` prints.
-#[tactic(auto, using(morris_board::proofs::SentLaws::sent_laws), unfolding(crate::specs::Look::look_text))]
+/// All that `look` prints, to the last byte: nothing is held back.
+#[tactic(auto, using(morris_board::proofs::BufferedLaws::passed_laws), unfolding(crate::specs::Look::look_text))]
 pub fn put_look<B: Geometry, S: Sink>(
-    sink: &mut S,
+    out: &mut Buffered<'_, S>,
     position: &Position<B>,
     plies: u8,
     found: Within,
-) -> Result<u64, u64>
-    requires failures { S.failures sink.old < 2 ^ 64 - 1 }
-    ensures sent { HasSent (S.contents sink.old) (S.contents sink.new) 0 (look_text B.shape position.now plies found) result }
-    ensures counted { CountsFailure (S.failures sink.old) (S.failures sink.new) result }
+) -> Result<(), Failed>
+    requires failures { S.failures (sink_of out.old) < 2 ^ 64 - 1 }
+    requires new { taken_of out.old ≡ 0 }
+    ensures passed { Passes S.contents S.failures out.old out.new (look_text B.shape position.now plies found) result }
+    ensures empty { OnOk result (held_of out.new ≡ []) }
 {
-    let sent = put_head(sink, position)?;
-    let sent = put_list(sink, sent, position)?;
-    put_value(sink, sent, plies, found)
+    put_head(out, position)?;
+    put_list(out, position)?;
+    put_value(out, plies, found)?;
+    out.flush()
 }

@@ -1,43 +1,44 @@
 //! The command `stats`.
 ghost use Rattle.std.specs.Prelude.{◌≡◌, ◌≢◌, ◌-◌, ◌^◌, ◌<◌, ◌≤◌, None, true, is_some, length, IfErr, IfOk, OnErr, OnOk};
-ghost use Rattle.morris_index.specs.Pairs.{Counts};
+ghost use Rattle.morris_index.specs.Pairs.{Counts, EndsIn, below_of};
 ghost use Rattle.morris_table.specs.Shelves.{first_missing, table_on};
-ghost use Rattle.morris.specs.Faults.{CountsWrites};
+ghost use Rattle.morris.specs.Faults.{CountsWrites, Prints};
 ghost use Rattle.morris.specs.Look.{board_of};
-ghost use Rattle.morris.specs.Stats.{AnswersOn, AnswersStats, HasTallies, IsRefusedAt, IsRefusedFor};
+ghost use Rattle.morris.specs.Stats.{AnswersOn, AnswersStats, HasTallies, IsRefusedAt, IsRefusedFor, stats_text};
 
+use crate::boards::{NamedBoard, read_board};
 use crate::fault::Fault;
 use crate::pairs::read_pair;
 use crate::print_stats::put_stats;
 use morris_board::board::{Board, Geometry};
 use morris_board::grid::Grid;
 use morris_board::nine::Nine;
-use morris_board::streams::Sink;
+use morris_board::streams::buffered::Buffered;
+use morris_board::streams::{Failed, Sink};
 use morris_index::pair::Pair;
 use morris_table::shelf::Shelf;
 use morris_table::sweeping::{BuildFault, sweep_pair};
 use std::alloc::Global;
 
-/// Counts the values of all positions of the pair that the text `pair` names on the board named `board`: how many positions there are, how
-/// many of them are lost or won in each depth that some position has, in ascending order, and how many are draws. The pairs below it are
-/// swept first, in order, since the values of a pair rest on theirs.
+/// Counts the values of all positions of the pair that the text `pair` names on the board named
+/// `board`: how many positions there are, how many of them are lost or won in each depth that some
+/// position has, in ascending order, and how many are draws. The pairs below it are swept first, in
+/// order, since the values of a pair rest on theirs.
 ///
 /// # Errors
-/// [`Fault::Board`] where there is no such board, else [`Fault::PairText`], [`Fault::Counts`] or [`Fault::Crowded`] where the text names no
-/// pair of the board, in this order; else [`Fault::Memory`] where memory is refused, or [`Fault::TooDeep`] where depths in the pair, or in
-/// one that it rests on, go past what a table can hold. Nothing is then written. Else [`Fault::Write`], with the bytes that went out, at the
-/// first write that fails.
+/// [`Fault::Board`] where there is no such board, else [`Fault::PairText`], [`Fault::Counts`] or
+/// [`Fault::Crowded`] where the text names no pair of the board, in this order; else
+/// [`Fault::Memory`] where memory is refused, or [`Fault::TooDeep`] where depths in the pair, or in
+/// one that it rests on, go past what a table can hold. Nothing is then written. Else
+/// [`Fault::Write`], with the bytes that went out, at the first write that fails.
 pub fn stats<S: Sink>(alloc: Global, board: &str, pair: &str, output: &mut S) -> Result<(), Fault>
     requires { S.failures output.old < 2 ^ 64 - 1 }
     ensures answer { AnswersStats (board_of board.now) pair.now (S.contents output.old) (S.contents output.new) result }
     ensures counted { CountsWrites (S.failures output.old) (S.failures output.new) result }
 {
-    if board == Nine::NAME {
-        stats_on::<Nine, S>(alloc, pair, output)
-    } else if board == Grid::NAME {
-        stats_on::<Grid, S>(alloc, pair, output)
-    } else {
-        Err(Fault::Board)
+    match read_board(board)? {
+        NamedBoard::Nine => stats_on::<Nine, S>(alloc, pair, output),
+        NamedBoard::Grid => stats_on::<Grid, S>(alloc, pair, output),
     }
 }
 
@@ -48,9 +49,24 @@ fn stats_on<B: Board, S: Sink>(alloc: Global, text: &str, output: &mut S) -> Res
 {
     let pair = read_pair::<B>(text)?;
     let tallies = count_values(alloc, pair)?;
-    match put_stats(output, pair, tallies.as_slice()) {
-        Ok(_) => Ok(()),
-        Err(sent) => Err(Fault::Write(sent)),
+    show_tallies(pair, tallies.as_slice(), output)
+}
+
+/// Prints how many positions of a pair have each code.
+fn show_tallies<B: Geometry, S: Sink>(
+    pair: Pair<B>,
+    tallies: &[u64],
+    output: &mut S,
+) -> Result<(), Fault>
+    requires failures { S.failures output.old < 2 ^ 64 - 1 }
+    requires few { length tallies.now ≤ 2 ^ 16 }
+    ensures shown { Prints (S.contents output.old) (S.contents output.new) (stats_text B.POINTS pair tallies.now) result }
+    ensures counted { CountsWrites (S.failures output.old) (S.failures output.new) result }
+{
+    let mut out = Buffered::new(output);
+    match put_stats(&mut out, pair, tallies) {
+        Ok(()) => Ok(()),
+        Err(Failed) => Err(Fault::Write(out.sent())),
     }
 }
 
@@ -72,8 +88,22 @@ fn sweep_below<B: Board>(alloc: Global, pair: Pair<B>) -> Result<Shelf<B>, Fault
     ensures there { IfOk result (λ shelf. is_some (table_on shelf pair) ≡ true) }
     ensures refused { IfErr result (IsRefusedFor B.shape pair) }
 {
+    let mut shelf = sweep_before(alloc, pair)?;
+    sweep_onto(alloc, &mut shelf, pair)?;
+    Ok(shelf)
+}
+
+/// The tables of all pairs below a pair but its own, among them those that it needs.
+pub fn sweep_before<B: Board>(alloc: Global, pair: Pair<B>) -> Result<Shelf<B>, Fault>
+    ensures ready { IfOk result (λ shelf. first_missing shelf pair ≡ None) }
+    ensures last { OnOk result (EndsIn (below_of pair) pair) }
+    ensures refused { IfErr result (IsRefusedFor B.shape pair) }
+{
     let mut shelf = Shelf::new(alloc)?;
     for below in pair.below() {
+        if below == pair {
+            return Ok(shelf);
+        }
         sweep_onto(alloc, &mut shelf, below)?;
     }
     Ok(shelf)

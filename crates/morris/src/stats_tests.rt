@@ -1,6 +1,6 @@
 use crate::fault::Fault;
 use crate::stats::stats;
-use crate::tests::{Narrow, assert_answer, assert_wrong};
+use crate::tests::{Counting, Narrow, assert_answer, assert_wrong};
 use morris_board::streams::IntoWrite;
 use std::process::Abort;
 
@@ -125,7 +125,7 @@ fn stats_takes_a_board_and_a_pair(rt: HostRuntime) {
 
 #[test]
 fn failed_write_of_stats_tells_what_went_out_and_is_not_tried_again(rt: HostRuntime) {
-    for room in [0, 1, 19, 20, 60, GRID_3_3.len() - 1] {
+    for room in 0..GRID_3_3.len() {
         let mut output = IntoWrite::new(Narrow::new(rt.alloc(), room));
         let answer = stats(rt.alloc(), "grid", "3-3", &mut output);
         assert_eq!(rt; answer, Err(Fault::Write(room as u64)));
@@ -136,4 +136,13 @@ fn failed_write_of_stats_tells_what_went_out_and_is_not_tried_again(rt: HostRunt
         );
         assert_eq!(rt; narrow.calls_after, 1);
     }
+}
+
+#[test]
+fn stats_goes_out_in_one_write(rt: HostRuntime) {
+    let mut output = IntoWrite::new(Counting::new(rt.alloc()));
+    assert_eq!(rt; stats(rt.alloc(), "grid", "3-3", &mut output), Ok(()));
+    let written = output.into_inner();
+    assert_eq!(rt; written.calls, 1);
+    assert_eq!(rt; written.kept.as_slice(), GRID_3_3.as_bytes());
 }

@@ -241,14 +241,68 @@ impl Write for Narrow {
     }
 }
 
+const LOOKED: &str = "\
+XXX.OO.O.\n\
+own 3 other 3\n\
+0-3\n0-6\n0-8\n1-3\n1-6\n1-8\n2-3\n2-6\n2-8\n\
+moves 9\n\
+won in 3\n";
+
 #[test]
 fn a_failed_write_tells_what_went_out_and_is_not_tried_again(rt: HostRuntime) {
-    for room in [0, 1, 9, 10, 30] {
+    for room in 0..LOOKED.len() {
         let mut output = IntoWrite::new(Narrow::new(rt.alloc(), room));
         let answer = look("grid", "XXX.OO.O.", 3, &mut output);
         assert_eq!(rt; answer, Err(Fault::Write(room as u64)));
-        assert_eq!(rt; output.into_inner().calls_after, 1);
+        let narrow = output.into_inner();
+        assert_eq!(rt; Some(narrow.kept.as_slice()), LOOKED.as_bytes().get(..room));
+        assert_eq!(rt; narrow.calls_after, 1);
     }
+}
+
+#[test]
+fn a_text_goes_out_whole_where_there_is_just_room(rt: HostRuntime) {
+    let mut output = IntoWrite::new(Narrow::new(rt.alloc(), LOOKED.len()));
+    assert_eq!(rt; look("grid", "XXX.OO.O.", 3, &mut output), Ok(()));
+    assert_eq!(rt; output.into_inner().kept.as_slice(), LOOKED.as_bytes());
+}
+
+/// A writer that takes whatever it is given, and counts the calls.
+#[derive(Drop)]
+pub(crate) struct Counting {
+    pub(crate) kept: Vec<u8>,
+    pub(crate) calls: u64,
+}
+
+impl Counting {
+    pub(crate) fn new(alloc: Global) -> Counting {
+        Counting {
+            kept: Vec::new(alloc),
+            calls: 0,
+        }
+    }
+}
+
+impl Write for Counting {
+    fn write(&mut self, bytes: &[u8]) -> io::Result<usize> {
+        self.calls = self.calls.saturating_add(1);
+        self.kept.extend_from_slice(bytes)?;
+        Ok(bytes.len())
+    }
+
+    fn flush(&mut self) -> io::Result<()> {
+        Ok(())
+    }
+}
+
+#[test]
+fn fifty_four_moves_go_out_in_one_write(rt: HostRuntime) {
+    let mut output = IntoWrite::new(Counting::new(rt.alloc()));
+    let answer = look("nine", "OO..X....O.X..........X.", 2, &mut output);
+    assert_eq!(rt; answer, Ok(()));
+    let written = output.into_inner();
+    assert_eq!(rt; written.calls, 1);
+    assert!(rt; written.kept.as_slice().ends_with(b"moves 54\nlost in 2\n"));
 }
 
 #[test]
@@ -304,22 +358,25 @@ fn words_that_cannot_be_had_are_refused(rt: HostRuntime) {
 }
 
 #[test]
-fn each_fault_has_its_number(rt: HostRuntime) {
-    let numbers = [
-        (Fault::Length, 1),
-        (Fault::Character(4), 2),
-        (Fault::Stones, 3),
-        (Fault::Counts, 4),
-        (Fault::Crowded, 5),
-        (Fault::TooDeep, 10),
-        (Fault::Memory, 12),
-        (Fault::Write(16), 23),
-        (Fault::Board, 25),
-        (Fault::PairText, 26),
+fn each_fault_has_its_number_and_its_text(rt: HostRuntime) -> Result<(), Fail> {
+    let faults = [
+        (Fault::Length, 1, "text is not one character per point"),
+        (Fault::Character(4), 2, "bad character at 4"),
+        (Fault::Stones, 3, "bad number of stones"),
+        (Fault::Counts, 4, "bad counts"),
+        (Fault::Crowded, 5, "more stones than points"),
+        (Fault::TooDeep, 10, "depth is too great"),
+        (Fault::Memory, 12, "out of memory"),
+        (Fault::Write(16), 23, "writing failed after 16 bytes"),
+        (Fault::Board, 25, "no such board"),
+        (Fault::PairText, 26, "not a pair"),
     ];
-    for (fault, number) in numbers {
+    for (fault, number, text) in faults {
         assert_eq!(rt; fault.number(), number);
+        let shown = format!(in rt.alloc(); "{fault}")?;
+        assert_eq!(rt; shown.as_str(), text);
     }
+    Ok(())
 }
 
 #[test]

@@ -1,9 +1,13 @@
-use Rattle.std.proofs.Common.{sym, ◌∙◌, map}
-use Rattle.morris.specs.Words.{named_by}
-use Rattle.morris.proofs.Shown.{shown_for}
+-- Want of memory is answered, with nothing printed.
+use Rattle.std.proofs.Common.{refl, inr, Err}
+use Rattle.std.proofs.KnownBytes.{Keeps-refl}
+use Rattle.morris.specs.declared.fault.Fault.TheVariants as fault
 use Rattle.morris.proofs.command.command.Goals as goal
 
-pub returns-in-Ok-clause-shown : goal.returns-in-Ok-clause-shown
-returns-in-Ok-clause-shown g c = λ done taken q asks.
-    shown_for (named_by (map g.W.AsStr.text c.args.words.now)) c.in-Ok.request (g.O.Sink.contents c.args.output.now) (g.O.Sink.contents c.run.new.output)
-    c.run.result c.in-Ok.ensures.request c.run.ensures (sym c.finish.ensures ∙ done) q asks
+pub returns-in-Err-Memory-clause-answer : goal.returns-in-Err-Memory-clause-answer
+returns-in-Err-Memory-clause-answer g c = λ other. (
+  Err fault.Memory,
+  inr (inr (refl, Keeps-refl (g.O.Sink.contents c.args.output.now))),
+  c.finish-in-Err-Memory.ensures.status,
+  c.finish-in-Err-Memory.ensures.reported,
+)

@@ -1,14 +1,13 @@
 use Rattle.std.proofs.Common.{◌≡◌, ◌+◌, ◌*◌, ◌≤◌, slice_index}
 use Rattle.std.specs.List.{flat_map, range_with_len}
-use Rattle.morris_board.specs.Streams.{AllSent}
+use Rattle.morris_board.specs.Buffered.{AllPassed, taken_of}
 use Rattle.morris.specs.Stats.{depth_line}
 use Rattle.morris.proofs.print_stats.put_depths.Given as goal
 
--- the lines of the depths so far have gone out
+-- the lines of the depths so far have gone in
 abbrev pub invariant-loop-depth : goal.invariant-loop-depth
 invariant-loop-depth g l = record {
-  sent : AllSent (g.S.Sink.contents l.initial.sink) (g.S.Sink.contents l.sink) l.fn.sent l.now
+  passed : AllPassed g.S.Sink.contents g.S.Sink.failures l.initial.out l.out
       (flat_map (λ depth. depth_line depth (slice_index l.counts depth)) (range_with_len 0 l.depth));
-  few : l.now ≤ l.fn.sent + 105 * l.depth;
-  uncounted : g.S.Sink.failures l.sink ≡ g.S.Sink.failures l.initial.sink;
+  few : taken_of l.out ≤ taken_of l.initial.out + 105 * l.depth;
 }
