@@ -3,3 +3,4 @@ pub mod Requests
 pub mod ShelfLaws
 pub mod StatsLaws
 pub mod TallyLaws
+pub mod VerifyLaws

@@ -10,7 +10,7 @@ use Rattle.clap.specs.Takes.{is_given}
 use Rattle.clap.specs.Walk.{Rule, Text, answers_to, finished, has_row, nothing_held, rows_after, settled, stop_after, walk, with_default}
 use Rattle.clap.specs.Simple.{App, Shape, argument_words, built, built_leaf, entered, filled, help_rule, inherited, label_of, marked_built, names_of, new_shape, rows_at, with_index, with_leaf_noted, with_subcommand}
 use Rattle.clap.specs.declared.builder.value_parser.ValueParser.TheVariants as parser
-use Rattle.morris.specs.Words.{HasLookValues, HasStatsValues, NamesRequest, depth_rule, faults_of, look_app, morris_app, named_by, program, required_rule, stats_app}
+use Rattle.morris.specs.Words.{HasLookValues, HasStatsValues, HasVerifyValues, NamesRequest, depth_rule, faults_of, look_app, morris_app, named_by, program, required_rule, stats_app, verify_app}
 use Rattle.morris.proofs.Parsed.{Each, Each-find, HasValue, IsNotHelp, IsPlainRule, arguments_there, default_fills, default_keeps, given_value, level_passes, row_value, subcommand_there}
 
 -- ---- `look`, as it is built
@@ -33,8 +33,11 @@ look_top = record (new_shape (codes "look")) { rules = required_rule (codes "BOA
 abbrev stats_top : Shape
 stats_top = record (new_shape (codes "stats")) { rules = required_rule (codes "BOARD") ∷ required_rule (codes "PAIR") ∷ [] }
 
+abbrev verify_top : Shape
+verify_top = record (new_shape (codes "verify")) { rules = required_rule (codes "BOARD") ∷ [] }
+
 abbrev whole : App
-whole = with_subcommand (with_subcommand program look_top) stats_top
+whole = with_subcommand (with_subcommand (with_subcommand program look_top) stats_top) verify_top
 
 abbrev look : Shape
 look = built_leaf (inherited (with_leaf_noted (marked_built whole.top)) look_top)
@@ -104,6 +107,29 @@ stats_fits words none =
     let second : HasValue rows pair = given_value stats.rules rows pair level.rows given.1 refl in
     record { board = ap is_some first.is_first; pair = ap is_some second.is_first }
 
+-- ---- `verify`, as it is built
+
+abbrev verify : Shape
+verify = built_leaf (inherited (with_leaf_noted (marked_built whole.top)) verify_top)
+
+verify_plain : Each (IsPlainRule verify.rules) verify.rules
+verify_plain = (
+  record { known = refl; kind = inl (refl, refl) },
+  (record { known = refl; kind = inr refl }, tt),
+)
+
+one_given : (p : Bool) → (not p || false) ≡ false → p ≡ true
+one_given true h = refl
+one_given false h = cc
+
+verify_fits : (words : List Text) → level_fault verify [] nothing_held words false [] ≡ [] → HasVerifyValues (rows_after verify.rules [] words)
+verify_fits words none =
+    let level = level_passes verify [] words false [] verify_plain none in
+    let rows = rows_after verify.rules [] words in
+    let missing : (not (is_given (codes "BOARD") rows) || false) ≡ false = arguments_there verify rows false level.checked in
+    let first : HasValue rows board = given_value verify.rules rows board level.rows (one_given _ missing) refl in
+    record { board = ap is_some first.is_first }
+
 -- ---- the program
 
 only_left : (b : Bool) → (b || false) ≡ true → b ≡ true
@@ -118,7 +144,10 @@ Serves s = ((words : List Text) → level_fault s [] nothing_held words false []
 all_serve : Each Serves (built whole).subs
 all_serve = (
   inl (λ words none. inl (refl, look_fits words none)),
-  (inl (λ words none. inr (refl, stats_fits words none)), (inr (refl, refl), tt)),
+  (
+    inl (λ words none. inr (inl (refl, stats_fits words none))),
+    (inl (λ words none. inr (inr (refl, verify_fits words none))), (inr (refl, refl), tt)),
+  ),
 )
 
 program_plain : Each (IsPlainRule (built whole).top.rules) (built whole).top.rules
@@ -168,5 +197,5 @@ program_named a words plain serves wants offers none =
     entered_named a stop serves (level.stopped offers) level.below_none (there has wanted)
 
 pub named : (words : List Text) → faults_of words ≡ [] → NamesRequest (named_by words)
-unfolding morris_app look_app stats_app
+unfolding morris_app look_app stats_app verify_app
 named words none = program_named (built whole) (argument_words whole words) program_plain all_serve refl refl none

@@ -1,7 +1,7 @@
 -- What the program makes of its words.
-use Rattle.std.specs.Prelude.{◌≡◌, ◌≢◌, ◌⊎◌, ℕ, List, [], Option, Result, Ok, Err}
+use Rattle.std.specs.Prelude.{◌≡◌, ◌≢◌, ◌⊎◌, ℕ, Bool, true, false, List, [], Option, Result, Ok, Err}
 use Rattle.std.specs.Io.KnownBytes.{Keeps}
-use Rattle.clap.specs.Words.{IsAmong, Kinds, Text}
+use Rattle.clap.specs.Words.{IsAmong, Kinds, Row, Text}
 use Rattle.clap.specs.declared.error.kind.ErrorKind.{ErrorKind}
 use Rattle.clap.specs.declared.error.kind.ErrorKind.TheVariants as kind
 use Rattle.morris.specs.declared.fault.Fault.{Fault}
@@ -9,18 +9,30 @@ use Rattle.morris.specs.declared.fault.Fault.TheVariants as fault
 use Rattle.morris.specs.Faults.{Prints}
 use Rattle.morris.specs.Words.{AsksFor, faults_of, named_by}
 use Rattle.morris.specs.declared.words.Request.{Request}
-use Rattle.morris.specs.declared.words.Request.TheVariants.{Look, Stats}
+use Rattle.morris.specs.declared.words.Request.TheVariants.{Look, Stats, Verify}
 use Rattle.morris.specs.Look.{Looks, board_of}
 use Rattle.morris.specs.Stats.{AnswersStats}
+use Rattle.morris.specs.Verify.{AnswersVerify, Input}
 
 -- the words have a mistake, and not a request for help alone
 abbrev pub HasMistake : Kinds → Type 0
 HasMistake kinds = (k : ErrorKind) × (k ≢ kind.DisplayHelp) × IsAmong k kinds
 
--- what the command of a request answers
-abbrev pub Answers : {T : Type 0} → Option (List ℕ) → Option (List ℕ) → Request → Result T Fault → Type 0
-Answers old new (Look board text depth) result = Looks (board_of board.now) text.now depth old new result
-Answers old new (Stats board pair) result = AnswersStats (board_of board.now) pair.now old new result
+-- what the command of a request answers, of its input before and after it, and of what was printed
+abbrev pub Answers : {T : Type 0} → Input → Input → Option (List ℕ) → Option (List ℕ) → Request → Result T Fault → Type 0
+Answers before after old new (Look board text depth) result = Looks (board_of board.now) text.now depth old new result
+Answers before after old new (Stats board pair) result = AnswersStats (board_of board.now) pair.now old new result
+Answers before after old new (Verify board) result = AnswersVerify (board_of board.now) before after old new result
+
+-- whether a request is for a command that reads its input
+abbrev pub takes_input : Request → Bool
+takes_input (Look board text depth) = false
+takes_input (Stats board pair) = false
+takes_input (Verify board) = true
+
+-- the command that was named reads its input
+abbrev pub AsksToRead : Option (Text × List Row) → Type 0
+AsksToRead named = (request : Request) × AsksFor named request × (takes_input request ≡ true)
 
 -- the exit status of a command: 0 where it is done, 1 where it was refused
 abbrev pub status_of : {T : Type 0} → Result T Fault → ℕ
@@ -29,8 +41,8 @@ status_of (Err fault) = 1
 
 -- How the words were answered, where they have no mistake: by the command that they ask for, by
 -- help where they ask for that, or by want of memory.
-abbrev pub Ends : List Text → Option (List ℕ) → Option (List ℕ) → Result (Unit {0}) Fault → Type 0
-Ends words old new answer =
-    ((request : Request) × AsksFor (named_by words) request × (faults_of words ≡ []) × Answers old new request answer)
+abbrev pub Ends : List Text → Input → Input → Option (List ℕ) → Option (List ℕ) → Result (Unit {0}) Fault → Type 0
+Ends words before after old new answer =
+    ((request : Request) × AsksFor (named_by words) request × (faults_of words ≡ []) × Answers before after old new request answer)
     ⊎ ((IsAmong kind.DisplayHelp (faults_of words) × ((text : List ℕ) × Prints old new text answer))
     ⊎ ((answer ≡ Err fault.Memory) × Keeps old new))

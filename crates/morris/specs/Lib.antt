@@ -3,5 +3,6 @@ pub mod Look
 pub mod BoardNames
 pub mod PairText
 pub mod Stats
+pub mod Verify
 pub mod Words
 pub mod Command

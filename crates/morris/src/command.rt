@@ -1,15 +1,17 @@
 //! The command line: from its words to what goes out, and the exit status.
-ghost use Rattle.std.specs.Prelude.{◌≡◌, ◌≢◌, ◌-◌, ◌^◌, ◌<◌, ◌≤◌, [], IsTrue, map, if◌then◌else◌};
+ghost use Rattle.std.specs.Prelude.{◌≡◌, ◌≢◌, ◌-◌, ◌^◌, ◌<◌, ◌≤◌, [], IsTrue, false, map, if◌then◌else◌};
 ghost use Rattle.morris_board.specs.Streams.{CountsFailure};
 ghost use Rattle.morris.specs.Faults.{CountsWrites, Prints, Reports, ReportsFault, WentOut, fault_line};
 ghost use Rattle.morris.specs.declared.fault.Fault.TheVariants as fault;
-ghost use Rattle.morris.specs.Words.{IsInRange, faults_of};
-ghost use Rattle.morris.specs.Command.{Answers, Ends, HasMistake, status_of};
+ghost use Rattle.morris.specs.Words.{IsInRange, faults_of, named_by};
+ghost use Rattle.morris.specs.Verify.{input_of};
+ghost use Rattle.morris.specs.Command.{Answers, AsksToRead, Ends, HasMistake, status_of, takes_input};
 
 use crate::fault::Fault;
 use crate::look::look;
 use crate::print_fault::put_fault;
 use crate::stats::stats;
+use crate::verify::verify_in;
 use crate::words::{Refusal, Request, read_words};
 use morris_board::streams::buffered::Buffered;
 use morris_board::streams::{Failed, Sink, Source, put};
@@ -24,26 +26,30 @@ use std::convert::AsStr;
 /// `output` has got nothing, or a part of the text where a write failed; the fault went to `errors`
 /// as one line, `fault N: ` and its text. 2: the words name no command, or not the arguments that
 /// it takes; what is wrong with them went to `errors`, and nothing to `output`. A fault while
-/// `errors` is written is ignored. No command reads `input`.
+/// `errors` is written is ignored. Only
+/// `verify` reads `input`.
 pub fn command<R, W: AsStr, I: Source, O: Sink, E: Sink>(
     _rt: &R,
     alloc: Global,
     words: &[W],
-    _input: &mut I,
+    input: &mut I,
     output: &mut O,
     errors: &mut E,
 ) -> u8
+    requires input { I.failures input.old < 2 ^ 64 - 1 }
     requires output { O.failures output.old < 2 ^ 64 - 1 }
     requires errors { E.failures errors.old < 2 ^ 64 - 1 }
     ensures status { result ≤ 2 }
     ensures mistaken { result ≡ 2 → HasMistake (faults_of (map W.text words.now)) }
     ensures silent { result ≡ 2 → output.new ≡ output.old }
-    ensures unread { _input.new ≡ _input.old }
-    ensures answer { result ≢ 2 → (answer : _) × Ends (map W.text words.now) (O.contents output.old) (O.contents output.new) answer
+    ensures unread { ¬ AsksToRead (named_by (map W.text words.now)) → input.new ≡ input.old }
+    ensures answer { result ≢ 2 → (answer : _)
+        × Ends (map W.text words.now) (input_of (I.remaining input.old) (I.failures input.old)) (input_of (I.remaining input.new) (I.failures input.new))
+        (O.contents output.old) (O.contents output.new) answer
         × (result ≡ status_of answer) × Reports E.contents E.failures errors.old errors.new answer }
 {
     match read_words(alloc, words) {
-        Ok(request) => finish(run(alloc, request, output), errors),
+        Ok(request) => finish(run(alloc, request, input, output), errors),
         Err(Refusal::Help(text)) => finish(print_help(text.as_str(), output), errors),
         Err(Refusal::Memory) => finish(Err(Fault::Memory), errors),
         Err(Refusal::Wrong(text)) => {
@@ -72,14 +78,23 @@ pub fn refuse_words<E: Sink>(out_of_memory: bool, errors: &mut E) -> u8
 }
 
 /// Runs the command of a request.
-fn run<O: Sink>(alloc: Global, request: Request<'_>, output: &mut O) -> Result<(), Fault>
+fn run<I: Source, O: Sink>(
+    alloc: Global,
+    request: Request<'_>,
+    input: &mut I,
+    output: &mut O,
+) -> Result<(), Fault>
     requires depth { IsInRange request }
+    requires input { I.failures input.old < 2 ^ 64 - 1 }
     requires output { O.failures output.old < 2 ^ 64 - 1 }
-    ensures { Answers (O.contents output.old) (O.contents output.new) request.entry result }
+    ensures answer { Answers (input_of (I.remaining input.old) (I.failures input.old)) (input_of (I.remaining input.new) (I.failures input.new))
+        (O.contents output.old) (O.contents output.new) request.entry result }
+    ensures unread { takes_input request.entry ≡ false → input.new ≡ input.old }
 {
     match request {
         Request::Look { board, text, depth } => look(board, text, depth, output),
         Request::Stats { board, pair } => stats(alloc, board, pair, output),
+        Request::Verify { board } => verify_in(alloc, board, input, output),
     }
 }
 

@@ -4,6 +4,7 @@ ghost use Rattle.morris.specs.Faults.{text_fault, pair_fault, fault_number, faul
 
 use morris_board::faults::TextFault;
 use morris_index::faults::PairFault;
+use morris_table::file_faults::ReadFault;
 use std::alloc::AllocError;
 use std::fmt;
 
@@ -27,6 +28,24 @@ pub enum Fault {
     TooDeep,
     /// Memory was refused.
     Memory,
+    /// The entry with this index is the first that isn't what the rules give from the entries of its results.
+    Differs(u64),
+    /// The input ended within a file.
+    Short,
+    /// The input doesn't begin with the letters of a table file.
+    Magic,
+    /// The version of a table file isn't 1.
+    Version,
+    /// A table file is one of another board.
+    BoardId,
+    /// The number of entries of a table file isn't that of its pair.
+    Count,
+    /// The digest of a table file isn't that of the bytes before it.
+    Digest,
+    /// There are bytes after a table file.
+    Trailing,
+    /// A read failed.
+    Read,
     /// A write failed after this many bytes had gone out.
     Write(u64),
     /// There is no board of that name.
@@ -48,6 +67,15 @@ impl Fault {
             Fault::Crowded => 5,
             Fault::TooDeep => 10,
             Fault::Memory => 12,
+            Fault::Differs(_) => 14,
+            Fault::Short => 15,
+            Fault::Magic => 16,
+            Fault::Version => 17,
+            Fault::BoardId => 18,
+            Fault::Count => 19,
+            Fault::Digest => 20,
+            Fault::Trailing => 21,
+            Fault::Read => 22,
             Fault::Write(_) => 23,
             Fault::Board => 25,
             Fault::PairText => 26,
@@ -68,6 +96,15 @@ impl Fault {
             Fault::Crowded => ("more stones than points", None, ""),
             Fault::TooDeep => ("depth is too great", None, ""),
             Fault::Memory => ("out of memory", None, ""),
+            Fault::Differs(index) => ("entry ", Some(*index), " differs"),
+            Fault::Short => ("file is too short", None, ""),
+            Fault::Magic => ("not a table file", None, ""),
+            Fault::Version => ("unknown version", None, ""),
+            Fault::BoardId => ("another board", None, ""),
+            Fault::Count => ("wrong number of entries", None, ""),
+            Fault::Digest => ("digest is wrong", None, ""),
+            Fault::Trailing => ("bytes after the table", None, ""),
+            Fault::Read => ("reading failed", None, ""),
             Fault::Write(sent) => ("writing failed after ", Some(*sent), " bytes"),
             Fault::Board => ("no such board", None, ""),
             Fault::PairText => ("not a pair", None, ""),
@@ -111,6 +148,28 @@ impl From<PairFault> for Fault {
         match refused {
             PairFault::Counts => Fault::Counts,
             PairFault::Crowded => Fault::Crowded,
+        }
+    }
+}
+
+impl From<ReadFault> for Fault {
+    ghost use Rattle.morris.specs.Verify.{read_fault};
+
+    ghost from_gives = { λ refused e. e ≡ read_fault refused };
+
+    fn from(refused: ReadFault) -> Fault {
+        match refused {
+            ReadFault::Short => Fault::Short,
+            ReadFault::Magic => Fault::Magic,
+            ReadFault::Version => Fault::Version,
+            ReadFault::BoardId => Fault::BoardId,
+            ReadFault::Counts => Fault::Counts,
+            ReadFault::Crowded => Fault::Crowded,
+            ReadFault::Count => Fault::Count,
+            ReadFault::Digest => Fault::Digest,
+            ReadFault::Trailing => Fault::Trailing,
+            ReadFault::Read => Fault::Read,
+            ReadFault::Memory => Fault::Memory,
         }
     }
 }

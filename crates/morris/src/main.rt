@@ -9,11 +9,15 @@ mod pairs;
 mod print;
 mod print_fault;
 mod print_stats;
+mod print_verified;
 mod stats;
 #[cfg(test)]
 mod stats_tests;
 #[cfg(test)]
 mod tests;
+mod verify;
+#[cfg(test)]
+mod verify_tests;
 mod words;
 
 use command::{command, refuse_words};

@@ -14,7 +14,10 @@ use morris_index::pair::Pair;
 
 /// The numbers of a pair.
 #[tactic(auto, using(morris_board::proofs::BufferedLaws::passed_laws))]
-fn put_pair<B: Geometry, S: Sink>(out: &mut Buffered<'_, S>, pair: Pair<B>) -> Result<(), Failed>
+pub fn put_pair<B: Geometry, S: Sink>(
+    out: &mut Buffered<'_, S>,
+    pair: Pair<B>,
+) -> Result<(), Failed>
     requires failures { S.failures (sink_of out.old) < 2 ^ 64 - 1 }
     requires room { taken_of out.old < 2 ^ 10 }
     ensures passed { Passes S.contents S.failures out.old out.new (pair_text pair) result }

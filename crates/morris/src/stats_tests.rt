@@ -57,6 +57,37 @@ const GRID_5_4: &str = "\
 lost in 0: 252\n\
 draw: 0\n";
 
+// The figures come from a plain solver that shares no code with this one.
+const NINE_3_3: &str = "\
+3-3 2691920 positions\n\
+won in 1: 1056096\n\
+lost in 2: 48780\n\
+won in 3: 535592\n\
+lost in 4: 75048\n\
+won in 5: 264836\n\
+lost in 6: 63768\n\
+won in 7: 104988\n\
+lost in 8: 39816\n\
+won in 9: 76104\n\
+lost in 10: 33224\n\
+won in 11: 40572\n\
+lost in 12: 34176\n\
+won in 13: 60328\n\
+lost in 14: 35904\n\
+won in 15: 39584\n\
+lost in 16: 37824\n\
+won in 17: 18492\n\
+lost in 18: 33708\n\
+won in 19: 12072\n\
+lost in 20: 33672\n\
+won in 21: 17700\n\
+lost in 22: 16824\n\
+won in 23: 5388\n\
+lost in 24: 1800\n\
+won in 25: 408\n\
+lost in 26: 1104\n\
+draw: 4112\n";
+
 const GRID_6_3: &str = "\
 6-3 168 positions\n\
 lost in 0: 168\n\
@@ -93,6 +124,12 @@ fn stats_counts_the_values_of_pairs_of_eight_stones(rt: HostRuntime) {
 fn stats_counts_the_values_of_full_boards(rt: HostRuntime) {
     assert_stats(&rt, "5-4", GRID_5_4);
     assert_stats(&rt, "6-3", GRID_6_3);
+}
+
+#[test]
+fn stats_counts_the_values_of_a_pair_of_the_usual_board(rt: HostRuntime) {
+    let words = ["morris", "stats", "nine", "3-3"];
+    assert_answer(&rt, words.as_slice(), 0, NINE_3_3, "");
 }
 
 #[test]

@@ -19,8 +19,8 @@ struct Answer {
     errors: Vec<u8>,
 }
 
-fn answer_to<R: AllocGlobal>(rt: &R, words: &[&str]) -> Answer {
-    let mut input = FromRead::new([].as_slice());
+fn answer_to<R: AllocGlobal>(rt: &R, words: &[&str], input: &[u8]) -> Answer {
+    let mut input = FromRead::new(input);
     let mut output = IntoWrite::new(Vec::new(rt.alloc()));
     let mut errors = IntoWrite::new(Vec::new(rt.alloc()));
     let status = command(rt, rt.alloc(), words, &mut input, &mut output, &mut errors);
@@ -38,7 +38,19 @@ pub fn assert_answer(
     output: &str,
     errors: &str,
 ) {
-    let answer = answer_to(rt, words);
+    assert_answer_on(rt, words, &[], status, output, errors);
+}
+
+/// The same, where the program is given this input.
+pub fn assert_answer_on(
+    rt: &(impl Abort + AllocGlobal),
+    words: &[&str],
+    input: &[u8],
+    status: u8,
+    output: &str,
+    errors: &str,
+) {
+    let answer = answer_to(rt, words, input);
     assert_eq!(rt; answer.status, status, "{words:?}");
     assert_eq!(rt; answer.output.as_slice(), output.as_bytes(), "{words:?}");
     assert_eq!(rt; answer.errors.as_slice(), errors.as_bytes(), "{words:?}");
@@ -46,7 +58,7 @@ pub fn assert_answer(
 
 /// The words are refused with status 2, with a text on standard error and nothing on standard output.
 pub fn assert_wrong(rt: &(impl Abort + AllocGlobal), words: &[&str]) {
-    let answer = answer_to(rt, words);
+    let answer = answer_to(rt, words, &[]);
     assert_eq!(rt; answer.status, 2, "{words:?}");
     assert_eq!(rt; answer.output.len(), 0, "{words:?}");
     assert!(rt; !answer.errors.is_empty(), "{words:?}");
@@ -56,7 +68,7 @@ pub fn assert_wrong(rt: &(impl Abort + AllocGlobal), words: &[&str]) {
 fn look_shows_a_position_of_nine_moves(rt: HostRuntime) {
     let moves = "XXX.OO.O.\nown 3 other 3\n0-3\n0-6\n0-8\n1-3\n1-6\n1-8\n2-3\n2-6\n2-8\nmoves 9\n";
     let words = ["morris", "look", "grid", "XXX.OO.O."];
-    let answer = answer_to(&rt, words.as_slice());
+    let answer = answer_to(&rt, words.as_slice(), &[]);
     assert_eq!(rt; answer.status, 0);
     assert!(rt; answer.output.as_slice().starts_with(moves.as_bytes()));
     assert!(rt;
@@ -66,7 +78,7 @@ fn look_shows_a_position_of_nine_moves(rt: HostRuntime) {
             .ends_with(b"moves 9\nunknown within 2\n")
     );
     let deeper = ["morris", "look", "grid", "XXX.OO.O.", "--depth", "3"];
-    let answer = answer_to(&rt, deeper.as_slice());
+    let answer = answer_to(&rt, deeper.as_slice(), &[]);
     assert!(rt; answer.output.as_slice().starts_with(moves.as_bytes()));
     assert!(rt; answer.output.as_slice().ends_with(b"moves 9\nwon in 3\n"));
 }
@@ -103,7 +115,7 @@ fn look_shows_slides_and_a_capture_on_nine(rt: HostRuntime) {
 #[test]
 fn look_shows_jumps_on_nine(rt: HostRuntime) -> Result<(), Fail> {
     let words = ["morris", "look", "nine", "OO..X....O.X..........X."];
-    let answer = answer_to(&rt, words.as_slice());
+    let answer = answer_to(&rt, words.as_slice(), &[]);
     assert!(rt; answer.output.as_slice().ends_with(b"moves 54\nlost in 2\n"));
     assert!(rt; !answer.output.contains(&b'x'));
     let words = [
@@ -114,7 +126,7 @@ fn look_shows_jumps_on_nine(rt: HostRuntime) -> Result<(), Fail> {
         "--depth",
         "0",
     ];
-    let answer = answer_to(&rt, words.as_slice());
+    let answer = answer_to(&rt, words.as_slice(), &[]);
     let output = String::from_utf8(answer.output)?;
     assert!(rt; output.contains("\n12-2x16\n12-2x17\n12-2x18\n12-3\n"));
     let words = [
@@ -125,7 +137,7 @@ fn look_shows_jumps_on_nine(rt: HostRuntime) -> Result<(), Fail> {
         "--depth",
         "1",
     ];
-    let answer = answer_to(&rt, words.as_slice());
+    let answer = answer_to(&rt, words.as_slice(), &[]);
     let output = String::from_utf8(answer.output)?;
     assert!(rt; output.contains("\n12-2x5\n12-2x14\n12-2x19\n"));
     assert!(rt; output.ends_with("won in 1\n"));
@@ -199,7 +211,7 @@ fn a_text_of_ten_thousand_characters_is_answered(rt: HostRuntime) -> Result<(), 
 #[test]
 fn help_goes_to_standard_output(rt: HostRuntime) {
     for words in [["morris", "--help"], ["morris", "help"]] {
-        let answer = answer_to(&rt, words.as_slice());
+        let answer = answer_to(&rt, words.as_slice(), &[]);
         assert_eq!(rt; answer.status, 0);
         assert!(rt; !answer.output.is_empty() && answer.errors.is_empty());
     }
@@ -367,6 +379,15 @@ fn each_fault_has_its_number_and_its_text(rt: HostRuntime) -> Result<(), Fail> {
         (Fault::Crowded, 5, "more stones than points"),
         (Fault::TooDeep, 10, "depth is too great"),
         (Fault::Memory, 12, "out of memory"),
+        (Fault::Differs(20), 14, "entry 20 differs"),
+        (Fault::Short, 15, "file is too short"),
+        (Fault::Magic, 16, "not a table file"),
+        (Fault::Version, 17, "unknown version"),
+        (Fault::BoardId, 18, "another board"),
+        (Fault::Count, 19, "wrong number of entries"),
+        (Fault::Digest, 20, "digest is wrong"),
+        (Fault::Trailing, 21, "bytes after the table"),
+        (Fault::Read, 22, "reading failed"),
         (Fault::Write(16), 23, "writing failed after 16 bytes"),
         (Fault::Board, 25, "no such board"),
         (Fault::PairText, 26, "not a pair"),

@@ -2,9 +2,9 @@
 ghost use Rattle.std.specs.Prelude.{◌≡◌, [], IfErr, IfOk, OnOk, Some, codes, false, map};
 ghost use Rattle.clap.specs.Words.{FailsBy, app_of, found_of, kind_of, rows_of, rule_of};
 ghost use Rattle.clap.specs.Words.{subcommand_rows_of};
-ghost use Rattle.morris.specs.Words.{AsksFor, HasLookValues, HasStatsValues, IsAnswerTo};
+ghost use Rattle.morris.specs.Words.{AsksFor, HasLookValues, HasStatsValues, HasVerifyValues, IsAnswerTo};
 ghost use Rattle.morris.specs.Words.{IsAnswerToOneOf, IsInRange, NamesRequest, depth_rule, faults_of};
-ghost use Rattle.morris.specs.Words.{has_globals, look_app, morris_app, named_by, required_rule, stats_app};
+ghost use Rattle.morris.specs.Words.{has_globals, look_app, morris_app, named_by, required_rule, stats_app, verify_app};
 
 use clap::error::ErrorKind;
 use clap::{Arg, ArgMatches, Command, Error, value_parser};
@@ -25,6 +25,10 @@ pub enum Request<'a> {
     Stats {
         board: &'a str,
         pair: &'a str,
+    },
+    /// Verify the table file on the input, of the board named `board`.
+    Verify {
+        board: &'a str,
     },
 }
 
@@ -71,7 +75,8 @@ fn morris_command<'a>(alloc: Global) -> Result<Command<'a>, AllocError>
         .about("Endgame tables for Nine Men's Morris")
         .subcommand_required(true)
         .subcommand(look_command(alloc)?)?
-        .subcommand(stats_command(alloc)?)
+        .subcommand(stats_command(alloc)?)?
+        .subcommand(verify_command(alloc)?)
 }
 
 fn look_command<'a>(alloc: Global) -> Result<Command<'a>, AllocError>
@@ -103,6 +108,15 @@ fn stats_command<'a>(alloc: Global) -> Result<Command<'a>, AllocError>
         ))
 }
 
+fn verify_command<'a>(alloc: Global) -> Result<Command<'a>, AllocError>
+    ensures app { IfOk result (λ c. app_of c ≡ verify_app) }
+    ensures local { IfOk result (λ c. has_globals c ≡ false) }
+{
+    Command::new(alloc, "verify")
+        .about("Check each entry of a table file, which is read from standard input")
+        .arg(required_arg(alloc, "BOARD", "The board: nine or grid"))
+}
+
 fn required_arg<'a>(alloc: Global, name: &'a str, help: &'a str) -> Arg<'a>
     ensures rule { rule_of result ≡ required_rule name.entry.now }
     ensures local { result.global ≡ false }
@@ -130,6 +144,7 @@ fn request_of<'a>(matches: &ArgMatches<'a>) -> Request<'a>
     match matches.subcommand() {
         Some(("look", found)) => look_request(found),
         Some(("stats", found)) => stats_request(found),
+        Some(("verify", found)) => verify_request(found),
         _ => unreachable!(),
     }
 }
@@ -158,6 +173,17 @@ fn stats_request<'a>(found: &ArgMatches<'a>) -> Request<'a>
         unreachable!()
     };
     Request::Stats { board, pair }
+}
+
+fn verify_request<'a>(found: &ArgMatches<'a>) -> Request<'a>
+    requires { HasVerifyValues (rows_of (found_of found.now)) }
+    ensures request { AsksFor (Some (codes "verify", rows_of (found_of found.now))) result }
+    ensures depth { IsInRange result }
+{
+    let Some(board) = found.get_str("BOARD") else {
+        unreachable!()
+    };
+    Request::Verify { board }
 }
 
 fn refusal_of(alloc: Global, error: &Error) -> Refusal

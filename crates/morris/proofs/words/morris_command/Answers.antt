@@ -15,4 +15,6 @@ returns c =
     let look = ap (λ (a : App). a.top) c.in_ok-look_command.ensures.app in
     let one = c.in_ok-subcommand.ensures.shape c.in_ok-look_command.ensures.local ∙ ap₂ with_subcommand wants look in
     let stats = ap (λ (a : App). a.top) c.in_ok-stats_command.ensures.app in
-    IfOk-weaker c.subcommand-2.result _ _ (λ r h. h.shape c.in_ok-stats_command.ensures.local ∙ ap₂ with_subcommand one stats) c.subcommand-2.ensures
+    let two = c.in_ok-subcommand-2.ensures.shape c.in_ok-stats_command.ensures.local ∙ ap₂ with_subcommand one stats in
+    let verify = ap (λ (a : App). a.top) c.in_ok-verify_command.ensures.app in
+    IfOk-weaker c.subcommand-3.result _ _ (λ r h. h.shape c.in_ok-verify_command.ensures.local ∙ ap₂ with_subcommand two verify) c.subcommand-3.ensures
