@@ -3,7 +3,7 @@ use Rattle.std.proofs.lemmas.Bool.{both_ways}
 use Rattle.std.specs.List.{AllPairs}
 use Rattle.morris_moves.specs.Order.{Precedes}
 use Rattle.morris_moves.specs.Rules.{moves_of}
-use Rattle.morris_table.proofs.GraphLaws.{listed_next, listed_all}
+use Rattle.morris_probe.proofs.Listed.{listed_next, listed_all}
 use Rattle.morris_probe.specs.Best.{after_best}
 use Rattle.morris_probe.proofs.BestLaws.{AreBestOf, best_more, best_same, leads_on, leads_off, best_all}
 use Rattle.morris_probe.proofs.SomeBest.{HasValues, values_more, some_listed}
