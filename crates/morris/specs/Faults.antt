@@ -7,6 +7,7 @@ use Rattle.morris_board.specs.declared.faults.TextFault.{TextFault}
 use Rattle.morris_board.specs.declared.faults.TextFault.TheVariants as text
 use Rattle.morris_index.specs.declared.faults.PairFault.{PairFault}
 use Rattle.morris_index.specs.declared.faults.PairFault.TheVariants as pair
+use Rattle.morris_probe.specs.Reports.{WentOut}
 use Rattle.morris.specs.declared.fault.Fault.{Fault}
 use Rattle.morris.specs.declared.fault.Fault.TheVariants as fault
 
@@ -90,11 +91,6 @@ is_write _ = false
 abbrev pub CountsWrites : {T : Type 0} → ℕ → ℕ → Result T Fault → Type 0
 CountsWrites old new (Ok done) = new ≡ old
 CountsWrites old new (Err f) = new ≡ (if is_write f then old + 1 else old)
-
--- what went out of a text: all of it, or its first bytes up to the write that failed
-abbrev pub WentOut : {T : Type 0} → Option (List ℕ) → Option (List ℕ) → List ℕ → Result T ℕ → Type 0
-WentOut old new text (Ok done) = Appends old new text
-WentOut old new text (Err sent) = (sent < length text) × Appends old new (take sent text)
 
 -- the line of a fault was written, or its first bytes up to the write that failed
 abbrev pub ReportsFault : {E : Type 0} → (E → Option (List ℕ)) → (E → ℕ) → E → E → Fault → Type 0

@@ -1,5 +1,5 @@
 -- What `look` prints of a position.
-use Rattle.std.specs.Prelude.{◌≡◌, ℕ, List, [], ◌∷◌, ◌++◌, length, codes, Option, Some, None, Result, Ok, Err, bytes_eq, if◌then◌else◌}
+use Rattle.std.specs.Prelude.{◌≡◌, ℕ, List, ◌++◌, length, codes, Option, Some, None, Result, Ok, Err, bytes_eq, if◌then◌else◌}
 use Rattle.std.specs.List.{flat_map}
 use Rattle.std.specs.Fmt.{decimal}
 use Rattle.std.specs.Io.KnownBytes.{Keeps}
@@ -9,28 +9,16 @@ use Rattle.morris_board.specs.Positions.{Sides, text_of, read_of}
 use Rattle.morris_board.specs.declared.faults.TextFault.{TextFault}
 use Rattle.morris_moves.specs.Rules.{moves_of}
 use Rattle.morris_moves.specs.Values.{AnswersWithin}
-use Rattle.morris_moves.specs.MoveText.{move_text}
-use Rattle.morris_moves.specs.declared.step.Move.{Move}
 use Rattle.morris_moves.specs.declared.search.Within.{Within}
 use Rattle.morris_moves.specs.declared.search.Within.TheVariants.{Lost, Won, Unknown}
+use Rattle.morris_probe.specs.Lines.{line, move_line, number_line}
 use Rattle.morris.specs.declared.fault.Fault.{Fault}
 use Rattle.morris.specs.declared.fault.Fault.TheVariants as fault
 use Rattle.morris.specs.Faults.{Prints, text_fault}
 
--- a line ends with one line feed
-abbrev pub line : List ℕ → List ℕ
-line text = text ++ (10 ∷ [])
-
--- a line of a label and a number
-abbrev pub number_line : List ℕ → ℕ → List ℕ
-number_line label n = label ++ decimal n ++ (10 ∷ [])
-
 -- `own A other B`
 abbrev pub counts_line : Sides → List ℕ
 counts_line s = codes "own " ++ decimal (count_of s.own) ++ number_line (codes " other ") (count_of s.other)
-
-abbrev pub move_line : Move → List ℕ
-move_line m = line (move_text m)
 
 -- `lost in D`, `won in D`, or `unknown within N`
 abbrev pub value_line : ℕ → Within → List ℕ

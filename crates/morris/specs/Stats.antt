@@ -7,10 +7,10 @@ use Rattle.morris_board.specs.Boards.{Shape}
 use Rattle.morris_index.specs.Pairs.{Counts, below_of, pair_text, size_of}
 use Rattle.morris_table.specs.Known.{IsBeyondCodes}
 use Rattle.morris_table.specs.Tables.{IsTable, table, tallies_of}
+use Rattle.morris_probe.specs.Lines.{number_line}
 use Rattle.morris.specs.declared.fault.Fault.{Fault}
 use Rattle.morris.specs.declared.fault.Fault.TheVariants as fault
 use Rattle.morris.specs.Faults.{Prints}
-use Rattle.morris.specs.Look.{number_line}
 use Rattle.morris.specs.PairText.{read_pair_of}
 
 -- `a-b S positions`, where S is how many positions the pair has

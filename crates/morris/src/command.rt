@@ -1,7 +1,8 @@
 //! The command line: from its words to what goes out, and the exit status.
 ghost use Rattle.std.specs.Prelude.{◌≡◌, ◌≢◌, ◌-◌, ◌^◌, ◌<◌, ◌≤◌, [], IsTrue, false, map, if◌then◌else◌};
 ghost use Rattle.morris_board.specs.Streams.{CountsFailure};
-ghost use Rattle.morris.specs.Faults.{CountsWrites, Prints, Reports, ReportsFault, WentOut, fault_line};
+ghost use Rattle.morris_probe.specs.Reports.{WentOut};
+ghost use Rattle.morris.specs.Faults.{CountsWrites, Prints, Reports, ReportsFault, fault_line};
 ghost use Rattle.morris.specs.declared.fault.Fault.TheVariants as fault;
 ghost use Rattle.morris.specs.Words.{IsInRange, faults_of, named_by};
 ghost use Rattle.morris.specs.Verify.{input_of};

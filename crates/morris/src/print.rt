@@ -1,13 +1,11 @@
-//! What the commands print of positions, moves and values, piece by piece, through a buffer. Each
-//! function ends at the first write that fails.
-ghost use Rattle.std.specs.Prelude.{◌≡◌, ◌+◌, ◌-◌, ◌^◌, ◌<◌, ◌≤◌, ◌*◌, [], ◌∷◌, ◌++◌, length, OnOk, codes};
+//! What `look` prints, piece by piece, through a buffer. Each function ends at the first write that
+//! fails.
+ghost use Rattle.std.specs.Prelude.{◌≡◌, ◌+◌, ◌-◌, ◌^◌, ◌<◌, ◌≤◌, [], length, OnOk};
 ghost use Rattle.std.specs.List.{flat_map};
-ghost use Rattle.std.specs.Fmt.{decimal};
 ghost use Rattle.morris_board.specs.Buffered.{Passes, held_of, sink_of, taken_of};
-ghost use Rattle.morris_board.specs.Positions.{text_of};
 ghost use Rattle.morris_moves.specs.Rules.{moves_of};
-ghost use Rattle.morris_moves.specs.MoveText.{move_text, taken_text};
-ghost use Rattle.morris.specs.Look.{line, number_line, counts_line, move_line, value_line, head_text, list_text, look_text};
+ghost use Rattle.morris_probe.specs.Lines.{move_line};
+ghost use Rattle.morris.specs.Look.{counts_line, value_line, head_text, list_text, look_text};
 
 use morris_board::board::Geometry;
 use morris_board::position::Position;
@@ -15,55 +13,7 @@ use morris_board::streams::buffered::Buffered;
 use morris_board::streams::{Failed, Sink};
 use morris_moves::rules::moves;
 use morris_moves::search::Within;
-use morris_moves::step::Move;
-
-/// The text of a position.
-#[tactic(auto, using(morris_board::proofs::BufferedLaws::passed_laws))]
-fn put_position<B: Geometry, S: Sink>(
-    out: &mut Buffered<'_, S>,
-    position: &Position<B>,
-) -> Result<(), Failed>
-    requires failures { S.failures (sink_of out.old) < 2 ^ 64 - 1 }
-    requires room { taken_of out.old < 2 ^ 63 }
-    ensures passed { Passes S.contents S.failures out.old out.new (line (text_of B.shape position.now)) result }
-    ensures few { OnOk result (taken_of out.new ≤ taken_of out.old + 64) }
-{
-    let mut line = [0; 24];
-    let text = &mut line[..B::POINTS as usize];
-    position.write_to(text);
-    out.put(text)?;
-    out.put_byte(b'\n')
-}
-
-/// A label and a number.
-#[tactic(auto, using(morris_board::proofs::BufferedLaws::passed_laws))]
-pub fn put_count<S: Sink>(out: &mut Buffered<'_, S>, label: &str, number: u64) -> Result<(), Failed>
-    requires failures { S.failures (sink_of out.old) < 2 ^ 64 - 1 }
-    requires label { length label.now ≤ 32 }
-    requires room { taken_of out.old < 2 ^ 63 + 2 ^ 16 }
-    ensures passed { Passes S.contents S.failures out.old out.new (label.now ++ decimal number) result }
-    ensures few { OnOk result (taken_of out.new ≤ taken_of out.old + 52) }
-{
-    out.put(label.as_bytes())?;
-    out.put_number(number)
-}
-
-/// A line of a label and a number.
-#[tactic(auto, using(morris_board::proofs::BufferedLaws::passed_laws))]
-pub fn put_number_line<S: Sink>(
-    out: &mut Buffered<'_, S>,
-    label: &str,
-    number: u64,
-) -> Result<(), Failed>
-    requires failures { S.failures (sink_of out.old) < 2 ^ 64 - 1 }
-    requires label { length label.now ≤ 32 }
-    requires room { taken_of out.old < 2 ^ 63 + 2 ^ 10 }
-    ensures passed { Passes S.contents S.failures out.old out.new (number_line label.now number) result }
-    ensures few { OnOk result (taken_of out.new ≤ taken_of out.old + 53) }
-{
-    put_count(out, label, number)?;
-    out.put_byte(b'\n')
-}
+use morris_probe::print::{put_count, put_move_line, put_number_line, put_position};
 
 /// How many stones each side has.
 #[tactic(auto, using(morris_board::proofs::BufferedLaws::passed_laws))]
@@ -79,56 +29,6 @@ fn put_counts<B: Geometry, S: Sink>(
     let (own, other) = position.counts();
     put_count(out, "own ", u64::from(own))?;
     put_number_line(out, " other ", u64::from(other))
-}
-
-/// A sign and a number.
-#[tactic(auto, using(morris_board::proofs::BufferedLaws::passed_laws))]
-pub fn put_signed<S: Sink>(out: &mut Buffered<'_, S>, sign: u8, number: u8) -> Result<(), Failed>
-    requires failures { S.failures (sink_of out.old) < 2 ^ 64 - 1 }
-    requires room { taken_of out.old < 2 ^ 63 + 2 ^ 16 }
-    ensures passed { Passes S.contents S.failures out.old out.new (sign ∷ decimal number) result }
-    ensures few { OnOk result (taken_of out.new ≤ taken_of out.old + 21) }
-{
-    out.put_byte(sign)?;
-    out.put_number(u64::from(number))
-}
-
-/// What a move takes, if anything.
-fn put_taken<S: Sink>(out: &mut Buffered<'_, S>, taken: Option<u8>) -> Result<(), Failed>
-    requires failures { S.failures (sink_of out.old) < 2 ^ 64 - 1 }
-    requires room { taken_of out.old < 2 ^ 63 + 2 ^ 16 }
-    ensures passed { Passes S.contents S.failures out.old out.new (taken_text taken) result }
-    ensures few { OnOk result (taken_of out.new ≤ taken_of out.old + 21) }
-{
-    match taken {
-        None => Ok(()),
-        Some(point) => put_signed(out, b'x', point),
-    }
-}
-
-/// A move.
-#[tactic(auto, using(morris_board::proofs::BufferedLaws::passed_laws), unfolding(morris_moves::specs::MoveText::move_text))]
-fn put_move<S: Sink>(out: &mut Buffered<'_, S>, m: Move) -> Result<(), Failed>
-    requires failures { S.failures (sink_of out.old) < 2 ^ 64 - 1 }
-    requires room { taken_of out.old < 2 ^ 63 + 2 ^ 10 }
-    ensures passed { Passes S.contents S.failures out.old out.new (move_text m) result }
-    ensures few { OnOk result (taken_of out.new ≤ taken_of out.old + 62) }
-{
-    out.put_number(u64::from(m.from))?;
-    put_signed(out, b'-', m.to)?;
-    put_taken(out, m.taken)
-}
-
-/// A move's line.
-#[tactic(auto, using(morris_board::proofs::BufferedLaws::passed_laws))]
-fn put_move_line<S: Sink>(out: &mut Buffered<'_, S>, m: Move) -> Result<(), Failed>
-    requires failures { S.failures (sink_of out.old) < 2 ^ 64 - 1 }
-    requires room { taken_of out.old < 2 ^ 63 + 2 ^ 10 }
-    ensures passed { Passes S.contents S.failures out.old out.new (move_line m) result }
-    ensures few { OnOk result (taken_of out.new ≤ taken_of out.old + 63) }
-{
-    put_move(out, m)?;
-    out.put_byte(b'\n')
 }
 
 /// The lines of the legal moves.

@@ -4,9 +4,9 @@ ghost use Rattle.morris_board.specs.Buffered.{Passes, held_of, sink_of, taken_of
 ghost use Rattle.morris.specs.Faults.{fault_line, joined};
 
 use crate::fault::Fault;
-use crate::print::put_count;
 use morris_board::streams::buffered::Buffered;
 use morris_board::streams::{Failed, Sink};
+use morris_probe::print::put_count;
 
 /// The line of a fault, to the last byte: nothing is held back.
 pub fn put_fault<S: Sink>(out: &mut Buffered<'_, S>, fault: Fault) -> Result<(), Failed>

@@ -6,11 +6,11 @@ ghost use Rattle.morris_board.specs.Buffered.{Passes, held_of, sink_of, taken_of
 ghost use Rattle.morris_index.specs.Pairs.{pair_text};
 ghost use Rattle.morris.specs.Stats.{depth_line, depth_lines, draw_line, pair_line, stats_text};
 
-use crate::print::{put_count, put_number_line, put_signed};
 use morris_board::board::Geometry;
 use morris_board::streams::buffered::Buffered;
 use morris_board::streams::{Failed, Sink};
 use morris_index::pair::Pair;
+use morris_probe::print::{put_count, put_number_line, put_signed};
 
 /// The numbers of a pair.
 #[tactic(auto, using(morris_board::proofs::BufferedLaws::passed_laws))]

@@ -3,12 +3,12 @@ ghost use Rattle.std.specs.Prelude.{◌≡◌, ◌+◌, ◌-◌, ◌^◌, ◌<�
 ghost use Rattle.morris_board.specs.Buffered.{Passes, held_of, sink_of, taken_of};
 ghost use Rattle.morris.specs.Verify.{verified_text};
 
-use crate::print::put_count;
 use crate::print_stats::put_pair;
 use morris_board::board::Geometry;
 use morris_board::streams::buffered::Buffered;
 use morris_board::streams::{Failed, Sink};
 use morris_index::pair::Pair;
+use morris_probe::print::put_count;
 
 /// The pair and the number of entries of a table that was verified, to the last byte: nothing is
 /// held back.

@@ -1,35 +1,16 @@
 -- What a report prints of a position.
-use Rattle.std.specs.Prelude.{◌≡◌, ℕ, ◌<◌, List, [], ◌∷◌, ◌++◌, length, take, codes, Option, Result, Ok, Err}
+use Rattle.std.specs.Prelude.{◌≡◌, ℕ, ◌<◌, List, ◌++◌, length, take, Option, Result, Ok, Err}
 use Rattle.std.specs.List.{flat_map}
-use Rattle.std.specs.Fmt.{decimal}
 use Rattle.std.specs.Io.KnownBytes.{Appends, Keeps}
 use Rattle.morris_board.specs.Boards.{Shape}
 use Rattle.morris_board.specs.Positions.{Sides, text_of}
-use Rattle.morris_moves.specs.MoveText.{move_text}
 use Rattle.morris_moves.specs.declared.step.Move.{Move}
 use Rattle.morris_table.specs.declared.value.Value.{Value}
-use Rattle.morris_table.specs.declared.value.Value.TheVariants.{Draw, Won, Lost}
 use Rattle.morris_table.specs.Codes.{IsValue}
 use Rattle.morris_probe.specs.Best.{AreBest}
+use Rattle.morris_probe.specs.Lines.{line, move_line, value_line}
 use Rattle.morris_probe.specs.declared.fault.ProbeFault.{ProbeFault}
 use Rattle.morris_probe.specs.declared.fault.ProbeFault.TheVariants.{Needs, Memory, Write}
-
--- a line ends with one line feed
-abbrev pub line : List ℕ → List ℕ
-line text = text ++ (10 ∷ [])
-
--- a line of a label and a number
-abbrev pub number_line : List ℕ → ℕ → List ℕ
-number_line label n = label ++ decimal n ++ (10 ∷ [])
-
-abbrev pub move_line : Move → List ℕ
-move_line m = line (move_text m)
-
--- `draw`, `won in D` or `lost in D`
-abbrev pub value_line : Value → List ℕ
-value_line Draw = line (codes "draw")
-value_line (Won depth) = number_line (codes "won in ") depth
-value_line (Lost depth) = number_line (codes "lost in ") depth
 
 -- the position's text, its value, and each of the moves, one a line
 unfoldable pub report_text : Shape → Sides → Value → List Move → List ℕ
@@ -42,6 +23,11 @@ pub record IsReport (board : Shape) (s : Sides) (text : List ℕ) : Type 0 where
   pub valued : IsValue board s value
   pub best : AreBest board s moves
   pub written : text ≡ report_text board s value moves
+
+-- what went out of a text: all of it, or its first bytes up to the write that failed
+abbrev pub WentOut : {T : Type 0} → Option (List ℕ) → Option (List ℕ) → List ℕ → Result T ℕ → Type 0
+WentOut old new text (Ok done) = Appends old new text
+WentOut old new text (Err sent) = (sent < length text) × Appends old new (take sent text)
 
 -- What went out. Done: exactly the report. A table is missing, or memory was refused: nothing. A
 -- write failed: the first `sent` bytes of the report, not all of it.

@@ -3,7 +3,7 @@ use Rattle.std.specs.Fmt.{decimal}
 use Rattle.std.proofs.lemmas.Result.{err_from_is_err_and}
 use Rattle.morris_board.specs.Sets.{count_of}
 use Rattle.morris_board.proofs.BufferedLaws.{PartPassed-longer, goes_on}
-use Rattle.morris.specs.Look.{number_line}
+use Rattle.morris_probe.specs.Lines.{number_line}
 use Rattle.morris.proofs.print.put_counts.Goals as goal
 
 pub returns-in_err-put_count-clause-passed : goal.returns-in_err-put_count-clause-passed

@@ -6,7 +6,7 @@ use Rattle.morris_board.specs.Buffered.{AllPassed}
 use Rattle.morris_board.proofs.BufferedLaws.{AllPassed-append, PartPassed-within}
 use Rattle.morris_moves.specs.declared.step.Move.{Move}
 use Rattle.morris_moves.specs.Rules.{moves_of}
-use Rattle.morris.specs.Look.{move_line}
+use Rattle.morris_probe.specs.Lines.{move_line}
 use Rattle.morris.proofs.print.put_moves.Goals as goal
 
 -- the lines of all moves are those of the moves so far, of this one, and of the others

@@ -2,7 +2,7 @@ use Rattle.std.proofs.Common.{◌≡◌, ◌+◌, ◌*◌, ◌≤◌, ◌++◌, 
 use Rattle.std.specs.List.{flat_map}
 use Rattle.morris_board.specs.Buffered.{AllPassed, taken_of}
 use Rattle.morris_moves.specs.Rules.{moves_of}
-use Rattle.morris.specs.Look.{move_line}
+use Rattle.morris_probe.specs.Lines.{move_line}
 use Rattle.morris.proofs.print.put_moves.Given as goal
 
 -- the lines of the moves so far have gone in, and the iterator has the others

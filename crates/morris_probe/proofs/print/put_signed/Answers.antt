@@ -2,7 +2,7 @@ use Rattle.std.proofs.Common.{[], ◌∷◌}
 use Rattle.std.specs.Fmt.{decimal}
 use Rattle.std.proofs.lemmas.Result.{err_from_is_err_and}
 use Rattle.morris_board.proofs.BufferedLaws.{PartPassed-longer, goes_on}
-use Rattle.morris.proofs.print.put_signed.Goals as goal
+use Rattle.morris_probe.proofs.print.put_signed.Goals as goal
 
 pub returns-in_err-put_byte-clause-passed : goal.returns-in_err-put_byte-clause-passed
 returns-in_err-put_byte-clause-passed g c =
