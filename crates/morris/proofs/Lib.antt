@@ -4,3 +4,4 @@ pub mod ShelfLaws
 pub mod StatsLaws
 pub mod TallyLaws
 pub mod VerifyLaws
+mod BundleLaws

@@ -10,7 +10,7 @@ use Rattle.clap.specs.Takes.{is_given}
 use Rattle.clap.specs.Walk.{Rule, Text, answers_to, finished, has_row, nothing_held, rows_after, settled, stop_after, walk, with_default}
 use Rattle.clap.specs.Simple.{App, Shape, argument_words, built, built_leaf, entered, filled, help_rule, inherited, label_of, marked_built, names_of, new_shape, rows_at, with_index, with_leaf_noted, with_subcommand}
 use Rattle.clap.specs.declared.builder.value_parser.ValueParser.TheVariants as parser
-use Rattle.morris.specs.Words.{HasLookValues, HasStatsValues, HasVerifyValues, NamesRequest, depth_rule, faults_of, look_app, morris_app, named_by, program, required_rule, stats_app, verify_app}
+use Rattle.morris.specs.Words.{HasLookValues, HasProbeValues, HasStatsValues, HasVerifyValues, NamesRequest, depth_rule, faults_of, look_app, morris_app, named_by, probe_app, program, required_rule, stats_app, verify_app}
 use Rattle.morris.proofs.Parsed.{Each, Each-find, HasValue, IsNotHelp, IsPlainRule, arguments_there, default_fills, default_keeps, given_value, level_passes, row_value, subcommand_there}
 
 -- ---- `look`, as it is built
@@ -36,8 +36,11 @@ stats_top = record (new_shape (codes "stats")) { rules = required_rule (codes "B
 abbrev verify_top : Shape
 verify_top = record (new_shape (codes "verify")) { rules = required_rule (codes "BOARD") ∷ [] }
 
+abbrev probe_top : Shape
+probe_top = record (new_shape (codes "probe")) { rules = required_rule (codes "BOARD") ∷ required_rule (codes "TEXT") ∷ [] }
+
 abbrev whole : App
-whole = with_subcommand (with_subcommand (with_subcommand program look_top) stats_top) verify_top
+whole = with_subcommand (with_subcommand (with_subcommand (with_subcommand program look_top) stats_top) verify_top) probe_top
 
 abbrev look : Shape
 look = built_leaf (inherited (with_leaf_noted (marked_built whole.top)) look_top)
@@ -130,6 +133,30 @@ verify_fits words none =
     let first : HasValue rows board = given_value verify.rules rows board level.rows (one_given _ missing) refl in
     record { board = ap is_some first.is_first }
 
+-- ---- `probe`, as it is built
+
+abbrev probe : Shape
+probe = built_leaf (inherited (with_leaf_noted (marked_built whole.top)) probe_top)
+
+probe_plain : Each (IsPlainRule probe.rules) probe.rules
+probe_plain = (
+  record { known = refl; kind = inl (refl, refl) },
+  (
+    record { known = refl; kind = inl (refl, refl) },
+    (record { known = refl; kind = inr refl }, tt),
+  ),
+)
+
+probe_fits : (words : List Text) → level_fault probe [] nothing_held words false [] ≡ [] → HasProbeValues (rows_after probe.rules [] words)
+probe_fits words none =
+    let level = level_passes probe [] words false [] probe_plain none in
+    let rows = rows_after probe.rules [] words in
+    let missing : (not (is_given (codes "BOARD") rows) || (not (is_given (codes "TEXT") rows) || false)) ≡ false = arguments_there probe rows false level.checked in
+    let given = both_given _ _ missing in
+    let first : HasValue rows board = given_value probe.rules rows board level.rows given.0 refl in
+    let second : HasValue rows position = given_value probe.rules rows position level.rows given.1 refl in
+    record { board = ap is_some first.is_first; text = ap is_some second.is_first }
+
 -- ---- the program
 
 only_left : (b : Bool) → (b || false) ≡ true → b ≡ true
@@ -146,7 +173,10 @@ all_serve = (
   inl (λ words none. inl (refl, look_fits words none)),
   (
     inl (λ words none. inr (inl (refl, stats_fits words none))),
-    (inl (λ words none. inr (inr (refl, verify_fits words none))), (inr (refl, refl), tt)),
+    (
+      inl (λ words none. inr (inr (inl (refl, verify_fits words none)))),
+      (inl (λ words none. inr (inr (inr (refl, probe_fits words none)))), (inr (refl, refl), tt)),
+    ),
   ),
 )
 
@@ -197,5 +227,5 @@ program_named a words plain serves wants offers none =
     entered_named a stop serves (level.stopped offers) level.below_none (there has wanted)
 
 pub named : (words : List Text) → faults_of words ≡ [] → NamesRequest (named_by words)
-unfolding morris_app look_app stats_app verify_app
+unfolding morris_app look_app stats_app verify_app probe_app
 named words none = program_named (built whole) (argument_words whole words) program_plain all_serve refl refl none

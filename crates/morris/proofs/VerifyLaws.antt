@@ -32,6 +32,11 @@ unverified board t fault.Read h = absurd h
 unverified board t (fault.Write sent) h = absurd h
 unverified board t fault.Board h = absurd h
 unverified board t fault.PairText h = absurd h
+unverified board t fault.Blocks h = absurd h
+unverified board t (fault.Missing number) h = absurd h
+unverified board t fault.Workers h = absurd h
+unverified board t (fault.Needs greater lesser) h = absurd h
+unverified board t fault.TooMany h = absurd h
 
 -- a table that isn't believed is refused, with nothing printed
 pub refused : (board : Shape) (t : Table) (old : Option (List ℕ)) (f : Fault) → IsUnverified board t f → AnswersTable {T = Unit {0}} board t old old (Err f)
@@ -54,6 +59,11 @@ refused board t old fault.Read h = absurd h
 refused board t old (fault.Write sent) h = absurd h
 refused board t old fault.Board h = absurd h
 refused board t old fault.PairText h = absurd h
+refused board t old fault.Blocks h = absurd h
+refused board t old (fault.Missing number) h = absurd h
+refused board t old fault.Workers h = absurd h
+refused board t old (fault.Needs greater lesser) h = absurd h
+refused board t old fault.TooMany h = absurd h
 
 -- the text of one that is exact is printed
 pub shown : (board : Shape) (t : Table) (old new : Option (List ℕ)) (r : Result (Unit {0}) Fault) → IsTable board t
@@ -78,3 +88,8 @@ shown board t old new (Err fault.Read) exact h = absurd h
 shown board t old new (Err (fault.Write sent)) exact h = (exact, h)
 shown board t old new (Err fault.Board) exact h = absurd h
 shown board t old new (Err fault.PairText) exact h = absurd h
+shown board t old new (Err fault.Blocks) exact h = absurd h
+shown board t old new (Err (fault.Missing number)) exact h = absurd h
+shown board t old new (Err fault.Workers) exact h = absurd h
+shown board t old new (Err (fault.Needs greater lesser)) exact h = absurd h
+shown board t old new (Err fault.TooMany) exact h = absurd h

@@ -9,9 +9,10 @@ use Rattle.morris.specs.declared.fault.Fault.TheVariants as fault
 use Rattle.morris.specs.Faults.{Prints}
 use Rattle.morris.specs.Words.{AsksFor, faults_of, named_by}
 use Rattle.morris.specs.declared.words.Request.{Request}
-use Rattle.morris.specs.declared.words.Request.TheVariants.{Look, Stats, Verify}
+use Rattle.morris.specs.declared.words.Request.TheVariants.{Look, Stats, Verify, Probe}
 use Rattle.morris.specs.Look.{Looks, board_of}
 use Rattle.morris.specs.Stats.{AnswersStats}
+use Rattle.morris.specs.Probe.{AnswersProbe}
 use Rattle.morris.specs.Verify.{AnswersVerify, Input}
 
 -- the words have a mistake, and not a request for help alone
@@ -23,12 +24,14 @@ abbrev pub Answers : {T : Type 0} → Input → Input → Option (List ℕ) → 
 Answers before after old new (Look board text depth) result = Looks (board_of board.now) text.now depth old new result
 Answers before after old new (Stats board pair) result = AnswersStats (board_of board.now) pair.now old new result
 Answers before after old new (Verify board) result = AnswersVerify (board_of board.now) before after old new result
+Answers before after old new (Probe board text) result = AnswersProbe (board_of board.now) text.now before after old new result
 
 -- whether a request is for a command that reads its input
 abbrev pub takes_input : Request → Bool
 takes_input (Look board text depth) = false
 takes_input (Stats board pair) = false
 takes_input (Verify board) = true
+takes_input (Probe board text) = true
 
 -- the command that was named reads its input
 abbrev pub AsksToRead : Option (Text × List Row) → Type 0

@@ -1,5 +1,5 @@
 -- Which fault answers a refusal, and what an answer says of what was printed.
-use Rattle.std.specs.Prelude.{◌≡◌, ℕ, ◌+◌, ◌<◌, Bool, true, false, List, [], ◌∷◌, ◌++◌, length, take, codes, Option, Some, None, Result, Ok, Err, if◌then◌else◌}
+use Rattle.std.specs.Prelude.{◌≡◌, ℕ, ◌+◌, ◌<◌, Bool, true, false, List, [], ◌∷◌, ◌++◌, length, take, codes, Option, Result, Ok, Err, if◌then◌else◌}
 use Rattle.std.specs.Fmt.{decimal}
 use Rattle.std.specs.Io.KnownBytes.{Appends}
 use Rattle.morris_board.specs.Streams.{CountsFailure}
@@ -7,9 +7,16 @@ use Rattle.morris_board.specs.declared.faults.TextFault.{TextFault}
 use Rattle.morris_board.specs.declared.faults.TextFault.TheVariants as text
 use Rattle.morris_index.specs.declared.faults.PairFault.{PairFault}
 use Rattle.morris_index.specs.declared.faults.PairFault.TheVariants as pair
+use Rattle.morris_index.specs.Pairs.{Counts}
+use Rattle.morris_table.specs.declared.verify.VerifyFault.{VerifyFault}
+use Rattle.morris_table.specs.declared.verify.VerifyFault.TheVariants as verify
 use Rattle.morris_probe.specs.Reports.{WentOut}
+use Rattle.morris_probe.specs.declared.fault.ProbeFault.{ProbeFault}
+use Rattle.morris_probe.specs.declared.fault.ProbeFault.TheVariants as probe
 use Rattle.morris.specs.declared.fault.Fault.{Fault}
 use Rattle.morris.specs.declared.fault.Fault.TheVariants as fault
+use Rattle.morris.specs.declared.fault.Wording.{Wording}
+use Rattle.morris.specs.declared.fault.Wording.TheVariants as wording
 
 -- the fault that a refused text is answered with
 abbrev pub text_fault : TextFault → Fault
@@ -22,6 +29,21 @@ abbrev pub pair_fault : PairFault → Fault
 pair_fault pair.Counts = fault.Counts
 pair_fault pair.Crowded = fault.Crowded
 
+-- the fault that a missing table is answered with
+abbrev pub needs_fault : Counts → Fault
+needs_fault c = fault.Needs c.greater c.lesser
+
+-- the fault that a table which isn't believed is answered with
+abbrev pub verify_fault : {B : Type 0} → VerifyFault B → Fault
+verify_fault (verify.Needs needs) = needs_fault needs.0
+verify_fault (verify.Differs index) = fault.Differs index
+
+-- the fault that a refused probe is answered with
+abbrev pub probe_fault : {B : Type 0} → ProbeFault B → Fault
+probe_fault (probe.Needs needs) = needs_fault needs.0
+probe_fault probe.Memory = fault.Memory
+probe_fault (probe.Write sent) = fault.Write sent
+
 -- the number of a fault
 abbrev pub fault_number : Fault → ℕ
 fault_number fault.Length = 1
@@ -29,8 +51,12 @@ fault_number (fault.Character place) = 2
 fault_number fault.Stones = 3
 fault_number fault.Counts = 4
 fault_number fault.Crowded = 5
+fault_number fault.Blocks = 6
+fault_number (fault.Missing number) = 8
 fault_number fault.TooDeep = 10
+fault_number fault.Workers = 11
 fault_number fault.Memory = 12
+fault_number (fault.Needs greater lesser) = 13
 fault_number (fault.Differs index) = 14
 fault_number fault.Short = 15
 fault_number fault.Magic = 16
@@ -43,11 +69,19 @@ fault_number fault.Read = 22
 fault_number (fault.Write sent) = 23
 fault_number fault.Board = 25
 fault_number fault.PairText = 26
+fault_number fault.TooMany = 27
 
--- what comes before a number, the number where there is one, and what comes after it
-abbrev pub joined : List ℕ → Option ℕ → List ℕ → List ℕ
-joined before None after = before
-joined before (Some number) after = before ++ decimal number ++ after
+-- a text; a number between two texts; or the numbers of stones of a pair after a text
+abbrev pub worded : Wording → List ℕ
+worded (wording.Plain text) = text.now
+worded (wording.Number before number after) = before.now ++ decimal number ++ after.now
+worded (wording.Pair before greater lesser) = before.now ++ decimal greater ++ (45 ∷ decimal lesser)
+
+-- how many bytes stand around the numbers
+abbrev pub length_around : Wording → ℕ
+length_around (wording.Plain text) = length text.now
+length_around (wording.Number before number after) = length before.now + length after.now
+length_around (wording.Pair before greater lesser) = length before.now
 
 -- the text of a fault
 abbrev pub fault_text : Fault → List ℕ
@@ -56,8 +90,12 @@ fault_text (fault.Character place) = codes "bad character at " ++ decimal place
 fault_text fault.Stones = codes "bad number of stones"
 fault_text fault.Counts = codes "bad counts"
 fault_text fault.Crowded = codes "more stones than points"
+fault_text fault.Blocks = codes "blocks must be 1 to 1024"
+fault_text (fault.Missing number) = codes "block " ++ decimal number ++ codes " is not complete"
 fault_text fault.TooDeep = codes "depth is too great"
+fault_text fault.Workers = codes "workers must be 1 to 64"
 fault_text fault.Memory = codes "out of memory"
+fault_text (fault.Needs greater lesser) = codes "needs " ++ decimal greater ++ (45 ∷ decimal lesser)
 fault_text (fault.Differs index) = codes "entry " ++ decimal index ++ codes " differs"
 fault_text fault.Short = codes "file is too short"
 fault_text fault.Magic = codes "not a table file"
@@ -70,6 +108,7 @@ fault_text fault.Read = codes "reading failed"
 fault_text (fault.Write sent) = codes "writing failed after " ++ decimal sent ++ codes " bytes"
 fault_text fault.Board = codes "no such board"
 fault_text fault.PairText = codes "not a pair"
+fault_text fault.TooMany = codes "more than 64 tables"
 
 -- the line of a fault: `fault N: TEXT`
 unfoldable pub fault_line : Fault → List ℕ

@@ -6,3 +6,4 @@ pub mod Stats
 pub mod Verify
 pub mod Words
 pub mod Command
+pub mod Probe

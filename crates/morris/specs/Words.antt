@@ -11,7 +11,7 @@ use Rattle.clap.specs.declared.builder.value_parser.ValueParser.TheVariants as p
 use Rattle.clap.specs.declared.error.kind.ErrorKind.{ErrorKind}
 use Rattle.clap.specs.declared.error.kind.ErrorKind.TheVariants as kind
 use Rattle.morris.specs.declared.words.Request.{Request}
-use Rattle.morris.specs.declared.words.Request.TheVariants.{Look, Stats, Verify}
+use Rattle.morris.specs.declared.words.Request.TheVariants.{Look, Stats, Verify, Probe}
 use Rattle.morris.specs.declared.words.Refusal.{Refusal}
 use Rattle.morris.specs.declared.words.Refusal.TheVariants.{Memory, Help, Wrong}
 
@@ -50,9 +50,15 @@ stats_app = with_rule (with_rule (new_app (codes "stats")) (required_rule (codes
 unfoldable pub verify_app : App
 verify_app = with_rule (new_app (codes "verify")) (required_rule (codes "BOARD"))
 
+-- `probe BOARD TEXT`
+unfoldable pub probe_app : App
+probe_app = with_rule (with_rule (new_app (codes "probe")) (required_rule (codes "BOARD"))) (required_rule (codes "TEXT"))
+
 -- the program `morris` with its commands
 unfoldable pub morris_app : App
-morris_app = with_subcommand (with_subcommand (with_subcommand program look_app.top) stats_app.top) verify_app.top
+morris_app =
+    with_subcommand (with_subcommand (with_subcommand (with_subcommand program look_app.top) stats_app.top) verify_app.top)
+    probe_app.top
 
 -- an argument of the command, or of one of its own commands, is global
 abbrev pub has_globals : Command → Bool
@@ -83,12 +89,15 @@ AsksFor (Some (name, rows)) (Look board text depth) =
 AsksFor (Some (name, rows)) (Stats board pair) =
     (name ≡ codes "stats") × (first_of (codes "BOARD") rows ≡ Some board.now) × (first_of (codes "PAIR") rows ≡ Some pair.now)
 AsksFor (Some (name, rows)) (Verify board) = (name ≡ codes "verify") × (first_of (codes "BOARD") rows ≡ Some board.now)
+AsksFor (Some (name, rows)) (Probe board text) =
+    (name ≡ codes "probe") × (first_of (codes "BOARD") rows ≡ Some board.now) × (first_of (codes "TEXT") rows ≡ Some text.now)
 
 -- a depth to look ahead is at most 6 plies
 abbrev pub IsInRange : Request → Type 0
 IsInRange (Look board text depth) = depth ≤ 6
 IsInRange (Stats board pair) = ⊤
 IsInRange (Verify board) = ⊤
+IsInRange (Probe board text) = ⊤
 
 -- the values of which `look` makes its request: board and text are there, and so is a depth from 0
 -- to 6
@@ -108,11 +117,17 @@ pub record HasStatsValues (rows : List Row) : Type 0 where
 pub record HasVerifyValues (rows : List Row) : Type 0 where
   pub board : is_some (first_of (codes "BOARD") rows) ≡ true
 
+-- the values of which `probe` makes its request: board and text are there
+pub record HasProbeValues (rows : List Row) : Type 0 where
+  pub board : is_some (first_of (codes "BOARD") rows) ≡ true
+  pub text : is_some (first_of (codes "TEXT") rows) ≡ true
+
 -- a name and values: of a command of the program, and those of which it makes its request
 abbrev pub NamesCommand : Text × List Row → Type 0
 NamesCommand named =
     ((named.0 ≡ codes "look") × HasLookValues named.1)
-    ⊎ (((named.0 ≡ codes "stats") × HasStatsValues named.1) ⊎ ((named.0 ≡ codes "verify") × HasVerifyValues named.1))
+    ⊎ (((named.0 ≡ codes "stats") × HasStatsValues named.1)
+    ⊎ (((named.0 ≡ codes "verify") × HasVerifyValues named.1) ⊎ ((named.0 ≡ codes "probe") × HasProbeValues named.1)))
 
 -- such a command was named
 abbrev pub NamesRequest : Option (Text × List Row) → Type 0

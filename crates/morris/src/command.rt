@@ -11,6 +11,7 @@ ghost use Rattle.morris.specs.Command.{Answers, AsksToRead, Ends, HasMistake, st
 use crate::fault::Fault;
 use crate::look::look;
 use crate::print_fault::put_fault;
+use crate::probe::probe_in;
 use crate::stats::stats;
 use crate::verify::verify_in;
 use crate::words::{Refusal, Request, read_words};
@@ -27,8 +28,7 @@ use std::convert::AsStr;
 /// `output` has got nothing, or a part of the text where a write failed; the fault went to `errors`
 /// as one line, `fault N: ` and its text. 2: the words name no command, or not the arguments that
 /// it takes; what is wrong with them went to `errors`, and nothing to `output`. A fault while
-/// `errors` is written is ignored. Only
-/// `verify` reads `input`.
+/// `errors` is written is ignored. Only `verify` and `probe` read `input`.
 pub fn command<R, W: AsStr, I: Source, O: Sink, E: Sink>(
     _rt: &R,
     alloc: Global,
@@ -96,6 +96,7 @@ fn run<I: Source, O: Sink>(
         Request::Look { board, text, depth } => look(board, text, depth, output),
         Request::Stats { board, pair } => stats(alloc, board, pair, output),
         Request::Verify { board } => verify_in(alloc, board, input, output),
+        Request::Probe { board, text } => probe_in(alloc, board, text, input, output),
     }
 }
 

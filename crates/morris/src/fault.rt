@@ -1,10 +1,14 @@
 //! What a command can be refused for.
-ghost use Rattle.std.specs.Prelude.{◌≡◌, ◌+◌, ◌≤◌, length};
-ghost use Rattle.morris.specs.Faults.{text_fault, pair_fault, fault_number, fault_text, joined};
+ghost use Rattle.std.specs.Prelude.{◌≡◌, ◌≤◌};
+ghost use Rattle.morris.specs.Faults.{fault_number, fault_text, length_around, needs_fault, pair_fault, probe_fault, text_fault, verify_fault, worded};
 
+use morris_board::board::Geometry;
 use morris_board::faults::TextFault;
 use morris_index::faults::PairFault;
+use morris_probe::fault::ProbeFault;
 use morris_table::file_faults::ReadFault;
+use morris_table::shelf::Needs;
+use morris_table::verify::VerifyFault;
 use std::alloc::AllocError;
 use std::fmt;
 
@@ -23,11 +27,19 @@ pub enum Fault {
     Counts,
     /// The board has fewer points than a pair has stones.
     Crowded,
+    /// The number of blocks isn't 1 to 1,024.
+    Blocks,
+    /// A build ended while the block of this number was incomplete.
+    Missing(u64),
     /// A position of the pair, or of a pair that it rests on, is won or lost in more plies than a
     /// table can hold.
     TooDeep,
+    /// The number of workers isn't 1 to 64.
+    Workers,
     /// Memory was refused.
     Memory,
+    /// The table of the pair of these numbers of stones, the greater one first, is needed and isn't there.
+    Needs(u8, u8),
     /// The entry with this index is the first that isn't what the rules give from the entries of its results.
     Differs(u64),
     /// The input ended within a file.
@@ -52,6 +64,19 @@ pub enum Fault {
     Board,
     /// A text isn't that of a pair: a digit, a hyphen and a digit.
     PairText,
+    /// The input has more than 64 table files.
+    TooMany,
+}
+
+/// How the text of a fault is made up.
+#[derive(Clone, Copy, Debug, PartialEq, Eq)]
+pub enum Wording {
+    /// This text.
+    Plain(&'static str),
+    /// A number between two texts.
+    Number(&'static str, u64, &'static str),
+    /// The two numbers of stones of a pair after a text.
+    Pair(&'static str, u8, u8),
 }
 
 impl Fault {
@@ -65,8 +90,12 @@ impl Fault {
             Fault::Stones => 3,
             Fault::Counts => 4,
             Fault::Crowded => 5,
+            Fault::Blocks => 6,
+            Fault::Missing(_) => 8,
             Fault::TooDeep => 10,
+            Fault::Workers => 11,
             Fault::Memory => 12,
+            Fault::Needs(_, _) => 13,
             Fault::Differs(_) => 14,
             Fault::Short => 15,
             Fault::Magic => 16,
@@ -79,35 +108,40 @@ impl Fault {
             Fault::Write(_) => 23,
             Fault::Board => 25,
             Fault::PairText => 26,
+            Fault::TooMany => 27,
         }
     }
 
-    /// The text of the fault in its parts: what comes before its number, that number where it has
-    /// one, and what comes after.
-    pub fn parts(&self) -> (&'static str, Option<u64>, &'static str)
-        ensures text { joined result.0.now result.1 result.2.now ≡ fault_text self.now }
-        ensures short { length result.0.now + length result.2.now ≤ 64 }
+    /// How the text of the fault is made up.
+    pub fn wording(&self) -> Wording
+        ensures text { worded result ≡ fault_text self.now }
+        ensures short { length_around result ≤ 64 }
     {
         match self {
-            Fault::Length => ("text is not one character per point", None, ""),
-            Fault::Character(place) => ("bad character at ", Some(*place as u64), ""),
-            Fault::Stones => ("bad number of stones", None, ""),
-            Fault::Counts => ("bad counts", None, ""),
-            Fault::Crowded => ("more stones than points", None, ""),
-            Fault::TooDeep => ("depth is too great", None, ""),
-            Fault::Memory => ("out of memory", None, ""),
-            Fault::Differs(index) => ("entry ", Some(*index), " differs"),
-            Fault::Short => ("file is too short", None, ""),
-            Fault::Magic => ("not a table file", None, ""),
-            Fault::Version => ("unknown version", None, ""),
-            Fault::BoardId => ("another board", None, ""),
-            Fault::Count => ("wrong number of entries", None, ""),
-            Fault::Digest => ("digest is wrong", None, ""),
-            Fault::Trailing => ("bytes after the table", None, ""),
-            Fault::Read => ("reading failed", None, ""),
-            Fault::Write(sent) => ("writing failed after ", Some(*sent), " bytes"),
-            Fault::Board => ("no such board", None, ""),
-            Fault::PairText => ("not a pair", None, ""),
+            Fault::Length => Wording::Plain("text is not one character per point"),
+            Fault::Character(place) => Wording::Number("bad character at ", *place as u64, ""),
+            Fault::Stones => Wording::Plain("bad number of stones"),
+            Fault::Counts => Wording::Plain("bad counts"),
+            Fault::Crowded => Wording::Plain("more stones than points"),
+            Fault::Blocks => Wording::Plain("blocks must be 1 to 1024"),
+            Fault::Missing(number) => Wording::Number("block ", *number, " is not complete"),
+            Fault::TooDeep => Wording::Plain("depth is too great"),
+            Fault::Workers => Wording::Plain("workers must be 1 to 64"),
+            Fault::Memory => Wording::Plain("out of memory"),
+            Fault::Needs(greater, lesser) => Wording::Pair("needs ", *greater, *lesser),
+            Fault::Differs(index) => Wording::Number("entry ", *index, " differs"),
+            Fault::Short => Wording::Plain("file is too short"),
+            Fault::Magic => Wording::Plain("not a table file"),
+            Fault::Version => Wording::Plain("unknown version"),
+            Fault::BoardId => Wording::Plain("another board"),
+            Fault::Count => Wording::Plain("wrong number of entries"),
+            Fault::Digest => Wording::Plain("digest is wrong"),
+            Fault::Trailing => Wording::Plain("bytes after the table"),
+            Fault::Read => Wording::Plain("reading failed"),
+            Fault::Write(sent) => Wording::Number("writing failed after ", *sent, " bytes"),
+            Fault::Board => Wording::Plain("no such board"),
+            Fault::PairText => Wording::Plain("not a pair"),
+            Fault::TooMany => Wording::Plain("more than 64 tables"),
         }
     }
 }
@@ -119,10 +153,10 @@ impl fmt::Display for Fault {
     ghost output = { λ fault. Some (fault_text fault) };
 
     fn fmt<W: fmt::Write>(&self, f: &mut fmt::Formatter<W>) -> fmt::Result {
-        let (before, number, after) = self.parts();
-        match number {
-            Some(number) => write!(f, "{before}{number}{after}"),
-            None => f.write_str(before),
+        match self.wording() {
+            Wording::Plain(text) => f.write_str(text),
+            Wording::Number(before, number, after) => write!(f, "{before}{number}{after}"),
+            Wording::Pair(before, greater, lesser) => write!(f, "{before}{greater}-{lesser}"),
         }
     }
 }
@@ -181,5 +215,36 @@ impl From<AllocError> for Fault {
 
     fn from(_refused: AllocError) -> Fault {
         Fault::Memory
+    }
+}
+
+impl<B: Geometry> From<Needs<B>> for Fault {
+    ghost from_gives = { λ needs e. e ≡ needs_fault needs.0 };
+
+    fn from(needs: Needs<B>) -> Fault {
+        Fault::Needs(needs.0.greater(), needs.0.lesser())
+    }
+}
+
+impl<B: Geometry> From<ProbeFault<B>> for Fault {
+    ghost from_gives = { λ refused e. e ≡ probe_fault refused };
+
+    fn from(refused: ProbeFault<B>) -> Fault {
+        match refused {
+            ProbeFault::Needs(needs) => Fault::from(needs),
+            ProbeFault::Memory => Fault::Memory,
+            ProbeFault::Write(sent) => Fault::Write(sent),
+        }
+    }
+}
+
+impl<B: Geometry> From<VerifyFault<B>> for Fault {
+    ghost from_gives = { λ refused e. e ≡ verify_fault refused };
+
+    fn from(refused: VerifyFault<B>) -> Fault {
+        match refused {
+            VerifyFault::Needs(needs) => Fault::from(needs),
+            VerifyFault::Differs(index) => Fault::Differs(index),
+        }
     }
 }

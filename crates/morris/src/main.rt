@@ -10,6 +10,9 @@ mod print;
 mod print_fault;
 mod print_stats;
 mod print_verified;
+mod probe;
+#[cfg(test)]
+mod probe_tests;
 mod stats;
 #[cfg(test)]
 mod stats_tests;

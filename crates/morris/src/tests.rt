@@ -377,8 +377,12 @@ fn each_fault_has_its_number_and_its_text(rt: HostRuntime) -> Result<(), Fail> {
         (Fault::Stones, 3, "bad number of stones"),
         (Fault::Counts, 4, "bad counts"),
         (Fault::Crowded, 5, "more stones than points"),
+        (Fault::Blocks, 6, "blocks must be 1 to 1024"),
+        (Fault::Missing(3), 8, "block 3 is not complete"),
         (Fault::TooDeep, 10, "depth is too great"),
+        (Fault::Workers, 11, "workers must be 1 to 64"),
         (Fault::Memory, 12, "out of memory"),
+        (Fault::Needs(4, 3), 13, "needs 4-3"),
         (Fault::Differs(20), 14, "entry 20 differs"),
         (Fault::Short, 15, "file is too short"),
         (Fault::Magic, 16, "not a table file"),
@@ -391,6 +395,7 @@ fn each_fault_has_its_number_and_its_text(rt: HostRuntime) -> Result<(), Fail> {
         (Fault::Write(16), 23, "writing failed after 16 bytes"),
         (Fault::Board, 25, "no such board"),
         (Fault::PairText, 26, "not a pair"),
+        (Fault::TooMany, 27, "more than 64 tables"),
     ];
     for (fault, number, text) in faults {
         assert_eq!(rt; fault.number(), number);

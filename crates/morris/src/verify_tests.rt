@@ -17,7 +17,7 @@ use std::test::Fail;
 const VERIFIED: &str = "verified 3-3: 1680 entries\n";
 
 /// The file of the table of 3-3 on the board of nine points, 3,408 bytes.
-fn file(alloc: Global) -> Result<Vec<u8>, Fail> {
+pub(crate) fn file(alloc: Global) -> Result<Vec<u8>, Fail> {
     let shelf = Shelf::<Grid>::new(alloc)?;
     let table = sweep_pair(alloc, &shelf, Pair::new(3, 3)?)?;
     let mut sink = IntoWrite::new(Vec::new(alloc));
@@ -27,7 +27,7 @@ fn file(alloc: Global) -> Result<Vec<u8>, Fail> {
 
 /// Fails at its first call.
 #[derive(Drop)]
-struct Broken;
+pub(crate) struct Broken;
 
 impl Read for Broken {
     fn read(&mut self, _buffer: &mut [u8]) -> io::Result<usize> {

@@ -2,9 +2,9 @@
 ghost use Rattle.std.specs.Prelude.{◌≡◌, [], IfErr, IfOk, OnOk, Some, codes, false, map};
 ghost use Rattle.clap.specs.Words.{FailsBy, app_of, found_of, kind_of, rows_of, rule_of};
 ghost use Rattle.clap.specs.Words.{subcommand_rows_of};
-ghost use Rattle.morris.specs.Words.{AsksFor, HasLookValues, HasStatsValues, HasVerifyValues, IsAnswerTo};
+ghost use Rattle.morris.specs.Words.{AsksFor, HasLookValues, HasProbeValues, HasStatsValues, HasVerifyValues, IsAnswerTo};
 ghost use Rattle.morris.specs.Words.{IsAnswerToOneOf, IsInRange, NamesRequest, depth_rule, faults_of};
-ghost use Rattle.morris.specs.Words.{has_globals, look_app, morris_app, named_by, required_rule, stats_app, verify_app};
+ghost use Rattle.morris.specs.Words.{has_globals, look_app, morris_app, named_by, probe_app, required_rule, stats_app, verify_app};
 
 use clap::error::ErrorKind;
 use clap::{Arg, ArgMatches, Command, Error, value_parser};
@@ -29,6 +29,12 @@ pub enum Request<'a> {
     /// Verify the table file on the input, of the board named `board`.
     Verify {
         board: &'a str,
+    },
+    /// Report the position that `text` writes on the board named `board`, by the tables on the
+    /// input.
+    Probe {
+        board: &'a str,
+        text: &'a str,
     },
 }
 
@@ -66,6 +72,8 @@ fn parse<'a, S: AsStr>(alloc: Global, words: &'a [S]) -> Result<ArgMatches<'a>, 
     morris_command(alloc)?.try_get_matches_from(words)
 }
 
+const POSITION_HELP: &str = "The position: for each point X own, O other or . vacant";
+
 // The program, with its commands: each is one `subcommand` here, and one arm of `request_of`.
 fn morris_command<'a>(alloc: Global) -> Result<Command<'a>, AllocError>
     ensures { IfOk result (λ c. app_of c ≡ morris_app) }
@@ -76,7 +84,8 @@ fn morris_command<'a>(alloc: Global) -> Result<Command<'a>, AllocError>
         .subcommand_required(true)
         .subcommand(look_command(alloc)?)?
         .subcommand(stats_command(alloc)?)?
-        .subcommand(verify_command(alloc)?)
+        .subcommand(verify_command(alloc)?)?
+        .subcommand(probe_command(alloc)?)
 }
 
 fn look_command<'a>(alloc: Global) -> Result<Command<'a>, AllocError>
@@ -86,11 +95,7 @@ fn look_command<'a>(alloc: Global) -> Result<Command<'a>, AllocError>
     Command::new(alloc, "look")
         .about("Show a position, its legal moves and its value within N plies")
         .arg(required_arg(alloc, "BOARD", "The board: nine or grid"))?
-        .arg(required_arg(
-            alloc,
-            "TEXT",
-            "The position: for each point X own, O other or . vacant",
-        ))?
+        .arg(required_arg(alloc, "TEXT", POSITION_HELP))?
         .arg(depth_arg(alloc))
 }
 
@@ -115,6 +120,18 @@ fn verify_command<'a>(alloc: Global) -> Result<Command<'a>, AllocError>
     Command::new(alloc, "verify")
         .about("Check each entry of a table file, which is read from standard input")
         .arg(required_arg(alloc, "BOARD", "The board: nine or grid"))
+}
+
+fn probe_command<'a>(alloc: Global) -> Result<Command<'a>, AllocError>
+    ensures app { IfOk result (λ c. app_of c ≡ probe_app) }
+    ensures local { IfOk result (λ c. has_globals c ≡ false) }
+{
+    Command::new(alloc, "probe")
+        .about(
+            "Report the value and the best moves of a position, by table files on standard input",
+        )
+        .arg(required_arg(alloc, "BOARD", "The board: nine or grid"))?
+        .arg(required_arg(alloc, "TEXT", POSITION_HELP))
 }
 
 fn required_arg<'a>(alloc: Global, name: &'a str, help: &'a str) -> Arg<'a>
@@ -145,6 +162,7 @@ fn request_of<'a>(matches: &ArgMatches<'a>) -> Request<'a>
         Some(("look", found)) => look_request(found),
         Some(("stats", found)) => stats_request(found),
         Some(("verify", found)) => verify_request(found),
+        Some(("probe", found)) => probe_request(found),
         _ => unreachable!(),
     }
 }
@@ -184,6 +202,17 @@ fn verify_request<'a>(found: &ArgMatches<'a>) -> Request<'a>
         unreachable!()
     };
     Request::Verify { board }
+}
+
+fn probe_request<'a>(found: &ArgMatches<'a>) -> Request<'a>
+    requires { HasProbeValues (rows_of (found_of found.now)) }
+    ensures request { AsksFor (Some (codes "probe", rows_of (found_of found.now))) result }
+    ensures depth { IsInRange result }
+{
+    let (Some(board), Some(text)) = (found.get_str("BOARD"), found.get_str("TEXT")) else {
+        unreachable!()
+    };
+    Request::Probe { board, text }
 }
 
 fn refusal_of(alloc: Global, error: &Error) -> Refusal

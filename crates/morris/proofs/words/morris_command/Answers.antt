@@ -17,4 +17,6 @@ returns c =
     let stats = ap (λ (a : App). a.top) c.in_ok-stats_command.ensures.app in
     let two = c.in_ok-subcommand-2.ensures.shape c.in_ok-stats_command.ensures.local ∙ ap₂ with_subcommand one stats in
     let verify = ap (λ (a : App). a.top) c.in_ok-verify_command.ensures.app in
-    IfOk-weaker c.subcommand-3.result _ _ (λ r h. h.shape c.in_ok-verify_command.ensures.local ∙ ap₂ with_subcommand two verify) c.subcommand-3.ensures
+    let three = c.in_ok-subcommand-3.ensures.shape c.in_ok-verify_command.ensures.local ∙ ap₂ with_subcommand two verify in
+    let probe = ap (λ (a : App). a.top) c.in_ok-probe_command.ensures.app in
+    IfOk-weaker c.subcommand-4.result _ _ (λ r h. h.shape c.in_ok-probe_command.ensures.local ∙ ap₂ with_subcommand three probe) c.subcommand-4.ensures
