@@ -2,6 +2,8 @@
 #![tactic(auto)]
 
 pub mod best;
+#[cfg(test)]
+mod example;
 pub mod fault;
 pub mod print;
 pub mod report;

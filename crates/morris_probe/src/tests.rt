@@ -10,7 +10,6 @@ use morris_board::streams::IntoWrite;
 use morris_index::pair::Pair;
 use morris_moves::look_ahead::within;
 use morris_moves::search::Within;
-use morris_moves::step::Move;
 use morris_table::shelf::{Needs, Shelf};
 use morris_table::sweeping::sweep_pair;
 use morris_table::value::Value;
@@ -19,27 +18,6 @@ use std::io;
 use std::io::Write;
 use std::process::Abort;
 use std::test::Fail;
-
-/// From an empty shelf to the value of a position and its best moves, as a program that plays makes
-/// its calls.
-#[test]
-fn a_program_asks_for_a_value_and_the_best_moves(rt: HostRuntime) -> Result<(), Fail> {
-    let mut shelf = Shelf::<Grid>::new(rt.alloc())?;
-    let table = sweep_pair(rt.alloc(), &shelf, Pair::new(3, 3)?)?;
-    assert!(rt; shelf.put(table).is_ok());
-
-    let position = Position::read(b"XXX.OO.O.")?;
-    assert_eq!(rt; value(&shelf, &position), Ok(Value::Won(3)));
-
-    let moves = best(rt.alloc(), &shelf, &position)?;
-    let wins = Move {
-        from: 2,
-        to: 3,
-        taken: None,
-    };
-    assert_eq!(rt; moves.as_slice(), [wins].as_slice());
-    Ok(())
-}
 
 /// A shelf with the table of three stones each.
 fn shelf_of_three<B: Board>(rt: &impl Abort, alloc: Global) -> Result<Shelf<B>, Fail> {
