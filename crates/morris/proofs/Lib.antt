@@ -5,3 +5,5 @@ pub mod StatsLaws
 pub mod TallyLaws
 pub mod VerifyLaws
 mod BundleLaws
+pub mod BuildLaws
+pub mod UnbuiltLaws

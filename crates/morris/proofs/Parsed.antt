@@ -7,7 +7,7 @@ use Rattle.std.specs.Option.{option_map_or}
 use Rattle.std.specs.Str.{bytes_eq, chars}
 use Rattle.std.proofs.lemmas.List.Folds.{list_all-append}
 use Rattle.std.proofs.lemmas.Slice.Eq.{bytes_eq-Decides}
-use Rattle.std.proofs.lemmas.Bool.{ne_eqb}
+use Rattle.std.proofs.lemmas.Bool.{ltb-true, ne_eqb}
 use Rattle.clap.proofs.WalkLemmas.{both}
 use Rattle.clap.specs.Lexer.{long_of, short_of}
 use Rattle.clap.specs.ValueTests.{accepts}
@@ -19,7 +19,7 @@ use Rattle.clap.specs.Walk.{Held, Names, Outcome, Row, Rule, Step, Text, Waiting
 use Rattle.clap.specs.Simple.{Shape}
 use Rattle.clap.specs.Faults.{action_fault, given_default_fault, bundle_fault, bundle_step_fault, check_fault, default_fault, defaults_fault, flag_word_fault, flags_fault, level_fault, long_fault, option_fault, other_fault, positional_fault, react_fault, set_fault, settle_fault, short_fault, step_fault, stray_fault, turn_fault, use_fault, values_fault, walk_fault, word_fault}
 use Rattle.clap.specs.declared.builder.action.ArgAction.{ArgAction}
-use Rattle.clap.specs.declared.builder.action.ArgAction.TheVariants.{Set, Help}
+use Rattle.clap.specs.declared.builder.action.ArgAction.TheVariants.{Set, SetTrue, Help}
 use Rattle.clap.specs.declared.builder.value_parser.Reading.{Reading}
 use Rattle.clap.specs.declared.builder.value_parser.ValueParser.{ValueParser}
 use Rattle.clap.specs.declared.error.kind.ErrorKind.TheVariants.{DisplayHelp, InvalidSubcommand, InvalidValue, TooManyValues}
@@ -84,10 +84,11 @@ pub record RowPasses (c : List Rule) (r : Row) : Type 0 where
   pub passes : values_pass rule r.values ≡ true
   pub reading : r.reading ≡ reading_by rule
 
--- the argument is the one of its id, and is set to a value at least, or asks for help
+-- the argument is the one of its id, and is set to a value at least, or is a flag that stands for a value at least, or asks for help
 pub record IsPlainRule (c : List Rule) (a : Rule) : Type 0 where
   pub known : arg_by_id c a.id ≡ Some a
-  pub kind : ((action_of a ≡ Set) × (nat_lt 0 (unwrap_or_range a.range).start_inclusive ≡ true)) ⊎ (action_of a ≡ Help)
+  pub kind : ((action_of a ≡ Set) × (nat_lt 0 (unwrap_or_range a.range).start_inclusive ≡ true))
+      ⊎ (((action_of a ≡ SetTrue) × (nat_lt 0 (length a.missing) ≡ true)) ⊎ (action_of a ≡ Help))
 
 at_row_each : (P : Row → Type 0) (id : Text) (change : Row → List Row) (missing rows : List Row)
     → ((r : Row) → bytes_eq r.id id ≡ true → P r → Each P (change r)) → Each P missing → Each P rows → Each P (at_row id change missing rows)
@@ -138,7 +139,17 @@ some_values a [] least most none some =
     cc
 some_values a (v ∷ vs) least most none some = omega arith
 
+missing_values : (a : Rule) (values : List Text) → nat_lt 0 (length a.missing) ≡ true → 0 < length (values_or_missing a values)
+missing_values a [] some = ltb-true 0 (length a.missing) some
+missing_values a (v ∷ vs) some = omega arith
+
 module _ (c : List Rule) (again : Bool) (plain_rules : Each (IsPlainRule c) c) where
+  set_passes : (a : Rule) (vals : List Text) (rows : List Row) → IsPlainRule c a → 0 < length vals → set_fault again a vals rows ≡ [] → Passing c rows
+      → Passing c (with_values a.id (reading_by a) CommandLine vals (without a.id rows))
+  set_passes a vals rows p some none h =
+      filled_rows c a CommandLine vals (without a.id rows) p.known some (all_accepted a.ignore_case (parser_of_value a.parser) vals (then_none _ _ none))
+      (without_rows c a.id rows h)
+
   used_passes : (a : Rule) (values : List Text) (rows : List Row) → IsPlainRule c a → use_fault again a values rows ≡ [] → Passing c rows
       → Passing c (used a values rows)
   used_passes a values rows p none h = elim p.kind [
@@ -146,11 +157,15 @@ module _ (c : List Rule) (again : Bool) (plain_rules : Each (IsPlainRule c) c) w
         let vals = values_or_missing a values in
         let act : action_fault (action_of a) again a vals rows ≡ [] = then_none _ _ none in
         let as_set : set_fault again a vals rows ≡ [] = subst (λ (x : ArgAction). action_fault x again a vals rows ≡ []) k.0 act in
-        let pass = all_accepted a.ignore_case (parser_of_value a.parser) vals (then_none _ _ as_set) in
-        let some = some_values a values _ _ (first_none _ _ none) k.1 in
         subst (λ (x : ArgAction). Passing c (used_as x a.id (reading_by a) vals rows)) (sym k.0)
-        (filled_rows c a CommandLine vals (without a.id rows) p.known some pass (without_rows c a.id rows h))
-    | inr k ↦ subst (λ (x : ArgAction). Passing c (used_as x a.id (reading_by a) (values_or_missing a values) rows)) (sym k) h
+        (set_passes a vals rows p (some_values a values _ _ (first_none _ _ none) k.1) as_set h)
+    | inr (inl k) ↦
+        let vals = values_or_missing a values in
+        let act : action_fault (action_of a) again a vals rows ≡ [] = then_none _ _ none in
+        let as_set : set_fault again a vals rows ≡ [] = subst (λ (x : ArgAction). action_fault x again a vals rows ≡ []) k.0 act in
+        subst (λ (x : ArgAction). Passing c (used_as x a.id (reading_by a) vals rows)) (sym k.0)
+        (set_passes a vals rows p (missing_values a values k.1) as_set h)
+    | inr (inr k) ↦ subst (λ (x : ArgAction). Passing c (used_as x a.id (reading_by a) (values_or_missing a values) rows)) (sym k) h
   ]
 
   by_rule_passes : (o : Option Rule) (values : List Text) (rows : List Row) → ((a : Rule) → o ≡ Some a → IsPlainRule c a)

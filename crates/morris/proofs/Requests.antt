@@ -7,10 +7,12 @@ use Rattle.std.proofs.lemmas.Slice.Eq.{bytes_eq-Decides}
 use Rattle.clap.proofs.ValueTestLemmas.{accepts-Accepts}
 use Rattle.clap.specs.Faults.{built_fault, entered_fault, level_fault}
 use Rattle.clap.specs.Takes.{is_given}
-use Rattle.clap.specs.Walk.{Rule, Text, answers_to, finished, has_row, nothing_held, rows_after, settled, stop_after, walk, with_default}
+use Rattle.clap.specs.ValueTests.{accepts}
+use Rattle.clap.specs.Values.{bool_text}
+use Rattle.clap.specs.Walk.{Row, Rule, Text, answers_to, finished, has_row, nothing_held, rows_after, settled, stop_after, walk, with_default}
 use Rattle.clap.specs.Simple.{App, Shape, argument_words, built, built_leaf, entered, filled, help_rule, inherited, label_of, marked_built, names_of, new_shape, rows_at, with_index, with_leaf_noted, with_subcommand}
 use Rattle.clap.specs.declared.builder.value_parser.ValueParser.TheVariants as parser
-use Rattle.morris.specs.Words.{HasLookValues, HasProbeValues, HasStatsValues, HasVerifyValues, NamesRequest, depth_rule, faults_of, look_app, morris_app, named_by, probe_app, program, required_rule, stats_app, verify_app}
+use Rattle.morris.specs.Words.{HasBuildValues, HasLookValues, HasProbeValues, HasStatsValues, HasVerifyValues, NamesRequest, all_rule, blocks_rule, build_app, depth_rule, faults_of, look_app, morris_app, named_by, probe_app, program, required_rule, stats_app, verify_app, workers_rule}
 use Rattle.morris.proofs.Parsed.{Each, Each-find, HasValue, IsNotHelp, IsPlainRule, arguments_there, default_fills, default_keeps, given_value, level_passes, row_value, subcommand_there}
 
 -- ---- `look`, as it is built
@@ -33,6 +35,11 @@ look_top = record (new_shape (codes "look")) { rules = required_rule (codes "BOA
 abbrev stats_top : Shape
 stats_top = record (new_shape (codes "stats")) { rules = required_rule (codes "BOARD") ∷ required_rule (codes "PAIR") ∷ [] }
 
+abbrev build_top : Shape
+build_top = record (new_shape (codes "build")) {
+  rules = required_rule (codes "BOARD") ∷ required_rule (codes "PAIR") ∷ workers_rule ∷ blocks_rule ∷ all_rule ∷ [];
+}
+
 abbrev verify_top : Shape
 verify_top = record (new_shape (codes "verify")) { rules = required_rule (codes "BOARD") ∷ [] }
 
@@ -40,7 +47,7 @@ abbrev probe_top : Shape
 probe_top = record (new_shape (codes "probe")) { rules = required_rule (codes "BOARD") ∷ required_rule (codes "TEXT") ∷ [] }
 
 abbrev whole : App
-whole = with_subcommand (with_subcommand (with_subcommand (with_subcommand program look_top) stats_top) verify_top) probe_top
+whole = with_subcommand (with_subcommand (with_subcommand (with_subcommand (with_subcommand program look_top) stats_top) build_top) verify_top) probe_top
 
 abbrev look : Shape
 look = built_leaf (inherited (with_leaf_noted (marked_built whole.top)) look_top)
@@ -52,7 +59,7 @@ look_plain = (
     record { known = refl; kind = inl (refl, refl) },
     (
       record { known = refl; kind = inl (refl, refl) },
-      (record { known = refl; kind = inr refl }, tt),
+      (record { known = refl; kind = inr (inr refl) }, tt),
     ),
   ),
 )
@@ -96,7 +103,7 @@ stats_plain = (
   record { known = refl; kind = inl (refl, refl) },
   (
     record { known = refl; kind = inl (refl, refl) },
-    (record { known = refl; kind = inr refl }, tt),
+    (record { known = refl; kind = inr (inr refl) }, tt),
   ),
 )
 
@@ -110,6 +117,86 @@ stats_fits words none =
     let second : HasValue rows pair = given_value stats.rules rows pair level.rows given.1 refl in
     record { board = ap is_some first.is_first; pair = ap is_some second.is_first }
 
+-- ---- `build`, as it is built
+
+abbrev workers : Rule
+workers = filled workers_rule
+
+abbrev blocks : Rule
+blocks = filled blocks_rule
+
+abbrev flag : Rule
+flag = filled all_rule
+
+abbrev build : Shape
+build = built_leaf (inherited (with_leaf_noted (marked_built whole.top)) build_top)
+
+build_plain : Each (IsPlainRule build.rules) build.rules
+build_plain = (
+  record { known = refl; kind = inl (refl, refl) },
+  (
+    record { known = refl; kind = inl (refl, refl) },
+    (
+      record { known = refl; kind = inl (refl, refl) },
+      (
+        record { known = refl; kind = inl (refl, refl) },
+        (
+          record { known = refl; kind = inr (inl (refl, refl)) },
+          (record { known = refl; kind = inr (inr refl) }, tt),
+        ),
+      ),
+    ),
+  ),
+)
+
+-- the rows with the defaults of the numbers and of the flag have all three
+has_all : (start : List Row) → let rows = with_default (with_default (with_default (with_default start workers) blocks) flag) help in
+    (has_row (codes "workers") rows ≡ true) × (has_row (codes "blocks") rows ≡ true) × (has_row (codes "all") rows ≡ true)
+has_all start =
+    let one = with_default start workers in
+    let two = with_default one blocks in
+    let three = with_default two flag in (
+      default_keeps (codes "workers") help three
+          (default_keeps (codes "workers") flag two (default_keeps (codes "workers") blocks one (default_fills workers (codes "2") [] start refl))),
+      default_keeps (codes "blocks") help three (default_keeps (codes "blocks") flag two (default_fills blocks (codes "16") [] one refl)),
+      default_keeps (codes "all") help three (default_fills flag (codes "false") [] two refl),
+    )
+
+-- a text that passed the parser of a flag says true or false
+says_bool : (t : Text) → accepts false parser.Bool t ≡ true → (b : Bool) × (t ≡ bool_text b)
+says_bool t pass = go (bytes_eq t (codes "true")) refl
+  where
+    go : (b : Bool) → bytes_eq t (codes "true") ≡ b → (b : Bool) × (t ≡ bool_text b)
+    go true e = (true, (bytes_eq-Decides t (codes "true")).0 e)
+    go false e = (false, (bytes_eq-Decides t (codes "false")).0 (rw e at pass))
+
+build_fits : (words : List Text) → level_fault build [] nothing_held words false [] ≡ [] → HasBuildValues (rows_after build.rules [] words)
+build_fits words none =
+    let level = level_passes build [] words false [] build_plain none in
+    let rows = rows_after build.rules [] words in
+    let start = (settled build.rules (walk build.rules [] nothing_held words).held).rows in
+    let missing : (not (is_given (codes "BOARD") rows) || (not (is_given (codes "PAIR") rows) || false)) ≡ false = arguments_there build rows false level.checked in
+    let given = both_given _ _ missing in
+    let has = has_all (with_default (with_default start board) pair) in
+    let first : HasValue rows board = given_value build.rules rows board level.rows given.0 refl in
+    let second : HasValue rows pair = given_value build.rules rows pair level.rows given.1 refl in
+    let third : HasValue rows workers = row_value build.rules rows workers level.rows has.0 refl in
+    let fourth : HasValue rows blocks = row_value build.rules rows blocks level.rows has.1 refl in
+    let fifth : HasValue rows flag = row_value build.rules rows flag level.rows has.2 refl in
+    let says = says_bool fifth.first fifth.passes in
+    record {
+      board = ap is_some first.is_first;
+      pair = ap is_some second.is_first;
+      workers_text = third.first;
+      workers_read = third.read;
+      workers_in_range = accepts-Accepts false (parser.Signed (pos 1) (pos 64)) third.first third.passes;
+      blocks_text = fourth.first;
+      blocks_read = fourth.read;
+      blocks_in_range = accepts-Accepts false (parser.Signed (pos 1) (pos 1024)) fourth.first fourth.passes;
+      all = says.0;
+      all_read = fifth.read ∙ ap (λ t. Some t) says.1;
+    }
+
 -- ---- `verify`, as it is built
 
 abbrev verify : Shape
@@ -118,7 +205,7 @@ verify = built_leaf (inherited (with_leaf_noted (marked_built whole.top)) verify
 verify_plain : Each (IsPlainRule verify.rules) verify.rules
 verify_plain = (
   record { known = refl; kind = inl (refl, refl) },
-  (record { known = refl; kind = inr refl }, tt),
+  (record { known = refl; kind = inr (inr refl) }, tt),
 )
 
 one_given : (p : Bool) → (not p || false) ≡ false → p ≡ true
@@ -143,7 +230,7 @@ probe_plain = (
   record { known = refl; kind = inl (refl, refl) },
   (
     record { known = refl; kind = inl (refl, refl) },
-    (record { known = refl; kind = inr refl }, tt),
+    (record { known = refl; kind = inr (inr refl) }, tt),
   ),
 )
 
@@ -174,14 +261,17 @@ all_serve = (
   (
     inl (λ words none. inr (inl (refl, stats_fits words none))),
     (
-      inl (λ words none. inr (inr (inl (refl, verify_fits words none)))),
-      (inl (λ words none. inr (inr (inr (refl, probe_fits words none)))), (inr (refl, refl), tt)),
+      inl (λ words none. inr (inr (inl (refl, build_fits words none)))),
+      (
+        inl (λ words none. inr (inr (inr (inl (refl, verify_fits words none))))),
+        (inl (λ words none. inr (inr (inr (inr (refl, probe_fits words none))))), (inr (refl, refl), tt)),
+      ),
     ),
   ),
 )
 
 program_plain : Each (IsPlainRule (built whole).top.rules) (built whole).top.rules
-program_plain = (record { known = refl; kind = inr refl }, tt)
+program_plain = (record { known = refl; kind = inr (inr refl) }, tt)
 
 not_named_help : (s : Shape) (name : Text) → s.name ≡ codes "help" → s.aliases ≡ [] → answers_to name (label_of s) ≡ true
     → bytes_eq name (codes "help") ≡ false → ⊥
@@ -227,5 +317,5 @@ program_named a words plain serves wants offers none =
     entered_named a stop serves (level.stopped offers) level.below_none (there has wanted)
 
 pub named : (words : List Text) → faults_of words ≡ [] → NamesRequest (named_by words)
-unfolding morris_app look_app stats_app verify_app probe_app
+unfolding morris_app look_app stats_app build_app verify_app probe_app
 named words none = program_named (built whole) (argument_words whole words) program_plain all_serve refl refl none

@@ -4,11 +4,8 @@ use Rattle.std.specs.List.{Contains}
 use Rattle.std.proofs.lemmas.List.Elements.{Contains-append_left, Contains-push_cases}
 use Rattle.morris_index.specs.Pairs.{Counts, EndsIn, NeedsFirst}
 use Rattle.morris_table.specs.Shelves.{Stored, first_missing, table_on}
+use Rattle.morris.specs.Build.{HasTables}
 use Rattle.morris_table.proofs.ShelfLaws.{cases_pair, none-missing}
-
--- the shelf has the tables of these pairs
-abbrev pub HasTables : Stored → List Counts → Type 0
-HasTables shelf pairs = (c : Counts) → Contains pairs c → is_some (table_on shelf c) ≡ true
 
 -- the next pair of the order finds those that it needs
 pub none_missing : (shelf : Stored) (before after all : List Counts) (c : Counts) → NeedsFirst all → before ++ (c ∷ after) ≡ all

@@ -9,9 +9,10 @@ use Rattle.morris.specs.declared.fault.Fault.TheVariants as fault
 use Rattle.morris.specs.Faults.{Prints}
 use Rattle.morris.specs.Words.{AsksFor, faults_of, named_by}
 use Rattle.morris.specs.declared.words.Request.{Request}
-use Rattle.morris.specs.declared.words.Request.TheVariants.{Look, Stats, Verify, Probe}
+use Rattle.morris.specs.declared.words.Request.TheVariants.{Look, Stats, Build, Verify, Probe}
 use Rattle.morris.specs.Look.{Looks, board_of}
 use Rattle.morris.specs.Stats.{AnswersStats}
+use Rattle.morris.specs.Build.{AnswersBuild}
 use Rattle.morris.specs.Probe.{AnswersProbe}
 use Rattle.morris.specs.Verify.{AnswersVerify, Input}
 
@@ -23,6 +24,7 @@ HasMistake kinds = (k : ErrorKind) × (k ≢ kind.DisplayHelp) × IsAmong k kind
 abbrev pub Answers : {T : Type 0} → Input → Input → Option (List ℕ) → Option (List ℕ) → Request → Result T Fault → Type 0
 Answers before after old new (Look board text depth) result = Looks (board_of board.now) text.now depth old new result
 Answers before after old new (Stats board pair) result = AnswersStats (board_of board.now) pair.now old new result
+Answers before after old new (Build board pair workers blocks all) result = AnswersBuild (board_of board.now) pair.now workers blocks all old new result
 Answers before after old new (Verify board) result = AnswersVerify (board_of board.now) before after old new result
 Answers before after old new (Probe board text) result = AnswersProbe (board_of board.now) text.now before after old new result
 
@@ -30,6 +32,7 @@ Answers before after old new (Probe board text) result = AnswersProbe (board_of 
 abbrev pub takes_input : Request → Bool
 takes_input (Look board text depth) = false
 takes_input (Stats board pair) = false
+takes_input (Build board pair workers blocks all) = false
 takes_input (Verify board) = true
 takes_input (Probe board text) = true
 

@@ -8,6 +8,8 @@ use Rattle.morris_board.specs.declared.faults.TextFault.TheVariants as text
 use Rattle.morris_index.specs.declared.faults.PairFault.{PairFault}
 use Rattle.morris_index.specs.declared.faults.PairFault.TheVariants as pair
 use Rattle.morris_index.specs.Pairs.{Counts}
+use Rattle.morris_table.specs.declared.sweeping.BuildFault.{BuildFault}
+use Rattle.morris_table.specs.declared.sweeping.BuildFault.TheVariants as build
 use Rattle.morris_table.specs.declared.verify.VerifyFault.{VerifyFault}
 use Rattle.morris_table.specs.declared.verify.VerifyFault.TheVariants as verify
 use Rattle.morris_probe.specs.Reports.{WentOut}
@@ -37,6 +39,15 @@ needs_fault c = fault.Needs c.greater c.lesser
 abbrev pub verify_fault : {B : Type 0} → VerifyFault B → Fault
 verify_fault (verify.Needs needs) = needs_fault needs.0
 verify_fault (verify.Differs index) = fault.Differs index
+
+-- the fault that a refused build, or a refused sweep, is answered with
+abbrev pub build_fault : {B : Type 0} → BuildFault B → Fault
+build_fault (build.Needs needs) = needs_fault needs.0
+build_fault build.Workers = fault.Workers
+build_fault build.Blocks = fault.Blocks
+build_fault build.Memory = fault.Memory
+build_fault (build.Missing number) = fault.Missing number
+build_fault build.TooDeep = fault.TooDeep
 
 -- the fault that a refused probe is answered with
 abbrev pub probe_fault : {B : Type 0} → ProbeFault B → Fault

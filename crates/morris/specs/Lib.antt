@@ -7,3 +7,4 @@ pub mod Verify
 pub mod Words
 pub mod Command
 pub mod Probe
+pub mod Build

@@ -5,13 +5,15 @@ use Rattle.std.specs.Str.Parse.{digits_value, without_leading_plus}
 use Rattle.clap.specs.Words.{App, IsAmong, IsSignedIn, Kinds, Row, Rule, Text, fault_of, first_of}
 use Rattle.clap.specs.Words.{new_app, new_rule, one_of, subcommand_of, with_rule, with_subcommand}
 use Rattle.clap.specs.Words.{without_minus}
+use Rattle.clap.specs.Values.{bool_text}
+use Rattle.clap.specs.declared.builder.action.ArgAction.TheVariants as action
 use Rattle.clap.specs.declared.builder.command.Command.{Command}
 use Rattle.clap.specs.declared.builder.command.Command.TheViews.{out-Command}
 use Rattle.clap.specs.declared.builder.value_parser.ValueParser.TheVariants as parser
 use Rattle.clap.specs.declared.error.kind.ErrorKind.{ErrorKind}
 use Rattle.clap.specs.declared.error.kind.ErrorKind.TheVariants as kind
 use Rattle.morris.specs.declared.words.Request.{Request}
-use Rattle.morris.specs.declared.words.Request.TheVariants.{Look, Stats, Verify, Probe}
+use Rattle.morris.specs.declared.words.Request.TheVariants.{Look, Stats, Build, Verify, Probe}
 use Rattle.morris.specs.declared.words.Refusal.{Refusal}
 use Rattle.morris.specs.declared.words.Refusal.TheVariants.{Memory, Help, Wrong}
 
@@ -46,6 +48,34 @@ program = record (new_app (codes "morris")) {
 unfoldable pub stats_app : App
 stats_app = with_rule (with_rule (new_app (codes "stats")) (required_rule (codes "BOARD"))) (required_rule (codes "PAIR"))
 
+-- `--workers W`, W a number from 1 to 64, and 2 where it is left out
+abbrev pub workers_rule : Rule
+workers_rule = record (new_rule (codes "workers")) {
+  long = Some (codes "workers");
+  value_names = 1;
+  parser = Some (parser.Signed (pos 1) (pos 64));
+  defaults = codes "2" ∷ [];
+}
+
+-- `--blocks K`, K a number from 1 to 1024, and 16 where it is left out
+abbrev pub blocks_rule : Rule
+blocks_rule = record (new_rule (codes "blocks")) {
+  long = Some (codes "blocks");
+  value_names = 1;
+  parser = Some (parser.Signed (pos 1) (pos 1024));
+  defaults = codes "16" ∷ [];
+}
+
+-- `--all`, a flag: its value is true where it is given, and false where it is left out
+abbrev pub all_rule : Rule
+all_rule = record (new_rule (codes "all")) { long = Some (codes "all"); action = Some action.SetTrue }
+
+-- `build BOARD PAIR [--workers W] [--blocks K] [--all]`
+unfoldable pub build_app : App
+build_app =
+    with_rule (with_rule (with_rule (with_rule (with_rule (new_app (codes "build")) (required_rule (codes "BOARD")))
+    (required_rule (codes "PAIR"))) workers_rule) blocks_rule) all_rule
+
 -- `verify BOARD`
 unfoldable pub verify_app : App
 verify_app = with_rule (new_app (codes "verify")) (required_rule (codes "BOARD"))
@@ -57,8 +87,8 @@ probe_app = with_rule (with_rule (new_app (codes "probe")) (required_rule (codes
 -- the program `morris` with its commands
 unfoldable pub morris_app : App
 morris_app =
-    with_subcommand (with_subcommand (with_subcommand (with_subcommand program look_app.top) stats_app.top) verify_app.top)
-    probe_app.top
+    with_subcommand (with_subcommand (with_subcommand (with_subcommand (with_subcommand program look_app.top) stats_app.top)
+    build_app.top) verify_app.top) probe_app.top
 
 -- an argument of the command, or of one of its own commands, is global
 abbrev pub has_globals : Command → Bool
@@ -79,7 +109,8 @@ named_by words = subcommand_of morris_app words
 abbrev pub number_of : Text → ℕ
 number_of text = digits_value 10 (without_leading_plus text)
 
--- the request is for the command that was named, with the values of its arguments
+-- the request is for the command that was named, with the values of its arguments; the value of a
+-- flag says whether it was given
 abbrev pub AsksFor : Option (Text × List Row) → Request → Type 0
 AsksFor None r = ⊥
 AsksFor (Some (name, rows)) (Look board text depth) =
@@ -88,14 +119,20 @@ AsksFor (Some (name, rows)) (Look board text depth) =
     × (option_map number_of (one_of (codes "depth") rows) ≡ Some depth)
 AsksFor (Some (name, rows)) (Stats board pair) =
     (name ≡ codes "stats") × (first_of (codes "BOARD") rows ≡ Some board.now) × (first_of (codes "PAIR") rows ≡ Some pair.now)
+AsksFor (Some (name, rows)) (Build board pair workers blocks all) =
+    (name ≡ codes "build") × (first_of (codes "BOARD") rows ≡ Some board.now) × (first_of (codes "PAIR") rows ≡ Some pair.now)
+    × (option_map number_of (one_of (codes "workers") rows) ≡ Some workers)
+    × (option_map number_of (one_of (codes "blocks") rows) ≡ Some blocks)
+    × (one_of (codes "all") rows ≡ Some (bool_text all))
 AsksFor (Some (name, rows)) (Verify board) = (name ≡ codes "verify") × (first_of (codes "BOARD") rows ≡ Some board.now)
 AsksFor (Some (name, rows)) (Probe board text) =
     (name ≡ codes "probe") × (first_of (codes "BOARD") rows ≡ Some board.now) × (first_of (codes "TEXT") rows ≡ Some text.now)
 
--- a depth to look ahead is at most 6 plies
+-- a depth to look ahead is at most 6 plies; workers are 1 to 64, and blocks 1 to 1,024
 abbrev pub IsInRange : Request → Type 0
 IsInRange (Look board text depth) = depth ≤ 6
 IsInRange (Stats board pair) = ⊤
+IsInRange (Build board pair workers blocks all) = ((1 ≤ workers) × (workers ≤ 64)) × ((1 ≤ blocks) × (blocks ≤ 1024))
 IsInRange (Verify board) = ⊤
 IsInRange (Probe board text) = ⊤
 
@@ -113,6 +150,20 @@ pub record HasStatsValues (rows : List Row) : Type 0 where
   pub board : is_some (first_of (codes "BOARD") rows) ≡ true
   pub pair : is_some (first_of (codes "PAIR") rows) ≡ true
 
+-- the values of which `build` makes its request: board and pair are there, and so are a number of
+-- workers from 1 to 64, one of blocks from 1 to 1,024, and the value of its flag
+pub record HasBuildValues (rows : List Row) : Type 0 where
+  pub board : is_some (first_of (codes "BOARD") rows) ≡ true
+  pub pair : is_some (first_of (codes "PAIR") rows) ≡ true
+  pub workers_text : Text
+  pub workers_read : one_of (codes "workers") rows ≡ Some (without_minus workers_text)
+  pub workers_in_range : IsSignedIn (pos 1) (pos 64) workers_text
+  pub blocks_text : Text
+  pub blocks_read : one_of (codes "blocks") rows ≡ Some (without_minus blocks_text)
+  pub blocks_in_range : IsSignedIn (pos 1) (pos 1024) blocks_text
+  pub all : Bool
+  pub all_read : one_of (codes "all") rows ≡ Some (bool_text all)
+
 -- the value of which `verify` makes its request: a board is there
 pub record HasVerifyValues (rows : List Row) : Type 0 where
   pub board : is_some (first_of (codes "BOARD") rows) ≡ true
@@ -127,7 +178,8 @@ abbrev pub NamesCommand : Text × List Row → Type 0
 NamesCommand named =
     ((named.0 ≡ codes "look") × HasLookValues named.1)
     ⊎ (((named.0 ≡ codes "stats") × HasStatsValues named.1)
-    ⊎ (((named.0 ≡ codes "verify") × HasVerifyValues named.1) ⊎ ((named.0 ≡ codes "probe") × HasProbeValues named.1)))
+    ⊎ (((named.0 ≡ codes "build") × HasBuildValues named.1)
+    ⊎ (((named.0 ≡ codes "verify") × HasVerifyValues named.1) ⊎ ((named.0 ≡ codes "probe") × HasProbeValues named.1))))
 
 -- such a command was named
 abbrev pub NamesRequest : Option (Text × List Row) → Type 0

@@ -8,6 +8,7 @@ ghost use Rattle.morris.specs.Words.{IsInRange, faults_of, named_by};
 ghost use Rattle.morris.specs.Verify.{input_of};
 ghost use Rattle.morris.specs.Command.{Answers, AsksToRead, Ends, HasMistake, status_of, takes_input};
 
+use crate::build::build_out;
 use crate::fault::Fault;
 use crate::look::look;
 use crate::print_fault::put_fault;
@@ -19,6 +20,8 @@ use morris_board::streams::buffered::Buffered;
 use morris_board::streams::{Failed, Sink, Source, put};
 use std::alloc::Global;
 use std::convert::AsStr;
+use std::sync::Wait;
+use std::thread::Threads;
 
 /// Reads the words of a command line, of which the first is the program's own name, runs the
 /// command that they name, and answers the exit status of the program.
@@ -29,8 +32,8 @@ use std::convert::AsStr;
 /// as one line, `fault N: ` and its text. 2: the words name no command, or not the arguments that
 /// it takes; what is wrong with them went to `errors`, and nothing to `output`. A fault while
 /// `errors` is written is ignored. Only `verify` and `probe` read `input`.
-pub fn command<R, W: AsStr, I: Source, O: Sink, E: Sink>(
-    _rt: &R,
+pub fn command<R: Threads + Wait + Sync, W: AsStr, I: Source, O: Sink, E: Sink>(
+    rt: &R,
     alloc: Global,
     words: &[W],
     input: &mut I,
@@ -50,7 +53,7 @@ pub fn command<R, W: AsStr, I: Source, O: Sink, E: Sink>(
         × (result ≡ status_of answer) × Reports E.contents E.failures errors.old errors.new answer }
 {
     match read_words(alloc, words) {
-        Ok(request) => finish(run(alloc, request, input, output), errors),
+        Ok(request) => finish(run(rt, alloc, request, input, output), errors),
         Err(Refusal::Help(text)) => finish(print_help(text.as_str(), output), errors),
         Err(Refusal::Memory) => finish(Err(Fault::Memory), errors),
         Err(Refusal::Wrong(text)) => {
@@ -79,7 +82,8 @@ pub fn refuse_words<E: Sink>(out_of_memory: bool, errors: &mut E) -> u8
 }
 
 /// Runs the command of a request.
-fn run<I: Source, O: Sink>(
+fn run<R: Threads + Wait + Sync, I: Source, O: Sink>(
+    rt: &R,
     alloc: Global,
     request: Request<'_>,
     input: &mut I,
@@ -95,6 +99,16 @@ fn run<I: Source, O: Sink>(
     match request {
         Request::Look { board, text, depth } => look(board, text, depth, output),
         Request::Stats { board, pair } => stats(alloc, board, pair, output),
+        Request::Build {
+            board,
+            pair,
+            workers,
+            blocks,
+            all,
+        } => {
+            let (workers, blocks) = (usize::from(workers), usize::from(blocks));
+            build_out(rt, alloc, board, pair, workers, blocks, all, output)
+        }
         Request::Verify { board } => verify_in(alloc, board, input, output),
         Request::Probe { board, text } => probe_in(alloc, board, text, input, output),
     }

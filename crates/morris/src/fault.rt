@@ -1,6 +1,6 @@
 //! What a command can be refused for.
 ghost use Rattle.std.specs.Prelude.{◌≡◌, ◌≤◌};
-ghost use Rattle.morris.specs.Faults.{fault_number, fault_text, length_around, needs_fault, pair_fault, probe_fault, text_fault, verify_fault, worded};
+ghost use Rattle.morris.specs.Faults.{build_fault, fault_number, fault_text, length_around, needs_fault, pair_fault, probe_fault, text_fault, verify_fault, worded};
 
 use morris_board::board::Geometry;
 use morris_board::faults::TextFault;
@@ -8,6 +8,7 @@ use morris_index::faults::PairFault;
 use morris_probe::fault::ProbeFault;
 use morris_table::file_faults::ReadFault;
 use morris_table::shelf::Needs;
+use morris_table::sweeping::BuildFault;
 use morris_table::verify::VerifyFault;
 use std::alloc::AllocError;
 use std::fmt;
@@ -245,6 +246,21 @@ impl<B: Geometry> From<VerifyFault<B>> for Fault {
         match refused {
             VerifyFault::Needs(needs) => Fault::from(needs),
             VerifyFault::Differs(index) => Fault::Differs(index),
+        }
+    }
+}
+
+impl<B: Geometry> From<BuildFault<B>> for Fault {
+    ghost from_gives = { λ refused e. e ≡ build_fault refused };
+
+    fn from(refused: BuildFault<B>) -> Fault {
+        match refused {
+            BuildFault::Needs(needs) => Fault::from(needs),
+            BuildFault::Workers => Fault::Workers,
+            BuildFault::Blocks => Fault::Blocks,
+            BuildFault::Memory => Fault::Memory,
+            BuildFault::Missing(number) => Fault::Missing(number),
+            BuildFault::TooDeep => Fault::TooDeep,
         }
     }
 }

@@ -2,6 +2,9 @@
 #![tactic(auto)]
 
 mod boards;
+mod build;
+#[cfg(test)]
+mod build_tests;
 mod command;
 mod fault;
 mod look;

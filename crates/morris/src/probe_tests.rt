@@ -104,7 +104,7 @@ fn a_bundle_is_taken_in_its_order(rt: HostRuntime) -> Result<(), Fail> {
     let wrong = bundle(alloc, [high, low].as_slice())?;
     let needs = "fault 13: needs 3-3\n";
     assert_answer_on(&rt, WON.as_slice(), wrong.as_slice(), 1, "", needs);
-    let cut = high.get(..high.len() - 1).unwrap_or(high);
+    let cut = high.get(..5_087).unwrap_or(high);
     let short = bundle(alloc, [low, cut].as_slice())?;
     let ends = "fault 15: file is too short\n";
     assert_answer_on(&rt, WON.as_slice(), short.as_slice(), 1, "", ends);

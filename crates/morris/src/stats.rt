@@ -17,7 +17,7 @@ use morris_board::streams::buffered::Buffered;
 use morris_board::streams::{Failed, Sink};
 use morris_index::pair::Pair;
 use morris_table::shelf::Shelf;
-use morris_table::sweeping::{BuildFault, sweep_pair};
+use morris_table::sweeping::sweep_pair;
 use std::alloc::Global;
 
 /// Counts the values of all positions of the pair that the text `pair` names on the board named
@@ -117,12 +117,7 @@ fn sweep_onto<B: Board>(alloc: Global, shelf: &mut Shelf<B>, pair: Pair<B>) -> R
     ensures unchanged { OnErr result (shelf.new ≡ shelf.old) }
     ensures refused { IfErr result (IsRefusedAt B.shape pair) }
 {
-    let table = match sweep_pair(alloc, shelf, pair) {
-        Ok(table) => table,
-        Err(BuildFault::Memory) => return Err(Fault::Memory),
-        Err(BuildFault::TooDeep) => return Err(Fault::TooDeep),
-        Err(BuildFault::Needs(_)) => unreachable!(),
-    };
+    let table = sweep_pair(alloc, shelf, pair)?;
     match shelf.put(table) {
         Ok(()) => Ok(()),
         Err(_) => unreachable!(),

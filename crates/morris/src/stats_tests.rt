@@ -3,6 +3,8 @@ use crate::stats::stats;
 use crate::tests::{Counting, Narrow, assert_answer, assert_wrong};
 use morris_board::streams::IntoWrite;
 use std::process::Abort;
+use std::sync::Wait;
+use std::thread::Threads;
 
 const GRID_3_3: &str = "\
 3-3 1680 positions\n\
@@ -93,7 +95,7 @@ const GRID_6_3: &str = "\
 lost in 0: 168\n\
 draw: 0\n";
 
-fn assert_stats(rt: &(impl Abort + AllocGlobal), pair: &str, text: &str) {
+fn assert_stats(rt: &(impl Abort + AllocGlobal + Threads + Wait + Sync), pair: &str, text: &str) {
     assert_answer(
         rt,
         ["morris", "stats", "grid", pair].as_slice(),

@@ -9,17 +9,23 @@ use std::alloc::Global;
 use std::io;
 use std::io::Write;
 use std::process::Abort;
+use std::sync::Wait;
 use std::test::Fail;
+use std::thread::Threads;
 
 /// What the program answers to words: its exit status, and what goes to standard output and standard error.
 #[derive(Drop)]
-struct Answer {
-    status: u8,
-    output: Vec<u8>,
-    errors: Vec<u8>,
+pub(crate) struct Answer {
+    pub(crate) status: u8,
+    pub(crate) output: Vec<u8>,
+    pub(crate) errors: Vec<u8>,
 }
 
-fn answer_to<R: AllocGlobal>(rt: &R, words: &[&str], input: &[u8]) -> Answer {
+pub(crate) fn answer_to<R: AllocGlobal + Threads + Wait + Sync>(
+    rt: &R,
+    words: &[&str],
+    input: &[u8],
+) -> Answer {
     let mut input = FromRead::new(input);
     let mut output = IntoWrite::new(Vec::new(rt.alloc()));
     let mut errors = IntoWrite::new(Vec::new(rt.alloc()));
@@ -32,7 +38,7 @@ fn answer_to<R: AllocGlobal>(rt: &R, words: &[&str], input: &[u8]) -> Answer {
 }
 
 pub fn assert_answer(
-    rt: &(impl Abort + AllocGlobal),
+    rt: &(impl Abort + AllocGlobal + Threads + Wait + Sync),
     words: &[&str],
     status: u8,
     output: &str,
@@ -43,7 +49,7 @@ pub fn assert_answer(
 
 /// The same, where the program is given this input.
 pub fn assert_answer_on(
-    rt: &(impl Abort + AllocGlobal),
+    rt: &(impl Abort + AllocGlobal + Threads + Wait + Sync),
     words: &[&str],
     input: &[u8],
     status: u8,
@@ -57,7 +63,7 @@ pub fn assert_answer_on(
 }
 
 /// The words are refused with status 2, with a text on standard error and nothing on standard output.
-pub fn assert_wrong(rt: &(impl Abort + AllocGlobal), words: &[&str]) {
+pub fn assert_wrong(rt: &(impl Abort + AllocGlobal + Threads + Wait + Sync), words: &[&str]) {
     let answer = answer_to(rt, words, &[]);
     assert_eq!(rt; answer.status, 2, "{words:?}");
     assert_eq!(rt; answer.output.len(), 0, "{words:?}");

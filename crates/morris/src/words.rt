@@ -2,12 +2,13 @@
 ghost use Rattle.std.specs.Prelude.{◌≡◌, [], IfErr, IfOk, OnOk, Some, codes, false, map};
 ghost use Rattle.clap.specs.Words.{FailsBy, app_of, found_of, kind_of, rows_of, rule_of};
 ghost use Rattle.clap.specs.Words.{subcommand_rows_of};
-ghost use Rattle.morris.specs.Words.{AsksFor, HasLookValues, HasProbeValues, HasStatsValues, HasVerifyValues, IsAnswerTo};
-ghost use Rattle.morris.specs.Words.{IsAnswerToOneOf, IsInRange, NamesRequest, depth_rule, faults_of};
-ghost use Rattle.morris.specs.Words.{has_globals, look_app, morris_app, named_by, probe_app, required_rule, stats_app, verify_app};
+ghost use Rattle.morris.specs.Words.{AsksFor, HasBuildValues, HasLookValues, HasProbeValues, HasStatsValues, HasVerifyValues};
+ghost use Rattle.morris.specs.Words.{IsAnswerTo, IsAnswerToOneOf, IsInRange, NamesRequest, all_rule, blocks_rule, build_app};
+ghost use Rattle.morris.specs.Words.{depth_rule, faults_of, has_globals, look_app, morris_app, named_by, probe_app};
+ghost use Rattle.morris.specs.Words.{required_rule, stats_app, verify_app, workers_rule};
 
 use clap::error::ErrorKind;
-use clap::{Arg, ArgMatches, Command, Error, value_parser};
+use clap::{Arg, ArgAction, ArgMatches, Command, Error, value_parser};
 use std::alloc::{AllocError, Global};
 use std::convert::AsStr;
 
@@ -25,6 +26,16 @@ pub enum Request<'a> {
     Stats {
         board: &'a str,
         pair: &'a str,
+    },
+    /// Build the table of the pair that `pair` names on the board named `board`, and of each pair
+    /// below it, with 1 to 64 `workers` and 1 to 1,024 `blocks`, and write the table file of the
+    /// pair, or where `all` is true those of all these pairs.
+    Build {
+        board: &'a str,
+        pair: &'a str,
+        workers: u8,
+        blocks: u16,
+        all: bool,
     },
     /// Verify the table file on the input, of the board named `board`.
     Verify {
@@ -74,6 +85,13 @@ fn parse<'a, S: AsStr>(alloc: Global, words: &'a [S]) -> Result<ArgMatches<'a>, 
 
 const POSITION_HELP: &str = "The position: for each point X own, O other or . vacant";
 
+const PAIR_HELP: &str = "The numbers of stones of the two players: 3-3, 4-3, ..";
+
+// How many workers and blocks `build` has where they are left out.
+const DEFAULT_WORKERS: &str = "2";
+
+const DEFAULT_BLOCKS: &str = "16";
+
 // The program, with its commands: each is one `subcommand` here, and one arm of `request_of`.
 fn morris_command<'a>(alloc: Global) -> Result<Command<'a>, AllocError>
     ensures { IfOk result (λ c. app_of c ≡ morris_app) }
@@ -84,6 +102,7 @@ fn morris_command<'a>(alloc: Global) -> Result<Command<'a>, AllocError>
         .subcommand_required(true)
         .subcommand(look_command(alloc)?)?
         .subcommand(stats_command(alloc)?)?
+        .subcommand(build_command(alloc)?)?
         .subcommand(verify_command(alloc)?)?
         .subcommand(probe_command(alloc)?)
 }
@@ -106,11 +125,20 @@ fn stats_command<'a>(alloc: Global) -> Result<Command<'a>, AllocError>
     Command::new(alloc, "stats")
         .about("Count the values of all positions with a pair's numbers of stones")
         .arg(required_arg(alloc, "BOARD", "The board: nine or grid"))?
-        .arg(required_arg(
-            alloc,
-            "PAIR",
-            "The numbers of stones of the two players: 3-3, 4-3, ..",
-        ))
+        .arg(required_arg(alloc, "PAIR", PAIR_HELP))
+}
+
+fn build_command<'a>(alloc: Global) -> Result<Command<'a>, AllocError>
+    ensures app { IfOk result (λ c. app_of c ≡ build_app) }
+    ensures local { IfOk result (λ c. has_globals c ≡ false) }
+{
+    Command::new(alloc, "build")
+        .about("Build the table of a pair, and write its file to standard output")
+        .arg(required_arg(alloc, "BOARD", "The board: nine or grid"))?
+        .arg(required_arg(alloc, "PAIR", PAIR_HELP))?
+        .arg(workers_arg(alloc))?
+        .arg(blocks_arg(alloc))?
+        .arg(all_arg(alloc))
 }
 
 fn verify_command<'a>(alloc: Global) -> Result<Command<'a>, AllocError>
@@ -153,6 +181,40 @@ fn depth_arg<'a>(alloc: Global) -> Arg<'a>
         .help("How many plies to look ahead, 0 to 6")
 }
 
+fn workers_arg<'a>(alloc: Global) -> Arg<'a>
+    ensures rule { rule_of result ≡ workers_rule }
+    ensures local { result.global ≡ false }
+{
+    Arg::new(alloc, "workers")
+        .long("workers")
+        .value_name("W")
+        .value_parser(value_parser!(u8).range(1..=64))
+        .default_value(DEFAULT_WORKERS)
+        .help("How many threads work, 1 to 64")
+}
+
+fn blocks_arg<'a>(alloc: Global) -> Arg<'a>
+    ensures rule { rule_of result ≡ blocks_rule }
+    ensures local { result.global ≡ false }
+{
+    Arg::new(alloc, "blocks")
+        .long("blocks")
+        .value_name("K")
+        .value_parser(value_parser!(u16).range(1..=1024))
+        .default_value(DEFAULT_BLOCKS)
+        .help("Into how many blocks the positions are cut, 1 to 1024")
+}
+
+fn all_arg<'a>(alloc: Global) -> Arg<'a>
+    ensures rule { rule_of result ≡ all_rule }
+    ensures local { result.global ≡ false }
+{
+    Arg::new(alloc, "all")
+        .long("all")
+        .action(ArgAction::SetTrue)
+        .help("Write the files of the pairs below it too, one after the other")
+}
+
 fn request_of<'a>(matches: &ArgMatches<'a>) -> Request<'a>
     requires { NamesRequest (subcommand_rows_of matches.now) }
     ensures request { AsksFor (subcommand_rows_of matches.now) result }
@@ -161,6 +223,7 @@ fn request_of<'a>(matches: &ArgMatches<'a>) -> Request<'a>
     match matches.subcommand() {
         Some(("look", found)) => look_request(found),
         Some(("stats", found)) => stats_request(found),
+        Some(("build", found)) => build_request(found),
         Some(("verify", found)) => verify_request(found),
         Some(("probe", found)) => probe_request(found),
         _ => unreachable!(),
@@ -191,6 +254,28 @@ fn stats_request<'a>(found: &ArgMatches<'a>) -> Request<'a>
         unreachable!()
     };
     Request::Stats { board, pair }
+}
+
+fn build_request<'a>(found: &ArgMatches<'a>) -> Request<'a>
+    requires { HasBuildValues (rows_of (found_of found.now)) }
+    ensures request { AsksFor (Some (codes "build", rows_of (found_of found.now))) result }
+    ensures range { IsInRange result }
+{
+    let (Some(board), Some(pair), Some(workers), Some(blocks)) = (
+        found.get_str("BOARD"),
+        found.get_str("PAIR"),
+        found.get_one::<u8>("workers"),
+        found.get_one::<u16>("blocks"),
+    ) else {
+        unreachable!()
+    };
+    Request::Build {
+        board,
+        pair,
+        workers,
+        blocks,
+        all: found.get_flag("all"),
+    }
 }
 
 fn verify_request<'a>(found: &ArgMatches<'a>) -> Request<'a>

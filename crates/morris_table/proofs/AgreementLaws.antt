@@ -1,6 +1,6 @@
 -- A list of codes in which all entries agree is exact, and an exact list agrees everywhere.
-use Rattle.std.proofs.Common.{◌≡◌, ◌↔◌, ℕ, zero, suc, ◌+◌, ◌-◌, ◌<◌, ◌≤◌, ◌%◌, Bool, true, false, not, ◌&&◌, ◌||◌, cond, eqb, ltb, leb, List, [], ◌∷◌, ◌++◌, map, append-nil, append_assoc, filter, Option, Some, None, min, max, get_or, IfSome, refl, sym, ap, ap₂, subst, ◌∙◌, inl, inr, ◌⊎◌, arith, add-suc, add-zero}
-use Rattle.std.proofs.lemmas.Bool.{false≢true, cases_lt, cases_Bool, both_ways, and_from, and_left, and_right, and_parts, or_cases, or_parts, or_from, or_left, or_right, le-leb, lt-leb, lt-ltb, le-ltb, leb-true, ltb-true, eq-eqb, eqb-true, ne_eqb, not-true, not_from_false, not_from_true, false_from_ne_true, cond-true, cond-false}
+use Rattle.std.proofs.Common.{◌≡◌, ◌↔◌, ℕ, zero, suc, ◌+◌, ◌-◌, ◌<◌, ◌≤◌, ◌%◌, Bool, true, false, not, ◌&&◌, ◌||◌, eqb, ltb, leb, List, [], ◌∷◌, ◌++◌, map, append-nil, append_assoc, filter, Option, Some, None, min, max, get_or, refl, sym, ap, ap₂, subst, ◌∙◌, inl, inr, ◌⊎◌, arith, add-suc, add-zero}
+use Rattle.std.proofs.lemmas.Bool.{false≢true, cases_lt, cases_Bool, both_ways, and_from, and_right, and_parts, or_cases, or_parts, or_left, or_right, le-leb, lt-leb, lt-ltb, le-ltb, leb-true, ltb-true, eq-eqb, eqb-true, ne_eqb, not-true, not_from_false, false_from_ne_true, cond-true, cond-false}
 use Rattle.std.proofs.lemmas.List.Folds.{list_all-map, list_all-append, list_any-append}
 use Rattle.std.proofs.lemmas.List.{map-append, flat_map_more}
 use Rattle.std.proofs.lemmas.List.Elements.{filter-append}
@@ -15,8 +15,8 @@ use Rattle.morris_index.specs.Pairs.{Counts, IsPair, is_of, size_of, index_of}
 use Rattle.morris_index.proofs.IndexLaws.{placed, index-same}
 use Rattle.morris_wave.specs.Nets.{Net}
 use Rattle.morris_wave.specs.declared.network.Exits.{Exits}
-use Rattle.morris_wave.specs.Exits.{is_odd, is_won_code, least, greatest, depths, exits_of, some_below, none_from, exits_lost, exits_won}
-use Rattle.morris_wave.specs.Values.{is_lost, is_won, is_decided, some_lost, all_won, is_lost_exit, is_won_exit, HasCode, HasDepth}
+use Rattle.morris_wave.specs.Exits.{is_odd, is_won_code, least, greatest, depths, exits_of, some_below, exits_lost, exits_won}
+use Rattle.morris_wave.specs.Values.{is_lost, is_won, is_decided, is_lost_exit, is_won_exit, HasCode, HasDepth}
 use Rattle.morris_wave.proofs.Depths.{lost_more, won_more, lost_parity, won_parity, apart, decided_by_then, none_decided}
 use Rattle.morris_wave.proofs.ExitTests.{depths_yes, depths_no, some_exit_lost, each_exit_won}
 use Rattle.morris_table.specs.Codes.{IsCodeOf, code_to}
@@ -24,11 +24,11 @@ use Rattle.morris_table.specs.PairNets.{is_quiet, is_capture, quiet_results, cap
 use Rattle.morris_table.specs.Tables.{Table, IsTable}
 use Rattle.morris_table.specs.Raws.{IsRaw}
 use Rattle.morris_table.specs.Graphs.{HasGameValues}
-use Rattle.morris_table.specs.Summaries.{added, least_with}
+use Rattle.morris_wave.specs.Summaries.{added, least_with}
 use Rattle.morris_table.specs.Agreement.{code_above, code_from, stated_code, result_codes, quiet_codes, all_added, Agrees}
-use Rattle.morris_table.specs.FilterLaws.{list_any-map, all_parts, any_parts, filter-yes, filter-no}
+use Rattle.morris_table.specs.FilterLaws.{list_any-map, all_parts, any_parts}
 use Rattle.morris_table.specs.NetLaws.{points_few, quiet-at, exits-at, index_in, quiet-stays, result-position, net_at-level_of}
-use Rattle.morris_table.proofs.SummaryLaws.{exits_of-more}
+use Rattle.morris_wave.proofs.Summaries.{exits_of-more}
 use Rattle.morris_table.proofs.GraphLaws.{exits_same}
 
 -- ---- depths of lost codes are even, and those of won codes odd

@@ -9,7 +9,7 @@ use Rattle.morris_board.specs.Boards.{Shape}
 use Rattle.morris_board.specs.Positions.{Sides, IsPosition}
 use Rattle.morris_board.proofs.PointsLaws.{has-none, first_is, members-none}
 use Rattle.morris_moves.specs.declared.step.Move.{Move}
-use Rattle.morris_moves.specs.Rules.{closes, reach, is_vacant, takable, free_stones, is_legal, move, moves_to, moves_from, moves_of, result_of, takes_rightly}
+use Rattle.morris_moves.specs.Rules.{closes, goes, reach, is_vacant, takable, free_stones, is_legal, move, moves_to, moves_from, moves_of, result_of, takes_rightly}
 use Rattle.morris_moves.proofs.MaskLaws.{reach-lt}
 use Rattle.morris_moves.proofs.ListLaws.{any_contained, contained_any, Contains-head, Contains-tail}
 use Rattle.morris_moves.proofs.LegalLaws.{reached, takable_is_other, listed_is_legal, legal_is_listed, listed_move}
@@ -23,9 +23,9 @@ use Rattle.morris_table.specs.declared.rows.Row.{Row}
 use Rattle.morris_table.specs.Codes.{IsCodeOf, code_to}
 use Rattle.morris_table.specs.PairNets.{is_capture, capture_codes}
 use Rattle.morris_table.specs.Graphs.{exits_by}
-use Rattle.morris_table.specs.Rows.{may_come, may_close, IsRow}
+use Rattle.morris_table.specs.Rows.{may_close, IsRow}
 use Rattle.morris_table.specs.NetLaws.{is_none-false}
-use Rattle.morris_table.specs.Summaries.{added}
+use Rattle.morris_wave.specs.Summaries.{added}
 use Rattle.morris_table.proofs.CodeLaws.{code_of_stuck, code_to-is}
 use Rattle.morris_table.proofs.GraphLaws.{exits_by-quiet, exits_by-capture, exits_by-all}
 use Rattle.morris_table.proofs.RowLaws.{has_reach, may_close-all}
@@ -100,14 +100,14 @@ module _ (b : Shape) (n : ℕ) (points : b.points ≡ n) (low : n ≤ 24) (s : S
   -- where a stone closes a mill, one may
   opens : (u v : ℕ) → IsCapture b s u v → (has row.closing v ≡ true) × (has s.other v ≡ false)
   opens u v h =
-      let goes = reached b s u v h.goes in
-      let inside : v < n = omega (arith, goes.within, points) in
-      let parts = and_parts (is_vacant s v) (may_come b s.own u v) (sym (has_reach b s n points (omega arith) u v inside) ∙ h.goes) in
+      let reachable = reached b s u v h.goes in
+      let inside : v < n = omega (arith, reachable.within, points) in
+      let parts = and_parts (is_vacant s v) (goes b (count_of s.own) u v) (sym (has_reach b s n points (omega arith) u v inside) ∙ h.goes) in
       let there : may_close b s.own v ≡ true =
-      sym (may_close-all b s.own v goes.not_own)
-      ∙ contained_any (λ w. may_come b s.own w v && closes b s.own w v) (members s.own) u
+      sym (may_close-all b s.own v reachable.not_own)
+      ∙ contained_any (λ w. goes b (count_of s.own) w v && closes b s.own w v) (members s.own) u
       (member-has s.own u (omega (arith, point_lt s.own b.points u lawful.stones.own_within h.own, points)) h.own) (and_from _ _ parts.1 h.shuts) in
-      (is.closing v ∙ (ap (λ x. x && may_close b row.own v) (lt-ltb v n inside) ∙ (ap (λ o. may_close b o v) own ∙ there)), goes.not_other)
+      (is.closing v ∙ (ap (λ x. x && may_close b row.own v) (lt-ltb v n inside) ∙ (ap (λ o. may_close b o v) own ∙ there)), reachable.not_other)
 
   record Closer (v : ℕ) : Type 0 where
     from : ℕ
@@ -118,10 +118,10 @@ module _ (b : Shape) (n : ℕ) (points : b.points ≡ n) (low : n ≤ 24) (s : S
   closer v here free =
       let parts = and_parts (ltb v n) (may_close b s.own v) (rw (← own) (sym (is.closing v) ∙ here)) in
       let inside : v < n = ltb-true v n parts.0 in
-      let more = and_parts (not (has s.own v)) (list_any (λ u. may_come b s.own u v && closes b s.own u v) (members s.own)) parts.1 in
+      let more = and_parts (not (has s.own v)) (list_any (λ u. goes b (count_of s.own) u v && closes b s.own u v) (members s.own)) parts.1 in
       let apart : has s.own v ≡ false = not-true (has s.own v) more.0 in
-      let one = any_contained (λ u. may_come b s.own u v && closes b s.own u v) (members s.own) more.1 in
-      let both = and_parts (may_come b s.own one.0 v) (closes b s.own one.0 v) one.2 in
+      let one = any_contained (λ u. goes b (count_of s.own) u v && closes b s.own u v) (members s.own) more.1 in
+      let both = and_parts (goes b (count_of s.own) one.0 v) (closes b s.own one.0 v) one.2 in
       let vacant : is_vacant s v ≡ true = rw (apart, free) refl in
       record {
         from = one.0;

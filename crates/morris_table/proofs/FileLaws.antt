@@ -254,3 +254,18 @@ file_of-read board header digest codes c small long named counted right =
     ap (λ h. h ++ code_bytes codes ++ sha256 (h ++ code_bytes codes)) same
     ∙ ap (λ d. header ++ code_bytes codes ++ d) (sym right)
     ∙ append_assoc header (code_bytes codes) digest
+
+-- how many bytes a file has: 16 before the codes, 2 for each code, and 32 after them
+pub length-file_of : (board : Shape) (t : Table) → length (file_of board t) ≡ 16 + 2 * length t.codes + 32
+unfolding file_of content_of
+length-file_of board t =
+    let header : List ℕ = header_of board t.pair (length t.codes) in
+    let content : List ℕ = header ++ code_bytes t.codes in
+    omega (
+      arith,
+      length-append content (sha256 content),
+      length-append header (code_bytes t.codes),
+      length-header_of board t.pair (length t.codes),
+      length-code_bytes t.codes,
+      length-sha256 content,
+    )

@@ -20,7 +20,7 @@ use Rattle.morris_wave.specs.Values.{HasCode, IsTooDeep}
 use Rattle.morris_table.specs.Codes.{IsCodeOf, code_to}
 use Rattle.morris_table.specs.PairNets.{is_capture, is_quiet, quiet_results, capture_codes, pair_net, level_of, net_at}
 use Rattle.morris_table.specs.Tables.{Table}
-use Rattle.morris_table.specs.Summaries.{added}
+use Rattle.morris_wave.specs.Summaries.{added}
 use Rattle.morris_table.specs.Graphs.{IsTableOf, IsNeeded, IsPairGraph, IsLedTo, exits_by, HasGameValues}
 use Rattle.morris_table.specs.Known.{IsTabled, IsKnown, IsBeyondCodes}
 use Rattle.morris_table.specs.FilterLaws.{filter-yes, filter-no}
@@ -29,7 +29,7 @@ use Rattle.morris_table.proofs.CodeLaws.{code_of_stuck, code_to-is}
 use Rattle.morris_table.proofs.NodeLaws.{known_by_tables, node_code, code_node}
 use Rattle.morris_table.proofs.DepthLaws.{too_deep_game, game_too_deep}
 use Rattle.morris_table.proofs.TableLaws.{code_at}
-use Rattle.morris_table.proofs.SummaryLaws.{exits_of-more}
+use Rattle.morris_wave.proofs.Summaries.{exits_of-more}
 
 -- ---- the code of what a capture leads to
 

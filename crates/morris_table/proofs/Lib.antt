@@ -2,6 +2,7 @@
 pub mod CodeLaws
 pub mod PositionLaws
 pub mod NodeLaws
+pub mod HeadlineLaws
 pub mod DepthLaws
 pub mod TallyLaws
 pub mod TableLaws
@@ -12,12 +13,13 @@ pub mod BackLawsLoops
 pub mod BackLawsMoves
 pub mod BackLawsNodes
 pub mod BackLawsSources
-pub mod SummaryLaws
 pub mod QuietLaws
 pub mod RowLaws
 pub mod GraphLaws
 pub mod CaptureLaws
 pub mod SweepLaws
+pub mod BuildLaws
 pub mod AgreementLaws
 pub mod FileLaws
 pub mod ReadingLaws
+pub mod PlaceLaws

@@ -10,7 +10,7 @@ use Rattle.morris_board.specs.Sets.{has, members, count_of, with_point}
 use Rattle.morris_board.specs.Boards.{Shape, is_adjacent, adjacent}
 use Rattle.morris_board.specs.Positions.{Sides, IsPosition}
 use Rattle.morris_board.proofs.PointsLaws.{has-set_where, has-none, has-with, count_of-le}
-use Rattle.morris_moves.specs.Rules.{closes, reach, is_vacant, may_go, moves_from, moves_of}
+use Rattle.morris_moves.specs.Rules.{closes, goes, reach, is_vacant, may_go, moves_from, moves_of}
 use Rattle.morris_moves.proofs.MaskLaws.{reach-lt}
 use Rattle.morris_index.proofs.RankLaws.{passing, passing-yes, passing-no, members-passing}
 use Rattle.morris_index.proofs.Moving.{total, total-zero, total-suc}
@@ -18,7 +18,7 @@ use Rattle.morris_wave.specs.declared.network.Exits.{Exits}
 use Rattle.morris_wave.specs.Exits.{no_exits}
 use Rattle.morris_wave.specs.Solving.{exits_at}
 use Rattle.morris_table.specs.PairNets.{is_quiet}
-use Rattle.morris_table.specs.Rows.{may_come, arrivals, may_close}
+use Rattle.morris_table.specs.Rows.{arrivals, may_close}
 use Rattle.morris_table.proofs.QuietLaws.{quiet_among, quiet_more, quiet_all, quiet_of, quiet_of_all}
 
 -- ---- sums over the points below n
@@ -98,10 +98,10 @@ module _ (b : Shape) (s : Sides) where
         ∙ (ap₂ (λ x y. x + y) (from_stone u) (from_stones us) ∙ total-add (where_ (has (reach b s u)) (open_ u)) (arriving us) n))
 
     abbrev comes : ℕ → ℕ → Bool
-    comes v u = may_come b s.own u v && not (closes b s.own u v)
+    comes v u = goes b (count_of s.own) u v && not (closes b s.own u v)
 
-    pub has_reach : (u v : ℕ) → v < n → has (reach b s u) v ≡ (is_vacant s v && may_come b s.own u v)
-    unfolding reach may_go may_come
+    pub has_reach : (u v : ℕ) → v < n → has (reach b s u) v ≡ (is_vacant s v && goes b (count_of s.own) u v)
+    unfolding reach may_go
     has_reach u v h = has-set_where b.points (may_go b s u) v ∙ ap (λ x. x && may_go b s u v) (lt-ltb v b.points (omega (arith, points)))
 
     one_more : (c : Bool) (k : Bool) → cond (true && c) (cond k 0 1) 0 ≡ cond {A = ℕ} (c && not k) 1 0
@@ -117,14 +117,14 @@ module _ (b : Shape) (s : Sides) where
     at_vacant v h free [] = refl
     at_vacant v h free (u ∷ us) =
         let here : where_ (has (reach b s u)) (open_ u) v ≡ cond {A = ℕ} (comes v u) 1 0 =
-        ap (λ x. cond x (open_ u v) 0) (has_reach u v h ∙ ap (λ x. x && may_come b s.own u v) free) ∙ one_more (may_come b s.own u v) (closes b s.own u v) in
+        ap (λ x. cond x (open_ u v) 0) (has_reach u v h ∙ ap (λ x. x && goes b (count_of s.own) u v) free) ∙ one_more (goes b (count_of s.own) u v) (closes b s.own u v) in
         ap₂ (λ x y. x + y) here (at_vacant v h free us) ∙ one_longer (comes v u) u (filter (comes v) us)
 
     at_taken : (v : ℕ) → v < n → is_vacant s v ≡ false → (us : List ℕ) → arriving us v ≡ 0
     at_taken v h taken [] = refl
     at_taken v h taken (u ∷ us) =
         let here : where_ (has (reach b s u)) (open_ u) v ≡ 0 =
-        ap (λ x. cond x (open_ u v) 0) (has_reach u v h ∙ ap (λ x. x && may_come b s.own u v) taken) in
+        ap (λ x. cond x (open_ u v) 0) (has_reach u v h ∙ ap (λ x. x && goes b (count_of s.own) u v) taken) in
         omega (arith, here, at_taken v h taken us)
 
     -- ---- all of them, and those to where the other stands
@@ -157,39 +157,38 @@ module _ (b : Shape) (s : Sides) where
 -- ---- what the loops keep
 
 module _ (b : Shape) (own : ℕ) where
-  pub may_come-slide : (n u v : ℕ) → b.points ≡ n → v < n → ltb 3 (count_of own) ≡ true → has (adjacent b u) v ≡ may_come b own u v
-  unfolding may_come adjacent
-  may_come-slide n u v points h many =
+  pub goes-slide : (n u v : ℕ) → b.points ≡ n → v < n → ltb 3 (count_of own) ≡ true → has (adjacent b u) v ≡ goes b (count_of own) u v
+  unfolding adjacent
+  goes-slide n u v points h many =
       has-set_where b.points (is_adjacent b u) v ∙ rw (many, lt-ltb v b.points (omega (arith, points))) refl
 
-  pub may_come-jump : (u v : ℕ) → ltb 3 (count_of own) ≡ false → eqb (count_of own) 3 ≡ may_come b own u v
-  unfolding may_come
-  may_come-jump u v few = rw few refl
+  pub goes-jump : (u v : ℕ) → ltb 3 (count_of own) ≡ false → eqb (count_of own) 3 ≡ goes b (count_of own) u v
+  goes-jump u v few = rw few refl
 
   pub arrivals-own : (v : ℕ) → has own v ≡ true → arrivals b own v ≡ 0
   unfolding arrivals
   arrivals-own v y = rw y refl
 
   abbrev pub coming : ℕ → List ℕ → ℕ
-  coming v us = length (filter (λ u. may_come b own u v && not (closes b own u v)) us)
+  coming v us = length (filter (λ u. goes b (count_of own) u v && not (closes b own u v)) us)
 
   pub arrivals-all : (v : ℕ) → has own v ≡ false → arrivals b own v ≡ coming v (members own)
   unfolding arrivals
   arrivals-all v y = rw y refl
 
-  pub coming-more : (v u : ℕ) (us : List ℕ) → coming v (us ++ u ∷ []) ≡ coming v us + cond (may_come b own u v && not (closes b own u v)) 1 0
-  coming-more v u us = elim (cases_Bool (may_come b own u v && not (closes b own u v))) [
+  pub coming-more : (v u : ℕ) (us : List ℕ) → coming v (us ++ u ∷ []) ≡ coming v us + cond (goes b (count_of own) u v && not (closes b own u v)) 1 0
+  coming-more v u us = elim (cases_Bool (goes b (count_of own) u v && not (closes b own u v))) [
     | inl y ↦
-        ap length (filter-append (λ w. may_come b own w v && not (closes b own w v)) us (u ∷ [])) ∙ rw y
-        (length-append (filter (λ w. may_come b own w v && not (closes b own w v)) us) (u ∷ []))
+        ap length (filter-append (λ w. goes b (count_of own) w v && not (closes b own w v)) us (u ∷ [])) ∙ rw y
+        (length-append (filter (λ w. goes b (count_of own) w v && not (closes b own w v)) us) (u ∷ []))
     | inr y ↦
-        ap length (filter-append (λ w. may_come b own w v && not (closes b own w v)) us (u ∷ [])) ∙ rw y
-        (length-append (filter (λ w. may_come b own w v && not (closes b own w v)) us) [])
+        ap length (filter-append (λ w. goes b (count_of own) w v && not (closes b own w v)) us (u ∷ [])) ∙ rw y
+        (length-append (filter (λ w. goes b (count_of own) w v && not (closes b own w v)) us) [])
   ]
 
   coming-few : (v : ℕ) (us : List ℕ) → coming v us ≤ length us
   coming-few v [] = omega arith
-  coming-few v (u ∷ us) = elim (cases_Bool (may_come b own u v && not (closes b own u v))) [
+  coming-few v (u ∷ us) = elim (cases_Bool (goes b (count_of own) u v && not (closes b own u v))) [
     | inl y ↦ rw y (omega (arith, coming-few v us))
     | inr y ↦ rw y (omega (arith, coming-few v us))
   ]
@@ -202,7 +201,7 @@ module _ (b : Shape) (own : ℕ) where
   ]
 
   abbrev pub closing_among : ℕ → List ℕ → Bool
-  closing_among v us = list_any (λ u. may_come b own u v && closes b own u v) us
+  closing_among v us = list_any (λ u. goes b (count_of own) u v && closes b own u v) us
 
   pub may_close-own : (v : ℕ) → has own v ≡ true → false ≡ may_close b own v
   unfolding may_close
@@ -219,11 +218,11 @@ module _ (b : Shape) (own : ℕ) where
     | inr z ↦ rw z (split_any p us u ws y)
   ]
 
-  pub may_close-here : (v u : ℕ) (us ws : List ℕ) → us ++ u ∷ ws ≡ members own → has own v ≡ false → may_come b own u v ≡ true → closes b own u v ≡ true
+  pub may_close-here : (v u : ℕ) (us ws : List ℕ) → us ++ u ∷ ws ≡ members own → has own v ≡ false → goes b (count_of own) u v ≡ true → closes b own u v ≡ true
       → true ≡ may_close b own v
   may_close-here v u us ws split none comes closing =
       sym (sym (may_close-all v none) ∙ (ap (closing_among v) (sym split)
-      ∙ split_any (λ w. may_come b own w v && closes b own w v) us u ws (rw (comes, closing) refl)))
+      ∙ split_any (λ w. goes b (count_of own) w v && closes b own w v) us u ws (rw (comes, closing) refl)))
 
 -- an array whose entries are those of a function, one more at a time
 pub each_more : (f : ℕ → ℕ) (kept : List ℕ) (k x : ℕ) → k < length kept → x ≡ f k → ((v : ℕ) → v < k → slice_index kept v ≡ f v)

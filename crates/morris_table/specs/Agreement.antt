@@ -1,5 +1,5 @@
 -- When a stated code agrees with the codes of what the position leads to.
-use Rattle.std.specs.Prelude.{◌≡◌, ℕ, ◌+◌, ◌<◌, List, [], ◌∷◌, map, filter, Option, Some, None, slice_index, if◌then◌else◌, true}
+use Rattle.std.specs.Prelude.{◌≡◌, ℕ, ◌+◌, ◌<◌, List, [], ◌∷◌, map, filter, Some, None, slice_index, if◌then◌else◌, true}
 use Rattle.morris_board.specs.Boards.{Shape}
 use Rattle.morris_board.specs.Positions.{Sides, IsPosition}
 use Rattle.morris_moves.specs.declared.step.Move.{Move}
@@ -10,7 +10,7 @@ use Rattle.morris_wave.specs.Exits.{exits_of}
 use Rattle.morris_table.specs.Codes.{code_to}
 use Rattle.morris_table.specs.PairNets.{is_quiet}
 use Rattle.morris_table.specs.Tables.{Table}
-use Rattle.morris_table.specs.Summaries.{added}
+use Rattle.morris_wave.specs.Summaries.{added}
 
 -- The code of a position by what its results come to. Where a result is lost for the opponent, the
 -- player to move wins, one ply after the one that is lost soonest. Else, where every result is won

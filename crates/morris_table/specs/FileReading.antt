@@ -1,6 +1,6 @@
 -- What reading any bytes as the file of a table gives: the table, or the refusal of the first step
 -- that refuses.
-use Rattle.std.specs.Prelude.{◌≡◌, ℕ, ◌+◌, ◌*◌, ◌<◌, Bool, true, false, ◌&&◌, nat_eq, nat_le, List, [], ◌∷◌, ◌++◌, length, take, drop, slice_index, Option, Some, None, Result, Ok, Err, IsOk, IfSome}
+use Rattle.std.specs.Prelude.{◌≡◌, ℕ, ◌+◌, ◌*◌, ◌<◌, ◌≤◌, Bool, true, false, ◌&&◌, nat_eq, nat_le, List, [], ◌∷◌, ◌++◌, length, take, drop, slice_index, Option, Some, None, Result, Ok, Err, IsOk, IfSome}
 use Rattle.std.specs.Int.{w16, w64, from_be_bytes}
 use Rattle.std.specs.Str.{bytes_eq}
 use Rattle.std.specs.Io.KnownBytes.{Consumes}
@@ -115,6 +115,26 @@ Reads found (Some bytes) new (Err refusal) = found bytes ≡ Err refusal
 abbrev pub HasHeader : Shape → Option (List ℕ) → Type 0
 HasHeader board None = Unit {0}
 HasHeader board (Some bytes) = IsOk (header_in board bytes)
+
+-- how many bytes stand after a header: two for each entry and 32 for the digest, and none after what
+-- is refused as a header
+abbrev pub body_length : Shape → Result Counts ReadFault → ℕ
+body_length board (Ok pair) = 2 * size_of board.points pair + 32
+body_length board (Err refusal) = 0
+
+-- how long the file is that bytes begin with, by what they have for a header
+abbrev pub file_length : Shape → List ℕ → ℕ
+file_length board bytes = 16 + body_length board (header_in board bytes)
+
+-- where bytes are known, those that were read are the first ones, and at most n
+abbrev pub StandsWithin : ℕ → Option (List ℕ) → Option (List ℕ) → Type 0
+StandsWithin n old new = (read : List ℕ) × (length read ≤ n) × Consumes old new read
+
+-- The source stands in the file that its bytes began with, or at its end, or at most so many bytes
+-- past it.
+abbrev pub StandsInFile : Shape → ℕ → Option (List ℕ) → Option (List ℕ) → Type 0
+StandsInFile board past None new = Unit {0}
+StandsInFile board past (Some bytes) new = StandsWithin (file_length board bytes + past) (Some bytes) new
 
 -- one failed read was counted where the answer is Read, and none where it is another
 abbrev pub CountsRead : {A : Type 0} → ℕ → ℕ → Result A ReadFault → Type 0

@@ -11,8 +11,9 @@ pub mod TableFiles
 pub mod FileReading
 pub mod Headers
 pub mod Shelves
-pub mod Summaries
 pub mod Graphs
 pub mod Sweeping
 pub mod Agreement
 pub mod Verifying
+pub mod Headline
+pub mod Building

@@ -1,6 +1,6 @@
 -- Laws of the graph of a pair: its nodes are the positions of the pair, and it is a graph.
 use Rattle.std.proofs.Common.{◌≡◌, ℕ, ◌+◌, ◌/◌, ◌%◌, ◌^◌, ◌<◌, ◌≤◌, Bool, true, false, not, ◌&&◌, eqb, leb, List, [], ◌∷◌, map, filter, length, Option, Some, None, is_none, refl, sym, ap, ap₂, subst, ◌∙◌, inl, inr, ◌⊎◌, arith, zero, suc, cond}
-use Rattle.std.proofs.lemmas.Bool.{cases_Bool, cases_eq, both_ways, and_parts, and_from, eqb-true, eq-eqb, leb-true, le-leb, not-true, not_from_false, false_from_ne_true}
+use Rattle.std.proofs.lemmas.Bool.{cases_Bool, cases_eq, both_ways, and_parts, and_from, eqb-true, eq-eqb, leb-true, not-true, not_from_false, false_from_ne_true}
 use Rattle.std.proofs.lemmas.List.{length-map}
 use Rattle.std.specs.List.{Contains, flat_map, range_with_len}
 use Rattle.morris_board.specs.Boards.{Shape, is_board}
@@ -8,8 +8,8 @@ use Rattle.morris_board.specs.Sets.{has, members, count_of}
 use Rattle.morris_board.specs.Positions.{Sides, sides, IsApart, IsPosition, is_sized}
 use Rattle.morris_board.proofs.PointsLaws.{all_members, members_all, count_of-le}
 use Rattle.morris_index.specs.Numbering.{half_size}
-use Rattle.morris_index.specs.Pairs.{Counts, counts, IsPair, is_of, size_of, index_of, needed}
-use Rattle.morris_index.proofs.PairLaws.{from_between}
+use Rattle.morris_index.specs.Pairs.{Counts, counts, IsPair, is_pair, is_of, size_of, index_of, needed}
+use Rattle.morris_index.proofs.PairLaws.{from_between, pair_passes, pair_passed}
 use Rattle.morris_index.proofs.IndexLaws.{IsPlaced, placed, halves_of, index-same, index-lt, size-one, size-two, half_size-few}
 use Rattle.morris_index.proofs.ResultLaws.{is_of-quiet, is_of-capture}
 use Rattle.morris_moves.specs.declared.step.Move.{Move}
@@ -19,7 +19,7 @@ use Rattle.morris_moves.proofs.SetLaws.{point_lt}
 use Rattle.morris_moves.proofs.LegalLaws.{IsLegalMove, listed_move}
 use Rattle.morris_moves.proofs.ResultLaws.{IsPosition-result, count_of-mover, count_of-quiet, count_of-capture}
 use Rattle.morris_wave.specs.Nets.{Net, IsNet}
-use Rattle.morris_table.specs.PairNets.{all_sides, are_apart, is_at, at_index, is_quiet, is_capture, quiet_results, capture_codes, pair_net, level_of, counts_at, is_pair, net_at}
+use Rattle.morris_table.specs.PairNets.{all_sides, are_apart, is_at, at_index, is_quiet, is_capture, quiet_results, capture_codes, pair_net, level_of, counts_at, net_at}
 use Rattle.morris_table.specs.Codes.{is_decided, code_to}
 use Rattle.morris_table.specs.FilterLaws.{filter-flat_map, filter-map, flat_map-one, filter-yes, filter-no, range_bounds, range_none, range_one, filter-contains, length-filter_le, All-from_contained}
 
@@ -28,23 +28,6 @@ use Rattle.morris_table.specs.FilterLaws.{filter-flat_map, filter-map, flat_map-
 pub points_few : (board : Shape) → is_board board ≡ true → board.points ≤ 24
 unfolding is_board
 points_few board h = leb-true board.points 24 (and_parts (leb board.points 24) _ h).0
-
-pub pair_passes : (n : ℕ) (c : Counts) → IsPair n c → is_pair n c ≡ true
-pair_passes n c h =
-    and_from _ _ (le-leb c.greater 9 h.most)
-    (and_from _ _ (le-leb c.lesser c.greater h.ordered) (and_from _ _ (le-leb 3 c.lesser h.least) (le-leb (c.greater + c.lesser) n h.fits)))
-
-pub pair_passed : (n : ℕ) (c : Counts) → is_pair n c ≡ true → IsPair n c
-pair_passed n c h =
-    let first = and_parts (leb c.greater 9) (leb c.lesser c.greater && (leb 3 c.lesser && leb (c.greater + c.lesser) n)) h in
-    let second = and_parts (leb c.lesser c.greater) (leb 3 c.lesser && leb (c.greater + c.lesser) n) first.1 in
-    let third = and_parts (leb 3 c.lesser) (leb (c.greater + c.lesser) n) second.1 in
-    record {
-      most = leb-true _ _ first.0;
-      ordered = leb-true _ _ second.0;
-      least = leb-true _ _ third.0;
-      fits = leb-true _ _ third.1;
-    }
 
 -- ---- stones that are apart
 

@@ -1,12 +1,12 @@
 -- The graph of a pair: its nodes are the positions of the pair, by their indices.
-use Rattle.std.specs.Prelude.{ℕ, ◌+◌, ◌*◌, ◌/◌, ◌%◌, ◌^◌, Bool, not, ◌&&◌, nat_eq, nat_le, List, [], map, filter, is_none, if◌then◌else◌}
+use Rattle.std.specs.Prelude.{ℕ, ◌+◌, ◌*◌, ◌/◌, ◌%◌, ◌^◌, Bool, not, ◌&&◌, nat_eq, List, [], map, filter, is_none, if◌then◌else◌}
 use Rattle.std.specs.List.{range_with_len, list_all, flat_map}
 use Rattle.morris_board.specs.Sets.{has, members}
 use Rattle.morris_board.specs.Boards.{Shape, is_board}
 use Rattle.morris_board.specs.Positions.{Sides, sides}
 use Rattle.morris_moves.specs.declared.step.Move.{Move}
 use Rattle.morris_moves.specs.Rules.{moves_of, result_of}
-use Rattle.morris_index.specs.Pairs.{Counts, counts, is_of, size_of, index_of}
+use Rattle.morris_index.specs.Pairs.{Counts, counts, is_pair, is_of, size_of, index_of}
 use Rattle.morris_wave.specs.Nets.{Net}
 use Rattle.morris_table.specs.Codes.{code_to}
 
@@ -55,10 +55,6 @@ level_of c = c.greater * 10 + c.lesser
 
 abbrev pub counts_at : ℕ → Counts
 counts_at level = counts (level / 10) (level % 10)
-
--- whether two numbers of stones are a pair on n points
-abbrev pub is_pair : ℕ → Counts → Bool
-is_pair n c = nat_le c.greater 9 && (nat_le c.lesser c.greater && (nat_le 3 c.lesser && nat_le (c.greater + c.lesser) n))
 
 abbrev empty_net : Net
 empty_net = record { size = 0; quiet = λ i. []; exits = λ i. [] }

@@ -1,23 +1,19 @@
 -- What the moves of the stones of one player are, whatever the opponent has.
-use Rattle.std.specs.Prelude.{◌≡◌, ℕ, ◌<◌, Bool, not, ◌&&◌, nat_eq, nat_lt, filter, length, slice_index, if◌then◌else◌}
+use Rattle.std.specs.Prelude.{◌≡◌, ℕ, ◌<◌, Bool, not, ◌&&◌, nat_lt, filter, length, slice_index, if◌then◌else◌}
 use Rattle.std.specs.List.{list_any}
 use Rattle.morris_board.specs.Sets.{has, members, count_of}
-use Rattle.morris_board.specs.Boards.{Shape, is_adjacent}
-use Rattle.morris_moves.specs.Rules.{closes}
+use Rattle.morris_board.specs.Boards.{Shape}
+use Rattle.morris_moves.specs.Rules.{closes, goes}
 use Rattle.morris_index.specs.Sums.{total}
 use Rattle.morris_table.specs.declared.rows.Row.{Row}
 
--- whether a stone of `own` on u may go to v, where v is vacant
-unfoldable pub may_come : Shape → ℕ → ℕ → ℕ → Bool
-may_come board own u v = if nat_lt 3 (count_of own) then is_adjacent board u v else nat_eq (count_of own) 3
-
 -- how many stones of `own` may come to v by a quiet move, where v is vacant: none where one of them stands there
 unfoldable pub arrivals : Shape → ℕ → ℕ → ℕ
-arrivals board own v = if has own v then 0 else length (filter (λ u. may_come board own u v && not (closes board own u v)) (members own))
+arrivals board own v = if has own v then 0 else length (filter (λ u. goes board (count_of own) u v && not (closes board own u v)) (members own))
 
 -- whether a stone of `own` may come to v by a move that closes a mill, where v is vacant
 unfoldable pub may_close : Shape → ℕ → ℕ → Bool
-may_close board own v = not (has own v) && list_any (λ u. may_come board own u v && closes board own u v) (members own)
+may_close board own v = not (has own v) && list_any (λ u. goes board (count_of own) u v && closes board own u v) (members own)
 
 -- what is kept of the own stones
 pub record IsRow (board : Shape) (n : ℕ) (row : Row) : Type 0 where

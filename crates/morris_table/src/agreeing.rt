@@ -13,7 +13,6 @@ ghost use Rattle.morris_table.specs.Agreement.{code_above, code_from, result_cod
 
 use crate::graph::PairGraph;
 use crate::raw::Raw;
-use crate::summary::{NO_EXITS, with_exit};
 use morris_board::board::{Board, Geometry};
 use morris_board::position::Position;
 use morris_index::successors::SuccessorIndices;
@@ -76,7 +75,7 @@ fn with_moves_from<B: Geometry>(
     let mut results = known;
     for to in reach(position, from).iter() {
         if !closes::<B>(own, from, to) {
-            results = with_exit(results, raw.code(index_after(indices, position, from, to)));
+            results = results.with(raw.code(index_after(indices, position, from, to)));
         }
     }
     results
@@ -109,14 +108,13 @@ fn results_of<B: Geometry>(raw: &Raw<B>, position: &Position<B>, captures: Exits
 
 /// Whether the entry of a position of the table's pair, which has this index, agrees.
 fn agrees<B: Geometry>(raw: &Raw<B>, index: u64, position: &Position<B>, captures: Exits) -> bool
+    requires inside { index < size_of B.POINTS raw.now.pair }
     requires counts { is_of raw.now.pair position.now ≡ true }
     requires lawful { IsPosition B.shape position.now }
     requires at { index_of B.POINTS raw.now.pair position.now ≡ index }
     requires captures { captures ≡ exits_of (capture_codes B.shape position.now) }
     ensures { IsTrue result ↔ Agrees B.shape raw.now index }
 {
-    // The proof learns here how great the index may be.
-    let _ = raw.pair().index(position);
     u32::from(raw.code(index)) == code_above(results_of(raw, position, captures))
 }
 
@@ -160,7 +158,7 @@ pub(crate) fn first_to_differ<B: Board>(graph: &PairGraph<B>, raw: &Raw<B>) -> O
     requires { graph.now ≡ raw.now.pair }
     ensures { MatchOption result ((k : ℕ) → k < size_of B.POINTS raw.now.pair → Agrees B.shape raw.now k) (IsFirstToDiffer B.shape raw.now) }
 {
-    let mut captures = [NO_EXITS; PIECE];
+    let mut captures = [Exits::NONE; PIECE];
     let size = entries(raw);
     for piece in 0..size.div_ceil(PIECE as u64) {
         let first = piece * PIECE as u64;

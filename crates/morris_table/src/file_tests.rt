@@ -72,7 +72,11 @@ fn three_three(alloc: Global) -> Result<Exact<Grid>, Fail> {
 }
 
 /// The bytes that writing a table gives.
-fn file_of(rt: &impl Abort, alloc: Global, table: &Exact<Grid>) -> Result<Vec<u8>, Fail> {
+pub(crate) fn file_of(
+    rt: &impl Abort,
+    alloc: Global,
+    table: &Exact<Grid>,
+) -> Result<Vec<u8>, Fail> {
     let mut sink = IntoWrite::new(Vec::new(alloc));
     assert_eq!(rt; write_table(&mut sink, table), Ok(()));
     assert_eq!(rt; sink.failures(), 0);
@@ -342,9 +346,12 @@ fn the_first_step_that_refuses_decides(rt: HostRuntime) -> Result<(), Fail> {
         (0, b'M', ReadFault::Magic),
         (4, 9, ReadFault::Version),
         (4, 2, ReadFault::Version),
+        (5, 0, ReadFault::BoardId),
         (6, 4, ReadFault::Count),
         (6, 7, ReadFault::Crowded),
         (7, 4, ReadFault::Counts),
+        // One entry less: 1,680 is 0x690.
+        (15, 0x8f, ReadFault::Count),
     ] {
         let damaged = altered(rt.alloc(), &file, place, byte)?;
         assert_eq!(rt; refusal(rt.alloc(), &damaged), Some(fault));

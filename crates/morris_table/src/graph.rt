@@ -8,6 +8,7 @@ ghost use Rattle.morris_moves.specs.declared.step.Move.{Move};
 ghost use Rattle.morris_moves.specs.Rules.{closes, reach, takable, moves_to};
 ghost use Rattle.morris_index.specs.Pairs.{IsPair, is_of, size_of, less_lesser, less_greater, needed};
 ghost use Rattle.morris_table.specs.Rows.{IsRow};
+ghost use Rattle.morris_wave.specs.Blocks.{BlockState};
 ghost use Rattle.morris_wave.specs.Solving.{exits_at};
 ghost use Rattle.morris_wave.specs.Exits.{exits_of};
 ghost use Rattle.morris_wave.specs.Values.{HasCode, IsTooDeep};
@@ -16,6 +17,7 @@ ghost use Rattle.morris_table.specs.PairNets.{capture_codes, level_of, net_at};
 ghost use Rattle.morris_table.specs.Known.{IsBeyondCodes};
 ghost use Rattle.morris_table.specs.Tables.{table};
 ghost use Rattle.morris_table.specs.Shelves.{table_on, first_missing};
+ghost use Rattle.morris_table.specs.Headline.{IsBlockOf, TellsTheGame};
 ghost use Rattle.morris_table.specs.Graphs.{IsTableOf, IsNeeded, IsLedTo, exits_by, HasGameValues};
 
 use crate::backward::list_predecessors;
@@ -23,7 +25,6 @@ use crate::exact::Exact;
 use crate::levels::PairLevels;
 use crate::rows::{Row, advance, read_counts};
 use crate::shelf::{Needs, Shelf};
-use crate::summary::{LOST_AT_ONCE, NO_EXITS, with_exit};
 use morris_board::board::{Board, Geometry};
 use morris_board::points::Points;
 use morris_board::position::Position;
@@ -33,6 +34,13 @@ use morris_moves::step::Move;
 use morris_wave::{Exits, Graph};
 use std::alloc::AllocError;
 use std::marker::Model;
+
+/// The summary of the exits of a node that has some, each of them lost already.
+const LOST_AT_ONCE: Exits = Exits {
+    least_lost: Some(0),
+    greatest_won: None,
+    drawn: false,
+};
 
 /// The graph of a pair, over the tables of the pairs that it needs. Its nodes are the pair's
 /// positions, by their indices. Quiet moves lead to nodes, and captures out of the graph.
@@ -90,11 +98,14 @@ impl<'a, B: Geometry> PairGraph<'a, B> {
         ensures pair { IfOk result (λ graph. graph ≡ pair) }
         ensures values { OnOk result (HasGameValues B.shape pair) }
         ensures deep { OnOk result (IsTooDeep (net_at B.shape (level_of pair)) ↔ IsBeyondCodes B.shape pair) }
+        // What the blocks of the graph hold, at any wave and whatever is applied, is the game's,
+        // also where a table is missing.
+        ensures blocks { (s : BlockState) → IsBlockOf B.shape pair s → TellsTheGame B.shape pair s }
     {
+        let (less_lesser, less_greater) = captured_pairs(&pair);
         if let Some(needs) = shelf.missing(pair) {
             return Err(needs);
         }
-        let (less_lesser, less_greater) = captured_pairs(&pair);
         Ok(PairGraph {
             pair,
             less_lesser: needed_table(shelf, less_lesser),
@@ -169,7 +180,7 @@ impl<'a, B: Geometry> PairGraph<'a, B> {
                 to,
                 taken: Some(taken),
             };
-            exits = with_exit(exits, self.code_of(&play(position, capture)));
+            exits = exits.with(self.code_of(&play(position, capture)));
         }
         exits
     }
@@ -211,14 +222,14 @@ impl<'a, B: Geometry> PairGraph<'a, B> {
         ensures { result ≡ exits_of (capture_codes B.shape position.now) }
     {
         if !row.has_captures(position) {
-            return NO_EXITS;
+            return Exits::NONE;
         }
         // Any capture from three stones leaves the opponent two, and so lost.
         if position.other().count() == 3 {
             return LOST_AT_ONCE;
         }
         let takes = takable::<B>(position.other());
-        let mut exits = NO_EXITS;
+        let mut exits = Exits::NONE;
         for from in position.own().iter() {
             let ends = reach(position, from).common(row.closing);
             exits = self.with_captures_from(position, from, ends, takes, exits);

@@ -5,6 +5,9 @@ mod agreeing;
 mod backward;
 #[cfg(test)]
 mod backward_tests;
+#[cfg(test)]
+mod build_tests;
+pub mod building;
 pub mod exact;
 pub mod file_faults;
 #[cfg(test)]
@@ -19,7 +22,6 @@ mod rows;
 #[cfg(test)]
 mod rows_tests;
 pub mod shelf;
-mod summary;
 #[cfg(test)]
 mod sweep_tests;
 pub mod sweeping;

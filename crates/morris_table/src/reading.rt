@@ -1,10 +1,10 @@
 //! Reading a table file.
-ghost use Rattle.std.specs.Prelude.{◌≡◌, ℕ, ◌+◌, ◌*◌, ◌-◌, ◌/◌, ◌%◌, ◌<◌, ◌≤◌, ◌^◌, ◌++◌, List, length, take, slice_index, Err, IsOk, IfOk, IfErr, vec_len, vec_capacity};
+ghost use Rattle.std.specs.Prelude.{◌≡◌, ℕ, ◌+◌, ◌*◌, ◌-◌, ◌/◌, ◌%◌, ◌<◌, ◌≤◌, ◌^◌, ◌++◌, List, length, take, slice_index, Err, IsOk, IfOk, IfErr, OnErr, vec_len, vec_capacity};
 ghost use Rattle.std.specs.Io.KnownBytes.{Consumes, IsAtEnd};
 ghost use Rattle.sha2.specs.Hashers.{Holds256};
 ghost use Rattle.morris_board.specs.Streams.{CountsFailure};
 ghost use Rattle.morris_table.specs.TableFiles.{code_bytes, file_of, next_file_of};
-ghost use Rattle.morris_table.specs.FileReading.{Reads, HasHeader, CountsRead, EndsEarly, ContinuesFile, only_file_in, next_file_in, file_in, header_in};
+ghost use Rattle.morris_table.specs.FileReading.{Reads, HasHeader, StandsInFile, StandsWithin, body_length, CountsRead, EndsEarly, ContinuesFile, only_file_in, next_file_in, file_in, header_in};
 
 use crate::file_faults::ReadFault;
 use crate::header::{HEADER, Header};
@@ -32,7 +32,7 @@ const DIGEST: usize = 32;
 /// `Counts`, `Crowded`, `Count`); there is no room for the codes (`Memory`); the source ends within
 /// the codes or the digest (`Short`); the digest is wrong (`Digest`); a byte follows (`Trailing`).
 /// `Read` where a read failed, which isn't tried again. After a refusal the source stands somewhere
-/// in what was refused.
+/// in the file that was refused, as long as its header says it is, or one byte past it.
 pub fn read_table<B: Geometry, S: Source>(
     alloc: Global,
     source: &mut S,
@@ -41,6 +41,7 @@ pub fn read_table<B: Geometry, S: Source>(
     ensures outcome { Reads (only_file_in B.shape) (S.remaining source.old) (S.remaining source.new) result }
     ensures file { IfOk result (λ raw. Consumes (S.remaining source.old) (S.remaining source.new) (file_of B.shape raw)) }
     ensures memory { result ≡ Err ReadFault.Memory → HasHeader B.shape (S.remaining source.old) }
+    ensures place { StandsInFile B.shape 1 (S.remaining source.old) (S.remaining source.new) }
     ensures counted { CountsRead (S.failures source.old) (S.failures source.new) result }
 {
     let Some(raw) = read_next(alloc, source)? else {
@@ -59,7 +60,8 @@ pub fn read_table<B: Geometry, S: Source>(
 /// Fewer than `u64::MAX` calls of the source may have failed before.
 ///
 /// # Errors
-/// Those of [`read_table`] but `Trailing`, in the same order.
+/// Those of [`read_table`] but `Trailing`, in the same order. After a refusal the source stands
+/// somewhere in the file that was refused, as long as its header says it is.
 pub fn read_next<B: Geometry, S: Source>(
     alloc: Global,
     source: &mut S,
@@ -68,6 +70,7 @@ pub fn read_next<B: Geometry, S: Source>(
     ensures outcome { Reads (next_file_in B.shape) (S.remaining source.old) (S.remaining source.new) result }
     ensures file { IfOk result (λ found. Consumes (S.remaining source.old) (S.remaining source.new) (next_file_of B.shape found)) }
     ensures memory { result ≡ Err ReadFault.Memory → HasHeader B.shape (S.remaining source.old) }
+    ensures place { StandsInFile B.shape 0 (S.remaining source.old) (S.remaining source.new) }
     ensures counted { CountsRead (S.failures source.old) (S.failures source.new) result }
 {
     let mut header = [0; HEADER];
@@ -91,6 +94,7 @@ fn read_after<B: Geometry, S: Source>(
     ensures outcome { Reads (λ bytes. file_in B.shape (header.now ++ bytes)) (S.remaining source.old) (S.remaining source.new) result }
     ensures file { IfOk result (λ raw. ContinuesFile (S.remaining source.old) (S.remaining source.new) header.now (file_of B.shape raw)) }
     ensures memory { result ≡ Err ReadFault.Memory → IsOk (header_in B.shape header.now) }
+    ensures place { StandsWithin (body_length B.shape (header_in B.shape header.now)) (S.remaining source.old) (S.remaining source.new) }
     ensures counted { CountsRead (S.failures source.old) (S.failures source.new) result }
 {
     let pair = Header::from_bytes(header).pair()?;
@@ -121,6 +125,7 @@ fn read_codes<S: Source>(
     ensures bytes { IfOk result (λ codes. Consumes (S.remaining source.old) (S.remaining source.new) (code_bytes codes.items)) }
     ensures hashed { IfOk result (λ codes. (before : List ℕ) → Holds256 hasher.old before → Holds256 hasher.new (before ++ code_bytes codes.items)) }
     ensures refused { IfErr result (EndsEarly (2 * count) (S.remaining source.old)) }
+    ensures place { OnErr result (StandsWithin (2 * count) (S.remaining source.old) (S.remaining source.new)) }
     ensures counted { CountsRead (S.failures source.old) (S.failures source.new) result }
 {
     let mut codes = Vec::with_capacity(alloc, count)?;
@@ -158,6 +163,7 @@ fn fill<S: Source>(source: &mut S, buffer: &mut [u8]) -> Result<usize, Failed>
     ensures within { IfOk result (λ n. n ≤ length buffer.new) }
     ensures bytes { IfOk result (λ n. Consumes (S.remaining source.old) (S.remaining source.new) (take n buffer.new)) }
     ensures end { IfOk result (λ n. n < length buffer.new → IsAtEnd (S.remaining source.new)) }
+    ensures place { OnErr result (StandsWithin (length buffer.new) (S.remaining source.old) (S.remaining source.new)) }
     ensures counted { CountsFailure (S.failures source.old) (S.failures source.new) result }
 {
     let mut done = 0;

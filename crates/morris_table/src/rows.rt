@@ -2,11 +2,11 @@
 ghost use Rattle.std.specs.Prelude.{◌≡◌, ℕ, ◌+◌, ◌<◌, ◌≤◌, ◌^◌, true, length, filter, slice_index};
 ghost use Rattle.std.specs.List.{list_any};
 ghost use Rattle.morris_board.specs.Sets.{has, members, count_of};
-ghost use Rattle.morris_moves.specs.Rules.{closes, moves_of};
+ghost use Rattle.morris_moves.specs.Rules.{closes, goes, moves_of};
 ghost use Rattle.morris_index.specs.Pairs.{is_of, index_of, size_of};
 ghost use Rattle.morris_board.specs.Positions.{IsPosition};
 ghost use Rattle.morris_table.specs.PairNets.{is_quiet, is_capture, level_of, net_at};
-ghost use Rattle.morris_table.specs.Rows.{may_come, arrivals, may_close, IsRow};
+ghost use Rattle.morris_table.specs.Rows.{arrivals, may_close, IsRow};
 
 use morris_board::board::Geometry;
 use morris_board::points::Points;
@@ -31,7 +31,7 @@ pub(crate) struct Row {
 fn may_come<B: Geometry>(own: Points, from: u8, to: u8) -> bool
     requires start { from < B.POINTS }
     requires end { to < B.POINTS }
-    ensures { result ≡ may_come B.shape own from to }
+    ensures { result ≡ goes B.shape (count_of own) from to }
 {
     let stones = own.count();
     if 3 < stones {

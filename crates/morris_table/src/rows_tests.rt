@@ -10,12 +10,6 @@ use std::alloc::Global;
 use std::process::Abort;
 use std::test::Fail;
 
-const NO_EXITS: Exits = Exits {
-    least_lost: None,
-    greatest_won: None,
-    drawn: false,
-};
-
 /// The code of a position that a capture led to.
 fn code_of(rt: &impl Abort, shelf: &Shelf<Grid>, position: &Position<Grid>) -> u16 {
     match Pair::of(position) {
@@ -32,7 +26,7 @@ fn code_of(rt: &impl Abort, shelf: &Shelf<Grid>, position: &Position<Grid>) -> u
 /// How many quiet moves a position has, and the summary of what its captures lead to: from the list
 /// of its moves alone.
 fn read_moves(rt: &impl Abort, shelf: &Shelf<Grid>, position: &Position<Grid>) -> (usize, Exits) {
-    let mut exits = NO_EXITS;
+    let mut exits = Exits::NONE;
     for m in moves(position).filter(|m| m.taken.is_some()) {
         assert!(rt; is_legal(position, m));
         let code = code_of(rt, shelf, &play(position, m));
@@ -66,7 +60,7 @@ fn assert_stretch_agrees(
     assert!(rt; first < graph.size() && first + nodes as u64 <= graph.size());
     let mut counts = vec![in alloc; 0; nodes]?;
     graph.read_counts(first, &mut counts);
-    let mut exits = vec![in alloc; NO_EXITS; nodes]?;
+    let mut exits = vec![in alloc; Exits::NONE; nodes]?;
     graph.read_exits(first, &mut exits);
     for (place, (count, exits)) in counts.iter().zip(exits.iter()).enumerate() {
         let index = first + place as u64;

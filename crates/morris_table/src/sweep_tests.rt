@@ -13,7 +13,11 @@ use std::process::Abort;
 use std::test::Fail;
 
 /// A shelf with the tables of these pairs, swept in this order.
-fn shelf_of(rt: &impl Abort, alloc: Global, pairs: &[(u8, u8)]) -> Result<Shelf<Grid>, Fail> {
+pub(crate) fn shelf_of(
+    rt: &impl Abort,
+    alloc: Global,
+    pairs: &[(u8, u8)],
+) -> Result<Shelf<Grid>, Fail> {
     let mut shelf = Shelf::new(alloc)?;
     for (a, b) in pairs {
         let table = sweep_pair(alloc, &shelf, Pair::new(*a, *b)?)?;
@@ -24,7 +28,7 @@ fn shelf_of(rt: &impl Abort, alloc: Global, pairs: &[(u8, u8)]) -> Result<Shelf<
 }
 
 /// The codes of a table, in order.
-fn codes_of(alloc: Global, table: &Exact<Grid>) -> Result<Vec<u16>, Fail> {
+pub(crate) fn codes_of(alloc: Global, table: &Exact<Grid>) -> Result<Vec<u16>, Fail> {
     let mut codes = Vec::new(alloc);
     for i in 0..table.len() {
         codes.push(table.code(i))?;
@@ -130,6 +134,21 @@ fn refusals_have_texts(rt: HostRuntime) -> Result<(), Fail> {
     assert_eq!(rt;
         format!(in rt.alloc(); "{memory}")?.as_str(),
         "out of memory"
+    );
+    let workers = BuildFault::<Grid>::Workers;
+    assert_eq!(rt;
+        format!(in rt.alloc(); "{workers}")?.as_str(),
+        "workers must be 1 to 64"
+    );
+    let blocks = BuildFault::<Grid>::Blocks;
+    assert_eq!(rt;
+        format!(in rt.alloc(); "{blocks}")?.as_str(),
+        "blocks must be 1 to 1024"
+    );
+    let missing = BuildFault::<Grid>::Missing(7);
+    assert_eq!(rt;
+        format!(in rt.alloc(); "{missing}")?.as_str(),
+        "block 7 is not complete"
     );
     Ok(())
 }

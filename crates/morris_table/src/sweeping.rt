@@ -1,11 +1,11 @@
 //! Tables made on one thread by a plain way.
-ghost use Rattle.std.specs.Prelude.{◌≡◌, None, IfOk, OnOk, MatchResult};
+ghost use Rattle.std.specs.Prelude.{◌≡◌, None, true, IfOk, IfErr, OnOk, MatchResult};
 ghost use Rattle.morris_wave.specs.Values.{IsTooDeep};
 ghost use Rattle.morris_table.specs.PairNets.{level_of, net_at};
 ghost use Rattle.morris_table.specs.Known.{IsBeyondCodes};
 ghost use Rattle.morris_table.specs.Tables.{IsTable};
 ghost use Rattle.morris_table.specs.Shelves.{first_missing};
-ghost use Rattle.morris_table.specs.Sweeping.{needed_by};
+ghost use Rattle.morris_table.specs.Sweeping.{needed_by, is_of_sweep};
 
 use crate::exact::Exact;
 use crate::graph::PairGraph;
@@ -23,12 +23,21 @@ pub enum BuildFault<B: Geometry> {
     /// The table of a pair that is needed isn't on the shelf.
     #[error("{0}")]
     Needs(Needs<B>),
-    /// Some depth is too great for a code of 16 bits.
-    #[error("depth is too great")]
-    TooDeep,
+    /// The number of workers isn't 1 to 64.
+    #[error("workers must be 1 to 64")]
+    Workers,
+    /// The number of blocks isn't 1 to 1,024.
+    #[error("blocks must be 1 to 1024")]
+    Blocks,
     /// Want of memory.
     #[error("out of memory")]
     Memory,
+    /// The block of this number isn't complete, since a worker left its work undone.
+    #[error("block {0} is not complete")]
+    Missing(u64),
+    /// Some depth is too great for a code of 16 bits.
+    #[error("depth is too great")]
+    TooDeep,
 }
 
 impl<B: Geometry> From<Needs<B>> for BuildFault<B> {
@@ -65,6 +74,8 @@ pub fn sweep_pair<B: Board>(
     pair: Pair<B>,
 ) -> Result<Exact<B>, BuildFault<B>>
     ensures needs { MatchResult result (λ _. first_missing shelf.now pair ≡ None) (λ fault. needed_by fault ≡ first_missing shelf.now pair) }
+    // Nothing is refused for workers or blocks, of which there are none.
+    ensures alone { IfErr result (λ fault. is_of_sweep fault ≡ true) }
     ensures pair { IfOk result (λ t. t.pair ≡ pair) }
     ensures exact { IfOk result (IsTable B.shape) }
     ensures too_deep { result ≡ Err BuildFault.TooDeep → IsTooDeep (net_at B.shape (level_of pair)) }

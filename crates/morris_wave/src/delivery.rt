@@ -11,14 +11,31 @@ use crate::network::{Graph, Levels};
 use std::alloc::{AllocError, Global};
 use std::marker::PhantomData;
 
+// An empty list, one of those at hand if there is one.
+fn empty_list(alloc: Global, spare: &mut Vec<Vec<u64>>) -> Vec<u64>
+    ensures { result.items ≡ [] }
+{
+    match spare.pop() {
+        Some(mut list) => {
+            list.clear();
+            list
+        }
+        None => Vec::new(alloc),
+    }
+}
+
 // So many empty lists.
-fn no_lists(alloc: Global, count: usize) -> Result<Vec<Vec<u64>>, AllocError>
+fn no_lists(
+    alloc: Global,
+    count: usize,
+    spare: &mut Vec<Vec<u64>>,
+) -> Result<Vec<Vec<u64>>, AllocError>
     ensures len { IfOk result (λ v. vec_len v ≡ count) }
     ensures empty { IfOk result (λ v. (t : ℕ) → list_at (contents v.items) t ≡ []) }
 {
     let mut lists = Vec::with_capacity(alloc, count)?;
     for _ in 0..count {
-        lists.push(Vec::new(alloc))?;
+        lists.push(empty_list(alloc, spare))?;
     }
     Ok(lists)
 }
@@ -56,6 +73,7 @@ fn behind<G: Graph>(
     graph: &G,
     cut: &Cut,
     nodes: &[u64],
+    spare: &mut Vec<Vec<u64>>,
 ) -> Result<Vec<Vec<u64>>, AllocError>
     requires size { (G.Name.net (G.level graph.now)).size ≡ cut.now.size }
     requires inside { All (λ j. j < cut.now.size) nodes.now }
@@ -63,7 +81,7 @@ fn behind<G: Graph>(
     ensures sorted { IfOk result (λ v. AreSorted cut.now (contents v.items)) }
     ensures behind { IfOk result (λ v. LeadTo (G.Name.net (G.level graph.now)) cut.now (contents v.items) nodes.now) }
 {
-    let mut lists = no_lists(alloc, cut.blocks() as usize)?;
+    let mut lists = no_lists(alloc, cut.blocks() as usize, spare)?;
     let finder = Finder::new(cut);
     let mut before = Vec::new(alloc);
     for node in nodes {
@@ -109,7 +127,30 @@ pub fn scatter<N: Levels, G: Graph<Name = N>>(
     ensures batches { IfOk result (λ v. (t : ℕ) (d : BatchState) → t < fresh.now.cut.blocks
         → IsBatchOf (N.net fresh.now.level) fresh.now t (slice_index_or v.items t d)) }
 {
-    let lists = behind(alloc, graph, &fresh.cut, &fresh.nodes)?;
+    let mut spare = Vec::new(alloc);
+    scatter_reusing(alloc, graph, fresh, &mut spare)
+}
+
+/// The batches that `scatter` gives, in lists taken from the end of `spare` as long as there are any.
+///
+/// What stands in those lists is forgotten; only their room is used. `Batch::into_nodes` gives a list
+/// back. So one who scatters often asks seldom for memory.
+///
+/// # Errors
+///
+/// `AllocError` where memory is refused.
+pub fn scatter_reusing<N: Levels, G: Graph<Name = N>>(
+    alloc: Global,
+    graph: &G,
+    fresh: &Fresh<N>,
+    spare: &mut Vec<Vec<u64>>,
+) -> Result<Vec<Batch<N>>, AllocError>
+    requires { G.level graph.now ≡ fresh.now.level }
+    ensures count { IfOk result (λ v. vec_len v ≡ fresh.now.cut.blocks) }
+    ensures batches { IfOk result (λ v. (t : ℕ) (d : BatchState) → t < fresh.now.cut.blocks
+        → IsBatchOf (N.net fresh.now.level) fresh.now t (slice_index_or v.items t d)) }
+{
+    let lists = behind(alloc, graph, &fresh.cut, &fresh.nodes, spare)?;
     let mut batches = Vec::with_capacity(alloc, lists.len())?;
     for nodes in lists {
         let target = batches.len() as u64;

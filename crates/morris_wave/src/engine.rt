@@ -166,6 +166,22 @@ impl<N: Levels> Batch<N> {
     {
         &self.nodes
     }
+
+    /// The list of the predecessors itself, whose room can be used again.
+    pub fn into_nodes(self) -> Vec<u64>
+        ensures { result.items ≡ self.nodes }
+    {
+        let Batch {
+            level: _,
+            cut: _,
+            wave: _,
+            source: _,
+            target: _,
+            nodes: list,
+            family: _,
+        } = self;
+        list
+    }
 }
 
 impl<N: Levels> Fresh<N> {

@@ -1,4 +1,4 @@
-use crate::delivery::scatter;
+use crate::delivery::{scatter, scatter_reusing};
 use crate::division::Cut;
 use crate::engine::{AdvanceFault, Applied, Block, Tallies};
 use crate::gathering::{GatherFault, gather};
@@ -121,6 +121,32 @@ fn batch_takes_a_loss_to_the_node_before(rt: HostRuntime) -> Result<(), Fail> {
     assert_eq!(rt; blocks[0].wave(), 43);
     assert_eq!(rt; entry(&rt, &blocks[0], 0), 43);
     assert_eq!(rt; blocks[0].tallies(), lost);
+    Ok(())
+}
+
+#[test]
+fn lists_of_batches_are_used_again(rt: HostRuntime) -> Result<(), Fail> {
+    let graph = PairGraph { level: 7 };
+    let mut blocks = pair_blocks(&rt, rt.alloc(), 7, 2, 41)?;
+    assert_eq!(rt; blocks.len(), 2);
+    assert_eq!(rt; blocks[1].advance(), Ok(()));
+    assert_eq!(rt; blocks[1].level(), graph.level());
+    let fresh = blocks[1].fresh(rt.alloc())?;
+    // Of three lists two are taken, whatever stands in them.
+    let mut spare = Vec::new(rt.alloc());
+    for node in 7..10u64 {
+        spare.push(vec![in rt.alloc(); node; 3]?)?;
+    }
+    let mut batches = scatter_reusing(rt.alloc(), &graph, &fresh, &mut spare)?;
+    assert_eq!(rt; spare.len(), 1);
+    assert_eq!(rt; spare[0].as_slice(), [7, 7, 7].as_slice());
+    assert_eq!(rt; batches.len(), 2);
+    assert_eq!(rt; batches[0].nodes(), [0].as_slice());
+    assert!(rt; batches[1].nodes().is_empty());
+    assert_eq!(rt;
+        batches.swap_remove(0).into_nodes().as_slice(),
+        [0].as_slice()
+    );
     Ok(())
 }
 

@@ -23,7 +23,7 @@ mod solver;
 mod solver_tests;
 mod stretch;
 
-pub use delivery::scatter;
+pub use delivery::{scatter, scatter_reusing};
 pub use division::{Blocks, Cut};
 pub use engine::{AdvanceFault, Applied, Batch, Block, Fresh, Tallies};
 pub use gathering::{GatherFault, gather};

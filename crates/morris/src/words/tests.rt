@@ -25,6 +25,33 @@ fn expect_stats(rt: &(impl Abort + AllocGlobal), words: &[&str], wanted: (&str, 
     assert!(rt; is_wanted, "{words:?}");
 }
 
+// The words make this request for `build`.
+fn expect_build(
+    rt: &(impl Abort + AllocGlobal),
+    words: &[&str],
+    wanted: (&str, &str, u8, u16, bool),
+) {
+    let is_wanted = match read_words(rt.alloc(), words) {
+        Ok(
+            Request::Build {
+                board,
+                pair,
+                workers,
+                blocks,
+                all,
+            },
+        ) => {
+            board == wanted.0
+                && pair == wanted.1
+                && workers == wanted.2
+                && blocks == wanted.3
+                && all == wanted.4
+        }
+        _other => false,
+    };
+    assert!(rt; is_wanted, "{words:?}");
+}
+
 // The words are refused, with a text.
 fn expect_wrong(rt: &(impl Abort + AllocGlobal), words: &[&str]) {
     let is_wrong = match read_words(rt.alloc(), words) {
@@ -68,6 +95,34 @@ fn reads_stats(rt: HostRuntime) {
 }
 
 #[test]
+fn reads_build(rt: HostRuntime) {
+    let plain = ["morris", "build", "grid", "3-3"];
+    expect_build(&rt, &plain, ("grid", "3-3", 2, 16, false));
+    let each = [
+        "m",
+        "build",
+        "nine",
+        "4-3",
+        "--workers",
+        "7",
+        "--blocks",
+        "5",
+        "--all",
+    ];
+    expect_build(&rt, &each, ("nine", "4-3", 7, 5, true));
+    let between = ["m", "build", "--all", "grid", "--blocks=1024", "3-3"];
+    expect_build(&rt, &between, ("grid", "3-3", 2, 1024, true));
+    let most = ["m", "build", "grid", "3-3", "--workers=64"];
+    expect_build(&rt, &most, ("grid", "3-3", 64, 16, false));
+    let least = ["m", "build", "grid", "3-3", "--workers", "1"];
+    expect_build(&rt, &least, ("grid", "3-3", 1, 16, false));
+    let whole = ["m", "build", "grid", "3-3", "--blocks", "1"];
+    expect_build(&rt, &whole, ("grid", "3-3", 2, 1, false));
+    let after_dashes = ["m", "build", "grid", "--", "--all"];
+    expect_build(&rt, &after_dashes, ("grid", "--all", 2, 16, false));
+}
+
+#[test]
 fn takes_any_text(rt: HostRuntime) -> Result<(), Fail> {
     expect_look(&rt, &["m", "look", "", ""], ("", "", 2));
     expect_look(&rt, &["m", "look", "né", "X€é"], ("né", "X€é", 2));
@@ -100,6 +155,20 @@ fn refuses_depths(rt: HostRuntime) {
 }
 
 #[test]
+fn refuses_workers_and_blocks(rt: HostRuntime) {
+    for workers in ["0", "65", "-1", "x", "", "256", "18446744073709551616"] {
+        expect_wrong(&rt, &["m", "build", "grid", "3-3", "--workers", workers]);
+    }
+    for blocks in ["0", "1025", "-1", "x", "", "65536", "18446744073709551616"] {
+        expect_wrong(&rt, &["m", "build", "grid", "3-3", "--blocks", blocks]);
+    }
+    expect_wrong(&rt, &["m", "build", "grid", "3-3", "--workers"]);
+    expect_wrong(&rt, &["m", "build", "grid", "3-3", "--blocks"]);
+    expect_wrong(&rt, &["m", "build", "grid", "3-3", "--all=true"]);
+    expect_wrong(&rt, &["m", "build", "grid", "3-3", "--all", "--all"]);
+}
+
+#[test]
 fn refuses_words(rt: HostRuntime) {
     expect_wrong(&rt, &[]);
     expect_wrong(&rt, &[""]);
@@ -116,6 +185,10 @@ fn refuses_words(rt: HostRuntime) {
     expect_wrong(&rt, &["m", "stats", "grid"]);
     expect_wrong(&rt, &["m", "stats", "grid", "3-3", "4-3"]);
     expect_wrong(&rt, &["m", "stats", "grid", "3-3", "--depth", "1"]);
+    expect_wrong(&rt, &["m", "build"]);
+    expect_wrong(&rt, &["m", "build", "grid"]);
+    expect_wrong(&rt, &["m", "build", "grid", "3-3", "4-3"]);
+    expect_wrong(&rt, &["m", "stats", "grid", "3-3", "--all"]);
     expect_wrong(&rt, &["m", "--version"]);
     expect_wrong(&rt, &["m", "help", "peek"]);
 }
@@ -133,6 +206,9 @@ fn gives_help(rt: HostRuntime) {
     let stats_usage = "Usage: morris stats <BOARD> <PAIR>";
     expect_help(&rt, &["m", "help", "stats"], stats_usage);
     expect_help(&rt, &["m", "stats", "--help"], stats_usage);
+    let build_usage = "Usage: morris build [OPTIONS] <BOARD> <PAIR>";
+    expect_help(&rt, &["m", "help", "build"], build_usage);
+    expect_help(&rt, &["m", "build", "grid", "--help"], "[default: 16]");
 }
 
 // The words, read twice: the answers differ only where memory ran out at one of them.
@@ -161,6 +237,7 @@ fn shortens_no_answer(rt: HostRuntime) {
     expect_same(&rt, &["m", "lok", "grid"]);
     expect_same(&rt, &["m", "look", "grid", "X", "--depth", "3"]);
     expect_same(&rt, &["m", "stats", "grid", "3-3"]);
+    expect_same(&rt, &["m", "build", "grid", "3-3", "--all"]);
 }
 
 static STORED: [&str; 6] = ["morris", "look", "grid", "XXX.OO.O.", "--depth", "3"];

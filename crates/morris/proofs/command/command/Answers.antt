@@ -1,6 +1,7 @@
 -- Want of memory is answered, with nothing printed.
-use Rattle.std.proofs.Common.{refl, inl, inr, map, subst, Err}
-use Rattle.morris.specs.Words.{IsAnswerToOneOf, faults_of}
+use Rattle.std.proofs.Common.{◌≡◌, Bool, false, refl, inl, inr, map, subst, true, Err}
+use Rattle.morris.specs.Command.{AsksToRead, takes_input}
+use Rattle.morris.specs.Words.{IsAnswerToOneOf, faults_of, named_by}
 use Rattle.std.proofs.KnownBytes.{Keeps-refl}
 use Rattle.morris.specs.declared.fault.Fault.TheVariants as fault
 use Rattle.morris.proofs.command.command.Goals as goal
@@ -23,3 +24,12 @@ returns-in-Err-Help-clause-answer g c = λ other.
       c.finish-in-Err-Help.ensures.status,
       c.finish-in-Err-Help.ensures.reported,
     )
+
+-- A request for a command that reads its input was asked for by the words.
+pub returns-in-Ok-clause-unread : goal.returns-in-Ok-clause-unread
+returns-in-Ok-clause-unread g c = λ unasked. c.run.ensures.unread (reads_nothing unasked (takes_input c.in-Ok.request) refl)
+  where
+    reads_nothing : Prim.¬◌ (AsksToRead (named_by (map g.W.AsStr.text c.args.words.now))) → (b : Bool) → takes_input c.in-Ok.request ≡ b
+        → takes_input c.in-Ok.request ≡ false
+    reads_nothing unasked true is = absurd (unasked (c.in-Ok.request, c.in-Ok.ensures.request, is))
+    reads_nothing unasked false is = is

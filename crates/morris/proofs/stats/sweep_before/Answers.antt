@@ -2,7 +2,8 @@ use Rattle.std.proofs.Common.{rules, ◌≡◌, ◌∷◌, [], ◌++◌, None, s
 use Rattle.std.proofs.lemmas.List.{append-nil}
 use Rattle.morris_index.specs.Pairs.{below_of}
 use Rattle.morris_table.specs.Shelves.{first_missing}
-use Rattle.morris.proofs.ShelfLaws.{HasTables, before_last, none_missing, one_table_more}
+use Rattle.morris.specs.Build.{HasTables}
+use Rattle.morris.proofs.ShelfLaws.{before_last, none_missing, one_table_more}
 use Rattle.morris.proofs.stats.sweep_before.Goals as goal
 
 pub sweep_onto-requires-after_bounds : goal.sweep_onto-requires-after_bounds

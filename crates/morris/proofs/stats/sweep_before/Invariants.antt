@@ -1,6 +1,6 @@
 use Rattle.std.proofs.Common.{◌≡◌, ◌++◌}
 use Rattle.morris_index.specs.Pairs.{below_of}
-use Rattle.morris.proofs.ShelfLaws.{HasTables}
+use Rattle.morris.specs.Build.{HasTables}
 use Rattle.morris.proofs.stats.sweep_before.Given as goal
 
 -- the shelf has the tables of the pairs so far, and the iterator has the others

@@ -16,7 +16,9 @@ returns c =
     let one = c.in_ok-subcommand.ensures.shape c.in_ok-look_command.ensures.local ∙ ap₂ with_subcommand wants look in
     let stats = ap (λ (a : App). a.top) c.in_ok-stats_command.ensures.app in
     let two = c.in_ok-subcommand-2.ensures.shape c.in_ok-stats_command.ensures.local ∙ ap₂ with_subcommand one stats in
+    let build = ap (λ (a : App). a.top) c.in_ok-build_command.ensures.app in
+    let three = c.in_ok-subcommand-3.ensures.shape c.in_ok-build_command.ensures.local ∙ ap₂ with_subcommand two build in
     let verify = ap (λ (a : App). a.top) c.in_ok-verify_command.ensures.app in
-    let three = c.in_ok-subcommand-3.ensures.shape c.in_ok-verify_command.ensures.local ∙ ap₂ with_subcommand two verify in
+    let four = c.in_ok-subcommand-4.ensures.shape c.in_ok-verify_command.ensures.local ∙ ap₂ with_subcommand three verify in
     let probe = ap (λ (a : App). a.top) c.in_ok-probe_command.ensures.app in
-    IfOk-weaker c.subcommand-4.result _ _ (λ r h. h.shape c.in_ok-probe_command.ensures.local ∙ ap₂ with_subcommand three probe) c.subcommand-4.ensures
+    IfOk-weaker c.subcommand-5.result _ _ (λ r h. h.shape c.in_ok-probe_command.ensures.local ∙ ap₂ with_subcommand four probe) c.subcommand-5.ensures

@@ -1,4 +1,4 @@
-use Rattle.std.proofs.Common.{sym, ap, subst, ◌∙◌}
+use Rattle.std.proofs.Common.{sym, ap, ◌∙◌}
 use Rattle.morris_index.specs.Pairs.{size_of}
 use Rattle.morris_table.proofs.GraphLaws.{size_at}
 use Rattle.morris_table.proofs.agreeing.entries.Goals as goal

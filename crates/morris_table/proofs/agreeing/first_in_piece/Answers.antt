@@ -1,4 +1,4 @@
-use Rattle.std.proofs.Common.{◌+◌, arith}
+use Rattle.std.proofs.Common.{◌+◌}
 use Rattle.morris_wave.specs.Solving.{exits_at}
 use Rattle.morris_table.proofs.AgreementLaws.{captures_at}
 use Rattle.morris_table.proofs.agreeing.first_in_piece.Goals as goal

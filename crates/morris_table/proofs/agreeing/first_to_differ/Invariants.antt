@@ -1,5 +1,4 @@
 use Rattle.std.proofs.Common.{◌≡◌, ℕ, ◌*◌, ◌<◌, length}
-use Rattle.morris_index.specs.Pairs.{size_of}
 use Rattle.morris_table.specs.Agreement.{Agrees}
 use Rattle.morris_table.proofs.agreeing.first_to_differ.Given as goal
 

@@ -1,9 +1,9 @@
-use Rattle.std.proofs.Common.{◌≡◌, ◌<◌, ◌≤◌, ◌||◌, not, true, None, refl, sym, ap, subst, ◌∙◌}
+use Rattle.std.proofs.Common.{◌≡◌, ◌<◌, ◌||◌, not, true, None, refl, sym, ap, subst, ◌∙◌}
 use Rattle.std.proofs.lemmas.Bool.{or_from, not_from_false}
 use Rattle.morris_board.specs.Sets.{has}
 use Rattle.morris_moves.specs.Rules.{move, moved, result_of}
 use Rattle.morris_moves.proofs.LegalLaws.{listed_move}
-use Rattle.morris_index.specs.Pairs.{is_of, size_of, index_of}
+use Rattle.morris_index.specs.Pairs.{size_of, index_of}
 use Rattle.morris_index.specs.Moves.{InPair, moved_on}
 use Rattle.morris_table.specs.NetLaws.{points_few, index_in, result-position}
 use Rattle.morris_table.proofs.AgreementLaws.{stays}

@@ -1,11 +1,11 @@
-use Rattle.std.proofs.Common.{◌≡◌, ℕ, ◌<◌, ◌++◌, ◌∷◌, [], List, true, false, None, sym, ap, ◌∙◌, refl, arith}
+use Rattle.std.proofs.Common.{◌≡◌, ℕ, ◌++◌, List, true, false, None, sym, ap, ◌∙◌, refl}
 use Rattle.std.proofs.lemmas.List.{append-nil}
 use Rattle.morris_board.specs.Sets.{has, members}
 use Rattle.morris_moves.specs.Rules.{closes, reach, move, result_of}
 use Rattle.morris_moves.proofs.SetLaws.{point_lt}
 use Rattle.morris_moves.proofs.MaskLaws.{reach-lt}
 use Rattle.morris_table.specs.Agreement.{all_added}
-use Rattle.morris_table.specs.Summaries.{added}
+use Rattle.morris_wave.specs.Summaries.{added}
 use Rattle.morris_index.specs.Moves.{InPair, in_pair}
 use Rattle.morris_table.proofs.BackLawsLoops.{end_of, next_points}
 use Rattle.morris_table.proofs.AgreementLaws.{all_added-none, all_added-more, quiet_codes-none, codes_to, codes_to-closing, codes_to-quiet, codes_to-all, quiet_listed, stated_at}
@@ -47,7 +47,7 @@ loop-to-preserved-then-not-closes g c =
     (ap (λ (q : InPair). q.pair) c.requires.indices) refl c.index_after.ensures.index c.code.ensures in
     record {
       points = next_points c.loop-to.yielded c.in-Some.to c.loop-to.to-iterator c.next.new.self _ c.loop-to.invariant.points c.in-Some.ensures.steps;
-      added = c.with_exit-results.ensures
+      added = c.with-results.ensures.value
           ∙ ap (λ e. added e c.code.result) c.loop-to.invariant.added
           ∙ sym (all_added-more c.args.known (codes_to g.B.Geometry.shape c.args.raw.now c.args.position.now c.args.from c.loop-to.yielded) c.code.result)
           ∙ ap (all_added c.args.known) (sym (codes_to-quiet g.B.Geometry.shape c.args.raw.now c.args.position.now c.args.from c.in-Some.to c.loop-to.yielded free c.code.result stated));

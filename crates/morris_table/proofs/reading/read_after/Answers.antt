@@ -10,10 +10,11 @@ use Rattle.sha2.specs.Sha256.{sha256}
 use Rattle.morris_index.specs.Pairs.{size_of}
 use Rattle.morris_table.specs.Tables.{Table, table}
 use Rattle.morris_table.specs.TableFiles.{code_bytes, file_of}
-use Rattle.morris_table.specs.FileReading.{file_in, header_in, header_at, pair_in}
+use Rattle.morris_table.specs.FileReading.{body_length, file_in, header_in, header_at, pair_in}
 use Rattle.morris_table.specs.declared.file_faults.ReadFault.TheVariants as fault
 use Rattle.morris_table.proofs.FileLaws.{length-code_bytes, unless-true, unless-false, file_of-read}
 use Rattle.morris_table.proofs.ReadingLaws.{reads_ok, reads_refused, reads_err, reads_end, reads_early, header_in-is, file_in-bad_header, file_in-short_body, file_in-whole}
+use Rattle.morris_table.proofs.PlaceLaws.{stands-take, stands-after, body_length-is}
 use Rattle.morris_table.proofs.reading.read_after.Goals as goal
 
 pub returns-in_err-pair-clause-outcome : goal.returns-in_err-pair-clause-outcome
@@ -151,3 +152,57 @@ returns-clause-file g c =
           c.in_ok-codes.ensures.bytes read,
       ap (file_of board) c.new.ensures ∙ file_of-read board header digest codes pair c.fits-header c.told-header named counted (same ∙ right),
     )
+
+pub returns-in_err-codes-clause-place : goal.returns-in_err-codes-clause-place
+returns-in_err-codes-clause-place g c =
+    let size : body_length g.B.Geometry.shape (header_in g.B.Geometry.shape c.args.header.now) ≡ 2 * c.size.result + 32 =
+    body_length-is g.B.Geometry.shape g.B.Geometry.POINTS g.met.B.Geometry.point_count c.args.header.now c.told-header c.in_ok-pair.pair c.size.result
+    (c.in_ok-pair.ensures.value ∙ ap (pair_in g.B.Geometry.shape) c.from_bytes.ensures) c.size.ensures.value in
+    let here = c.in_err-codes.ensures.place in
+    (here.0, omega (arith, here.1, size), here.2)
+
+pub returns-in_err-fill-clause-place : goal.returns-in_err-fill-clause-place
+returns-in_err-fill-clause-place g c =
+    let size : body_length g.B.Geometry.shape (header_in g.B.Geometry.shape c.args.header.now) ≡ 2 * c.size.result + 32 =
+    body_length-is g.B.Geometry.shape g.B.Geometry.POINTS g.met.B.Geometry.point_count c.args.header.now c.told-header c.in_ok-pair.pair c.size.result
+    (c.in_ok-pair.ensures.value ∙ ap (pair_in g.B.Geometry.shape) c.from_bytes.ensures) c.size.ensures.value in
+    let codes = c.in_ok-codes.codes.items in
+    stands-after (length c.fill.new.buffer) (body_length g.B.Geometry.shape (header_in g.B.Geometry.shape c.args.header.now)) (code_bytes codes)
+    (g.S.Source.remaining c.args.source.now) (g.S.Source.remaining c.read_codes.new.source) (g.S.Source.remaining c.fill.new.source) c.in_ok-codes.ensures.bytes
+    (omega (arith, size, length-code_bytes codes, c.in_ok-codes.ensures.count, c.fill.auto.buffer)) c.in_err-fill.ensures.place
+
+pub returns-then-branch-lt-DIGEST-clause-place : goal.returns-then-branch-lt-DIGEST-clause-place
+returns-then-branch-lt-DIGEST-clause-place g c =
+    let size : body_length g.B.Geometry.shape (header_in g.B.Geometry.shape c.args.header.now) ≡ 2 * c.size.result + 32 =
+    body_length-is g.B.Geometry.shape g.B.Geometry.POINTS g.met.B.Geometry.point_count c.args.header.now c.told-header c.in_ok-pair.pair c.size.result
+    (c.in_ok-pair.ensures.value ∙ ap (pair_in g.B.Geometry.shape) c.from_bytes.ensures) c.size.ensures.value in
+    let codes = c.in_ok-codes.codes.items in
+    stands-after (length c.fill.new.buffer) (body_length g.B.Geometry.shape (header_in g.B.Geometry.shape c.args.header.now)) (code_bytes codes)
+    (g.S.Source.remaining c.args.source.now) (g.S.Source.remaining c.read_codes.new.source) (g.S.Source.remaining c.fill.new.source) c.in_ok-codes.ensures.bytes
+    (omega (arith, size, length-code_bytes codes, c.in_ok-codes.ensures.count, c.fill.auto.buffer))
+    (stands-take (length c.fill.new.buffer) c.in_ok-fill.field-0 c.fill.new.buffer (g.S.Source.remaining c.read_codes.new.source)
+    (g.S.Source.remaining c.fill.new.source) c.in_ok-fill.ensures.within c.in_ok-fill.ensures.bytes)
+
+pub returns-then-ne-clause-place : goal.returns-then-ne-clause-place
+returns-then-ne-clause-place g c =
+    let size : body_length g.B.Geometry.shape (header_in g.B.Geometry.shape c.args.header.now) ≡ 2 * c.size.result + 32 =
+    body_length-is g.B.Geometry.shape g.B.Geometry.POINTS g.met.B.Geometry.point_count c.args.header.now c.told-header c.in_ok-pair.pair c.size.result
+    (c.in_ok-pair.ensures.value ∙ ap (pair_in g.B.Geometry.shape) c.from_bytes.ensures) c.size.ensures.value in
+    let codes = c.in_ok-codes.codes.items in
+    stands-after (length c.fill.new.buffer) (body_length g.B.Geometry.shape (header_in g.B.Geometry.shape c.args.header.now)) (code_bytes codes)
+    (g.S.Source.remaining c.args.source.now) (g.S.Source.remaining c.read_codes.new.source) (g.S.Source.remaining c.fill.new.source) c.in_ok-codes.ensures.bytes
+    (omega (arith, size, length-code_bytes codes, c.in_ok-codes.ensures.count, c.fill.auto.buffer))
+    (stands-take (length c.fill.new.buffer) c.in_ok-fill.field-0 c.fill.new.buffer (g.S.Source.remaining c.read_codes.new.source)
+    (g.S.Source.remaining c.fill.new.source) c.in_ok-fill.ensures.within c.in_ok-fill.ensures.bytes)
+
+pub returns-clause-place : goal.returns-clause-place
+returns-clause-place g c =
+    let size : body_length g.B.Geometry.shape (header_in g.B.Geometry.shape c.args.header.now) ≡ 2 * c.size.result + 32 =
+    body_length-is g.B.Geometry.shape g.B.Geometry.POINTS g.met.B.Geometry.point_count c.args.header.now c.told-header c.in_ok-pair.pair c.size.result
+    (c.in_ok-pair.ensures.value ∙ ap (pair_in g.B.Geometry.shape) c.from_bytes.ensures) c.size.ensures.value in
+    let codes = c.in_ok-codes.codes.items in
+    stands-after (length c.fill.new.buffer) (body_length g.B.Geometry.shape (header_in g.B.Geometry.shape c.args.header.now)) (code_bytes codes)
+    (g.S.Source.remaining c.args.source.now) (g.S.Source.remaining c.read_codes.new.source) (g.S.Source.remaining c.fill.new.source) c.in_ok-codes.ensures.bytes
+    (omega (arith, size, length-code_bytes codes, c.in_ok-codes.ensures.count, c.fill.auto.buffer))
+    (stands-take (length c.fill.new.buffer) c.in_ok-fill.field-0 c.fill.new.buffer (g.S.Source.remaining c.read_codes.new.source)
+    (g.S.Source.remaining c.fill.new.source) c.in_ok-fill.ensures.within c.in_ok-fill.ensures.bytes)

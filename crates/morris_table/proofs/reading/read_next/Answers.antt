@@ -7,6 +7,7 @@ use Rattle.morris_table.specs.Tables.{Table}
 use Rattle.morris_table.specs.FileReading.{file_in, next_file_in}
 use Rattle.morris_table.specs.declared.file_faults.ReadFault.TheVariants as fault
 use Rattle.morris_table.proofs.ReadingLaws.{reads_none, reads_end, reads_on_err, reads_on_ok, has_header, next_file_in-short, next_file_in-err, next_file_in-ok}
+use Rattle.morris_table.proofs.PlaceLaws.{stands-behind}
 use Rattle.morris_table.proofs.reading.read_next.Goals as goal
 
 pub returns-then-count-eq0-clause-outcome : goal.returns-then-count-eq0-clause-outcome
@@ -58,3 +59,21 @@ returns-clause-outcome g c =
     reads_on_ok (λ bytes. file_in board (header ++ bytes)) (next_file_in board) (g.S.Source.remaining c.args.source.now)
     (g.S.Source.remaining c.fill.new.source) (g.S.Source.remaining c.read_after.new.source) header c.in_ok-read_after.field-0 (Some c.in_ok-read_after.field-0) read
     (λ bytes left found. next_file_in-ok board header bytes left c.in_ok-read_after.field-0 long found) c.in_ok-read_after.ensures.outcome
+
+pub returns-in_err-read_after-clause-place : goal.returns-in_err-read_after-clause-place
+returns-in_err-read_after-clause-place g c =
+    let header = c.fill.new.buffer in
+    let long : length header ≡ 16 = omega (arith, c.fill.auto.buffer) in
+    let all : take c.in_ok-count.count header ≡ header = take_all c.in_ok-count.count header (omega arith) in
+    let read = subst (Consumes (g.S.Source.remaining c.args.source.now) (g.S.Source.remaining c.fill.new.source)) all c.in_ok-count.ensures.bytes in
+    stands-behind g.B.Geometry.shape 0 header long (g.S.Source.remaining c.args.source.now) (g.S.Source.remaining c.fill.new.source)
+    (g.S.Source.remaining c.read_after.new.source) read c.in_err-read_after.ensures.place
+
+pub returns-clause-place : goal.returns-clause-place
+returns-clause-place g c =
+    let header = c.fill.new.buffer in
+    let long : length header ≡ 16 = omega (arith, c.fill.auto.buffer) in
+    let all : take c.in_ok-count.count header ≡ header = take_all c.in_ok-count.count header (omega arith) in
+    let read = subst (Consumes (g.S.Source.remaining c.args.source.now) (g.S.Source.remaining c.fill.new.source)) all c.in_ok-count.ensures.bytes in
+    stands-behind g.B.Geometry.shape 0 header long (g.S.Source.remaining c.args.source.now) (g.S.Source.remaining c.fill.new.source)
+    (g.S.Source.remaining c.read_after.new.source) read c.in_ok-read_after.ensures.place

@@ -1,9 +1,10 @@
 -- A file alone: what refuses the next file, and what follows it.
-use Rattle.std.proofs.Common.{◌≡◌, [], take, Ok, ap, subst, arith, length-take}
+use Rattle.std.proofs.Common.{◌≡◌, [], length, take, Ok, ap, subst, arith, length-take}
 use Rattle.std.proofs.lemmas.Result.{err_from_is_err_and}
 use Rattle.std.specs.Io.KnownBytes.{Consumes}
 use Rattle.morris_table.specs.FileReading.{Reads, next_file_in}
 use Rattle.morris_table.proofs.ReadingLaws.{reads_only_err, reads_only_none, reads_only_trailing, reads_only_ok}
+use Rattle.morris_table.proofs.PlaceLaws.{stands-take, stands-past}
 use Rattle.morris_table.proofs.reading.read_table.Goals as goal
 
 pub returns-in_err-raw-clause-outcome : goal.returns-in_err-raw-clause-outcome
@@ -39,3 +40,15 @@ returns-clause-outcome g c =
     c.in-Some.is c.in_ok-raw.ensures.outcome)
     (subst (Consumes (g.S.Source.remaining c.read_next.new.source) (g.S.Source.remaining c.fill.new.source)) none c.in_ok-fill.ensures.bytes)
     (c.in_ok-fill.ensures.end (omega (arith, c.fill.auto.buffer)))
+
+pub returns-in_err-fill-clause-place : goal.returns-in_err-fill-clause-place
+returns-in_err-fill-clause-place g c =
+    stands-past g.B.Geometry.shape (length c.fill.new.buffer) 0 1 (g.S.Source.remaining c.args.source.now) (g.S.Source.remaining c.read_next.new.source)
+    (g.S.Source.remaining c.fill.new.source) (omega (arith, c.fill.auto.buffer)) c.read_next.ensures.place c.in_err-fill.ensures.place
+
+pub returns-then-branch-gt0-clause-place : goal.returns-then-branch-gt0-clause-place
+returns-then-branch-gt0-clause-place g c =
+    stands-past g.B.Geometry.shape (length c.fill.new.buffer) 0 1 (g.S.Source.remaining c.args.source.now) (g.S.Source.remaining c.read_next.new.source)
+    (g.S.Source.remaining c.fill.new.source) (omega (arith, c.fill.auto.buffer)) c.read_next.ensures.place
+    (stands-take (length c.fill.new.buffer) c.in_ok-fill.field-0 c.fill.new.buffer (g.S.Source.remaining c.read_next.new.source)
+    (g.S.Source.remaining c.fill.new.source) c.in_ok-fill.ensures.within c.in_ok-fill.ensures.bytes)

@@ -1,9 +1,8 @@
-use Rattle.std.proofs.Common.{◌≡◌, ◌↔◌, ℕ, ◌<◌, true, false, sym, subst, refl}
+use Rattle.std.proofs.Common.{◌<◌, subst}
 use Rattle.std.proofs.lemmas.Bool.{false≢true}
 use Rattle.std.proofs.lemmas.Option.{MatchOption-at_none, MatchOption-at_some}
 use Rattle.morris_index.specs.Pairs.{size_of}
-use Rattle.morris_table.specs.Tables.{table, IsTable}
-use Rattle.morris_table.specs.Agreement.{Agrees, IsFirstToDiffer}
+use Rattle.morris_table.specs.Tables.{IsTable}
 use Rattle.morris_table.proofs.AgreementLaws.{agreement_is}
 use Rattle.morris_table.proofs.verify.judged.Goals as goal
 

@@ -44,7 +44,7 @@ code_of-requires g c =
 pub loop-taken-preserved : goal.loop-taken-preserved
 loop-taken-preserved g c = record {
   points = next_points c.loop-taken.yielded c.in-Some.taken c.loop-taken.taken-iterator c.next.new.self _ c.loop-taken.invariant.points c.in-Some.ensures.steps;
-  summed = rw c.with_exit-exits.ensures (goes_capture g.B.Geometry.shape c.args.position.now c.args.known c.loop-taken.exits c.args.from c.args.to c.in-Some.taken
+  summed = rw c.with-exits.ensures.value (goes_capture g.B.Geometry.shape c.args.position.now c.args.known c.loop-taken.exits c.args.from c.args.to c.in-Some.taken
       c.code_of.result c.loop-taken.yielded c.loop-taken.invariant.summed
       (subst (λ t. IsCodeOf g.B.Geometry.shape t c.code_of.result) c.play.ensures c.code_of.ensures) (omega (arith, c.code_of.type_inv)));
 }

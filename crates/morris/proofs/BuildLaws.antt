@@ -1,0 +1,88 @@
+-- The files that are written of the tables on a shelf.
+use Rattle.std.proofs.Common.{◌≡◌, ◌≢◌, ◌+◌, ◌*◌, ◌<◌, ◌≤◌, ◌⊎◌, ℕ, true, List, [], ◌∷◌, ◌++◌, length, map, Option, Some, None, Ok, Err, take, ◌-◌, is_some, refl, sym, ap, ap₂, subst, ◌∙◌, inl, inr, IfSome, arith, append_assoc, append-nil, length-append}
+use Rattle.std.specs.List.{All, Contains, flat_map}
+use Rattle.std.proofs.lemmas.Grind.{flat_map-append}
+use Rattle.std.proofs.lemmas.List.Elements.{All-cons, All-nil, Contains-push, Contains-push_cases}
+use Rattle.std.specs.Io.KnownBytes.{Appends}
+use Rattle.morris_board.specs.Boards.{Shape}
+use Rattle.morris_board.specs.Streams.{PartSent}
+use Rattle.morris_index.specs.Pairs.{Counts, EndsIn}
+use Rattle.morris_table.specs.Shelves.{Stored, table_on}
+use Rattle.morris_table.specs.TableFiles.{file_of}
+use Rattle.morris_table.specs.Tables.{IsTable, Table}
+use Rattle.morris_moves.proofs.ListLaws.{Contains-head, Contains-tail}
+use Rattle.morris_table.proofs.ShelfLaws.{cases_pair}
+use Rattle.morris.specs.declared.fault.Fault.TheVariants as fault
+use Rattle.morris.specs.Build.{AnswersFiles, AreTablesOf, HasExact, file_on}
+
+-- a list that ends in something isn't empty
+pub not_empty : (pairs : List Counts) (c : Counts) → EndsIn pairs c → pairs ≡ [] → ⊥
+not_empty pairs c last none =
+    let count : length pairs ≡ length last.0 + 1 = ap length last.1 ∙ length-append last.0 (c ∷ []) in
+    omega (arith, count, ap length none)
+
+-- a list that ends in something has it
+pub has_last : (pairs : List Counts) (c : Counts) → EndsIn pairs c → Contains pairs c
+has_last pairs c last = subst (λ (cs : List Counts). Contains cs c) (sym last.1) (Contains-push last.0 c)
+
+module _ (f : Counts → List ℕ) where
+  -- the files of all pairs are those of the pairs so far, of this one, and of the others
+  pub files_split : (seen rest all : List Counts) (c : Counts) → seen ++ (c ∷ rest) ≡ all → flat_map f all ≡ flat_map f seen ++ f c ++ flat_map f rest
+  files_split seen rest all c e = rw (← e, flat_map-append f seen (c ∷ rest)) (sym (append_assoc (flat_map f seen) (f c) (flat_map f rest)))
+
+  -- the files of the pairs so far, and of this one
+  pub one_file_more : (seen : List Counts) (c : Counts) → flat_map f seen ++ f c ≡ flat_map f (seen ++ c ∷ [])
+  one_file_more seen c = ap (λ files. flat_map f seen ++ files) (sym (append-nil (f c))) ∙ sym (flat_map-append f seen (c ∷ []))
+
+-- the tables of some pairs on a shelf, and that the files on it are theirs
+pub record TablesOn (board : Shape) (shelf : Stored) (pairs : List Counts) : Type 0 where
+  pub tables : List Table
+  pub are : AreTablesOf board pairs tables
+  pub files : flat_map (file_on board shelf) pairs ≡ flat_map (file_of board) tables
+
+module _ (board : Shape) (shelf : Stored) where
+  pub tables_on : (pairs : List Counts) → HasExact board shelf pairs → TablesOn board shelf pairs
+  tables_on [] there = record { tables = []; are = record { of_pairs = refl; exact = All-nil (IsTable board) }; files = refl }
+  tables_on (c ∷ pairs) there =
+      let rest = tables_on pairs (λ d m. there d (Contains-tail c pairs d m)) in
+      let here = there c (Contains-head c pairs) in
+      let file : file_on board shelf c ≡ file_of board here.0 =
+      ap (λ (o : Option Table). elim o [ None ↦ [] | Some t ↦ file_of board t ]) here.1 in
+      record {
+        tables = here.0 ∷ rest.tables;
+        are = record {
+          of_pairs = ap₂ (λ d ds. d ∷ ds) here.2 rest.are.of_pairs;
+          exact = All-cons (IsTable board) here.0 rest.tables here.3 rest.are.exact;
+        };
+        files = ap₂ (λ a b. a ++ b) file rest.files;
+      }
+
+-- with its table the shelf has one pair more
+pub one_exact_more : (board : Shape) (old new : Stored) (before : List Counts) (c : Counts) (t : Table) → HasExact board old before
+    → table_on new c ≡ Some t → t.pair ≡ c → IsTable board t → ((d : Counts) → d ≢ c → table_on new d ≡ table_on old d)
+    → HasExact board new (before ++ c ∷ [])
+one_exact_more board old new before c t there here of exact others = λ d m.
+    elim (cases_pair d c) [
+      | inl same ↦ (t, ap (table_on new) same ∙ here, of ∙ sym same, exact)
+      | inr other ↦ elim (Contains-push_cases before c d m) [
+        | inl earlier ↦
+            let e = there d earlier in
+            (e.0, others d other ∙ e.1, e.2, e.3)
+        | inr is ↦ absurd (other (sym is))
+      ]
+    ]
+
+-- what went out of the files of some pairs on a shelf is what was answered of them
+module _ (board : Shape) (shelf : Stored) (pairs : List Counts) (there : HasExact board shelf pairs) (old new : Option (List ℕ)) where
+  pub files_out : Appends old new (flat_map (file_on board shelf) pairs) → AnswersFiles {T = Unit {0}} board pairs old new (Ok (record {}))
+  files_out out =
+      let on = tables_on board shelf pairs there in
+      (on.tables, on.are, subst (Appends old new) on.files out)
+
+  pub files_part : (sent : ℕ) → PartSent old new 0 sent (flat_map (file_on board shelf) pairs)
+      → AnswersFiles {T = Unit {0}} board pairs old new (Err (fault.Write sent))
+  files_part sent part =
+      let on = tables_on board shelf pairs there in
+      let all : sent - 0 ≡ sent = omega arith in
+      let out : PartSent old new 0 sent (flat_map (file_of board) on.tables) = subst (PartSent old new 0 sent) on.files part in
+      (on.tables, on.are, (omega (arith, out.short), subst (λ n. Appends old new (take n (flat_map (file_of board) on.tables))) all out.appended))

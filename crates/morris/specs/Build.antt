@@ -1,0 +1,90 @@
+-- What `build` writes.
+use Rattle.std.specs.Prelude.{◌≡◌, ⊤, ℕ, ◌<◌, Bool, true, List, [], ◌∷◌, map, Option, Some, None, is_some, Result, Ok, Err, if◌then◌else◌}
+use Rattle.std.specs.List.{All, Contains, flat_map}
+use Rattle.std.specs.Io.KnownBytes.{Keeps}
+use Rattle.morris_board.specs.Boards.{Shape}
+use Rattle.morris_index.specs.Pairs.{Counts, below_of}
+use Rattle.morris_workers.specs.Ranges.{range_fault}
+use Rattle.morris_workers.specs.declared.fault.SolveFault.TheVariants as solve
+use Rattle.morris_table.specs.Known.{IsBeyondCodes}
+use Rattle.morris_table.specs.Shelves.{Stored, table_on}
+use Rattle.morris_table.specs.TableFiles.{file_of}
+use Rattle.morris_table.specs.Tables.{IsTable, Table}
+use Rattle.morris.specs.declared.fault.Fault.{Fault}
+use Rattle.morris.specs.declared.fault.Fault.TheVariants as fault
+use Rattle.morris.specs.Faults.{Prints}
+use Rattle.morris.specs.PairText.{read_pair_of}
+use Rattle.morris.specs.Stats.{HasTooDeep}
+
+-- ---- the files
+
+-- the pairs whose files are written: all those below a pair, in order, its own among them, or its own alone
+abbrev pub pairs_written : Bool → Counts → List Counts
+pairs_written all pair = if all then below_of pair else pair ∷ []
+
+-- one table for each of these pairs, in their order, in which each code is the game's value and exact depth
+pub record AreTablesOf (board : Shape) (pairs : List Counts) (tables : List Table) : Type 0 where
+  pub of_pairs : map (λ t. t.pair) tables ≡ pairs
+  pub exact : All (IsTable board) tables
+
+-- the files of such tables were written, one after the other and nothing else
+abbrev pub AnswersFiles : {T : Type 0} → Shape → List Counts → Option (List ℕ) → Option (List ℕ) → Result T Fault → Type 0
+AnswersFiles board pairs old new result =
+    (tables : List Table) × AreTablesOf board pairs tables × Prints old new (flat_map (file_of board) tables) result
+
+-- the file of the table that a shelf has of a pair
+abbrev pub file_on : Shape → Stored → Counts → List ℕ
+file_on board shelf c = elim (table_on shelf c) [ None ↦ [] | Some t ↦ file_of board t ]
+
+-- the shelf has the tables of these pairs
+abbrev pub HasTables : Stored → List Counts → Type 0
+HasTables shelf pairs = (c : Counts) → Contains pairs c → is_some (table_on shelf c) ≡ true
+
+-- the shelf has a table of each of these pairs in which each code is the game's
+abbrev pub HasExact : Shape → Stored → List Counts → Type 0
+HasExact board shelf pairs = (c : Counts) → Contains pairs c → (t : Table) × (table_on shelf c ≡ Some t) × (t.pair ≡ c) × IsTable board t
+
+-- ---- the refusals
+
+-- Why a pair isn't built, where those that it needs are there: there aren't 1 to 64 workers, or 1 to 1,024 blocks; want of memory; a block
+-- of this number was left incomplete; or codes don't suffice for the depths.
+abbrev pub IsUnbuiltAt : Shape → Counts → ℕ → ℕ → Fault → Type 0
+IsUnbuiltAt board pair workers blocks fault.Workers = range_fault workers blocks ≡ Some solve.Workers
+IsUnbuiltAt board pair workers blocks fault.Blocks = range_fault workers blocks ≡ Some solve.Blocks
+IsUnbuiltAt board pair workers blocks fault.Memory = ⊤
+IsUnbuiltAt board pair workers blocks (fault.Missing number) = number < blocks
+IsUnbuiltAt board pair workers blocks fault.TooDeep = IsBeyondCodes board pair
+IsUnbuiltAt board pair workers blocks _ = ⊥
+
+-- why a pair isn't built after those below it
+abbrev pub IsUnbuiltFor : Shape → Counts → ℕ → ℕ → Fault → Type 0
+IsUnbuiltFor board pair workers blocks fault.Workers = range_fault workers blocks ≡ Some solve.Workers
+IsUnbuiltFor board pair workers blocks fault.Blocks = range_fault workers blocks ≡ Some solve.Blocks
+IsUnbuiltFor board pair workers blocks fault.Memory = ⊤
+IsUnbuiltFor board pair workers blocks (fault.Missing number) = number < blocks
+IsUnbuiltFor board pair workers blocks fault.TooDeep = HasTooDeep board pair
+IsUnbuiltFor board pair workers blocks _ = ⊥
+
+-- ---- the answer
+
+-- What `build` answers of a pair: one of these refusals, with nothing written; otherwise there are as many workers and blocks as there may
+-- be, and the files are written, or the first bytes of them up to the write that failed.
+abbrev pub AnswersBuilt : {T : Type 0} → Shape → Counts → ℕ → ℕ → Bool → Option (List ℕ) → Option (List ℕ) → Result T Fault → Type 0
+AnswersBuilt board pair workers blocks all old new (Ok done) =
+    (range_fault workers blocks ≡ None) × AnswersFiles board (pairs_written all pair) old new (Ok done)
+AnswersBuilt board pair workers blocks all old new (Err (fault.Write sent)) =
+    (range_fault workers blocks ≡ None) × AnswersFiles {T = Unit {0}} board (pairs_written all pair) old new (Err (fault.Write sent))
+AnswersBuilt board pair workers blocks all old new (Err refused) = IsUnbuiltFor board pair workers blocks refused × Keeps old new
+
+-- What it answers on a board: the fault of a text that names no pair, with nothing written; otherwise what it answers of the pair.
+abbrev pub AnswersRead : {T : Type 0} → Shape → ℕ → ℕ → Bool → Option (List ℕ) → Option (List ℕ) → Result T Fault → Result Counts Fault → Type 0
+AnswersRead board workers blocks all old new result (Err refused) = (result ≡ Err refused) × Keeps old new
+AnswersRead board workers blocks all old new result (Ok pair) = AnswersBuilt board pair workers blocks all old new result
+
+abbrev pub AnswersBuildOn : {T : Type 0} → Shape → List ℕ → ℕ → ℕ → Bool → Option (List ℕ) → Option (List ℕ) → Result T Fault → Type 0
+AnswersBuildOn board text workers blocks all old new result = AnswersRead board workers blocks all old new result (read_pair_of board.points text)
+
+-- What `build` answers: the fault of a board that isn't there, with nothing written; otherwise what it answers on the board.
+abbrev pub AnswersBuild : {T : Type 0} → Option Shape → List ℕ → ℕ → ℕ → Bool → Option (List ℕ) → Option (List ℕ) → Result T Fault → Type 0
+AnswersBuild None text workers blocks all old new result = (result ≡ Err fault.Board) × Keeps old new
+AnswersBuild (Some board) text workers blocks all old new result = AnswersBuildOn board text workers blocks all old new result

@@ -1,0 +1,246 @@
+//! The command `build`.
+ghost use Rattle.std.specs.Prelude.{◌≡◌, ◌≢◌, ◌+◌, ◌-◌, ◌^◌, ◌<◌, ◌≤◌, None, Some, true, false, is_some, length, IfErr, IfOk, OnErr, OnOk};
+ghost use Rattle.std.specs.List.{flat_map};
+ghost use Rattle.morris_board.specs.Streams.{CountsFailure, HasSent};
+ghost use Rattle.morris_index.specs.Pairs.{Counts, EndsIn, below_of};
+ghost use Rattle.morris_table.specs.Shelves.{first_missing, table_on};
+ghost use Rattle.morris_table.specs.TableFiles.{file_of};
+ghost use Rattle.morris_table.specs.Tables.{IsTable, Table};
+ghost use Rattle.morris_workers.specs.Ranges.{range_fault};
+ghost use Rattle.morris.specs.Faults.{CountsWrites, is_write};
+ghost use Rattle.morris.specs.Look.{board_of};
+ghost use Rattle.morris.specs.Build.{AnswersBuild, AnswersBuildOn, AnswersBuilt, AnswersFiles, HasExact, HasTables, IsUnbuiltAt, IsUnbuiltFor, file_on, pairs_written};
+
+use crate::boards::{NamedBoard, read_board};
+use crate::fault::Fault;
+use crate::pairs::read_pair;
+use morris_board::board::{Board, Geometry};
+use morris_board::grid::Grid;
+use morris_board::nine::Nine;
+use morris_board::streams::Sink;
+use morris_index::pair::Pair;
+use morris_table::building::build;
+use morris_table::exact::Exact;
+use morris_table::file_faults::Write;
+use morris_table::shelf::Shelf;
+use morris_table::writing::write_table;
+use morris_workers::OpenGate;
+use std::alloc::Global;
+use std::sync::Wait;
+use std::thread::Threads;
+
+/// So many workers, for graphs that are cut into so many blocks.
+#[derive(Clone, Copy, Debug, PartialEq, Eq)]
+pub struct Team {
+    /// 1 to 64.
+    pub workers: usize,
+    /// 1 to 1,024.
+    pub blocks: usize,
+}
+
+/// Builds the tables of all pairs below the one that the text `pair` names on the board named
+/// `board`, in order and the pair's own among them, and writes the file of the pair's table; or,
+/// with `all`, the files of all of them, one after the other in that order. Each is built by so many
+/// workers over so many blocks; the bytes are the same for every number of them.
+///
+/// # Errors
+/// [`Fault::Board`] where there is no such board, else [`Fault::PairText`], [`Fault::Counts`] or
+/// [`Fault::Crowded`] where the text names no pair of the board, in this order; else the first
+/// refusal of a build: [`Fault::Workers`] where there aren't 1 to 64 workers, [`Fault::Blocks`]
+/// where there aren't 1 to 1,024 blocks, [`Fault::Memory`] where memory is refused,
+/// [`Fault::Missing`] with the number of a block that was left incomplete, or [`Fault::TooDeep`]
+/// where depths go past what a table can hold. Nothing is then written, since writing begins when
+/// the last table is built. Else [`Fault::Write`], with the bytes that went out, at the first write
+/// that fails.
+pub fn build_out<R: Threads + Wait + Sync, O: Sink>(
+    rt: &R,
+    alloc: Global,
+    board: &str,
+    pair: &str,
+    workers: usize,
+    blocks: usize,
+    all: bool,
+    output: &mut O,
+) -> Result<(), Fault>
+    requires { O.failures output.old < 2 ^ 64 - 1 }
+    ensures answer { AnswersBuild (board_of board.now) pair.now workers blocks all (O.contents output.old) (O.contents output.new) result }
+    ensures counted { CountsWrites (O.failures output.old) (O.failures output.new) result }
+{
+    let team = Team { workers, blocks };
+    match read_board(board)? {
+        NamedBoard::Nine => build_on::<Nine, R, O>(rt, alloc, pair, team, all, output),
+        NamedBoard::Grid => build_on::<Grid, R, O>(rt, alloc, pair, team, all, output),
+    }
+}
+
+fn build_on<B: Board, R: Threads + Wait + Sync, O: Sink>(
+    rt: &R,
+    alloc: Global,
+    text: &str,
+    team: Team,
+    all: bool,
+    output: &mut O,
+) -> Result<(), Fault>
+    requires { O.failures output.old < 2 ^ 64 - 1 }
+    ensures answer { AnswersBuildOn B.shape text.now team.workers team.blocks all (O.contents output.old) (O.contents output.new) result }
+    ensures counted { CountsWrites (O.failures output.old) (O.failures output.new) result }
+{
+    let pair = read_pair::<B>(text)?;
+    build_pair(rt, alloc, pair, team, all, output)
+}
+
+fn build_pair<B: Board, R: Threads + Wait + Sync, O: Sink>(
+    rt: &R,
+    alloc: Global,
+    pair: Pair<B>,
+    team: Team,
+    all: bool,
+    output: &mut O,
+) -> Result<(), Fault>
+    requires { O.failures output.old < 2 ^ 64 - 1 }
+    ensures answer { AnswersBuilt B.shape pair team.workers team.blocks all (O.contents output.old) (O.contents output.new) result }
+    ensures counted { CountsWrites (O.failures output.old) (O.failures output.new) result }
+{
+    let shelf = build_below(rt, alloc, pair, team)?;
+    write_files(&shelf, pair, all, output)
+}
+
+/// The tables of all pairs below a pair, its own among them.
+fn build_below<B: Board, R: Threads + Wait + Sync>(
+    rt: &R,
+    alloc: Global,
+    pair: Pair<B>,
+    team: Team,
+) -> Result<Shelf<B>, Fault>
+    ensures there { IfOk result (λ shelf. HasTables shelf (below_of pair)) }
+    ensures exact { IfOk result (λ shelf. HasExact B.shape shelf (below_of pair)) }
+    ensures last { OnOk result (EndsIn (below_of pair) pair) }
+    ensures range { OnOk result (range_fault team.workers team.blocks ≡ None) }
+    ensures refused { IfErr result (IsUnbuiltFor B.shape pair team.workers team.blocks) }
+    ensures unwritten { IfErr result (λ refused. is_write refused ≡ false) }
+{
+    let mut shelf = Shelf::new(alloc)?;
+    for below in pair.below() {
+        build_onto(rt, alloc, &mut shelf, below, team)?;
+    }
+    Ok(shelf)
+}
+
+/// Puts the table of a pair on a shelf that has those that it needs.
+fn build_onto<B: Board, R: Threads + Wait + Sync>(
+    rt: &R,
+    alloc: Global,
+    shelf: &mut Shelf<B>,
+    pair: Pair<B>,
+    team: Team,
+) -> Result<(), Fault>
+    requires { first_missing shelf.old pair ≡ None }
+    ensures there { OnOk result (is_some (table_on shelf.new pair) ≡ true) }
+    ensures exact { OnOk result ((t : Table) × (table_on shelf.new pair ≡ Some t) × (t.pair ≡ pair) × IsTable B.shape t) }
+    ensures others { OnOk result ((other : Counts) → other ≢ pair → table_on shelf.new other ≡ table_on shelf.old other) }
+    ensures range { OnOk result (range_fault team.workers team.blocks ≡ None) }
+    ensures refused { IfErr result (IsUnbuiltAt B.shape pair team.workers team.blocks) }
+{
+    let Team { workers, blocks } = team;
+    let table = build(rt, alloc, shelf, pair, &OpenGate, workers, blocks)?;
+    match shelf.put(table) {
+        Ok(()) => Ok(()),
+        Err(_) => unreachable!(),
+    }
+}
+
+/// Writes the file of a pair's table, or those of all pairs below it.
+fn write_files<B: Geometry, O: Sink>(
+    shelf: &Shelf<B>,
+    pair: Pair<B>,
+    all: bool,
+    output: &mut O,
+) -> Result<(), Fault>
+    requires failures { O.failures output.old < 2 ^ 64 - 1 }
+    requires there { HasTables shelf.now (below_of pair) }
+    requires exact { HasExact B.shape shelf.now (below_of pair) }
+    requires last { EndsIn (below_of pair) pair }
+    ensures files { AnswersFiles B.shape (pairs_written all pair) (O.contents output.old) (O.contents output.new) result }
+    ensures unrefused { IfErr result (λ refused. is_write refused ≡ true) }
+    ensures counted { CountsWrites (O.failures output.old) (O.failures output.new) result }
+{
+    match send_files(shelf, pair, all, output) {
+        Ok(_) => Ok(()),
+        Err(sent) => Err(Fault::Write(sent)),
+    }
+}
+
+/// Sends these files, and answers how many bytes went out.
+fn send_files<B: Geometry, O: Sink>(
+    shelf: &Shelf<B>,
+    pair: Pair<B>,
+    all: bool,
+    output: &mut O,
+) -> Result<u64, u64>
+    requires failures { O.failures output.old < 2 ^ 64 - 1 }
+    requires there { HasTables shelf.now (below_of pair) }
+    requires exact { HasExact B.shape shelf.now (below_of pair) }
+    requires last { EndsIn (below_of pair) pair }
+    ensures sent { HasSent (O.contents output.old) (O.contents output.new) 0 (flat_map (file_on B.shape shelf.now) (pairs_written all pair)) result }
+    ensures counted { CountsFailure (O.failures output.old) (O.failures output.new) result }
+    ensures exact { HasExact B.shape shelf.now (pairs_written all pair) }
+{
+    if all {
+        write_below(shelf, pair, output)
+    } else {
+        write_one(shelf, pair, 0, output)
+    }
+}
+
+/// Writes the files of the tables of all pairs below a pair, and answers how many bytes went out.
+fn write_below<B: Geometry, O: Sink>(
+    shelf: &Shelf<B>,
+    pair: Pair<B>,
+    output: &mut O,
+) -> Result<u64, u64>
+    requires failures { O.failures output.old < 2 ^ 64 - 1 }
+    requires there { HasTables shelf.now (below_of pair) }
+    ensures sent { HasSent (O.contents output.old) (O.contents output.new) 0 (flat_map (file_on B.shape shelf.now) (below_of pair)) result }
+    ensures counted { CountsFailure (O.failures output.old) (O.failures output.new) result }
+{
+    let mut sent = 0;
+    for below in pair.below() {
+        sent = write_one(shelf, below, sent, output)?;
+    }
+    Ok(sent)
+}
+
+/// Writes the file of a pair's table. `sent` counts the bytes that went out before it; the answer
+/// counts those of the file as well.
+fn write_one<B: Geometry, O: Sink>(
+    shelf: &Shelf<B>,
+    pair: Pair<B>,
+    sent: u64,
+    output: &mut O,
+) -> Result<u64, u64>
+    requires failures { O.failures output.old < 2 ^ 64 - 1 }
+    requires there { is_some (table_on shelf.now pair) ≡ true }
+    requires room { sent < 2 ^ 60 }
+    ensures sent { HasSent (O.contents output.old) (O.contents output.new) sent (file_on B.shape shelf.now pair) result }
+    ensures counted { CountsFailure (O.failures output.old) (O.failures output.new) result }
+    ensures few { IfOk result (λ now. now ≤ sent + 2 ^ 42) }
+{
+    let Some(table) = shelf.get(pair) else {
+        unreachable!()
+    };
+    let length = file_length(table);
+    match write_table(output, table) {
+        Ok(()) => Ok(sent + length),
+        Err(Write(more)) => Err(sent + more),
+    }
+}
+
+/// How many bytes the file of a table has: 16 before the codes, 2 for each code, and 32 after them.
+fn file_length<B: Geometry>(table: &Exact<B>) -> u64
+    ensures value { result ≡ length (file_of B.shape table.now) }
+    ensures few { result ≤ 2 ^ 42 }
+{
+    // The proof learns here how many entries there may be.
+    let _ = table.pair().size();
+    16 + 2 * table.len() + 32
+}

@@ -1,0 +1,28 @@
+use Rattle.std.proofs.Common.{Err, ap, sym, subst}
+use Rattle.morris_wave.specs.Values.{IsTooDeep}
+use Rattle.morris_table.specs.PairNets.{level_of, net_at}
+use Rattle.morris_table.specs.Shelves.{first_missing}
+use Rattle.morris_table.proofs.BuildLaws.{refused_deep, nothing_needed}
+use Rattle.morris_table.proofs.building.build.Goals as goal
+
+pub returns-in_err-codes-clause-needs : goal.returns-in_err-codes-clause-needs
+returns-in_err-codes-clause-needs g c =
+    nothing_needed c.from_residual-in_err-codes.result c.in_err-codes.field-0.0 (first_missing c.args.shelf.now c.args.pair)
+    c.from_residual-in_err-codes.ensures.1 c.in_ok-graph.ensures.needs
+
+pub returns-in_err-codes-clause-too_deep : goal.returns-in_err-codes-clause-too_deep
+returns-in_err-codes-clause-too_deep g c = λ e.
+    subst (λ d. IsTooDeep (net_at g.B.Geometry.shape (level_of d))) c.in_ok-graph.ensures.pair
+    (c.in_err-codes.ensures.too_deep (ap Err (refused_deep c.from_residual-in_err-codes.result c.in_err-codes.field-0.0 c.from_residual-in_err-codes.ensures.1 e)))
+
+pub returns-in_err-codes-clause-beyond : goal.returns-in_err-codes-clause-beyond
+returns-in_err-codes-clause-beyond g c = λ e. c.in_ok-graph.ensures.deep.0 (returns-in_err-codes-clause-too_deep g c e)
+
+pub returns-clause-not_too_deep : goal.returns-clause-not_too_deep
+returns-clause-not_too_deep g c = λ deep.
+    c.in_ok-codes.ensures.not_too_deep (subst (λ d. IsTooDeep (net_at g.B.Geometry.shape (level_of d))) (sym c.in_ok-graph.ensures.pair) deep)
+
+pub returns-clause-within : goal.returns-clause-within
+returns-clause-within g c = λ beyond.
+    c.in_ok-codes.ensures.not_too_deep (subst (λ d. IsTooDeep (net_at g.B.Geometry.shape (level_of d))) (sym c.in_ok-graph.ensures.pair)
+    (c.in_ok-graph.ensures.deep.1 beyond))

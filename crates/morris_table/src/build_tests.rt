@@ -1,0 +1,157 @@
+// Tables built by workers are those of a sweep, whatever the numbers of workers and blocks.
+use crate::building::build;
+use crate::file_tests::file_of;
+use crate::shelf::{Needs, Shelf};
+use crate::sweep_tests::{codes_of, shelf_of};
+use crate::sweeping::{BuildFault, sweep_pair};
+use morris_board::grid::Grid;
+use morris_index::pair::Pair;
+use morris_workers::{Gate, OpenGate, Turn};
+use std::alloc::Global;
+use std::process::Abort;
+use std::sync::Wait;
+use std::sync::atomic::{AtomicBool, Ordering};
+use std::test::Fail;
+use std::thread::Threads;
+
+/// All pairs of the board `grid`, each after those that it needs.
+const PAIRS: [(u8, u8); 6] = [(3, 3), (4, 3), (4, 4), (5, 3), (5, 4), (6, 3)];
+
+#[test]
+fn a_build_gives_the_file_of_a_sweep(rt: HostRuntime) -> Result<(), Fail> {
+    let alloc = rt.alloc();
+    let shelf = Shelf::new(alloc)?;
+    let pair = Pair::new(3, 3)?;
+    let file = file_of(&rt, alloc, &sweep_pair(alloc, &shelf, pair)?)?;
+    assert_eq!(rt; file.len(), 3408);
+    for workers in [1, 2, 7] {
+        for blocks in [1, 5, 64] {
+            let table = build(&rt, alloc, &shelf, pair, &OpenGate, workers, blocks)?;
+            assert_eq!(rt; file_of(&rt, alloc, &table)?.as_slice(), file.as_slice());
+        }
+    }
+    Ok(())
+}
+
+/// Each of these builds of a pair gives the codes of its sweep.
+fn assert_builds_agree<R: Abort + Threads + Wait + Sync>(
+    rt: &R,
+    alloc: Global,
+    shelf: &Shelf<Grid>,
+    pair: Pair<Grid>,
+) -> Result<(), Fail> {
+    let codes = codes_of(alloc, &sweep_pair(alloc, shelf, pair)?)?;
+    for workers in [1, 2, 3, 7, 64] {
+        for blocks in [1, 5, 16, 64, 1024] {
+            let table = build(rt, alloc, shelf, pair, &OpenGate, workers, blocks)?;
+            assert!(rt; table.pair() == pair);
+            assert_eq!(rt; codes_of(alloc, &table)?.as_slice(), codes.as_slice());
+        }
+    }
+    Ok(())
+}
+
+#[test]
+fn builds_of_all_pairs_agree_with_sweeps(rt: HostRuntime) -> Result<(), Fail> {
+    let shelf = shelf_of(&rt, rt.alloc(), &PAIRS)?;
+    for (a, b) in PAIRS {
+        assert_builds_agree(&rt, rt.alloc(), &shelf, Pair::new(a, b)?)?;
+    }
+    Ok(())
+}
+
+#[test]
+fn a_build_needs_the_tables_of_others(rt: HostRuntime) -> Result<(), Fail> {
+    let empty = Shelf::new(rt.alloc())?;
+    let (three_three, four_three) = (Pair::<Grid>::new(3, 3)?, Pair::new(4, 3)?);
+    for (workers, blocks) in [(2, 16), (0, 16), (2, 0), (0, 0), (65, 1025)] {
+        let refused = build(
+            &rt,
+            rt.alloc(),
+            &empty,
+            four_three,
+            &OpenGate,
+            workers,
+            blocks,
+        );
+        assert!(rt; matches!(refused, Err(BuildFault::Needs(Needs(pair))) if pair == three_three));
+    }
+    Ok(())
+}
+
+#[test]
+fn numbers_out_of_range_are_refused(rt: HostRuntime) -> Result<(), Fail> {
+    let shelf = Shelf::new(rt.alloc())?;
+    let pair = Pair::<Grid>::new(3, 3)?;
+    for (workers, blocks) in [(0, 16), (65, 16), (0, 0), (65, 1025), (usize::MAX, 1)] {
+        let refused = build(&rt, rt.alloc(), &shelf, pair, &OpenGate, workers, blocks);
+        assert!(rt; matches!(refused, Err(BuildFault::Workers)));
+    }
+    for blocks in [0, 1025, usize::MAX] {
+        let refused = build(&rt, rt.alloc(), &shelf, pair, &OpenGate, 2, blocks);
+        assert!(rt; matches!(refused, Err(BuildFault::Blocks)));
+    }
+    Ok(())
+}
+
+/// Sends every worker away.
+struct Shut;
+
+impl Gate for Shut {
+    fn pass(&self, _worker: usize, _number: u64) -> Turn {
+        Turn::Leave
+    }
+}
+
+#[test]
+fn a_gate_that_is_shut_leaves_the_first_block_incomplete(rt: HostRuntime) -> Result<(), Fail> {
+    let alloc = rt.alloc();
+    let shelf = shelf_of(&rt, alloc, &[(3, 3)])?;
+    let (three_three, four_three) = (Pair::new(3, 3)?, Pair::new(4, 3)?);
+    let refused = build(&rt, alloc, &shelf, four_three, &Shut, 2, 5);
+    assert!(rt; matches!(refused, Err(BuildFault::Missing(0))));
+    assert!(rt; shelf.get(three_three).is_some() && shelf.get(four_three).is_none());
+    Ok(())
+}
+
+/// Lets two workers go on once they have met: each raises its flag when it comes for the first
+/// time, and looks for the other's.
+#[derive(Drop)]
+struct Meeting {
+    first: AtomicBool,
+    second: AtomicBool,
+}
+
+/// How often a worker looks for the other's flag.
+const LOOKS: u32 = 1_000_000_000;
+
+impl Gate for Meeting {
+    fn pass(&self, worker: usize, _number: u64) -> Turn {
+        let (mine, others) = match worker {
+            0 => (&self.first, &self.second),
+            _ => (&self.second, &self.first),
+        };
+        if mine.swap(true, Ordering::SeqCst) {
+            return Turn::Go;
+        }
+        for _ in 0..LOOKS {
+            if others.load(Ordering::SeqCst) {
+                return Turn::Go;
+            }
+        }
+        Turn::Leave
+    }
+}
+
+#[test]
+fn two_workers_are_at_work_at_once(rt: HostRuntime) -> Result<(), Fail> {
+    let shelf = Shelf::<Grid>::new(rt.alloc())?;
+    let gate = Meeting {
+        first: AtomicBool::new(false),
+        second: AtomicBool::new(false),
+    };
+    let table = build(&rt, rt.alloc(), &shelf, Pair::new(3, 3)?, &gate, 2, 5)?;
+    let tallies = table.tallies(rt.alloc())?;
+    assert_eq!(rt; tallies.as_slice(), [600, 0, 936, 36, 108].as_slice());
+    Ok(())
+}

@@ -1,0 +1,81 @@
+//! Tables made by several workers.
+ghost use Rattle.std.specs.Prelude.{◌≡◌, ℕ, ◌<◌, None, IfOk, IfErr, OnOk, MatchResult};
+ghost use Rattle.morris_wave.specs.Blocks.{BlockState};
+ghost use Rattle.morris_wave.specs.Values.{IsTooDeep};
+ghost use Rattle.morris_workers.specs.Ranges.{range_fault};
+ghost use Rattle.morris_table.specs.PairNets.{level_of, net_at};
+ghost use Rattle.morris_table.specs.Known.{IsBeyondCodes};
+ghost use Rattle.morris_table.specs.Tables.{IsTable};
+ghost use Rattle.morris_table.specs.Shelves.{first_missing};
+ghost use Rattle.morris_table.specs.Sweeping.{needed_by};
+ghost use Rattle.morris_table.specs.Building.{out_of_range};
+ghost use Rattle.morris_table.specs.Headline.{IsBlockOf, TellsTheGame};
+
+use crate::exact::Exact;
+use crate::graph::PairGraph;
+use crate::shelf::Shelf;
+use crate::sweeping::BuildFault;
+use morris_board::board::{Board, Geometry};
+use morris_index::pair::Pair;
+use morris_workers::{Gate, SolveFault, solve};
+use std::alloc::Global;
+use std::sync::Wait;
+use std::thread::Threads;
+
+impl<B: Geometry> From<SolveFault> for BuildFault<B> {
+    ghost use Rattle.morris_table.specs.Building.{solved};
+
+    ghost from_gives = { λ fault result. result ≡ solved fault };
+
+    fn from(fault: SolveFault) -> BuildFault<B> {
+        match fault {
+            SolveFault::Workers => BuildFault::Workers,
+            SolveFault::Blocks => BuildFault::Blocks,
+            SolveFault::Memory => BuildFault::Memory,
+            SolveFault::Missing(number) => BuildFault::Missing(number),
+            SolveFault::TooDeep => BuildFault::TooDeep,
+        }
+    }
+}
+
+/// The exact table of a pair, over the tables of the pairs that it needs. So many workers build it
+/// from the pair's graph, cut into so many blocks, and ask the gate before each piece of work.
+///
+/// Whatever the numbers of workers and blocks, the gate and the order of the workers, the table
+/// gives a win or a loss with its least number of plies under best play exactly where one can be
+/// forced, and a draw elsewhere.
+///
+/// # Errors
+/// `Needs` with the first of the pairs that the pair needs whose table isn't on the shelf, before
+/// all else. Then `Workers` where there aren't 1 to 64 of them, and `Blocks` where there aren't 1
+/// to 1,024. Then `Memory` where memory is refused, `Missing` with the least number of a block that
+/// isn't complete, since a worker was told to leave, and `TooDeep` where a code of 16 bits can't
+/// tell all values.
+pub fn build<B: Board, A: Gate, R: Threads + Wait + Sync>(
+    rt: &R,
+    alloc: Global,
+    shelf: &Shelf<B>,
+    pair: Pair<B>,
+    gate: &A,
+    workers: usize,
+    blocks: usize,
+) -> Result<Exact<B>, BuildFault<B>>
+    ensures needs { MatchResult result (λ _. first_missing shelf.now pair ≡ None) (λ fault. needed_by fault ≡ first_missing shelf.now pair) }
+    ensures range { first_missing shelf.now pair ≡ None
+        → MatchResult result (λ _. range_fault workers blocks ≡ None) (λ fault. out_of_range fault ≡ range_fault workers blocks) }
+    ensures missing { IfErr result (λ fault. (number : ℕ) → fault ≡ BuildFault.Missing number → number < blocks) }
+    ensures pair { IfOk result (λ t. t.pair ≡ pair) }
+    ensures exact { IfOk result (IsTable B.shape) }
+    ensures too_deep { result ≡ Err BuildFault.TooDeep → IsTooDeep (net_at B.shape (level_of pair)) }
+    ensures not_too_deep { OnOk result (¬ IsTooDeep (net_at B.shape (level_of pair))) }
+    // The same in the words of the game.
+    ensures beyond { result ≡ Err BuildFault.TooDeep → IsBeyondCodes B.shape pair }
+    ensures within { OnOk result (¬ IsBeyondCodes B.shape pair) }
+    // Whenever a block's lock is free, each decided entry is the game's value and exact depth at
+    // its position and the tallies count the entries.
+    ensures whenever { (s : BlockState) → IsBlockOf B.shape pair s → TellsTheGame B.shape pair s }
+{
+    let graph = PairGraph::new(shelf, pair)?;
+    let codes = solve(rt, alloc, &graph, gate, workers, blocks)?;
+    Ok(graph.table(codes))
+}

@@ -1,0 +1,10 @@
+-- Lemmas on the definitions of this crate.
+pub mod Exact
+pub mod Lateness
+pub mod Faults
+pub mod TicketSums
+pub mod DrawSteps
+pub mod SeatSplits
+pub mod SeatJoins
+pub mod SeatLists
+pub mod TicketCounts

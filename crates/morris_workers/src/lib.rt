@@ -1,0 +1,29 @@
+//! Threads that solve a graph with exits, block by block and wave by wave.
+//!
+//! Each block stands in a [`Yard`] behind a lock of its own. [`solve`] makes the blocks, takes them from
+//! wave to wave by workers that draw the numbers of the blocks to send from, and gathers the codes.
+#![tactic(auto)]
+
+mod draws;
+mod fault;
+mod gate;
+mod making;
+#[cfg(test)]
+mod samples;
+mod solver;
+#[cfg(test)]
+mod solver_tests;
+mod survey;
+mod tickets;
+#[cfg(test)]
+mod tickets_tests;
+mod wave;
+mod yard;
+#[cfg(test)]
+mod yard_tests;
+
+pub use fault::SolveFault;
+pub use gate::{Gate, OpenGate, Turn};
+pub use solver::solve;
+pub use tickets::{Drawn, TicketSeat, Tickets};
+pub use yard::Yard;

@@ -1,0 +1,156 @@
+//! The codes of all nodes of a graph, by several workers.
+ghost use Rattle.std.specs.Prelude.{◌≡◌, ℕ, ◌+◌, ◌<◌, ◌≤◌, ◌^◌, Bool, true, None, Some, length, slice_index, OnOk, IfOk, IfErr, IfSome, IfNone, MatchResult, vec_len};
+ghost use Rattle.std.specs.List.{All};
+ghost use Rattle.morris_wave.specs.Values.{HasCode, IsTooDeep, PlyRules, CodeRules};
+ghost use Rattle.morris_wave.specs.Blocks.{IsSettled};
+ghost use Rattle.morris_workers.specs.Ranges.{range_fault, is_range_fault, Tells};
+ghost use Rattle.morris_workers.specs.declared.fault.SolveFault.{SolveFault};
+ghost use Rattle.morris_workers.specs.declared.fault.SolveFault.TheVariants as fault;
+
+use crate::fault::{LAST_WAVE, SolveFault};
+use crate::gate::Gate;
+use crate::making::make_blocks;
+use crate::survey::survey;
+use crate::wave::run_wave;
+use crate::yard::Yard;
+use morris_wave::{Block, Cut, Graph, Levels, gather};
+use std::alloc::Global;
+use std::sync::Wait;
+use std::thread::Threads;
+
+// Whether there are so many workers and blocks.
+fn check(workers: usize, blocks: usize) -> Result<(), SolveFault>
+    ensures { MatchResult result (λ _. range_fault workers blocks ≡ None) (λ fault. range_fault workers blocks ≡ Some fault) }
+{
+    if workers < 1 || workers > 64 {
+        return Err(SolveFault::Workers);
+    }
+    if blocks < 1 || blocks > 1024 {
+        return Err(SolveFault::Blocks);
+    }
+    Ok(())
+}
+
+// So many things, cut into so many parts.
+fn cut_into(size: u64, parts: u64) -> Cut
+    requires size { size ≤ 2 ^ 40 }
+    requires parts { (1 ≤ parts) × (parts ≤ 1024) }
+    ensures size { result.size ≡ size }
+    ensures parts { result.blocks ≡ parts }
+{
+    let Ok(cut) = Cut::new(size, parts) else {
+        unreachable!()
+    };
+    cut
+}
+
+// Goes from wave to wave until all blocks are settled, and says at which wave they are.
+fn run_waves<G: Graph + Send + Sync, A: Gate, R: Threads + Wait + Sync>(
+    rt: &R,
+    alloc: Global,
+    graph: &G,
+    gate: &A,
+    yard: &Yard<G::Name>,
+    shares: &Cut,
+) -> Result<u16, SolveFault>
+    requires shared { shares.now.size ≡ yard.now }
+    requires blocks { (1 ≤ yard.now) × (yard.now ≤ 1024) }
+    requires workers { (1 ≤ shares.now.blocks) × (shares.now.blocks ≤ 64) }
+    ensures { IfErr result (Tells (G.Name.net (G.level graph.now)) yard.now) }
+{
+    for wave in 0..=LAST_WAVE {
+        if survey(rt, graph, yard, wave)? {
+            return Ok(wave);
+        }
+        run_wave(rt, alloc, graph, gate, yard, shares, wave + 1)?;
+    }
+    // The survey of the last wave ends the waves. Of what stands behind locks no proof knows as much.
+    Err(SolveFault::Missing(0))
+}
+
+// The first block that isn't settled, or doesn't have the number of its place.
+fn first_unsettled<N: Levels>(blocks: &[Block<N>]) -> Option<usize>
+    ensures none { IfNone result (All (λ s. IsSettled (N.net s.level) s) blocks.now) }
+    ensures numbers { IfNone result (All (λ s. s.number < length blocks.now) blocks.now) }
+    ensures found { IfSome result (λ place. place < length blocks.now) }
+{
+    for (place, block) in blocks.iter().enumerate() {
+        if block.number() != place as u64 || !block.settled() {
+            return Some(place);
+        }
+    }
+    None
+}
+
+// The codes of all nodes, from the blocks at this wave.
+fn codes_of<N: Levels>(
+    alloc: Global,
+    level: u64,
+    wave: u16,
+    cut: &Cut,
+    blocks: &[Block<N>],
+) -> Result<Vec<u16>, SolveFault>
+    requires { length blocks.now ≡ cut.now.blocks }
+    ensures len { IfOk result (λ v. vec_len v ≡ cut.now.size) }
+    ensures codes { IfOk result (λ v. (i : ℕ) → i < cut.now.size → HasCode (N.net level) i (slice_index v.items i)) }
+    ensures not_too_deep { OnOk result (¬ IsTooDeep (N.net level)) }
+    ensures fault { IfErr result (Tells (N.net level) cut.now.blocks) }
+{
+    if let Some(place) = first_unsettled(blocks) {
+        return Err(SolveFault::Missing(place as u64));
+    }
+    Ok(gather(alloc, level, wave, cut, blocks)?)
+}
+
+/// The code of each node of a graph: 0 for a draw, otherwise one more than its depth.
+///
+/// Works with so many workers, 1 to 64, each in a thread of its own where one can be started, and cuts the
+/// graph into so many blocks, 1 to 1,024. The codes are those that `sweep` gives, for every number of
+/// workers and blocks and in whatever order the workers come.
+///
+/// Wave by wave the workers draw the numbers of the blocks and ask the gate after each draw (see [`Gate`]).
+/// A worker that draws no number, or is told to leave, ends for that wave. A graph whose blocks are settled
+/// before the first wave is answered without any draw. A worker holds one lock at a time, and none while it
+/// looks at the graph.
+///
+/// The blocks take what [`Block`] says, and each worker the batches of one block at a time.
+///
+/// # Errors
+///
+/// `Workers`, then `Blocks`, for numbers out of range, before all else. Then `Memory` where memory is
+/// refused, in a wave before anything else that the wave would answer. `Missing` with the least number of a
+/// block that isn't complete, where a gate has sent workers away. `TooDeep` only where `sweep` answers it;
+/// such a graph is never answered with codes.
+#[tactic(auto, using(morris_wave::proofs::Plies::ply_rules, morris_wave::proofs::Plies::code_rules))]
+pub fn solve<G: Graph + Send + Sync, A: Gate, R: Threads + Wait + Sync>(
+    rt: &R,
+    alloc: Global,
+    graph: &G,
+    gate: &A,
+    workers: usize,
+    blocks: usize,
+) -> Result<Vec<u16>, SolveFault>
+    // Numbers out of range are refused, workers first.
+    ensures refused { (fault : SolveFault) → range_fault workers blocks ≡ Some fault → result ≡ Err fault }
+    // And no others are.
+    ensures in_range { IfErr result (λ fault. is_range_fault fault ≡ true → range_fault workers blocks ≡ Some fault) }
+    ensures ok_range { OnOk result (range_fault workers blocks ≡ None) }
+    ensures len { IfOk result (λ v. vec_len v ≡ (G.Name.net (G.level graph.now)).size) }
+    ensures codes { IfOk result (λ v. (i : ℕ) → i < (G.Name.net (G.level graph.now)).size
+        → HasCode (G.Name.net (G.level graph.now)) i (slice_index v.items i)) }
+    ensures not_too_deep { OnOk result (¬ IsTooDeep (G.Name.net (G.level graph.now))) }
+    ensures too_deep { result ≡ Err SolveFault.TooDeep → IsTooDeep (G.Name.net (G.level graph.now)) }
+    ensures missing { IfErr result (λ fault. (number : ℕ) → fault ≡ SolveFault.Missing number → number < blocks) }
+    // A code is counted in plies as the rules of the game do.
+    ensures plies { PlyRules (G.Name.net (G.level graph.now)) }
+    // And it tells who wins: codes of lost nodes are odd, those of won nodes even.
+    ensures outcome { CodeRules (G.Name.net (G.level graph.now)) }
+{
+    check(workers, blocks)?;
+    let cut = cut_into(graph.size(), blocks as u64);
+    let shares = cut_into(blocks as u64, workers as u64);
+    let made = make_blocks(rt, alloc, graph, &cut, &shares)?;
+    let yard = Yard::new(alloc, made)?;
+    let wave = run_waves(rt, alloc, graph, gate, &yard, &shares)?;
+    codes_of(alloc, graph.level(), wave, &cut, &yard.into_blocks())
+}

@@ -1,0 +1,261 @@
+//! One wave, by several workers.
+ghost use Rattle.std.specs.Prelude.{◌≡◌, ◌⊎◌, ℕ, ◌<◌, ◌≤◌, false, length, IfOk, IfSome, IfErr, vec_len};
+ghost use Rattle.std.specs.List.{All};
+ghost use Rattle.morris_wave.specs.Blocks.{next_wave_of};
+ghost use Rattle.morris_workers.specs.Tickets.{IsSeatOf, IsNewSeatOf, limit_of, has_ended};
+
+use crate::gate::{Gate, Turn};
+use crate::tickets::{TicketSeat, Tickets};
+use crate::yard::Yard;
+use morris_wave::{Batch, Block, Cut, Fresh, Graph, Levels, scatter_reusing};
+use std::alloc::{AllocError, Global};
+use std::ops::Range;
+use std::sync::Wait;
+use std::thread;
+use std::thread::Threads;
+
+// How many places of lists a worker keeps from one block to the next: 32 MB.
+const KEPT_ROOM: usize = 4194304;
+
+// What one worker gets: its number, and a seat to draw from.
+#[derive(Drop)]
+struct Job {
+    worker: u64,
+    seat: TicketSeat,
+}
+
+// What the workers of a wave share. Each has a share of the blocks, which it is the first to go to.
+struct Site<'a, G: Graph, A, R> {
+    rt: &'a R,
+    alloc: Global,
+    graph: &'a G,
+    gate: &'a A,
+    yard: &'a Yard<G::Name>,
+    shares: &'a Cut,
+    wave: u16,
+    ghost shared: { shares.now.size ≡ yard.now },
+}
+
+impl<G: Graph, A, R> Drop for Site<'_, G, A, R> {
+    fn drop(self) {
+        let Site {
+            rt: _,
+            alloc: _,
+            graph: _,
+            gate: _,
+            yard: _,
+            shares: _,
+            wave: _,
+        } = self;
+    }
+}
+
+// Takes a block to this wave, unless it is there.
+fn bring<N: Levels>(block: &mut Block<N>, wave: u16)
+    ensures { (block.new ≡ block.old) ⊎ (block.new ≡ next_wave_of block.old) }
+{
+    if block.wave() < wave {
+        // A block that can't go on stays where it is, and isn't complete at this wave.
+        let _ = block.advance();
+    }
+}
+
+// Puts the lists of batches that were sent aside for those of the next block, as long as they have no more
+// room together than a worker keeps.
+fn keep_room<N: Levels>(
+    mut batches: Vec<Batch<N>>,
+    spare: &mut Vec<Vec<u64>>,
+) -> Result<(), AllocError> {
+    let mut room = 0usize;
+    while let Some(batch) = batches.pop() {
+        let list = batch.into_nodes();
+        room = room.saturating_add(list.capacity());
+        if room <= KEPT_ROOM {
+            spare.push(list)?;
+        }
+    }
+    Ok(())
+}
+
+impl<'a, G: Graph, A: Gate, R: Wait> Site<'a, G, A, R> {
+    // Takes the blocks of a worker's share to this wave.
+    fn advance(&self, worker: u64)
+        requires { worker < self.now.shares.now.blocks }
+    {
+        let share = self.shares.range(worker);
+        for number in share.start..share.end {
+            bring(&mut self.yard.lock(self.rt, number as usize), self.wave);
+        }
+    }
+
+    // What a block found at this wave, if it is of the graph's level.
+    fn fresh(&self, source: usize) -> Result<Option<Fresh<G::Name>>, AllocError>
+        requires { source < self.now.yard.now }
+        ensures { IfOk result (λ found. IfSome found (λ fresh. G.level self.now.graph.now ≡ fresh.level)) }
+    {
+        let mut block = self.yard.lock(self.rt, source);
+        bring(&mut block, self.wave);
+        if block.level() != self.graph.level() {
+            return Ok(None);
+        }
+        Ok(Some(block.fresh(self.alloc)?))
+    }
+
+    // Applies a batch to its target.
+    fn apply(&self, target: usize, batch: &Batch<G::Name>)
+        requires { target < self.now.yard.now }
+    {
+        let mut block = self.yard.lock(self.rt, target);
+        bring(&mut block, self.wave);
+        // A batch that isn't for this block at this wave changes nothing.
+        let _ = block.apply(batch);
+    }
+
+    // Applies the batches of these places to the blocks there.
+    fn apply_all(&self, batches: &[Batch<G::Name>], targets: Range<usize>)
+        requires { targets.end ≤ self.now.yard.now }
+    {
+        for target in targets.start..targets.end {
+            if let Some(batch) = batches.get(target) {
+                self.apply(target, batch);
+            }
+        }
+    }
+
+    // Sends what a block found to all blocks, one after the other. It begins at the worker's share, so that
+    // workers don't queue at one block.
+    fn send(&self, worker: u64, source: usize, spare: &mut Vec<Vec<u64>>) -> Result<(), AllocError>
+        requires worker { worker < self.now.shares.now.blocks }
+        requires source { source < self.now.yard.now }
+    {
+        let Some(fresh) = self.fresh(source)? else {
+            return Ok(());
+        };
+        let batches = scatter_reusing(self.alloc, self.graph, &fresh, spare)?;
+        let first = self.shares.range(worker).start as usize;
+        self.apply_all(&batches, first..self.yard.count());
+        self.apply_all(&batches, 0..first);
+        keep_room(batches, spare)
+    }
+
+    // Draws and sends until no number is left or the gate says to leave.
+    fn draw_all(
+        &self,
+        tickets: &Tickets,
+        worker: u64,
+        seat: &mut TicketSeat,
+    ) -> Result<(), AllocError>
+        requires worker { worker < self.now.shares.now.blocks }
+        requires limit { limit_of tickets.now ≡ self.now.yard.now }
+        requires seat { IsSeatOf tickets.now seat.old }
+        requires ready { has_ended seat.old ≡ false }
+        ensures { IsSeatOf tickets.now seat.new }
+    {
+        let mut spare = Vec::new(self.alloc);
+        // No worker draws more numbers than there are blocks, and then finds once that none is left.
+        for _ in 0..=self.yard.count() {
+            let Some(number) = tickets.draw(seat) else {
+                return Ok(());
+            };
+            match self.gate.pass(worker as usize, number) {
+                Turn::Go => self.send(worker, number as usize, &mut spare)?,
+                Turn::Leave => return Ok(()),
+            }
+        }
+        Ok(())
+    }
+
+    // What one worker does in the wave. It gives back its seat, and says whether memory was refused.
+    fn work(&self, tickets: &Tickets, job: Job) -> (TicketSeat, Result<(), AllocError>)
+        requires worker { job.worker < self.now.shares.now.blocks }
+        requires limit { limit_of tickets.now ≡ self.now.yard.now }
+        requires seat { IsNewSeatOf tickets.now job.seat }
+        ensures { IsSeatOf tickets.now result.0 }
+    {
+        let Job { worker, mut seat } = job;
+        self.advance(worker);
+        let sent = self.draw_all(tickets, worker, &mut seat);
+        (seat, sent)
+    }
+}
+
+// A job for each seat, for the workers 0, 1, ..
+fn jobs_of(alloc: Global, tickets: &Tickets, seats: Vec<TicketSeat>) -> Result<Vec<Job>, AllocError>
+    requires { All (IsNewSeatOf tickets.now) seats.items }
+    ensures count { IfOk result (λ jobs. vec_len jobs ≡ vec_len seats) }
+    ensures seats { IfOk result (λ jobs. All (λ job. IsNewSeatOf tickets.now job.seat) jobs.items) }
+    ensures workers { IfOk result (λ jobs. All (λ job. job.worker < vec_len seats) jobs.items) }
+{
+    let mut jobs = Vec::with_capacity(alloc, seats.len())?;
+    for seat in seats {
+        let worker = jobs.len() as u64;
+        jobs.push(Job { worker, seat })?;
+    }
+    Ok(jobs)
+}
+
+// What is left to do once all workers are back: the tickets are closed, and if memory was refused anywhere
+// that is the answer.
+fn hand_back(
+    alloc: Global,
+    tickets: Tickets,
+    done: Vec<(TicketSeat, Result<(), AllocError>)>,
+) -> Result<(), AllocError>
+    requires some { 1 ≤ vec_len done }
+    requires seats { All (λ back. IsSeatOf tickets back.0) done.items }
+{
+    let mut seats = Vec::with_capacity(alloc, done.len())?;
+    let mut outcome = Ok(());
+    for (seat, sent) in done {
+        outcome = outcome.and(sent);
+        seats.push(seat)?;
+    }
+    let _ = tickets.close(seats);
+    outcome
+}
+
+/// Takes all blocks from a complete wave to this one, and sends what each of them found to all.
+///
+/// Each worker first takes the blocks of its share to the wave. Then it draws numbers of blocks and asks the
+/// gate after each draw. On `Go` it sends what the block found to every block; on `Leave` it ends, and
+/// nothing is sent from that block. A worker for which no thread can be started is run by another one.
+///
+/// # Errors
+///
+/// `AllocError` where memory is refused anywhere.
+pub(crate) fn run_wave<G: Graph + Send + Sync, A: Gate, R: Threads + Wait + Sync>(
+    rt: &R,
+    alloc: Global,
+    graph: &G,
+    gate: &A,
+    yard: &Yard<G::Name>,
+    shares: &Cut,
+    wave: u16,
+) -> Result<(), AllocError>
+    requires shared { shares.now.size ≡ yard.now }
+    requires few { yard.now ≤ 1024 }
+    requires workers { (1 ≤ shares.now.blocks) × (shares.now.blocks ≤ 64) }
+{
+    let workers = shares.blocks() as usize;
+    let (tickets, seats) = Tickets::new(alloc, yard.count() as u64, workers)?;
+    let jobs = jobs_of(alloc, &tickets, seats)?;
+    let site = &Site {
+        rt,
+        alloc,
+        graph,
+        gate,
+        yard,
+        shares,
+        wave,
+    };
+    let shown = &tickets;
+    let done = thread::map_vec(
+        rt,
+        jobs,
+        &|job| -> (TicketSeat, Result<(), AllocError>)
+            requires { IsNewSeatOf shown.now job.seat × (job.worker < site.now.shares.now.blocks) × (limit_of shown.now ≡ site.now.yard.now) }
+            ensures { IsSeatOf shown.entry.now result.0 }
+        { site.work(shown, job) },
+    )?;
+    hand_back(alloc, tickets, done)
+}

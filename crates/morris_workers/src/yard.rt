@@ -1,0 +1,96 @@
+//! Blocks behind locks, one for each.
+ghost use Rattle.std.specs.Prelude.{◌≡◌, ℕ, ◌<◌, ◌≤◌, IfOk, IfSome, vec_len};
+ghost use Rattle.std.specs.Sync.Mutex.{mutex_guard_value};
+ghost use Rattle.morris_workers.specs.Exact.{IsExact};
+
+use morris_wave::{Block, Levels};
+use std::alloc::{AllocError, Global};
+use std::marker::Model;
+use std::sync::{Mutex, MutexGuard, Wait};
+
+/// Blocks of a graph, each behind a lock of its own.
+///
+/// Contracts see a yard as the number of its locks, which are counted from 0.
+#[derive(Drop)]
+pub struct Yard<N: Levels> {
+    locks: Vec<Mutex<Block<N>>>,
+    // The vector that the blocks came in, emptied and kept for its room.
+    home: Vec<Block<N>>,
+}
+
+impl<N: Levels> Model for Yard<N> {
+    ghost use Rattle.std.specs.Prelude.{◌≡◌, ◌≤◌, ℕ, vec_len, vec_capacity};
+
+    ghost Value = { ℕ };
+
+    ghost view = { λ y. vec_len y.locks };
+
+    ghost invariant = { λ y. (vec_len y.home ≡ 0) × (vec_len y.locks ≤ vec_capacity y.home) };
+}
+
+impl<N: Levels> Yard<N> {
+    /// Puts each block behind a lock, in the same order.
+    ///
+    /// # Errors
+    ///
+    /// `AllocError` where memory is refused; the blocks are then dropped.
+    pub fn new(alloc: Global, mut blocks: Vec<Block<N>>) -> Result<Yard<N>, AllocError>
+        ensures { IfOk result (λ y. y ≡ vec_len blocks) }
+    {
+        let mut locks = Vec::with_capacity(alloc, blocks.len())?;
+        blocks.reverse();
+        while let Some(block) = blocks.pop() {
+            locks.push(Mutex::new(block))?;
+        }
+        Ok(Yard {
+            locks,
+            home: blocks,
+        })
+    }
+
+    /// How many locks there are.
+    pub fn count(&self) -> usize
+        ensures { result ≡ self.now }
+    {
+        self.locks.len()
+    }
+
+    /// Waits until block `k` is free, and locks it until the guard is dropped.
+    ///
+    /// Whoever gets a guard, at whatever moment, finds a block whose entries are the codes of their nodes
+    /// wherever they aren't open, and whose tallies count the entries.
+    pub fn lock<R: Wait>(&self, rt: &R, k: usize) -> MutexGuard<'_, Block<N>>
+        requires { k < self.now }
+        ensures { IsExact (N.net (mutex_guard_value result).level) (mutex_guard_value result) }
+    {
+        self.locks[k].lock(rt)
+    }
+
+    /// Locks block `k` if it is free, and waits for nobody.
+    ///
+    /// The block is then as `lock` finds it.
+    #[tactic(auto, using(crate::proofs::Exact::is_exact))]
+    pub fn try_lock(&self, k: usize) -> Option<MutexGuard<'_, Block<N>>>
+        requires { k < self.now }
+        ensures { IfSome result (λ guard. IsExact (N.net (mutex_guard_value guard).level) (mutex_guard_value guard)) }
+    {
+        self.locks[k].try_lock()
+    }
+
+    /// Gives the blocks back, in their order. It takes no memory and waits for nobody.
+    pub fn into_blocks(self) -> Vec<Block<N>>
+        ensures { vec_len result ≡ self }
+    {
+        let Yard {
+            mut locks,
+            mut home,
+        } = self;
+        while let Some(lock) = locks.pop() {
+            let Ok(()) = home.push(lock.into_inner()) else {
+                unreachable!()
+            };
+        }
+        home.reverse();
+        home
+    }
+}
