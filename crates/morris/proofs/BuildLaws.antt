@@ -1,6 +1,6 @@
 -- The files that are written of the tables on a shelf.
-use Rattle.std.proofs.Common.{◌≡◌, ◌≢◌, ◌+◌, ◌*◌, ◌<◌, ◌≤◌, ◌⊎◌, ℕ, true, List, [], ◌∷◌, ◌++◌, length, map, Option, Some, None, Ok, Err, take, ◌-◌, is_some, refl, sym, ap, ap₂, subst, ◌∙◌, inl, inr, IfSome, arith, append_assoc, append-nil, length-append}
-use Rattle.std.specs.List.{All, Contains, flat_map}
+use Rattle.std.proofs.Common.{◌≡◌, ◌≢◌, ◌+◌, ℕ, List, [], ◌∷◌, ◌++◌, length, Option, Some, None, Ok, Err, take, ◌-◌, refl, sym, ap, ap₂, subst, ◌∙◌, inl, inr, arith, append_assoc, append-nil, length-append}
+use Rattle.std.specs.List.{Contains, flat_map}
 use Rattle.std.proofs.lemmas.Grind.{flat_map-append}
 use Rattle.std.proofs.lemmas.List.Elements.{All-cons, All-nil, Contains-push, Contains-push_cases}
 use Rattle.std.specs.Io.KnownBytes.{Appends}

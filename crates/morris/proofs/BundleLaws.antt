@@ -1,16 +1,15 @@
 -- Where a bundle leads that is taken file by file.
-use Rattle.std.proofs.Common.{◌≡◌, ◌≢◌, false, ℕ, zero, suc, ◌-◌, ◌+◌, ◌<◌, ◌≤◌, List, Option, Some, None, Result, Ok, Err, arith, inl, inr, refl, subst}
+use Rattle.std.proofs.Common.{◌≡◌, false, ℕ, zero, suc, ◌-◌, ◌+◌, ◌<◌, Option, Some, None, Result, Ok, Err, arith, inl, inr, refl, subst}
 use Rattle.morris_board.specs.Boards.{Shape}
-use Rattle.morris_index.specs.Pairs.{Counts}
 use Rattle.morris_table.specs.FileReading.{CountsRead, Reads, next_file_in}
-use Rattle.morris_table.specs.Shelves.{Stored, table_on}
+use Rattle.morris_table.specs.Shelves.{Stored}
 use Rattle.morris_table.specs.Tables.{Table}
 use Rattle.morris_table.specs.declared.file_faults.ReadFault.{ReadFault}
 use Rattle.morris_table.specs.declared.file_faults.ReadFault.TheVariants as read
 use Rattle.morris.specs.declared.fault.Fault.{Fault}
 use Rattle.morris.specs.declared.fault.Fault.TheVariants as fault
 use Rattle.morris.specs.Faults.{is_write}
-use Rattle.morris.specs.Probe.{IsUnfit, Joins, Loaded, Loads, LoadsBundle, Reading}
+use Rattle.morris.specs.Probe.{IsUnfit, Joins, Loaded, Loads}
 use Rattle.morris.specs.Verify.{Input, read_fault}
 
 module _ (board : Shape) where

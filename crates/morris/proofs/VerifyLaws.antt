@@ -1,9 +1,7 @@
 -- From what was read, and why it isn't believed, to what `verify` answers.
 use Rattle.std.proofs.Common.{ℕ, List, length, Option, Result, Ok, Err}
-use Rattle.std.specs.Io.KnownBytes.{Keeps}
 use Rattle.std.proofs.KnownBytes.{Keeps-refl}
 use Rattle.morris_board.specs.Boards.{Shape}
-use Rattle.morris_index.specs.Pairs.{Counts}
 use Rattle.morris_table.specs.Tables.{IsTable, Table}
 use Rattle.morris.specs.declared.fault.Fault.{Fault}
 use Rattle.morris.specs.declared.fault.Fault.TheVariants as fault

@@ -1,7 +1,6 @@
-use Rattle.std.proofs.Common.{◌≡◌, ◌∷◌, [], ◌++◌, None, sym, ap, subst, inl, inr, ◌∙◌, append_assoc}
+use Rattle.std.proofs.Common.{◌≡◌, ◌∷◌, [], ◌++◌, sym, ap, subst, inl, inr, ◌∙◌, append_assoc}
 use Rattle.std.proofs.lemmas.List.{append-nil}
 use Rattle.morris_index.specs.Pairs.{below_of}
-use Rattle.morris_workers.specs.Ranges.{range_fault}
 use Rattle.morris.specs.Build.{HasExact, HasTables}
 use Rattle.morris.proofs.BuildLaws.{not_empty, one_exact_more}
 use Rattle.morris.proofs.ShelfLaws.{none_missing, one_table_more}

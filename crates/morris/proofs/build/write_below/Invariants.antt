@@ -1,4 +1,4 @@
-use Rattle.std.proofs.Common.{◌≡◌, ◌+◌, ◌*◌, ◌≤◌, ◌^◌, ◌++◌, length}
+use Rattle.std.proofs.Common.{◌≡◌, ◌*◌, ◌≤◌, ◌^◌, ◌++◌, length}
 use Rattle.std.specs.List.{flat_map}
 use Rattle.morris_board.specs.Streams.{AllSent}
 use Rattle.morris_index.specs.Pairs.{below_of}

@@ -1,4 +1,4 @@
-use Rattle.std.proofs.Common.{◌≡◌, ◌+◌, ◌*◌, ◌≤◌, slice_index}
+use Rattle.std.proofs.Common.{◌+◌, ◌*◌, ◌≤◌, slice_index}
 use Rattle.std.specs.List.{flat_map, range_with_len}
 use Rattle.morris_board.specs.Buffered.{AllPassed, taken_of}
 use Rattle.morris.specs.Stats.{depth_line}

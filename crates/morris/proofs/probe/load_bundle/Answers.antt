@@ -1,10 +1,10 @@
 -- A bundle is loaded file by file.
-use Rattle.std.proofs.Common.{◌≡◌, ◌-◌, ◌∙◌, arith, ap, inl, inr, refl, sym, subst, None, Some, Ok, Err}
+use Rattle.std.proofs.Common.{◌≡◌, ◌-◌, ◌∙◌, arith, inr, refl, subst, Err}
 use Rattle.std.proofs.lemmas.Result.{err_from_is_err_and}
 use Rattle.morris.specs.declared.fault.Fault.TheVariants as fault
 use Rattle.morris.specs.Probe.{Loads}
 use Rattle.morris.specs.Verify.{input_of}
-use Rattle.morris.proofs.BundleLaws.{Read, at_end, leads_on, leads_to_unfit, one_too_many, read_unwritten, refused_file}
+use Rattle.morris.proofs.BundleLaws.{at_end, leads_on, leads_to_unfit, one_too_many, read_unwritten, refused_file}
 use Rattle.morris.proofs.probe.load_bundle.Goals as goal
 
 pub loop-init : goal.loop-init

@@ -1,4 +1,4 @@
-use Rattle.std.proofs.Common.{◌≡◌, ◌++◌, [], ◌∷◌, arith, ap, suc, take, drop, get_or, subst, sym, None}
+use Rattle.std.proofs.Common.{arith, suc, take, drop, get_or, subst, sym, None}
 use Rattle.std.specs.List.{flat_map}
 use Rattle.std.proofs.lemmas.Result.{err_from_is_err_and}
 use Rattle.morris_board.specs.Buffered.{AllPassed}
