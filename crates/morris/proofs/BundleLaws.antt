@@ -18,7 +18,8 @@ module _ (board : Shape) where
     pub read : Reads (next_file_in board) before.bytes after.bytes found
     pub counted : CountsRead before.failures after.failures found
 
-  -- Some files of a bundle were taken: where the others lead, of which so many are taken at most, there leads the whole.
+  -- Some files of a bundle were taken: where the others lead, of which so many are taken at most,
+  -- there leads the whole.
   abbrev pub Leads : Stored → Input → ℕ → Stored → Input → Type 0
   Leads start before left shelf here = (loaded : Loaded) → Loads board left shelf here loaded → Loads board 64 start before loaded
 

@@ -18,11 +18,13 @@ use Rattle.morris.specs.Stats.{HasTooDeep}
 
 -- ---- the files
 
--- the pairs whose files are written: all those below a pair, in order, its own among them, or its own alone
+-- the pairs whose files are written: all those below a pair, in order, its own among them, or its
+-- own alone
 abbrev pub pairs_written : Bool → Counts → List Counts
 pairs_written all pair = if all then below_of pair else pair ∷ []
 
--- one table for each of these pairs, in their order, in which each code is the game's value and exact depth
+-- one table for each of these pairs, in their order, in which each code is the game's value and
+-- exact depth
 pub record AreTablesOf (board : Shape) (pairs : List Counts) (tables : List Table) : Type 0 where
   pub of_pairs : map (λ t. t.pair) tables ≡ pairs
   pub exact : All (IsTable board) tables
@@ -46,8 +48,9 @@ HasExact board shelf pairs = (c : Counts) → Contains pairs c → (t : Table) �
 
 -- ---- the refusals
 
--- Why a pair isn't built, where those that it needs are there: there aren't 1 to 64 workers, or 1 to 1,024 blocks; want of memory; a block
--- of this number was left incomplete; or codes don't suffice for the depths.
+-- Why a pair isn't built, where those that it needs are there: there aren't 1 to 64 workers, or 1
+-- to 1,024 blocks; want of memory; a block of this number was left incomplete; or codes don't
+-- suffice for the depths.
 abbrev pub IsUnbuiltAt : Shape → Counts → ℕ → ℕ → Fault → Type 0
 IsUnbuiltAt board pair workers blocks fault.Workers = range_fault workers blocks ≡ Some solve.Workers
 IsUnbuiltAt board pair workers blocks fault.Blocks = range_fault workers blocks ≡ Some solve.Blocks
@@ -67,8 +70,9 @@ IsUnbuiltFor board pair workers blocks _ = ⊥
 
 -- ---- the answer
 
--- What `build` answers of a pair: one of these refusals, with nothing written; otherwise there are as many workers and blocks as there may
--- be, and the files are written, or the first bytes of them up to the write that failed.
+-- What `build` answers of a pair: one of these refusals, with nothing written; otherwise there are
+-- as many workers and blocks as there may be, and the files are written, or the first bytes of them
+-- up to the write that failed.
 abbrev pub AnswersBuilt : {T : Type 0} → Shape → Counts → ℕ → ℕ → Bool → Option (List ℕ) → Option (List ℕ) → Result T Fault → Type 0
 AnswersBuilt board pair workers blocks all old new (Ok done) =
     (range_fault workers blocks ≡ None) × AnswersFiles board (pairs_written all pair) old new (Ok done)
@@ -76,7 +80,8 @@ AnswersBuilt board pair workers blocks all old new (Err (fault.Write sent)) =
     (range_fault workers blocks ≡ None) × AnswersFiles {T = Unit {0}} board (pairs_written all pair) old new (Err (fault.Write sent))
 AnswersBuilt board pair workers blocks all old new (Err refused) = IsUnbuiltFor board pair workers blocks refused × Keeps old new
 
--- What it answers on a board: the fault of a text that names no pair, with nothing written; otherwise what it answers of the pair.
+-- What it answers on a board: the fault of a text that names no pair, with nothing written;
+-- otherwise what it answers of the pair.
 abbrev pub AnswersRead : {T : Type 0} → Shape → ℕ → ℕ → Bool → Option (List ℕ) → Option (List ℕ) → Result T Fault → Result Counts Fault → Type 0
 AnswersRead board workers blocks all old new result (Err refused) = (result ≡ Err refused) × Keeps old new
 AnswersRead board workers blocks all old new result (Ok pair) = AnswersBuilt board pair workers blocks all old new result
@@ -84,7 +89,8 @@ AnswersRead board workers blocks all old new result (Ok pair) = AnswersBuilt boa
 abbrev pub AnswersBuildOn : {T : Type 0} → Shape → List ℕ → ℕ → ℕ → Bool → Option (List ℕ) → Option (List ℕ) → Result T Fault → Type 0
 AnswersBuildOn board text workers blocks all old new result = AnswersRead board workers blocks all old new result (read_pair_of board.points text)
 
--- What `build` answers: the fault of a board that isn't there, with nothing written; otherwise what it answers on the board.
+-- What `build` answers: the fault of a board that isn't there, with nothing written; otherwise what
+-- it answers on the board.
 abbrev pub AnswersBuild : {T : Type 0} → Option Shape → List ℕ → ℕ → ℕ → Bool → Option (List ℕ) → Option (List ℕ) → Result T Fault → Type 0
 AnswersBuild None text workers blocks all old new result = (result ≡ Err fault.Board) × Keeps old new
 AnswersBuild (Some board) text workers blocks all old new result = AnswersBuildOn board text workers blocks all old new result

@@ -1,4 +1,5 @@
--- What `probe` makes of a bundle, which is any number of table files one after the other, and what it prints of a position.
+-- What `probe` makes of a bundle, which is any number of table files one after the other, and what
+-- it prints of a position.
 use Rattle.std.specs.Prelude.{◌≡◌, ◌≢◌, ◌⊎◌, ℕ, zero, suc, List, Option, Some, None, Result, Ok, Err, IsOk}
 use Rattle.std.specs.Io.KnownBytes.{Keeps}
 use Rattle.morris_board.specs.Boards.{Shape}
@@ -19,16 +20,16 @@ use Rattle.morris.specs.Verify.{Input, read_fault}
 
 -- ---- the shelf
 
--- The shelf takes a table in: those that its pair needs are there, each of its codes is the game's, and it stands in the place of what
--- was there for its pair.
+-- The shelf takes a table in: those that its pair needs are there, each of its codes is the game's,
+-- and it stands in the place of what was there for its pair.
 pub record Joins (board : Shape) (old new : Stored) (t : Table) : Type 0 where
   pub ready : first_missing old t.pair ≡ None
   pub exact : IsTable board t
   pub this : table_on new t.pair ≡ Some t
   pub others : (c : Counts) → c ≢ t.pair → table_on new c ≡ table_on old c
 
--- Why it doesn't: the first of the pairs that its pair needs whose table isn't there; otherwise the first entry that isn't what the rules
--- give from those of its results.
+-- Why it doesn't: the first of the pairs that its pair needs whose table isn't there; otherwise the
+-- first entry that isn't what the rules give from those of its results.
 abbrev pub IsUnfit : Shape → Stored → Table → Fault → Type 0
 IsUnfit board shelf t (fault.Needs greater lesser) = first_missing shelf t.pair ≡ Some (counts greater lesser)
 IsUnfit board shelf t (fault.Differs index) = (first_missing shelf t.pair ≡ None) × IsFirstToDiffer board t index
@@ -40,8 +41,8 @@ IsUnfit board shelf t _ = ⊥
 abbrev pub Loaded : Type 0
 Loaded = Result Stored Fault × Input
 
--- What follows from what was read: the end of the bundle, with the shelf as it is; the fault of a file that is refused; or what becomes
--- of the file's table.
+-- What follows from what was read: the end of the bundle, with the shelf as it is; the fault of a
+-- file that is refused; or what becomes of the file's table.
 abbrev pub Follows : Stored → Loaded → Input → (Table → Type 0) → Result (Option Table) ReadFault → Type 0
 Follows shelf loaded after taken (Err refused) = loaded ≡ (Err (read_fault refused), after)
 Follows shelf loaded after taken (Ok None) = loaded ≡ (Ok shelf, after)
@@ -55,8 +56,9 @@ pub record Reading (board : Shape) (shelf : Stored) (before : Input) (loaded : L
   pub counted : CountsRead before.failures after.failures found
   pub follows : Follows shelf loaded after (taken after) found
 
--- A bundle is taken file by file: a table joins the shelf before the next file is read, or is the reason of a refusal, and nothing more is
--- read. Where no more files are taken, one more is too many.
+-- A bundle is taken file by file: a table joins the shelf before the next file is read, or is the
+-- reason of a refusal, and nothing more is read. Where no more files are taken, one more is too
+-- many.
 unfoldable pub Loads : Shape → ℕ → Stored → Input → Loaded → Type 0
 Loads board zero shelf before loaded = Reading board shelf before loaded (λ after t. loaded ≡ (Err fault.TooMany, after))
 Loads board (suc more) shelf before loaded =
@@ -68,7 +70,8 @@ Loads board (suc more) shelf before loaded =
 abbrev pub most_files : ℕ
 most_files = 64
 
--- The tables of a bundle: room for a shelf may be missing; otherwise the files are taken on an empty one.
+-- The tables of a bundle: room for a shelf may be missing; otherwise the files are taken on an
+-- empty one.
 abbrev pub LoadsBundle : Shape → Input → Loaded → Type 0
 LoadsBundle board before loaded =
     (loaded ≡ (Err fault.Memory, before))
@@ -76,21 +79,23 @@ LoadsBundle board before loaded =
 
 -- ---- the answer
 
--- What is answered over a shelf: that the table of the position's pair isn't there, or want of memory, with nothing printed; otherwise the
--- report is printed, which has the position's value in the game and exactly its best moves.
+-- What is answered over a shelf: that the table of the position's pair isn't there, or want of
+-- memory, with nothing printed; otherwise the report is printed, which has the position's value in
+-- the game and exactly its best moves.
 abbrev pub AnswersReport : {T : Type 0} → Shape → Stored → Sides → Option (List ℕ) → Option (List ℕ) → Result T Fault → Type 0
 AnswersReport board shelf s old new (Err (fault.Needs greater lesser)) = (missing_table shelf s ≡ Some (counts greater lesser)) × Keeps old new
 AnswersReport board shelf s old new (Err fault.Memory) = (missing_table shelf s ≡ None) × Keeps old new
 AnswersReport board shelf s old new result =
     (missing_table shelf s ≡ None) × ((text : List ℕ) × IsReport board s text × Prints old new text result)
 
--- What it answers after the bundle: the fault of a bundle that is refused, with nothing printed; otherwise the answer over its tables.
+-- What it answers after the bundle: the fault of a bundle that is refused, with nothing printed;
+-- otherwise the answer over its tables.
 abbrev pub AnswersShelf : {T : Type 0} → Shape → Sides → Option (List ℕ) → Option (List ℕ) → Result T Fault → Result Stored Fault → Type 0
 AnswersShelf board s old new result (Err refused) = (result ≡ Err refused) × Keeps old new
 AnswersShelf board s old new result (Ok shelf) = AnswersReport board shelf s old new result
 
--- What it answers on a board: the fault of a text that is refused, with nothing printed and nothing read; otherwise what comes of the
--- bundle on the input.
+-- What it answers on a board: the fault of a text that is refused, with nothing printed and nothing
+-- read; otherwise what comes of the bundle on the input.
 abbrev pub AnswersText : {T : Type 0} → Shape → Input → Input → Option (List ℕ) → Option (List ℕ) → Result T Fault → Result Sides TextFault → Type 0
 AnswersText board before after old new result (Err refused) = (result ≡ Err (text_fault refused)) × (after ≡ before) × Keeps old new
 AnswersText board before after old new result (Ok s) =
@@ -99,8 +104,8 @@ AnswersText board before after old new result (Ok s) =
 abbrev pub AnswersOnBoard : {T : Type 0} → Shape → List ℕ → Input → Input → Option (List ℕ) → Option (List ℕ) → Result T Fault → Type 0
 AnswersOnBoard board text before after old new result = AnswersText board before after old new result (read_of board text)
 
--- What `probe` answers: the fault of a board that isn't there, with nothing printed and nothing read; otherwise what it answers on the
--- board.
+-- What `probe` answers: the fault of a board that isn't there, with nothing printed and nothing
+-- read; otherwise what it answers on the board.
 abbrev pub AnswersProbe : {T : Type 0} → Option Shape → List ℕ → Input → Input → Option (List ℕ) → Option (List ℕ) → Result T Fault → Type 0
 AnswersProbe None text before after old new result = (result ≡ Err fault.Board) × (after ≡ before) × Keeps old new
 AnswersProbe (Some board) text before after old new result = AnswersOnBoard board text before after old new result
