@@ -15,12 +15,6 @@ use Rattle.morris_table.proofs.ShelfLaws.{cases_pair}
 use Rattle.morris.specs.declared.fault.Fault.TheVariants as fault
 use Rattle.morris.specs.Build.{AnswersFiles, AreTablesOf, HasExact, file_on}
 
--- a list that ends in something isn't empty
-pub not_empty : (pairs : List Counts) (c : Counts) → EndsIn pairs c → pairs ≡ [] → ⊥
-not_empty pairs c last none =
-    let count : length pairs ≡ length last.0 + 1 = ap length last.1 ∙ length-append last.0 (c ∷ []) in
-    omega (arith, count, ap length none)
-
 -- a list that ends in something has it
 pub has_last : (pairs : List Counts) (c : Counts) → EndsIn pairs c → Contains pairs c
 has_last pairs c last = subst (λ (cs : List Counts). Contains cs c) (sym last.1) (Contains-push last.0 c)

@@ -5,14 +5,14 @@ use Rattle.std.specs.Io.KnownBytes.{Keeps}
 use Rattle.morris_board.specs.Boards.{Shape}
 use Rattle.morris_index.specs.Pairs.{Counts, below_of}
 use Rattle.morris_workers.specs.Ranges.{range_fault}
-use Rattle.morris_workers.specs.declared.fault.SolveFault.TheVariants as solve
+use Rattle.morris_workers.specs.declared.fault.SolveFault.{SolveFault}
 use Rattle.morris_table.specs.Known.{IsBeyondCodes}
 use Rattle.morris_table.specs.Shelves.{Stored, table_on}
 use Rattle.morris_table.specs.TableFiles.{file_of}
 use Rattle.morris_table.specs.Tables.{IsTable, Table}
 use Rattle.morris.specs.declared.fault.Fault.{Fault}
 use Rattle.morris.specs.declared.fault.Fault.TheVariants as fault
-use Rattle.morris.specs.Faults.{Prints}
+use Rattle.morris.specs.Faults.{Prints, solve_fault}
 use Rattle.morris.specs.PairText.{read_pair_of}
 use Rattle.morris.specs.Stats.{HasTooDeep}
 
@@ -48,43 +48,43 @@ HasExact board shelf pairs = (c : Counts) → Contains pairs c → (t : Table) �
 
 -- ---- the refusals
 
--- Why a pair isn't built, where those that it needs are there: there aren't 1 to 64 workers, or 1
--- to 1,024 blocks; want of memory; a block of this number was left incomplete; or codes don't
--- suffice for the depths.
-abbrev pub IsUnbuiltAt : Shape → Counts → ℕ → ℕ → Fault → Type 0
-IsUnbuiltAt board pair workers blocks fault.Workers = range_fault workers blocks ≡ Some solve.Workers
-IsUnbuiltAt board pair workers blocks fault.Blocks = range_fault workers blocks ≡ Some solve.Blocks
-IsUnbuiltAt board pair workers blocks fault.Memory = ⊤
-IsUnbuiltAt board pair workers blocks (fault.Missing number) = number < blocks
-IsUnbuiltAt board pair workers blocks fault.TooDeep = IsBeyondCodes board pair
-IsUnbuiltAt board pair workers blocks _ = ⊥
+-- Why a pair isn't built, where those that it needs are there: want of memory; a block of this
+-- number was left incomplete; or codes don't suffice for the depths.
+abbrev pub IsUnbuiltAt : Shape → Counts → ℕ → Fault → Type 0
+IsUnbuiltAt board pair blocks fault.Memory = ⊤
+IsUnbuiltAt board pair blocks (fault.Missing number) = number < blocks
+IsUnbuiltAt board pair blocks fault.TooDeep = IsBeyondCodes board pair
+IsUnbuiltAt board pair blocks _ = ⊥
 
 -- why a pair isn't built after those below it
-abbrev pub IsUnbuiltFor : Shape → Counts → ℕ → ℕ → Fault → Type 0
-IsUnbuiltFor board pair workers blocks fault.Workers = range_fault workers blocks ≡ Some solve.Workers
-IsUnbuiltFor board pair workers blocks fault.Blocks = range_fault workers blocks ≡ Some solve.Blocks
-IsUnbuiltFor board pair workers blocks fault.Memory = ⊤
-IsUnbuiltFor board pair workers blocks (fault.Missing number) = number < blocks
-IsUnbuiltFor board pair workers blocks fault.TooDeep = HasTooDeep board pair
-IsUnbuiltFor board pair workers blocks _ = ⊥
+abbrev pub IsUnbuiltFor : Shape → Counts → ℕ → Fault → Type 0
+IsUnbuiltFor board pair blocks fault.Memory = ⊤
+IsUnbuiltFor board pair blocks (fault.Missing number) = number < blocks
+IsUnbuiltFor board pair blocks fault.TooDeep = HasTooDeep board pair
+IsUnbuiltFor board pair blocks _ = ⊥
 
 -- ---- the answer
 
--- What `build` answers of a pair: one of these refusals, with nothing written; otherwise there are
--- as many workers and blocks as there may be, and the files are written, or the first bytes of them
--- up to the write that failed.
-abbrev pub AnswersBuilt : {T : Type 0} → Shape → Counts → ℕ → ℕ → Bool → Option (List ℕ) → Option (List ℕ) → Result T Fault → Type 0
-AnswersBuilt board pair workers blocks all old new (Ok done) =
-    (range_fault workers blocks ≡ None) × AnswersFiles board (pairs_written all pair) old new (Ok done)
-AnswersBuilt board pair workers blocks all old new (Err (fault.Write sent)) =
-    (range_fault workers blocks ≡ None) × AnswersFiles {T = Unit {0}} board (pairs_written all pair) old new (Err (fault.Write sent))
-AnswersBuilt board pair workers blocks all old new (Err refused) = IsUnbuiltFor board pair workers blocks refused × Keeps old new
+-- What `build` answers of a pair: one of these refusals, with nothing written; otherwise the files
+-- are written, or the first bytes of them up to the write that failed.
+abbrev pub AnswersBuilt : {T : Type 0} → Shape → Counts → ℕ → Bool → Option (List ℕ) → Option (List ℕ) → Result T Fault → Type 0
+AnswersBuilt board pair blocks all old new (Ok done) = AnswersFiles board (pairs_written all pair) old new (Ok done)
+AnswersBuilt board pair blocks all old new (Err (fault.Write sent)) =
+    AnswersFiles {T = Unit {0}} board (pairs_written all pair) old new (Err (fault.Write sent))
+AnswersBuilt board pair blocks all old new (Err refused) = IsUnbuiltFor board pair blocks refused × Keeps old new
+
+-- What it answers with so many workers and blocks: where there may not be so many, the fault that
+-- says so, with nothing written and before anything is built; otherwise what it answers of the pair.
+abbrev pub AnswersTeam : {T : Type 0} → Shape → Counts → ℕ → Bool → Option (List ℕ) → Option (List ℕ) → Result T Fault → Option SolveFault → Type 0
+AnswersTeam board pair blocks all old new result (Some refused) = (result ≡ Err (solve_fault refused)) × Keeps old new
+AnswersTeam board pair blocks all old new result None = AnswersBuilt board pair blocks all old new result
 
 -- What it answers on a board: the fault of a text that names no pair, with nothing written;
--- otherwise what it answers of the pair.
+-- otherwise what it answers with its workers and blocks.
 abbrev pub AnswersRead : {T : Type 0} → Shape → ℕ → ℕ → Bool → Option (List ℕ) → Option (List ℕ) → Result T Fault → Result Counts Fault → Type 0
 AnswersRead board workers blocks all old new result (Err refused) = (result ≡ Err refused) × Keeps old new
-AnswersRead board workers blocks all old new result (Ok pair) = AnswersBuilt board pair workers blocks all old new result
+AnswersRead board workers blocks all old new result (Ok pair) =
+    AnswersTeam board pair blocks all old new result (range_fault workers blocks)
 
 abbrev pub AnswersBuildOn : {T : Type 0} → Shape → List ℕ → ℕ → ℕ → Bool → Option (List ℕ) → Option (List ℕ) → Result T Fault → Type 0
 AnswersBuildOn board text workers blocks all old new result = AnswersRead board workers blocks all old new result (read_pair_of board.points text)

@@ -45,10 +45,10 @@ abbrev pub status_of : {T : Type 0} → Result T Fault → ℕ
 status_of (Ok done) = 0
 status_of (Err fault) = 1
 
--- How the words were answered, where they have no mistake: by the command that they ask for, by
--- help where they ask for that, or by want of memory.
+-- How the words were answered, where they have no mistake: by the command that they ask for; by
+-- help where they ask for that, or by want of memory, with nothing read.
 abbrev pub Ends : List Text → Input → Input → Option (List ℕ) → Option (List ℕ) → Result (Unit {0}) Fault → Type 0
 Ends words before after old new answer =
     ((request : Request) × AsksFor (named_by words) request × (faults_of words ≡ []) × Answers before after old new request answer)
-    ⊎ ((IsAmong kind.DisplayHelp (faults_of words) × ((text : List ℕ) × Prints old new text answer))
-    ⊎ ((answer ≡ Err fault.Memory) × Keeps old new))
+    ⊎ ((IsAmong kind.DisplayHelp (faults_of words) × (after ≡ before) × ((text : List ℕ) × Prints old new text answer))
+    ⊎ ((answer ≡ Err fault.Memory) × (after ≡ before) × Keeps old new))

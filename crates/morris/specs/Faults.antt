@@ -8,6 +8,8 @@ use Rattle.morris_board.specs.declared.faults.TextFault.TheVariants as text
 use Rattle.morris_index.specs.declared.faults.PairFault.{PairFault}
 use Rattle.morris_index.specs.declared.faults.PairFault.TheVariants as pair
 use Rattle.morris_index.specs.Pairs.{Counts}
+use Rattle.morris_workers.specs.declared.fault.SolveFault.{SolveFault}
+use Rattle.morris_workers.specs.declared.fault.SolveFault.TheVariants as solve
 use Rattle.morris_table.specs.declared.sweeping.BuildFault.{BuildFault}
 use Rattle.morris_table.specs.declared.sweeping.BuildFault.TheVariants as build
 use Rattle.morris_table.specs.declared.verify.VerifyFault.{VerifyFault}
@@ -39,6 +41,14 @@ needs_fault c = fault.Needs c.greater c.lesser
 abbrev pub verify_fault : {B : Type 0} → VerifyFault B → Fault
 verify_fault (verify.Needs needs) = needs_fault needs.0
 verify_fault (verify.Differs index) = fault.Differs index
+
+-- the fault that a refusal of the workers is answered with
+abbrev pub solve_fault : SolveFault → Fault
+solve_fault solve.Workers = fault.Workers
+solve_fault solve.Blocks = fault.Blocks
+solve_fault solve.Memory = fault.Memory
+solve_fault (solve.Missing number) = fault.Missing number
+solve_fault solve.TooDeep = fault.TooDeep
 
 -- the fault that a refused build, or a refused sweep, is answered with
 abbrev pub build_fault : {B : Type 0} → BuildFault B → Fault

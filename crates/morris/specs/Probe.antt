@@ -7,7 +7,7 @@ use Rattle.morris_board.specs.Positions.{Sides, read_of}
 use Rattle.morris_board.specs.declared.faults.TextFault.{TextFault}
 use Rattle.morris_index.specs.Pairs.{Counts, counts}
 use Rattle.morris_table.specs.Agreement.{IsFirstToDiffer}
-use Rattle.morris_table.specs.FileReading.{CountsRead, Reads, next_file_in}
+use Rattle.morris_table.specs.FileReading.{CountsRead, Reads, StandsInFile, next_file_in}
 use Rattle.morris_table.specs.Shelves.{Stored, first_missing, table_on}
 use Rattle.morris_table.specs.Tables.{IsTable, Table}
 use Rattle.morris_table.specs.declared.file_faults.ReadFault.{ReadFault}
@@ -54,6 +54,7 @@ pub record Reading (board : Shape) (shelf : Stored) (before : Input) (loaded : L
   pub after : Input
   pub read : Reads (next_file_in board) before.bytes after.bytes found
   pub counted : CountsRead before.failures after.failures found
+  pub place : StandsInFile board 0 before.bytes after.bytes
   pub follows : Follows shelf loaded after (taken after) found
 
 -- A bundle is taken file by file: a table joins the shelf before the next file is read, or is the

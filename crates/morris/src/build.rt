@@ -1,5 +1,5 @@
 //! The command `build`.
-ghost use Rattle.std.specs.Prelude.{◌≡◌, ◌≢◌, ◌+◌, ◌-◌, ◌^◌, ◌<◌, ◌≤◌, None, Some, true, false, is_some, length, IfErr, IfOk, OnErr, OnOk};
+ghost use Rattle.std.specs.Prelude.{◌≡◌, ◌≢◌, ◌+◌, ◌-◌, ◌^◌, ◌<◌, ◌≤◌, None, Some, true, false, is_some, length, IfErr, IfOk, MatchResult, OnOk, option_map};
 ghost use Rattle.std.specs.List.{flat_map};
 ghost use Rattle.morris_board.specs.Streams.{CountsFailure, HasSent};
 ghost use Rattle.morris_index.specs.Pairs.{Counts, EndsIn, below_of};
@@ -7,7 +7,7 @@ ghost use Rattle.morris_table.specs.Shelves.{first_missing, table_on};
 ghost use Rattle.morris_table.specs.TableFiles.{file_of};
 ghost use Rattle.morris_table.specs.Tables.{IsTable, Table};
 ghost use Rattle.morris_workers.specs.Ranges.{range_fault};
-ghost use Rattle.morris.specs.Faults.{CountsWrites, is_write};
+ghost use Rattle.morris.specs.Faults.{CountsWrites, is_write, solve_fault};
 ghost use Rattle.morris.specs.Look.{board_of};
 ghost use Rattle.morris.specs.Build.{AnswersBuild, AnswersBuildOn, AnswersBuilt, AnswersFiles, HasExact, HasTables, IsUnbuiltAt, IsUnbuiltFor, file_on, pairs_written};
 
@@ -24,7 +24,7 @@ use morris_table::exact::Exact;
 use morris_table::file_faults::Write;
 use morris_table::shelf::Shelf;
 use morris_table::writing::write_table;
-use morris_workers::OpenGate;
+use morris_workers::{OpenGate, check_numbers};
 use std::alloc::Global;
 use std::sync::Wait;
 use std::thread::Threads;
@@ -45,9 +45,9 @@ pub struct Team {
 ///
 /// # Errors
 /// [`Fault::Board`] where there is no such board, else [`Fault::PairText`], [`Fault::Counts`] or
-/// [`Fault::Crowded`] where the text names no pair of the board, in this order; else the first
-/// refusal of a build: [`Fault::Workers`] where there aren't 1 to 64 workers, [`Fault::Blocks`]
-/// where there aren't 1 to 1,024 blocks, [`Fault::Memory`] where memory is refused,
+/// [`Fault::Crowded`] where the text names no pair of the board, in this order; else
+/// [`Fault::Workers`] where there aren't 1 to 64 workers, else [`Fault::Blocks`] where there aren't
+/// 1 to 1,024 blocks; else the first refusal of a build: [`Fault::Memory`] where memory is refused,
 /// [`Fault::Missing`] with the number of a block that was left incomplete, or [`Fault::TooDeep`]
 /// where depths go past what a table can hold. Nothing is then written, since writing begins when
 /// the last table is built. Else [`Fault::Write`], with the bytes that went out, at the first write
@@ -86,7 +86,19 @@ fn build_on<B: Board, R: Threads + Wait + Sync, O: Sink>(
     ensures counted { CountsWrites (O.failures output.old) (O.failures output.new) result }
 {
     let pair = read_pair::<B>(text)?;
+    check_team(team)?;
     build_pair(rt, alloc, pair, team, all, output)
+}
+
+/// Whether there are so many workers and blocks as there may be.
+fn check_team(team: Team) -> Result<(), Fault>
+    ensures { MatchResult result (λ _. range_fault team.workers team.blocks ≡ None)
+        (λ refused. option_map solve_fault (range_fault team.workers team.blocks) ≡ Some refused) }
+{
+    match check_numbers(team.workers, team.blocks) {
+        Ok(()) => Ok(()),
+        Err(refused) => Err(Fault::from(refused)),
+    }
 }
 
 fn build_pair<B: Board, R: Threads + Wait + Sync, O: Sink>(
@@ -97,8 +109,9 @@ fn build_pair<B: Board, R: Threads + Wait + Sync, O: Sink>(
     all: bool,
     output: &mut O,
 ) -> Result<(), Fault>
-    requires { O.failures output.old < 2 ^ 64 - 1 }
-    ensures answer { AnswersBuilt B.shape pair team.workers team.blocks all (O.contents output.old) (O.contents output.new) result }
+    requires failures { O.failures output.old < 2 ^ 64 - 1 }
+    requires range { range_fault team.workers team.blocks ≡ None }
+    ensures answer { AnswersBuilt B.shape pair team.blocks all (O.contents output.old) (O.contents output.new) result }
     ensures counted { CountsWrites (O.failures output.old) (O.failures output.new) result }
 {
     let shelf = build_below(rt, alloc, pair, team)?;
@@ -112,11 +125,11 @@ fn build_below<B: Board, R: Threads + Wait + Sync>(
     pair: Pair<B>,
     team: Team,
 ) -> Result<Shelf<B>, Fault>
+    requires range { range_fault team.workers team.blocks ≡ None }
     ensures there { IfOk result (λ shelf. HasTables shelf (below_of pair)) }
     ensures exact { IfOk result (λ shelf. HasExact B.shape shelf (below_of pair)) }
     ensures last { OnOk result (EndsIn (below_of pair) pair) }
-    ensures range { OnOk result (range_fault team.workers team.blocks ≡ None) }
-    ensures refused { IfErr result (IsUnbuiltFor B.shape pair team.workers team.blocks) }
+    ensures refused { IfErr result (IsUnbuiltFor B.shape pair team.blocks) }
     ensures unwritten { IfErr result (λ refused. is_write refused ≡ false) }
 {
     let mut shelf = Shelf::new(alloc)?;
@@ -134,12 +147,12 @@ fn build_onto<B: Board, R: Threads + Wait + Sync>(
     pair: Pair<B>,
     team: Team,
 ) -> Result<(), Fault>
-    requires { first_missing shelf.old pair ≡ None }
+    requires ready { first_missing shelf.old pair ≡ None }
+    requires range { range_fault team.workers team.blocks ≡ None }
     ensures there { OnOk result (is_some (table_on shelf.new pair) ≡ true) }
     ensures exact { OnOk result ((t : Table) × (table_on shelf.new pair ≡ Some t) × (t.pair ≡ pair) × IsTable B.shape t) }
     ensures others { OnOk result ((other : Counts) → other ≢ pair → table_on shelf.new other ≡ table_on shelf.old other) }
-    ensures range { OnOk result (range_fault team.workers team.blocks ≡ None) }
-    ensures refused { IfErr result (IsUnbuiltAt B.shape pair team.workers team.blocks) }
+    ensures refused { IfErr result (IsUnbuiltAt B.shape pair team.blocks) }
 {
     let Team { workers, blocks } = team;
     let table = build(rt, alloc, shelf, pair, &OpenGate, workers, blocks)?;

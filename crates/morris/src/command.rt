@@ -46,6 +46,7 @@ pub fn command<R: Threads + Wait + Sync, W: AsStr, I: Source, O: Sink, E: Sink>(
     ensures status { result ≤ 2 }
     ensures mistaken { result ≡ 2 → HasMistake (faults_of (map W.text words.now)) }
     ensures silent { result ≡ 2 → output.new ≡ output.old }
+    ensures untouched { result ≡ 2 → input.new ≡ input.old }
     ensures unread { ¬ AsksToRead (named_by (map W.text words.now)) → input.new ≡ input.old }
     ensures answer { result ≢ 2 → (answer : _)
         × Ends (map W.text words.now) (input_of (I.remaining input.old) (I.failures input.old)) (input_of (I.remaining input.new) (I.failures input.new))

@@ -1,6 +1,6 @@
 //! What a command can be refused for.
 ghost use Rattle.std.specs.Prelude.{◌≡◌, ◌≤◌};
-ghost use Rattle.morris.specs.Faults.{build_fault, fault_number, fault_text, length_around, needs_fault, pair_fault, probe_fault, text_fault, verify_fault, worded};
+ghost use Rattle.morris.specs.Faults.{build_fault, fault_number, fault_text, length_around, needs_fault, pair_fault, probe_fault, solve_fault, text_fault, verify_fault, worded};
 
 use morris_board::board::Geometry;
 use morris_board::faults::TextFault;
@@ -10,6 +10,7 @@ use morris_table::file_faults::ReadFault;
 use morris_table::shelf::Needs;
 use morris_table::sweeping::BuildFault;
 use morris_table::verify::VerifyFault;
+use morris_workers::SolveFault;
 use std::alloc::AllocError;
 use std::fmt;
 
@@ -261,6 +262,20 @@ impl<B: Geometry> From<BuildFault<B>> for Fault {
             BuildFault::Memory => Fault::Memory,
             BuildFault::Missing(number) => Fault::Missing(number),
             BuildFault::TooDeep => Fault::TooDeep,
+        }
+    }
+}
+
+impl From<SolveFault> for Fault {
+    ghost from_gives = { λ refused e. e ≡ solve_fault refused };
+
+    fn from(refused: SolveFault) -> Fault {
+        match refused {
+            SolveFault::Workers => Fault::Workers,
+            SolveFault::Blocks => Fault::Blocks,
+            SolveFault::Memory => Fault::Memory,
+            SolveFault::Missing(number) => Fault::Missing(number),
+            SolveFault::TooDeep => Fault::TooDeep,
         }
     }
 }

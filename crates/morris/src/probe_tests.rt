@@ -221,7 +221,12 @@ fn a_failed_write_of_probe_tells_what_went_out(rt: HostRuntime) -> Result<(), Fa
         let mut output = IntoWrite::new(Narrow::new(rt.alloc(), room));
         let answer = probe_in(rt.alloc(), "grid", "XXX.OO.O.", &mut input, &mut output);
         assert_eq!(rt; answer, Err(Fault::Write(room as u64)));
-        assert_eq!(rt; output.into_inner().calls_after, 1);
+        let narrow = output.into_inner();
+        assert_eq!(rt;
+            Some(narrow.kept.as_slice()),
+            WON_TEXT.as_bytes().get(..room)
+        );
+        assert_eq!(rt; narrow.calls_after, 1);
     }
     for errors_take in [64, 0] {
         let mut input = FromRead::new(file.as_slice());

@@ -20,16 +20,18 @@ use std::test::Fail;
 fn load(alloc: Global, bundle: &[u8]) -> Result<Shelf<Grid>, Fail> {
     let mut shelf = Shelf::new(alloc)?;
     let mut source = FromRead::new(bundle);
-    for _ in 0..bundle.len() {
+    for _ in 0..=bundle.len() {
         let Some(raw) = read_next(alloc, &mut source)? else {
             return Ok(shelf);
         };
         let Ok(exact) = raw.verify(&shelf) else {
             return Err(Fail::new("a table isn't right"));
         };
-        let _ = shelf.put(exact);
+        let Ok(()) = shelf.put(exact) else {
+            return Err(Fail::new("a table comes before one that it needs"));
+        };
     }
-    Ok(shelf)
+    Err(Fail::new("more files than bytes"))
 }
 
 /// The bytes of the file of 3-3, in place of a file that the program would open.

@@ -24,6 +24,6 @@ mod yard_tests;
 
 pub use fault::SolveFault;
 pub use gate::{Gate, OpenGate, Turn};
-pub use solver::solve;
+pub use solver::{check_numbers, solve};
 pub use tickets::{Drawn, TicketSeat, Tickets};
 pub use yard::Yard;

@@ -5,7 +5,7 @@ ghost use Rattle.morris_wave.specs.Samples.{pair_net, pair_lawful, lone_net, lon
 use crate::gate::{Gate, Turn};
 use morris_wave::{Exits, Graph, Levels};
 use std::alloc::AllocError;
-use std::sync::atomic::{AtomicBool, Ordering};
+use std::sync::atomic::{AtomicBool, AtomicU64, Ordering};
 
 // Node 0 leads to node 1, which has a drawn exit and one of code 41. Every level is alike.
 pub(crate) struct Pairs;
@@ -234,6 +234,19 @@ pub(crate) struct ShutGate;
 
 impl Gate for ShutGate {
     fn pass(&self, _worker: usize, _number: u64) -> Turn {
+        Turn::Leave
+    }
+}
+
+// Sends everyone away, and counts how often it was asked.
+#[derive(Drop)]
+pub(crate) struct CountingGate {
+    pub(crate) passes: AtomicU64,
+}
+
+impl Gate for CountingGate {
+    fn pass(&self, _worker: usize, _number: u64) -> Turn {
+        self.passes.fetch_add(1, Ordering::SeqCst);
         Turn::Leave
     }
 }

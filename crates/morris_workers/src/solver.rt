@@ -18,8 +18,12 @@ use std::alloc::Global;
 use std::sync::Wait;
 use std::thread::Threads;
 
-// Whether there are so many workers and blocks.
-fn check(workers: usize, blocks: usize) -> Result<(), SolveFault>
+/// Whether there may be so many workers and blocks.
+///
+/// # Errors
+///
+/// `Workers` where there aren't 1 to 64 workers, otherwise `Blocks` where there aren't 1 to 1,024 blocks.
+pub fn check_numbers(workers: usize, blocks: usize) -> Result<(), SolveFault>
     ensures { MatchResult result (λ _. range_fault workers blocks ≡ None) (λ fault. range_fault workers blocks ≡ Some fault) }
 {
     if workers < 1 || workers > 64 {
@@ -146,7 +150,7 @@ pub fn solve<G: Graph + Send + Sync, A: Gate, R: Threads + Wait + Sync>(
     // And it tells who wins: codes of lost nodes are odd, those of won nodes even.
     ensures outcome { CodeRules (G.Name.net (G.level graph.now)) }
 {
-    check(workers, blocks)?;
+    check_numbers(workers, blocks)?;
     let cut = cut_into(graph.size(), blocks as u64);
     let shares = cut_into(blocks as u64, workers as u64);
     let made = make_blocks(rt, alloc, graph, &cut, &shares)?;

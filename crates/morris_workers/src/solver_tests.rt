@@ -1,11 +1,12 @@
 use crate::fault::SolveFault;
 use crate::gate::OpenGate;
 use crate::samples::{
-    BareGraph, Flags, HoledGate, LoneGraph, MeetingGate, PairGraph, PickyGate, ShutGate,
+    BareGraph, CountingGate, Flags, HoledGate, LoneGraph, MeetingGate, PairGraph, PickyGate,
+    ShutGate,
 };
 use crate::solver::solve;
 use morris_wave::sweep;
-use std::sync::atomic::Ordering;
+use std::sync::atomic::{AtomicU64, Ordering};
 use std::test::Fail;
 
 const PAIR: PairGraph = PairGraph { refuses: false };
@@ -142,4 +143,14 @@ fn faults_of_solving_have_their_texts(rt: HostRuntime) -> Result<(), Fail> {
         assert_eq!(rt; format!(in rt.alloc(); "{fault}")?.as_str(), text);
     }
     Ok(())
+}
+
+#[test]
+fn a_worker_that_is_told_to_leave_draws_no_more(rt: HostRuntime) {
+    let gate = CountingGate {
+        passes: AtomicU64::new(0),
+    };
+    let refused = solve(&rt, rt.alloc(), &PAIR, &gate, 1, 5);
+    assert!(rt; matches!(&refused, Err(SolveFault::Missing(0))));
+    assert_eq!(rt; gate.passes.load(Ordering::SeqCst), 1);
 }

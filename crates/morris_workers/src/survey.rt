@@ -5,7 +5,7 @@ ghost use Rattle.morris_workers.specs.Ranges.{Tells};
 
 use crate::fault::{LAST_WAVE, SolveFault};
 use crate::yard::Yard;
-use morris_wave::{Block, Graph};
+use morris_wave::{Block, Graph, Levels};
 use std::sync::Wait;
 
 // What a block says of its wave.
@@ -22,8 +22,8 @@ enum Finding {
 }
 
 // What a block says of this wave.
-fn examine<G: Graph>(graph: &G, block: &Block<G::Name>, wave: u16) -> Finding
-    ensures { result ≡ Finding.TooDeep → IsTooDeep (G.Name.net (G.level graph.now)) }
+fn examine<N: Levels>(level: u64, block: &Block<N>, wave: u16) -> Finding
+    ensures { result ≡ Finding.TooDeep → IsTooDeep (N.net level) }
 {
     if block.wave() != wave {
         return Finding::Incomplete;
@@ -34,7 +34,7 @@ fn examine<G: Graph>(graph: &G, block: &Block<G::Name>, wave: u16) -> Finding
     if !block.is_complete() {
         return Finding::Incomplete;
     }
-    if wave == LAST_WAVE && block.level() == graph.level() {
+    if wave == LAST_WAVE && block.level() == level {
         Finding::TooDeep
     } else {
         Finding::Open
@@ -55,10 +55,12 @@ pub(crate) fn survey<G: Graph, R: Wait>(
 ) -> Result<bool, SolveFault>
     ensures { IfErr result (Tells (G.Name.net (G.level graph.now)) yard.now) }
 {
+    // Asked here, since nobody looks at the graph who holds a lock.
+    let level = graph.level();
     let mut settled = true;
     let mut too_deep = false;
     for number in 0..yard.count() {
-        match examine(graph, &yard.lock(rt, number), wave) {
+        match examine(level, &yard.lock(rt, number), wave) {
             Finding::Incomplete => return Err(SolveFault::Missing(number as u64)),
             Finding::Open => settled = false,
             Finding::TooDeep => too_deep = true,

@@ -1,5 +1,5 @@
 //! One wave, by several workers.
-ghost use Rattle.std.specs.Prelude.{◌≡◌, ◌⊎◌, ℕ, ◌<◌, ◌≤◌, false, length, IfOk, IfSome, IfErr, vec_len};
+ghost use Rattle.std.specs.Prelude.{◌≡◌, ◌⊎◌, ℕ, ◌<◌, ◌≤◌, false, length, IfOk, IsOk, OnOk, IfSome, IfErr, vec_len};
 ghost use Rattle.std.specs.List.{All};
 ghost use Rattle.morris_wave.specs.Blocks.{next_wave_of};
 ghost use Rattle.morris_workers.specs.Tickets.{IsSeatOf, IsNewSeatOf, limit_of, has_ended};
@@ -93,9 +93,11 @@ impl<'a, G: Graph, A: Gate, R: Wait> Site<'a, G, A, R> {
         requires { source < self.now.yard.now }
         ensures { IfOk result (λ found. IfSome found (λ fresh. G.level self.now.graph.now ≡ fresh.level)) }
     {
+        // Asked here, since nobody looks at the graph who holds a lock.
+        let level = self.graph.level();
         let mut block = self.yard.lock(self.rt, source);
         bring(&mut block, self.wave);
-        if block.level() != self.graph.level() {
+        if block.level() != level {
             return Ok(None);
         }
         Ok(Some(block.fresh(self.alloc)?))
@@ -203,15 +205,27 @@ fn hand_back(
 ) -> Result<(), AllocError>
     requires some { 1 ≤ vec_len done }
     requires seats { All (λ back. IsSeatOf tickets back.0) done.items }
+    ensures { OnOk result (All (λ back. IsOk back.1) done.items) }
 {
+    let outcome = outcome_of(&done);
     let mut seats = Vec::with_capacity(alloc, done.len())?;
-    let mut outcome = Ok(());
-    for (seat, sent) in done {
-        outcome = outcome.and(sent);
+    for (seat, _) in done {
         seats.push(seat)?;
     }
     let _ = tickets.close(seats);
     outcome
+}
+
+// Whether memory was refused to any of the workers.
+fn outcome_of(done: &[(TicketSeat, Result<(), AllocError>)]) -> Result<(), AllocError>
+    ensures { OnOk result (All (λ back. IsOk back.1) done.now) }
+{
+    for (_, sent) in done {
+        if sent.is_err() {
+            return Err(AllocError);
+        }
+    }
+    Ok(())
 }
 
 /// Takes all blocks from a complete wave to this one, and sends what each of them found to all.

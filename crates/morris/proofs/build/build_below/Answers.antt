@@ -2,12 +2,12 @@ use Rattle.std.proofs.Common.{◌≡◌, ◌∷◌, [], ◌++◌, sym, ap, subst
 use Rattle.std.proofs.lemmas.List.{append-nil}
 use Rattle.morris_index.specs.Pairs.{below_of}
 use Rattle.morris.specs.Build.{HasExact, HasTables}
-use Rattle.morris.proofs.BuildLaws.{not_empty, one_exact_more}
+use Rattle.morris.proofs.BuildLaws.{one_exact_more}
 use Rattle.morris.proofs.ShelfLaws.{none_missing, one_table_more}
 use Rattle.morris.proofs.build.build_below.Goals as goal
 
-pub build_onto-requires-after_bounds : goal.build_onto-requires-after_bounds
-build_onto-requires-after_bounds g c = λ κs within.
+pub build_onto-requires-clause-ready : goal.build_onto-requires-clause-ready
+build_onto-requires-clause-ready g c = λ κs within.
     none_missing c.loop-below.shelf c.loop-below.yielded c.next.new.self (below_of c.args.pair) c.in-Some.below
     c.below-below-items.ensures.needs_first
     (ap (λ rest. c.loop-below.yielded ++ rest) (sym c.in-Some.ensures.steps) ∙ c.loop-below.invariant.split) c.loop-below.invariant.there
@@ -24,7 +24,6 @@ loop-below-preserved g c = record {
       one_exact_more g.B.Geometry.shape c.loop-below.shelf c.build_onto.new.shelf c.loop-below.yielded c.in-Some.below
       c.in_ok-build_onto.ensures.exact.0 c.loop-below.invariant.exact c.in_ok-build_onto.ensures.exact.1 c.in_ok-build_onto.ensures.exact.2
       c.in_ok-build_onto.ensures.exact.3 c.in_ok-build_onto.ensures.others;
-  range = inr c.in_ok-build_onto.ensures.range;
 }
 
 pub returns : goal.returns
@@ -35,10 +34,6 @@ returns g c =
       there = subst (HasTables c.loop-below.shelf) all c.loop-below.invariant.there;
       exact = subst (HasExact g.B.Geometry.shape c.loop-below.shelf) all c.loop-below.invariant.exact;
       last = c.below-below-items.ensures.last;
-      range = elim c.loop-below.invariant.range [
-        | inl none ↦ absurd (not_empty (below_of c.args.pair) c.args.pair c.below-below-items.ensures.last (sym all ∙ none))
-        | inr range ↦ range
-      ];
       refused = tt;
       unwritten = tt;
     }

@@ -1,6 +1,5 @@
-use Rattle.std.proofs.Common.{◌≡◌, ◌⊎◌, ◌++◌, [], None}
+use Rattle.std.proofs.Common.{◌≡◌, ◌++◌}
 use Rattle.morris_index.specs.Pairs.{below_of}
-use Rattle.morris_workers.specs.Ranges.{range_fault}
 use Rattle.morris.specs.Build.{HasExact, HasTables}
 use Rattle.morris.proofs.build.build_below.Given as goal
 
@@ -10,5 +9,4 @@ invariant-loop-below g l = record {
   split : l.yielded ++ l.below-iterator ≡ below_of l.fn.pair;
   there : HasTables l.shelf l.yielded;
   exact : HasExact g.B.Geometry.shape l.shelf l.yielded;
-  range : (l.yielded ≡ []) ⊎ (range_fault l.fn.team.workers l.fn.team.blocks ≡ None);
 }

@@ -27,7 +27,7 @@ returns-in_err-raw g c =
             c.in_ok-shelf.shelf,
             c.in_ok-shelf.ensures,
             c.loop.invariant.leads _ (refused_file g.B.Geometry.shape (64 - c.loop.counter) c.loop.shelf _ after c.in_err-raw.field-0.0
-                (record { read = c.in_err-raw.ensures.outcome; counted = c.in_err-raw.ensures.counted })),
+                (record { read = c.in_err-raw.ensures.outcome; counted = c.in_err-raw.ensures.counted; place = c.in_err-raw.ensures.place })),
           ));
       unwritten = rw (failed.1, failed.2) (read_unwritten c.in_err-raw.field-0.0);
     }
@@ -44,7 +44,7 @@ returns-in_err-put_verified-in-Some g c =
             c.in_ok-shelf.ensures,
             leads_to_unfit g.B.Geometry.shape c.in_ok-shelf.shelf c.loop.shelf _ _ after c.in-Some.raw c.in_err-put_verified-in-Some.field-0.0 c.loop.counter
                 c.loop-test.true c.loop.invariant.leads
-                (record { read = rw c.in-Some.is at c.in_ok-raw.ensures.outcome; counted = c.in_ok-raw.ensures.counted })
+                (record { read = rw c.in-Some.is at c.in_ok-raw.ensures.outcome; counted = c.in_ok-raw.ensures.counted; place = c.in_ok-raw.ensures.place })
                 c.in_err-put_verified-in-Some.ensures.refused,
           ));
       unwritten = rw (failed.1, failed.2) c.in_err-put_verified-in-Some.ensures.unwritten;
@@ -59,7 +59,7 @@ returns-in-None g c =
             c.in_ok-shelf.shelf,
             c.in_ok-shelf.ensures,
             c.loop.invariant.leads _ (at_end g.B.Geometry.shape (64 - c.loop.counter) c.loop.shelf _ after
-                (record { read = rw c.in-None.is at c.in_ok-raw.ensures.outcome; counted = c.in_ok-raw.ensures.counted })),
+                (record { read = rw c.in-None.is at c.in_ok-raw.ensures.outcome; counted = c.in_ok-raw.ensures.counted; place = c.in_ok-raw.ensures.place })),
           );
       unwritten = tt;
     }
@@ -71,7 +71,7 @@ loop-preserved g c =
       leads =
           leads_on g.B.Geometry.shape c.in_ok-shelf.shelf c.loop.shelf c.put_verified.new.shelf _ _ after c.in-Some.raw c.loop.counter c.loop-test.true
           c.loop.invariant.leads
-          (record { read = rw c.in-Some.is at c.in_ok-raw.ensures.outcome; counted = c.in_ok-raw.ensures.counted })
+          (record { read = rw c.in-Some.is at c.in_ok-raw.ensures.outcome; counted = c.in_ok-raw.ensures.counted; place = c.in_ok-raw.ensures.place })
           c.in_ok-put_verified-in-Some.ensures.joined;
       unfailed = c.in_ok-raw.ensures.counted ∙ c.loop.invariant.unfailed;
     }
@@ -87,7 +87,7 @@ returns-in_err-read_next g c =
             c.in_ok-shelf.shelf,
             c.in_ok-shelf.ensures,
             c.loop.invariant.leads _ (refused_file g.B.Geometry.shape (64 - c.loop.counter) c.loop.shelf _ after c.in_err-read_next.field-0.0
-                (record { read = c.in_err-read_next.ensures.outcome; counted = c.in_err-read_next.ensures.counted })),
+                (record { read = c.in_err-read_next.ensures.outcome; counted = c.in_err-read_next.ensures.counted; place = c.in_err-read_next.ensures.place })),
           ));
       unwritten = rw (failed.1, failed.2) (read_unwritten c.in_err-read_next.field-0.0);
     }
@@ -104,7 +104,7 @@ returns-in-Some-2 g c =
             c.in_ok-shelf.ensures,
             c.loop.invariant.leads _ (subst (λ n. Loads g.B.Geometry.shape n c.loop.shelf here (Err fault.TooMany, after)) none
                 (one_too_many g.B.Geometry.shape c.loop.shelf here after c.in-Some-2.field-0
-                (record { read = rw c.in-Some-2.is at c.in_ok-read_next.ensures.outcome; counted = c.in_ok-read_next.ensures.counted }))),
+                (record { read = rw c.in-Some-2.is at c.in_ok-read_next.ensures.outcome; counted = c.in_ok-read_next.ensures.counted; place = c.in_ok-read_next.ensures.place }))),
           );
       unwritten = refl;
     }
@@ -118,7 +118,7 @@ returns-in-None-2 g c =
             c.in_ok-shelf.shelf,
             c.in_ok-shelf.ensures,
             c.loop.invariant.leads _ (at_end g.B.Geometry.shape (64 - c.loop.counter) c.loop.shelf _ after
-                (record { read = rw c.in-None-2.is at c.in_ok-read_next.ensures.outcome; counted = c.in_ok-read_next.ensures.counted })),
+                (record { read = rw c.in-None-2.is at c.in_ok-read_next.ensures.outcome; counted = c.in_ok-read_next.ensures.counted; place = c.in_ok-read_next.ensures.place })),
           );
       unwritten = tt;
     }

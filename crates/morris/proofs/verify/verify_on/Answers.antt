@@ -10,5 +10,6 @@ returns-in_err-exact-clause-answer g c =
       Ok c.in_ok-raw.raw,
       c.in_ok-raw.ensures.outcome,
       c.in_ok-raw.ensures.counted,
+      c.in_ok-raw.ensures.place,
       rw (failed.1, failed.2) (refused g.B.Geometry.shape c.in_ok-raw.raw (g.O.Sink.contents c.args.output.now) _ c.in_err-exact.ensures.refused),
     )
