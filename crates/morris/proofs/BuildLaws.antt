@@ -1,12 +1,12 @@
 -- The files that are written of the tables on a shelf.
-use Rattle.std.proofs.Common.{◌≡◌, ◌≢◌, ◌+◌, ℕ, List, [], ◌∷◌, ◌++◌, length, Option, Some, None, Ok, Err, take, ◌-◌, refl, sym, ap, ap₂, subst, ◌∙◌, inl, inr, arith, append_assoc, append-nil, length-append}
-use Rattle.std.specs.List.{Contains, flat_map}
+use Rattle.std.proofs.Common.{◌≡◌, ◌≢◌, ℕ, List, [], ◌∷◌, ◌++◌, Option, Some, None, Ok, Err, take, ◌-◌, refl, sym, ap, ap₂, subst, ◌∙◌, inl, inr, arith, append_assoc, append-nil}
+use Rattle.std.specs.List.{flat_map}
 use Rattle.std.proofs.lemmas.Grind.{flat_map-append}
-use Rattle.std.proofs.lemmas.List.Elements.{All-cons, All-nil, Contains-push, Contains-push_cases}
+use Rattle.std.proofs.lemmas.List.Elements.{All-cons, All-nil, Contains-push_cases}
 use Rattle.std.specs.Io.KnownBytes.{Appends}
 use Rattle.morris_board.specs.Boards.{Shape}
 use Rattle.morris_board.specs.Streams.{PartSent}
-use Rattle.morris_index.specs.Pairs.{Counts, EndsIn}
+use Rattle.morris_index.specs.Pairs.{Counts}
 use Rattle.morris_table.specs.Shelves.{Stored, table_on}
 use Rattle.morris_table.specs.TableFiles.{file_of}
 use Rattle.morris_table.specs.Tables.{IsTable, Table}
@@ -14,10 +14,6 @@ use Rattle.morris_moves.proofs.ListLaws.{Contains-head, Contains-tail}
 use Rattle.morris_table.proofs.ShelfLaws.{cases_pair}
 use Rattle.morris.specs.declared.fault.Fault.TheVariants as fault
 use Rattle.morris.specs.Build.{AnswersFiles, AreTablesOf, HasExact, file_on}
-
--- a list that ends in something has it
-pub has_last : (pairs : List Counts) (c : Counts) → EndsIn pairs c → Contains pairs c
-has_last pairs c last = subst (λ (cs : List Counts). Contains cs c) (sym last.1) (Contains-push last.0 c)
 
 module _ (f : Counts → List ℕ) where
   -- the files of all pairs are those of the pairs so far, of this one, and of the others
