@@ -117,7 +117,8 @@ fn codes_of<N: Levels>(
 /// before the first wave is answered without any draw. A worker holds one lock at a time, and none while it
 /// looks at the graph.
 ///
-/// The blocks take what [`Block`] says, and each worker the batches of one block at a time.
+/// The blocks take what [`Block`] says, each worker the fresh nodes and the batches of one block at a time,
+/// and room that it keeps for the next block's, at most 32 MB; at the end the answer takes 2 bytes a node.
 ///
 /// # Errors
 ///
