@@ -5,3 +5,5 @@ pub mod BufferedLaws
 pub mod SentLaws
 pub mod Tables
 pub mod TextLaws
+pub mod ImageLaws
+pub mod ImageTables

@@ -1,6 +1,7 @@
 //! The boards that the game is played on.
-ghost use Rattle.std.specs.Prelude.{◌≡◌, ℕ, ◌<◌, ◌≤◌, [], ◌∷◌, length, slice_index, true};
+ghost use Rattle.std.specs.Prelude.{◌≡◌, ℕ, ◌<◌, ◌≤◌, ◌^◌, [], ◌∷◌, length, slice_index, true};
 ghost use Rattle.morris_board.specs.Boards.{Shape, adjacent, mills_of, mills_through, is_board};
+ghost use Rattle.morris_board.specs.Symmetries.{image_of, inverse_of, HasSymmetries};
 
 use crate::points::Points;
 
@@ -18,6 +19,8 @@ pub trait Geometry: Copy {
 
     ghost ID: { ℕ };
 
+    ghost SYMMETRIES: { ℕ };
+
     /// How many points the board has, at most 24. They are numbered from 0.
     const POINTS: u8;
 
@@ -29,6 +32,11 @@ pub trait Geometry: Copy {
 
     /// The name of the board on the command line: `nine` or `grid`.
     const NAME: &'static str;
+
+    /// How many symmetries the board has: the ways to lay it on itself, so that adjacent points come
+    /// to adjacent points and mills to mills. They are numbered from 0, and 0 leaves each point
+    /// where it is.
+    const SYMMETRIES: u8;
 
     /// The points that are adjacent to `point`, a point of the board.
     fn neighbours(point: u8) -> Points
@@ -45,6 +53,26 @@ pub trait Geometry: Copy {
         requires { point < POINTS }
         ensures { mills_through shape point ≡ result.0 ∷ result.1 ∷ [] };
 
+    /// The point to which a symmetry, below [`Geometry::SYMMETRIES`], takes `point`, a point of the
+    /// board.
+    fn image(symmetry: u8, point: u8) -> u8
+        requires symmetry { symmetry < SYMMETRIES }
+        requires point { point < POINTS }
+        ensures { result ≡ shape.image symmetry point };
+
+    /// The symmetry that takes each point back from where `symmetry`, below
+    /// [`Geometry::SYMMETRIES`], takes it.
+    fn inverse(symmetry: u8) -> u8
+        requires { symmetry < SYMMETRIES }
+        ensures { result ≡ inverse_of symmetry };
+
+    /// The points to which a symmetry, below [`Geometry::SYMMETRIES`], takes those of `set`, a set of
+    /// points of the board.
+    fn image_of(symmetry: u8, set: Points) -> Points
+        requires symmetry { symmetry < SYMMETRIES }
+        requires within { set < 2 ^ POINTS }
+        ensures { result ≡ image_of (shape.image symmetry) set };
+
     ghost is_lawful: { is_board shape ≡ true };
 
     ghost few: { POINTS ≤ 24 };
@@ -54,6 +82,10 @@ pub trait Geometry: Copy {
     ghost mill_count: { length (mills_of shape) ≡ MILLS };
 
     ghost file_id: { shape.id ≡ ID };
+
+    ghost symmetry_count: { shape.symmetries ≡ SYMMETRIES };
+
+    ghost has_symmetries: { HasSymmetries shape };
 }
 
 /// A board that threads may share.

@@ -1,6 +1,7 @@
 //! The board Grid.
 use crate::board::{Board, Geometry};
 use crate::points::Points;
+use crate::symmetries::{image_by, inverse_of};
 
 /// The board with 9 points in three rows and three columns, for small tables. Point `3 * r + c`
 /// stands in row `r` and column `c`.
@@ -44,10 +45,24 @@ const MILLS_THROUGH: [[u32; 2]; 9] = [
     [0b111_000_000, 0b100_100_100],
 ];
 
+/// The point to which each symmetry takes each point: the turns by no, one, two and three quarters,
+/// and then the same after the mirror in the diagonal through point 0.
+const IMAGES: [[u8; 9]; 8] = [
+    [0, 1, 2, 3, 4, 5, 6, 7, 8],
+    [2, 5, 8, 1, 4, 7, 0, 3, 6],
+    [8, 7, 6, 5, 4, 3, 2, 1, 0],
+    [6, 3, 0, 7, 4, 1, 8, 5, 2],
+    [0, 3, 6, 1, 4, 7, 2, 5, 8],
+    [2, 1, 0, 5, 4, 3, 8, 7, 6],
+    [8, 5, 2, 7, 4, 1, 6, 3, 0],
+    [6, 7, 8, 3, 4, 5, 0, 1, 2],
+];
+
 impl Geometry for Grid {
     ghost use Rattle.std.proofs.Common.{arith};
     ghost use Rattle.morris_board.specs.Boards.{grid};
     ghost use Rattle.morris_board.specs.BoardLaws.{id-grid, is_board-grid, point_count-grid, mill_count-grid};
+    ghost use Rattle.morris_board.specs.SymmetryLaws.{symmetries-grid, symmetry_count-grid};
 
     ghost shape = { grid };
 
@@ -57,6 +72,8 @@ impl Geometry for Grid {
 
     ghost ID = { 1 };
 
+    ghost SYMMETRIES = { 8 };
+
     const POINTS: u8 = 9;
 
     const MILLS: u8 = 6;
@@ -64,6 +81,8 @@ impl Geometry for Grid {
     const ID: u8 = 1;
 
     const NAME: &'static str = "grid";
+
+    const SYMMETRIES: u8 = 8;
 
     fn neighbours(point: u8) -> Points {
         Points::from_mask(NEIGHBOURS[point as usize])
@@ -78,6 +97,18 @@ impl Geometry for Grid {
         (Points::from_mask(first), Points::from_mask(second))
     }
 
+    fn image(symmetry: u8, point: u8) -> u8 {
+        IMAGES[symmetry as usize][point as usize]
+    }
+
+    fn inverse(symmetry: u8) -> u8 {
+        inverse_of(symmetry)
+    }
+
+    fn image_of(symmetry: u8, set: Points) -> Points {
+        image_by(&IMAGES[symmetry as usize], set)
+    }
+
     ghost is_lawful = { is_board-grid };
 
     ghost few = { Prim.omega arith };
@@ -87,6 +118,10 @@ impl Geometry for Grid {
     ghost mill_count = { mill_count-grid };
 
     ghost file_id = { id-grid };
+
+    ghost symmetry_count = { symmetry_count-grid };
+
+    ghost has_symmetries = { symmetries-grid };
 }
 
 impl Board for Grid {}

@@ -9,5 +9,6 @@ pub mod nine;
 pub mod points;
 pub mod position;
 pub mod streams;
+mod symmetries;
 #[cfg(test)]
 mod tests;

@@ -1,6 +1,7 @@
 //! The board Nine.
 use crate::board::{Board, Geometry};
 use crate::points::Points;
+use crate::symmetries::{image_by, inverse_of};
 
 /// The usual board with 24 points on three rings. Point `8 * r + k` is place `k` of ring `r`, where
 /// ring 0 is the outer one, and place 0 the top left corner, from which the places go clockwise;
@@ -51,10 +52,64 @@ const MILLS_THROUGH: [[u32; 2]; 24] = [
     [0xc1_00_00, 0x80_80_80],
 ];
 
+/// The point to which each symmetry takes each point: four turns, four mirrors, and then the same
+/// with the outer and the inner ring exchanged.
+const IMAGES: [[u8; 24]; 16] = [
+    [
+        0, 1, 2, 3, 4, 5, 6, 7, 8, 9, 10, 11, 12, 13, 14, 15, 16, 17, 18, 19, 20, 21, 22, 23,
+    ],
+    [
+        2, 3, 4, 5, 6, 7, 0, 1, 10, 11, 12, 13, 14, 15, 8, 9, 18, 19, 20, 21, 22, 23, 16, 17,
+    ],
+    [
+        4, 5, 6, 7, 0, 1, 2, 3, 12, 13, 14, 15, 8, 9, 10, 11, 20, 21, 22, 23, 16, 17, 18, 19,
+    ],
+    [
+        6, 7, 0, 1, 2, 3, 4, 5, 14, 15, 8, 9, 10, 11, 12, 13, 22, 23, 16, 17, 18, 19, 20, 21,
+    ],
+    [
+        0, 7, 6, 5, 4, 3, 2, 1, 8, 15, 14, 13, 12, 11, 10, 9, 16, 23, 22, 21, 20, 19, 18, 17,
+    ],
+    [
+        2, 1, 0, 7, 6, 5, 4, 3, 10, 9, 8, 15, 14, 13, 12, 11, 18, 17, 16, 23, 22, 21, 20, 19,
+    ],
+    [
+        4, 3, 2, 1, 0, 7, 6, 5, 12, 11, 10, 9, 8, 15, 14, 13, 20, 19, 18, 17, 16, 23, 22, 21,
+    ],
+    [
+        6, 5, 4, 3, 2, 1, 0, 7, 14, 13, 12, 11, 10, 9, 8, 15, 22, 21, 20, 19, 18, 17, 16, 23,
+    ],
+    [
+        16, 17, 18, 19, 20, 21, 22, 23, 8, 9, 10, 11, 12, 13, 14, 15, 0, 1, 2, 3, 4, 5, 6, 7,
+    ],
+    [
+        18, 19, 20, 21, 22, 23, 16, 17, 10, 11, 12, 13, 14, 15, 8, 9, 2, 3, 4, 5, 6, 7, 0, 1,
+    ],
+    [
+        20, 21, 22, 23, 16, 17, 18, 19, 12, 13, 14, 15, 8, 9, 10, 11, 4, 5, 6, 7, 0, 1, 2, 3,
+    ],
+    [
+        22, 23, 16, 17, 18, 19, 20, 21, 14, 15, 8, 9, 10, 11, 12, 13, 6, 7, 0, 1, 2, 3, 4, 5,
+    ],
+    [
+        16, 23, 22, 21, 20, 19, 18, 17, 8, 15, 14, 13, 12, 11, 10, 9, 0, 7, 6, 5, 4, 3, 2, 1,
+    ],
+    [
+        18, 17, 16, 23, 22, 21, 20, 19, 10, 9, 8, 15, 14, 13, 12, 11, 2, 1, 0, 7, 6, 5, 4, 3,
+    ],
+    [
+        20, 19, 18, 17, 16, 23, 22, 21, 12, 11, 10, 9, 8, 15, 14, 13, 4, 3, 2, 1, 0, 7, 6, 5,
+    ],
+    [
+        22, 21, 20, 19, 18, 17, 16, 23, 14, 13, 12, 11, 10, 9, 8, 15, 6, 5, 4, 3, 2, 1, 0, 7,
+    ],
+];
+
 impl Geometry for Nine {
     ghost use Rattle.std.proofs.Common.{arith};
     ghost use Rattle.morris_board.specs.Boards.{nine};
     ghost use Rattle.morris_board.specs.BoardLaws.{id-nine, is_board-nine, point_count-nine, mill_count-nine};
+    ghost use Rattle.morris_board.specs.SymmetryLaws.{symmetries-nine, symmetry_count-nine};
 
     ghost shape = { nine };
 
@@ -64,6 +119,8 @@ impl Geometry for Nine {
 
     ghost ID = { 0 };
 
+    ghost SYMMETRIES = { 16 };
+
     const POINTS: u8 = 24;
 
     const MILLS: u8 = 16;
@@ -71,6 +128,8 @@ impl Geometry for Nine {
     const ID: u8 = 0;
 
     const NAME: &'static str = "nine";
+
+    const SYMMETRIES: u8 = 16;
 
     fn neighbours(point: u8) -> Points {
         Points::from_mask(NEIGHBOURS[point as usize])
@@ -85,6 +144,18 @@ impl Geometry for Nine {
         (Points::from_mask(first), Points::from_mask(second))
     }
 
+    fn image(symmetry: u8, point: u8) -> u8 {
+        IMAGES[symmetry as usize][point as usize]
+    }
+
+    fn inverse(symmetry: u8) -> u8 {
+        inverse_of(symmetry)
+    }
+
+    fn image_of(symmetry: u8, set: Points) -> Points {
+        image_by(&IMAGES[symmetry as usize], set)
+    }
+
     ghost is_lawful = { is_board-nine };
 
     ghost few = { Prim.omega arith };
@@ -94,6 +165,10 @@ impl Geometry for Nine {
     ghost mill_count = { mill_count-nine };
 
     ghost file_id = { id-nine };
+
+    ghost symmetry_count = { symmetry_count-nine };
+
+    ghost has_symmetries = { symmetries-nine };
 }
 
 impl Board for Nine {}

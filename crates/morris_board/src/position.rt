@@ -2,6 +2,7 @@
 ghost use Rattle.std.specs.Prelude.{◌≡◌, ℕ, ◌<◌, ◌≤◌, length, not, position, IfOk, Ok};
 ghost use Rattle.morris_board.specs.Sets.{count_of, set_where};
 ghost use Rattle.morris_board.specs.Positions.{Sides, sides, IsApart, IsPosition, made, is_between, letter, text_of, read_of, is_letter, places_of};
+ghost use Rattle.morris_board.specs.Symmetries.{image_sides, inverse_of};
 
 use crate::board::Geometry;
 use crate::faults::{Stones, TextFault};
@@ -74,6 +75,23 @@ impl<B: Geometry> Position<B> {
         ensures other { result.1 ≡ count_of self.now.other }
     {
         (self.own.count(), self.other.count())
+    }
+
+    /// The position to which a symmetry of the board, below [`Geometry::SYMMETRIES`], takes this one:
+    /// each stone goes to the image of its point, and the same player is to move. The image under the
+    /// inverse of the symmetry undoes it, and is undone by it.
+    pub fn image(&self, symmetry: u8) -> Position<B>
+        requires { symmetry < B.SYMMETRIES }
+        ensures image { result ≡ image_sides (B.shape.image symmetry) self.now }
+        ensures lawful { IsPosition B.shape result }
+        ensures undone { image_sides (B.shape.image (inverse_of symmetry)) result ≡ self.now }
+        ensures redone { image_sides (B.shape.image symmetry) (image_sides (B.shape.image (inverse_of symmetry)) self.now) ≡ self.now }
+    {
+        Position {
+            own: B::image_of(symmetry, self.own),
+            other: B::image_of(symmetry, self.other),
+            board: PhantomData,
+        }
     }
 
     /// The position that a text shows: for each point of the board, in order, `X` for a stone of

@@ -129,6 +129,119 @@ fn nine_is_three_rings(rt: HostRuntime) {
     assert_board::<Nine>(&rt, &mills, &pairs);
 }
 
+/// Each symmetry takes the point to the image, in these rows of symmetry, point and image.
+fn assert_images<B: Geometry>(rt: &impl Abort, rows: &[[u8; 3]]) {
+    for [symmetry, point, image] in rows {
+        assert!(rt; *symmetry < B::SYMMETRIES);
+        assert!(rt; *point < B::POINTS);
+        assert_eq!(rt;
+            B::image(*symmetry, *point),
+            *image,
+            "{symmetry} at {point}"
+        );
+    }
+}
+
+/// The first point goes to the second and the second to the first, each by one of the symmetries.
+fn assert_undone<B: Geometry>(rt: &impl Abort, symmetry: u8, point: u8) {
+    assert!(rt; symmetry < B::SYMMETRIES);
+    assert!(rt; point < B::POINTS);
+    let inverse = B::inverse(symmetry);
+    assert!(rt; inverse < B::SYMMETRIES);
+    assert_eq!(rt; B::inverse(inverse), symmetry);
+    let image = B::image(symmetry, point);
+    assert!(rt; image < B::POINTS);
+    assert_eq!(rt; B::image(inverse, image), point, "{symmetry} at {point}");
+    let before = B::image(inverse, point);
+    assert!(rt; before < B::POINTS);
+    assert_eq!(rt; B::image(symmetry, before), point, "{symmetry} at {point}");
+}
+
+#[test]
+fn each_symmetry_is_undone_by_its_inverse_in_both_orders(rt: HostRuntime) {
+    assert_eq!(rt; Grid::SYMMETRIES, 8);
+    for symmetry in 0..8 {
+        for point in 0..9 {
+            assert_undone::<Grid>(&rt, symmetry, point);
+        }
+    }
+    assert_eq!(rt; Nine::SYMMETRIES, 16);
+    for symmetry in 0..16 {
+        for point in 0..24 {
+            assert_undone::<Nine>(&rt, symmetry, point);
+        }
+    }
+}
+
+#[test]
+fn a_symmetry_turns_mirrors_or_exchanges_the_rings(rt: HostRuntime) {
+    let grid = [
+        // A quarter turn, clockwise.
+        [1, 0, 2],
+        [1, 1, 5],
+        [1, 3, 1],
+        [1, 8, 6],
+        // Three of them.
+        [3, 0, 6],
+        [3, 1, 3],
+        // The mirror in the diagonal, and then a turn.
+        [4, 1, 3],
+        [4, 2, 6],
+        [4, 8, 8],
+        [5, 0, 2],
+        [5, 1, 1],
+        [5, 3, 5],
+    ];
+    assert_images::<Grid>(&rt, &grid);
+    let nine = [
+        // A quarter turn, on each ring.
+        [1, 0, 2],
+        [1, 7, 1],
+        [1, 14, 8],
+        [1, 17, 19],
+        // Three of them.
+        [3, 2, 0],
+        [3, 3, 1],
+        [3, 4, 2],
+        // The mirror in the diagonal, and then a turn.
+        [4, 0, 0],
+        [4, 1, 7],
+        [4, 10, 14],
+        [5, 0, 2],
+        [5, 1, 1],
+        [5, 19, 23],
+        // The rings are exchanged, and in the last ones all is done.
+        [8, 0, 16],
+        [8, 9, 9],
+        [8, 23, 7],
+        [13, 0, 18],
+        [13, 3, 23],
+        [13, 20, 6],
+    ];
+    assert_images::<Nine>(&rt, &nine);
+}
+
+#[test]
+fn a_set_and_a_position_go_where_their_points_go(rt: HostRuntime) -> Result<(), Fail> {
+    let corner = set_of(&rt, &[16, 17, 18, 9]);
+    let position = Position::<Nine>::read(b"OO......O.......XXX.....")?;
+    assert_eq!(rt; position.own(), corner.without(9));
+    assert_eq!(rt; position.image(8).own(), set_of(&rt, &[0, 1, 2]));
+    assert_eq!(rt; position.image(8).other(), set_of(&rt, &[16, 17, 8]));
+    let inner = Points::from_mask(0x07_02_00);
+    assert_eq!(rt; inner, corner);
+    assert_eq!(rt; Nine::image_of(8, inner), set_of(&rt, &[0, 1, 2, 9]));
+    let position = Position::<Grid>::read(b"XXX.OO.O.")?;
+    let mut text = [0; 9];
+    position.image(1).write_to(&mut text);
+    assert_eq!(rt; text.as_slice(), b"..XOOX.OX".as_slice());
+    assert_eq!(rt;
+        Grid::image_of(4, position.other()),
+        set_of(&rt, &[4, 7, 5])
+    );
+    Ok(())
+}
+
 #[test]
 fn the_points_of_a_set_come_in_ascending_order(rt: HostRuntime) -> Result<(), Fail> {
     let set = set_of(&rt, &[22, 4, 11]);
