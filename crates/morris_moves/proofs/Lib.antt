@@ -9,3 +9,4 @@ pub mod ListingLaws
 pub mod BackListLaws
 pub mod ValueLaws
 pub mod BlockedLaws
+pub mod SymmetryLaws

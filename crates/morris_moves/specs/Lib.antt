@@ -4,3 +4,4 @@ pub mod Backward
 pub mod Listing
 pub mod Values
 pub mod MoveText
+pub mod Images

@@ -1,5 +1,7 @@
 //! The search a few plies ahead.
 ghost use Rattle.std.specs.Prelude.{◌≡◌, ℕ, ◌≤◌};
+ghost use Rattle.morris_board.specs.Positions.{Sides, IsPosition};
+ghost use Rattle.morris_moves.specs.Images.{IsImage, HaveOneValue};
 ghost use Rattle.morris_moves.specs.Values.{is_lost, is_won, AnswersWithin, IsLostIn, IsWonIn, IsOpen};
 
 use crate::rules::{moves, play, reach};
@@ -10,12 +12,17 @@ use morris_board::position::Position;
 
 /// The value of a position where its depth is at most `plies`, and otherwise that it is open.
 /// `plies` is at most 6. It looks forward over the legal moves, one ply more at a time.
+///
+/// A symmetry of the board changes no value, so the answer is also that of each position of which
+/// this one is an image.
 pub fn within<B: Geometry>(position: &Position<B>, plies: u8) -> Within
     requires { plies ≤ 6 }
     ensures answer { AnswersWithin B.shape position.now plies result }
     ensures lost { (d : ℕ) → d ≤ plies → IsLostIn B.shape position.now d → result ≡ Within.Lost d }
     ensures won { (d : ℕ) → d ≤ plies → IsWonIn B.shape position.now d → result ≡ Within.Won d }
     ensures unknown { ((k : ℕ) → k ≤ plies → IsOpen B.shape position.now k) → result ≡ Within.Unknown }
+    ensures one_value { (s : Sides) → IsPosition B.shape s → IsImage B.shape s position.now → HaveOneValue B.shape s position.now }
+    ensures images { (s : Sides) → IsPosition B.shape s → IsImage B.shape s position.now → AnswersWithin B.shape s plies result }
 {
     for depth in 0..=plies {
         // A depth of a loss is even and a depth of a win is odd, so one test serves.
