@@ -49,8 +49,8 @@ empty_push (xs ∷ lists) h (suc t) = empty_push lists (λ k. h (suc k)) t
 pub none_sorted : (c : Parts) (lists : List (List ℕ)) → ((t : ℕ) → list_at lists t ≡ []) → AreSorted c lists
 none_sorted c lists h t l = subst (λ xs. All (IsIn c t) xs) (sym (h t)) (All-nil (IsIn c t))
 
-pub put_is : (lists : List (Vec ℕ Global)) (target node : ℕ) (list new : Vec ℕ Global) → target < length lists → list ≡ get_or lists target list → new.items ≡ list.items ++ node ∷ []
-    → contents (set lists target new) ≡ set (contents lists) target (list_at (contents lists) target ++ node ∷ [])
-put_is lists target node list new inside is items =
-    map-set (λ v. v.items) lists target new
-    ∙ ap (set (contents lists) target) (items ∙ ap (λ xs. xs ++ node ∷ []) (ap (λ v. v.items) is ∙ sym (get_or-map (λ v. v.items) lists target list [] inside)))
+pub put_is : {A : Type 0} (items : A → List ℕ) (lists : List A) (target node : ℕ) (list new : A) → target < length lists → list ≡ get_or lists target list → items new ≡ items list ++ node ∷ []
+    → contents items (set lists target new) ≡ set (contents items lists) target (list_at (contents items lists) target ++ node ∷ [])
+put_is items lists target node list new inside is more =
+    map-set items lists target new
+    ∙ ap (set (contents items lists) target) (more ∙ ap (λ xs. xs ++ node ∷ []) (ap items is ∙ sym (get_or-map items lists target list [] inside)))

@@ -104,18 +104,18 @@ module _ (g : Net) (law : IsNet g) (f : FreshState) (h : FreshHolds g f) where
           (λ p d q. times_fresh (get_or (g.quiet i) p d) (omega (arith, law.inside i (omega (arith, h.size)) p d q, h.size))))
 
 -- the next of the lists, as the batch for the next block
-pub next_batch : (g : Net) → IsNet g → (f : FreshState) → FreshHolds g f → (lists before rest : List (Vec ℕ Global)) (nodes : Vec ℕ Global) (t : ℕ)
-    → length lists ≡ f.cut.blocks → lists ≡ before ++ nodes ∷ rest → t ≡ length before → AreSorted f.cut (contents lists) → LeadTo g f.cut (contents lists) f.nodes
-    → BatchHolds g (batch_of f t nodes.items)
-next_batch g law f h lists before rest nodes t len is at sorted lead =
+pub next_batch : {A : Type 0} (items : A → List ℕ) (g : Net) → IsNet g → (f : FreshState) → FreshHolds g f → (lists before rest : List A) (nodes : A) (t : ℕ)
+    → length lists ≡ f.cut.blocks → lists ≡ before ++ nodes ∷ rest → t ≡ length before → AreSorted f.cut (contents items lists) → LeadTo g f.cut (contents items lists) f.nodes
+    → BatchHolds g (batch_of f t (items nodes))
+next_batch items g law f h lists before rest nodes t len is at sorted lead =
     subst (λ xs. BatchHolds g (batch_of f t xs)) here
-    (batch_holds g law f h (contents lists) (length-map lists (λ v. v.items) ∙ len) sorted lead t (omega (arith, ap length is, length-append before (nodes ∷ rest))))
+    (batch_holds g law f h (contents items lists) (length-map lists items ∙ len) sorted lead t (omega (arith, ap length is, length-append before (nodes ∷ rest))))
   where
-    here : list_at (contents lists) t ≡ nodes.items
+    here : list_at (contents items lists) t ≡ items nodes
     here =
-        ap₂ (λ xs k. list_at (contents xs) k) is at
-        ∙ (ap (λ xs. list_at xs (length before)) (map-append (λ v. v.items) before (nodes ∷ rest))
-        ∙ get_or_at (contents before) nodes.items (contents rest) [] (length before) (length-map before (λ v. v.items)))
+        ap₂ (λ xs k. list_at (contents items xs) k) is at
+        ∙ (ap (λ xs. list_at xs (length before)) (map-append items before (nodes ∷ rest))
+        ∙ get_or_at (contents items before) (items nodes) (contents items rest) [] (length before) (length-map before items))
 
 pub sealed : (g : Net) (f : FreshState) (t : ℕ) (nodes : List ℕ) (b : BatchState) → b ≡ batch_of f t nodes → BatchHolds g b → IsBatchOf g f t b
 sealed g f t nodes b e h = record {

@@ -1,14 +1,13 @@
 -- Batches for all blocks of a cut.
-use Rattle.std.specs.Prelude.{◌≡◌, ℕ, ◌<◌, ◌+◌, List, [], map, length, slice_index_or, Vec}
+use Rattle.std.specs.Prelude.{◌≡◌, ℕ, ◌<◌, ◌+◌, List, [], map, length, slice_index_or}
 use Rattle.std.specs.List.{All, sum_by}
-use Rattle.std.specs.declared.alloc.Global.{Global}
 use Rattle.morris_wave.specs.Nets.{Net, times}
 use Rattle.morris_wave.specs.Blocks.{Parts, IsIn, block_of}
 use Rattle.morris_wave.specs.Batches.{FreshState, BatchState, BatchHolds}
 
--- lists of nodes, as lists
-abbrev pub contents : List (Vec ℕ Global) → List (List ℕ)
-contents lists = map (λ v. v.items) lists
+-- what lists of nodes hold, where `items` says it of one
+abbrev pub contents : {A : Type 0} → (A → List ℕ) → List A → List (List ℕ)
+contents items lists = map items lists
 
 -- the list at a place, empty past the last one
 abbrev pub list_at : List (List ℕ) → ℕ → List ℕ

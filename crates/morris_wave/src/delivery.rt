@@ -8,30 +8,31 @@ ghost use Rattle.morris_wave.specs.Delivery.{contents, list_at, AreSorted, Deals
 use crate::division::{Cut, Finder};
 use crate::engine::{Batch, Fresh};
 use crate::network::{Graph, Levels};
+use crate::nodes::NodeList;
 use std::alloc::{AllocError, Global};
 use std::marker::PhantomData;
 
 // An empty list, one of those at hand if there is one.
-fn empty_list(alloc: Global, spare: &mut Vec<Vec<u64>>) -> Vec<u64>
-    ensures { result.items ≡ [] }
+fn empty_list<L: NodeList>(alloc: Global, spare: &mut Vec<L>) -> L
+    ensures { L.items result ≡ [] }
 {
     match spare.pop() {
         Some(mut list) => {
-            list.clear();
+            list.empty();
             list
         }
-        None => Vec::new(alloc),
+        None => L::none(alloc),
     }
 }
 
 // So many empty lists.
-fn no_lists(
+fn no_lists<L: NodeList>(
     alloc: Global,
     count: usize,
-    spare: &mut Vec<Vec<u64>>,
-) -> Result<Vec<Vec<u64>>, AllocError>
+    spare: &mut Vec<L>,
+) -> Result<Vec<L>, AllocError>
     ensures len { IfOk result (λ v. vec_len v ≡ count) }
-    ensures empty { IfOk result (λ v. (t : ℕ) → list_at (contents v.items) t ≡ []) }
+    ensures empty { IfOk result (λ v. (t : ℕ) → list_at (contents L.items v.items) t ≡ []) }
 {
     let mut lists = Vec::with_capacity(alloc, count)?;
     for _ in 0..count {
@@ -41,25 +42,31 @@ fn no_lists(
 }
 
 // Puts a node at the end of one list.
-fn put(lists: &mut Vec<Vec<u64>>, target: usize, node: u64) -> Result<(), AllocError>
-    requires { target < vec_len lists.old }
+fn put<L: NodeList>(lists: &mut Vec<L>, target: usize, node: u64) -> Result<(), AllocError>
+    requires target { target < vec_len lists.old }
+    requires node { node < L.limit }
     ensures len { vec_len lists.new ≡ vec_len lists.old }
-    ensures put { OnOk result (contents lists.new.items
-        ≡ slice_set (contents lists.old.items) target (list_at (contents lists.old.items) target ++ node ∷ [])) }
+    ensures put { OnOk result (contents L.items lists.new.items
+        ≡ slice_set (contents L.items lists.old.items) target (list_at (contents L.items lists.old.items) target ++ node ∷ [])) }
 {
     let list = &mut lists[target];
-    list.push(node)?;
+    list.add(node)?;
     Ok(())
 }
 
 // Puts each node into the list of its block.
-fn deal(lists: &mut Vec<Vec<u64>>, finder: &Finder, nodes: &[u64]) -> Result<(), AllocError>
+fn deal<L: NodeList>(
+    lists: &mut Vec<L>,
+    finder: &Finder,
+    nodes: &[u64],
+) -> Result<(), AllocError>
+    requires small { finder.now.cut.size ≤ L.limit }
     requires count { vec_len lists.old ≡ finder.now.cut.blocks }
     requires inside { All (λ i. i < finder.now.cut.size) nodes.now }
-    requires sorted { AreSorted finder.now.cut (contents lists.old.items) }
+    requires sorted { AreSorted finder.now.cut (contents L.items lists.old.items) }
     ensures len { vec_len lists.new ≡ vec_len lists.old }
-    ensures sorted { OnOk result (AreSorted finder.now.cut (contents lists.new.items)) }
-    ensures dealt { OnOk result (Deals finder.now.cut (contents lists.old.items) (contents lists.new.items) nodes.now) }
+    ensures sorted { OnOk result (AreSorted finder.now.cut (contents L.items lists.new.items)) }
+    ensures dealt { OnOk result (Deals finder.now.cut (contents L.items lists.old.items) (contents L.items lists.new.items) nodes.now) }
 {
     for node in nodes {
         put(lists, finder.find(*node) as usize, *node)?;
@@ -68,18 +75,19 @@ fn deal(lists: &mut Vec<Vec<u64>>, finder: &Finder, nodes: &[u64]) -> Result<(),
 }
 
 // The nodes that lead to one of these, each as often as it leads there, in one list for each block.
-fn behind<G: Graph>(
+fn behind<G: Graph, L: NodeList>(
     alloc: Global,
     graph: &G,
     cut: &Cut,
     nodes: &[u64],
-    spare: &mut Vec<Vec<u64>>,
-) -> Result<Vec<Vec<u64>>, AllocError>
+    spare: &mut Vec<L>,
+) -> Result<Vec<L>, AllocError>
+    requires small { cut.now.size ≤ L.limit }
     requires size { (G.Name.net (G.level graph.now)).size ≡ cut.now.size }
     requires inside { All (λ j. j < cut.now.size) nodes.now }
     ensures count { IfOk result (λ v. vec_len v ≡ cut.now.blocks) }
-    ensures sorted { IfOk result (λ v. AreSorted cut.now (contents v.items)) }
-    ensures behind { IfOk result (λ v. LeadTo (G.Name.net (G.level graph.now)) cut.now (contents v.items) nodes.now) }
+    ensures sorted { IfOk result (λ v. AreSorted cut.now (contents L.items v.items)) }
+    ensures behind { IfOk result (λ v. LeadTo (G.Name.net (G.level graph.now)) cut.now (contents L.items v.items) nodes.now) }
 {
     let mut lists = no_lists(alloc, cut.blocks() as usize, spare)?;
     let finder = Finder::new(cut);
@@ -92,9 +100,9 @@ fn behind<G: Graph>(
 }
 
 // The batch of these nodes.
-fn seal<N: Levels>(fresh: &Fresh<N>, target: u64, nodes: Vec<u64>) -> Batch<N>
-    requires { BatchHolds (N.net fresh.now.level) (batch_of fresh.now target nodes.items) }
-    ensures made { result ≡ batch_of fresh.now target nodes.items }
+fn seal<N: Levels, L: NodeList>(fresh: &Fresh<N>, target: u64, nodes: L) -> Batch<N, L>
+    requires { BatchHolds (N.net fresh.now.level) (batch_of fresh.now target (L.items nodes)) }
+    ensures made { result ≡ batch_of fresh.now target (L.items nodes) }
     ensures holds { BatchHolds (N.net fresh.now.level) result }
 {
     Batch {
@@ -127,25 +135,27 @@ pub fn scatter<N: Levels, G: Graph<Name = N>>(
     ensures batches { IfOk result (λ v. (t : ℕ) (d : BatchState) → t < fresh.now.cut.blocks
         → IsBatchOf (N.net fresh.now.level) fresh.now t (slice_index_or v.items t d)) }
 {
-    let mut spare = Vec::new(alloc);
+    let mut spare: Vec<Vec<u64>> = Vec::new(alloc);
     scatter_reusing(alloc, graph, fresh, &mut spare)
 }
 
 /// The batches that `scatter` gives, in lists taken from the end of `spare` as long as there are any.
 ///
 /// What stands in those lists is forgotten; only their room is used. `Batch::into_nodes` gives a list
-/// back. So one who scatters often asks seldom for memory.
+/// back. So one who scatters often asks seldom for memory. The lists may be of either kind that has room
+/// for each node of the graph.
 ///
 /// # Errors
 ///
 /// `AllocError` where memory is refused.
-pub fn scatter_reusing<N: Levels, G: Graph<Name = N>>(
+pub fn scatter_reusing<N: Levels, G: Graph<Name = N>, L: NodeList>(
     alloc: Global,
     graph: &G,
     fresh: &Fresh<N>,
-    spare: &mut Vec<Vec<u64>>,
-) -> Result<Vec<Batch<N>>, AllocError>
-    requires { G.level graph.now ≡ fresh.now.level }
+    spare: &mut Vec<L>,
+) -> Result<Vec<Batch<N, L>>, AllocError>
+    requires level { G.level graph.now ≡ fresh.now.level }
+    requires small { (N.net fresh.now.level).size ≤ L.limit }
     ensures count { IfOk result (λ v. vec_len v ≡ fresh.now.cut.blocks) }
     ensures batches { IfOk result (λ v. (t : ℕ) (d : BatchState) → t < fresh.now.cut.blocks
         → IsBatchOf (N.net fresh.now.level) fresh.now t (slice_index_or v.items t d)) }

@@ -7,6 +7,7 @@ ghost use Rattle.morris_wave.specs.Waves.{entry_at, is_decided_at, is_fresh};
 
 use crate::division::Cut;
 use crate::network::{Graph, Levels};
+use crate::nodes::NodeList;
 use crate::stretch::Stretch;
 use std::alloc::{AllocError, Global};
 use std::marker::{Model, PhantomData};
@@ -81,28 +82,28 @@ impl<N: Levels> Drop for Fresh<N> {
 }
 
 /// The nodes of one block, the target, that lead to fresh nodes of another, the source.
-pub struct Batch<N: Levels> {
+pub struct Batch<N: Levels, L: NodeList = Vec<u64>> {
     pub(crate) level: u64,
     pub(crate) cut: Cut,
     pub(crate) wave: u16,
     pub(crate) source: u64,
     pub(crate) target: u64,
-    pub(crate) nodes: Vec<u64>,
+    pub(crate) nodes: L,
     pub(crate) family: PhantomData<N>,
 }
 
-impl<N: Levels> Model for Batch<N> {
+impl<N: Levels, L: NodeList> Model for Batch<N, L> {
     ghost use Rattle.morris_wave.specs.Batches.{BatchState, BatchHolds};
 
     ghost Value = { BatchState };
 
-    ghost view = { λ b. record { level = b.level; cut = b.cut; wave = b.wave; source = b.source; target = b.target; nodes = b.nodes.items } };
+    ghost view = { λ b. record { level = b.level; cut = b.cut; wave = b.wave; source = b.source; target = b.target; nodes = L.items b.nodes } };
 
     ghost invariant = { λ b. BatchHolds (N.net b.level)
-        (record { level = b.level; cut = b.cut; wave = b.wave; source = b.source; target = b.target; nodes = b.nodes.items }) };
+        (record { level = b.level; cut = b.cut; wave = b.wave; source = b.source; target = b.target; nodes = L.items b.nodes }) };
 }
 
-impl<N: Levels> Drop for Batch<N> {
+impl<N: Levels, L: NodeList> Drop for Batch<N, L> {
     fn drop(self) {
         let Batch {
             level: _,
@@ -166,10 +167,12 @@ impl<N: Levels> Batch<N> {
     {
         &self.nodes
     }
+}
 
+impl<N: Levels, L: NodeList> Batch<N, L> {
     /// The list of the predecessors itself, whose room can be used again.
-    pub fn into_nodes(self) -> Vec<u64>
-        ensures { result.items ≡ self.nodes }
+    pub fn into_nodes(self) -> L
+        ensures { L.items result ≡ self.nodes }
     {
         let Batch {
             level: _,
@@ -334,7 +337,7 @@ impl<N: Levels> Block<N> {
     /// The nodes of the batch lead to nodes whose depth is one less than the wave. At an odd wave these are
     /// lost, so each open node of the batch is won. At an even wave they are won, so a node is lost once it
     /// has no other quiet result left and every exit is won. It takes no memory.
-    pub fn apply(&mut self, batch: &Batch<N>) -> Applied
+    pub fn apply<L: NodeList>(&mut self, batch: &Batch<N, L>) -> Applied
         ensures answer { result ≡ answer_to self.old batch.now }
         ensures state { self.new ≡ after_batch self.old batch.now }
     {

@@ -9,10 +9,11 @@ ghost use Rattle.morris_wave.specs.Keeping.{LowersBy, Takes, ComesDue, left_of, 
 
 use crate::due::PLACES;
 use crate::listed::Listed;
+use crate::nodes::NodeList;
 
 // Gives each open node of the list its code.
-fn win_all(entries: &mut Listed, nodes: &[u64])
-    requires inside { All (λ i. (entries.old.first ≤ i) × (i < entries.old.first + vec_len entries.old.entries.codes)) nodes.now }
+fn win_all<L: NodeList>(entries: &mut Listed, nodes: &L)
+    requires inside { All (λ i. (entries.old.first ≤ i) × (i < entries.old.first + vec_len entries.old.entries.codes)) (L.items nodes.now) }
     ensures len { vec_len entries.new.entries.codes ≡ vec_len entries.old.entries.codes }
     ensures first { entries.new.first ≡ entries.old.first }
     ensures wave { entries.new.wave ≡ entries.old.wave }
@@ -20,18 +21,19 @@ fn win_all(entries: &mut Listed, nodes: &[u64])
     ensures here { entries.new.here ≡ entries.old.here }
     ensures list { take entries.old.here entries.new.decided.items ≡ take entries.old.here entries.old.decided.items }
     ensures codes { Marks entries.old.entries.codes.items entries.new.entries.codes.items
-        (λ k. among nodes.now (entries.old.first + k)) (entries.old.wave + 1) }
+        (λ k. among (L.items nodes.now) (entries.old.first + k)) (entries.old.wave + 1) }
 {
-    for node in nodes {
-        entries.mark(*node - entries.first, true);
+    for at in 0..nodes.count() {
+        let node = nodes.node(at);
+        entries.mark(node - entries.first, true);
     }
 }
 
 // Lowers the counter of each node of the list, once for each place there, and closes it as it is spent.
-fn lower_all(entries: &mut Listed, counters: &mut Vec<u16>, nodes: &[u64])
-    requires inside { All (λ i. (entries.old.first ≤ i) × (i < entries.old.first + vec_len entries.old.entries.codes)) nodes.now }
+fn lower_all<L: NodeList>(entries: &mut Listed, counters: &mut Vec<u16>, nodes: &L)
+    requires inside { All (λ i. (entries.old.first ≤ i) × (i < entries.old.first + vec_len entries.old.entries.codes)) (L.items nodes.now) }
     requires counters { vec_len counters.old ≡ vec_len entries.old.entries.codes }
-    requires enough { (k : ℕ) → k < vec_len counters.old → times (entries.old.first + k) nodes.now ≤ left_of (slice_index counters.old.items k) }
+    requires enough { (k : ℕ) → k < vec_len counters.old → times (entries.old.first + k) (L.items nodes.now) ≤ left_of (slice_index counters.old.items k) }
     ensures len { vec_len entries.new.entries.codes ≡ vec_len entries.old.entries.codes }
     ensures counters_len { vec_len counters.new ≡ vec_len counters.old }
     ensures first { entries.new.first ≡ entries.old.first }
@@ -39,12 +41,13 @@ fn lower_all(entries: &mut Listed, counters: &mut Vec<u16>, nodes: &[u64])
     ensures before { entries.new.before ≡ entries.old.before }
     ensures here { entries.new.here ≡ entries.old.here }
     ensures list { take entries.old.here entries.new.decided.items ≡ take entries.old.here entries.old.decided.items }
-    ensures lowered { LowersBy (λ k. entries.old.first + k) counters.old.items counters.new.items nodes.now }
+    ensures lowered { LowersBy (λ k. entries.old.first + k) counters.old.items counters.new.items (L.items nodes.now) }
     ensures codes { Marks entries.old.entries.codes.items entries.new.entries.codes.items
-        (λ k. among nodes.now (entries.old.first + k) && (slice_index counters.new.items k == 0)) (entries.old.wave + 1) }
+        (λ k. among (L.items nodes.now) (entries.old.first + k) && (slice_index counters.new.items k == 0)) (entries.old.wave + 1) }
 {
-    for node in nodes {
-        let place = *node - entries.first;
+    for at in 0..nodes.count() {
+        let node = nodes.node(at);
+        let place = node - entries.first;
         let counter = counters[place as usize].wrapping_sub(1);
         counters[place as usize] = counter;
         entries.mark(place, counter == 0);
@@ -105,11 +108,11 @@ fn lose_due(entries: &mut Listed, counters: &mut Vec<u16>, due: &[u64], used: us
 }
 
 // Takes in nodes that lead to fresh nodes of the wave, each as often as it leads there.
-pub(crate) fn take_in(entries: &mut Listed, counters: &mut Vec<u16>, nodes: &[u64])
-    requires inside { All (λ i. (entries.old.first ≤ i) × (i < entries.old.first + vec_len entries.old.entries.codes)) nodes.now }
+pub(crate) fn take_in<L: NodeList>(entries: &mut Listed, counters: &mut Vec<u16>, nodes: &L)
+    requires inside { All (λ i. (entries.old.first ≤ i) × (i < entries.old.first + vec_len entries.old.entries.codes)) (L.items nodes.now) }
     requires counters { vec_len counters.old ≡ vec_len entries.old.entries.codes }
     requires enough { is_odd entries.old.wave ≡ false
-        → (k : ℕ) → k < vec_len counters.old → times (entries.old.first + k) nodes.now ≤ left_of (slice_index counters.old.items k) }
+        → (k : ℕ) → k < vec_len counters.old → times (entries.old.first + k) (L.items nodes.now) ≤ left_of (slice_index counters.old.items k) }
     ensures len { vec_len entries.new.entries.codes ≡ vec_len entries.old.entries.codes }
     ensures counters_len { vec_len counters.new ≡ vec_len counters.old }
     ensures first { entries.new.first ≡ entries.old.first }
@@ -118,7 +121,7 @@ pub(crate) fn take_in(entries: &mut Listed, counters: &mut Vec<u16>, nodes: &[u6
     ensures here { entries.new.here ≡ entries.old.here }
     ensures list { take entries.old.here entries.new.decided.items ≡ take entries.old.here entries.old.decided.items }
     ensures small { (k : ℕ) → k < length counters.new.items → slice_index counters.new.items k < 65536 }
-    ensures taken { Takes entries.old.wave entries.old.first nodes.now entries.old.entries.codes.items entries.new.entries.codes.items
+    ensures taken { Takes entries.old.wave entries.old.first (L.items nodes.now) entries.old.entries.codes.items entries.new.entries.codes.items
         counters.old.items counters.new.items }
 {
     if entries.wave % 2 == 1 {

@@ -189,3 +189,99 @@ pub fn gather<N: Levels>(
     let codes = in_order(alloc, level, wave, cut, blocks, &places)?;
     Ok(codes)
 }
+
+// Whether the block of each number stands at that place.
+fn are_in_order<N: Levels>(blocks: &[Block<N>]) -> bool
+    ensures { result ≡ true → (k : ℕ) (d : BlockState) → k < length blocks.now → (slice_index_or blocks.now k d).number ≡ k }
+{
+    for (place, block) in blocks.iter().enumerate() {
+        if block.number() != place as u64 {
+            return false;
+        }
+    }
+    true
+}
+
+// The entries of all blocks, which stand in the order of their numbers. Each is let go once it was copied.
+fn drained<N: Levels>(
+    alloc: Global,
+    level: u64,
+    wave: u16,
+    cut: &Cut,
+    blocks: Vec<Block<N>>,
+) -> Result<Vec<u16>, AllocError>
+    requires count { vec_len blocks ≡ cut.now.blocks }
+    requires order { (k : ℕ) (d : BlockState) → k < length blocks.items → (slice_index_or blocks.items k d).number ≡ k }
+    requires fit { All (Fits level wave cut.now) blocks.items }
+    ensures len { IfOk result (λ v. vec_len v ≡ cut.now.size) }
+    ensures size { OnOk result ((N.net level).size ≡ cut.now.size) }
+    ensures wave { OnOk result (wave ≤ 65534) }
+    ensures cut { OnOk result (IsCut cut.now) }
+    ensures codes { IfOk result (λ v. (i : ℕ) → i < cut.now.size → slice_index v.items i ≡ code_within (N.net level) (wave + 1) i) }
+{
+    let _blocks = cut.blocks();
+    let mut codes = Vec::with_capacity(alloc, cut.size() as usize)?;
+    for block in blocks {
+        codes.extend_from_slice(entries_of(&block))?;
+    }
+    Ok(codes)
+}
+
+// The entries of all blocks, in the order of their numbers. Where the blocks stand in it, each is let go once it was copied.
+fn taken_in_order<N: Levels>(
+    alloc: Global,
+    level: u64,
+    wave: u16,
+    cut: &Cut,
+    blocks: Vec<Block<N>>,
+    places: &[Option<usize>],
+) -> Result<Vec<u16>, AllocError>
+    requires places { ArePlaces blocks.items places.now }
+    requires all { HasAll cut.now blocks.items }
+    requires fit { All (Fits level wave cut.now) blocks.items }
+    ensures len { IfOk result (λ v. vec_len v ≡ cut.now.size) }
+    ensures size { OnOk result ((N.net level).size ≡ cut.now.size) }
+    ensures wave { OnOk result (wave ≤ 65534) }
+    ensures cut { OnOk result (IsCut cut.now) }
+    ensures codes { IfOk result (λ v. (i : ℕ) → i < cut.now.size → slice_index v.items i ≡ code_within (N.net level) (wave + 1) i) }
+{
+    let count = blocks.len() as u64;
+    if count == cut.blocks() && are_in_order(&blocks) {
+        drained(alloc, level, wave, cut, blocks)
+    } else {
+        in_order(alloc, level, wave, cut, &blocks, places)
+    }
+}
+
+/// The codes that `gather` gives. It takes the blocks, and where they stand in the order of their numbers
+/// it lets each go once its codes are copied, so that answer and blocks are never there as a whole.
+///
+/// # Errors
+///
+/// As `gather`.
+pub fn gather_from<N: Levels>(
+    alloc: Global,
+    level: u64,
+    wave: u16,
+    cut: &Cut,
+    blocks: Vec<Block<N>>,
+) -> Result<Vec<u16>, GatherFault>
+    ensures fit { OnOk result (All (Fits level wave cut.now) blocks.items) }
+    ensures walked { OnOk result (first_complaint level wave cut.now [] blocks.items ≡ None) }
+    ensures all { OnOk result (HasAll cut.now blocks.items) }
+    ensures once { OnOk result (ComesOnce cut.now blocks.items) }
+    ensures fault { IfErr result (λ e. IsGatherFault level wave cut.now blocks.items e) }
+    ensures size { OnOk result ((N.net level).size ≡ cut.now.size) }
+    ensures len { IfOk result (λ v. vec_len v ≡ cut.now.size) }
+    ensures codes { IfOk result (λ v. (i : ℕ) → i < cut.now.size → slice_index v.items i ≡ code_within (N.net level) (wave + 1) i) }
+    ensures settled { IfOk result (λ v. All (IsSettled (N.net level)) blocks.items
+        → (i : ℕ) → i < cut.now.size → HasCode (N.net level) i (slice_index v.items i)) }
+    ensures deep { OnOk result (All (IsSettled (N.net level)) blocks.items → IsTooDeep (N.net level) → ⊥) }
+{
+    let places = walk(level, wave, cut, &blocks)?;
+    if let Some(number) = first_absent(cut, &places) {
+        return Err(GatherFault::Missing(number));
+    }
+    let codes = taken_in_order(alloc, level, wave, cut, blocks, &places)?;
+    Ok(codes)
+}

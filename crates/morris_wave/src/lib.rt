@@ -15,6 +15,7 @@ mod gathering;
 mod gathering_tests;
 mod listed;
 mod network;
+mod nodes;
 mod reading;
 #[cfg(test)]
 mod samples;
@@ -26,6 +27,7 @@ mod stretch;
 pub use delivery::{scatter, scatter_reusing};
 pub use division::{Blocks, Cut};
 pub use engine::{AdvanceFault, Applied, Batch, Block, Fresh, Tallies};
-pub use gathering::{GatherFault, gather};
+pub use gathering::{GatherFault, gather, gather_from};
 pub use network::{Exits, Graph, Levels};
+pub use nodes::NodeList;
 pub use solver::{SweepFault, sweep};

@@ -8,6 +8,7 @@ ghost use Rattle.morris_wave.specs.Keeping.{Takes, ComesDue, UsedUpTo, left_of, 
 
 use crate::falls;
 use crate::listed::Listed;
+use crate::nodes::NodeList;
 
 // Nodes in their order, from the first one of the entries on. For each there is its entry and a counter of
 // the results that it waits for; its exits count as one of these until all of them are won. A node whose
@@ -28,10 +29,10 @@ pub(crate) struct Stretch {
 
 impl Stretch {
     // Takes in nodes that lead to fresh nodes of the wave, each as often as it leads there.
-    pub(crate) fn take_in(&mut self, nodes: &[u64])
-        requires inside { All (λ i. (self.old.entries.first ≤ i) × (i < self.old.entries.first + vec_len self.old.entries.entries.codes)) nodes.now }
+    pub(crate) fn take_in<L: NodeList>(&mut self, nodes: &L)
+        requires inside { All (λ i. (self.old.entries.first ≤ i) × (i < self.old.entries.first + vec_len self.old.entries.entries.codes)) (L.items nodes.now) }
         requires enough { is_odd self.old.entries.wave ≡ false → (k : ℕ) → k < vec_len self.old.entries.entries.codes
-            → times (self.old.entries.first + k) nodes.now ≤ left_of (slice_index self.old.counters.items k) }
+            → times (self.old.entries.first + k) (L.items nodes.now) ≤ left_of (slice_index self.old.counters.items k) }
         ensures len { vec_len self.new.entries.entries.codes ≡ vec_len self.old.entries.entries.codes }
         ensures first { self.new.entries.first ≡ self.old.entries.first }
         ensures wave { self.new.entries.wave ≡ self.old.entries.wave }
@@ -41,7 +42,7 @@ impl Stretch {
         ensures due { self.new.due ≡ self.old.due }
         ensures last_due { self.new.last_due ≡ self.old.last_due }
         ensures small { (k : ℕ) → k < length self.new.counters.items → slice_index self.new.counters.items k < 65536 }
-        ensures taken { Takes self.old.entries.wave self.old.entries.first nodes.now
+        ensures taken { Takes self.old.entries.wave self.old.entries.first (L.items nodes.now)
             self.old.entries.entries.codes.items self.new.entries.entries.codes.items self.old.counters.items self.new.counters.items }
     {
         falls::take_in(&mut self.entries, &mut self.counters, nodes);

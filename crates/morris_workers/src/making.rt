@@ -12,7 +12,8 @@ use std::thread;
 use std::thread::Threads;
 
 // The blocks of these numbers. An exit that comes due after the last wave shows at once that the graph is
-// too deep.
+// too deep. The last block is made first: the codes are gathered from the first block on, and what was made
+// last and is let go first goes back to the system.
 fn make_share<G: Graph>(
     alloc: Global,
     graph: &G,
@@ -25,13 +26,14 @@ fn make_share<G: Graph>(
     ensures { IsShare (G.Name.net (G.level graph.now)) cut.now.blocks numbers.start numbers.end result }
 {
     let mut made = Vec::with_capacity(alloc, (numbers.end - numbers.start) as usize)?;
-    for number in numbers.start..numbers.end {
+    for number in (numbers.start..numbers.end).rev() {
         let block = Block::make(alloc, graph, cut, number)?;
         if block.last_due() > u32::from(LAST_WAVE) {
             return Err(SolveFault::TooDeep);
         }
         made.push(block).map_err(AllocError::from)?;
     }
+    made.reverse();
     Ok(made)
 }
 

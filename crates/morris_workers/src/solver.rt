@@ -13,7 +13,7 @@ use crate::making::make_blocks;
 use crate::survey::survey;
 use crate::wave::run_wave;
 use crate::yard::Yard;
-use morris_wave::{Block, Cut, Graph, Levels, gather};
+use morris_wave::{Block, Cut, Graph, Levels, gather_from};
 use std::alloc::Global;
 use std::sync::Wait;
 use std::thread::Threads;
@@ -92,18 +92,18 @@ fn codes_of<N: Levels>(
     level: u64,
     wave: u16,
     cut: &Cut,
-    blocks: &[Block<N>],
+    blocks: Vec<Block<N>>,
 ) -> Result<Vec<u16>, SolveFault>
-    requires { length blocks.now ≡ cut.now.blocks }
+    requires { vec_len blocks ≡ cut.now.blocks }
     ensures len { IfOk result (λ v. vec_len v ≡ cut.now.size) }
     ensures codes { IfOk result (λ v. (i : ℕ) → i < cut.now.size → HasCode (N.net level) i (slice_index v.items i)) }
     ensures not_too_deep { OnOk result (¬ IsTooDeep (N.net level)) }
     ensures fault { IfErr result (Tells (N.net level) cut.now.blocks) }
 {
-    if let Some(place) = first_unsettled(blocks) {
+    if let Some(place) = first_unsettled(&blocks) {
         return Err(SolveFault::Missing(place as u64));
     }
-    Ok(gather(alloc, level, wave, cut, blocks)?)
+    Ok(gather_from(alloc, level, wave, cut, blocks)?)
 }
 
 /// The code of each node of a graph: 0 for a draw, otherwise one more than its depth.
@@ -118,7 +118,8 @@ fn codes_of<N: Levels>(
 /// looks at the graph.
 ///
 /// The blocks take what [`Block`] says, each worker the fresh nodes and the batches of one block at a time,
-/// and room that it keeps for the next block's, at most 32 MB; at the end the answer takes 2 bytes a node.
+/// of 4 bytes for each node that leads to a fresh one, and room that it keeps for the next block's, at most
+/// 16 MB. At the end the answer takes 2 bytes a node, while the blocks are let go one after the other.
 ///
 /// # Errors
 ///
@@ -157,5 +158,5 @@ pub fn solve<G: Graph + Send + Sync, A: Gate, R: Threads + Wait + Sync>(
     let made = make_blocks(rt, alloc, graph, &cut, &shares)?;
     let yard = Yard::new(alloc, made)?;
     let wave = run_waves(rt, alloc, graph, gate, &yard, &shares)?;
-    codes_of(alloc, graph.level(), wave, &cut, &yard.into_blocks())
+    codes_of(alloc, graph.level(), wave, &cut, yard.into_blocks())
 }

@@ -7,15 +7,18 @@ ghost use Rattle.morris_workers.specs.Tickets.{IsSeatOf, IsNewSeatOf, limit_of, 
 use crate::gate::{Gate, Turn};
 use crate::tickets::{TicketSeat, Tickets};
 use crate::yard::Yard;
-use morris_wave::{Batch, Block, Cut, Fresh, Graph, Levels, scatter_reusing};
+use morris_wave::{Batch, Block, Cut, Fresh, Graph, Levels, NodeList, scatter_reusing};
 use std::alloc::{AllocError, Global};
 use std::ops::Range;
 use std::sync::Wait;
 use std::thread;
 use std::thread::Threads;
 
-// How many places of lists a worker keeps from one block to the next: 32 MB.
-const KEPT_ROOM: usize = 4194304;
+// How many bytes of lists a worker keeps from one block to the next: 16 MB.
+const KEPT_ROOM: usize = 16777216;
+
+// 2^32: where no graph has more nodes, each is a number of 32 bits.
+const SHORT: u64 = 4294967296;
 
 // What one worker gets: its number, and a seat to draw from.
 #[derive(Drop)]
@@ -62,14 +65,14 @@ fn bring<N: Levels>(block: &mut Block<N>, wave: u16)
 
 // Puts the lists of batches that were sent aside for those of the next block, as long as they have no more
 // room together than a worker keeps.
-fn keep_room<N: Levels>(
-    mut batches: Vec<Batch<N>>,
-    spare: &mut Vec<Vec<u64>>,
+fn keep_room<N: Levels, L: NodeList>(
+    mut batches: Vec<Batch<N, L>>,
+    spare: &mut Vec<L>,
 ) -> Result<(), AllocError> {
     let mut room = 0usize;
     while let Some(batch) = batches.pop() {
         let list = batch.into_nodes();
-        room = room.saturating_add(list.capacity());
+        room = room.saturating_add(list.room());
         if room <= KEPT_ROOM {
             spare.push(list)?;
         }
@@ -104,7 +107,7 @@ impl<'a, G: Graph, A: Gate, R: Wait> Site<'a, G, A, R> {
     }
 
     // Applies a batch to its target.
-    fn apply(&self, target: usize, batch: &Batch<G::Name>)
+    fn apply<L: NodeList>(&self, target: usize, batch: &Batch<G::Name, L>)
         requires { target < self.now.yard.now }
     {
         let mut block = self.yard.lock(self.rt, target);
@@ -114,7 +117,7 @@ impl<'a, G: Graph, A: Gate, R: Wait> Site<'a, G, A, R> {
     }
 
     // Applies the batches of these places to the blocks there.
-    fn apply_all(&self, batches: &[Batch<G::Name>], targets: Range<usize>)
+    fn apply_all<L: NodeList>(&self, batches: &[Batch<G::Name, L>], targets: Range<usize>)
         requires { targets.end ≤ self.now.yard.now }
     {
         for target in targets.start..targets.end {
@@ -126,7 +129,13 @@ impl<'a, G: Graph, A: Gate, R: Wait> Site<'a, G, A, R> {
 
     // Sends what a block found to all blocks, one after the other. It begins at the worker's share, so that
     // workers don't queue at one block.
-    fn send(&self, worker: u64, source: usize, spare: &mut Vec<Vec<u64>>) -> Result<(), AllocError>
+    fn send<L: NodeList>(
+        &self,
+        worker: u64,
+        source: usize,
+        spare: &mut Vec<L>,
+    ) -> Result<(), AllocError>
+        requires small { (G.Name.net (G.level self.now.graph.now)).size ≤ L.limit }
         requires worker { worker < self.now.shares.now.blocks }
         requires source { source < self.now.yard.now }
     {
@@ -141,19 +150,20 @@ impl<'a, G: Graph, A: Gate, R: Wait> Site<'a, G, A, R> {
     }
 
     // Draws and sends until no number is left or the gate says to leave.
-    fn draw_all(
+    fn draw_all<L: NodeList>(
         &self,
         tickets: &Tickets,
         worker: u64,
         seat: &mut TicketSeat,
     ) -> Result<(), AllocError>
+        requires small { (G.Name.net (G.level self.now.graph.now)).size ≤ L.limit }
         requires worker { worker < self.now.shares.now.blocks }
         requires limit { limit_of tickets.now ≡ self.now.yard.now }
         requires seat { IsSeatOf tickets.now seat.old }
         requires ready { has_ended seat.old ≡ false }
         ensures { IsSeatOf tickets.now seat.new }
     {
-        let mut spare = Vec::new(self.alloc);
+        let mut spare: Vec<L> = Vec::new(self.alloc);
         // No worker draws more numbers than there are blocks, and then finds once that none is left.
         for _ in 0..=self.yard.count() {
             let Some(number) = tickets.draw(seat) else {
@@ -176,7 +186,11 @@ impl<'a, G: Graph, A: Gate, R: Wait> Site<'a, G, A, R> {
     {
         let Job { worker, mut seat } = job;
         self.advance(worker);
-        let sent = self.draw_all(tickets, worker, &mut seat);
+        let sent = if self.graph.size() <= SHORT {
+            self.draw_all::<Vec<u32>>(tickets, worker, &mut seat)
+        } else {
+            self.draw_all::<Vec<u64>>(tickets, worker, &mut seat)
+        };
         (seat, sent)
     }
 }

@@ -5,5 +5,5 @@ use Rattle.morris_wave.proofs.delivery.behind.Given as goal
 abbrev pub invariant-loop-node : goal.invariant-loop-node
 invariant-loop-node g l =
     (length l.lists.items ≡ l.cut.blocks)
-    × AreSorted l.cut (contents l.lists.items)
-    × LeadTo (g.G.Name.Levels.net (g.G.Graph.level l.graph)) l.cut (contents l.lists.items) (take l.node-index l.nodes)
+    × AreSorted l.cut (contents g.L.NodeList.items l.lists.items)
+    × LeadTo (g.G.Name.Levels.net (g.G.Graph.level l.graph)) l.cut (contents g.L.NodeList.items l.lists.items) (take l.node-index l.nodes)

@@ -6,16 +6,16 @@ use Rattle.morris_wave.proofs.Dealing.{deal_sorted, deal_more}
 use Rattle.morris_wave.proofs.delivery.deal.Goals as goal
 
 pub loop-node-preserved : goal.loop-node-preserved
-loop-node-preserved c =
+loop-node-preserved g c =
     let inv = c.loop-node.invariant in
     let cut = c.args.finder.now.cut in
     let nodes = c.args.nodes.now in
     let node = slice_index nodes c.loop-node.node-index in
-    let old = contents c.args.lists.now.items in
-    let mid = contents c.loop-node.lists.items in
-    let put : contents c.put.new.lists.items ≡ set mid (block_of cut node) (list_at mid (block_of cut node) ++ node ∷ []) =
+    let old = contents g.L.NodeList.items c.args.lists.now.items in
+    let mid = contents g.L.NodeList.items c.loop-node.lists.items in
+    let put : contents g.L.NodeList.items c.put.new.lists.items ≡ set mid (block_of cut node) (list_at mid (block_of cut node) ++ node ∷ []) =
     c.in_ok-put.ensures.put ∙ ap (λ (t : ℕ). set mid t (list_at mid t ++ node ∷ [])) c.find.ensures.value in
-    let many : length mid ≡ length c.loop-node.lists.items = length-map c.loop-node.lists.items (λ v. v.items) in
+    let many : length mid ≡ length c.loop-node.lists.items = length-map c.loop-node.lists.items g.L.NodeList.items in
     let within : block_of cut node < length mid =
     omega (arith, c.find.ensures.value, c.find.ensures.within, many, inv.0, c.requires.count, c.args.lists.now.ok.0) in
     let holds = subst (λ (b : ℕ). IsIn cut b node) c.find.ensures.value c.find.ensures.holds in (

@@ -3,7 +3,7 @@ use Rattle.morris_wave.specs.Delivery.{contents, AreSorted, Deals}
 use Rattle.morris_wave.proofs.delivery.deal.Given as goal
 
 abbrev pub invariant-loop-node : goal.invariant-loop-node
-invariant-loop-node l =
+invariant-loop-node g l =
     (length l.lists.items ≡ length l.initial.lists.items)
-    × AreSorted l.finder.cut (contents l.lists.items)
-    × Deals l.finder.cut (contents l.initial.lists.items) (contents l.lists.items) (take l.node-index l.nodes)
+    × AreSorted l.finder.cut (contents g.L.NodeList.items l.lists.items)
+    × Deals l.finder.cut (contents g.L.NodeList.items l.initial.lists.items) (contents g.L.NodeList.items l.lists.items) (take l.node-index l.nodes)

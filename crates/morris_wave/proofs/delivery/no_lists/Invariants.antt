@@ -3,4 +3,4 @@ use Rattle.morris_wave.specs.Delivery.{contents, list_at}
 use Rattle.morris_wave.proofs.delivery.no_lists.Given as goal
 
 abbrev pub invariant-loop : goal.invariant-loop
-invariant-loop l = (length l.lists.items ≡ l.counter) × ((t : ℕ) → list_at (contents l.lists.items) t ≡ [])
+invariant-loop g l = (length l.lists.items ≡ l.counter) × ((t : ℕ) → list_at (contents g.L.NodeList.items l.lists.items) t ≡ [])

@@ -3,6 +3,6 @@ use Rattle.morris_wave.proofs.Dealing.{put_is}
 use Rattle.morris_wave.proofs.delivery.put.Goals as goal
 
 pub returns-clause-put : goal.returns-clause-put
-returns-clause-put c =
-    put_is c.args.lists.now.items c.args.target c.args.node c.index_mut-list.result.now c.push.new.self (omega (arith, c.requires, c.args.lists.now.ok.0)) c.index_mut-list.ensures.value
-    c.in_ok-push.ensures.items
+returns-clause-put g c =
+    put_is g.L.NodeList.items c.args.lists.now.items c.args.target c.args.node c.index_mut-list.result.now c.add.new.self (omega (arith, c.requires.target, c.args.lists.now.ok.0)) c.index_mut-list.ensures.value
+    c.in_ok-add.ensures

@@ -20,16 +20,16 @@ seal-requires-after_bounds g c κs within =
     let net = g.N.Levels.net inside.level in
     let lists = c.in_ok-lists.lists.items in
     let inv = c.loop-nodes.invariant in
-    let same : g.G.Graph.level c.args.graph.now ≡ inside.level = c.requires ∙ sym (ap (λ (t : FreshState). t.level) c.fresh.view_is) in
-    let lead : LeadTo net inside.cut (contents lists) inside.nodes.items =
-    subst (λ (l : ℕ). LeadTo (g.N.Levels.net l) inside.cut (contents lists) inside.nodes.items) same
-    (subst (λ (xs : List ℕ). LeadTo (g.N.Levels.net (g.G.Graph.level c.args.graph.now)) inside.cut (contents lists) xs) c.deref.ensures.value c.in_ok-lists.ensures.behind) in
+    let same : g.G.Graph.level c.args.graph.now ≡ inside.level = c.requires.level ∙ sym (ap (λ (t : FreshState). t.level) c.fresh.view_is) in
+    let lead : LeadTo net inside.cut (contents g.L.NodeList.items lists) inside.nodes.items =
+    subst (λ (l : ℕ). LeadTo (g.N.Levels.net l) inside.cut (contents g.L.NodeList.items lists) inside.nodes.items) same
+    (subst (λ (xs : List ℕ). LeadTo (g.N.Levels.net (g.G.Graph.level c.args.graph.now)) inside.cut (contents g.L.NodeList.items lists) xs) c.deref.ensures.value c.in_ok-lists.ensures.behind) in
     let split : lists ≡ c.loop-nodes.yielded ++ c.in-Some.nodes ∷ c.next.new.self.rest.items =
     sym c.into_iter-nodes-iterator.ensures.into_iter_gives.0
-    ∙ (inv.1 ∙ ap (λ (xs : List (Vec ℕ Global)). c.loop-nodes.yielded ++ xs) c.in-Some.ensures.steps.0) in
+    ∙ (inv.1 ∙ ap (λ (xs : List _). c.loop-nodes.yielded ++ xs) c.in-Some.ensures.steps.0) in
     let target : c.len-target.result ≡ length c.loop-nodes.yielded = omega (arith, c.len-target.ensures, c.loop-nodes.batches.ok.0, inv.0) in
-    subst (λ (t : FreshState). BatchHolds (g.N.Levels.net t.level) (batch_of t c.len-target.result c.in-Some.nodes.items)) c.fresh.view_is
-    (next_batch net (g.N.Levels.lawful inside.level) f c.fresh.invariant lists c.loop-nodes.yielded c.next.new.self.rest.items c.in-Some.nodes c.len-target.result
+    subst (λ (t : FreshState). BatchHolds (g.N.Levels.net t.level) (batch_of t c.len-target.result (g.L.NodeList.items c.in-Some.nodes))) c.fresh.view_is
+    (next_batch g.L.NodeList.items net (g.N.Levels.lawful inside.level) f c.fresh.invariant lists c.loop-nodes.yielded c.next.new.self.rest.items c.in-Some.nodes c.len-target.result
     (omega (arith, c.in_ok-lists.ensures.count, c.in_ok-lists.lists.ok.0)) split target c.in_ok-lists.ensures.sorted lead)
 
 pub loop-nodes-preserved : goal.loop-nodes-preserved
@@ -41,10 +41,10 @@ loop-nodes-preserved g c =
     let target : c.len-target.result ≡ length batches = omega (arith, c.len-target.ensures, c.loop-nodes.batches.ok.0) in
     let batch : IsBatchOf net c.args.fresh.now (length batches) c.seal.result =
     subst (λ (t : ℕ). IsBatchOf net c.args.fresh.now t c.seal.result) target
-    (sealed net c.args.fresh.now c.len-target.result c.in-Some.nodes.items c.seal.result c.seal.ensures.made c.seal.ensures.holds) in (
+    (sealed net c.args.fresh.now c.len-target.result (g.L.NodeList.items c.in-Some.nodes) c.seal.result c.seal.ensures.made c.seal.ensures.holds) in (
       omega (arith, ap length pushed, length_push batches c.seal.result, length_push c.loop-nodes.yielded c.in-Some.nodes, inv.0),
       inv.1
-          ∙ (ap (λ (xs : List (Vec ℕ Global)). c.loop-nodes.yielded ++ xs) c.in-Some.ensures.steps.0
+          ∙ (ap (λ (xs : List _). c.loop-nodes.yielded ++ xs) c.in-Some.ensures.steps.0
           ∙ sym (append_assoc c.loop-nodes.yielded (c.in-Some.nodes ∷ []) c.next.new.self.rest.items)),
       subst (λ (bs : List BatchState). (t : ℕ) (d : BatchState) → t < length bs → IsBatchOf net c.args.fresh.now t (slice_index_or bs t d)) (sym pushed)
           (batches_more net c.args.fresh.now batches c.seal.result inv.2 batch),

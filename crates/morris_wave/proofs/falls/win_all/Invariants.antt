@@ -2,12 +2,12 @@ use Rattle.std.proofs.Common.{◌≡◌, ◌+◌, length, take}
 use Rattle.morris_wave.specs.Solving.{Marks, among}
 use Rattle.morris_wave.proofs.falls.win_all.Given as goal
 
-abbrev pub invariant-loop-node : goal.invariant-loop-node
-invariant-loop-node l =
+abbrev pub invariant-loop-at : goal.invariant-loop-at
+invariant-loop-at g l =
     (length l.entries.entries.codes.items ≡ length l.initial.entries.entries.codes.items)
     × (l.entries.first ≡ l.initial.entries.first)
     × (l.entries.wave ≡ l.initial.entries.wave)
-    × Marks l.initial.entries.entries.codes.items l.entries.entries.codes.items (λ k. among (take l.node-index l.nodes) (l.initial.entries.first + k)) (l.initial.entries.wave + 1)
+    × Marks l.initial.entries.entries.codes.items l.entries.entries.codes.items (λ k. among (take l.at (g.L.NodeList.items l.nodes)) (l.initial.entries.first + k)) (l.initial.entries.wave + 1)
     × (l.entries.before ≡ l.initial.entries.before)
     × (l.entries.here ≡ l.initial.entries.here)
     × (take l.initial.entries.here l.entries.decided.items ≡ take l.initial.entries.here l.initial.entries.decided.items)

@@ -43,11 +43,11 @@ take_in-requires-clause-enough g c =
     let read : node ≡ slice_index now.entries.decided.items c.loop-place.place =
     get_or_read now.entries.decided.items c.loop-place.place node (omega (arith, c.loop-place-test.true, inv.1, now.entries.ranked.within)) c.index.ensures 0 in
     let is : node ≡ slice_index fresh i = read ∙ fresh_at e.decided.items now.entries.decided.items e.before e.here c.loop-place.place inv.2 inv.6 c.loop-place-test.true in
-    let behind : (k : ℕ) → k < net.size → times k c.deref.result.now ≡ times node (net.quiet k) = λ k l. ap (times k) c.deref.ensures.value ∙ c.in_ok-back.ensures.times k l in
+    let behind : (k : ℕ) → k < net.size → times k c.back.new.out.items ≡ times node (net.quiet k) = c.in_ok-back.ensures.times in
     λ even k l.
     let even_here : is_odd e.wave ≡ false = ap is_odd (sym inv.4) ∙ even in
-    subst (λ (f : ℕ). times (f + k) c.deref.result.now ≤ left_of (slice_index now.counters.items k)) (sym inv.3)
-    (spread_enough net e.wave fresh listed i node within is c.deref.result.now behind law 0 codes.items now.counters.items now.due.items now.last_due inv.7 even_here k (omega (arith, l, codes.ok.0)))
+    subst (λ (f : ℕ). times (f + k) c.back.new.out.items ≤ left_of (slice_index now.counters.items k)) (sym inv.3)
+    (spread_enough net e.wave fresh listed i node within is c.back.new.out.items behind law 0 codes.items now.counters.items now.due.items now.last_due inv.7 even_here k (omega (arith, l, codes.ok.0)))
 
 pub loop-place-preserved : goal.loop-place-preserved
 loop-place-preserved g c =
@@ -68,14 +68,14 @@ loop-place-preserved g c =
     let read : node ≡ slice_index now.entries.decided.items c.loop-place.place =
     get_or_read now.entries.decided.items c.loop-place.place node (omega (arith, c.loop-place-test.true, inv.1, now.entries.ranked.within)) c.index.ensures 0 in
     let is : node ≡ slice_index fresh i = read ∙ fresh_at e.decided.items now.entries.decided.items e.before e.here c.loop-place.place inv.2 inv.6 c.loop-place-test.true in
-    let behind : (k : ℕ) → k < net.size → times k c.deref.result.now ≡ times node (net.quiet k) = λ k l. ap (times k) c.deref.ensures.value ∙ c.in_ok-back.ensures.times k l in
+    let behind : (k : ℕ) → k < net.size → times k c.back.new.out.items ≡ times node (net.quiet k) = c.in_ok-back.ensures.times in
     let made = c.take_in.ensures in
     let new = c.take_in.new.self in
     let codes' = new.entries.entries.codes in
-    let takes : Takes e.wave 0 c.deref.result.now codes.items codes'.items now.counters.items new.counters.items =
-    subst (λ (w : ℕ). Takes w 0 c.deref.result.now codes.items codes'.items now.counters.items new.counters.items) inv.4
-    (subst (λ (f : ℕ). Takes now.entries.wave f c.deref.result.now codes.items codes'.items now.counters.items new.counters.items) inv.3 made.taken) in
-    let more = spread_more net e.wave fresh listed i node within is c.deref.result.now behind law 0 codes.items now.counters.items now.due.items now.last_due inv.7
+    let takes : Takes e.wave 0 c.back.new.out.items codes.items codes'.items now.counters.items new.counters.items =
+    subst (λ (w : ℕ). Takes w 0 c.back.new.out.items codes.items codes'.items now.counters.items new.counters.items) inv.4
+    (subst (λ (f : ℕ). Takes now.entries.wave f c.back.new.out.items codes.items codes'.items now.counters.items new.counters.items) inv.3 made.taken) in
+    let more = spread_more net e.wave fresh listed i node within is c.back.new.out.items behind law 0 codes.items now.counters.items now.due.items now.last_due inv.7
     codes'.items new.counters.items
     (omega (arith, made.len, codes.ok.0, codes'.ok.0))
     (omega (arith, new.counted, now.counted, made.len, new.counters.ok.0, now.counters.ok.0)) made.small takes in

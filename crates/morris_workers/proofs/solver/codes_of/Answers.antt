@@ -1,9 +1,14 @@
+use Rattle.std.proofs.Common.{◌<◌, List, length, subst, arith}
+use Rattle.std.specs.List.{All}
 use Rattle.std.proofs.lemmas.Result.{err_from_is_err_and}
+use Rattle.morris_wave.specs.Blocks.{BlockState}
 use Rattle.morris_workers.proofs.Faults.{gather_tells}
 use Rattle.morris_workers.proofs.solver.codes_of.Goals as goal
 
-pub returns-in_err-gather-clause-fault : goal.returns-in_err-gather-clause-fault
-returns-in_err-gather-clause-fault g c =
+pub returns-in_err-gather_from-clause-fault : goal.returns-in_err-gather_from-clause-fault
+returns-in_err-gather_from-clause-fault g c =
     let p = err_from_is_err_and c.from_residual.result c.from_residual.ensures.1 in
+    let numbers = subst (λ (bs : List BlockState). All (λ s. s.number < length bs) bs) c.deref.ensures.value c.in_default.ensures.numbers in
     rw (p.1, p.2)
-    (gather_tells (g.N.Levels.net c.args.level) c.args.level c.args.wave c.args.cut.now c.args.blocks.now c.in_err-gather.field-0.0 c.requires c.in_default.ensures.numbers c.in_err-gather.ensures.fault)
+    (gather_tells (g.N.Levels.net c.args.level) c.args.level c.args.wave c.args.cut.now c.args.blocks.items c.in_err-gather_from.field-0.0 (omega (arith, c.requires, c.args.blocks.ok.0)) numbers
+    c.in_err-gather_from.ensures.fault)

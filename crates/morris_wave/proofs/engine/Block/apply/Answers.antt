@@ -17,15 +17,14 @@ take_in-requires-clause-inside g c =
     let codes = kept.entries.entries.codes in
     let s : BlockState = record { level = inside.level; cut = inside.cut; number = inside.number; wave = kept.entries.wave; applied = inside.applied.items } in
     let batch = c.batch.inside in
-    let b : BatchState = record { level = batch.level; cut = batch.cut; wave = batch.wave; source = batch.source; target = batch.target; nodes = batch.nodes.items } in
+    let b : BatchState = record { level = batch.level; cut = batch.cut; wave = batch.wave; source = batch.source; target = batch.target; nodes = g.L.NodeList.items batch.nodes } in
     let hb : BatchHolds net b = subst (λ (l : ℕ). BatchHolds (g.N.Levels.net l) b) c.if-batch-self.false c.batch.invariant in
     let cut : batch.cut ≡ inside.cut = same_parts batch.cut inside.cut (sym c.is_same.ensures ∙ c.if-not-is_same.false) in
     let source : batch.source < length inside.applied.items = omega (arith, hb.source, c.self.invariant.sources, ap (λ p. p.blocks) cut) in
     let open_source : get_or inside.applied.items batch.source false ≡ false =
     sym {A = Bool} (get_or_read inside.applied.items batch.source c.index.result.now source c.index.ensures false) ∙ c.if-index.false in
     λ p d l.
-    let nodes : c.deref.result.now ≡ batch.nodes.items = c.deref.ensures.value in
-    let at = subst (λ (xs : List ℕ). All (λ i. (kept.entries.first ≤ i) × (i < kept.entries.first + length codes.items)) xs) (sym nodes)
+    let at =
     (batch_inside net law s kept.entries.first codes.items kept.counters.items kept.due.items kept.last_due c.self.invariant b hb cut c.if-batch-self-2.false c.if-batch-self-3.false open_source) p d l in
     (at.0, omega (arith, at.1, codes.ok.0))
 
@@ -38,14 +37,13 @@ take_in-requires-clause-enough g c =
     let codes = kept.entries.entries.codes in
     let s : BlockState = record { level = inside.level; cut = inside.cut; number = inside.number; wave = kept.entries.wave; applied = inside.applied.items } in
     let batch = c.batch.inside in
-    let b : BatchState = record { level = batch.level; cut = batch.cut; wave = batch.wave; source = batch.source; target = batch.target; nodes = batch.nodes.items } in
+    let b : BatchState = record { level = batch.level; cut = batch.cut; wave = batch.wave; source = batch.source; target = batch.target; nodes = g.L.NodeList.items batch.nodes } in
     let hb : BatchHolds net b = subst (λ (l : ℕ). BatchHolds (g.N.Levels.net l) b) c.if-batch-self.false c.batch.invariant in
     let cut : batch.cut ≡ inside.cut = same_parts batch.cut inside.cut (sym c.is_same.ensures ∙ c.if-not-is_same.false) in
     let source : batch.source < length inside.applied.items = omega (arith, hb.source, c.self.invariant.sources, ap (λ p. p.blocks) cut) in
     let open_source : get_or inside.applied.items batch.source false ≡ false =
     sym {A = Bool} (get_or_read inside.applied.items batch.source c.index.result.now source c.index.ensures false) ∙ c.if-index.false in
     λ even k l.
-    subst (λ (xs : List ℕ). times (kept.entries.first + k) xs ≤ left_of (get_or kept.counters.items k 0)) (sym c.deref.ensures.value)
     (apply_enough net law s kept.entries.first codes.items kept.counters.items kept.due.items kept.last_due c.self.invariant b hb cut c.if-batch-self-2.false c.if-batch-self-3.false open_source even k (omega (arith, l, codes.ok.0)))
 
 pub invariant_of-self : goal.invariant_of-self
@@ -57,7 +55,7 @@ invariant_of-self g c =
     let codes = kept.entries.entries.codes in
     let s : BlockState = record { level = inside.level; cut = inside.cut; number = inside.number; wave = kept.entries.wave; applied = inside.applied.items } in
     let batch = c.batch.inside in
-    let b : BatchState = record { level = batch.level; cut = batch.cut; wave = batch.wave; source = batch.source; target = batch.target; nodes = batch.nodes.items } in
+    let b : BatchState = record { level = batch.level; cut = batch.cut; wave = batch.wave; source = batch.source; target = batch.target; nodes = g.L.NodeList.items batch.nodes } in
     let hb : BatchHolds net b = subst (λ (l : ℕ). BatchHolds (g.N.Levels.net l) b) c.if-batch-self.false c.batch.invariant in
     let cut : batch.cut ≡ inside.cut = same_parts batch.cut inside.cut (sym c.is_same.ensures ∙ c.if-not-is_same.false) in
     let source : batch.source < length inside.applied.items = omega (arith, hb.source, c.self.invariant.sources, ap (λ p. p.blocks) cut) in
@@ -66,7 +64,7 @@ invariant_of-self g c =
     let after = c.take_in.new.self in
     let made = c.take_in.ensures in
     let new = after.entries.entries.codes in
-    let takes = subst (λ (ns : List ℕ). Takes kept.entries.wave kept.entries.first ns codes.items new.items kept.counters.items after.counters.items) c.deref.ensures.value made.taken in
+    let takes = made.taken in
     let holds = apply_holds net law s kept.entries.first codes.items kept.counters.items kept.due.items kept.last_due c.self.invariant b hb cut c.if-batch-self-2.false c.if-batch-self-3.false open_source
     new.items after.counters.items
     (omega (arith, made.len, new.ok.0, codes.ok.0))

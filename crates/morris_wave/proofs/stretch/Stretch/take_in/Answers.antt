@@ -3,7 +3,7 @@ use Rattle.morris_wave.specs.Keeping.{UsedUpTo}
 use Rattle.morris_wave.proofs.stretch.Stretch.take_in.Goals as goal
 
 pub invariant_of-self : goal.invariant_of-self
-invariant_of-self c =
+invariant_of-self g c =
     let s = c.args.self.now in
     let made = c.take_in.ensures in
     record {
