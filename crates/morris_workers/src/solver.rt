@@ -119,7 +119,7 @@ fn codes_of<N: Levels>(
 ///
 /// The blocks take what [`Block`] says, each worker the fresh nodes and the batches of one block at a time,
 /// of 4 bytes for each node that leads to a fresh one, and room that it keeps for the next block's, at most
-/// 16 MB. At the end the answer takes 2 bytes a node, while the blocks are let go one after the other.
+/// 4 MB. At the end the answer takes 2 bytes a node, while the blocks are let go one after the other.
 ///
 /// # Errors
 ///

@@ -14,8 +14,8 @@ use std::sync::Wait;
 use std::thread;
 use std::thread::Threads;
 
-// How many bytes of lists a worker keeps from one block to the next: 16 MB.
-const KEPT_ROOM: usize = 16777216;
+// How many bytes of lists a worker keeps from one block to the next: 4 MB.
+const KEPT_ROOM: usize = 4194304;
 
 // 2^32: where no graph has more nodes, each is a number of 32 bits.
 const SHORT: u64 = 4294967296;
