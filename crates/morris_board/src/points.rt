@@ -32,6 +32,13 @@ impl Points {
         Points { mask }
     }
 
+    /// The mask of the set: bit `p` is set where the set has point `p`.
+    pub fn mask(self) -> u32
+        ensures { result ≡ self }
+    {
+        self.mask
+    }
+
     /// Whether the set has `point`.
     pub fn has(self, point: u8) -> bool
         requires { point < 32 }

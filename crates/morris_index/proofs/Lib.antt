@@ -11,3 +11,6 @@ pub mod PairLaws
 pub mod MoveLaws
 pub mod BelowLaws
 pub mod ResultLaws
+pub mod OrderLaws
+pub mod ClassLaws
+pub mod KeepLaws

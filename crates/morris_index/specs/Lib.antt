@@ -3,3 +3,4 @@ pub mod Numbering
 pub mod Pairs
 pub mod Sums
 pub mod Moves
+pub mod Classes

@@ -3,6 +3,9 @@
 
 pub mod below;
 mod binomials;
+#[cfg(test)]
+mod class_tests;
+pub mod classes;
 pub mod faults;
 mod halves;
 pub mod pair;

@@ -1,0 +1,226 @@
+-- What is kept of the sets of a number of points, set by set in the order of their ranks.
+use Rattle.std.proofs.Common.{◌≡◌, ℕ, suc, ◌+◌, ◌-◌, ◌^◌, ◌<◌, ◌≤◌, true, false, List, [], ◌∷◌, ◌++◌, length, get_or, refl, sym, ap, ◌∙◌, inl, inr, subst, arith, length-append}
+use Rattle.std.proofs.lemmas.Bool.{cases_eq, cases_lt}
+use Rattle.std.proofs.lemmas.List.{get_or_append_left, get_or_push}
+use Rattle.morris_board.specs.Boards.{Shape}
+use Rattle.morris_board.specs.Sets.{has, count_of}
+use Rattle.morris_board.specs.Symmetries.{HasSymmetries}
+use Rattle.morris_board.proofs.PointsLaws.{has-none}
+use Rattle.morris_index.specs.Binomials.{choose}
+use Rattle.morris_index.specs.Numbering.{number_outside, IsRanked}
+use Rattle.morris_index.specs.Classes.{symmetry_of, representative_of, is_representative, classes_below, class_of, class_count, IsKept, IsClasses}
+use Rattle.morris_index.proofs.BinomialTable.{choose_small}
+use Rattle.morris_index.proofs.IndexLaws.{number_outside-none, rank_outside-lt, rank_outside-same, within_24}
+use Rattle.morris_index.proofs.OrderLaws.{rank_at, rank_less, mask_less}
+use Rattle.morris_index.proofs.ClassLaws.{representative_within, representative_count, representative_le, class_of-representative, symmetry_within, representative_twice, test_parts, test_from, test_other, test_count, none_below, none_between, one_more, no_more, class_lt}
+
+-- ---- ranked sets
+
+-- a set of `count` points has its own rank
+pub ranked : (n count set : ℕ) → set < 2 ^ n → count_of set ≡ count → IsRanked n 0 count (rank_at set) set
+ranked n count set within counted = record { within = within; apart = λ p h. has-none p; counted = counted; ranked = refl }
+
+module _ (n count : ℕ) (low : n ≤ 24) where
+  pub rank_lt : (set : ℕ) → set < 2 ^ n → count_of set ≡ count → rank_at set < choose n count
+  rank_lt set within counted =
+      omega (
+        arith,
+        rank_outside-lt n 0 (omega arith) set within (λ p h. has-none p),
+        ap (λ k. choose k (count_of set)) (number_outside-none n),
+        ap (choose n) counted,
+      )
+
+  module _ (r t : ℕ) (s u : ℕ) (hs : IsRanked n 0 count r s) (hu : IsRanked n 0 count t u) where
+    counts : count_of s ≡ count_of u
+    counts = hs.counted ∙ sym hu.counted
+
+    pub ranks_less : s < u → r < t
+    ranks_less less = omega (arith, hs.ranked, hu.ranked, rank_less n (omega arith) s u hs.within hu.within counts less)
+
+    pub masks_less : r < t → s < u
+    masks_less less =
+        let l : rank_at s < rank_at u = omega (arith, hs.ranked, hu.ranked) in
+        mask_less n (omega arith) s u hs.within hu.within counts l
+
+    pub ranks_same : r ≡ t → s ≡ u
+    ranks_same e = rank_outside-same n 0 (omega arith) s u hs.within hu.within hs.apart hu.apart counts (hs.ranked ∙ e ∙ sym hu.ranked)
+
+-- ---- one set more
+
+module _ (board : Shape) (n count : ℕ) (low : n ≤ 24) (points : board.points ≡ n) (y : HasSymmetries board) where
+  few : board.points ≤ 24
+  few = omega arith
+
+  on_board : (set : ℕ) → set < 2 ^ n → set < 2 ^ board.points
+  on_board set h = subst (λ k. set < 2 ^ k) (sym points) h
+
+  -- before the first set
+  pub kept-none : IsKept board n count 0 [] [] []
+  kept-none = record {
+    classes_len = refl;
+    symmetries_len = refl;
+    few = omega arith;
+    class = λ r s h. absurd (omega arith);
+    symmetry = λ r s h. absurd (omega arith);
+    listed = λ k h. absurd (omega arith);
+    whole = λ mask le f g. none_below board count mask (λ s less. elim (cases_eq (count_of s) count) [
+      | inl e ↦ absurd (omega (arith, f (rank_at s) s (ranked n count s (omega arith) e) less))
+      | inr d ↦ test_count board count s d
+    ]);
+  }
+
+  module _ (rank set : ℕ) (here : IsRanked n 0 count rank set) (classes symmetries representatives : List ℕ)
+      (before : IsKept board n count rank classes symmetries representatives) where
+    small : set < 2 ^ board.points
+    small = on_board set here.within
+
+    -- the number of a representative that is this set
+    below_is : classes_below board count set ≡ length representatives
+    below_is =
+        before.whole set (omega (arith, here.within)) (λ r s h less. ranks_less n count low r rank s set h here less)
+        (λ r s h less. masks_less n count low r rank s set h here less)
+
+    own_class : representative_of board set ≡ set → length representatives ≡ class_of board set
+    unfolding class_of
+    own_class own = sym (rw (own, here.counted) below_is)
+
+    -- the rank of the representative, where that is another set
+    abbrev other : ℕ
+    other = representative_of board set
+
+    pub other_within : other < 2 ^ n
+    other_within = subst (λ k. other < 2 ^ k) points (representative_within board few y set small)
+
+    pub other_ranked : IsRanked n 0 count (rank_at other) other
+    other_ranked = ranked n count other other_within (representative_count board few y set small ∙ here.counted)
+
+    pub other_rank : (other ≡ set → ⊥) → rank_at other < rank
+    other_rank d =
+        let le = representative_le board few y set small in
+        ranks_less n count low (rank_at other) rank other set other_ranked here (omega arith)
+
+    other_class : (other ≡ set → ⊥) → get_or classes (rank_at other) 0 ≡ class_of board set
+    other_class d = before.class (rank_at other) other (other_rank d) other_ranked ∙ class_of-representative board few y set small
+
+    -- the lists with the entry of this set at their end
+    entered : (f : ℕ → ℕ) (list : List ℕ) (x : ℕ) → length list ≡ rank → x ≡ f set
+        → ((r s : ℕ) → r < rank → IsRanked n 0 count r s → get_or list r 0 ≡ f s)
+        → (r s : ℕ) → r < rank + 1 → IsRanked n 0 count r s → get_or (list ++ x ∷ []) r 0 ≡ f s
+    entered f list x len is old r s less h = elim (cases_eq r rank) [
+      | inl e ↦ get_or_push list x 0 r (len ∙ sym e) ∙ is ∙ ap f (sym (ranks_same n count low r rank s set h here e))
+      | inr d ↦ get_or_append_left list (x ∷ []) 0 r (omega arith) ∙ old r s (omega arith) h
+    ]
+
+    -- no set between this one and the next
+    beyond : (mask : ℕ) → mask ≤ 2 ^ n
+        → ((r s : ℕ) → IsRanked n 0 count r s → s < mask → r < rank + 1)
+        → ((r s : ℕ) → IsRanked n 0 count r s → r < rank + 1 → s < mask)
+        → classes_below board count mask ≡ classes_below board count (suc set)
+    beyond mask le f g =
+        let less : set < mask = g rank set here (omega arith) in
+        let e : suc set + (mask - suc set) ≡ mask = omega arith in
+        ap (classes_below board count) (sym e)
+        ∙ none_between board count (suc set) (mask - suc set) (λ s above under. elim (cases_eq (count_of s) count) [
+          | inl counted ↦
+              let h : IsRanked n 0 count (rank_at s) s = ranked n count s (omega arith) counted in
+              let at : rank_at s < rank + 1 = f (rank_at s) s h (omega arith) in
+              absurd (omega (arith, ranks_less n count low rank (rank_at s) set s here h (omega arith)))
+          | inr d ↦ test_count board count s d
+        ])
+
+    module _ (symmetry : ℕ) (symmetry_is : symmetry ≡ symmetry_of board set) where
+      -- the set is a representative
+      pub kept-new : other ≡ set
+          → IsKept board n count (rank + 1) (classes ++ length representatives ∷ []) (symmetries ++ symmetry ∷ []) (representatives ++ set ∷ [])
+      kept-new own = record {
+        classes_len = omega (arith, before.classes_len, length-append classes (length representatives ∷ []));
+        symmetries_len = omega (arith, before.symmetries_len, length-append symmetries (symmetry ∷ []));
+        few = omega (arith, before.few, length-append representatives (set ∷ []));
+        class = entered (class_of board) classes (length representatives) before.classes_len (own_class own) before.class;
+        symmetry = entered (symmetry_of board) symmetries symmetry before.symmetries_len symmetry_is before.symmetry;
+        listed = λ k less. elim (cases_eq k (length representatives)) [
+          | inl e ↦
+              let at : get_or (representatives ++ set ∷ []) k 0 ≡ set = get_or_push representatives set 0 k (sym e) in
+              subst (λ s. (is_representative board count s ≡ true) × (s < 2 ^ n) × (classes_below board count s ≡ k)) (sym at)
+              (is_new own, here.within, below_is ∙ sym e)
+          | inr d ↦
+              let under : k < length representatives = omega (arith, length-append representatives (set ∷ [])) in
+              let at : get_or (representatives ++ set ∷ []) k 0 ≡ get_or representatives k 0 = get_or_append_left representatives (set ∷ []) 0 k under in
+              subst (λ s. (is_representative board count s ≡ true) × (s < 2 ^ n) × (classes_below board count s ≡ k)) (sym at) (before.listed k under)
+        ];
+        whole = λ mask le f g.
+            omega (arith, beyond mask le f g, one_more board count set (is_new own), below_is, length-append representatives (set ∷ []));
+      }
+        where
+          is_new : other ≡ set → is_representative board count set ≡ true
+          is_new own = test_from board count set own here.counted
+
+      -- it isn't: its class is that of its representative
+      pub kept-other : (other ≡ set → ⊥)
+          → IsKept board n count (rank + 1) (classes ++ get_or classes (rank_at other) 0 ∷ []) (symmetries ++ symmetry ∷ []) representatives
+      kept-other d = record {
+        classes_len = omega (arith, before.classes_len, length-append classes (get_or classes (rank_at other) 0 ∷ []));
+        symmetries_len = omega (arith, before.symmetries_len, length-append symmetries (symmetry ∷ []));
+        few = omega (arith, before.few);
+        class = entered (class_of board) classes (get_or classes (rank_at other) 0) before.classes_len (other_class d) before.class;
+        symmetry = entered (symmetry_of board) symmetries symmetry before.symmetries_len symmetry_is before.symmetry;
+        listed = before.listed;
+        whole = λ mask le f g. beyond mask le f g ∙ no_more board count set (test_other board count set d) ∙ below_is;
+      }
+
+  -- ---- all sets
+
+  module _ (classes symmetries representatives : List ℕ) (all : IsClasses board n count classes symmetries representatives) where
+    pub class_count-is : class_count board count ≡ length representatives
+    unfolding class_count
+    class_count-is =
+        ap (λ k. classes_below board count (2 ^ k)) points
+        ∙ all.kept.whole (2 ^ n) (omega arith) (λ r s h less. omega (arith, h.ranked, rank_lt n count low s h.within h.counted)) (λ r s h less. h.within)
+
+    pub classes_few : length representatives < 2 ^ 32
+    classes_few = omega (arith, all.few, all.kept.few, choose_small n count (omega arith) (omega (arith, all.few)))
+
+    module _ (set : ℕ) (within : set < 2 ^ n) (counted : count_of set ≡ count) where
+      here : IsRanked n 0 count (rank_at set) set
+      here = ranked n count set within counted
+
+      pub rank_in : rank_at set < choose n count
+      rank_in = rank_lt n count low set within counted
+
+      pub class_at : get_or classes (rank_at set) 0 ≡ class_of board set
+      class_at = all.kept.class (rank_at set) set rank_in here
+
+      pub symmetry_at : get_or symmetries (rank_at set) 0 ≡ symmetry_of board set
+      symmetry_at = all.kept.symmetry (rank_at set) set rank_in here
+
+      pub symmetry_lt : symmetry_of board set < board.symmetries
+      symmetry_lt = symmetry_within board few y set (on_board set within)
+
+      pub class_of-lt : class_of board set < class_count board count
+      unfolding class_of class_count
+      class_of-lt =
+          let small = on_board set within in
+          rw counted
+          (class_lt board count (representative_of board set) (2 ^ board.points)
+          (test_from board count (representative_of board set) (representative_twice board few y set small) (representative_count board few y set small ∙ counted))
+          (representative_within board few y set small))
+
+    module _ (class : ℕ) (low_class : class < class_count board count) where
+      abbrev found : ℕ
+      found = get_or representatives class 0
+
+      is_listed : (is_representative board count found ≡ true) × (found < 2 ^ n) × (classes_below board count found ≡ class)
+      is_listed = all.kept.listed class (omega (arith, class_count-is))
+
+      pub found_own : representative_of board found ≡ found
+      found_own = (test_parts board count found is_listed.0).0
+
+      pub found_count : count_of found ≡ count
+      found_count = (test_parts board count found is_listed.0).1
+
+      pub found_within : found < 2 ^ n
+      found_within = is_listed.1
+
+      pub found_class : class_of board found ≡ class
+      unfolding class_of
+      found_class = rw (found_own, found_count) is_listed.2

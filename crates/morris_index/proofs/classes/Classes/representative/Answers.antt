@@ -1,0 +1,67 @@
+use Rattle.std.proofs.Common.{◌≡◌, ◌<◌, ◌≤◌, ◌^◌, ◌∙◌, ℕ, length, get_or, sym, ap, subst, arith}
+use Rattle.morris_board.specs.Sets.{count_of}
+use Rattle.morris_index.specs.Classes.{symmetry_of, representative_of, class_of, class_count}
+use Rattle.morris_index.proofs.KeepLaws.{class_count-is, classes_few, rank_in, class_at, symmetry_at, symmetry_lt, class_of-lt, found_own, found_count, found_within, found_class}
+use Rattle.std.proofs.lemmas.Grind.{get_or_default_zero}
+use Rattle.morris_index.proofs.classes.Classes.representative.Goals as goal
+
+pub index-requires : goal.index-requires
+index-requires g c =
+    let low : c.args.class < class_count g.B.Geometry.shape c.self.inside.count = rw c.self.view_is c.requires in
+    omega (
+      arith,
+      class_count-is g.B.Geometry.shape g.B.Geometry.POINTS c.self.inside.count (omega (arith, g.met.B.Geometry.few)) g.met.B.Geometry.point_count g.met.B.Geometry.has_symmetries
+          c.self.inside.kept.classes.items c.self.inside.kept.symmetries.items c.self.inside.kept.representatives.items c.self.invariant,
+    )
+
+pub returns-clause-least : goal.returns-clause-least
+returns-clause-least g c =
+    let low : c.args.class < class_count g.B.Geometry.shape c.self.inside.count = rw c.self.view_is c.requires in
+    let under : c.args.class < length c.self.inside.kept.representatives.items = omega (
+      arith,
+      class_count-is g.B.Geometry.shape g.B.Geometry.POINTS c.self.inside.count (omega (arith, g.met.B.Geometry.few)) g.met.B.Geometry.point_count g.met.B.Geometry.has_symmetries
+          c.self.inside.kept.classes.items c.self.inside.kept.symmetries.items c.self.inside.kept.representatives.items c.self.invariant,
+    ) in
+    let is : c.from_mask.result ≡ get_or c.self.inside.kept.representatives.items c.args.class 0 =
+    c.from_mask.ensures ∙ c.index.ensures ∙ get_or_default_zero c.self.inside.kept.representatives.items c.args.class _ under in
+    rw is (found_own g.B.Geometry.shape g.B.Geometry.POINTS c.self.inside.count (omega (arith, g.met.B.Geometry.few)) g.met.B.Geometry.point_count g.met.B.Geometry.has_symmetries
+    c.self.inside.kept.classes.items c.self.inside.kept.symmetries.items c.self.inside.kept.representatives.items c.self.invariant c.args.class low)
+
+pub returns-clause-count : goal.returns-clause-count
+returns-clause-count g c =
+    let low : c.args.class < class_count g.B.Geometry.shape c.self.inside.count = rw c.self.view_is c.requires in
+    let under : c.args.class < length c.self.inside.kept.representatives.items = omega (
+      arith,
+      class_count-is g.B.Geometry.shape g.B.Geometry.POINTS c.self.inside.count (omega (arith, g.met.B.Geometry.few)) g.met.B.Geometry.point_count g.met.B.Geometry.has_symmetries
+          c.self.inside.kept.classes.items c.self.inside.kept.symmetries.items c.self.inside.kept.representatives.items c.self.invariant,
+    ) in
+    let is : c.from_mask.result ≡ get_or c.self.inside.kept.representatives.items c.args.class 0 =
+    c.from_mask.ensures ∙ c.index.ensures ∙ get_or_default_zero c.self.inside.kept.representatives.items c.args.class _ under in
+    rw is (found_count g.B.Geometry.shape g.B.Geometry.POINTS c.self.inside.count (omega (arith, g.met.B.Geometry.few)) g.met.B.Geometry.point_count g.met.B.Geometry.has_symmetries
+    c.self.inside.kept.classes.items c.self.inside.kept.symmetries.items c.self.inside.kept.representatives.items c.self.invariant c.args.class low ∙ c.self.view_is)
+
+pub returns-clause-class : goal.returns-clause-class
+returns-clause-class g c =
+    let low : c.args.class < class_count g.B.Geometry.shape c.self.inside.count = rw c.self.view_is c.requires in
+    let under : c.args.class < length c.self.inside.kept.representatives.items = omega (
+      arith,
+      class_count-is g.B.Geometry.shape g.B.Geometry.POINTS c.self.inside.count (omega (arith, g.met.B.Geometry.few)) g.met.B.Geometry.point_count g.met.B.Geometry.has_symmetries
+          c.self.inside.kept.classes.items c.self.inside.kept.symmetries.items c.self.inside.kept.representatives.items c.self.invariant,
+    ) in
+    let is : c.from_mask.result ≡ get_or c.self.inside.kept.representatives.items c.args.class 0 =
+    c.from_mask.ensures ∙ c.index.ensures ∙ get_or_default_zero c.self.inside.kept.representatives.items c.args.class _ under in
+    rw is (found_class g.B.Geometry.shape g.B.Geometry.POINTS c.self.inside.count (omega (arith, g.met.B.Geometry.few)) g.met.B.Geometry.point_count g.met.B.Geometry.has_symmetries
+    c.self.inside.kept.classes.items c.self.inside.kept.symmetries.items c.self.inside.kept.representatives.items c.self.invariant c.args.class low)
+
+pub returns-clause-within : goal.returns-clause-within
+returns-clause-within g c =
+    let low : c.args.class < class_count g.B.Geometry.shape c.self.inside.count = rw c.self.view_is c.requires in
+    let under : c.args.class < length c.self.inside.kept.representatives.items = omega (
+      arith,
+      class_count-is g.B.Geometry.shape g.B.Geometry.POINTS c.self.inside.count (omega (arith, g.met.B.Geometry.few)) g.met.B.Geometry.point_count g.met.B.Geometry.has_symmetries
+          c.self.inside.kept.classes.items c.self.inside.kept.symmetries.items c.self.inside.kept.representatives.items c.self.invariant,
+    ) in
+    let is : c.from_mask.result ≡ get_or c.self.inside.kept.representatives.items c.args.class 0 =
+    c.from_mask.ensures ∙ c.index.ensures ∙ get_or_default_zero c.self.inside.kept.representatives.items c.args.class _ under in
+    rw is (found_within g.B.Geometry.shape g.B.Geometry.POINTS c.self.inside.count (omega (arith, g.met.B.Geometry.few)) g.met.B.Geometry.point_count g.met.B.Geometry.has_symmetries
+    c.self.inside.kept.classes.items c.self.inside.kept.symmetries.items c.self.inside.kept.representatives.items c.self.invariant c.args.class low)
