@@ -1,4 +1,5 @@
 // Table files that `morris verify` believes, and those that it refuses.
+use crate::command::command;
 use crate::fault::Fault;
 use crate::tests::{Narrow, assert_answer_on, assert_wrong};
 use crate::verify::verify_in;
@@ -81,6 +82,81 @@ fn an_input_that_is_no_file_is_refused(rt: HostRuntime) -> Result<(), Fail> {
         "fault 25: no such board\n",
     );
     Ok(())
+}
+
+/// The file with one byte changed.
+fn altered(alloc: Global, file: &[u8], place: usize, byte: u8) -> Result<Vec<u8>, Fail> {
+    let mut copy = Vec::from_slice(alloc, file)?;
+    if let Some(there) = copy.get_mut(place) {
+        *there = byte;
+    }
+    Ok(copy)
+}
+
+#[test]
+fn each_damage_of_a_file_has_its_line(rt: HostRuntime) -> Result<(), Fail> {
+    let file = file(rt.alloc())?;
+    let words = ["morris", "verify", "grid"];
+    let probe = ["morris", "probe", "grid", "XXX.OO.O."];
+    for (place, byte, line) in [
+        (0, b'M', "fault 16: not a table file\n"),
+        (4, 9, "fault 17: unknown version\n"),
+        (5, 0, "fault 18: another board\n"),
+        (6, 2, "fault 4: bad counts\n"),
+        (7, 4, "fault 4: bad counts\n"),
+        (6, 7, "fault 5: more stones than points\n"),
+        (6, 4, "fault 19: wrong number of entries\n"),
+        (15, 0x8f, "fault 19: wrong number of entries\n"),
+        (16, 1, "fault 20: digest is wrong\n"),
+        (3_375, 9, "fault 20: digest is wrong\n"),
+        (3_407, 0, "fault 20: digest is wrong\n"),
+    ] {
+        let damaged = altered(rt.alloc(), file.as_slice(), place, byte)?;
+        assert_answer_on(&rt, words.as_slice(), damaged.as_slice(), 1, "", line);
+        assert_answer_on(&rt, probe.as_slice(), damaged.as_slice(), 1, "", line);
+    }
+    Ok(())
+}
+
+/// The SHA-256 of the header of 3-3 on the board of nine points and 1,680 codes 0, as another
+/// program reckons it.
+const DIGEST_OF_DRAWS: [u8; 32] = [
+    0xb3, 0x14, 0x0c, 0xd5, 0x6d, 0x34, 0xcd, 0x5a, 0xa5, 0x5c, 0x0d, 0x20, 0x75, 0x72, 0x5d, 0x4a,
+    0x96, 0xfe, 0x22, 0x79, 0xe4, 0xd7, 0x64, 0x7a, 0xec, 0x48, 0xd3, 0xd3, 0x05, 0x67, 0x2d, 0x2d,
+];
+
+/// The first 20 entries have X on 0, 1 and 2, which can't capture, and so agree with their results.
+#[test]
+fn a_file_that_lies_is_refused_at_its_first_wrong_entry(rt: HostRuntime) -> Result<(), Fail> {
+    let mut lying = Vec::new(rt.alloc());
+    lying.extend_from_slice(b"NMMT\x01\x01\x03\x03\0\0\0\0\0\0\x06\x90")?;
+    for _ in 0..3_360 {
+        lying.push(0)?;
+    }
+    lying.extend_from_slice(DIGEST_OF_DRAWS.as_slice())?;
+    let line = "fault 14: entry 20 differs\n";
+    let words = ["morris", "verify", "grid"];
+    assert_answer_on(&rt, words.as_slice(), lying.as_slice(), 1, "", line);
+    let words = ["morris", "probe", "grid", "XXX.OO.O."];
+    assert_answer_on(&rt, words.as_slice(), lying.as_slice(), 1, "", line);
+    Ok(())
+}
+
+#[test]
+fn a_reading_that_fails_has_its_line(rt: HostRuntime) {
+    for words in [
+        ["morris", "verify", "grid"].as_slice(),
+        ["morris", "probe", "grid", "XXX.OO.O."].as_slice(),
+    ] {
+        let mut input = FromRead::new(Broken);
+        let mut output = IntoWrite::new(Vec::new(rt.alloc()));
+        let mut errors = IntoWrite::new(Vec::new(rt.alloc()));
+        let status = command(&rt, rt.alloc(), words, &mut input, &mut output, &mut errors);
+        assert_eq!(rt; status, 1);
+        assert!(rt; output.into_inner().is_empty());
+        let line = b"fault 22: reading failed\n".as_slice();
+        assert_eq!(rt; errors.into_inner().as_slice(), line);
+    }
 }
 
 #[test]

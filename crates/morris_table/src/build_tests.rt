@@ -114,6 +114,65 @@ fn a_gate_that_is_shut_leaves_the_first_block_incomplete(rt: HostRuntime) -> Res
     Ok(())
 }
 
+/// Sends a worker away once it draws this number.
+struct Hole {
+    number: u64,
+}
+
+impl Gate for Hole {
+    fn pass(&self, _worker: usize, number: u64) -> Turn {
+        if number == self.number {
+            Turn::Leave
+        } else {
+            Turn::Go
+        }
+    }
+}
+
+/// Sends one worker away, and lets the others go on.
+struct Picky {
+    worker: usize,
+}
+
+impl Gate for Picky {
+    fn pass(&self, worker: usize, _number: u64) -> Turn {
+        if worker == self.worker {
+            Turn::Leave
+        } else {
+            Turn::Go
+        }
+    }
+}
+
+#[test]
+fn a_number_that_is_left_out_leaves_every_block_incomplete(rt: HostRuntime) -> Result<(), Fail> {
+    let shelf = Shelf::<Grid>::new(rt.alloc())?;
+    let pair = Pair::new(3, 3)?;
+    let refused = build(&rt, rt.alloc(), &shelf, pair, &Hole { number: 3 }, 2, 5);
+    assert!(rt; matches!(refused, Err(BuildFault::Missing(0))));
+    assert!(rt; shelf.get(pair).is_none());
+    Ok(())
+}
+
+/// Where the worker drew nothing, the other did all.
+#[test]
+fn a_worker_that_is_sent_away_spoils_no_table(rt: HostRuntime) -> Result<(), Fail> {
+    let alloc = rt.alloc();
+    let shelf = Shelf::<Grid>::new(alloc)?;
+    let pair = Pair::new(3, 3)?;
+    let file = file_of(&rt, alloc, &sweep_pair(alloc, &shelf, pair)?)?;
+    for _ in 0..20 {
+        match build(&rt, alloc, &shelf, pair, &Picky { worker: 1 }, 2, 5) {
+            Ok(table) => {
+                assert_eq!(rt; file_of(&rt, alloc, &table)?.as_slice(), file.as_slice());
+            }
+            Err(fault) => assert!(rt; matches!(fault, BuildFault::Missing(0))),
+        }
+        assert!(rt; shelf.get(pair).is_none());
+    }
+    Ok(())
+}
+
 /// Lets two workers go on once they have met: each raises its flag when it comes for the first
 /// time, and looks for the other's.
 #[derive(Drop)]

@@ -5,7 +5,7 @@ use crate::samples::{
     ShutGate,
 };
 use crate::solver::solve;
-use morris_wave::sweep;
+use morris_wave::{SweepFault, sweep};
 use std::sync::atomic::{AtomicU64, Ordering};
 use std::test::Fail;
 
@@ -79,7 +79,10 @@ fn too_deep_graphs_are_refused(rt: HostRuntime) {
             matches!(&refused, Err(SolveFault::TooDeep)),
             "at code {code}"
         );
-        assert!(rt; sweep(rt.alloc(), &deep).is_err());
+        assert!(rt;
+            matches!(sweep(rt.alloc(), &deep), Err(SweepFault::TooDeep)),
+            "at code {code}"
+        );
     }
 }
 

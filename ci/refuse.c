@@ -1,0 +1,54 @@
+/* Refuses one request for memory of the program that it is loaded into (LD_PRELOAD).
+
+   REFUSED_REQUEST is the number of that request, counted from 1. With REFUSE_FROM_START all
+   requests count. Without it, those count that come between a request of MARK bytes and the next
+   such one, which crates/morris_trials makes around the call that it tries. Where the request came
+   and was refused, a byte goes to the file descriptor REFUSAL_TOLD_TO. */
+
+typedef __SIZE_TYPE__ size_t;
+
+void *__libc_malloc(size_t size);
+void *__libc_realloc(void *block, size_t size);
+char *getenv(const char *name);
+long write(int file, const void *bytes, size_t count);
+
+static const size_t MARK = 7777777;
+
+static _Bool counting;
+static long refused;
+static long told_to;
+static long asked;
+
+static long number_of(const char *name) {
+    const char *digit = getenv(name);
+    long number = 0;
+    while (digit && *digit)
+        number = number * 10 + (*digit++ - '0');
+    return number;
+}
+
+__attribute__((constructor)) static void start(void) {
+    refused = number_of("REFUSED_REQUEST");
+    told_to = number_of("REFUSAL_TOLD_TO");
+    counting = getenv("REFUSE_FROM_START") != 0;
+}
+
+/* Workers ask side by side, so the count is atomic. */
+static _Bool is_refused(void) {
+    if (!counting || __atomic_add_fetch(&asked, 1, __ATOMIC_SEQ_CST) != refused)
+        return 0;
+    write(told_to, "r", 1);
+    return 1;
+}
+
+void *malloc(size_t size) {
+    if (size == MARK)
+        counting = !counting;
+    else if (is_refused())
+        return 0;
+    return __libc_malloc(size);
+}
+
+void *realloc(void *block, size_t size) {
+    return is_refused() ? 0 : __libc_realloc(block, size);
+}

@@ -1,0 +1,151 @@
+//! The calls on graphs and their blocks.
+use crate::samples::{Pairs, TwoNodes, advance, blocks_after};
+use crate::told::{mark, or_refused, tell};
+use morris_wave::{Batch, Block, Cut, Graph, gather, scatter, sweep};
+use morris_workers::{Tickets, Yard};
+use std::alloc::Global;
+
+pub fn sweeps(rt: &impl Print, alloc: Global) -> Option<()> {
+    mark(alloc)?;
+    let first = sweep(alloc, &TwoNodes);
+    mark(alloc)?;
+    tell(rt, "sweep", "first", &first)?;
+    tell(rt, "sweep", "again", &sweep(alloc, &TwoNodes))
+}
+
+pub fn makes_a_block(rt: &impl Print, alloc: Global) -> Option<()> {
+    let cut = Cut::new(2, 2).ok()?;
+    mark(alloc)?;
+    let first = Block::make(alloc, &TwoNodes, &cut, 1);
+    mark(alloc)?;
+    tell(rt, "make", "first", &or_refused(first).map(of_block))?;
+    let again = Block::make(alloc, &TwoNodes, &cut, 1);
+    tell(rt, "make", "again", &or_refused(again).map(of_block))
+}
+
+/// What a block shows: its wave, whether it is complete, its last exit, and how many of its nodes
+/// are won, lost and open.
+fn of_block(block: Block<Pairs>) -> (u16, bool, u32, u64, u64, u64) {
+    shown(&block)
+}
+
+fn shown(block: &Block<Pairs>) -> (u16, bool, u32, u64, u64, u64) {
+    let tallies = block.tallies();
+    let (won, lost, open) = (tallies.won, tallies.lost, tallies.undecided);
+    (
+        block.wave(),
+        block.is_complete(),
+        block.last_due(),
+        won,
+        lost,
+        open,
+    )
+}
+
+/// Block 1 at wave 42, with no source applied: node 1 is fresh there.
+fn fresh_blocks(alloc: Global) -> Option<Vec<Block<Pairs>>> {
+    let mut blocks = blocks_after(alloc, 41)?;
+    advance(&mut blocks)?;
+    Some(blocks)
+}
+
+pub fn lists_fresh_nodes(rt: &impl Print, alloc: Global) -> Option<()> {
+    let blocks = fresh_blocks(alloc)?;
+    let block = blocks.get(1)?;
+    mark(alloc)?;
+    let first = block.fresh(alloc);
+    mark(alloc)?;
+    let first = or_refused(first);
+    tell(
+        rt,
+        "fresh",
+        "first",
+        &first.as_ref().map(|fresh| fresh.nodes()),
+    )?;
+    println!(rt; "fresh after: {:?}", shown(block)).ok()?;
+    let again = or_refused(block.fresh(alloc));
+    tell(
+        rt,
+        "fresh",
+        "again",
+        &again.as_ref().map(|fresh| fresh.nodes()),
+    )
+}
+
+/// The nodes of both batches.
+fn tell_batches(
+    rt: &impl Print,
+    when: &str,
+    answer: &Result<Vec<Batch<Pairs>>, &'static str>,
+) -> Option<()> {
+    match answer {
+        Ok(batches) => {
+            for batch in batches {
+                println!(rt; "scatter {when}: {:?}", batch.nodes()).ok()?;
+            }
+            Some(())
+        }
+        Err(fault) => println!(rt; "scatter {when}: {fault}").ok(),
+    }
+}
+
+pub fn scatters(rt: &impl Print, alloc: Global) -> Option<()> {
+    let blocks = fresh_blocks(alloc)?;
+    let block = blocks.get(1)?;
+    if block.level() != TwoNodes.level() {
+        return None;
+    }
+    let fresh = block.fresh(alloc).ok()?;
+    mark(alloc)?;
+    let first = scatter(alloc, &TwoNodes, &fresh);
+    mark(alloc)?;
+    tell_batches(rt, "first", &or_refused(first))?;
+    println!(rt; "scatter after: {:?} {:?}", shown(block), fresh.nodes()).ok()?;
+    let again = scatter(alloc, &TwoNodes, &fresh);
+    tell_batches(rt, "again", &or_refused(again))
+}
+
+pub fn gathers(rt: &impl Print, alloc: Global) -> Option<()> {
+    let cut = Cut::new(2, 2).ok()?;
+    let blocks = blocks_after(alloc, 43)?;
+    mark(alloc)?;
+    let first = gather(alloc, 0, 43, &cut, &blocks);
+    mark(alloc)?;
+    tell(rt, "gather", "first", &first)?;
+    tell(rt, "gather", "again", &gather(alloc, 0, 43, &cut, &blocks))
+}
+
+/// How many blocks a yard of these gives back.
+fn given_back(yard: Yard<Pairs>) -> usize {
+    yard.into_blocks().len()
+}
+
+pub fn makes_a_yard(rt: &impl Print, alloc: Global) -> Option<()> {
+    let blocks = blocks_after(alloc, 0)?;
+    let others = blocks_after(alloc, 0)?;
+    mark(alloc)?;
+    let first = Yard::new(alloc, blocks);
+    mark(alloc)?;
+    tell(rt, "yard", "first", &or_refused(first).map(given_back))?;
+    let again = Yard::new(alloc, others);
+    tell(rt, "yard", "again", &or_refused(again).map(given_back))
+}
+
+pub fn makes_tickets(rt: &impl Print, alloc: Global) -> Option<()> {
+    mark(alloc)?;
+    let first = Tickets::new(alloc, 5, 4);
+    mark(alloc)?;
+    tell(
+        rt,
+        "tickets",
+        "first",
+        &or_refused(first).map(|made| made.1.len()),
+    )?;
+    let again = Tickets::new(alloc, 5, 4);
+    tell(
+        rt,
+        "tickets",
+        "again",
+        &or_refused(again).map(|made| made.1.len()),
+    )
+}

@@ -1,0 +1,58 @@
+//! What the libraries do under trouble: want of memory, and workers that are sent away.
+//!
+//! The program makes each call that takes memory by itself: it prints what the call answers, how it
+//! leaves what it works on, and what it answers then.
+//!
+//! The words of the command line are names of calls.
+//! `ci/refused_memory` runs this program once for each request for memory of each call, and has that
+//! request refused.
+#![tactic(auto)]
+
+mod engine;
+#[cfg(test)]
+mod gates_tests;
+mod samples;
+mod tables;
+mod threads;
+mod told;
+
+use std::alloc::Global;
+use std::env;
+use std::process::ExitCode;
+use std::sync::Wait;
+use std::thread::Threads;
+
+fn main(rt: HostRuntime) -> ExitCode {
+    let Ok(words) = env::args(&rt) else {
+        return ExitCode::from(1);
+    };
+    for word in words.skip(1) {
+        if run(&rt, rt.alloc(), word.as_str()).is_none() {
+            return ExitCode::from(1);
+        }
+    }
+    ExitCode::from(0)
+}
+
+/// Makes the call of this name.
+fn run<R: Print + Threads + Wait + Sync>(rt: &R, alloc: Global, name: &str) -> Option<()> {
+    match name {
+        "sweep" => engine::sweeps(rt, alloc),
+        "make" => engine::makes_a_block(rt, alloc),
+        "fresh" => engine::lists_fresh_nodes(rt, alloc),
+        "scatter" => engine::scatters(rt, alloc),
+        "gather" => engine::gathers(rt, alloc),
+        "yard" => engine::makes_a_yard(rt, alloc),
+        "tickets" => engine::makes_tickets(rt, alloc),
+        "back" => tables::goes_back(rt, alloc),
+        "shelf" => tables::makes_a_shelf(rt, alloc),
+        "sweep_pair" => tables::sweeps_a_pair(rt, alloc),
+        "tallies" => tables::counts_codes(rt, alloc),
+        "read_table" => tables::reads_a_table(rt, alloc),
+        "read_next" => tables::reads_the_next_table(rt, alloc),
+        "best" => tables::finds_best_moves(rt, alloc),
+        "report" => tables::reports(rt, alloc),
+        "build" => threads::builds(rt, alloc),
+        _ => None,
+    }
+}

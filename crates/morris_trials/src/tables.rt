@@ -1,0 +1,191 @@
+//! The calls on tables of the board `grid`, of three stones against three.
+use crate::told::{mark, or_refused, tell};
+use morris_board::grid::Grid;
+use morris_board::position::Position;
+use morris_board::streams::{FromRead, IntoWrite};
+use morris_index::pair::Pair;
+use morris_probe::best::best;
+use morris_probe::report::report;
+use morris_table::exact::Exact;
+use morris_table::graph::PairGraph;
+use morris_table::reading::{read_next, read_table};
+use morris_table::shelf::Shelf;
+use morris_table::sweeping::sweep_pair;
+use morris_table::writing::write_table;
+use morris_wave::Graph;
+use std::alloc::Global;
+use std::fmt::Display;
+
+/// A shelf with the table of 3-3.
+fn shelf(alloc: Global) -> Option<Shelf<Grid>> {
+    let mut shelf = Shelf::<Grid>::new(alloc).ok()?;
+    let table = sweep_pair(alloc, &shelf, Pair::new(3, 3).ok()?).ok()?;
+    shelf.put(table).ok()?;
+    Some(shelf)
+}
+
+/// The file of a table.
+pub fn file_of(alloc: Global, table: &Exact<Grid>) -> Option<Vec<u8>> {
+    let mut sink = IntoWrite::new(Vec::new(alloc));
+    write_table(&mut sink, table).ok()?;
+    Some(sink.into_inner())
+}
+
+/// Prints the length and the digest of a table's file, or why there is no table.
+pub fn tell_table<E: Display>(
+    rt: &impl Print,
+    alloc: Global,
+    call: &str,
+    when: &str,
+    answer: &Result<Exact<Grid>, E>,
+) -> Option<()> {
+    let table = match answer {
+        Ok(table) => table,
+        Err(fault) => return println!(rt; "{call} {when}: {fault}").ok(),
+    };
+    let file = file_of(alloc, table)?;
+    let start = file.len().checked_sub(32)?;
+    print!(rt; "{call} {when}: {} bytes, digest ", file.len()).ok()?;
+    for byte in file.as_slice().get(start..)? {
+        print!(rt; "{byte:02x}").ok()?;
+    }
+    println!(rt; "").ok()
+}
+
+/// Prints how many tables stand on a shelf.
+pub fn tell_shelf(rt: &impl Print, call: &str, shelf: &Shelf<Grid>) -> Option<()> {
+    let most = Pair::<Grid>::new(5, 4).ok()?;
+    let wide = Pair::<Grid>::new(6, 3).ok()?;
+    let mut tables = u8::from(shelf.get(wide).is_some());
+    for pair in most.below() {
+        if shelf.get(pair).is_some() {
+            tables = tables.saturating_add(1);
+        }
+    }
+    println!(rt; "{call} after: {tables} tables on the shelf").ok()
+}
+
+pub fn sweeps_a_pair(rt: &impl Print, alloc: Global) -> Option<()> {
+    let shelf = Shelf::<Grid>::new(alloc).ok()?;
+    let pair = Pair::new(3, 3).ok()?;
+    mark(alloc)?;
+    let first = sweep_pair(alloc, &shelf, pair);
+    mark(alloc)?;
+    tell_table(rt, alloc, "sweep_pair", "first", &first)?;
+    tell_shelf(rt, "sweep_pair", &shelf)?;
+    let again = sweep_pair(alloc, &shelf, pair);
+    tell_table(rt, alloc, "sweep_pair", "again", &again)
+}
+
+pub fn goes_back(rt: &impl Print, alloc: Global) -> Option<()> {
+    let shelf = Shelf::<Grid>::new(alloc).ok()?;
+    let graph = PairGraph::new(&shelf, Pair::new(3, 3).ok()?).ok()?;
+    if graph.size() < 982 {
+        return None;
+    }
+    // What stands in the list before is forgotten, refused or not.
+    let mut list = Vec::new(alloc);
+    list.push(7).ok()?;
+    list.shrink_to_fit();
+    mark(alloc)?;
+    let first = graph.back(981, &mut list);
+    mark(alloc)?;
+    let first = or_refused(first).map(|_| list.as_slice());
+    tell(rt, "back", "first", &first)?;
+    if first.is_err() {
+        println!(rt; "back left: {:?}", list.as_slice()).ok()?;
+    }
+    let again = or_refused(graph.back(981, &mut list));
+    tell(rt, "back", "again", &again.map(|_| list.as_slice()))
+}
+
+pub fn makes_a_shelf(rt: &impl Print, alloc: Global) -> Option<()> {
+    mark(alloc)?;
+    let first = Shelf::<Grid>::new(alloc);
+    mark(alloc)?;
+    let pair = Pair::new(3, 3).ok()?;
+    let first = or_refused(first).map(|shelf| shelf.get(pair).is_none());
+    tell(rt, "shelf", "first", &first)?;
+    let again = or_refused(Shelf::<Grid>::new(alloc));
+    tell(
+        rt,
+        "shelf",
+        "again",
+        &again.map(|shelf| shelf.get(pair).is_none()),
+    )
+}
+
+pub fn counts_codes(rt: &impl Print, alloc: Global) -> Option<()> {
+    let shelf = shelf(alloc)?;
+    let table = shelf.get(Pair::new(3, 3).ok()?)?;
+    mark(alloc)?;
+    let first = table.tallies(alloc);
+    mark(alloc)?;
+    tell(rt, "tallies", "first", &or_refused(first))?;
+    tell(rt, "tallies", "again", &or_refused(table.tallies(alloc)))
+}
+
+pub fn reads_a_table(rt: &impl Print, alloc: Global) -> Option<()> {
+    let shelf = shelf(alloc)?;
+    let file = file_of(alloc, shelf.get(Pair::new(3, 3).ok()?)?)?;
+    let mut source = FromRead::new(file.as_slice());
+    mark(alloc)?;
+    let first = read_table::<Grid, _>(alloc, &mut source);
+    mark(alloc)?;
+    tell(rt, "read_table", "first", &first.map(|raw| raw.len()))?;
+    let again = read_table::<Grid, _>(alloc, &mut FromRead::new(file.as_slice()));
+    tell(rt, "read_table", "again", &again.map(|raw| raw.len()))
+}
+
+pub fn reads_the_next_table(rt: &impl Print, alloc: Global) -> Option<()> {
+    let shelf = shelf(alloc)?;
+    let file = file_of(alloc, shelf.get(Pair::new(3, 3).ok()?)?)?;
+    let mut source = FromRead::new(file.as_slice());
+    mark(alloc)?;
+    let first = read_next::<Grid, _>(alloc, &mut source);
+    mark(alloc)?;
+    let first = first.map(|found| found.map(|raw| raw.len()));
+    tell(rt, "read_next", "first", &first)?;
+    let again = read_next::<Grid, _>(alloc, &mut FromRead::new(file.as_slice()));
+    tell(
+        rt,
+        "read_next",
+        "again",
+        &again.map(|found| found.map(|raw| raw.len())),
+    )
+}
+
+pub fn finds_best_moves(rt: &impl Print, alloc: Global) -> Option<()> {
+    let shelf = shelf(alloc)?;
+    let position = Position::<Grid>::read(b"OO.OXX.X.").ok()?;
+    mark(alloc)?;
+    let first = best(alloc, &shelf, &position);
+    mark(alloc)?;
+    tell(rt, "best", "first", &first.map(|moves| moves.len()))?;
+    tell_shelf(rt, "best", &shelf)?;
+    match best(alloc, &shelf, &position) {
+        Ok(moves) => {
+            for step in &moves {
+                println!(rt; "best again: {step}").ok()?;
+            }
+            Some(())
+        }
+        Err(fault) => println!(rt; "best again: {fault}").ok(),
+    }
+}
+
+pub fn reports(rt: &impl Print, alloc: Global) -> Option<()> {
+    let shelf = shelf(alloc)?;
+    let position = Position::<Grid>::read(b"OO.OXX.X.").ok()?;
+    // Has room for the whole, so that the sink asks for no memory.
+    let mut sink = IntoWrite::new(Vec::with_capacity(alloc, 4_096).ok()?);
+    mark(alloc)?;
+    let first = report(alloc, &mut sink, &shelf, &position);
+    mark(alloc)?;
+    let written = sink.into_inner().len();
+    tell(rt, "report", "first", &first.map(|_| written))?;
+    let mut sink = IntoWrite::new(Vec::new(alloc));
+    let again = report(alloc, &mut sink, &shelf, &position);
+    let text = String::from_utf8(sink.into_inner()).ok()?;
+    tell(rt, "report", "again", &again.map(|_| text))
+}

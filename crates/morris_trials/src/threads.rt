@@ -1,0 +1,23 @@
+//! The call that builds a table by several workers.
+use crate::tables::{tell_shelf, tell_table};
+use crate::told::mark;
+use morris_board::grid::Grid;
+use morris_index::pair::Pair;
+use morris_table::building::build;
+use morris_table::shelf::Shelf;
+use morris_workers::OpenGate;
+use std::alloc::Global;
+use std::sync::Wait;
+use std::thread::Threads;
+
+pub fn builds<R: Print + Threads + Wait + Sync>(rt: &R, alloc: Global) -> Option<()> {
+    let shelf = Shelf::<Grid>::new(alloc).ok()?;
+    let pair = Pair::new(3, 3).ok()?;
+    mark(alloc)?;
+    let first = build(rt, alloc, &shelf, pair, &OpenGate, 2, 5);
+    mark(alloc)?;
+    tell_table(rt, alloc, "build", "first", &first)?;
+    tell_shelf(rt, "build", &shelf)?;
+    let again = build(rt, alloc, &shelf, pair, &OpenGate, 2, 5);
+    tell_table(rt, alloc, "build", "again", &again)
+}
