@@ -74,7 +74,7 @@ module _ (n outside : ℕ) (low : n ≤ 32) where
 
 -- ---- the two parts of an index
 
-parts_lt : (x y a c : ℕ) → x < a → y < c → x * c + y < a * c
+pub parts_lt : (x y a c : ℕ) → x < a → y < c → x * c + y < a * c
 parts_lt x y a c h k = omega (arith, mul-le-mul_left {m = suc x} {n = a} c (omega arith))
 
 parts_not : (x y u v c : ℕ) → y < c → x < u → x * c + y ≡ u * c + v → ⊥
@@ -112,7 +112,7 @@ other_rank s = rank_of (map (number_outside s.own) (members s.other))
 
 module _ (n : ℕ) (low : n ≤ 32) where
   -- what has no point of own has none of other's points in own
-  other_apart : (s : Sides) → IsPlaced n s → (p : ℕ) → has s.other p ≡ true → has s.own p ≡ false
+  pub other_apart : (s : Sides) → IsPlaced n s → (p : ℕ) → has s.other p ≡ true → has s.own p ≡ false
   other_apart s h p y = elim (cases_Bool (has s.own p)) [
     | inl x ↦ absurd (both_ways (has s.other p) (h.apart p x) y)
     | inr x ↦ x
@@ -131,7 +131,7 @@ module _ (n : ℕ) (low : n ≤ 32) where
   own_rank-lt s h =
       rw (map_number-none, number_outside-none) at (rank_outside-lt n 0 low s.own h.own_within (own_apart s.own))
 
-  other_rank-lt : (s : Sides) → IsPlaced n s
+  pub other_rank-lt : (s : Sides) → IsPlaced n s
       → rank_of (map (number_outside s.own) (members s.other)) < choose (n - count_of s.own) (count_of s.other)
   other_rank-lt s h =
       rw (free_points s h) at (rank_outside-lt n s.own low s.other h.other_within (other_apart s h))

@@ -14,3 +14,4 @@ pub mod ResultLaws
 pub mod OrderLaws
 pub mod ClassLaws
 pub mod KeepLaws
+pub mod ClassPairLaws

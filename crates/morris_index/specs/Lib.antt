@@ -4,3 +4,4 @@ pub mod Pairs
 pub mod Sums
 pub mod Moves
 pub mod Classes
+pub mod ClassPairs

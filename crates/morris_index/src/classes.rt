@@ -74,7 +74,8 @@ impl<B: Geometry> Classes<B> {
     /// How many classes there are. They are numbered from 0, in ascending order of the masks of their
     /// representatives.
     pub fn count(&self) -> u32
-        ensures { result ≡ class_count B.shape self.now }
+        ensures value { result ≡ class_count B.shape self.now }
+        ensures few { result ≤ choose B.POINTS self.now }
     {
         self.kept.representatives.len() as u32
     }

@@ -3,6 +3,8 @@
 
 pub mod below;
 mod binomials;
+mod class_halves;
+pub mod class_pair;
 #[cfg(test)]
 mod class_tests;
 pub mod classes;

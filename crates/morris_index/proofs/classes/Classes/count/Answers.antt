@@ -10,9 +10,13 @@ overflow_cast-result g c =
     c.self.inside.kept.classes.items c.self.inside.kept.symmetries.items c.self.inside.kept.representatives.items c.self.invariant in
     omega (arith, few, c.len.ensures)
 
-pub returns : goal.returns
-returns g c =
+pub returns-clause-value : goal.returns-clause-value
+returns-clause-value g c =
     let is = class_count-is g.B.Geometry.shape g.B.Geometry.POINTS c.self.inside.count (omega (arith, g.met.B.Geometry.few)) g.met.B.Geometry.point_count g.met.B.Geometry.has_symmetries
     c.self.inside.kept.classes.items c.self.inside.kept.symmetries.items c.self.inside.kept.representatives.items c.self.invariant in
     let len : c.len.result ≡ length c.self.inside.kept.representatives.items = omega (arith, c.len.ensures) in
     len ∙ sym is ∙ ap (class_count g.B.Geometry.shape) c.self.view_is
+
+pub returns-clause-few : goal.returns-clause-few
+returns-clause-few g c =
+    rw (← c.self.view_is) (omega (arith, c.len.ensures, c.self.invariant.kept.few))

@@ -1,0 +1,64 @@
+//! The half of a pair by classes: the positions in which the player to move and the opponent have
+//! given numbers of stones, and the player to move stands on the representative of a class.
+ghost use Rattle.std.specs.Prelude.{◌≡◌, ◌<◌, ◌≤◌, ◌^◌, true};
+ghost use Rattle.morris_board.specs.Sets.{count_of};
+ghost use Rattle.morris_board.specs.Positions.{Sides, IsPosition};
+ghost use Rattle.morris_index.specs.ClassPairs.{led, class_half_size, class_half_index};
+ghost use Rattle.morris_index.specs.Pairs.{has_counts, IsHalf};
+
+use crate::binomials::binomial;
+use crate::classes::Classes;
+use crate::ranks::{rank, unrank};
+use morris_board::board::Geometry;
+use morris_board::position::Position;
+
+/// How many entries there are for `own` stones of the player to move and `other` of the opponent.
+pub(crate) fn class_half_size<B: Geometry>(classes: &Classes<B>, own: u8, other: u8) -> u64
+    requires half { IsHalf B.POINTS own other }
+    requires classes { classes.now ≡ own }
+    ensures value { result ≡ class_half_size B.shape B.POINTS own other }
+    ensures few { result ≤ 2 ^ 39 }
+{
+    u64::from(classes.count()) * binomial(B::POINTS - own, other)
+}
+
+/// The number of a position's entry among those with as many stones of either player.
+pub(crate) fn class_half_index<B: Geometry>(classes: &Classes<B>, position: &Position<B>) -> u64
+    requires { classes.now ≡ count_of position.now.own }
+    ensures value { result ≡ class_half_index B.shape B.POINTS position.now }
+    ensures below { result < class_half_size B.shape B.POINTS (count_of position.now.own) (count_of position.now.other) }
+    ensures few { result < 2 ^ 53 }
+{
+    let own = position.own();
+    let (class, symmetry) = classes.class_of(own);
+    let led = position.image(symmetry);
+    let choices = binomial(B::POINTS - own.count(), position.other().count());
+    u64::from(class) * choices + rank(led.other(), led.own())
+}
+
+/// The position of the entry with this number among those with `own` stones of the player to move and
+/// `other` of the opponent. The player to move stands on the representative of a class.
+pub(crate) fn class_half_position<B: Geometry>(
+    classes: &Classes<B>,
+    own: u8,
+    other: u8,
+    index: u64,
+) -> Position<B>
+    requires half { IsHalf B.POINTS own other }
+    requires classes { classes.now ≡ own }
+    requires small { index < class_half_size B.shape B.POINTS own other }
+    ensures index { class_half_index B.shape B.POINTS result ≡ index }
+    ensures counts { has_counts own other result ≡ true }
+    ensures lawful { IsPosition B.shape result }
+    ensures led { led B.shape result ≡ result }
+{
+    // The proof learns here that a class fits 32 bits.
+    let _ = classes.count();
+    let choices = binomial(B::POINTS - own, other);
+    let own_points = classes.representative((index / choices) as u32);
+    let other_points = unrank(B::POINTS, own_points, other, index % choices);
+    match Position::new(own_points, other_points) {
+        Ok(position) => position,
+        Err(_) => unreachable!(),
+    }
+}

@@ -1,0 +1,98 @@
+//! Pairs of numbers of stones, with their positions numbered by classes.
+ghost use Rattle.std.specs.Prelude.{◌≡◌, ◌<◌, ◌≤◌, ◌^◌, true, IfOk};
+ghost use Rattle.morris_board.specs.Positions.{Sides, IsPosition};
+ghost use Rattle.morris_index.specs.Pairs.{is_of};
+ghost use Rattle.morris_index.specs.ClassPairs.{led, class_size_of, class_index_of};
+
+use crate::class_halves::{class_half_index, class_half_position, class_half_size};
+use crate::classes::Classes;
+use crate::pair::Pair;
+use morris_board::board::Geometry;
+use morris_board::position::Position;
+use std::alloc::{AllocError, Global};
+use std::marker::Model;
+
+/// A pair, and the classes of the sets of its two numbers of stones. Its entries are numbered so that
+/// positions which a symmetry carries into one another mostly have the same one.
+#[derive(Drop)]
+pub struct ClassPair<B: Geometry> {
+    pair: Pair<B>,
+    greater: Classes<B>,
+    lesser: Classes<B>,
+}
+
+impl<B: Geometry> Model for ClassPair<B> {
+    ghost use Rattle.std.specs.Prelude.{◌≡◌};
+    ghost use Rattle.morris_index.specs.Pairs.{Counts};
+
+    ghost Value = { Counts };
+
+    ghost view = { λ pair. pair.pair };
+
+    ghost invariant = { λ pair. (pair.greater ≡ pair.pair.greater) × (pair.lesser ≡ pair.pair.lesser) };
+}
+
+impl<B: Geometry> ClassPair<B> {
+    /// The entries of a pair.
+    ///
+    /// # Errors
+    /// [`AllocError`] where memory runs out. No other call takes memory.
+    pub fn make(alloc: Global, pair: Pair<B>) -> Result<ClassPair<B>, AllocError>
+        ensures { IfOk result (λ made. made ≡ pair) }
+    {
+        Ok(ClassPair {
+            pair,
+            greater: Classes::make(alloc, pair.greater())?,
+            lesser: Classes::make(alloc, pair.lesser())?,
+        })
+    }
+
+    /// How many entries the pair has.
+    pub fn size(&self) -> u64
+        ensures value { result ≡ class_size_of B.shape B.POINTS self.now }
+        ensures few { result ≤ 2 ^ 40 }
+    {
+        let (greater, lesser) = (self.pair.greater(), self.pair.lesser());
+        let first = class_half_size(&self.greater, greater, lesser);
+        if greater == lesser {
+            first
+        } else {
+            first + class_half_size(&self.lesser, lesser, greater)
+        }
+    }
+
+    /// The entry of a position of the pair, below [`ClassPair::size`]. The position is led by the
+    /// symmetry of the points of the player to move, see [`Classes::class_of`]; positions that are led
+    /// to the same one have the same entry, and no others have it.
+    pub fn index(&self, position: &Position<B>) -> u64
+        requires { is_of self.now position.now ≡ true }
+        ensures value { result ≡ class_index_of B.shape B.POINTS self.now position.now }
+        ensures below { result < class_size_of B.shape B.POINTS self.now }
+    {
+        let greater = self.pair.greater();
+        if position.own().count() == greater {
+            class_half_index(&self.greater, position)
+        } else {
+            let first = class_half_size(&self.greater, greater, self.pair.lesser());
+            first + class_half_index(&self.lesser, position)
+        }
+    }
+
+    /// The position of an entry, below [`ClassPair::size`]: the one to which all positions with this
+    /// entry are led.
+    pub fn position(&self, index: u64) -> Position<B>
+        requires { index < class_size_of B.shape B.POINTS self.now }
+        ensures index { class_index_of B.shape B.POINTS self.now result ≡ index }
+        ensures counts { is_of self.now result ≡ true }
+        ensures lawful { IsPosition B.shape result }
+        ensures led { (s : Sides) → IsPosition B.shape s → is_of self.now s ≡ true → class_index_of B.shape B.POINTS self.now s ≡ index → result ≡ led B.shape s }
+    {
+        let (greater, lesser) = (self.pair.greater(), self.pair.lesser());
+        let first = class_half_size(&self.greater, greater, lesser);
+        if index < first {
+            class_half_position(&self.greater, greater, lesser, index)
+        } else {
+            class_half_position(&self.lesser, lesser, greater, index - first)
+        }
+    }
+}
