@@ -1,4 +1,6 @@
+use crate::class_pair::ClassPair;
 use crate::classes::Classes;
+use crate::pair::Pair;
 use morris_board::board::Geometry;
 use morris_board::grid::Grid;
 use morris_board::nine::Nine;
@@ -60,4 +62,60 @@ fn each_set_leads_to_the_least_of_its_images(rt: HostRuntime) -> Result<(), Fail
         }
     }
     Ok(())
+}
+
+/// The pair of two numbers of stones has so many entries.
+fn assert_entries<B: Geometry>(
+    rt: &impl Abort,
+    alloc: Global,
+    a: u8,
+    b: u8,
+    entries: u64,
+) -> Result<(), Fail> {
+    let pair = Pair::<B>::new(a, b)?;
+    let made = ClassPair::make(alloc, pair)?;
+    assert_eq!(rt; made.size(), entries);
+    Ok(())
+}
+
+#[test]
+fn entries_of_pairs_are_counted(rt: HostRuntime) -> Result<(), Fail> {
+    assert_entries::<Grid>(&rt, rt.alloc(), 3, 3, 320)?;
+    assert_entries::<Grid>(&rt, rt.alloc(), 4, 3, 470)?;
+    assert_entries::<Nine>(&rt, rt.alloc(), 3, 3, 210_140)?;
+    assert_entries::<Nine>(&rt, rt.alloc(), 4, 3, 1_808_610)
+}
+
+/// The first symmetry of `Grid` that leads a set to the least of its images.
+fn leading(rt: &impl Abort, set: Points) -> u8 {
+    assert!(rt; set.mask() < 512);
+    let mut first = 0;
+    for symmetry in 0..8 {
+        assert!(rt; first < 8);
+        if Grid::image_of(symmetry, set).mask() < Grid::image_of(first, set).mask() {
+            first = symmetry;
+        }
+    }
+    first
+}
+
+/// Each position of the pair is led to the position of its entry.
+fn assert_led(rt: &impl Abort, alloc: Global, a: u8, b: u8) -> Result<(), Fail> {
+    let pair = Pair::<Grid>::new(a, b)?;
+    let entries = ClassPair::make(alloc, pair)?;
+    for index in 0..pair.size() {
+        let position = pair.position(index);
+        let symmetry = leading(rt, position.own());
+        assert!(rt; symmetry < 8);
+        let image = position.image(symmetry);
+        let led = entries.position(entries.index(&position));
+        assert_eq!(rt; (led.own(), led.other()), (image.own(), image.other()));
+    }
+    Ok(())
+}
+
+#[test]
+fn positions_are_led_to_that_of_their_entry(rt: HostRuntime) -> Result<(), Fail> {
+    assert_led(&rt, rt.alloc(), 3, 3)?;
+    assert_led(&rt, rt.alloc(), 4, 3)
 }

@@ -46,6 +46,8 @@ fn run<R: Print + Threads + Wait + Sync>(rt: &R, alloc: Global, name: &str) -> O
         "tickets" => engine::makes_tickets(rt, alloc),
         "back" => tables::goes_back(rt, alloc),
         "shelf" => tables::makes_a_shelf(rt, alloc),
+        "classes" => tables::makes_classes(rt, alloc),
+        "class_pair" => tables::makes_entries_of_classes(rt, alloc),
         "sweep_pair" => tables::sweeps_a_pair(rt, alloc),
         "tallies" => tables::counts_codes(rt, alloc),
         "read_table" => tables::reads_a_table(rt, alloc),

@@ -3,6 +3,8 @@ use crate::told::{mark, or_refused, tell};
 use morris_board::grid::Grid;
 use morris_board::position::Position;
 use morris_board::streams::{FromRead, IntoWrite};
+use morris_index::class_pair::ClassPair;
+use morris_index::classes::Classes;
 use morris_index::pair::Pair;
 use morris_probe::best::best;
 use morris_probe::report::report;
@@ -112,6 +114,37 @@ pub fn makes_a_shelf(rt: &impl Print, alloc: Global) -> Option<()> {
         "shelf",
         "again",
         &again.map(|shelf| shelf.get(pair).is_none()),
+    )
+}
+
+pub fn makes_classes(rt: &impl Print, alloc: Global) -> Option<()> {
+    mark(alloc)?;
+    let first = Classes::<Grid>::make(alloc, 3);
+    mark(alloc)?;
+    let first = or_refused(first).map(|classes| classes.count());
+    tell(rt, "classes", "first", &first)?;
+    let again = or_refused(Classes::<Grid>::make(alloc, 3));
+    tell(
+        rt,
+        "classes",
+        "again",
+        &again.map(|classes| classes.count()),
+    )
+}
+
+pub fn makes_entries_of_classes(rt: &impl Print, alloc: Global) -> Option<()> {
+    let pair = Pair::<Grid>::new(4, 3).ok()?;
+    mark(alloc)?;
+    let first = ClassPair::make(alloc, pair);
+    mark(alloc)?;
+    let first = or_refused(first).map(|entries| entries.size());
+    tell(rt, "class_pair", "first", &first)?;
+    let again = or_refused(ClassPair::make(alloc, pair));
+    tell(
+        rt,
+        "class_pair",
+        "again",
+        &again.map(|entries| entries.size()),
     )
 }
 
