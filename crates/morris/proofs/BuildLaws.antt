@@ -1,5 +1,5 @@
 -- The files that are written of the tables on a shelf.
-use Rattle.std.proofs.Common.{◌≡◌, ◌≢◌, ℕ, List, [], ◌∷◌, ◌++◌, Option, Some, None, Ok, Err, take, ◌-◌, refl, sym, ap, ap₂, subst, ◌∙◌, inl, inr, arith, append_assoc, append-nil}
+use Rattle.std.proofs.Common.{◌≡◌, ◌≢◌, ℕ, List, [], ◌∷◌, ◌++◌, Option, Some, None, is_some, Ok, Err, take, ◌-◌, refl, sym, ap, ap₂, subst, ◌∙◌, inl, inr, arith, append_assoc, append-nil}
 use Rattle.std.specs.List.{flat_map}
 use Rattle.std.proofs.lemmas.Grind.{flat_map-append}
 use Rattle.std.proofs.lemmas.List.Elements.{All-cons, All-nil, Contains-push_cases}
@@ -13,7 +13,7 @@ use Rattle.morris_table.specs.Tables.{IsTable, Table}
 use Rattle.morris_moves.proofs.ListLaws.{Contains-head, Contains-tail}
 use Rattle.morris_table.proofs.ShelfLaws.{cases_pair}
 use Rattle.morris.specs.declared.fault.Fault.TheVariants as fault
-use Rattle.morris.specs.Build.{AnswersFiles, AreTablesOf, HasExact, file_on}
+use Rattle.morris.specs.Build.{AnswersFiles, AreTablesOf, HasExact, HasTables, file_on}
 
 module _ (f : Counts → List ℕ) where
   -- the files of all pairs are those of the pairs so far, of this one, and of the others
@@ -46,6 +46,10 @@ module _ (board : Shape) (shelf : Stored) where
         };
         files = ap₂ (λ a b. a ++ b) file rest.files;
       }
+
+-- where there is an exact table of each pair, there is a table of each
+pub has_tables : (board : Shape) (shelf : Stored) (pairs : List Counts) → HasExact board shelf pairs → HasTables shelf pairs
+has_tables board shelf pairs there = λ c m. let here = there c m in ap is_some here.1
 
 -- with its table the shelf has one pair more
 pub one_exact_more : (board : Shape) (old new : Stored) (before : List Counts) (c : Counts) (t : Table) → HasExact board old before

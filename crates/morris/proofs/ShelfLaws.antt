@@ -2,7 +2,9 @@
 use Rattle.std.proofs.Common.{◌≡◌, ◌≢◌, true, List, [], ◌∷◌, ◌++◌, None, is_some, sym, ap, subst, ◌∙◌, inl, inr}
 use Rattle.std.specs.List.{Contains}
 use Rattle.std.proofs.lemmas.List.Elements.{Contains-append_left, Contains-push_cases}
+use Rattle.morris_board.specs.Boards.{Shape}
 use Rattle.morris_index.specs.Pairs.{Counts, EndsIn, NeedsFirst}
+use Rattle.morris_table.specs.Known.{IsBeyondCodes}
 use Rattle.morris_table.specs.Shelves.{Stored, first_missing, table_on}
 use Rattle.morris.specs.Build.{HasTables}
 use Rattle.morris_table.proofs.ShelfLaws.{cases_pair, none-missing}
@@ -23,6 +25,15 @@ one_table_more old new before c there here others = λ d m.
         | inl earlier ↦ ap is_some (others d other) ∙ there d earlier
         | inr is ↦ absurd (other (sym is))
       ]
+    ]
+
+-- codes suffice for one pair more
+pub one_within_more : (board : Shape) (before : List Counts) (c : Counts) → ((d : Counts) → Contains before d → ¬ IsBeyondCodes board d)
+    → ¬ IsBeyondCodes board c → (d : Counts) → Contains (before ++ c ∷ []) d → ¬ IsBeyondCodes board d
+one_within_more board before c there here = λ d m.
+    elim (Contains-push_cases before c d m) [
+      | inl earlier ↦ there d earlier
+      | inr is ↦ subst (λ x. ¬ IsBeyondCodes board x) is here
     ]
 
 -- where the shelf has all of the pairs, the last one finds those that it needs

@@ -65,12 +65,13 @@ IsUnbuiltFor board pair blocks _ = ⊥
 
 -- ---- the answer
 
--- What `build` answers of a pair: one of these refusals, with nothing written; otherwise the files
--- are written, or the first bytes of them up to the write that failed.
+-- What `build` answers of a pair: one of these refusals, with nothing written; otherwise codes
+-- suffice for all depths, and the files are written, or the first bytes of them up to the write that
+-- failed.
 abbrev pub AnswersBuilt : {T : Type 0} → Shape → Counts → ℕ → Bool → Option (List ℕ) → Option (List ℕ) → Result T Fault → Type 0
-AnswersBuilt board pair blocks all old new (Ok done) = AnswersFiles board (pairs_written all pair) old new (Ok done)
+AnswersBuilt board pair blocks all old new (Ok done) = ¬ HasTooDeep board pair × AnswersFiles board (pairs_written all pair) old new (Ok done)
 AnswersBuilt board pair blocks all old new (Err (fault.Write sent)) =
-    AnswersFiles {T = Unit {0}} board (pairs_written all pair) old new (Err (fault.Write sent))
+    ¬ HasTooDeep board pair × AnswersFiles {T = Unit {0}} board (pairs_written all pair) old new (Err (fault.Write sent))
 AnswersBuilt board pair blocks all old new (Err refused) = IsUnbuiltFor board pair blocks refused × Keeps old new
 
 -- What it answers with so many workers and blocks: where there may not be so many, the fault that

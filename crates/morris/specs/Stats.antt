@@ -63,12 +63,12 @@ IsRefusedFor board pair fault.Memory = ⊤
 IsRefusedFor board pair fault.TooDeep = HasTooDeep board pair
 IsRefusedFor board pair _ = ⊥
 
--- What `stats` answers of a pair: a refusal of memory, or of a depth that is too great, with nothing printed; otherwise the pair's text is
--- printed.
+-- What `stats` answers of a pair: a refusal of memory, or of a depth that is too great, with nothing printed; otherwise codes suffice for
+-- all depths, and the pair's text is printed.
 abbrev pub AnswersPair : {T : Type 0} → Shape → Counts → Option (List ℕ) → Option (List ℕ) → Result T Fault → Type 0
 AnswersPair board pair old new (Err fault.Memory) = Keeps old new
 AnswersPair board pair old new (Err fault.TooDeep) = HasTooDeep board pair × Keeps old new
-AnswersPair board pair old new result = PrintsStats board pair old new result
+AnswersPair board pair old new result = ¬ HasTooDeep board pair × PrintsStats board pair old new result
 
 -- What it answers on a board: the fault of a text that names no pair, with nothing printed; otherwise what it answers of the pair.
 abbrev pub AnswersRead : {T : Type 0} → Shape → Option (List ℕ) → Option (List ℕ) → Result T Fault → Result Counts Fault → Type 0

@@ -6,7 +6,7 @@ use Rattle.morris_board.specs.Boards.{Shape}
 use Rattle.morris_index.specs.Pairs.{Counts, pair_text}
 use Rattle.morris_table.specs.Tables.{IsTable, Table}
 use Rattle.morris_table.specs.Agreement.{IsFirstToDiffer}
-use Rattle.morris_table.specs.FileReading.{CountsRead, Reads, StandsInFile, only_file_in}
+use Rattle.morris_table.specs.FileReading.{CountsRead, Reads, StandsInFile, bytes_past, only_file_in}
 use Rattle.morris_table.specs.declared.file_faults.ReadFault.{ReadFault}
 use Rattle.morris_table.specs.declared.file_faults.ReadFault.TheVariants as read
 use Rattle.morris.specs.declared.fault.Fault.{Fault}
@@ -65,11 +65,12 @@ abbrev pub input_of : Option (List ℕ) → ℕ → Input
 input_of bytes failures = record { bytes = bytes; failures = failures }
 
 -- What it answers on a board: what was read of the whole input, in the steps of a table's file, and
--- the answer to that. The input stands in that file, or one byte past it.
+-- the answer to that. The input stands in that file, or one byte past it where one more byte is why
+-- it is refused.
 abbrev pub AnswersInput : {T : Type 0} → Shape → Input → Input → Option (List ℕ) → Option (List ℕ) → Result T Fault → Type 0
 AnswersInput board before after old new result =
     (found : Result Table ReadFault) × Reads (only_file_in board) before.bytes after.bytes found × CountsRead before.failures after.failures found
-    × StandsInFile board 1 before.bytes after.bytes × AnswersFile board old new result found
+    × StandsInFile board (bytes_past found) before.bytes after.bytes × AnswersFile board old new result found
 
 -- What `verify` answers: the fault of a board that isn't there, with nothing printed and nothing read; otherwise
 -- what it answers on the board.

@@ -3,12 +3,14 @@ ghost use Rattle.std.specs.Prelude.{◌≡◌, ◌≢◌, ◌+◌, ◌-◌, ◌^
 ghost use Rattle.std.specs.List.{flat_map};
 ghost use Rattle.morris_board.specs.Streams.{CountsFailure, HasSent};
 ghost use Rattle.morris_index.specs.Pairs.{Counts, EndsIn, below_of};
+ghost use Rattle.morris_table.specs.Known.{IsBeyondCodes};
 ghost use Rattle.morris_table.specs.Shelves.{first_missing, table_on};
 ghost use Rattle.morris_table.specs.TableFiles.{file_of};
 ghost use Rattle.morris_table.specs.Tables.{IsTable, Table};
 ghost use Rattle.morris_workers.specs.Ranges.{range_fault};
 ghost use Rattle.morris.specs.Faults.{CountsWrites, is_write, solve_fault};
 ghost use Rattle.morris.specs.Look.{board_of};
+ghost use Rattle.morris.specs.Stats.{HasTooDeep};
 ghost use Rattle.morris.specs.Build.{AnswersBuild, AnswersBuildOn, AnswersBuilt, AnswersFiles, HasExact, HasTables, IsUnbuiltAt, IsUnbuiltFor, file_on, pairs_written};
 
 use crate::boards::{NamedBoard, read_board};
@@ -126,9 +128,9 @@ fn build_below<B: Board, R: Threads + Wait + Sync>(
     team: Team,
 ) -> Result<Shelf<B>, Fault>
     requires range { range_fault team.workers team.blocks ≡ None }
-    ensures there { IfOk result (λ shelf. HasTables shelf (below_of pair)) }
     ensures exact { IfOk result (λ shelf. HasExact B.shape shelf (below_of pair)) }
     ensures last { OnOk result (EndsIn (below_of pair) pair) }
+    ensures within { OnOk result (¬ HasTooDeep B.shape pair) }
     ensures refused { IfErr result (IsUnbuiltFor B.shape pair team.blocks) }
     ensures unwritten { IfErr result (λ refused. is_write refused ≡ false) }
 {
@@ -149,9 +151,9 @@ fn build_onto<B: Board, R: Threads + Wait + Sync>(
 ) -> Result<(), Fault>
     requires ready { first_missing shelf.old pair ≡ None }
     requires range { range_fault team.workers team.blocks ≡ None }
-    ensures there { OnOk result (is_some (table_on shelf.new pair) ≡ true) }
     ensures exact { OnOk result ((t : Table) × (table_on shelf.new pair ≡ Some t) × (t.pair ≡ pair) × IsTable B.shape t) }
     ensures others { OnOk result ((other : Counts) → other ≢ pair → table_on shelf.new other ≡ table_on shelf.old other) }
+    ensures within { OnOk result (¬ IsBeyondCodes B.shape pair) }
     ensures refused { IfErr result (IsUnbuiltAt B.shape pair team.blocks) }
 {
     let Team { workers, blocks } = team;
@@ -170,7 +172,6 @@ fn write_files<B: Geometry, O: Sink>(
     output: &mut O,
 ) -> Result<(), Fault>
     requires failures { O.failures output.old < 2 ^ 64 - 1 }
-    requires there { HasTables shelf.now (below_of pair) }
     requires exact { HasExact B.shape shelf.now (below_of pair) }
     requires last { EndsIn (below_of pair) pair }
     ensures files { AnswersFiles B.shape (pairs_written all pair) (O.contents output.old) (O.contents output.new) result }
@@ -191,7 +192,6 @@ fn send_files<B: Geometry, O: Sink>(
     output: &mut O,
 ) -> Result<u64, u64>
     requires failures { O.failures output.old < 2 ^ 64 - 1 }
-    requires there { HasTables shelf.now (below_of pair) }
     requires exact { HasExact B.shape shelf.now (below_of pair) }
     requires last { EndsIn (below_of pair) pair }
     ensures sent { HasSent (O.contents output.old) (O.contents output.new) 0 (flat_map (file_on B.shape shelf.now) (pairs_written all pair)) result }

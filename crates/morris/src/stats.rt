@@ -1,10 +1,11 @@
 //! The command `stats`.
 ghost use Rattle.std.specs.Prelude.{◌≡◌, ◌≢◌, ◌-◌, ◌^◌, ◌<◌, ◌≤◌, None, true, is_some, length, IfErr, IfOk, OnErr, OnOk};
 ghost use Rattle.morris_index.specs.Pairs.{Counts, EndsIn, below_of};
+ghost use Rattle.morris_table.specs.Known.{IsBeyondCodes};
 ghost use Rattle.morris_table.specs.Shelves.{first_missing, table_on};
 ghost use Rattle.morris.specs.Faults.{CountsWrites, Prints};
 ghost use Rattle.morris.specs.Look.{board_of};
-ghost use Rattle.morris.specs.Stats.{AnswersOn, AnswersStats, HasTallies, IsRefusedAt, IsRefusedFor, stats_text};
+ghost use Rattle.morris.specs.Stats.{AnswersOn, AnswersStats, HasTallies, HasTooDeep, IsRefusedAt, IsRefusedFor, stats_text};
 
 use crate::boards::{NamedBoard, read_board};
 use crate::fault::Fault;
@@ -61,6 +62,8 @@ fn show_tallies<B: Geometry, S: Sink>(
     requires failures { S.failures output.old < 2 ^ 64 - 1 }
     requires few { length tallies.now ≤ 2 ^ 16 }
     ensures shown { Prints (S.contents output.old) (S.contents output.new) (stats_text B.POINTS pair tallies.now) result }
+    // The caller's proof learns here that the board has as many points as its shape says.
+    ensures points { B.shape.points ≡ B.POINTS }
     ensures counted { CountsWrites (S.failures output.old) (S.failures output.new) result }
 {
     let mut out = Buffered::new(output);
@@ -74,6 +77,7 @@ fn show_tallies<B: Geometry, S: Sink>(
 fn count_values<B: Board>(alloc: Global, pair: Pair<B>) -> Result<Vec<u64>, Fault>
     ensures counts { IfOk result (λ v. HasTallies B.shape pair v.items) }
     ensures few { IfOk result (λ v. length v.items ≤ 2 ^ 16) }
+    ensures within { OnOk result (¬ HasTooDeep B.shape pair) }
     ensures refused { IfErr result (IsRefusedFor B.shape pair) }
 {
     let shelf = sweep_below(alloc, pair)?;
@@ -83,13 +87,16 @@ fn count_values<B: Board>(alloc: Global, pair: Pair<B>) -> Result<Vec<u64>, Faul
     }
 }
 
-/// The tables of all pairs below a pair, and its own.
+/// The tables of all pairs below a pair, its own among them.
 fn sweep_below<B: Board>(alloc: Global, pair: Pair<B>) -> Result<Shelf<B>, Fault>
     ensures there { IfOk result (λ shelf. is_some (table_on shelf pair) ≡ true) }
+    ensures within { OnOk result (¬ HasTooDeep B.shape pair) }
     ensures refused { IfErr result (IsRefusedFor B.shape pair) }
 {
-    let mut shelf = sweep_before(alloc, pair)?;
-    sweep_onto(alloc, &mut shelf, pair)?;
+    let mut shelf = Shelf::new(alloc)?;
+    for smaller in pair.below() {
+        sweep_onto(alloc, &mut shelf, smaller)?;
+    }
     Ok(shelf)
 }
 
@@ -114,6 +121,7 @@ fn sweep_onto<B: Board>(alloc: Global, shelf: &mut Shelf<B>, pair: Pair<B>) -> R
     requires { first_missing shelf.old pair ≡ None }
     ensures there { OnOk result (is_some (table_on shelf.new pair) ≡ true) }
     ensures others { OnOk result ((other : Counts) → other ≢ pair → table_on shelf.new other ≡ table_on shelf.old other) }
+    ensures within { OnOk result (¬ IsBeyondCodes B.shape pair) }
     ensures unchanged { OnErr result (shelf.new ≡ shelf.old) }
     ensures refused { IfErr result (IsRefusedAt B.shape pair) }
 {

@@ -136,6 +136,12 @@ abbrev pub StandsInFile : Shape → ℕ → Option (List ℕ) → Option (List �
 StandsInFile board past None new = Unit {0}
 StandsInFile board past (Some bytes) new = StandsWithin (file_length board bytes + past) (Some bytes) new
 
+-- how far past the file that is read alone: one byte where one more byte is why it is refused
+abbrev pub bytes_past : {A : Type 0} → Result A ReadFault → ℕ
+bytes_past (Ok x) = 0
+bytes_past (Err fault.Trailing) = 1
+bytes_past (Err refusal) = 0
+
 -- one failed read was counted where the answer is Read, and none where it is another
 abbrev pub CountsRead : {A : Type 0} → ℕ → ℕ → Result A ReadFault → Type 0
 CountsRead old new (Ok x) = new ≡ old

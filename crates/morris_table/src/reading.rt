@@ -4,7 +4,7 @@ ghost use Rattle.std.specs.Io.KnownBytes.{Consumes, IsAtEnd};
 ghost use Rattle.sha2.specs.Hashers.{Holds256};
 ghost use Rattle.morris_board.specs.Streams.{CountsFailure};
 ghost use Rattle.morris_table.specs.TableFiles.{code_bytes, file_of, next_file_of};
-ghost use Rattle.morris_table.specs.FileReading.{Reads, HasHeader, StandsInFile, StandsWithin, body_length, CountsRead, EndsEarly, ContinuesFile, only_file_in, next_file_in, file_in, header_in};
+ghost use Rattle.morris_table.specs.FileReading.{Reads, HasHeader, StandsInFile, StandsWithin, body_length, bytes_past, CountsRead, EndsEarly, ContinuesFile, only_file_in, next_file_in, file_in, header_in};
 
 use crate::file_faults::ReadFault;
 use crate::header::{HEADER, Header};
@@ -32,7 +32,8 @@ const DIGEST: usize = 32;
 /// `Counts`, `Crowded`, `Count`); there is no room for the codes (`Memory`); the source ends within
 /// the codes or the digest (`Short`); the digest is wrong (`Digest`); a byte follows (`Trailing`).
 /// `Read` where a read failed, which isn't tried again. After a refusal the source stands somewhere
-/// in the file that was refused, as long as its header says it is, or one byte past it.
+/// in the file that was refused, as long as its header says it is; after `Trailing` it may stand one
+/// byte past it.
 pub fn read_table<B: Geometry, S: Source>(
     alloc: Global,
     source: &mut S,
@@ -41,7 +42,7 @@ pub fn read_table<B: Geometry, S: Source>(
     ensures outcome { Reads (only_file_in B.shape) (S.remaining source.old) (S.remaining source.new) result }
     ensures file { IfOk result (λ raw. Consumes (S.remaining source.old) (S.remaining source.new) (file_of B.shape raw)) }
     ensures memory { result ≡ Err ReadFault.Memory → HasHeader B.shape (S.remaining source.old) }
-    ensures place { StandsInFile B.shape 1 (S.remaining source.old) (S.remaining source.new) }
+    ensures place { StandsInFile B.shape (bytes_past result) (S.remaining source.old) (S.remaining source.new) }
     ensures counted { CountsRead (S.failures source.old) (S.failures source.new) result }
 {
     let Some(raw) = read_next(alloc, source)? else {
@@ -157,13 +158,13 @@ fn push_codes(codes: &mut Vec<u16>, bytes: &[u8])
 }
 
 /// Reads until the buffer is full or the source at its end, and answers how many bytes that are. A
-/// read that fails ends it.
+/// read that fails ends it, and then the buffer wasn't full.
 fn fill<S: Source>(source: &mut S, buffer: &mut [u8]) -> Result<usize, Failed>
     requires { S.failures source.old < 2 ^ 64 - 1 }
     ensures within { IfOk result (λ n. n ≤ length buffer.new) }
     ensures bytes { IfOk result (λ n. Consumes (S.remaining source.old) (S.remaining source.new) (take n buffer.new)) }
     ensures end { IfOk result (λ n. n < length buffer.new → IsAtEnd (S.remaining source.new)) }
-    ensures place { OnErr result (StandsWithin (length buffer.new) (S.remaining source.old) (S.remaining source.new)) }
+    ensures place { OnErr result (StandsWithin (length buffer.new - 1) (S.remaining source.old) (S.remaining source.new)) }
     ensures counted { CountsFailure (S.failures source.old) (S.failures source.new) result }
 {
     let mut done = 0;

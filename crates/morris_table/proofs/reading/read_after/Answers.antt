@@ -1,5 +1,5 @@
 -- What was read after a header, and what the steps of the format make of it.
-use Rattle.std.proofs.Common.{◌≡◌, Bool, true, false, not, ◌+◌, ◌*◌, ◌<◌, [], ◌++◌, length, take, Ok, Err, sym, ap, ◌∙◌, subst, refl, arith, length-append, length-take}
+use Rattle.std.proofs.Common.{◌≡◌, Bool, true, false, not, ◌+◌, ◌-◌, ◌*◌, ◌<◌, [], ◌++◌, length, take, Ok, Err, sym, ap, ◌∙◌, subst, refl, arith, length-append, length-take}
 use Rattle.std.proofs.KnownBytes.{Consumes-trans}
 use Rattle.std.proofs.lemmas.Result.{err_from_is_err_and}
 use Rattle.std.proofs.lemmas.List.{take_all}
@@ -167,7 +167,7 @@ returns-in_err-fill-clause-place g c =
     body_length-is g.B.Geometry.shape g.B.Geometry.POINTS g.met.B.Geometry.point_count c.args.header.now c.told-header c.in_ok-pair.pair c.size.result
     (c.in_ok-pair.ensures.value ∙ ap (pair_in g.B.Geometry.shape) c.from_bytes.ensures) c.size.ensures.value in
     let codes = c.in_ok-codes.codes.items in
-    stands-after (length c.fill.new.buffer) (body_length g.B.Geometry.shape (header_in g.B.Geometry.shape c.args.header.now)) (code_bytes codes)
+    stands-after (length c.fill.new.buffer - 1) (body_length g.B.Geometry.shape (header_in g.B.Geometry.shape c.args.header.now)) (code_bytes codes)
     (g.S.Source.remaining c.args.source.now) (g.S.Source.remaining c.read_codes.new.source) (g.S.Source.remaining c.fill.new.source) c.in_ok-codes.ensures.bytes
     (omega (arith, size, length-code_bytes codes, c.in_ok-codes.ensures.count, c.fill.auto.buffer)) c.in_err-fill.ensures.place
 

@@ -1,5 +1,5 @@
 -- Where a piece ends early, fewer bytes were read than the codes have.
-use Rattle.std.proofs.Common.{◌≡◌, ◌*◌, [], ◌++◌, length, take, refl, arith, rules, vec_len, append-nil, length-append, length-take}
+use Rattle.std.proofs.Common.{◌≡◌, ◌-◌, ◌*◌, [], ◌++◌, length, take, refl, arith, rules, vec_len, append-nil, length-append, length-take}
 use Rattle.std.proofs.lemmas.Result.{err_from_is_err_and}
 use Rattle.std.proofs.KnownBytes.{Consumes-nil, Consumes-trans}
 use Rattle.morris_table.specs.TableFiles.{code_bytes}
@@ -37,7 +37,7 @@ returns-in_err-fill-clause-place g c =
     let len : vec_len c.loop-buffer.codes ≡ length codes = search rules in
     let failed = err_from_is_err_and c.from_residual-in_err-fill.result c.from_residual-in_err-fill.ensures.1 in
     rw failed.1
-    (stands-after (length c.fill.new.buffer) (2 * c.args.count) (code_bytes codes) (g.S.Source.remaining c.args.source.now)
+    (stands-after (length c.fill.new.buffer - 1) (2 * c.args.count) (code_bytes codes) (g.S.Source.remaining c.args.source.now)
     (g.S.Source.remaining c.loop-buffer.source) (g.S.Source.remaining c.fill.new.source) c.loop-buffer.invariant.consumed
     (omega (arith, length-code_bytes codes, c.fill.auto.buffer, length-take c.min-wanted.result c.loop-buffer.buffer)) c.in_err-fill.ensures.place)
 

@@ -1,5 +1,5 @@
 -- A file alone: what refuses the next file, and what follows it.
-use Rattle.std.proofs.Common.{◌≡◌, [], length, take, Ok, ap, subst, arith, length-take}
+use Rattle.std.proofs.Common.{◌≡◌, ◌-◌, [], length, take, Ok, ap, subst, arith, length-take}
 use Rattle.std.proofs.lemmas.Result.{err_from_is_err_and}
 use Rattle.std.specs.Io.KnownBytes.{Consumes}
 use Rattle.morris_table.specs.FileReading.{Reads, next_file_in}
@@ -43,8 +43,10 @@ returns-clause-outcome g c =
 
 pub returns-in_err-fill-clause-place : goal.returns-in_err-fill-clause-place
 returns-in_err-fill-clause-place g c =
-    stands-past g.B.Geometry.shape (length c.fill.new.buffer) 0 1 (g.S.Source.remaining c.args.source.now) (g.S.Source.remaining c.read_next.new.source)
-    (g.S.Source.remaining c.fill.new.source) (omega (arith, c.fill.auto.buffer)) c.read_next.ensures.place c.in_err-fill.ensures.place
+    let failed = err_from_is_err_and c.from_residual-in_err-fill.result c.from_residual-in_err-fill.ensures.1 in
+    rw (failed.1, failed.2)
+    (stands-past g.B.Geometry.shape (length c.fill.new.buffer - 1) 0 0 (g.S.Source.remaining c.args.source.now) (g.S.Source.remaining c.read_next.new.source)
+    (g.S.Source.remaining c.fill.new.source) (omega (arith, c.fill.auto.buffer)) c.read_next.ensures.place c.in_err-fill.ensures.place)
 
 pub returns-then-branch-gt0-clause-place : goal.returns-then-branch-gt0-clause-place
 returns-then-branch-gt0-clause-place g c =
