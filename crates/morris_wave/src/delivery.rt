@@ -55,11 +55,7 @@ fn put<L: NodeList>(lists: &mut Vec<L>, target: usize, node: u64) -> Result<(), 
 }
 
 // Puts each node into the list of its block.
-fn deal<L: NodeList>(
-    lists: &mut Vec<L>,
-    finder: &Finder,
-    nodes: &[u64],
-) -> Result<(), AllocError>
+fn deal<L: NodeList>(lists: &mut Vec<L>, finder: &Finder, nodes: &[u64]) -> Result<(), AllocError>
     requires small { finder.now.cut.size ≤ L.limit }
     requires count { vec_len lists.old ≡ finder.now.cut.blocks }
     requires inside { All (λ i. i < finder.now.cut.size) nodes.now }
