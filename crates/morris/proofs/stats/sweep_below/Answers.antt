@@ -1,9 +1,8 @@
-use Rattle.std.proofs.Common.{◌≡◌, ◌∷◌, [], ◌++◌, true, is_some, sym, ap, subst, ◌∙◌, append_assoc}
+use Rattle.std.proofs.Common.{◌≡◌, ◌∷◌, [], ◌++◌, sym, ap, subst, ◌∙◌, append_assoc}
 use Rattle.std.specs.List.{Contains}
 use Rattle.std.proofs.lemmas.List.{append-nil}
 use Rattle.std.proofs.lemmas.List.Elements.{Contains-push}
 use Rattle.morris_index.specs.Pairs.{below_of}
-use Rattle.morris_table.specs.Shelves.{table_on}
 use Rattle.morris.proofs.ShelfLaws.{none_missing, one_table_more, one_within_more}
 use Rattle.morris.proofs.stats.sweep_below.Goals as goal
 
