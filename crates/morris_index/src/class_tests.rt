@@ -1,3 +1,5 @@
+ghost use Rattle.std.specs.Prelude.{◌≡◌, ◌<◌, ◌^◌};
+
 use crate::class_pair::ClassPair;
 use crate::classes::Classes;
 use crate::pair::Pair;
@@ -5,6 +7,7 @@ use morris_board::board::Geometry;
 use morris_board::grid::Grid;
 use morris_board::nine::Nine;
 use morris_board::points::Points;
+use morris_board::position::Position;
 use std::alloc::Global;
 use std::process::Abort;
 use std::test::Fail;
@@ -44,14 +47,55 @@ fn a_side_of_a_ring_is_of_the_first_class(rt: HostRuntime) -> Result<(), Fail> {
     Ok(())
 }
 
+/// The set of three points with this mask has the class and the symmetry.
+fn assert_class<B: Geometry>(
+    rt: &impl Abort,
+    classes: &Classes<B>,
+    mask: u32,
+    class: u32,
+    symmetry: u8,
+)
+    requires three { classes.now ≡ 3 }
+    requires within { mask < 2 ^ B.POINTS }
+{
+    let set = Points::from_mask(mask);
+    assert!(rt; set.count() == 3);
+    assert_eq!(rt; classes.class_of(set), (class, symmetry));
+}
+
+// Worked out by another program, from what the classes are.
+#[test]
+fn classes_of_sets_on_nine(rt: HostRuntime) -> Result<(), Fail> {
+    let classes = Classes::<Nine>::make(rt.alloc(), 3)?;
+    assert_class(&rt, &classes, 0x02_02_02, 149, 0);
+    assert_class(&rt, &classes, 0x20_20_20, 149, 2);
+    assert_class(&rt, &classes, 0x54_00_00, 5, 11);
+    assert_class(&rt, &classes, 0xa8_00_00, 9, 11);
+    assert_class(&rt, &classes, 0x00_18_08, 43, 6);
+    assert_class(&rt, &classes, 0x80_24_00, 61, 11);
+    Ok(())
+}
+
+#[test]
+fn classes_of_sets_on_grid(rt: HostRuntime) -> Result<(), Fail> {
+    let classes = Classes::<Grid>::make(rt.alloc(), 3)?;
+    assert_class(&rt, &classes, 0x0b0, 6, 2);
+    assert_class(&rt, &classes, 0x111, 13, 1);
+    assert_class(&rt, &classes, 0x054, 13, 0);
+    assert_class(&rt, &classes, 0x02a, 9, 0);
+    Ok(())
+}
+
 #[test]
 fn each_set_leads_to_the_least_of_its_images(rt: HostRuntime) -> Result<(), Fail> {
     let classes = Classes::<Grid>::make(rt.alloc(), 4)?;
+    let mut sets = 0u32;
     for mask in 0..512 {
         let set = Points::from_mask(mask);
         if set.count() != 4 {
             continue;
         }
+        sets = sets.saturating_add(1);
         let (class, symmetry) = classes.class_of(set);
         let least = classes.representative(class);
         assert_eq!(rt; Grid::image_of(symmetry, set), least);
@@ -61,6 +105,7 @@ fn each_set_leads_to_the_least_of_its_images(rt: HostRuntime) -> Result<(), Fail
             assert!(rt; symmetry <= other || image != least);
         }
     }
+    assert_eq!(rt; sets, 126);
     Ok(())
 }
 
@@ -118,4 +163,25 @@ fn assert_led(rt: &impl Abort, alloc: Global, a: u8, b: u8) -> Result<(), Fail> 
 fn positions_are_led_to_that_of_their_entry(rt: HostRuntime) -> Result<(), Fail> {
     assert_led(&rt, rt.alloc(), 3, 3)?;
     assert_led(&rt, rt.alloc(), 4, 3)
+}
+
+/// The entry of the position that a text shows.
+fn entry_of(rt: &impl Abort, alloc: Global, text: &[u8]) -> Result<u64, Fail> {
+    let position = Position::<Grid>::read(text)?;
+    let (own, other) = position.counts();
+    let pair = Pair::<Grid>::new(own, other)?;
+    let entries = ClassPair::make(alloc, pair)?;
+    assert!(rt; Pair::of(&position) == Some(pair));
+    Ok(entries.index(&position))
+}
+
+// Worked out by another program, from what the entries are.
+#[test]
+fn entries_of_positions_on_grid(rt: HostRuntime) -> Result<(), Fail> {
+    assert_eq!(rt; entry_of(&rt, rt.alloc(), b"XXX.OO.O.")?, 6);
+    assert_eq!(rt; entry_of(&rt, rt.alloc(), b"OO.OXX.X.")?, 138);
+    assert_eq!(rt; entry_of(&rt, rt.alloc(), b"OXOOX.X.X")?, 194);
+    assert_eq!(rt; entry_of(&rt, rt.alloc(), b"OOX.OX.XO")?, 280);
+    assert_eq!(rt; entry_of(&rt, rt.alloc(), b"OO..OOXXX")?, 239);
+    Ok(())
 }
