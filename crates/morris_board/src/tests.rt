@@ -142,7 +142,7 @@ fn assert_images<B: Geometry>(rt: &impl Abort, rows: &[[u8; 3]]) {
     }
 }
 
-/// The first point goes to the second and the second to the first, each by one of the symmetries.
+/// A symmetry and then its inverse leave the point where it is, and so the other way round.
 fn assert_undone<B: Geometry>(rt: &impl Abort, symmetry: u8, point: u8) {
     assert!(rt; symmetry < B::SYMMETRIES);
     assert!(rt; point < B::POINTS);

@@ -5,7 +5,7 @@ use morris_wave::{Batch, Block, Cut, Graph, gather, scatter, sweep};
 use morris_workers::{Tickets, Yard};
 use std::alloc::Global;
 
-pub fn sweeps(rt: &impl Print, alloc: Global) -> Option<()> {
+pub(crate) fn sweeps(rt: &impl Print, alloc: Global) -> Option<()> {
     mark(alloc)?;
     let first = sweep(alloc, &TwoNodes);
     mark(alloc)?;
@@ -13,22 +13,28 @@ pub fn sweeps(rt: &impl Print, alloc: Global) -> Option<()> {
     tell(rt, "sweep", "again", &sweep(alloc, &TwoNodes))
 }
 
-pub fn makes_a_block(rt: &impl Print, alloc: Global) -> Option<()> {
+pub(crate) fn makes_a_block(rt: &impl Print, alloc: Global) -> Option<()> {
     let cut = Cut::new(2, 2).ok()?;
     mark(alloc)?;
     let first = Block::make(alloc, &TwoNodes, &cut, 1);
     mark(alloc)?;
-    tell(rt, "make", "first", &or_refused(first).map(of_block))?;
+    tell(
+        rt,
+        "make",
+        "first",
+        &or_refused(first).map(|block| shown(&block)),
+    )?;
     let again = Block::make(alloc, &TwoNodes, &cut, 1);
-    tell(rt, "make", "again", &or_refused(again).map(of_block))
+    tell(
+        rt,
+        "make",
+        "again",
+        &or_refused(again).map(|block| shown(&block)),
+    )
 }
 
 /// What a block shows: its wave, whether it is complete, its last exit, and how many of its nodes
 /// are won, lost and open.
-fn of_block(block: Block<Pairs>) -> (u16, bool, u32, u64, u64, u64) {
-    shown(&block)
-}
-
 fn shown(block: &Block<Pairs>) -> (u16, bool, u32, u64, u64, u64) {
     let tallies = block.tallies();
     let (won, lost, open) = (tallies.won, tallies.lost, tallies.undecided);
@@ -49,7 +55,7 @@ fn fresh_blocks(alloc: Global) -> Option<Vec<Block<Pairs>>> {
     Some(blocks)
 }
 
-pub fn lists_fresh_nodes(rt: &impl Print, alloc: Global) -> Option<()> {
+pub(crate) fn lists_fresh_nodes(rt: &impl Print, alloc: Global) -> Option<()> {
     let blocks = fresh_blocks(alloc)?;
     let block = blocks.get(1)?;
     mark(alloc)?;
@@ -89,7 +95,7 @@ fn tell_batches(
     }
 }
 
-pub fn scatters(rt: &impl Print, alloc: Global) -> Option<()> {
+pub(crate) fn scatters(rt: &impl Print, alloc: Global) -> Option<()> {
     let blocks = fresh_blocks(alloc)?;
     let block = blocks.get(1)?;
     if block.level() != TwoNodes.level() {
@@ -105,7 +111,7 @@ pub fn scatters(rt: &impl Print, alloc: Global) -> Option<()> {
     tell_batches(rt, "again", &or_refused(again))
 }
 
-pub fn gathers(rt: &impl Print, alloc: Global) -> Option<()> {
+pub(crate) fn gathers(rt: &impl Print, alloc: Global) -> Option<()> {
     let cut = Cut::new(2, 2).ok()?;
     let blocks = blocks_after(alloc, 43)?;
     mark(alloc)?;
@@ -120,7 +126,7 @@ fn given_back(yard: Yard<Pairs>) -> usize {
     yard.into_blocks().len()
 }
 
-pub fn makes_a_yard(rt: &impl Print, alloc: Global) -> Option<()> {
+pub(crate) fn makes_a_yard(rt: &impl Print, alloc: Global) -> Option<()> {
     let blocks = blocks_after(alloc, 0)?;
     let others = blocks_after(alloc, 0)?;
     mark(alloc)?;
@@ -131,7 +137,7 @@ pub fn makes_a_yard(rt: &impl Print, alloc: Global) -> Option<()> {
     tell(rt, "yard", "again", &or_refused(again).map(given_back))
 }
 
-pub fn makes_tickets(rt: &impl Print, alloc: Global) -> Option<()> {
+pub(crate) fn makes_tickets(rt: &impl Print, alloc: Global) -> Option<()> {
     mark(alloc)?;
     let first = Tickets::new(alloc, 5, 4);
     mark(alloc)?;

@@ -6,6 +6,9 @@
 //! The words of the command line are names of calls.
 //! `ci/refused_memory` runs this program once for each request for memory of each call, and has that
 //! request refused.
+//!
+//! Its functions have no clauses: what they print is compared by the gate, with the stored output and
+//! after each refusal, and no contract can say what a terminal takes.
 #![tactic(auto)]
 
 mod engine;

@@ -7,7 +7,7 @@ ghost use Rattle.morris_wave.specs.Samples.{pair_net, pair_lawful};
 use morris_wave::{Block, Cut, Exits, Graph, Levels, scatter};
 use std::alloc::{AllocError, Global};
 
-pub struct Pairs;
+pub(crate) struct Pairs;
 
 impl Levels for Pairs {
     ghost net = { λ _. pair_net };
@@ -16,7 +16,7 @@ impl Levels for Pairs {
 }
 
 #[derive(Drop)]
-pub struct TwoNodes;
+pub(crate) struct TwoNodes;
 
 impl Graph for TwoNodes {
     type Name = Pairs;
@@ -61,7 +61,7 @@ impl Graph for TwoNodes {
 }
 
 /// The two blocks of the graph, a node each, after so many complete waves.
-pub fn blocks_after(alloc: Global, waves: u16) -> Option<Vec<Block<Pairs>>> {
+pub(crate) fn blocks_after(alloc: Global, waves: u16) -> Option<Vec<Block<Pairs>>> {
     let cut = Cut::new(2, 2).ok()?;
     let mut blocks = Vec::new(alloc);
     for number in 0..cut.blocks() {
@@ -78,7 +78,7 @@ pub fn blocks_after(alloc: Global, waves: u16) -> Option<Vec<Block<Pairs>>> {
 }
 
 /// Takes complete blocks to the next wave.
-pub fn advance(blocks: &mut Vec<Block<Pairs>>) -> Option<()> {
+pub(crate) fn advance(blocks: &mut Vec<Block<Pairs>>) -> Option<()> {
     for block in blocks.iter_mut() {
         block.advance().ok()?;
     }

@@ -27,14 +27,14 @@ fn shelf(alloc: Global) -> Option<Shelf<Grid>> {
 }
 
 /// The file of a table.
-pub fn file_of(alloc: Global, table: &Exact<Grid>) -> Option<Vec<u8>> {
+pub(crate) fn file_of(alloc: Global, table: &Exact<Grid>) -> Option<Vec<u8>> {
     let mut sink = IntoWrite::new(Vec::new(alloc));
     write_table(&mut sink, table).ok()?;
     Some(sink.into_inner())
 }
 
 /// Prints the length and the digest of a table's file, or why there is no table.
-pub fn tell_table<E: Display>(
+pub(crate) fn tell_table<E: Display>(
     rt: &impl Print,
     alloc: Global,
     call: &str,
@@ -55,7 +55,7 @@ pub fn tell_table<E: Display>(
 }
 
 /// Prints how many tables stand on a shelf.
-pub fn tell_shelf(rt: &impl Print, call: &str, shelf: &Shelf<Grid>) -> Option<()> {
+pub(crate) fn tell_shelf(rt: &impl Print, call: &str, shelf: &Shelf<Grid>) -> Option<()> {
     let most = Pair::<Grid>::new(5, 4).ok()?;
     let wide = Pair::<Grid>::new(6, 3).ok()?;
     let mut tables = u8::from(shelf.get(wide).is_some());
@@ -67,7 +67,7 @@ pub fn tell_shelf(rt: &impl Print, call: &str, shelf: &Shelf<Grid>) -> Option<()
     println!(rt; "{call} after: {tables} tables on the shelf").ok()
 }
 
-pub fn sweeps_a_pair(rt: &impl Print, alloc: Global) -> Option<()> {
+pub(crate) fn sweeps_a_pair(rt: &impl Print, alloc: Global) -> Option<()> {
     let shelf = Shelf::<Grid>::new(alloc).ok()?;
     let pair = Pair::new(3, 3).ok()?;
     mark(alloc)?;
@@ -79,7 +79,7 @@ pub fn sweeps_a_pair(rt: &impl Print, alloc: Global) -> Option<()> {
     tell_table(rt, alloc, "sweep_pair", "again", &again)
 }
 
-pub fn goes_back(rt: &impl Print, alloc: Global) -> Option<()> {
+pub(crate) fn goes_back(rt: &impl Print, alloc: Global) -> Option<()> {
     let shelf = Shelf::<Grid>::new(alloc).ok()?;
     let graph = PairGraph::new(&shelf, Pair::new(3, 3).ok()?).ok()?;
     if graph.size() < 982 {
@@ -101,7 +101,7 @@ pub fn goes_back(rt: &impl Print, alloc: Global) -> Option<()> {
     tell(rt, "back", "again", &again.map(|_| list.as_slice()))
 }
 
-pub fn makes_a_shelf(rt: &impl Print, alloc: Global) -> Option<()> {
+pub(crate) fn makes_a_shelf(rt: &impl Print, alloc: Global) -> Option<()> {
     mark(alloc)?;
     let first = Shelf::<Grid>::new(alloc);
     mark(alloc)?;
@@ -117,7 +117,7 @@ pub fn makes_a_shelf(rt: &impl Print, alloc: Global) -> Option<()> {
     )
 }
 
-pub fn makes_classes(rt: &impl Print, alloc: Global) -> Option<()> {
+pub(crate) fn makes_classes(rt: &impl Print, alloc: Global) -> Option<()> {
     mark(alloc)?;
     let first = Classes::<Grid>::make(alloc, 3);
     mark(alloc)?;
@@ -132,7 +132,7 @@ pub fn makes_classes(rt: &impl Print, alloc: Global) -> Option<()> {
     )
 }
 
-pub fn makes_entries_of_classes(rt: &impl Print, alloc: Global) -> Option<()> {
+pub(crate) fn makes_entries_of_classes(rt: &impl Print, alloc: Global) -> Option<()> {
     let pair = Pair::<Grid>::new(4, 3).ok()?;
     mark(alloc)?;
     let first = ClassPair::make(alloc, pair);
@@ -148,7 +148,7 @@ pub fn makes_entries_of_classes(rt: &impl Print, alloc: Global) -> Option<()> {
     )
 }
 
-pub fn counts_codes(rt: &impl Print, alloc: Global) -> Option<()> {
+pub(crate) fn counts_codes(rt: &impl Print, alloc: Global) -> Option<()> {
     let shelf = shelf(alloc)?;
     let table = shelf.get(Pair::new(3, 3).ok()?)?;
     mark(alloc)?;
@@ -158,7 +158,7 @@ pub fn counts_codes(rt: &impl Print, alloc: Global) -> Option<()> {
     tell(rt, "tallies", "again", &or_refused(table.tallies(alloc)))
 }
 
-pub fn reads_a_table(rt: &impl Print, alloc: Global) -> Option<()> {
+pub(crate) fn reads_a_table(rt: &impl Print, alloc: Global) -> Option<()> {
     let shelf = shelf(alloc)?;
     let file = file_of(alloc, shelf.get(Pair::new(3, 3).ok()?)?)?;
     let mut source = FromRead::new(file.as_slice());
@@ -170,7 +170,7 @@ pub fn reads_a_table(rt: &impl Print, alloc: Global) -> Option<()> {
     tell(rt, "read_table", "again", &again.map(|raw| raw.len()))
 }
 
-pub fn reads_the_next_table(rt: &impl Print, alloc: Global) -> Option<()> {
+pub(crate) fn reads_the_next_table(rt: &impl Print, alloc: Global) -> Option<()> {
     let shelf = shelf(alloc)?;
     let file = file_of(alloc, shelf.get(Pair::new(3, 3).ok()?)?)?;
     let mut source = FromRead::new(file.as_slice());
@@ -188,7 +188,7 @@ pub fn reads_the_next_table(rt: &impl Print, alloc: Global) -> Option<()> {
     )
 }
 
-pub fn finds_best_moves(rt: &impl Print, alloc: Global) -> Option<()> {
+pub(crate) fn finds_best_moves(rt: &impl Print, alloc: Global) -> Option<()> {
     let shelf = shelf(alloc)?;
     let position = Position::<Grid>::read(b"OO.OXX.X.").ok()?;
     mark(alloc)?;
@@ -207,7 +207,7 @@ pub fn finds_best_moves(rt: &impl Print, alloc: Global) -> Option<()> {
     }
 }
 
-pub fn reports(rt: &impl Print, alloc: Global) -> Option<()> {
+pub(crate) fn reports(rt: &impl Print, alloc: Global) -> Option<()> {
     let shelf = shelf(alloc)?;
     let position = Position::<Grid>::read(b"OO.OXX.X.").ok()?;
     // Has room for the whole, so that the sink asks for no memory.

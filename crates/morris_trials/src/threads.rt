@@ -10,7 +10,7 @@ use std::alloc::Global;
 use std::sync::Wait;
 use std::thread::Threads;
 
-pub fn builds<R: Print + Threads + Wait + Sync>(rt: &R, alloc: Global) -> Option<()> {
+pub(crate) fn builds<R: Print + Threads + Wait + Sync>(rt: &R, alloc: Global) -> Option<()> {
     let shelf = Shelf::<Grid>::new(alloc).ok()?;
     let pair = Pair::new(3, 3).ok()?;
     mark(alloc)?;

@@ -202,7 +202,8 @@ fn are_in_order<N: Levels>(blocks: &[Block<N>]) -> bool
     true
 }
 
-// The entries of all blocks, which stand in the order of their numbers. Each is let go once it was copied.
+// The entries of all blocks, which stand in the order of their numbers. Each is let go once it was
+// copied.
 fn drained<N: Levels>(
     alloc: Global,
     level: u64,
@@ -227,7 +228,8 @@ fn drained<N: Levels>(
     Ok(codes)
 }
 
-// The entries of all blocks, in the order of their numbers. Where the blocks stand in it, each is let go once it was copied.
+// The entries of all blocks, in the order of their numbers. Where the blocks stand in it, each is let
+// go once it was copied.
 fn taken_in_order<N: Levels>(
     alloc: Global,
     level: u64,
