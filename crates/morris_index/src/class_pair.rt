@@ -1,7 +1,7 @@
 //! Pairs of numbers of stones, with their positions numbered by classes.
 ghost use Rattle.std.specs.Prelude.{◌≡◌, ◌<◌, ◌≤◌, ◌^◌, true, IfOk};
 ghost use Rattle.morris_board.specs.Positions.{Sides, IsPosition};
-ghost use Rattle.morris_index.specs.Pairs.{is_of};
+ghost use Rattle.morris_index.specs.Pairs.{IsPair, is_of};
 ghost use Rattle.morris_index.specs.ClassPairs.{led, class_size_of, class_index_of};
 
 use crate::class_halves::{class_half_index, class_half_position, class_half_size};
@@ -45,6 +45,16 @@ impl<B: Geometry> ClassPair<B> {
             greater: Classes::make(alloc, pair.greater())?,
             lesser: Classes::make(alloc, pair.lesser())?,
         })
+    }
+
+    /// The pair.
+    pub fn pair(&self) -> Pair<B>
+        ensures value { result ≡ self.now }
+        ensures lawful { IsPair B.POINTS self.now }
+    {
+        // The proof learns the pair's invariant where a number is asked for.
+        let _ = self.pair.greater();
+        self.pair
     }
 
     /// How many entries the pair has.
