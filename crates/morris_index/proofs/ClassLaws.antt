@@ -1,17 +1,17 @@
 -- Laws of classes: the symmetry and the representative of a set, and the numbers of the classes.
-use Rattle.std.proofs.Common.{◌≡◌, ℕ, zero, suc, ◌+◌, ◌-◌, ◌^◌, ◌<◌, ◌≤◌, Bool, true, false, ◌&&◌, cond, eqb, leb, List, [], ◌∷◌, length, get_or, refl, sym, ap, ◌∙◌, inl, inr, subst, map, arith}
-use Rattle.std.proofs.lemmas.Bool.{cases_Bool, cases_eq, cases_lt, eq-eqb, eqb-true, ne_eqb, le-leb, leb-true, and_parts, and_from, and_left, and_right, both_ways, false_from_ne_true}
+use Rattle.std.proofs.Common.{◌≡◌, ℕ, zero, suc, ◌+◌, ◌-◌, ◌^◌, ◌<◌, ◌≤◌, Bool, true, false, leb, get_or, refl, sym, ap, ◌∙◌, inl, inr, subst, arith}
+use Rattle.std.proofs.lemmas.Bool.{cases_Bool, cases_eq, cases_lt, eq-eqb, eqb-true, le-leb, leb-true, and_parts, and_from, false_from_ne_true}
 use Rattle.std.proofs.lemmas.List.Sums.{position_or_len_is}
 use Rattle.std.proofs.lemmas.List.FromFn.{get_or-range_with_len, length-range_with_len}
-use Rattle.std.specs.List.{range_with_len, list_all, position_or_len}
+use Rattle.std.specs.List.{range_with_len, list_all}
 use Rattle.morris_board.specs.Boards.{Shape}
-use Rattle.morris_board.specs.Sets.{has, members, count_of}
-use Rattle.morris_board.specs.Symmetries.{image_of, inverse_of, IsSymmetry, IsComposite, HasSymmetries}
+use Rattle.morris_board.specs.Sets.{count_of}
+use Rattle.morris_board.specs.Symmetries.{image_of, inverse_of, HasSymmetries}
 use Rattle.morris_board.specs.SymmetryLaws.{below}
-use Rattle.morris_board.proofs.ImageLaws.{IsOneToOne, one_to_one, image_of-lt, count_of-image, image_of-then, image_of-unmoved, IsOneToOne-then}
+use Rattle.morris_board.proofs.ImageLaws.{IsOneToOne, one_to_one, image_of-lt, count_of-image, image_of-then, image_of-unmoved}
 use Rattle.morris_board.proofs.ImageTables.{image_of-same}
-use Rattle.morris_index.specs.Numbering.{rank_of, number_outside, count_below, IsRanked}
-use Rattle.morris_index.specs.Classes.{is_leading, symmetry_of, representative_of, is_representative, classes_below, class_of, class_count}
+use Rattle.morris_index.specs.Numbering.{count_below}
+use Rattle.morris_index.specs.Classes.{is_leading, symmetry_of, representative_of, is_representative, classes_below, class_of}
 use Rattle.morris_index.proofs.RankLaws.{count-none, count-yes, count-no}
 
 -- ---- a test over a range

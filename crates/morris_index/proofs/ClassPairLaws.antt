@@ -7,24 +7,25 @@ use Rattle.std.proofs.lemmas.Nat.{div-add-mod'}
 use Rattle.morris_board.specs.Boards.{Shape}
 use Rattle.morris_board.specs.Sets.{has, members, count_of}
 use Rattle.morris_board.specs.Positions.{Sides, sides, IsPosition}
-use Rattle.morris_board.specs.Symmetries.{image_of, image_sides, inverse_of, HasSymmetries}
+use Rattle.morris_board.specs.Symmetries.{image_sides, HasSymmetries}
 use Rattle.morris_board.proofs.ImageLaws.{one_to_one, IsPosition-image, count_of-image}
 use Rattle.morris_index.specs.Binomials.{choose}
-use Rattle.morris_index.specs.Numbering.{rank_of, number_outside, IsRanked}
+use Rattle.morris_index.specs.Numbering.{rank_of, number_outside}
 use Rattle.morris_index.specs.Classes.{symmetry_of, representative_of, is_representative, classes_below, class_of, class_count}
 use Rattle.morris_index.specs.ClassPairs.{led, class_half_size, class_half_index}
+use Rattle.morris_index.specs.ClassMoves.{class_half_start}
 use Rattle.morris_index.proofs.IndexLaws.{IsPlaced, placed, other_apart, other_rank-lt, rank_outside-same, parts_lt, parts_same, number_outside-count, half_size-few}
-use Rattle.morris_index.proofs.ClassLaws.{symmetry_within, own_symmetry, image_none, representative_within, representative_count, representative_twice, representative_symmetry, test_from, class_alone, class_lt}
+use Rattle.morris_index.proofs.ClassLaws.{symmetry_within, image_none, representative_within, representative_count, representative_twice, representative_symmetry, test_from, class_alone, class_lt}
 use Rattle.morris_index.specs.Numbering.{half_size}
 use Rattle.morris_index.specs.Pairs.{IsHalf}
 use Rattle.std.proofs.Math.Path.{ap₂}
 use Rattle.morris_index.proofs.BinomialTable.{choose_small}
 use Rattle.morris_index.proofs.PairLaws.{other_count}
-use Rattle.morris_index.specs.Pairs.{Counts, has_counts, is_of}
+use Rattle.morris_index.specs.Pairs.{Counts, is_of}
 use Rattle.morris_index.specs.ClassPairs.{class_size_of, class_index_of}
-use Rattle.morris_index.proofs.IndexLaws.{counts_are, halves_of, is_of-first, is_of-second}
+use Rattle.morris_index.proofs.IndexLaws.{halves_of}
 use Rattle.std.proofs.lemmas.Bool.{eq-eqb, ne_eqb}
-use Rattle.std.proofs.Common.{◌≢◌, ◌⊎◌, eqb}
+use Rattle.std.proofs.Common.{◌≢◌}
 
 module _ (board : Shape) (n : ℕ) (few : n ≤ 24) (points : board.points ≡ n) (y : HasSymmetries board) where
   low : board.points ≤ 24
@@ -79,10 +80,9 @@ module _ (board : Shape) (n : ℕ) (few : n ≤ 24) (points : board.points ≡ n
         omega (arith, led_rank-lt, most, mul-le-mul_left {m = class_of board s.own} {n = 4294967296} (choose (n - count_of s.own) (count_of s.other)) (omega arith))
 
     -- what the code adds up
-    pub class_index-is : (class choices rank : ℕ) → class ≡ class_of board s.own → choices ≡ choose (n - count_of s.own) (count_of s.other) → rank ≡ led_rank
-        → class * choices + rank ≡ class_half_index board n s
+    pub class_index-is : (start rank : ℕ) → start ≡ class_half_start board n s.own (count_of s.other) → rank ≡ led_rank → start + rank ≡ class_half_index board n s
     unfolding class_half_index
-    class_index-is class choices rank class_is choices_is rank_is = rw (class_is, choices_is, rank_is) refl
+    class_index-is start rank start_is rank_is = rw (start_is, rank_is) refl
 
   -- two positions with as many stones and the same number are led to the same position
   module _ (s t : Sides) (h : IsPosition board s) (k : IsPosition board t) (own : count_of s.own ≡ count_of t.own) (other : count_of s.other ≡ count_of t.other)
@@ -169,6 +169,21 @@ module _ (board : Shape) (n : ℕ) (few : n ≤ 24) (points : board.points ≡ n
       let l : choose n a * choose (n - a) b ≤ 549755813888 = half_size-few n a b few h in
       omega (arith, l, mul-le-mul_left {m = class_count board a} {n = choose n a} (choose (n - a) b) le)
 
+  -- ---- a number is below how many there are
+
+  pub class_below : (s : Sides) → IsPosition board s → class_of board s.own < class_count board (count_of s.own)
+  unfolding class_of class_count
+  class_below s h =
+      class_lt board (count_of s.own) (representative_of board s.own) (2 ^ board.points)
+      (test_from board (count_of s.own) (representative_of board s.own) (representative_twice board low y s.own h.stones.own_within)
+      (representative_count board low y s.own h.stones.own_within))
+      (representative_within board low y s.own h.stones.own_within)
+
+  half_below : (a b : ℕ) (s : Sides) → IsPosition board s → count_of s.own ≡ a → count_of s.other ≡ b → class_half_index board n s < class_half_size board n a b
+  half_below a b s h own other =
+      subst (λ k. class_half_index board n s < class_half_size board n k b) own
+      (subst (λ k. class_half_index board n s < class_half_size board n (count_of s.own) k) other (class_index-lt s h (class_below s h)))
+
   -- ---- the two halves of a pair
 
   module _ (c : Counts) where
@@ -204,19 +219,6 @@ module _ (board : Shape) (n : ℕ) (few : n ≤ 24) (points : board.points ≡ n
       | inl e ↦ omega (arith, size-one e)
       | inr d ↦ omega (arith, size-two d)
     ]
-
-    class_below : (s : Sides) → IsPosition board s → class_of board s.own < class_count board (count_of s.own)
-    unfolding class_of class_count
-    class_below s h =
-        class_lt board (count_of s.own) (representative_of board s.own) (2 ^ board.points)
-        (test_from board (count_of s.own) (representative_of board s.own) (representative_twice board low y s.own h.stones.own_within)
-        (representative_count board low y s.own h.stones.own_within))
-        (representative_within board low y s.own h.stones.own_within)
-
-    half_below : (a b : ℕ) (s : Sides) → IsPosition board s → count_of s.own ≡ a → count_of s.other ≡ b → class_half_index board n s < class_half_size board n a b
-    half_below a b s h own other =
-        subst (λ k. class_half_index board n s < class_half_size board n k b) own
-        (subst (λ k. class_half_index board n s < class_half_size board n (count_of s.own) k) other (class_index-lt s h (class_below s h)))
 
     pub index-lt : (s : Sides) → IsPosition board s → is_of c s ≡ true → class_index_of board n c s < class_size_of board n c
     index-lt s h of = elim (halves_of c s of) [

@@ -1,16 +1,16 @@
 -- What is kept of the sets of a number of points, set by set in the order of their ranks.
-use Rattle.std.proofs.Common.{◌≡◌, ℕ, suc, ◌+◌, ◌-◌, ◌^◌, ◌<◌, ◌≤◌, true, false, List, [], ◌∷◌, ◌++◌, length, get_or, refl, sym, ap, ◌∙◌, inl, inr, subst, arith, length-append}
-use Rattle.std.proofs.lemmas.Bool.{cases_eq, cases_lt}
+use Rattle.std.proofs.Common.{◌≡◌, ℕ, suc, ◌+◌, ◌-◌, ◌^◌, ◌<◌, ◌≤◌, true, List, [], ◌∷◌, ◌++◌, length, get_or, refl, sym, ap, ◌∙◌, inl, inr, subst, arith, length-append}
+use Rattle.std.proofs.lemmas.Bool.{cases_eq}
 use Rattle.std.proofs.lemmas.List.{get_or_append_left, get_or_push}
 use Rattle.morris_board.specs.Boards.{Shape}
-use Rattle.morris_board.specs.Sets.{has, count_of}
+use Rattle.morris_board.specs.Sets.{count_of}
 use Rattle.morris_board.specs.Symmetries.{HasSymmetries}
 use Rattle.morris_board.proofs.PointsLaws.{has-none}
 use Rattle.morris_index.specs.Binomials.{choose}
-use Rattle.morris_index.specs.Numbering.{number_outside, IsRanked}
+use Rattle.morris_index.specs.Numbering.{IsRanked}
 use Rattle.morris_index.specs.Classes.{symmetry_of, representative_of, is_representative, classes_below, class_of, class_count, IsKept, IsClasses}
 use Rattle.morris_index.proofs.BinomialTable.{choose_small}
-use Rattle.morris_index.proofs.IndexLaws.{number_outside-none, rank_outside-lt, rank_outside-same, within_24}
+use Rattle.morris_index.proofs.IndexLaws.{number_outside-none, rank_outside-lt, rank_outside-same}
 use Rattle.morris_index.proofs.OrderLaws.{rank_at, rank_less, mask_less}
 use Rattle.morris_index.proofs.ClassLaws.{representative_within, representative_count, representative_le, class_of-representative, symmetry_within, representative_twice, test_parts, test_from, test_other, test_count, none_below, none_between, one_more, no_more, class_lt}
 

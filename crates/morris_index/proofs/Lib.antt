@@ -15,3 +15,4 @@ pub mod OrderLaws
 pub mod ClassLaws
 pub mod KeepLaws
 pub mod ClassPairLaws
+pub mod ClassMoveLaws

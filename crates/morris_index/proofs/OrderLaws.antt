@@ -1,8 +1,8 @@
 -- The sets of as many points have their ranks in the order of their masks.
-use Rattle.std.proofs.Common.{◌≡◌, ℕ, zero, suc, ◌+◌, ◌^◌, ◌<◌, ◌≤◌, Bool, true, false, ◌&&◌, cond, eqb, ltb, refl, sym, ap, ◌∙◌, inl, inr, subst, map, arith}
-use Rattle.std.proofs.lemmas.Bool.{cases_Bool, cases_eq, cases_lt, ne_eqb, lt-ltb, and_from, and_right}
+use Rattle.std.proofs.Common.{◌≡◌, ℕ, zero, suc, ◌+◌, ◌^◌, ◌<◌, ◌≤◌, Bool, true, false, ◌&&◌, eqb, ltb, refl, sym, ap, ◌∙◌, inl, inr, map, arith}
+use Rattle.std.proofs.lemmas.Bool.{cases_Bool, cases_eq, cases_lt, lt-ltb, and_right}
 use Rattle.std.proofs.lemmas.Nat.Bits.{bit_at-pow_other}
-use Rattle.std.specs.Int.Bits.{bit_or, or_add_and}
+use Rattle.std.specs.Int.Bits.{or_add_and}
 use lib.Bits.{bit_and}
 use Rattle.morris_board.specs.Sets.{has, members, count_of, with_point, set_where}
 use Rattle.morris_board.proofs.PointsLaws.{has-none, has-above, has-and, has-set_where, set_where-lt, same_points}

@@ -1,12 +1,12 @@
 -- Classes of sets of points. The class of a set is the set of its images under the symmetries of the
 -- board.
-use Rattle.std.specs.Prelude.{◌≡◌, ℕ, ◌+◌, ◌-◌, ◌*◌, ◌^◌, ◌<◌, ◌≤◌, Bool, true, ◌&&◌, nat_eq, nat_le, List, length, slice_index, map}
+use Rattle.std.specs.Prelude.{◌≡◌, ℕ, ◌^◌, ◌<◌, ◌≤◌, Bool, true, ◌&&◌, nat_eq, nat_le, List, length, slice_index}
 use Rattle.std.specs.List.{range_with_len, list_all, position_or_len}
 use Rattle.morris_board.specs.Boards.{Shape}
-use Rattle.morris_board.specs.Sets.{members, count_of}
+use Rattle.morris_board.specs.Sets.{count_of}
 use Rattle.morris_board.specs.Symmetries.{image_of}
 use Rattle.morris_index.specs.Binomials.{choose}
-use Rattle.morris_index.specs.Numbering.{rank_of, number_outside, count_below, IsRanked}
+use Rattle.morris_index.specs.Numbering.{count_below, IsRanked}
 
 -- whether symmetry s leads a set to its image with the least mask
 unfoldable pub is_leading : Shape → ℕ → ℕ → Bool

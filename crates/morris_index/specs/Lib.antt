@@ -5,3 +5,4 @@ pub mod Sums
 pub mod Moves
 pub mod Classes
 pub mod ClassPairs
+pub mod ClassMoves

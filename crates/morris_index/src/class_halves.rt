@@ -3,13 +3,16 @@
 ghost use Rattle.std.specs.Prelude.{◌≡◌, ◌<◌, ◌≤◌, ◌^◌, true};
 ghost use Rattle.morris_board.specs.Sets.{count_of};
 ghost use Rattle.morris_board.specs.Positions.{Sides, IsPosition};
+ghost use Rattle.morris_index.specs.Classes.{symmetry_of, class_of};
 ghost use Rattle.morris_index.specs.ClassPairs.{led, class_half_size, class_half_index};
+ghost use Rattle.morris_index.specs.ClassMoves.{class_half_start};
 ghost use Rattle.morris_index.specs.Pairs.{has_counts, IsHalf};
 
 use crate::binomials::binomial;
 use crate::classes::Classes;
 use crate::ranks::{rank, unrank};
 use morris_board::board::Geometry;
+use morris_board::points::Points;
 use morris_board::position::Position;
 
 /// How many entries there are for `own` stones of the player to move and `other` of the opponent.
@@ -29,11 +32,32 @@ pub(crate) fn class_half_index<B: Geometry>(classes: &Classes<B>, position: &Pos
     ensures below { result < class_half_size B.shape B.POINTS (count_of position.now.own) (count_of position.now.other) }
     ensures few { result < 2 ^ 53 }
 {
-    let own = position.own();
-    let (class, symmetry) = classes.class_of(own);
+    let other = position.other().count();
+    let (start, symmetry) = class_half_start(classes, position.own(), other);
     let led = position.image(symmetry);
-    let choices = binomial(B::POINTS - own.count(), position.other().count());
-    u64::from(class) * choices + rank(led.other(), led.own())
+    start + rank(led.other(), led.own())
+}
+
+/// The number of the first entry in which the player to move stands on the representative of the
+/// class of `own`, among those with as many stones and `other` of the opponent; and the symmetry that
+/// leads `own` there.
+pub(crate) fn class_half_start<B: Geometry>(
+    classes: &Classes<B>,
+    own: Points,
+    other: u8,
+) -> (u64, u8)
+    requires classes { classes.now ≡ count_of own }
+    requires within { own < 2 ^ B.POINTS }
+    requires most { other ≤ 9 }
+    ensures start { result.0 ≡ class_half_start B.shape B.POINTS own other }
+    ensures class { class_of B.shape own < 2 ^ 32 }
+    ensures symmetry { result.1 ≡ symmetry_of B.shape own }
+    ensures one { result.1 < B.SYMMETRIES }
+    ensures few { result.0 < 2 ^ 53 }
+{
+    let (class, symmetry) = classes.class_of(own);
+    let choices = binomial(B::POINTS - own.count(), other);
+    (u64::from(class) * choices, symmetry)
 }
 
 /// The position of the entry with this number among those with `own` stones of the player to move and

@@ -1,13 +1,19 @@
 //! Pairs of numbers of stones, with their positions numbered by classes.
 ghost use Rattle.std.specs.Prelude.{◌≡◌, ◌<◌, ◌≤◌, ◌^◌, true, IfOk};
-ghost use Rattle.morris_board.specs.Positions.{Sides, IsPosition};
+ghost use Rattle.morris_board.specs.Sets.{count_of};
+ghost use Rattle.morris_board.specs.Positions.{Sides, sides, IsPosition};
 ghost use Rattle.morris_index.specs.Pairs.{IsPair, is_of};
+ghost use Rattle.morris_index.specs.Classes.{symmetry_of};
 ghost use Rattle.morris_index.specs.ClassPairs.{led, class_size_of, class_index_of};
+ghost use Rattle.morris_index.specs.ClassMoves.{class_start_of};
 
-use crate::class_halves::{class_half_index, class_half_position, class_half_size};
+use crate::class_halves::{
+    class_half_index, class_half_position, class_half_size, class_half_start,
+};
 use crate::classes::Classes;
 use crate::pair::Pair;
 use morris_board::board::Geometry;
+use morris_board::points::Points;
 use morris_board::position::Position;
 use std::alloc::{AllocError, Global};
 use std::marker::Model;
@@ -85,6 +91,27 @@ impl<B: Geometry> ClassPair<B> {
         } else {
             let first = class_half_size(&self.greater, greater, self.pair.lesser());
             first + class_half_index(&self.lesser, position)
+        }
+    }
+
+    /// The first entry in which the player to move stands on the representative of the class of
+    /// `own`, where the opponent has as many stones as `other`; and the symmetry that leads `own`
+    /// there.
+    pub(crate) fn start_of(&self, own: Points, other: Points) -> (u64, u8)
+        requires within { own < 2 ^ B.POINTS }
+        requires counts { is_of self.now (sides own other) ≡ true }
+        ensures start { result.0 ≡ class_start_of B.shape B.POINTS self.now own (count_of other) }
+        ensures symmetry { result.1 ≡ symmetry_of B.shape own }
+        ensures one { result.1 < B.SYMMETRIES }
+        ensures few { result.0 ≤ 2 ^ 54 }
+    {
+        let greater = self.pair.greater();
+        if own.count() == greater {
+            class_half_start(&self.greater, own, other.count())
+        } else {
+            let first = class_half_size(&self.greater, greater, self.pair.lesser());
+            let (start, symmetry) = class_half_start(&self.lesser, own, other.count());
+            (first + start, symmetry)
         }
     }
 

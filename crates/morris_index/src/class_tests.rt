@@ -3,6 +3,8 @@ ghost use Rattle.std.specs.Prelude.{◌≡◌, ◌<◌, ◌^◌};
 use crate::class_pair::ClassPair;
 use crate::classes::Classes;
 use crate::pair::Pair;
+use crate::successor_entries::SuccessorEntries;
+use crate::tests::moved_by_text;
 use morris_board::board::Geometry;
 use morris_board::grid::Grid;
 use morris_board::nine::Nine;
@@ -184,4 +186,61 @@ fn entries_of_positions_on_grid(rt: HostRuntime) -> Result<(), Fail> {
     assert_eq!(rt; entry_of(&rt, rt.alloc(), b"OOX.OX.XO")?, 280);
     assert_eq!(rt; entry_of(&rt, rt.alloc(), b"OO..OOXXX")?, 239);
     Ok(())
+}
+
+/// The entry once a stone of the player to move has gone from `from` to `to`, where there is one on
+/// `from` and `to` is vacant.
+fn assert_entry_after<B: Geometry>(
+    rt: &impl Abort,
+    alloc: Global,
+    entries: &ClassPair<B>,
+    position: &Position<B>,
+    from: u8,
+    to: u8,
+) -> Result<(), Fail>
+    requires board { to < B.POINTS }
+{
+    assert!(rt; from < B::POINTS && Pair::of(position) == Some(entries.pair()));
+    let (own, other) = (position.own(), position.other());
+    if !own.has(from) || own.has(to) || other.has(to) {
+        return Ok(());
+    }
+    let moved = moved_by_text(rt, alloc, position, from, to)?;
+    assert!(rt; Pair::of(&moved) == Some(entries.pair()));
+    assert_eq!(rt;
+        SuccessorEntries::of(entries, position).entry(from, to),
+        entries.index(&moved)
+    );
+    Ok(())
+}
+
+/// The entries after all moves of one stone, at every `step`th index.
+fn assert_entries_after<B: Geometry>(
+    rt: &impl Abort,
+    alloc: Global,
+    pair: Pair<B>,
+    step: usize,
+) -> Result<(), Fail> {
+    assert!(rt; step > 0);
+    let entries = ClassPair::make(alloc, pair)?;
+    for index in (0..pair.size()).step_by(step) {
+        let position = pair.position(index);
+        for from in 0..B::POINTS {
+            for to in 0..B::POINTS {
+                assert_entry_after(rt, alloc, &entries, &position, from, to)?;
+            }
+        }
+    }
+    Ok(())
+}
+
+#[test]
+fn entries_of_moved_stones_on_grid(rt: HostRuntime) -> Result<(), Fail> {
+    assert_entries_after(&rt, rt.alloc(), Pair::<Grid>::new(3, 3)?, 1)?;
+    assert_entries_after(&rt, rt.alloc(), Pair::<Grid>::new(4, 3)?, 1)
+}
+
+#[test]
+fn entries_of_moved_stones_on_nine(rt: HostRuntime) -> Result<(), Fail> {
+    assert_entries_after(&rt, rt.alloc(), Pair::<Nine>::new(4, 3)?, 2_641_717)
 }

@@ -13,6 +13,7 @@ mod halves;
 pub mod pair;
 pub mod predecessors;
 mod ranks;
+pub mod successor_entries;
 pub mod successors;
 mod sums;
 #[cfg(test)]

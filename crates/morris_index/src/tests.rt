@@ -150,16 +150,15 @@ fn positions_follow_one_another_on_grid(rt: HostRuntime) -> Result<(), Fail> {
     Ok(())
 }
 
-/// The index of the position in which the opponent is to move and the stone on `from` stands on
-/// `to`, by the text of that position.
-fn index_by_text<B: Geometry>(
+/// The position in which the opponent is to move and the stone on `from` stands on `to`, by its
+/// text.
+pub(crate) fn moved_by_text<B: Geometry>(
     rt: &impl Abort,
     alloc: Global,
-    pair: &Pair<B>,
     position: &Position<B>,
     from: u8,
     to: u8,
-) -> Result<u64, Fail> {
+) -> Result<Position<B>, Fail> {
     let mut text = vec![in alloc; b'.'; B::POINTS as usize]?;
     position.write_to(&mut text);
     for character in text.iter_mut() {
@@ -171,7 +170,19 @@ fn index_by_text<B: Geometry>(
     }
     assert!(rt; (from as usize) < text.len() && (to as usize) < text.len());
     text.swap(from as usize, to as usize);
-    let moved = Position::<B>::read(&text)?;
+    Ok(Position::<B>::read(&text)?)
+}
+
+/// The index of that position.
+fn index_by_text<B: Geometry>(
+    rt: &impl Abort,
+    alloc: Global,
+    pair: &Pair<B>,
+    position: &Position<B>,
+    from: u8,
+    to: u8,
+) -> Result<u64, Fail> {
+    let moved = moved_by_text(rt, alloc, position, from, to)?;
     assert!(rt; Pair::of(&moved) == Some(*pair));
     Ok(pair.index(&moved))
 }

@@ -1,9 +1,5 @@
-use Rattle.std.proofs.Common.{◌≡◌, ◌<◌, ◌≤◌, ◌∙◌, ◌/◌, ◌%◌, ◌-◌, ap, sym, subst, refl, arith, rules}
-use Rattle.morris_board.specs.Sets.{count_of}
+use Rattle.std.proofs.Common.{◌≡◌, ◌∙◌, arith, rules}
 use Rattle.morris_board.specs.Positions.{sides}
-use Rattle.morris_index.specs.Binomials.{choose}
-use Rattle.morris_index.specs.Classes.{class_count}
-use Rattle.morris_index.specs.ClassPairs.{led, class_half_size, class_half_index}
 use Rattle.morris_index.proofs.ClassPairLaws.{choices_some, class_part-lt, other_part-lt, led_itself, class_index-of}
 use Rattle.morris_index.proofs.class_halves.class_half_position.Goals as goal
 

@@ -1,4 +1,4 @@
-use Rattle.std.proofs.Common.{◌≡◌, ◌≤◌, ◌∙◌, ap, subst, refl, arith}
+use Rattle.std.proofs.Common.{◌≤◌, subst, refl, arith}
 use Rattle.morris_index.specs.Binomials.{choose}
 use Rattle.morris_index.specs.Classes.{class_count}
 use Rattle.morris_index.specs.ClassPairs.{class_half_size}

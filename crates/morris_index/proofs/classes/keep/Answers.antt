@@ -1,9 +1,7 @@
 -- The set is a representative, or the class of its representative is kept already.
-use Rattle.std.proofs.Common.{◌≡◌, ◌<◌, ◌≤◌, ◌+◌, ◌^◌, ◌∙◌, ◌++◌, ◌∷◌, [], ℕ, length, get_or, sym, ap, subst, arith, refl}
+use Rattle.std.proofs.Common.{◌≡◌, ◌<◌, ◌∙◌, length, get_or, sym, ap, arith}
 use Rattle.std.proofs.lemmas.Grind.{get_or_default_zero}
-use Rattle.morris_board.specs.Sets.{count_of}
-use Rattle.morris_index.specs.Binomials.{choose}
-use Rattle.morris_index.specs.Classes.{symmetry_of, representative_of, class_of, class_count, IsKept}
+use Rattle.morris_index.specs.Classes.{representative_of}
 use Rattle.morris_index.proofs.BinomialTable.{choose_small}
 use Rattle.morris_index.proofs.IndexLaws.{within_24}
 use Rattle.morris_index.proofs.OrderLaws.{rank_at}

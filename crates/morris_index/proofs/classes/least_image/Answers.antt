@@ -1,7 +1,7 @@
 -- Each image is compared with the least one before it.
-use Rattle.std.proofs.Common.{◌≡◌, ◌<◌, ◌≤◌, ◌+◌, ◌^◌, ◌∙◌, sym, ap, subst, arith}
+use Rattle.std.proofs.Common.{◌≡◌, ◌<◌, ◌≤◌, ◌^◌, ◌∙◌, sym, ap, subst, arith}
 use Rattle.morris_board.specs.Symmetries.{image_of}
-use Rattle.morris_index.specs.Classes.{symmetry_of, representative_of}
+use Rattle.morris_index.specs.Classes.{representative_of}
 use Rattle.morris_index.proofs.ClassLaws.{IsFirst, first_one, first_same, first_new, first_is, image_none}
 use Rattle.morris_index.proofs.classes.least_image.Goals as goal
 use Rattle.morris_index.proofs.classes.least_image.Goals.{then-mask, else-mask}

@@ -1,7 +1,6 @@
-use Rattle.std.proofs.Common.{◌≡◌, ◌≢◌, ◌<◌, ◌+◌, ◌∙◌, sym, ap, subst, refl, arith}
+use Rattle.std.proofs.Common.{◌≡◌, ◌≢◌, ◌∙◌, sym, ap, arith}
 use Rattle.morris_board.specs.Sets.{count_of}
-use Rattle.morris_index.specs.ClassPairs.{class_half_size, class_size_of}
-use Rattle.morris_index.proofs.ClassPairLaws.{index-first, index-second, index-lt, class_index-small}
+use Rattle.morris_index.proofs.ClassPairLaws.{index-first, index-second, index-lt}
 use Rattle.morris_index.proofs.class_pair.ClassPair.index.Goals as goal
 
 pub returns-then-count-greater-clause-value : goal.returns-then-count-greater-clause-value

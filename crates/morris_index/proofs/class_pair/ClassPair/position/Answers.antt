@@ -1,6 +1,6 @@
-use Rattle.std.proofs.Common.{◌≡◌, ◌≢◌, ◌<◌, ◌≤◌, ◌-◌, ◌+◌, ◌∙◌, sym, ap, subst, refl, arith}
+use Rattle.std.proofs.Common.{◌≡◌, ◌≢◌, ◌≤◌, ◌-◌, ◌∙◌, sym, refl, arith}
 use Rattle.morris_board.specs.Sets.{count_of}
-use Rattle.morris_index.specs.ClassPairs.{led, class_half_size, class_half_index, class_size_of}
+use Rattle.morris_index.specs.ClassPairs.{class_half_size, class_half_index}
 use Rattle.morris_index.proofs.IndexLaws.{counts_are, is_of-first, is_of-second}
 use Rattle.morris_index.proofs.ClassPairLaws.{index-first, index-second, second_half, led_alone}
 use Rattle.morris_index.proofs.class_pair.ClassPair.position.Goals as goal

@@ -1,5 +1,4 @@
-use Rattle.std.proofs.Common.{◌≡◌, ◌≢◌, ◌+◌, ◌∙◌, sym, ap, subst, refl, arith}
-use Rattle.morris_index.specs.ClassPairs.{class_half_size, class_size_of}
+use Rattle.std.proofs.Common.{◌≡◌, ◌≢◌, sym, arith}
 use Rattle.morris_index.proofs.ClassPairLaws.{size-one, size-two}
 use Rattle.morris_index.proofs.class_pair.ClassPair.size.Goals as goal
 

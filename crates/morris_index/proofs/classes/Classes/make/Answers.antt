@@ -1,4 +1,4 @@
-use Rattle.std.proofs.Common.{◌≡◌, ◌<◌, ◌≤◌, ◌∙◌, ap, sym, arith}
+use Rattle.std.proofs.Common.{◌≡◌, ◌∙◌, ap, arith}
 use Rattle.morris_index.specs.Binomials.{choose}
 use Rattle.morris_index.proofs.IndexLaws.{number_outside-none}
 use Rattle.morris_index.proofs.KeepLaws.{kept-none}

@@ -1,7 +1,6 @@
-use Rattle.std.proofs.Common.{◌≡◌, ◌<◌, ◌≤◌, ◌^◌, ◌∙◌, ℕ, length, get_or, sym, ap, subst, arith}
-use Rattle.morris_board.specs.Sets.{count_of}
-use Rattle.morris_index.specs.Classes.{symmetry_of, representative_of, class_of, class_count}
-use Rattle.morris_index.proofs.KeepLaws.{class_count-is, classes_few, rank_in, class_at, symmetry_at, symmetry_lt, class_of-lt, found_own, found_count, found_within, found_class}
+use Rattle.std.proofs.Common.{◌≡◌, ◌<◌, ◌∙◌, length, get_or, arith}
+use Rattle.morris_index.specs.Classes.{class_count}
+use Rattle.morris_index.proofs.KeepLaws.{class_count-is, found_own, found_count, found_within, found_class}
 use Rattle.std.proofs.lemmas.Grind.{get_or_default_zero}
 use Rattle.morris_index.proofs.classes.Classes.representative.Goals as goal
 

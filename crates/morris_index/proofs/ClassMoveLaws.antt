@@ -1,0 +1,107 @@
+-- The entry of a position after a quiet move, from what is kept of the position before it.
+use Rattle.std.proofs.Common.{◌≡◌, ℕ, ◌+◌, ◌*◌, ◌^◌, ◌<◌, ◌≤◌, true, false, not, ◌||◌, map, refl, sym, ◌∙◌, ap, ap₂, inl, inr, arith}
+use Rattle.std.proofs.lemmas.Bool.{cases_eq, eq-eqb, ne_eqb}
+use Rattle.morris_board.specs.Boards.{Shape}
+use Rattle.morris_board.specs.Sets.{has, members, count_of, with_point, without_point}
+use Rattle.morris_board.specs.Positions.{Sides, sides, IsPosition}
+use Rattle.morris_board.specs.Symmetries.{image_of, image_sides, inverse_of, HasSymmetries}
+use Rattle.morris_board.proofs.ImageLaws.{IsOneToOne, one_to_one, IsPosition-image, has-image_at, image_of-with, image_of-without}
+use Rattle.morris_index.specs.Numbering.{rank_of, number_outside}
+use Rattle.morris_index.specs.ClassPairs.{led, class_half_index, class_index_of}
+use Rattle.morris_index.specs.Pairs.{Counts}
+use Rattle.morris_index.specs.Moves.{InPair, moved_on}
+use Rattle.morris_index.specs.ClassMoves.{class_half_start, class_start_of, IsLedOn}
+use Rattle.morris_index.specs.declared.sums.MovedSums.{MovedSums}
+use Rattle.morris_index.proofs.IndexLaws.{placed}
+use Rattle.morris_index.proofs.PairLaws.{own_count, other_count}
+use Rattle.morris_index.proofs.SumLaws.{without_point-lt}
+use Rattle.morris_index.proofs.MoveLaws.{vacant_own, vacant_other, own_lt, own_24, count_of-moved, after_few}
+use Rattle.morris_index.proofs.ClassLaws.{symmetry_within}
+use Rattle.morris_index.proofs.ClassPairLaws.{index-first, index-second}
+
+module _ (board : Shape) (n : ℕ) (few : n ≤ 24) (points : board.points ≡ n) (y : HasSymmetries board) where
+  on_board : (p : ℕ) → p < n → p < board.points
+  on_board p low = omega arith
+
+  abbrev led_rank_of : Sides → ℕ
+  led_rank_of s = rank_of (map (number_outside (led board s).own) (members (led board s).other))
+
+  half-parts : (s : Sides) → class_half_index board n s ≡ class_half_start board n s.own (count_of s.other) + led_rank_of s
+  unfolding class_half_index
+  half-parts s = refl
+
+  -- an entry by its parts: where those with its class begin, and the rank of the opponent's stones
+  pub entry-parts : (c : Counts) (s : Sides) → class_index_of board n c s ≡ class_start_of board n c s.own (count_of s.other) + led_rank_of s
+  entry-parts c s = elim (cases_eq (count_of s.own) c.greater) [
+    | inl e ↦ index-first board n few points y c s e ∙ half-parts s ∙ rw (eq-eqb (count_of s.own) c.greater e) (omega arith)
+    | inr d ↦
+        index-second board n few points y c s d
+        ∙ rw (ne_eqb (count_of s.own) c.greater d) (omega (arith, half-parts s))
+  ]
+
+  module _ (q : InPair) (g : ℕ) (image : Sides) (mover : MovedSums) (first : ℕ) (k : IsLedOn board n q g image mover first) where
+    abbrev s : Sides
+    s = q.position
+
+    pub leading_within : g < board.symmetries
+    leading_within = rw k.leads (symmetry_within board (omega arith) y s.other k.lawful.stones.other_within)
+
+    one : IsOneToOne board.points (board.image g) (board.image (inverse_of g))
+    one = one_to_one board _ _ (y.symmetry g leading_within)
+
+    pub image_position : IsPosition board image
+    image_position = rw k.led (IsPosition-image board (omega arith) _ _ one s k.lawful)
+
+    pub image_24 : image.own < 2 ^ 24
+    image_24 = own_24 board n points few image image_position
+
+    module _ (u v : ℕ) (v_in : v < n) (here : has s.own u ≡ true) (vacant : not (has s.own v || has s.other v) ≡ true) where
+      pub from_in : u < n
+      from_in = own_lt board n points few s k.lawful u here
+
+      pub image_from_in : board.image g u < n
+      image_from_in = omega (arith, one.within u (on_board u from_in))
+
+      pub image_to_in : board.image g v < n
+      image_to_in = omega (arith, one.within v (on_board v v_in))
+
+      pub image_here : has image.own (board.image g u) ≡ true
+      image_here = rw k.led (has-image_at board.points (omega arith) _ _ one s.own k.lawful.stones.own_within u (on_board u from_in) ∙ here)
+
+      pub image_free_own : has image.own (board.image g v) ≡ false
+      image_free_own = rw k.led (has-image_at board.points (omega arith) _ _ one s.own k.lawful.stones.own_within v (on_board v v_in) ∙ vacant_own _ _ vacant)
+
+      image_free_other : has image.other (board.image g v) ≡ false
+      image_free_other = rw k.led (has-image_at board.points (omega arith) _ _ one s.other k.lawful.stones.other_within v (on_board v v_in) ∙ vacant_other _ _ vacant)
+
+      -- the images of the stones that have moved
+      image_moved : image_of (board.image g) (with_point (without_point s.own u) v) ≡ with_point (without_point image.own (board.image g u)) (board.image g v)
+      image_moved =
+          image_of-with board.points (omega arith) _ _ one (without_point s.own u) v (without_point-lt s.own board.points u k.lawful.stones.own_within) (on_board v v_in)
+          ∙ ap (λ t. with_point t (board.image g v)) (image_of-without board.points (omega arith) _ _ one s.own u k.lawful.stones.own_within (on_board u from_in))
+          ∙ ap (λ (t : Sides). with_point (without_point t.own (board.image g u)) (board.image g v)) (sym k.led)
+
+      led_on : led board (moved_on s u v) ≡ moved_on image (board.image g u) (board.image g v)
+      unfolding led
+      led_on =
+          ap (λ t. image_sides (board.image t) (moved_on s u v)) (sym k.leads)
+          ∙ ap₂ sides (ap (λ (t : Sides). t.other) (sym k.led)) image_moved
+
+      moved_count : count_of (moved_on s u v).other ≡ count_of s.own
+      moved_count = count_of-moved s.own v u n (placed board n s points k.lawful).own_within (omega arith) (vacant_own _ _ vacant) here v_in
+
+      -- what the code adds up
+      abbrev pub led_rank : ℕ
+      led_rank = rank_of (map (number_outside image.other) (members (with_point (without_point image.own (board.image g u)) (board.image g v))))
+
+      pub led_rank-few : led_rank < 1307504 * 1307504
+      led_rank-few = omega (
+        arith,
+        after_few n few q.pair image (placed board n image points image_position) ((own_count image image_position.sized).1) ((other_count image image_position.sized).1)
+            (board.image g u) (board.image g v) image_to_in image_free_own image_free_other image_here,
+      )
+
+      pub entry-is : first + led_rank ≡ class_index_of board n q.pair (moved_on s u v)
+      entry-is = sym (entry-parts q.pair (moved_on s u v)
+          ∙ ap₂ (λ a b. a + b) (ap (class_start_of board n q.pair s.other) moved_count ∙ sym k.start)
+          (ap (λ (t : Sides). rank_of (map (number_outside t.own) (members t.other))) led_on))

@@ -1,0 +1,79 @@
+//! The entries of the positions after a position, where they are numbered by classes.
+ghost use Rattle.std.specs.Prelude.{◌≡◌, ◌<◌, ◌||◌, not, true};
+ghost use Rattle.morris_board.specs.Sets.{has};
+ghost use Rattle.morris_index.specs.Pairs.{is_of};
+ghost use Rattle.morris_index.specs.Moves.{in_pair, moved_on};
+ghost use Rattle.morris_index.specs.ClassPairs.{class_index_of};
+
+use crate::class_pair::ClassPair;
+use crate::pair::Pair;
+use crate::sums::MovedSums;
+use morris_board::board::Geometry;
+use morris_board::position::Position;
+use std::marker::Model;
+
+/// What is kept of a position, so that the entry of each position after a quiet move from it is
+/// found in constant time. In all of these the opponent is to move and stands where it stood, so the
+/// same symmetry leads them.
+#[derive(Drop)]
+#[derive_where(Debug)]
+pub struct SuccessorEntries<B: Geometry> {
+    /// The pair that the position is one of.
+    pair: Pair<B>,
+    /// The position.
+    position: Position<B>,
+    /// The symmetry that leads the positions after it.
+    symmetry: u8,
+    /// The image of the position under this symmetry.
+    led: Position<B>,
+    /// The sums of the images of the stones of the player to move, of which one moves.
+    moved: MovedSums,
+    /// The first entry in which the player to move stands on the images of the stones that the
+    /// opponent has here.
+    start: u64,
+}
+
+impl<B: Geometry> Model for SuccessorEntries<B> {
+    ghost use Rattle.morris_index.specs.Moves.{InPair, in_pair};
+    ghost use Rattle.morris_index.specs.ClassMoves.{IsLedOn};
+
+    ghost Value = { InPair };
+
+    ghost view = { λ entries. in_pair entries.pair entries.position };
+
+    ghost invariant = { λ entries. IsLedOn B.shape B.POINTS (in_pair entries.pair entries.position) entries.symmetry entries.led entries.moved entries.start };
+}
+
+impl<B: Geometry> SuccessorEntries<B> {
+    /// What is to be kept of a position of the pair.
+    pub fn of(pair: &ClassPair<B>, position: &Position<B>) -> SuccessorEntries<B>
+        requires { is_of pair.now position.now ≡ true }
+        ensures { result ≡ in_pair pair.now position.now }
+    {
+        let (start, symmetry) = pair.start_of(position.other(), position.own());
+        let led = position.image(symmetry);
+        SuccessorEntries {
+            pair: pair.pair(),
+            position: *position,
+            symmetry,
+            led,
+            moved: MovedSums::of(led.own(), led.other()),
+            start,
+        }
+    }
+
+    /// The entry of the position after a quiet move from `from` to `to`: a stone of the player to
+    /// move stands on `from`, and `to` is vacant.
+    pub fn entry(&self, from: u8, to: u8) -> u64
+        requires start { has self.now.position.own from ≡ true }
+        requires end { to < B.POINTS }
+        requires vacant { not (has self.now.position.own to || has self.now.position.other to) ≡ true }
+        ensures value { result ≡ class_index_of B.shape B.POINTS self.now.pair (moved_on self.now.position from to) }
+    {
+        let led_from = B::image(self.symmetry, from);
+        let led_to = B::image(self.symmetry, to);
+        let own = self.led.own();
+        let other = self.led.other();
+        self.start + self.moved.rank(other, own, led_from, led_to)
+    }
+}
