@@ -16,3 +16,4 @@ pub mod ClassLaws
 pub mod KeepLaws
 pub mod ClassPairLaws
 pub mod ClassMoveLaws
+pub mod ClassCounts

@@ -8,17 +8,20 @@ use Rattle.std.specs.List.{Contains, list_all, list_any, flat_map}
 use Rattle.morris_board.specs.Sets.{has, members}
 use Rattle.morris_board.specs.Boards.{Shape, is_board}
 use Rattle.morris_board.specs.Positions.{Sides, IsPosition}
+use Rattle.morris_board.specs.Symmetries.{HasSymmetries}
 use Rattle.morris_moves.specs.declared.step.Move.{Move}
 use Rattle.morris_moves.specs.Rules.{closes, takable, reach, move, moves_to, moves_from, moves_of, result_of}
 use Rattle.morris_moves.proofs.LegalLaws.{listed_iff, legal_where_taken}
-use Rattle.morris_index.specs.Pairs.{Counts, IsPair, is_of, size_of, index_of}
-use Rattle.morris_index.proofs.IndexLaws.{placed, index-same}
+use Rattle.morris_index.specs.Pairs.{Counts, IsPair, is_of}
+use Rattle.morris_index.proofs.IndexLaws.{placed}
 use Rattle.morris_wave.specs.Nets.{Net}
 use Rattle.morris_wave.specs.declared.network.Exits.{Exits}
 use Rattle.morris_wave.specs.Exits.{is_odd, is_won_code, least, greatest, depths, exits_of, some_below, exits_lost, exits_won}
 use Rattle.morris_wave.specs.Values.{is_lost, is_won, is_decided, is_lost_exit, is_won_exit, HasCode, HasDepth}
 use Rattle.morris_wave.proofs.Depths.{lost_more, won_more, lost_parity, won_parity, apart, decided_by_then, none_decided}
 use Rattle.morris_wave.proofs.ExitTests.{depths_yes, depths_no, some_exit_lost, each_exit_won}
+use Rattle.morris_table.specs.Entries.{entry_count, entry_index, has_own_entry}
+use Rattle.morris_table.specs.EntryLaws.{IsLaid, laid}
 use Rattle.morris_table.specs.Codes.{IsCodeOf, code_to}
 use Rattle.morris_table.specs.PairNets.{is_quiet, is_capture, quiet_results, capture_codes, pair_net, level_of, net_at}
 use Rattle.morris_table.specs.Tables.{Table, IsTable}
@@ -29,7 +32,6 @@ use Rattle.morris_table.specs.Agreement.{code_above, code_from, stated_code, res
 use Rattle.morris_table.specs.FilterLaws.{list_any-map, all_parts, any_parts}
 use Rattle.morris_table.specs.NetLaws.{points_few, quiet-at, exits-at, index_in, quiet-stays, result-position, net_at-level_of}
 use Rattle.morris_wave.proofs.Summaries.{exits_of-more}
-use Rattle.morris_table.proofs.GraphLaws.{exits_same}
 
 -- ---- depths of lost codes are even, and those of won codes odd
 
@@ -251,125 +253,133 @@ module _ (g : Net) (i : ℕ) where
 -- ---- agreement in the graph of a pair
 
 module _ (board : Shape) (t : Table) where
-  stated-quiet : (s : Sides) (m : Move) → is_quiet m ≡ true → stated_code board t s m ≡ get_or t.codes (index_of board.points t.pair (result_of s m)) 0
+  stated-quiet : (s : Sides) (m : Move) → is_quiet m ≡ true → stated_code board t s m ≡ get_or t.codes (entry_index board board.points t.layout t.pair (result_of s m)) 0
   unfolding stated_code
-  stated-quiet s m quiet = cond-true {A = ℕ} (is_quiet m) (get_or t.codes (index_of board.points t.pair (result_of s m)) 0) (code_to 65534 board (result_of s m)) quiet
+  stated-quiet s m quiet = cond-true {A = ℕ} (is_quiet m) (get_or t.codes (entry_index board board.points t.layout t.pair (result_of s m)) 0) (code_to 65534 board (result_of s m)) quiet
 
   stated-capture : (s : Sides) (m : Move) → is_quiet m ≡ false → stated_code board t s m ≡ code_to 65534 board (result_of s m)
   unfolding stated_code
-  stated-capture s m takes = cond-false {A = ℕ} (is_quiet m) (get_or t.codes (index_of board.points t.pair (result_of s m)) 0) (code_to 65534 board (result_of s m)) takes
+  stated-capture s m takes = cond-false {A = ℕ} (is_quiet m) (get_or t.codes (entry_index board board.points t.layout t.pair (result_of s m)) 0) (code_to 65534 board (result_of s m)) takes
 
-module _ (board : Shape) (few : board.points ≤ 24) (t : Table) where
+module _ (board : Shape) (few : board.points ≤ 24) (t : Table) (laid : IsLaid board t.layout t.pair) where
   abbrev Means : ℕ → Sides → Type 0
-  Means n s = Says (pair_net board t.pair) (index_of board.points t.pair s) (get_or t.codes (index_of board.points t.pair s) 0) n
+  Means n s = Says (pair_net board t.layout t.pair) (entry_index board board.points t.layout t.pair s) (get_or t.codes (entry_index board board.points t.layout t.pair s) 0) n
 
   -- what the rules give a position, where each quiet result is stated as it is
-  module _ (n : ℕ) (s : Sides) (h : IsPosition board s) (of : is_of t.pair s ≡ true)
+  module _ (n : ℕ) (s : Sides) (h : IsPosition board s) (of : is_of t.pair s ≡ true) (kept : has_own_entry board t.layout s ≡ true)
       (each : (u : Sides) → IsPosition board u → is_of t.pair u ≡ true → Means n u) where
     there : (m : Move) → Contains (moves_of board s) m → is_quiet m ≡ true → Means n (result_of s m)
     there m listed quiet = each (result_of s m) (result-position board few s h m listed) (quiet-stays board few s h m listed t.pair of quiet)
 
-    rule_is_lost : is_lost_exit (suc n) (code_from (result_codes board t s)) ≡ is_lost (pair_net board t.pair) (suc n) (index_of board.points t.pair s)
+    rule_is_lost : is_lost_exit (suc n) (code_from (result_codes board t s)) ≡ is_lost (pair_net board t.layout t.pair) (suc n) (entry_index board board.points t.layout t.pair s)
     unfolding result_codes quiet_results capture_codes is_lost
     rule_is_lost =
         rule_lost n (map (stated_code board t s) (moves_of board s))
         ∙ list_all-map (is_won_exit n) (stated_code board t s) (moves_of board s)
         ∙ sym (
-        ap₂ (λ quiet codes. list_all (is_won (pair_net board t.pair) n) quiet && list_all (is_won_exit n) codes)
-        (quiet-at board few t.pair s h of) (exits-at board few t.pair s h of)
+        ap₂ (λ quiet codes. list_all (is_won (pair_net board t.layout t.pair) n) quiet && list_all (is_won_exit n) codes)
+        (quiet-at board few t.layout t.pair laid s h of kept) (exits-at board few t.layout t.pair laid s h of kept)
         ∙ ap₂ (λ a b. a && b)
-        (list_all-map (is_won (pair_net board t.pair) n) (λ m. index_of board.points t.pair (result_of s m)) (filter is_quiet (moves_of board s)))
+        (list_all-map (is_won (pair_net board t.layout t.pair) n) (λ m. entry_index board board.points t.layout t.pair (result_of s m)) (filter is_quiet (moves_of board s)))
         (list_all-map (is_won_exit n) (λ m. code_to 65534 board (result_of s m)) (filter is_capture (moves_of board s)))
         ∙ all_parts is_quiet (λ m. is_won_exit n (stated_code board t s m))
-        (λ m. is_won (pair_net board t.pair) n (index_of board.points t.pair (result_of s m))) (λ m. is_won_exit n (code_to 65534 board (result_of s m)))
+        (λ m. is_won (pair_net board t.layout t.pair) n (entry_index board board.points t.layout t.pair (result_of s m))) (λ m. is_won_exit n (code_to 65534 board (result_of s m)))
         (moves_of board s)
         (λ m listed quiet. sym (there m listed quiet).1 ∙ ap (is_won_exit n) (sym (stated-quiet board t s m quiet)))
         (λ m listed takes. ap (is_won_exit n) (sym (stated-capture board t s m takes))))
 
-    rule_is_won : is_won_exit (suc n) (code_from (result_codes board t s)) ≡ is_won (pair_net board t.pair) (suc n) (index_of board.points t.pair s)
+    rule_is_won : is_won_exit (suc n) (code_from (result_codes board t s)) ≡ is_won (pair_net board t.layout t.pair) (suc n) (entry_index board board.points t.layout t.pair s)
     unfolding result_codes quiet_results capture_codes is_won
     rule_is_won =
         rule_won n (map (stated_code board t s) (moves_of board s))
         ∙ list_any-map (is_lost_exit n) (stated_code board t s) (moves_of board s)
         ∙ sym (
-        ap₂ (λ quiet codes. list_any (is_lost (pair_net board t.pair) n) quiet || list_any (is_lost_exit n) codes)
-        (quiet-at board few t.pair s h of) (exits-at board few t.pair s h of)
+        ap₂ (λ quiet codes. list_any (is_lost (pair_net board t.layout t.pair) n) quiet || list_any (is_lost_exit n) codes)
+        (quiet-at board few t.layout t.pair laid s h of kept) (exits-at board few t.layout t.pair laid s h of kept)
         ∙ ap₂ (λ a b. a || b)
-        (list_any-map (is_lost (pair_net board t.pair) n) (λ m. index_of board.points t.pair (result_of s m)) (filter is_quiet (moves_of board s)))
+        (list_any-map (is_lost (pair_net board t.layout t.pair) n) (λ m. entry_index board board.points t.layout t.pair (result_of s m)) (filter is_quiet (moves_of board s)))
         (list_any-map (is_lost_exit n) (λ m. code_to 65534 board (result_of s m)) (filter is_capture (moves_of board s)))
         ∙ any_parts is_quiet (λ m. is_lost_exit n (stated_code board t s m))
-        (λ m. is_lost (pair_net board t.pair) n (index_of board.points t.pair (result_of s m))) (λ m. is_lost_exit n (code_to 65534 board (result_of s m)))
+        (λ m. is_lost (pair_net board t.layout t.pair) n (entry_index board board.points t.layout t.pair (result_of s m))) (λ m. is_lost_exit n (code_to 65534 board (result_of s m)))
         (moves_of board s)
         (λ m listed quiet. sym (there m listed quiet).0 ∙ ap (is_lost_exit n) (sym (stated-quiet board t s m quiet)))
         (λ m listed takes. ap (is_lost_exit n) (sym (stated-capture board t s m takes))))
 
   -- in fewer than 0 plies no code says anything, and nothing is decided
-  means_none : (code i : ℕ) → Says (pair_net board t.pair) i code 0
-  means_none code i = open_says (pair_net board t.pair) i code 0 (none_decided (pair_net board t.pair) i)
+  means_none : (code i : ℕ) → Says (pair_net board t.layout t.pair) i code 0
+  means_none code i = open_says (pair_net board t.layout t.pair) i code 0 (none_decided (pair_net board t.layout t.pair) i)
       (or_parts (is_lost_exit 0 code) (is_won_exit 0 code) (none_says code)).0 (or_parts (is_lost_exit 0 code) (is_won_exit 0 code) (none_says code)).1
 
   -- where all entries agree, each says what the graph says
-  module _ (agree : (i : ℕ) → i < size_of board.points t.pair → Agrees board t i) where
+  module _ (agree : (i : ℕ) → i < entry_count board board.points t.layout t.pair → Agrees board t i) where
     agreed_means : (n : ℕ) (s : Sides) → IsPosition board s → is_of t.pair s ≡ true → Means n s
-    agreed_means zero s h of = means_none (get_or t.codes (index_of board.points t.pair s) 0) (index_of board.points t.pair s)
+    agreed_means zero s h of = means_none (get_or t.codes (entry_index board board.points t.layout t.pair s) 0) (entry_index board board.points t.layout t.pair s)
     agreed_means (suc n) s h of =
-        let here = agree (index_of board.points t.pair s) (index_in board few t.pair s h of) s h of refl in (
-          ap (is_lost_exit (suc n)) here ∙ rule_is_lost n s h of (agreed_means n),
-          ap (is_won_exit (suc n)) here ∙ rule_is_won n s h of (agreed_means n),
-        )
+        let stands = laid.stands s h of in
+        let u = stands.0 in
+        let w = stands.1 in
+        let here = agree (entry_index board board.points t.layout t.pair u) (laid.below u w.position w.of) u w.position w.of w.own refl in
+        let says : Means (suc n) u = (
+          ap (is_lost_exit (suc n)) here ∙ rule_is_lost n u w.position w.of w.own (agreed_means n),
+          ap (is_won_exit (suc n)) here ∙ rule_is_won n u w.position w.of w.own (agreed_means n),
+        ) in
+        subst (λ i. Says (pair_net board t.layout t.pair) i (get_or t.codes i 0) (suc n)) w.entry says
 
     agreed_code : (s : Sides) → IsPosition board s → is_of t.pair s ≡ true
-        → HasCode (pair_net board t.pair) (index_of board.points t.pair s) (get_or t.codes (index_of board.points t.pair s) 0)
-    agreed_code s h of = says_code (pair_net board t.pair) (index_of board.points t.pair s) _ (λ n. agreed_means n s h of)
+        → HasCode (pair_net board t.layout t.pair) (entry_index board board.points t.layout t.pair s) (get_or t.codes (entry_index board board.points t.layout t.pair s) 0)
+    agreed_code s h of = says_code (pair_net board t.layout t.pair) (entry_index board board.points t.layout t.pair s) _ (λ n. agreed_means n s h of)
 
   -- where each entry is the node's code, each agrees
   module _ (exact : (s : Sides) → IsPosition board s → is_of t.pair s ≡ true
-      → HasCode (pair_net board t.pair) (index_of board.points t.pair s) (get_or t.codes (index_of board.points t.pair s) 0)) where
+      → HasCode (pair_net board t.layout t.pair) (entry_index board board.points t.layout t.pair s) (get_or t.codes (entry_index board board.points t.layout t.pair s) 0)) where
     exact_means : (n : ℕ) (s : Sides) → IsPosition board s → is_of t.pair s ≡ true → Means n s
-    exact_means n s h of = code_says (pair_net board t.pair) (index_of board.points t.pair s) _ (exact s h of) n
+    exact_means n s h of = code_says (pair_net board t.layout t.pair) (entry_index board board.points t.layout t.pair s) _ (exact s h of) n
 
-    exact_agrees : (s : Sides) → IsPosition board s → is_of t.pair s ≡ true
-        → get_or t.codes (index_of board.points t.pair s) 0 ≡ code_from (result_codes board t s)
-    exact_agrees s h of = same_code _ _ lost won
+    exact_agrees : (s : Sides) → IsPosition board s → is_of t.pair s ≡ true → has_own_entry board t.layout s ≡ true
+        → get_or t.codes (entry_index board board.points t.layout t.pair s) 0 ≡ code_from (result_codes board t s)
+    exact_agrees s h of kept = same_code _ _ lost won
       where
         none : (code : ℕ) → (is_lost_exit 0 code ≡ false) × (is_won_exit 0 code ≡ false)
         none code = or_parts (is_lost_exit 0 code) (is_won_exit 0 code) (none_says code)
 
-        lost : (n : ℕ) → is_lost_exit n (get_or t.codes (index_of board.points t.pair s) 0) ≡ is_lost_exit n (code_from (result_codes board t s))
-        lost zero = (none (get_or t.codes (index_of board.points t.pair s) 0)).0 ∙ sym (none (code_from (result_codes board t s))).0
-        lost (suc n) = (exact_means (suc n) s h of).0 ∙ sym (rule_is_lost n s h of (exact_means n))
+        lost : (n : ℕ) → is_lost_exit n (get_or t.codes (entry_index board board.points t.layout t.pair s) 0) ≡ is_lost_exit n (code_from (result_codes board t s))
+        lost zero = (none (get_or t.codes (entry_index board board.points t.layout t.pair s) 0)).0 ∙ sym (none (code_from (result_codes board t s))).0
+        lost (suc n) = (exact_means (suc n) s h of).0 ∙ sym (rule_is_lost n s h of kept (exact_means n))
 
-        won : (n : ℕ) → is_won_exit n (get_or t.codes (index_of board.points t.pair s) 0) ≡ is_won_exit n (code_from (result_codes board t s))
-        won zero = (none (get_or t.codes (index_of board.points t.pair s) 0)).1 ∙ sym (none (code_from (result_codes board t s))).1
-        won (suc n) = (exact_means (suc n) s h of).1 ∙ sym (rule_is_won n s h of (exact_means n))
+        won : (n : ℕ) → is_won_exit n (get_or t.codes (entry_index board board.points t.layout t.pair s) 0) ≡ is_won_exit n (code_from (result_codes board t s))
+        won zero = (none (get_or t.codes (entry_index board board.points t.layout t.pair s) 0)).1 ∙ sym (none (code_from (result_codes board t s))).1
+        won (suc n) = (exact_means (suc n) s h of).1 ∙ sym (rule_is_won n s h of kept (exact_means n))
 
 -- ---- in the words of the game
 
-module _ (board : Shape) (lawful : is_board board ≡ true) (t : Table) (raw : IsRaw board t) (values : HasGameValues board t.pair) where
+module _ (board : Shape) (lawful : is_board board ≡ true) (y : HasSymmetries board) (t : Table) (raw : IsRaw board t) (values : HasGameValues board t.layout t.pair) where
+  entries : IsLaid board t.layout t.pair
+  entries = laid board (points_few board lawful) y t.layout t.pair raw.lawful
+
   -- the values of the pair's graph are those of the game
   node_value : (s : Sides) (code : ℕ) → IsPosition board s → is_of t.pair s ≡ true
-      → (HasCode (pair_net board t.pair) (index_of board.points t.pair s) code → IsCodeOf board s code)
-      × (IsCodeOf board s code → HasCode (pair_net board t.pair) (index_of board.points t.pair s) code)
+      → (HasCode (pair_net board t.layout t.pair) (entry_index board board.points t.layout t.pair s) code → IsCodeOf board s code)
+      × (IsCodeOf board s code → HasCode (pair_net board t.layout t.pair) (entry_index board board.points t.layout t.pair s) code)
   node_value s code h of =
-      let same = net_at-level_of board lawful t.pair raw.lawful in
+      let same = net_at-level_of board lawful y t.layout t.pair raw.lawful in
       let both = values s code h of in (
-        λ e. both.0 (subst (λ g. HasCode g (index_of board.points t.pair s) code) (sym same) e),
-        λ e. subst (λ g. HasCode g (index_of board.points t.pair s) code) same (both.1 e),
+        λ e. both.0 (subst (λ g. HasCode g (entry_index board board.points t.layout t.pair s) code) (sym same) e),
+        λ e. subst (λ g. HasCode g (entry_index board board.points t.layout t.pair s) code) same (both.1 e),
       )
 
-  pub exact_if_agreed : ((i : ℕ) → i < size_of board.points t.pair → Agrees board t i) → IsTable board t
+  pub exact_if_agreed : ((i : ℕ) → i < entry_count board board.points t.layout t.pair → Agrees board t i) → IsTable board t
   exact_if_agreed agree = record {
     lawful = raw.lawful;
     counted = raw.counted;
     small = raw.small;
-    exact = λ s h of. (node_value s (get_or t.codes (index_of board.points t.pair s) 0) h of).0 (agreed_code board (points_few board lawful) t agree s h of);
+    exact = λ s h of. (node_value s (get_or t.codes (entry_index board board.points t.layout t.pair s) 0) h of).0 (agreed_code board (points_few board lawful) t entries agree s h of);
   }
 
   pub agreed_if_exact : IsTable board t → (i : ℕ) → Agrees board t i
-  agreed_if_exact h i s position of at =
+  agreed_if_exact h i s position of kept at =
       subst (λ k. get_or t.codes k 0 ≡ code_from (result_codes board t s)) at
-      (exact_agrees board (points_few board lawful) t
-      (λ u there belongs. (node_value u (get_or t.codes (index_of board.points t.pair u) 0) there belongs).1 (h.exact u there belongs)) s position of)
+      (exact_agrees board (points_few board lawful) t entries
+      (λ u there belongs. (node_value u (get_or t.codes (entry_index board board.points t.layout t.pair u) 0) there belongs).1 (h.exact u there belongs)) s position of kept)
 
 -- ---- the summary of a position's results, move by move
 
@@ -425,7 +435,7 @@ module _ (board : Shape) (t : Table) (s : Sides) where
   pub quiet_codes-append : (ms more : List Move) → quiet_codes board t s (ms ++ more) ≡ quiet_codes board t s ms ++ quiet_codes board t s more
   unfolding quiet_codes
   quiet_codes-append ms more =
-      let f : Move → ℕ = λ x. get_or t.codes (index_of board.points t.pair (result_of s x)) 0 in
+      let f : Move → ℕ = λ x. get_or t.codes (entry_index board board.points t.layout t.pair (result_of s x)) 0 in
       ap (map f) (filter-append is_quiet ms more) ∙ map-append f (filter is_quiet ms) (filter is_quiet more)
 
   captures_none : (u v : ℕ) (ts : List ℕ) → quiet_codes board t s (map (λ x. move u v (Some x)) ts) ≡ []
@@ -448,10 +458,10 @@ module _ (board : Shape) (t : Table) (s : Sides) where
       codes_to-more u v vs ∙ ap (λ xs. codes_to u vs ++ xs) none ∙ append-nil (codes_to u vs)
 
   pub codes_to-quiet : (u v : ℕ) (vs : List ℕ) → closes board s.own u v ≡ false → (code : ℕ)
-      → code ≡ get_or t.codes (index_of board.points t.pair (result_of s (move u v None))) 0 → codes_to u (vs ++ v ∷ []) ≡ codes_to u vs ++ code ∷ []
+      → code ≡ get_or t.codes (entry_index board board.points t.layout t.pair (result_of s (move u v None))) 0 → codes_to u (vs ++ v ∷ []) ≡ codes_to u vs ++ code ∷ []
   unfolding moves_to quiet_codes
   codes_to-quiet u v vs free code is =
-      let one : quiet_codes board t s (moves_to board s u v) ≡ get_or t.codes (index_of board.points t.pair (result_of s (move u v None))) 0 ∷ [] = rw free refl in
+      let one : quiet_codes board t s (moves_to board s u v) ≡ get_or t.codes (entry_index board board.points t.layout t.pair (result_of s (move u v None))) 0 ∷ [] = rw free refl in
       codes_to-more u v vs ∙ ap (λ xs. codes_to u vs ++ xs) (one ∙ ap (λ x. x ∷ []) (sym is))
 
   pub codes_to-all : (u : ℕ) → codes_to u (members (reach board s u)) ≡ quiet_codes board t s (moves_from board s u)
@@ -483,11 +493,11 @@ module _ (board : Shape) (t : Table) (s : Sides) where
   or_swap false false = refl
 
   -- a test of all results, by one of the captures and one of the quiet results
-  all_both : (p : ℕ → Bool) → list_all p (capture_codes board s ++ map (λ m. get_or t.codes (index_of board.points t.pair (result_of s m)) 0) (filter is_quiet (moves_of board s)))
+  all_both : (p : ℕ → Bool) → list_all p (capture_codes board s ++ map (λ m. get_or t.codes (entry_index board board.points t.layout t.pair (result_of s m)) 0) (filter is_quiet (moves_of board s)))
       ≡ list_all p (result_codes board t s)
   unfolding result_codes capture_codes
   all_both p =
-      let f : Move → ℕ = λ m. get_or t.codes (index_of board.points t.pair (result_of s m)) 0 in
+      let f : Move → ℕ = λ m. get_or t.codes (entry_index board board.points t.layout t.pair (result_of s m)) 0 in
       let g : Move → ℕ = λ m. code_to 65534 board (result_of s m) in
       list_all-append p (map g (filter is_capture (moves_of board s))) (map f (filter is_quiet (moves_of board s)))
       ∙ and_swap (list_all p (map g (filter is_capture (moves_of board s)))) (list_all p (map f (filter is_quiet (moves_of board s))))
@@ -497,11 +507,11 @@ module _ (board : Shape) (t : Table) (s : Sides) where
       (λ m listed takes. ap p (sym (stated-capture board t s m takes)))
       ∙ sym (list_all-map p (stated_code board t s) (moves_of board s))
 
-  any_both : (p : ℕ → Bool) → list_any p (capture_codes board s ++ map (λ m. get_or t.codes (index_of board.points t.pair (result_of s m)) 0) (filter is_quiet (moves_of board s)))
+  any_both : (p : ℕ → Bool) → list_any p (capture_codes board s ++ map (λ m. get_or t.codes (entry_index board board.points t.layout t.pair (result_of s m)) 0) (filter is_quiet (moves_of board s)))
       ≡ list_any p (result_codes board t s)
   unfolding result_codes capture_codes
   any_both p =
-      let f : Move → ℕ = λ m. get_or t.codes (index_of board.points t.pair (result_of s m)) 0 in
+      let f : Move → ℕ = λ m. get_or t.codes (entry_index board board.points t.layout t.pair (result_of s m)) 0 in
       let g : Move → ℕ = λ m. code_to 65534 board (result_of s m) in
       list_any-append p (map g (filter is_capture (moves_of board s))) (map f (filter is_quiet (moves_of board s)))
       ∙ or_swap (list_any p (map g (filter is_capture (moves_of board s)))) (list_any p (map f (filter is_quiet (moves_of board s))))
@@ -515,9 +525,9 @@ module _ (board : Shape) (t : Table) (s : Sides) where
   pub added-all : (e : Exits) → e ≡ exits_of (capture_codes board s) → code_above (all_added e (quiet_codes board t s (moves_of board s))) ≡ code_from (result_codes board t s)
   unfolding quiet_codes
   added-all e is =
-      ap code_above (ap (λ x. all_added x (map (λ m. get_or t.codes (index_of board.points t.pair (result_of s m)) 0) (filter is_quiet (moves_of board s)))) is
-      ∙ exits_of-added (capture_codes board s) (map (λ m. get_or t.codes (index_of board.points t.pair (result_of s m)) 0) (filter is_quiet (moves_of board s))))
-      ∙ same_from_rule (capture_codes board s ++ map (λ m. get_or t.codes (index_of board.points t.pair (result_of s m)) 0) (filter is_quiet (moves_of board s)))
+      ap code_above (ap (λ x. all_added x (map (λ m. get_or t.codes (entry_index board board.points t.layout t.pair (result_of s m)) 0) (filter is_quiet (moves_of board s)))) is
+      ∙ exits_of-added (capture_codes board s) (map (λ m. get_or t.codes (entry_index board board.points t.layout t.pair (result_of s m)) 0) (filter is_quiet (moves_of board s))))
+      ∙ same_from_rule (capture_codes board s ++ map (λ m. get_or t.codes (entry_index board board.points t.layout t.pair (result_of s m)) 0) (filter is_quiet (moves_of board s)))
       (result_codes board t s) (λ n. all_both (is_won_exit n)) (λ n. any_both (is_lost_exit n))
 
   -- a capture that wins at once decides
@@ -531,41 +541,37 @@ pub stays : (board : Shape) → is_board board ≡ true → (c : Counts) (s : Si
     → (m : Move) → Contains (moves_of board s) m → is_quiet m ≡ true → is_of c (result_of s m) ≡ true
 stays board lawful c s h of m listed quiet = quiet-stays board (points_few board lawful) s h m listed c of quiet
 
--- the code that the table states for what a move leads to, found step by step
-pub stated_at : (board : Shape) (n : ℕ) → board.points ≡ n → (t : Table) (s : Sides) (m : Move) (pair : Counts) (u : Sides) (index code : ℕ)
-    → pair ≡ t.pair → u ≡ result_of s m → index ≡ index_of n pair u → code ≡ get_or t.codes index 0
-    → code ≡ get_or t.codes (index_of board.points t.pair (result_of s m)) 0
-stated_at board n points t s m pair u index code pair_is u_is index_is is =
-    is ∙ ap (λ k. get_or t.codes k 0) (index_is ∙ ap (λ d. index_of n d u) pair_is ∙ ap (index_of n t.pair) u_is ∙ ap (λ k. index_of k t.pair (result_of s m)) (sym points))
+-- the code that the table states for what a move leads to, with the number of points given apart
+pub stated_at : (board : Shape) (n : ℕ) → board.points ≡ n → (t : Table) (s : Sides) (m : Move) (index code : ℕ)
+    → index ≡ entry_index board n t.layout t.pair (result_of s m) → code ≡ get_or t.codes index 0
+    → code ≡ get_or t.codes (entry_index board board.points t.layout t.pair (result_of s m)) 0
+stated_at board n points t s m index code index_is is =
+    is ∙ ap (λ k. get_or t.codes k 0) (index_is ∙ ap (λ k. entry_index board k t.layout t.pair (result_of s m)) (sym points))
 
 -- ---- an entry, by its position
 
--- where a position has the index of an entry, the entry agrees exactly where its code is the one
--- that the rules give this position
-pub agrees_at : (board : Shape) → is_board board ≡ true → (n : ℕ) → board.points ≡ n → n ≤ 24 → (t : Table) (s : Sides) → IsPosition board s → is_of t.pair s ≡ true
-    → (i : ℕ) → index_of n t.pair s ≡ i → (code above : ℕ) (r : Bool) → r ≡ eqb code above → code ≡ get_or t.codes i 0 → above ≡ code_from (result_codes board t s)
-    → (r ≡ true) ↔ Agrees board t i
-agrees_at board lawful n points few t s h of i at code above r is code_is above_is =
-    let here : index_of board.points t.pair s ≡ i = ap (λ k. index_of k t.pair s) points ∙ at in (
-      λ yes u there belongs same.
+-- where a position has an entry for its own, the entry agrees exactly where its code is the one that
+-- the rules give this position
+pub agrees_at : (board : Shape) → is_board board ≡ true → HasSymmetries board → (n : ℕ) → board.points ≡ n → (t : Table) → IsPair board.points t.pair
+    → (s : Sides) → IsPosition board s → is_of t.pair s ≡ true → has_own_entry board t.layout s ≡ true
+    → (i : ℕ) → entry_index board n t.layout t.pair s ≡ i → (code above : ℕ) (r : Bool) → r ≡ eqb code above → code ≡ get_or t.codes i 0
+    → above ≡ code_from (result_codes board t s) → (r ≡ true) ↔ Agrees board t i
+agrees_at board lawful y n points t pair s h of kept i at code above r is code_is above_is =
+    let here : entry_index board board.points t.layout t.pair s ≡ i = ap (λ k. entry_index board k t.layout t.pair s) points ∙ at in (
+      λ yes u there belongs own same.
           let one : s ≡ u =
-          index-same board.points t.pair (omega arith) s u (placed board board.points s refl h) (placed board board.points u refl there) of belongs (here ∙ sym same) in
+          (laid board (points_few board lawful) y t.layout t.pair pair).alone s u (placed board board.points s refl h) (placed board board.points u refl there)
+          of belongs kept own (here ∙ sym same) in
           subst (λ x. get_or t.codes i 0 ≡ code_from (result_codes board t x)) one (sym code_is ∙ eqb-true code above (sym is ∙ yes) ∙ above_is),
-      λ agree. is ∙ eq-eqb code above (code_is ∙ agree s h of here ∙ sym above_is),
+      λ agree. is ∙ eq-eqb code above (code_is ∙ agree s h of kept here ∙ sym above_is),
     )
 
--- the summary of the captures of the position with an index
-pub captures_at : (board : Shape) → is_board board ≡ true → (n : ℕ) → board.points ≡ n → (c : Counts) → IsPair board.points c → (s : Sides) → IsPosition board s → is_of c s ≡ true
-    → (i : ℕ) → index_of n c s ≡ i → (e : Exits) → e ≡ exits_of ((net_at board (level_of c)).exits i) → e ≡ exits_of (capture_codes board s)
-captures_at board lawful n points c pair s h of i at e is =
-    is ∙ sym (exits_same board lawful n points c pair s h of i at)
-
 -- a table is exact where all entries agree, and only there, with the number of points given apart
-pub agreement_is : (board : Shape) → is_board board ≡ true → (n : ℕ) → board.points ≡ n → (t : Table) → IsRaw board t → HasGameValues board t.pair
-    → ((i : ℕ) → i < size_of n t.pair → Agrees board t i) ↔ IsTable board t
-agreement_is board lawful n points t raw values = (
-  λ agree. exact_if_agreed board lawful t raw values (λ i low. agree i (subst (λ k. i < size_of k t.pair) points low)),
-  λ exact i low. agreed_if_exact board lawful t raw values exact i,
+pub agreement_is : (board : Shape) → is_board board ≡ true → HasSymmetries board → (n : ℕ) → board.points ≡ n → (t : Table) → IsRaw board t
+    → HasGameValues board t.layout t.pair → ((i : ℕ) → i < entry_count board n t.layout t.pair → Agrees board t i) ↔ IsTable board t
+agreement_is board lawful y n points t raw values = (
+  λ agree. exact_if_agreed board lawful y t raw values (λ i low. agree i (subst (λ k. i < entry_count board k t.layout t.pair) points low)),
+  λ exact i low. agreed_if_exact board lawful y t raw values exact i,
 )
 
 -- a move that closes no mill, from an own stone to where it may go, is among the legal moves

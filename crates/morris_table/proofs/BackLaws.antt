@@ -22,6 +22,7 @@ use Rattle.morris_index.proofs.IndexLaws.{IsPlaced, halves_of, index-lt, index-s
 use Rattle.morris_index.proofs.PairLaws.{from_between, other_count}
 use Rattle.morris_index.proofs.ResultLaws.{is_of-quiet}
 use Rattle.morris_wave.specs.Nets.{times}
+use Rattle.morris_table.specs.declared.layout.Layout.TheVariants.{Full}
 use Rattle.morris_table.specs.PairNets.{at_index, is_quiet, quiet_results, pair_net}
 use Rattle.morris_moves.specs.Backward.{before, has_come}
 use Rattle.morris_table.specs.Backward.{moves_into, moves_before, indices_before}
@@ -274,11 +275,11 @@ module _ (b : Shape) (small : b.points ≤ 24) (c : Counts) (pair : IsPair b.poi
     unfolding indices_before
     count_before j = count_by-map (λ x. eqb x j) (λ m. index_of b.points c (before q m)) (all_before b q)
 
-    count_after : (s : Sides) → times (index_of b.points c q) (quiet_results b c s) ≡ count_by (is_to s) (filter is_quiet (moves_of b s))
+    count_after : (s : Sides) → times (index_of b.points c q) (quiet_results b Full c s) ≡ count_by (is_to s) (filter is_quiet (moves_of b s))
     unfolding quiet_results
     count_after s = count_by-map (λ x. eqb x (index_of b.points c q)) (λ m. index_of b.points c (result_of s m)) (filter is_quiet (moves_of b s))
 
-    from_none : (j : ℕ) → at_index b c j ≡ [] → count_by (is_from j) (all_before b q) ≡ 0
+    from_none : (j : ℕ) → at_index b Full c j ≡ [] → count_by (is_from j) (all_before b q) ≡ 0
     from_none j none = elim (cases_lt 0 (count_by (is_from j) (all_before b q))) [
       | inl more ↦
           let r = before_after j more in
@@ -287,7 +288,7 @@ module _ (b : Shape) (small : b.points ≤ 24) (c : Counts) (pair : IsPair b.poi
       | inr less ↦ omega arith
     ]
 
-    from_one : (j : ℕ) (s : Sides) → at_index b c j ≡ s ∷ [] → count_by (is_from j) (all_before b q) ≡ count_by (is_to s) (filter is_quiet (moves_of b s))
+    from_one : (j : ℕ) (s : Sides) → at_index b Full c j ≡ s ∷ [] → count_by (is_from j) (all_before b q) ≡ count_by (is_to s) (filter is_quiet (moves_of b s))
     from_one j s one =
         let i = at_index-indexed b c small j s (subst (λ xs. Contains xs s) (sym one) (Contains-head s [])) in
         one_each _ _ (one_before j) (one_after s i.placed i.of)
@@ -299,14 +300,14 @@ module _ (b : Shape) (small : b.points ≤ 24) (c : Counts) (pair : IsPair b.poi
         (after_before j s i)
 
     -- each position stands before q as often as q is one of its quiet results
-    pub times_before : (j : ℕ) → times j (indices_before b.points c q (all_before b q)) ≡ times (index_of b.points c q) ((pair_net b c).quiet j)
+    pub times_before : (j : ℕ) → times j (indices_before b.points c q (all_before b q)) ≡ times (index_of b.points c q) ((pair_net b Full c).quiet j)
     unfolding pair_net
     times_before j = elim (none_or_one b c small j) [
       | inl none ↦ count_before j ∙ (from_none j none ∙ rw none refl)
       | inr one ↦ count_before j ∙ (from_one j one.0 one.1
           ∙ (sym (count_after one.0)
-          ∙ (ap (times (index_of b.points c q)) (sym (append-nil (quiet_results b c one.0)))
-          ∙ ap (λ xs. times (index_of b.points c q) (flat_map (quiet_results b c) xs)) (sym one.1))))
+          ∙ (ap (times (index_of b.points c q)) (sym (append-nil (quiet_results b Full c one.0)))
+          ∙ ap (λ xs. times (index_of b.points c q) (flat_map (quiet_results b Full c) xs)) (sym one.1))))
     ]
 
     -- they are nodes of the pair

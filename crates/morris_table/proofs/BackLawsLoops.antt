@@ -10,6 +10,7 @@ use Rattle.morris_moves.proofs.ListLaws.{Contains-head}
 use Rattle.morris_moves.proofs.SetLaws.{has-member}
 use Rattle.morris_index.specs.Pairs.{Counts, IsPair, is_of, size_of, index_of}
 use Rattle.morris_wave.specs.Nets.{times}
+use Rattle.morris_table.specs.declared.layout.Layout.TheVariants.{Full}
 use Rattle.morris_table.specs.PairNets.{pair_net}
 use Rattle.morris_moves.specs.Backward.{before}
 use Rattle.morris_table.specs.Backward.{moves_into, moves_before, indices_before}
@@ -18,7 +19,7 @@ use Rattle.morris_table.proofs.BackLaws.{times_before, nodes_before, few_before}
 -- ---- what the list of all of them is, with the number of points given apart
 
 pub record AreBefore (b : Shape) (n : ℕ) (c : Counts) (q : Sides) (xs : List ℕ) : Type 0 where
-  pub often : (j : ℕ) → times j xs ≡ times (index_of n c q) ((pair_net b c).quiet j)
+  pub often : (j : ℕ) → times j xs ≡ times (index_of n c q) ((pair_net b Full c).quiet j)
   pub nodes : All (λ j. j < size_of n c) xs
   pub few : length xs ≤ 9 * 24
 

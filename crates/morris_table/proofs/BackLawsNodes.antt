@@ -10,6 +10,7 @@ use Rattle.morris_moves.proofs.ListLaws.{Ascends, Contains-head, Contains-tail, 
 use Rattle.morris_moves.proofs.SetLaws.{point_lt}
 use Rattle.morris_index.specs.Pairs.{Counts, is_of, index_of}
 use Rattle.morris_index.proofs.IndexLaws.{IsPlaced, index-same}
+use Rattle.morris_table.specs.declared.layout.Layout.TheVariants.{Full}
 use Rattle.morris_table.specs.PairNets.{all_sides, are_apart, is_at, at_index}
 use Rattle.morris_table.specs.FilterLaws.{filter-contains, contained-filter, range_bounds}
 use Rattle.morris_table.proofs.BackLawsLists.{Contains-range, Ascends-range, Ascends-filter}
@@ -62,10 +63,10 @@ all_sides_differ n =
     omega arith)
 
 module _ (b : Shape) (c : Counts) (low : b.points ≤ 24) (i : ℕ) where
-  pub at_index-indexed : (s : Sides) → Contains (at_index b c i) s → IsIndexed b c i s
+  pub at_index-indexed : (s : Sides) → Contains (at_index b Full c i) s → IsIndexed b c i s
   unfolding at_index
   at_index-indexed s k =
-      let r = filter-contains (is_at b c i) (all_sides b.points) s k in
+      let r = filter-contains (is_at b Full c i) (all_sides b.points) s k in
       let within = in_all_sides b.points s r.0 in
       let parts = and_parts (are_apart s) (is_of c s && eqb (index_of b.points c s) i) r.1 in
       let more = and_parts (is_of c s) (eqb (index_of b.points c s) i) parts.1 in
@@ -81,21 +82,21 @@ module _ (b : Shape) (c : Counts) (low : b.points ≤ 24) (i : ℕ) where
         index = eqb-true _ _ more.1;
       }
 
-  pub indexed-at_index : (s : Sides) → IsIndexed b c i s → Contains (at_index b c i) s
+  pub indexed-at_index : (s : Sides) → IsIndexed b c i s → Contains (at_index b Full c i) s
   unfolding at_index
   indexed-at_index s h =
-      contained-filter (is_at b c i) (all_sides b.points) s (all_sides_has b.points s h.placed.own_within h.placed.other_within)
+      contained-filter (is_at b Full c i) (all_sides b.points) s (all_sides_has b.points s h.placed.own_within h.placed.other_within)
       (and_from _ _ (from_apart s h.placed.apart) (and_from _ _ h.of (eq-eqb _ _ h.index)))
 
   pub indexed_same : (s t : Sides) → IsIndexed b c i s → IsIndexed b c i t → s ≡ t
   indexed_same s t h k = index-same b.points c (omega arith) s t h.placed k.placed h.of k.of (h.index ∙ sym k.index)
 
-  at_index_differ : Ascends Differ (at_index b c i)
+  at_index_differ : Ascends Differ (at_index b Full c i)
   unfolding at_index
-  at_index_differ = Ascends-filter Differ (is_at b c i) (all_sides b.points) (all_sides_differ b.points)
+  at_index_differ = Ascends-filter Differ (is_at b Full c i) (all_sides b.points) (all_sides_differ b.points)
 
-  pub none_or_one : (at_index b c i ≡ []) ⊎ ((s : Sides) × (at_index b c i ≡ s ∷ []))
-  none_or_one = short (at_index b c i) at_index_differ (λ s t k l. indexed_same s t (at_index-indexed s k) (at_index-indexed t l))
+  pub none_or_one : (at_index b Full c i ≡ []) ⊎ ((s : Sides) × (at_index b Full c i ≡ s ∷ []))
+  none_or_one = short (at_index b Full c i) at_index_differ (λ s t k l. indexed_same s t (at_index-indexed s k) (at_index-indexed t l))
     where
       short : (xs : List Sides) → Ascends Differ xs → ((s t : Sides) → Contains xs s → Contains xs t → s ≡ t)
           → (xs ≡ []) ⊎ ((s : Sides) × (xs ≡ s ∷ []))

@@ -14,6 +14,8 @@ use Rattle.morris_wave.specs.Nets.{Net}
 use Rattle.morris_wave.specs.Exits.{is_odd, is_won_code, greatest, depths, exits_of, some_below}
 use Rattle.morris_wave.specs.Values.{is_lost_exit, HasDepth, HasCode, IsTooDeep}
 use Rattle.morris_wave.proofs.ExitTests.{some_exit_lost}
+use Rattle.morris_table.specs.declared.layout.Layout.TheVariants.{Full}
+use Rattle.morris_table.specs.EntryLaws.{laid-full}
 use Rattle.morris_table.specs.Codes.{IsCodeOf, code_to}
 use Rattle.morris_table.specs.PairNets.{is_capture, capture_codes, pair_net}
 use Rattle.morris_table.specs.Known.{IsKnown, WinsLateByCapture, IsBeyondCodes}
@@ -105,24 +107,24 @@ module _ (board : Shape) (few : board.points ≤ 24) (c : Counts) (known : IsKno
         code_to-is board (result_of s m) k.0 k.2 k.1 ∙ one_code board (result_of s m) k.0 code k.2 is
 
     -- the exits of a node are the codes of what the captures of its position lead to
-    pub capture_code : (code : ℕ) → Contains ((pair_net board c).exits (index_of board.points c s)) code
+    pub capture_code : (code : ℕ) → Contains ((pair_net board Full c).exits (index_of board.points c s)) code
         → (m : Move) × Contains (moves_of board s) m × (is_capture m ≡ true) × IsCodeOf board (result_of s m) code
     unfolding capture_codes
     capture_code code listed =
         let by = Contains-map_cases (λ m. code_to 65534 board (result_of s m)) (filter is_capture (moves_of board s)) code
-        (subst (λ codes. Contains codes code) (exits-at board few c s h of) listed) in
+        (subst (λ codes. Contains codes code) (exits-at board few Full c (laid-full board few c) s h of refl) listed) in
         let m = by.0 in
         let passed = filter-contains is_capture (moves_of board s) m by.1 in
         let k = known s h of m passed.0 passed.1 in
         (m, passed.0, passed.1, subst (IsCodeOf board (result_of s m)) (sym (code_is m passed.0 passed.1 k.0 k.2) ∙ by.2) k.2)
 
     pub code_captured : (m : Move) → Contains (moves_of board s) m → is_capture m ≡ true → (code : ℕ) → IsCodeOf board (result_of s m) code
-        → Contains ((pair_net board c).exits (index_of board.points c s)) code
+        → Contains ((pair_net board Full c).exits (index_of board.points c s)) code
     unfolding capture_codes
     code_captured m listed takes code is =
         let moves = contained-filter is_capture (moves_of board s) m listed takes in
         let there = Contains-map (λ m. code_to 65534 board (result_of s m)) (filter is_capture (moves_of board s)) m moves in
-        subst (λ codes. Contains codes code) (sym (exits-at board few c s h of))
+        subst (λ codes. Contains codes code) (sym (exits-at board few Full c (laid-full board few c) s h of refl))
         (subst (Contains (map (λ m. code_to 65534 board (result_of s m)) (filter is_capture (moves_of board s)))) (code_is m listed takes code is) there)
 
     -- an odd code is a loss
@@ -137,11 +139,11 @@ module _ (board : Shape) (few : board.points ≤ 24) (c : Counts) (known : IsKno
     ]
 
     abbrev deep_exits : Type 0
-    deep_exits = (exits_of ((pair_net board c).exits (index_of board.points c s))).least_lost ≡ Some 65534
+    deep_exits = (exits_of ((pair_net board Full c).exits (index_of board.points c s))).least_lost ≡ Some 65534
 
     wins_late : deep_exits → WinsLateByCapture board s
     wins_late e =
-        let at = capture_code 65535 (late_in ((pair_net board c).exits (index_of board.points c s)) e) in
+        let at = capture_code 65535 (late_in ((pair_net board Full c).exits (index_of board.points c s)) e) in
         let lost = lost_of at.0 65535 at.3 refl in
         let depth : lost.0 ≡ 65534 = omega (arith, lost.1) in
         record {
@@ -150,45 +152,45 @@ module _ (board : Shape) (few : board.points ≤ 24) (c : Counts) (known : IsKno
               let even = lost_is_even board (result_of s m) d is in
               let there = code_captured m listed takes (suc d) (code_of_lost board (result_of s m) d is) in
               let odd : is_odd (suc d) ≡ true = eq-eqb (suc d % 2) 1 (omega arith) in
-              omega (arith, late_odd ((pair_net board c).exits (index_of board.points c s)) e (suc d) there odd);
+              omega (arith, late_odd ((pair_net board Full c).exits (index_of board.points c s)) e (suc d) there odd);
         }
 
     wins_late_back : WinsLateByCapture board s → deep_exits
     wins_late_back w =
         let m = w.late.0 in
-        late_back ((pair_net board c).exits (index_of board.points c s))
+        late_back ((pair_net board Full c).exits (index_of board.points c s))
         (code_captured m w.late.1 w.late.2 65535 (code_of_lost board (result_of s m) 65534 w.late.3))
         (λ code at odd.
         let by = capture_code code at in
         let lost = lost_of by.0 code by.3 odd in
         omega (arith, lost.1, w.none_before by.0 lost.0 by.1 by.2 lost.2))
 
-    node_deep : IsDeepNode (pair_net board c) (index_of board.points c s) → IsBeyondCodes board c
+    node_deep : IsDeepNode (pair_net board Full c) (index_of board.points c s) → IsBeyondCodes board c
     node_deep why = elim why [
-      | inl deep ↦ (s, h, of, inl (suc deep.0, omega (arith, deep.1), node_code board few c known s h of (suc deep.0) deep.2))
+      | inl deep ↦ (s, h, of, inl (suc deep.0, omega (arith, deep.1), node_code board few Full c (laid-full board few c) known s h of (suc deep.0) deep.2))
       | inr exits ↦ elim exits [
         | inl lost ↦ (s, h, of, inr (wins_late lost))
-        | inr won ↦ absurd (no_deep_win ((pair_net board c).exits (index_of board.points c s)) won)
+        | inr won ↦ absurd (no_deep_win ((pair_net board Full c).exits (index_of board.points c s)) won)
       ]
     ]
 
   -- the graph is too deep exactly where the values of the pair, or those that its captures lead to, are beyond codes of 16 bits
-  pub too_deep_game : IsPair board.points c → IsTooDeep (pair_net board c) → IsBeyondCodes board c
+  pub too_deep_game : IsPair board.points c → IsTooDeep (pair_net board Full c) → IsBeyondCodes board c
   too_deep_game pair deep =
-      let at = position_at board few c pair deep.0 (rw (size-pair_net board c) at deep.1) in
-      node_deep at.0 at.1 at.2 (subst (IsDeepNode (pair_net board c)) (sym at.3) deep.2)
+      let at = position_at board few c pair deep.0 (rw (size-pair_net board Full c) at deep.1) in
+      node_deep at.0 at.1 at.2 (subst (IsDeepNode (pair_net board Full c)) (sym at.3) deep.2)
 
-  pub game_too_deep : IsBeyondCodes board c → IsTooDeep (pair_net board c)
+  pub game_too_deep : IsBeyondCodes board c → IsTooDeep (pair_net board Full c)
   game_too_deep beyond =
       let s = beyond.0 in
       let h = beyond.1 in
       let of = beyond.2 in
       let i = index_of board.points c s in
-      let low : index_of board.points c s < (pair_net board c).size = rw (size-pair_net board c) (index_in board few c s h of) in
+      let low : index_of board.points c s < (pair_net board Full c).size = rw (size-pair_net board Full c) (index_in board few Full c (laid-full board few c) s h of) in
       elim beyond.3 [
         | inl great ↦
             let depth : great.0 ≡ suc (great.0 - 1) = omega (arith, great.1) in
-            let node = code_node board few c known s h of great.0 great.2 in
-            (i, low, inl (great.0 - 1, omega (arith, great.1), subst (HasCode (pair_net board c) i) depth node))
+            let node = code_node board few Full c (laid-full board few c) known s h of great.0 great.2 in
+            (i, low, inl (great.0 - 1, omega (arith, great.1), subst (HasCode (pair_net board Full c) i) depth node))
         | inr late ↦ (i, low, inr (inl (wins_late_back s h of late)))
       ]

@@ -9,6 +9,7 @@ use Rattle.std.proofs.lemmas.List.Elements.{filter-append, Contains-append_cases
 use Rattle.morris_board.specs.Boards.{Shape, is_board}
 use Rattle.morris_board.specs.Sets.{count_of}
 use Rattle.morris_board.specs.Positions.{Sides, IsPosition}
+use Rattle.morris_board.specs.Symmetries.{HasSymmetries}
 use Rattle.morris_moves.specs.declared.step.Move.{Move}
 use Rattle.morris_moves.specs.Rules.{moves_of, result_of}
 use Rattle.morris_index.specs.Pairs.{Counts, counts, IsPair, pair_of, ordered, is_of, size_of, index_of, needed, less_lesser, less_greater}
@@ -17,6 +18,10 @@ use Rattle.morris_index.proofs.ResultLaws.{pair_of-is_of}
 use Rattle.morris_wave.specs.Nets.{Net, times}
 use Rattle.morris_wave.specs.Exits.{exits_of}
 use Rattle.morris_wave.specs.Values.{HasCode, IsTooDeep}
+use Rattle.morris_table.specs.declared.layout.Layout.{Layout}
+use Rattle.morris_table.specs.declared.layout.Layout.TheVariants.{Full}
+use Rattle.morris_table.specs.Entries.{entry_index}
+use Rattle.morris_table.specs.EntryLaws.{laid, laid-full}
 use Rattle.morris_table.specs.Codes.{IsCodeOf, code_to}
 use Rattle.morris_table.specs.PairNets.{is_capture, is_quiet, quiet_results, capture_codes, pair_net, level_of, net_at}
 use Rattle.morris_table.specs.Tables.{Table}
@@ -35,10 +40,10 @@ use Rattle.morris_wave.proofs.Summaries.{exits_of-more}
 
 -- the code in the table of the position's pair
 pub code_there : (board : Shape) (n : ℕ) (t : Table) (d : Counts) (s : Sides) → board.points ≡ n → IsTableOf board d t → IsPosition board s → is_of d s ≡ true
-    → (index code : ℕ) → index ≡ index_of n d s → code ≡ get_or t.codes index 0 → IsCodeOf board s code
+    → (index code : ℕ) → index ≡ entry_index board n t.layout t.pair s → code ≡ get_or t.codes index 0 → IsCodeOf board s code
 code_there board n t d s points h position of index code at is =
     code_at board n t points h.exact s position (subst (λ e. is_of e s ≡ true) (sym h.of) of) code
-    (is ∙ ap (λ i. get_or t.codes i 0) (at ∙ ap (λ e. index_of n e s) (sym h.of)))
+    (is ∙ ap (λ i. get_or t.codes i 0) at)
 
 -- a position of no pair has two stones of the player to move, who has lost
 pub code_of_none : (board : Shape) (s : Sides) → pair_of s ≡ None → IsCodeOf board s 1
@@ -117,101 +122,102 @@ exits_by-capture board s ms m takes code is few =
 
 -- ---- the graph of a pair is the one of its level
 
-module _ (board : Shape) (lawful : is_board board ≡ true) (n : ℕ) (points : board.points ≡ n) (c : Counts) (pair : IsPair board.points c) where
-  pub size_at : (net_at board (level_of c)).size ≡ size_of n c
-  size_at = ap (λ (g : Net). g.size) (net_at-level_of board lawful c pair) ∙ size-pair_net board c ∙ ap (λ k. size_of k c) points
+module _ (board : Shape) (lawful : is_board board ≡ true) (y : HasSymmetries board) (n : ℕ) (points : board.points ≡ n) (c : Counts) (pair : IsPair board.points c) where
+  pub size_at : (net_at board (level_of Full c)).size ≡ size_of n c
+  size_at = ap (λ (g : Net). g.size) (net_at-level_of board lawful y Full c pair) ∙ size-pair_net board Full c ∙ ap (λ k. size_of k c) points
 
-  pub is_node : (i : ℕ) → i < (net_at board (level_of c)).size → i < size_of n c
+  pub is_node : (i : ℕ) → i < (net_at board (level_of Full c)).size → i < size_of n c
   is_node i low = subst (λ k. i < k) size_at low
 
   pub quiet_count_at : (s : Sides) → IsPosition board s → is_of c s ≡ true → (i : ℕ) → index_of n c s ≡ i
-      → length (filter is_quiet (moves_of board s)) ≡ length ((net_at board (level_of c)).quiet i)
+      → length (filter is_quiet (moves_of board s)) ≡ length ((net_at board (level_of Full c)).quiet i)
   unfolding quiet_results
   quiet_count_at s h of i at =
       sym (length-map (filter is_quiet (moves_of board s)) (λ m. index_of board.points c (result_of s m)))
-      ∙ ap length (sym (quiet-at board (points_few board lawful) c s h of) ∙ ap (pair_net board c).quiet (ap (λ k. index_of k c s) points ∙ at))
-      ∙ ap (λ (g : Net). length (g.quiet i)) (sym (net_at-level_of board lawful c pair))
+      ∙ ap length (sym (quiet-at board (points_few board lawful) Full c (laid-full board (points_few board lawful) c) s h of refl) ∙ ap (pair_net board Full c).quiet (ap (λ k. index_of k c s) points ∙ at))
+      ∙ ap (λ (g : Net). length (g.quiet i)) (sym (net_at-level_of board lawful y Full c pair))
 
   pub exits_same : (s : Sides) → IsPosition board s → is_of c s ≡ true → (i : ℕ) → index_of n c s ≡ i
-      → exits_of (capture_codes board s) ≡ exits_of ((net_at board (level_of c)).exits i)
+      → exits_of (capture_codes board s) ≡ exits_of ((net_at board (level_of Full c)).exits i)
   exits_same s h of i at =
-      ap exits_of (sym (exits-at board (points_few board lawful) c s h of) ∙ ap (pair_net board c).exits (ap (λ k. index_of k c s) points ∙ at))
-      ∙ ap (λ (g : Net). exits_of (g.exits i)) (sym (net_at-level_of board lawful c pair))
+      ap exits_of (sym (exits-at board (points_few board lawful) Full c (laid-full board (points_few board lawful) c) s h of refl) ∙ ap (pair_net board Full c).exits (ap (λ k. index_of k c s) points ∙ at))
+      ∙ ap (λ (g : Net). exits_of (g.exits i)) (sym (net_at-level_of board lawful y Full c pair))
 
   -- what leads to a node, counted in the one and in the other
   pub times_at : (s : Sides) (xs : List ℕ) (i : ℕ) → index_of n c s ≡ i
-      → ((j : ℕ) → j < size_of n c → times j xs ≡ times (index_of n c s) ((pair_net board c).quiet j))
-      → (j : ℕ) → j < (net_at board (level_of c)).size → times j xs ≡ times i ((net_at board (level_of c)).quiet j)
+      → ((j : ℕ) → j < size_of n c → times j xs ≡ times (index_of n c s) ((pair_net board Full c).quiet j))
+      → (j : ℕ) → j < (net_at board (level_of Full c)).size → times j xs ≡ times i ((net_at board (level_of Full c)).quiet j)
   times_at s xs i at h j low =
-      h j (is_node j low) ∙ ap (λ k. times k ((pair_net board c).quiet j)) at ∙ ap (λ (g : Net). times i (g.quiet j)) (sym (net_at-level_of board lawful c pair))
+      h j (is_node j low) ∙ ap (λ k. times k ((pair_net board Full c).quiet j)) at ∙ ap (λ (g : Net). times i (g.quiet j)) (sym (net_at-level_of board lawful y Full c pair))
 
-  pub nodes_at : (xs : List ℕ) → All (λ j. j < size_of n c) xs → All (λ j. j < (net_at board (level_of c)).size) xs
+  pub nodes_at : (xs : List ℕ) → All (λ j. j < size_of n c) xs → All (λ j. j < (net_at board (level_of Full c)).size) xs
   nodes_at xs h = subst (λ size. All (λ j. j < size) xs) (sym size_at) h
 
 -- ---- the values of the nodes
 
 -- the table of a pair has a code for each of its positions
-tabled : (board : Shape) (d : Counts) (t : Table) → board.points ≤ 24 → IsTableOf board d t → IsTabled board d
-tabled board d t few h s position of =
+tabled : (board : Shape) → HasSymmetries board → (d : Counts) (t : Table) → board.points ≤ 24 → IsTableOf board d t → IsTabled board d
+tabled board y d t few h s position of =
     let there : is_of t.pair s ≡ true = subst (λ e. is_of e s ≡ true) (sym h.of) of in
-    let low : index_of board.points t.pair s < length t.codes =
-    subst (λ k. index_of board.points t.pair s < k) (sym h.exact.counted)
-    (index-lt board.points t.pair (omega arith) s (placed board board.points s refl position) there) in
-    (get_or t.codes (index_of board.points t.pair s) 0, h.exact.small _ low, h.exact.exact s position there)
+    let low : entry_index board board.points t.layout t.pair s < length t.codes =
+    subst (λ k. entry_index board board.points t.layout t.pair s < k) (sym h.exact.counted)
+    ((laid board few y t.layout t.pair h.exact.lawful).below s position there) in
+    (get_or t.codes (entry_index board board.points t.layout t.pair s) 0, h.exact.small _ low, h.exact.exact s position there)
 
 taken_from : (board : Shape) (o : Option Counts) (d : Counts) (table : Option Table) → o ≡ Some d → IsNeeded board o table
     → (t : Table) × (table ≡ Some t) × IsTableOf board d t
 taken_from board o d table e h = subst (λ x. IsNeeded board x table) e h
 
-pub known_here : (board : Shape) → board.points ≤ 24 → (c : Counts) (of_lesser of_greater : Option Table) → IsPairGraph board c of_lesser of_greater → IsKnown board c
-known_here board few c of_lesser of_greater h = known_by_tables board c few h.lawful (λ d need. elim (needed_cases c d need) [
-  | inl l ↦ let t = taken_from board (less_lesser c) d of_lesser l h.lesser in tabled board d t.0 few t.2
-  | inr g ↦ let t = taken_from board (less_greater c) d of_greater g h.greater in tabled board d t.0 few t.2
+pub known_here : (board : Shape) → HasSymmetries board → board.points ≤ 24 → (c : Counts) (of_lesser of_greater : Option Table) → IsPairGraph board c of_lesser of_greater → IsKnown board c
+known_here board y few c of_lesser of_greater h = known_by_tables board c few h.lawful (λ d need. elim (needed_cases c d need) [
+  | inl l ↦ let t = taken_from board (less_lesser c) d of_lesser l h.lesser in tabled board y d t.0 few t.2
+  | inr g ↦ let t = taken_from board (less_greater c) d of_greater g h.greater in tabled board y d t.0 few t.2
 ])
 
-pub game_values : (board : Shape) → is_board board ≡ true → (c : Counts) → IsPair board.points c → IsKnown board c → HasGameValues board c
-game_values board lawful c pair known s code h of =
+pub game_values : (board : Shape) → is_board board ≡ true → HasSymmetries board → (l : Layout) (c : Counts) → IsPair board.points c → IsKnown board c → HasGameValues board l c
+game_values board lawful y l c pair known s code h of =
     let few = points_few board lawful in
-    let same = net_at-level_of board lawful c pair in (
-      λ v. node_code board few c known s h of code (subst (λ g. HasCode g (index_of board.points c s) code) same v),
-      λ v. subst (λ g. HasCode g (index_of board.points c s) code) (sym same) (code_node board few c known s h of code v),
+    let entries = laid board few y l c pair in
+    let same = net_at-level_of board lawful y l c pair in (
+      λ v. node_code board few l c entries known s h of code (subst (λ g. HasCode g (entry_index board board.points l c s) code) same v),
+      λ v. subst (λ g. HasCode g (entry_index board board.points l c s) code) (sym same) (code_node board few l c entries known s h of code v),
     )
 
 -- the graph is too deep where codes of 16 bits don't tell the values of the game
-pub game_depths : (board : Shape) → is_board board ≡ true → (c : Counts) → IsPair board.points c → IsKnown board c
-    → IsTooDeep (net_at board (level_of c)) ↔ IsBeyondCodes board c
-game_depths board lawful c pair known =
+pub game_depths : (board : Shape) → is_board board ≡ true → HasSymmetries board → (c : Counts) → IsPair board.points c → IsKnown board c
+    → IsTooDeep (net_at board (level_of Full c)) ↔ IsBeyondCodes board c
+game_depths board lawful y c pair known =
     let few = points_few board lawful in
-    let same = net_at-level_of board lawful c pair in
+    let same = net_at-level_of board lawful y Full c pair in
     (λ deep. too_deep_game board few c known pair (subst IsTooDeep same deep), λ beyond. subst IsTooDeep (sym same) (game_too_deep board few c known beyond))
 
 -- the two tables as the code finds them
-module _ (board : Shape) (lawful : is_board board ≡ true) (n : ℕ) (points : board.points ≡ n) (c : Counts) (first second : Option Counts)
+module _ (board : Shape) (lawful : is_board board ≡ true) (y : HasSymmetries board) (n : ℕ) (points : board.points ≡ n) (c : Counts) (first second : Option Counts)
     (of_lesser of_greater : Option Table) (e : first ≡ less_lesser c) (f : second ≡ less_greater c) (pair : IsPair n c)
     (h : IsNeeded board first of_lesser) (k : IsNeeded board second of_greater) where
   pair_here : IsPair board.points c
   pair_here = subst (λ m. IsPair m c) (sym points) pair
 
   known_over : IsKnown board c
-  known_over = known_here board (points_few board lawful) c of_lesser of_greater (record {
+  known_over = known_here board y (points_few board lawful) c of_lesser of_greater (record {
     lawful = pair_here;
     lesser = subst (λ o. IsNeeded board o of_lesser) e h;
     greater = subst (λ o. IsNeeded board o of_greater) f k;
   })
 
-  pub values_over : HasGameValues board c
-  values_over = game_values board lawful c pair_here known_over
+  pub values_over : (l : Layout) → HasGameValues board l c
+  values_over l = game_values board lawful y l c pair_here known_over
 
-  pub depths_over : IsTooDeep (net_at board (level_of c)) ↔ IsBeyondCodes board c
-  depths_over = game_depths board lawful c pair_here known_over
+  pub depths_over : IsTooDeep (net_at board (level_of Full c)) ↔ IsBeyondCodes board c
+  depths_over = game_depths board lawful y c pair_here known_over
 
 -- the codes of all nodes are those of the positions
-pub exact_codes : (board : Shape) → is_board board ≡ true → (c : Counts) (of_lesser of_greater : Option Table) → IsPairGraph board c of_lesser of_greater
-    → (codes : List ℕ) → length codes ≡ (net_at board (level_of c)).size
-    → ((i : ℕ) → i < (net_at board (level_of c)).size → HasCode (net_at board (level_of c)) i (get_or codes i 0))
+pub exact_codes : (board : Shape) → is_board board ≡ true → HasSymmetries board → (c : Counts) (of_lesser of_greater : Option Table)
+    → IsPairGraph board c of_lesser of_greater → (codes : List ℕ) → length codes ≡ (net_at board (level_of Full c)).size
+    → ((i : ℕ) → i < (net_at board (level_of Full c)).size → HasCode (net_at board (level_of Full c)) i (get_or codes i 0))
     → (s : Sides) → IsPosition board s → is_of c s ≡ true → IsCodeOf board s (get_or codes (index_of board.points c s) 0)
-exact_codes board lawful c of_lesser of_greater graph codes len each s h of =
+exact_codes board lawful y c of_lesser of_greater graph codes len each s h of =
     let few = points_few board lawful in
     let low : index_of board.points c s < size_of board.points c = index-lt board.points c (omega arith) s (placed board board.points s refl h) of in
-    (game_values board lawful c graph.lawful (known_here board few c of_lesser of_greater graph) s (get_or codes (index_of board.points c s) 0) h of).0
-    (each (index_of board.points c s) (subst (λ k. index_of board.points c s < k) (sym (size_at board lawful board.points refl c graph.lawful)) low))
+    (game_values board lawful y Full c graph.lawful (known_here board y few c of_lesser of_greater graph) s (get_or codes (index_of board.points c s) 0) h of).0
+    (each (index_of board.points c s) (subst (λ k. index_of board.points c s < k) (sym (size_at board lawful y board.points refl c graph.lawful)) low))

@@ -10,16 +10,18 @@ use Rattle.morris_moves.specs.Rules.{moves_of, result_of}
 use Rattle.morris_moves.specs.Values.{IsOpen, IsLostIn, IsWonIn}
 use Rattle.morris_moves.specs.Values.{is_lost as is_lost_game, is_won as is_won_game}
 use Rattle.morris_moves.proofs.ValueLaws.{lost_longer, won_longer, never_both, searched}
-use Rattle.morris_index.specs.Pairs.{Counts, IsPair, is_of, size_of, index_of, needed}
+use Rattle.morris_index.specs.Pairs.{Counts, IsPair, is_of, needed}
 use Rattle.morris_wave.specs.Exits.{is_odd, is_won_code}
 use Rattle.morris_wave.specs.Values.{is_lost, is_won, is_decided, some_lost, all_won, is_lost_exit, is_won_exit, HasDepth, HasCode}
 use Rattle.morris_wave.proofs.Depths.{decided_by_then, none_decided}
 use Rattle.morris_table.specs.Codes.{IsCodeOf, code_to}
+use Rattle.morris_table.specs.declared.layout.Layout.{Layout}
+use Rattle.morris_table.specs.Entries.{entry_count, entry_index, has_own_entry}
+use Rattle.morris_table.specs.EntryLaws.{StandsFor, IsLaid}
 use Rattle.morris_table.specs.PairNets.{is_quiet, is_capture, quiet_results, capture_codes, pair_net}
 use Rattle.morris_table.specs.Known.{IsTabled, IsKnown}
 use Rattle.morris_table.specs.FilterLaws.{list_any-map, all_parts, any_parts}
 use Rattle.morris_table.proofs.CodeLaws.{code_cases, code_of_draw, code_of_lost, code_of_won, code_of_stuck, decided_not, code_to-open, code_to-is}
-use Rattle.morris_table.proofs.PositionLaws.{position_at}
 use Rattle.morris_table.specs.NetLaws.{index_in, quiet-at, exits-at, result-position, quiet-stays, capture-leads}
 
 -- ---- a pair is known where the pairs that it needs are tabled
@@ -33,13 +35,6 @@ known_by_tables board c few pair tables s h of m listed takes =
       | inr d ↦ tables d.0 d.1 (result_of s m) there d.2
     ]
 
--- numbers of 16 bits that are the codes of the positions of a pair, by their indices, are a table of it
-pub tabled_by_codes : (board : Shape) (c : Counts) → board.points ≤ 24 → (codes : ℕ → ℕ)
-    → ((i : ℕ) → i < size_of board.points c → codes i ≤ 65535)
-    → ((s : Sides) → IsPosition board s → is_of c s ≡ true → IsCodeOf board s (codes (index_of board.points c s))) → IsTabled board c
-tabled_by_codes board c few codes small each s h of =
-    (codes (index_of board.points c s), small (index_of board.points c s) (index_in board few c s h of), each s h of)
-
 -- ---- lost and won in fewer than n plies, as graphs count: within n - 1, and for n = 0 never
 
 lost_before : ℕ → Shape → Sides → Bool
@@ -49,6 +44,16 @@ lost_before (suc n) board s = is_lost_game n board s
 won_before : ℕ → Shape → Sides → Bool
 won_before zero board s = false
 won_before (suc n) board s = is_won_game n board s
+
+lost_before-same : (n : ℕ) (board : Shape) (s t : Sides) → ((k : ℕ) → is_lost_game k board s ≡ is_lost_game k board t) → lost_before n board s ≡ lost_before n board t
+unfolding lost_before
+lost_before-same zero board s t same = refl
+lost_before-same (suc n) board s t same = same n
+
+won_before-same : (n : ℕ) (board : Shape) (s t : Sides) → ((k : ℕ) → is_won_game k board s ≡ is_won_game k board t) → won_before n board s ≡ won_before n board t
+unfolding won_before
+won_before-same zero board s t same = refl
+won_before-same (suc n) board s t same = same n
 
 lost_before-suc : (n : ℕ) (board : Shape) (s : Sides) → lost_before (suc n) board s ≡ list_all (λ m. won_before n board (result_of s m)) (moves_of board s)
 unfolding is_lost_game lost_before won_before
@@ -164,11 +169,11 @@ module _ (board : Shape) (t : Sides) where
 
 -- ---- a node is lost, or won, where its position is
 
-module _ (board : Shape) (few : board.points ≤ 24) (c : Counts) where
+module _ (board : Shape) (few : board.points ≤ 24) (l : Layout) (c : Counts) (laid : IsLaid board l c) where
   abbrev Agrees : ℕ → Sides → Type 0
   Agrees n s =
-      (is_lost (pair_net board c) n (index_of board.points c s) ≡ lost_before n board s)
-      × (is_won (pair_net board c) n (index_of board.points c s) ≡ won_before n board s)
+      (is_lost (pair_net board l c) n (entry_index board board.points l c s) ≡ lost_before n board s)
+      × (is_won (pair_net board l c) n (entry_index board board.points l c s) ≡ won_before n board s)
 
   -- the exits of the pair's nodes are lost, and won, where the positions are that the captures lead to
   abbrev ExitsAgree : ℕ → Type 0
@@ -182,36 +187,50 @@ module _ (board : Shape) (few : board.points ≤ 24) (c : Counts) where
       searched_small board (result_of s m) n k.0 k.2 k.1
 
   -- one ply more, where each quiet result agrees
-  module _ (n : ℕ) (exits : ExitsAgree n) (s : Sides) (h : IsPosition board s) (of : is_of c s ≡ true)
+  module _ (n : ℕ) (exits : ExitsAgree n) (s : Sides) (h : IsPosition board s) (of : is_of c s ≡ true) (kept : has_own_entry board l s ≡ true)
       (each : (t : Sides) → IsPosition board t → is_of c t ≡ true → Agrees n t) where
     there : (m : Move) → Contains (moves_of board s) m → is_quiet m ≡ true → Agrees n (result_of s m)
     there m listed quiet = each (result_of s m) (result-position board few s h m listed) (quiet-stays board few s h m listed c of quiet)
 
-    all_agree : all_won (pair_net board c) (is_won (pair_net board c) n) n (index_of board.points c s) ≡ lost_before (suc n) board s
+    all_agree : all_won (pair_net board l c) (is_won (pair_net board l c) n) n (entry_index board board.points l c s) ≡ lost_before (suc n) board s
     unfolding quiet_results capture_codes
     all_agree =
-        ap₂ (λ quiet codes. list_all (is_won (pair_net board c) n) quiet && list_all (is_won_exit n) codes)
-        (quiet-at board few c s h of) (exits-at board few c s h of)
+        ap₂ (λ quiet codes. list_all (is_won (pair_net board l c) n) quiet && list_all (is_won_exit n) codes)
+        (quiet-at board few l c laid s h of kept) (exits-at board few l c laid s h of kept)
         ∙ ap₂ (λ a b. a && b)
-        (list_all-map (is_won (pair_net board c) n) (λ m. index_of board.points c (result_of s m)) (filter is_quiet (moves_of board s)))
+        (list_all-map (is_won (pair_net board l c) n) (λ m. entry_index board board.points l c (result_of s m)) (filter is_quiet (moves_of board s)))
         (list_all-map (is_won_exit n) (λ m. code_to 65534 board (result_of s m)) (filter is_capture (moves_of board s)))
         ∙ all_parts is_quiet (λ m. won_before n board (result_of s m))
-        (λ m. is_won (pair_net board c) n (index_of board.points c (result_of s m))) (λ m. is_won_exit n (code_to 65534 board (result_of s m)))
+        (λ m. is_won (pair_net board l c) n (entry_index board board.points l c (result_of s m))) (λ m. is_won_exit n (code_to 65534 board (result_of s m)))
         (moves_of board s) (λ m listed quiet. (there m listed quiet).1) (λ m listed takes. (exits s h of m listed takes).1)
         ∙ sym (lost_before-suc n board s)
 
-    some_agree : some_lost (pair_net board c) (is_lost (pair_net board c) n) n (index_of board.points c s) ≡ won_before (suc n) board s
+    some_agree : some_lost (pair_net board l c) (is_lost (pair_net board l c) n) n (entry_index board board.points l c s) ≡ won_before (suc n) board s
     unfolding quiet_results capture_codes
     some_agree =
-        ap₂ (λ quiet codes. list_any (is_lost (pair_net board c) n) quiet || list_any (is_lost_exit n) codes)
-        (quiet-at board few c s h of) (exits-at board few c s h of)
+        ap₂ (λ quiet codes. list_any (is_lost (pair_net board l c) n) quiet || list_any (is_lost_exit n) codes)
+        (quiet-at board few l c laid s h of kept) (exits-at board few l c laid s h of kept)
         ∙ ap₂ (λ a b. a || b)
-        (list_any-map (is_lost (pair_net board c) n) (λ m. index_of board.points c (result_of s m)) (filter is_quiet (moves_of board s)))
+        (list_any-map (is_lost (pair_net board l c) n) (λ m. entry_index board board.points l c (result_of s m)) (filter is_quiet (moves_of board s)))
         (list_any-map (is_lost_exit n) (λ m. code_to 65534 board (result_of s m)) (filter is_capture (moves_of board s)))
         ∙ any_parts is_quiet (λ m. lost_before n board (result_of s m))
-        (λ m. is_lost (pair_net board c) n (index_of board.points c (result_of s m))) (λ m. is_lost_exit n (code_to 65534 board (result_of s m)))
+        (λ m. is_lost (pair_net board l c) n (entry_index board board.points l c (result_of s m))) (λ m. is_lost_exit n (code_to 65534 board (result_of s m)))
         (moves_of board s) (λ m listed quiet. (there m listed quiet).0) (λ m listed takes. (exits s h of m listed takes).0)
         ∙ sym (won_before-suc n board s)
+
+  -- the entry of a position is that of the one that stands for it, which has its value
+  module _ (n : ℕ) (s : Sides) (t : Sides) (h : StandsFor board l c s t) where
+    lost_stands : lost_before n board t ≡ lost_before n board s
+    lost_stands = lost_before-same n board t s (λ k. sym (h.one_value.lost k))
+
+    won_stands : won_before n board t ≡ won_before n board s
+    won_stands = won_before-same n board t s (λ k. sym (h.one_value.won k))
+
+    agrees_stands : Agrees n t → Agrees n s
+    agrees_stands there = (
+      ap (is_lost (pair_net board l c) n) (sym h.entry) ∙ there.0 ∙ lost_stands,
+      ap (is_won (pair_net board l c) n) (sym h.entry) ∙ there.1 ∙ won_stands,
+    )
 
   agrees : (n : ℕ) → ((k : ℕ) → k < n → ExitsAgree k) → (s : Sides) → IsPosition board s → is_of c s ≡ true → Agrees n s
   unfolding is_lost is_won lost_before won_before
@@ -219,64 +238,67 @@ module _ (board : Shape) (few : board.points ≤ 24) (c : Counts) where
   agrees (suc n) exits s h of =
       let here = exits n (omega arith) in
       let each = agrees n (λ k low. exits k (omega arith)) in
-      (all_agree n here s h of each, some_agree n here s h of each)
+      let stands = laid.stands s h of in
+      let t = stands.0 in
+      let w = stands.1 in
+      agrees_stands (suc n) s t w (all_agree n here t w.position w.of w.own each, some_agree n here t w.position w.of w.own each)
 
   -- where the exits agree in fewer plies than some number
   module _ (top : ℕ) (exits : (k : ℕ) → k < top → ExitsAgree k) (s : Sides) (h : IsPosition board s) (of : is_of c s ≡ true) where
     -- in fewer than n + 1 plies in the graph is within n plies in the game
-    lost_same : (n : ℕ) → n < top → is_lost (pair_net board c) (suc n) (index_of board.points c s) ≡ is_lost_game n board s
+    lost_same : (n : ℕ) → n < top → is_lost (pair_net board l c) (suc n) (entry_index board board.points l c s) ≡ is_lost_game n board s
     unfolding lost_before
     lost_same n low = (agrees (suc n) (λ k l. exits k (omega arith)) s h of).0
 
-    won_same : (n : ℕ) → n < top → is_won (pair_net board c) (suc n) (index_of board.points c s) ≡ is_won_game n board s
+    won_same : (n : ℕ) → n < top → is_won (pair_net board l c) (suc n) (entry_index board board.points l c s) ≡ is_won_game n board s
     unfolding won_before
     won_same n low = (agrees (suc n) (λ k l. exits k (omega arith)) s h of).1
 
     -- ---- codes
 
-    open_game : (n : ℕ) → n < top → is_decided (pair_net board c) (suc n) (index_of board.points c s) ≡ false → IsOpen board s n
+    open_game : (n : ℕ) → n < top → is_decided (pair_net board l c) (suc n) (entry_index board board.points l c s) ≡ false → IsOpen board s n
     open_game n low e =
-        let w = or_parts (is_lost (pair_net board c) (suc n) (index_of board.points c s)) (is_won (pair_net board c) (suc n) (index_of board.points c s)) e in
+        let w = or_parts (is_lost (pair_net board l c) (suc n) (entry_index board board.points l c s)) (is_won (pair_net board l c) (suc n) (entry_index board board.points l c s)) e in
         record { not_lost = sym (lost_same n low) ∙ w.0; not_won = sym (won_same n low) ∙ w.1 }
 
-    open_node : (n : ℕ) → n < top → IsOpen board s n → is_decided (pair_net board c) (suc n) (index_of board.points c s) ≡ false
+    open_node : (n : ℕ) → n < top → IsOpen board s n → is_decided (pair_net board l c) (suc n) (entry_index board board.points l c s) ≡ false
     open_node n low o =
-        or_from (is_lost (pair_net board c) (suc n) (index_of board.points c s)) (is_won (pair_net board c) (suc n) (index_of board.points c s))
+        or_from (is_lost (pair_net board l c) (suc n) (entry_index board board.points l c s)) (is_won (pair_net board l c) (suc n) (entry_index board board.points l c s))
         (lost_same n low ∙ o.not_lost) (won_same n low ∙ o.not_won)
 
     -- not before a depth in the graph is open below it in the game
-    open_below : (depth : ℕ) → depth ≤ top → is_decided (pair_net board c) depth (index_of board.points c s) ≡ false → (k : ℕ) → k < depth → IsOpen board s k
+    open_below : (depth : ℕ) → depth ≤ top → is_decided (pair_net board l c) depth (entry_index board board.points l c s) ≡ false → (k : ℕ) → k < depth → IsOpen board s k
     open_below depth few_plies e k low = open_game k (omega arith) (false_from_ne_true _ (λ d.
-        both_ways _ e (decided_by_then (pair_net board c) (suc k) depth (index_of board.points c s) (omega arith) d)))
+        both_ways _ e (decided_by_then (pair_net board l c) (suc k) depth (entry_index board board.points l c s) (omega arith) d)))
 
-    open_before : (depth : ℕ) → depth ≤ top → ((k : ℕ) → k < depth → IsOpen board s k) → is_decided (pair_net board c) depth (index_of board.points c s) ≡ false
-    open_before zero few_plies each = none_decided (pair_net board c) (index_of board.points c s)
+    open_before : (depth : ℕ) → depth ≤ top → ((k : ℕ) → k < depth → IsOpen board s k) → is_decided (pair_net board l c) depth (entry_index board board.points l c s) ≡ false
+    open_before zero few_plies each = none_decided (pair_net board l c) (entry_index board board.points l c s)
     open_before (suc n) few_plies each = open_node n (omega arith) (each n (omega arith))
 
     -- the depth of the node is that of the position
-    depth_code : (depth : ℕ) → depth < top → HasDepth (pair_net board c) (index_of board.points c s) depth → IsCodeOf board s (suc depth)
+    depth_code : (depth : ℕ) → depth < top → HasDepth (pair_net board l c) (entry_index board board.points l c s) depth → IsCodeOf board s (suc depth)
     depth_code depth low d =
-        elim (or_cases (is_lost (pair_net board c) (suc depth) (index_of board.points c s)) (is_won (pair_net board c) (suc depth) (index_of board.points c s)) d.reached) [
+        elim (or_cases (is_lost (pair_net board l c) (suc depth) (entry_index board board.points l c s)) (is_won (pair_net board l c) (suc depth) (entry_index board board.points l c s)) d.reached) [
           | inl lost ↦
               code_of_lost board s depth (record { lost = sym (lost_same depth low) ∙ lost; least = open_below depth (omega arith) d.not_before })
           | inr won ↦ code_of_won board s depth (record { won = sym (won_same depth low) ∙ won; least = open_below depth (omega arith) d.not_before })
         ]
 
-    depth_lost : (depth : ℕ) → depth < top → IsLostIn board s depth → HasDepth (pair_net board c) (index_of board.points c s) depth
+    depth_lost : (depth : ℕ) → depth < top → IsLostIn board s depth → HasDepth (pair_net board l c) (entry_index board board.points l c s) depth
     depth_lost depth low h = record {
-      reached = or_left _ (is_won (pair_net board c) (suc depth) (index_of board.points c s)) (lost_same depth low ∙ h.lost);
+      reached = or_left _ (is_won (pair_net board l c) (suc depth) (entry_index board board.points l c s)) (lost_same depth low ∙ h.lost);
       not_before = open_before depth (omega arith) h.least;
     }
 
-    depth_won : (depth : ℕ) → depth < top → IsWonIn board s depth → HasDepth (pair_net board c) (index_of board.points c s) depth
+    depth_won : (depth : ℕ) → depth < top → IsWonIn board s depth → HasDepth (pair_net board l c) (entry_index board board.points l c s) depth
     depth_won depth low h = record {
-      reached = or_right (is_lost (pair_net board c) (suc depth) (index_of board.points c s)) _ (won_same depth low ∙ h.won);
+      reached = or_right (is_lost (pair_net board l c) (suc depth) (entry_index board board.points l c s)) _ (won_same depth low ∙ h.won);
       not_before = open_before depth (omega arith) h.least;
     }
 
   -- a code of 16 bits that isn't that of a draw is the game's, whatever the captures lead to
   pub small_code : (s : Sides) → IsPosition board s → is_of c s ≡ true
-      → (code : ℕ) → 0 < code → code ≤ 65535 → HasCode (pair_net board c) (index_of board.points c s) code → IsCodeOf board s code
+      → (code : ℕ) → 0 < code → code ≤ 65535 → HasCode (pair_net board l c) (entry_index board board.points l c s) code → IsCodeOf board s code
   small_code s h of zero some_plies small d = absurd (omega arith)
   small_code s h of (suc depth) some_plies small d =
       depth_code 65535 (λ k low t place there m listed takes. searched_early board (result_of t m) k (omega arith)) s h of depth (omega arith) d
@@ -287,31 +309,18 @@ module _ (board : Shape) (few : board.points ≤ 24) (c : Counts) where
       exits_here top k low = exits_known known k
 
       -- the code of the node is the code of the position
-      pub node_code : (code : ℕ) → HasCode (pair_net board c) (index_of board.points c s) code → IsCodeOf board s code
+      pub node_code : (code : ℕ) → HasCode (pair_net board l c) (entry_index board board.points l c s) code → IsCodeOf board s code
       node_code zero never = code_of_draw board s (record { never = λ n. open_game (suc n) (exits_here (suc n)) s h of n (omega arith) (never (suc n)) })
       node_code (suc depth) d = depth_code (suc depth) (exits_here (suc depth)) s h of depth (omega arith) d
 
-      pub code_node : (code : ℕ) → IsCodeOf board s code → HasCode (pair_net board c) (index_of board.points c s) code
+      pub code_node : (code : ℕ) → IsCodeOf board s code → HasCode (pair_net board l c) (entry_index board board.points l c s) code
       code_node code is = elim (code_cases board s code is) [
-        | inl draw ↦ subst (HasCode (pair_net board c) (index_of board.points c s)) (sym draw.0)
+        | inl draw ↦ subst (HasCode (pair_net board l c) (entry_index board board.points l c s)) (sym draw.0)
             (λ n. open_before n (exits_here n) s h of n (omega arith) (λ k low. draw.1.never k))
         | inr decided ↦ elim decided [
-          | inl lost ↦ subst (HasCode (pair_net board c) (index_of board.points c s)) (sym lost.1)
+          | inl lost ↦ subst (HasCode (pair_net board l c) (entry_index board board.points l c s)) (sym lost.1)
               (depth_lost (suc lost.0) (exits_here (suc lost.0)) s h of lost.0 (omega arith) lost.3)
-          | inr won ↦ subst (HasCode (pair_net board c) (index_of board.points c s)) (sym won.1)
+          | inr won ↦ subst (HasCode (pair_net board l c) (entry_index board board.points l c s)) (sym won.1)
               (depth_won (suc won.0) (exits_here (suc won.0)) s h of won.0 (omega arith) won.3)
         ]
       ]
-
-    -- numbers are the codes of all nodes exactly where they are the codes of all positions, by their indices
-    pub codes_of_nodes : (codes : ℕ → ℕ) → ((i : ℕ) → i < size_of board.points c → HasCode (pair_net board c) i (codes i))
-        → (s : Sides) → IsPosition board s → is_of c s ≡ true → IsCodeOf board s (codes (index_of board.points c s))
-    codes_of_nodes codes each s h of = node_code s h of (codes (index_of board.points c s)) (each (index_of board.points c s) (index_in board few c s h of))
-
-    pub nodes_of_codes : IsPair board.points c → (codes : ℕ → ℕ)
-        → ((s : Sides) → IsPosition board s → is_of c s ≡ true → IsCodeOf board s (codes (index_of board.points c s)))
-        → (i : ℕ) → i < size_of board.points c → HasCode (pair_net board c) i (codes i)
-    nodes_of_codes pair codes each i low =
-        let at = position_at board few c pair i low in
-        let s = at.0 in
-        subst (λ k. HasCode (pair_net board c) k (codes k)) at.3 (code_node s at.1 at.2 (codes (index_of board.points c s)) (each s at.1 at.2))

@@ -3,8 +3,10 @@ use Rattle.std.proofs.Common.{◌≡◌, ℕ, ◌+◌, ◌*◌, ◌≤◌, List,
 use Rattle.std.specs.Io.KnownBytes.{Consumes, Keeps}
 use Rattle.std.proofs.KnownBytes.{Consumes-nil, Consumes-trans, Consumes-kept}
 use Rattle.morris_board.specs.Boards.{Shape}
-use Rattle.morris_index.specs.Pairs.{Counts, size_of}
-use Rattle.morris_table.specs.FileReading.{header_at, pair_in, header_in, body_length, file_length, StandsWithin, StandsInFile}
+use Rattle.morris_index.specs.Pairs.{Counts}
+use Rattle.morris_table.specs.declared.layout.Layout.{Layout}
+use Rattle.morris_table.specs.Entries.{entry_count}
+use Rattle.morris_table.specs.FileReading.{header_at, heading_in, header_in, body_length, file_length, StandsWithin, StandsInFile}
 use Rattle.morris_table.proofs.FileLaws.{header_in-parts}
 use Rattle.morris_table.proofs.ReadingLaws.{header_in-is}
 
@@ -50,7 +52,8 @@ stands-past board n past more (Some bytes) b c few here there =
     (here.0 ++ there.0, omega (arith, length-append here.0 there.0, here.1, there.1), Consumes-trans (Some bytes) b c here.0 there.0 here.2 there.2)
 
 -- what stands after the header of a pair
-pub body_length-is : (board : Shape) (n : ℕ) → board.points ≡ n → (header : List ℕ) → length header ≡ 16 → (c : Counts) (count : ℕ)
-    → Ok c ≡ pair_in board (header_at header) → count ≡ size_of n c → body_length board (header_in board header) ≡ 2 * count + 32
-body_length-is board n points header long c count named sized =
-    ap (body_length board) (header_in-is board header long ∙ sym named) ∙ ap (λ k. 2 * k + 32) (ap (λ m. size_of m c) points ∙ sym sized)
+pub body_length-is : (board : Shape) (n : ℕ) → board.points ≡ n → (header : List ℕ) → length header ≡ 16 → (kind : Layout × Counts) (count : ℕ)
+    → heading_in board (header_at header) ≡ Ok kind → count ≡ entry_count board n kind.0 kind.1 → body_length board (header_in board header) ≡ 2 * count + 32
+body_length-is board n points header long kind count named sized =
+    ap (body_length board) (header_in-is board header long ∙ named)
+    ∙ ap (λ k. 2 * k + 32) (ap (λ m. entry_count board m kind.0 kind.1) points ∙ sym sized)

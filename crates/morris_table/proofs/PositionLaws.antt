@@ -10,7 +10,9 @@ use Rattle.morris_index.specs.Pairs.{Counts, IsPair, has_counts, is_of, size_of,
 use Rattle.morris_index.proofs.Unranking.{IsUnranking, unranking-start, unranking-more, unranking-inside, unranking-skip, unranking-take, unranking-end}
 use Rattle.morris_index.proofs.IndexLaws.{own_part-lt, other_part-lt, half_index-ranked, is_of-first, is_of-second, index-in_first, index-in_second, second_half}
 use Rattle.morris_table.specs.PairNets.{at_index}
-use Rattle.morris_table.specs.NetLaws.{is_sized-is_of, at_index-is}
+use Rattle.morris_table.specs.declared.layout.Layout.TheVariants.{Full}
+use Rattle.morris_table.specs.EntryLaws.{is_sized-is_of, laid-full}
+use Rattle.morris_table.specs.NetLaws.{at_index-is}
 
 -- ---- each rank is that of a set
 
@@ -94,7 +96,7 @@ module _ (board : Shape) (few : board.points ≤ 24) (c : Counts) (pair : IsPair
 
   -- each node of the graph stands for one position
   pub at_index-some : (i : ℕ) → i < size_of board.points c
-      → (s : Sides) × IsPosition board s × (is_of c s ≡ true) × (index_of board.points c s ≡ i) × (at_index board c i ≡ s ∷ [])
+      → (s : Sides) × IsPosition board s × (is_of c s ≡ true) × (index_of board.points c s ≡ i) × (at_index board Full c i ≡ s ∷ [])
   at_index-some i low =
       let found = position_at i low in
-      (found.0, found.1, found.2, found.3, ap (at_index board c) (sym found.3) ∙ at_index-is board few c found.0 found.1 found.2)
+      (found.0, found.1, found.2, found.3, ap (at_index board Full c) (sym found.3) ∙ at_index-is board few Full c (laid-full board few c) found.0 found.1 found.2 refl)

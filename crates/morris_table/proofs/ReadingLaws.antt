@@ -1,15 +1,20 @@
 -- How what the steps of a reader took from a source makes up its answer, where the source's bytes
 -- are known.
-use Rattle.std.proofs.Common.{◌≡◌, ℕ, ◌+◌, ◌*◌, ◌<◌, List, [], ◌∷◌, ◌++◌, length, Option, Some, None, Result, Ok, Err, IsOk, refl, sym, ap, ◌∙◌, arith, length-append, append-nil, append_assoc}
+use Rattle.std.proofs.Common.{◌≡◌, ℕ, ◌+◌, ◌*◌, ◌<◌, ◌≤◌, List, [], ◌∷◌, ◌++◌, length, take, Option, Some, None, Result, Ok, Err, IsOk, refl, sym, ap, ◌∙◌, arith, length-append, append-nil, append_assoc}
+use Rattle.std.proofs.lemmas.List.{take_at}
 use Rattle.std.specs.Io.KnownBytes.{Consumes, IsAtEnd}
 use Rattle.std.proofs.KnownBytes.{Consumes-nil}
 use Rattle.std.specs.Str.{bytes_eq}
 use Rattle.sha2.specs.Sha256.{sha256}
 use Rattle.morris_board.specs.Boards.{Shape}
-use Rattle.morris_index.specs.Pairs.{Counts, size_of}
+use Rattle.morris_index.specs.Pairs.{Counts}
+use Rattle.morris_table.specs.declared.layout.Layout.{Layout}
+use Rattle.morris_table.specs.declared.layout.Layout.TheVariants.{Full, Classes}
+use Rattle.morris_table.specs.declared.header.Header.{Header}
+use Rattle.morris_table.specs.Entries.{entry_count}
 use Rattle.morris_table.specs.Tables.{Table, table}
 use Rattle.morris_table.specs.TableFiles.{code_bytes}
-use Rattle.morris_table.specs.FileReading.{unless, and_then, is_end, header_at, pair_in, header_in, file_in, only_file_in, next_file_in, Reads, HasHeader, EndsEarly}
+use Rattle.morris_table.specs.FileReading.{unless, and_then, is_end, header_at, kind_in, counted_in, heading_in, before_room, roomless_in, header_in, file_in, only_file_in, next_file_in, Reads, MayTakeRoom, EndsEarly}
 use Rattle.morris_table.proofs.FileLaws.{AreCodes, body_in-parts, body_in-short, header_in-parts, header_in-short, file_in-parts, file_in-refused}
 use Rattle.morris_table.specs.declared.file_faults.ReadFault.{ReadFault}
 use Rattle.morris_table.specs.declared.file_faults.ReadFault.TheVariants as fault
@@ -112,34 +117,57 @@ reads_on_ok f g None mid new front x y read lift answer = tt
 reads_on_ok f g (Some bytes) None new front x y read lift answer = absurd read
 reads_on_ok f g (Some bytes) (Some mid) new front x y read lift answer = (answer.0, answer.1, ap g read ∙ lift mid answer.0 answer.2)
 
+-- ---- the steps before room is taken
+
+before_room_ok : (board : Shape) (h : Header) (kind found : Layout × Counts) → counted_in board h kind ≡ Ok found → IsOk (before_room board h kind)
+before_room_ok board h (Full, pair) found passed = rw passed refl
+before_room_ok board h (Classes, pair) found passed = refl
+
+-- room is refused where a heading isn't that of layout Full, after the steps before
+pub room_refused : (board : Shape) (h : Header) (l : Layout) (pair : Counts) → Ok (l, pair) ≡ kind_in board h → (l ≡ Full → ⊥) → IsOk (roomless_in board h)
+unfolding roomless_in
+room_refused board h Full pair passed other = absurd (other refl)
+room_refused board h Classes pair passed other = rw (← passed) refl
+
+-- a heading that is accepted passes the steps before room is taken
+pub roomless_of : (board : Shape) (h : Header) (kind : Layout × Counts) → heading_in board h ≡ Ok kind → IsOk (roomless_in board h)
+unfolding heading_in roomless_in
+roomless_of board h kind named = from (kind_in board h) named
+  where
+    from : (r : Result (Layout × Counts) ReadFault) → and_then r (counted_in board h) ≡ Ok kind → IsOk (and_then r (before_room board h))
+    from (Ok x) passed = before_room_ok board h x kind passed
+    from (Err refusal) passed = cc
+
 -- ---- what stands after a header
 
 module _ (board : Shape) (header : List ℕ) (long : length header ≡ 16) where
-  pub header_in-is : header_in board header ≡ pair_in board (header_at header)
+  pub header_in-is : header_in board header ≡ heading_in board (header_at header)
   header_in-is = ap (header_in board) (sym (append-nil header)) ∙ header_in-parts board header [] long
 
-  -- a front of known bytes that is a header is one of all of them
-  pub has_header : (old new : Option (List ℕ)) → Consumes old new header → IsOk (header_in board header) → HasHeader board old
-  has_header None new read ok = tt
-  has_header (Some bytes) None read ok = absurd read
-  has_header (Some bytes) (Some left) read ok =
-      let same : header_in board bytes ≡ header_in board header = ap (header_in board) read ∙ header_in-parts board header left long ∙ sym header_in-is in
-      rw same ok
+  -- what the steps before room find in a front of known bytes, they find in all of them
+  pub may_take : (old new : Option (List ℕ)) → Consumes old new header → IsOk (roomless_in board (header_at header)) → MayTakeRoom board old
+  may_take None new read ok = tt
+  may_take (Some bytes) None read ok = absurd read
+  may_take (Some bytes) (Some left) read ok =
+      let front : take 16 bytes ≡ header = ap (take 16) read ∙ take_at header left 16 long in (
+        omega (arith, ap length read, length-append header left),
+        rw front ok,
+      )
 
-  pub file_in-bad_header : (bytes : List ℕ) (refusal : ReadFault) → pair_in board (header_at header) ≡ Err refusal → file_in board (header ++ bytes) ≡ Err refusal
+  pub file_in-bad_header : (bytes : List ℕ) (refusal : ReadFault) → heading_in board (header_at header) ≡ Err refusal → file_in board (header ++ bytes) ≡ Err refusal
   file_in-bad_header bytes refusal refused = file_in-refused board (header ++ bytes) refusal (header_in-parts board header bytes long ∙ refused)
 
-  module _ (c : Counts) (n : ℕ) (named : pair_in board (header_at header) ≡ Ok c) (sized : n ≡ size_of board.points c) where
+  module _ (kind : Layout × Counts) (n : ℕ) (named : heading_in board (header_at header) ≡ Ok kind) (sized : n ≡ entry_count board board.points kind.0 kind.1) where
     pub file_in-short_body : (bytes : List ℕ) → length bytes < 2 * n + 32 → file_in board (header ++ bytes) ≡ Err fault.Short
-    file_in-short_body bytes few = file_in-parts board header bytes c long named ∙ body_in-short c (size_of board.points c) header bytes (omega arith)
+    file_in-short_body bytes few = file_in-parts board header bytes kind long named ∙ body_in-short kind (entry_count board board.points kind.0 kind.1) header bytes (omega arith)
 
     pub file_in-whole : (codes digest left : List ℕ) → length codes ≡ n → AreCodes codes → length digest ≡ 32
         → file_in board (header ++ ((code_bytes codes ++ digest) ++ left))
-        ≡ unless (bytes_eq digest (sha256 (header ++ code_bytes codes))) fault.Digest (Ok (table c codes, left))
+        ≡ unless (bytes_eq digest (sha256 (header ++ code_bytes codes))) fault.Digest (Ok (table kind.0 kind.1 codes, left))
     file_in-whole codes digest left counted small whole =
         ap (λ bytes. file_in board (header ++ bytes)) (append_assoc (code_bytes codes) digest left)
-        ∙ file_in-parts board header (code_bytes codes ++ (digest ++ left)) c long named
-        ∙ body_in-parts c (size_of board.points c) header codes digest left (counted ∙ sized) small whole
+        ∙ file_in-parts board header (code_bytes codes ++ (digest ++ left)) kind long named
+        ∙ body_in-parts kind (entry_count board board.points kind.0 kind.1) header codes digest left (counted ∙ sized) small whole
 
 -- ---- files one after the other, and one alone
 

@@ -4,10 +4,11 @@ use Rattle.morris_board.specs.Boards.{Shape}
 use Rattle.morris_board.specs.Positions.{Sides, IsPosition}
 use Rattle.morris_moves.specs.declared.step.Move.{Move}
 use Rattle.morris_moves.specs.Rules.{moves_of, result_of}
-use Rattle.morris_index.specs.Pairs.{is_of, size_of, index_of}
+use Rattle.morris_index.specs.Pairs.{is_of}
 use Rattle.morris_wave.specs.declared.network.Exits.{Exits}
 use Rattle.morris_wave.specs.Exits.{exits_of}
 use Rattle.morris_table.specs.Codes.{code_to}
+use Rattle.morris_table.specs.Entries.{entry_count, entry_index, has_own_entry}
 use Rattle.morris_table.specs.PairNets.{is_quiet}
 use Rattle.morris_table.specs.Tables.{Table}
 use Rattle.morris_wave.specs.Summaries.{added}
@@ -29,27 +30,29 @@ code_from codes = code_above (exits_of codes)
 -- The code of what a move leads to. A quiet move stays in the pair, and its code is the one that
 -- the list states. That of a capture is the game's, searched up to a depth of 65,534.
 unfoldable pub stated_code : Shape → Table → Sides → Move → ℕ
-stated_code board t s m = if is_quiet m then slice_index t.codes (index_of board.points t.pair (result_of s m)) else code_to 65534 board (result_of s m)
+stated_code board t s m = if is_quiet m then slice_index t.codes (entry_index board board.points t.layout t.pair (result_of s m)) else code_to 65534 board (result_of s m)
 
 unfoldable pub result_codes : Shape → Table → Sides → List ℕ
 result_codes board t s = map (stated_code board t s) (moves_of board s)
 
 -- the codes that the list states for what the quiet moves among some moves lead to
 unfoldable pub quiet_codes : Shape → Table → Sides → List Move → List ℕ
-quiet_codes board t s moves = map (λ m. slice_index t.codes (index_of board.points t.pair (result_of s m))) (filter is_quiet moves)
+quiet_codes board t s moves = map (λ m. slice_index t.codes (entry_index board board.points t.layout t.pair (result_of s m))) (filter is_quiet moves)
 
 -- a summary with more results, of these codes
 unfoldable pub all_added : Exits → List ℕ → Exits
 all_added exits [] = exits
 all_added exits (code ∷ codes) = all_added (added exits code) codes
 
--- the entry with index i is the code that the rules give its position from the codes of its results
+-- entry i is the code that the rules give the position that has it for its own, from the codes of its
+-- results
 abbrev pub Agrees : Shape → Table → ℕ → Type 0
 Agrees board t i =
-    (s : Sides) → IsPosition board s → is_of t.pair s ≡ true → index_of board.points t.pair s ≡ i → slice_index t.codes i ≡ code_from (result_codes board t s)
+    (s : Sides) → IsPosition board s → is_of t.pair s ≡ true → has_own_entry board t.layout s ≡ true
+    → entry_index board board.points t.layout t.pair s ≡ i → slice_index t.codes i ≡ code_from (result_codes board t s)
 
 -- an entry that doesn't agree, after entries that all agree
 pub record IsFirstToDiffer (board : Shape) (t : Table) (i : ℕ) : Type 0 where
-  pub inside : i < size_of board.points t.pair
+  pub inside : i < entry_count board board.points t.layout t.pair
   pub differs : Agrees board t i → ⊥
   pub before : (k : ℕ) → k < i → Agrees board t k

@@ -1,13 +1,16 @@
 -- What reading any bytes as the file of a table gives: the table, or the refusal of the first step
 -- that refuses.
-use Rattle.std.specs.Prelude.{◌≡◌, ℕ, ◌+◌, ◌*◌, ◌<◌, ◌≤◌, Bool, true, false, ◌&&◌, nat_eq, nat_le, List, [], ◌∷◌, ◌++◌, length, take, drop, slice_index, Option, Some, None, Result, Ok, Err, IsOk, IfSome}
+use Rattle.std.specs.Prelude.{◌≡◌, ℕ, ◌+◌, ◌*◌, ◌<◌, ◌≤◌, Bool, true, false, ◌&&◌, ◌||◌, nat_eq, nat_le, List, [], ◌∷◌, ◌++◌, length, take, drop, slice_index, Option, Some, None, Result, Ok, Err, IsOk, IfSome, if◌then◌else◌}
 use Rattle.std.specs.Int.{w16, w64, from_be_bytes}
 use Rattle.std.specs.Str.{bytes_eq}
 use Rattle.std.specs.Io.KnownBytes.{Consumes}
 use Rattle.sha2.specs.Sha256.{sha256}
 use Rattle.morris_board.specs.Boards.{Shape}
 use Rattle.morris_board.specs.Positions.{is_between}
-use Rattle.morris_index.specs.Pairs.{Counts, counts, size_of}
+use Rattle.morris_index.specs.Pairs.{Counts, counts}
+use Rattle.morris_table.specs.declared.layout.Layout.{Layout}
+use Rattle.morris_table.specs.declared.layout.Layout.TheVariants.{Full, Classes}
+use Rattle.morris_table.specs.Entries.{entry_count}
 use Rattle.morris_table.specs.Tables.{Table, table}
 use Rattle.morris_table.specs.TableFiles.{magic}
 use Rattle.morris_table.specs.declared.header.Header.{Header}
@@ -42,23 +45,45 @@ header_at bytes = record {
 abbrev pub are_counts : ℕ → ℕ → Bool
 are_counts greater lesser = is_between 3 greater 9 && (is_between 3 lesser 9 && nat_le lesser greater)
 
--- The pair of a header, in steps: it begins with NMMT; its version is 1; the board is the one that
--- is asked for; the numbers of stones are those of a pair, the greater one first; the board has
--- points for them; and the number of entries is the pair's size.
-unfoldable pub pair_in : Shape → Header → Result Counts ReadFault
-pair_in board header =
-    let pair = counts header.greater header.lesser in
+-- the versions that are known: 1, of layout Full, and 2, of layout Classes
+abbrev pub is_version : ℕ → Bool
+is_version version = nat_eq version 1 || nat_eq version 2
+
+abbrev pub layout_in : ℕ → Layout
+layout_in version = if nat_eq version 2 then Classes else Full
+
+-- What table a header is of, in steps: it begins with NMMT; its version is known; the board is the one
+-- that is asked for; the numbers of stones are those of a pair, the greater one first; and the board
+-- has points for them.
+unfoldable pub kind_in : Shape → Header → Result (Layout × Counts) ReadFault
+kind_in board header =
     unless (bytes_eq header.magic magic) fault.Magic (
-    unless (nat_eq header.version 1) fault.Version (
+    unless (is_version header.version) fault.Version (
     unless (nat_eq header.board board.id) fault.BoardId (
     unless (are_counts header.greater header.lesser) fault.Counts (
     unless (nat_le (header.greater + header.lesser) board.points) fault.Crowded (
-    unless (nat_eq header.entries (size_of board.points pair)) fault.Count (
-    Ok pair))))))
+    Ok (layout_in header.version, counts header.greater header.lesser))))))
 
--- the pair that bytes begin with: there are 16 bytes, and these are a header
-unfoldable pub header_in : Shape → List ℕ → Result Counts ReadFault
-header_in board bytes = unless (nat_le 16 (length bytes)) fault.Short (pair_in board (header_at (take 16 bytes)))
+-- the next step: the number of entries is that of the pair in the layout
+unfoldable pub counted_in : Shape → Header → Layout × Counts → Result (Layout × Counts) ReadFault
+counted_in board header kind = unless (nat_eq header.entries (entry_count board board.points kind.0 kind.1)) fault.Count (Ok kind)
+
+-- all steps of a header
+unfoldable pub heading_in : Shape → Header → Result (Layout × Counts) ReadFault
+heading_in board header = and_then (kind_in board header) (counted_in board header)
+
+-- The steps before room is first taken. In layout Full these are all of them; in layout Classes the
+-- classes are made before their entries are counted.
+abbrev pub before_room : Shape → Header → Layout × Counts → Result (Layout × Counts) ReadFault
+before_room board header (Full, pair) = counted_in board header (Full, pair)
+before_room board header (Classes, pair) = Ok (Classes, pair)
+
+unfoldable pub roomless_in : Shape → Header → Result (Layout × Counts) ReadFault
+roomless_in board header = and_then (kind_in board header) (before_room board header)
+
+-- the table whose header bytes begin with: there are 16 bytes, and these are a header
+unfoldable pub header_in : Shape → List ℕ → Result (Layout × Counts) ReadFault
+header_in board bytes = unless (nat_le 16 (length bytes)) fault.Short (heading_in board (header_at (take 16 bytes)))
 
 -- ---- the codes and the digest
 
@@ -71,19 +96,20 @@ codes_in (high ∷ low ∷ bytes) = from_be_bytes w16 (high ∷ low ∷ []) ∷ 
 -- The table of n entries in the bytes after its header, and what is left of them, in steps: there
 -- are 2 bytes for each code and 32 for the digest; and the digest is the SHA-256 of the header and
 -- the codes.
-unfoldable pub body_in : Counts → ℕ → List ℕ → List ℕ → Result (Table × List ℕ) ReadFault
-body_in pair n header bytes =
+unfoldable pub body_in : Layout × Counts → ℕ → List ℕ → List ℕ → Result (Table × List ℕ) ReadFault
+body_in kind n header bytes =
     let stated = take (2 * n) bytes in
     let digest = take 32 (drop (2 * n) bytes) in
     unless (nat_le (2 * n + 32) (length bytes)) fault.Short (
     unless (bytes_eq digest (sha256 (header ++ stated))) fault.Digest (
-    Ok (table pair (codes_in stated), drop (2 * n + 32) bytes)))
+    Ok (table kind.0 kind.1 (codes_in stated), drop (2 * n + 32) bytes)))
 
 -- ---- the whole
 
 -- the table whose file bytes begin with, and the bytes after it
 unfoldable pub file_in : Shape → List ℕ → Result (Table × List ℕ) ReadFault
-file_in board bytes = and_then (header_in board bytes) (λ pair. body_in pair (size_of board.points pair) (take 16 bytes) (drop 16 bytes))
+file_in board bytes =
+    and_then (header_in board bytes) (λ kind. body_in kind (entry_count board board.points kind.0 kind.1) (take 16 bytes) (drop 16 bytes))
 
 -- whether nothing is left
 abbrev pub is_end : List ℕ → Bool
@@ -111,15 +137,15 @@ Reads found (Some bytes) new (Err fault.Memory) = Unit {0}
 Reads found (Some bytes) new (Err fault.Read) = Unit {0}
 Reads found (Some bytes) new (Err refusal) = found bytes ≡ Err refusal
 
--- where bytes are known, they begin with a header of this board
-abbrev pub HasHeader : Shape → Option (List ℕ) → Type 0
-HasHeader board None = Unit {0}
-HasHeader board (Some bytes) = IsOk (header_in board bytes)
+-- where bytes are known, none of the steps before room is first taken refuses them
+abbrev pub MayTakeRoom : Shape → Option (List ℕ) → Type 0
+MayTakeRoom board None = Unit {0}
+MayTakeRoom board (Some bytes) = (16 ≤ length bytes) × IsOk (roomless_in board (header_at (take 16 bytes)))
 
 -- how many bytes stand after a header: two for each entry and 32 for the digest, and none after what
 -- is refused as a header
-abbrev pub body_length : Shape → Result Counts ReadFault → ℕ
-body_length board (Ok pair) = 2 * size_of board.points pair + 32
+abbrev pub body_length : Shape → Result (Layout × Counts) ReadFault → ℕ
+body_length board (Ok kind) = 2 * entry_count board board.points kind.0 kind.1 + 32
 body_length board (Err refusal) = 0
 
 -- how long the file is that bytes begin with, by what they have for a header
@@ -167,3 +193,8 @@ abbrev pub IsOfBytes : ReadFault → Type 0
 IsOfBytes fault.Memory = ⊥
 IsOfBytes fault.Read = ⊥
 IsOfBytes refusal = Unit {0}
+
+-- why a header was refused: room was missing, after all steps before it; or a step refused it
+abbrev pub IsHeadingRefusal : Shape → Header → ReadFault → Type 0
+IsHeadingRefusal board header fault.Memory = IsOk (roomless_in board header)
+IsHeadingRefusal board header refusal = (heading_in board header ≡ Err refusal) × IsOfBytes refusal

@@ -5,10 +5,12 @@ use Rattle.morris_board.specs.Boards.{Shape}
 use Rattle.morris_board.specs.Positions.{Sides, IsPosition}
 use Rattle.morris_moves.specs.declared.step.Move.{Move}
 use Rattle.morris_moves.specs.Rules.{result_of}
-use Rattle.morris_index.specs.Pairs.{Counts, IsPair, pair_of, is_of, index_of, less_lesser, less_greater, needed}
+use Rattle.morris_index.specs.Pairs.{Counts, IsPair, pair_of, is_of, less_lesser, less_greater, needed}
 use Rattle.morris_wave.specs.declared.network.Exits.{Exits}
 use Rattle.morris_wave.specs.Exits.{exits_of}
 use Rattle.morris_wave.specs.Values.{HasCode}
+use Rattle.morris_table.specs.declared.layout.Layout.{Layout}
+use Rattle.morris_table.specs.Entries.{entry_index}
 use Rattle.morris_table.specs.Codes.{IsCodeOf, code_to}
 use Rattle.morris_table.specs.PairNets.{is_capture, level_of, net_at}
 use Rattle.morris_table.specs.Tables.{Table, IsTable}
@@ -39,8 +41,8 @@ IsLedTo c s = IfSome (pair_of s) (λ d. Contains (needed c) d)
 unfoldable pub exits_by : Shape → Sides → List Move → Exits
 exits_by board s moves = exits_of (map (λ m. code_to 65534 board (result_of s m)) (filter is_capture moves))
 
--- each node of the pair's graph has the value that its position has in the game
-abbrev pub HasGameValues : Shape → Counts → Type 0
-HasGameValues board c =
+-- the node of each position in the pair's graph has the value that the position has in the game
+abbrev pub HasGameValues : Shape → Layout → Counts → Type 0
+HasGameValues board l c =
     (s : Sides) (code : ℕ) → IsPosition board s → is_of c s ≡ true
-    → (HasCode (net_at board (level_of c)) (index_of board.points c s) code ↔ IsCodeOf board s code)
+    → (HasCode (net_at board (level_of l c)) (entry_index board board.points l c s) code ↔ IsCodeOf board s code)

@@ -7,28 +7,30 @@ use Rattle.std.specs.Prelude.{◌≡◌, ℕ, ◌+◌, ◌<◌, ◌≤◌, Bool,
 use Rattle.std.specs.List.{count_by, flat_map, range_with_len}
 use Rattle.morris_board.specs.Boards.{Shape}
 use Rattle.morris_board.specs.Positions.{Sides, IsPosition}
-use Rattle.morris_index.specs.Pairs.{Counts, is_of, index_of}
+use Rattle.morris_index.specs.Pairs.{Counts, is_of}
 use Rattle.morris_wave.specs.Blocks.{BlockState, IsCut, IsIn, in_applied, first_node, count_of, entries_of}
 use Rattle.morris_wave.specs.Exits.{is_odd, is_won_code}
 use Rattle.morris_wave.specs.Waves.{entry_at}
+use Rattle.morris_table.specs.declared.layout.Layout.{Layout}
+use Rattle.morris_table.specs.Entries.{entry_index}
 use Rattle.morris_table.specs.Codes.{IsCodeOf}
 use Rattle.morris_table.specs.PairNets.{at_index, level_of, net_at}
 
 -- a block of the graph of a pair, of some cut of that graph, at one of the waves from 0 to 65,534
-pub record IsBlockOf (board : Shape) (c : Counts) (s : BlockState) : Type 0 where
-  pub level : s.level ≡ level_of c
+pub record IsBlockOf (board : Shape) (l : Layout) (c : Counts) (s : BlockState) : Type 0 where
+  pub level : s.level ≡ level_of l c
   pub cut : IsCut s.cut
   pub size : (net_at board s.level).size ≡ s.cut.size
   pub number : s.number < s.cut.blocks
   pub wave : s.wave ≤ 65534
 
--- the positions of the block, in the order of their indices
-abbrev pub positions_in : Shape → Counts → BlockState → List Sides
-positions_in board c s = flat_map (at_index board c) (range_with_len (first_node s) (count_of s))
+-- the positions that have the block's entries for their own, in the order of these
+abbrev pub positions_in : Shape → Layout → Counts → BlockState → List Sides
+positions_in board l c s = flat_map (at_index board l c) (range_with_len (first_node s) (count_of s))
 
 -- the entry at a position: 0 while it is open
-abbrev pub entry_of : Shape → Counts → BlockState → Sides → ℕ
-entry_of board c s p = entry_at (net_at board s.level) s.wave (in_applied s) (index_of board.points c p)
+abbrev pub entry_of : Shape → Layout → Counts → BlockState → Sides → ℕ
+entry_of board l c s p = entry_at (net_at board s.level) s.wave (in_applied s) (entry_index board board.points l c p)
 
 -- how many of the block's entries pass a test: the tallies count those of wins, those of losses and
 -- the open ones
@@ -38,8 +40,8 @@ tally_of board s p = count_by p (entries_of (net_at board s.level) s)
 -- Each decided entry, which isn't 0, is the game's value and exact depth at its position. The
 -- entries are those of the block's positions, one of each, and the three tallies together count
 -- each of them once.
-pub record TellsTheGame (board : Shape) (c : Counts) (s : BlockState) : Type 0 where
-  pub exact : (p : Sides) → IsPosition board p → is_of c p ≡ true → IsIn s.cut s.number (index_of board.points c p)
-      → 0 < entry_of board c s p → IsCodeOf board p (entry_of board c s p)
-  pub listed : entries_of (net_at board s.level) s ≡ map (entry_of board c s) (positions_in board c s)
-  pub tallied : tally_of board s is_won_code + tally_of board s is_odd + tally_of board s (λ entry. entry == 0) ≡ length (positions_in board c s)
+pub record TellsTheGame (board : Shape) (l : Layout) (c : Counts) (s : BlockState) : Type 0 where
+  pub exact : (p : Sides) → IsPosition board p → is_of c p ≡ true → IsIn s.cut s.number (entry_index board board.points l c p)
+      → 0 < entry_of board l c s p → IsCodeOf board p (entry_of board l c s p)
+  pub listed : entries_of (net_at board s.level) s ≡ map (entry_of board l c s) (positions_in board l c s)
+  pub tallied : tally_of board s is_won_code + tally_of board s is_odd + tally_of board s (λ entry. entry == 0) ≡ length (positions_in board l c s)

@@ -1,4 +1,6 @@
 pub mod Codes
+pub mod Entries
+pub mod EntryLaws
 pub mod PairNets
 pub mod FilterLaws
 pub mod NetLaws
@@ -6,6 +8,7 @@ pub mod Known
 pub mod Backward
 pub mod Rows
 pub mod Tables
+pub mod Numberings
 pub mod Raws
 pub mod TableFiles
 pub mod FileReading

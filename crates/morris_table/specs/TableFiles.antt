@@ -5,16 +5,23 @@ use Rattle.std.specs.List.{flat_map}
 use Rattle.sha2.specs.Sha256.{sha256}
 use Rattle.morris_board.specs.Boards.{Shape}
 use Rattle.morris_index.specs.Pairs.{Counts}
+use Rattle.morris_table.specs.declared.layout.Layout.{Layout}
+use Rattle.morris_table.specs.declared.layout.Layout.TheVariants.{Full, Classes}
 use Rattle.morris_table.specs.Tables.{Table}
 
 -- the letters NMMT
 abbrev pub magic : List ℕ
 magic = 78 ∷ 77 ∷ 77 ∷ 84 ∷ []
 
--- The header, 16 bytes: the letters NMMT; a byte each for the version, which is 1, the number of
--- the board, the greater and the lesser number of stones; and the number of entries in 8 bytes.
-unfoldable pub header_of : Shape → Counts → ℕ → List ℕ
-header_of board c entries = magic ++ 1 ∷ board.id ∷ c.greater ∷ c.lesser ∷ to_be_bytes w64 entries
+-- the version of a file says the layout of its table
+abbrev pub version_of : Layout → ℕ
+version_of Full = 1
+version_of Classes = 2
+
+-- The header, 16 bytes: the letters NMMT; a byte each for the version, the number of the board, the
+-- greater and the lesser number of stones; and the number of entries in 8 bytes.
+unfoldable pub header_of : Shape → Layout → Counts → ℕ → List ℕ
+header_of board l c entries = magic ++ version_of l ∷ board.id ∷ c.greater ∷ c.lesser ∷ to_be_bytes w64 entries
 
 -- codes, each in 2 bytes
 unfoldable pub code_bytes : List ℕ → List ℕ
@@ -22,7 +29,7 @@ code_bytes codes = flat_map (to_be_bytes w16) codes
 
 -- what the digest is taken of: the header, and the code of each entry in the order of the indices
 unfoldable pub content_of : Shape → Table → List ℕ
-content_of board t = header_of board t.pair (length t.codes) ++ code_bytes t.codes
+content_of board t = header_of board t.layout t.pair (length t.codes) ++ code_bytes t.codes
 
 -- the file: the content, and then its SHA-256 in 32 bytes
 unfoldable pub file_of : Shape → Table → List ℕ

@@ -1,26 +1,26 @@
 //! Which entries of a table agree with the entries that their moves lead to.
-ghost use Rattle.std.specs.Prelude.{◌≡◌, ℕ, ◌+◌, ◌*◌, ◌<◌, ◌≤◌, ◌^◌, ◌↔◌, true, None, length, IsTrue, MatchOption};
+ghost use Rattle.std.specs.Prelude.{◌≡◌, ℕ, ◌+◌, ◌<◌, ◌↔◌, true, None, IsTrue, MatchOption};
 ghost use Rattle.std.specs.List.{Contains};
 ghost use Rattle.morris_board.specs.Sets.{has};
 ghost use Rattle.morris_board.specs.Positions.{IsPosition};
 ghost use Rattle.morris_moves.specs.Rules.{move, moves_from, moves_of, result_of};
-ghost use Rattle.morris_index.specs.Pairs.{is_of, size_of, index_of};
+ghost use Rattle.morris_index.specs.Pairs.{is_of};
 ghost use Rattle.morris_wave.specs.Exits.{exits_of, exits_lost};
-ghost use Rattle.morris_wave.specs.Solving.{exits_at};
 ghost use Rattle.morris_index.specs.Moves.{in_pair};
-ghost use Rattle.morris_table.specs.PairNets.{capture_codes, level_of, net_at};
+ghost use Rattle.morris_table.specs.Entries.{entry_count, entry_index, has_own_entry};
+ghost use Rattle.morris_table.specs.Numberings.{layout_of, pair_of, layout_after, position_before};
+ghost use Rattle.morris_table.specs.PairNets.{capture_codes};
+ghost use Rattle.morris_table.specs.Rows.{IsRow};
 ghost use Rattle.morris_table.specs.Agreement.{code_above, code_from, result_codes, quiet_codes, all_added, Agrees, IsFirstToDiffer};
 
 use crate::graph::PairGraph;
+use crate::numbering::{Numbering, Successors};
 use crate::raw::Raw;
-use morris_board::board::{Board, Geometry};
+use crate::rows::Row;
+use morris_board::board::Geometry;
 use morris_board::position::Position;
-use morris_index::successors::SuccessorIndices;
 use morris_moves::rules::{closes, reach};
-use morris_wave::{Exits, Graph};
-
-/// How many entries are looked at together.
-const PIECE: usize = 256;
+use morris_wave::Exits;
 
 /// The code of a position by what its results come to. It may be one more than a code of 16 bits.
 fn code_above(results: Exits) -> u32
@@ -38,35 +38,39 @@ fn code_above(results: Exits) -> u32
     }
 }
 
-/// The index of the position that a quiet move leads to.
-fn index_after<B: Geometry>(
-    indices: &SuccessorIndices<B>,
+/// The entry of the position that a quiet move leads to.
+fn entry_after<B: Geometry>(
+    raw: &Raw<B>,
+    successors: &Successors<B>,
     position: &Position<B>,
     from: u8,
     to: u8,
 ) -> u64
-    requires indices { indices.now ≡ in_pair indices.now.pair position.now }
-    requires counts { is_of indices.now.pair position.now ≡ true }
+    requires layout { layout_after successors.now ≡ raw.now.layout }
+    requires position { position_before successors.now ≡ in_pair raw.now.pair position.now }
+    requires counts { is_of raw.now.pair position.now ≡ true }
     requires listed { Contains (moves_of B.shape position.now) (move from to None) }
-    ensures index { result ≡ index_of B.POINTS indices.now.pair (result_of position.now (move from to None)) }
-    ensures inside { result < size_of B.POINTS indices.now.pair }
+    ensures entry { result ≡ entry_index B.shape B.POINTS raw.now.layout raw.now.pair (result_of position.now (move from to None)) }
+    ensures inside { result < entry_count B.shape B.POINTS raw.now.layout raw.now.pair }
 {
-    // The proof learns here that the stones are those of a position.
+    // The proof learns here that the stones are those of a position, and the table's those of a pair.
     let _ = position.own();
-    indices.index(from, to)
+    let _ = raw.pair();
+    successors.entry(from, to)
 }
 
 /// What is known of the results, with those of the quiet moves of the stone on `from`, as the table
 /// states them.
 fn with_moves_from<B: Geometry>(
     raw: &Raw<B>,
-    indices: &SuccessorIndices<B>,
+    successors: &Successors<B>,
     position: &Position<B>,
     from: u8,
     known: Exits,
 ) -> Exits
     requires counts { is_of raw.now.pair position.now ≡ true }
-    requires indices { indices.now ≡ in_pair raw.now.pair position.now }
+    requires layout { layout_after successors.now ≡ raw.now.layout }
+    requires position { position_before successors.now ≡ in_pair raw.now.pair position.now }
     requires start { has position.now.own from ≡ true }
     requires inside { from < B.POINTS }
     ensures { result ≡ all_added known (quiet_codes B.shape raw.now position.now (moves_from B.shape position.now from)) }
@@ -75,7 +79,7 @@ fn with_moves_from<B: Geometry>(
     let mut results = known;
     for to in reach(position, from).iter() {
         if !closes::<B>(own, from, to) {
-            results = results.with(raw.code(index_after(indices, position, from, to)));
+            results = results.with(raw.code(entry_after(raw, successors, position, from, to)));
         }
     }
     results
@@ -98,75 +102,70 @@ fn results_of<B: Geometry>(raw: &Raw<B>, position: &Position<B>, captures: Exits
     if wins_at_once(captures) {
         return captures;
     }
-    let indices = SuccessorIndices::of(&raw.pair(), position);
+    let successors = Successors::of(raw.numbering(), position);
     let mut results = captures;
     for from in position.own().iter() {
-        results = with_moves_from(raw, &indices, position, from, results);
+        results = with_moves_from(raw, &successors, position, from, results);
     }
     results
 }
 
-/// Whether the entry of a position of the table's pair, which has this index, agrees.
+/// Whether the entry `index` of the table agrees, which `position` has for its own.
 fn agrees<B: Geometry>(raw: &Raw<B>, index: u64, position: &Position<B>, captures: Exits) -> bool
-    requires inside { index < size_of B.POINTS raw.now.pair }
+    requires inside { index < entry_count B.shape B.POINTS raw.now.layout raw.now.pair }
     requires counts { is_of raw.now.pair position.now ≡ true }
     requires lawful { IsPosition B.shape position.now }
-    requires at { index_of B.POINTS raw.now.pair position.now ≡ index }
+    requires own { has_own_entry B.shape raw.now.layout position.now ≡ true }
+    requires at { entry_index B.shape B.POINTS raw.now.layout raw.now.pair position.now ≡ index }
     requires captures { captures ≡ exits_of (capture_codes B.shape position.now) }
     ensures { IsTrue result ↔ Agrees B.shape raw.now index }
 {
+    let _ = raw.pair();
     u32::from(raw.code(index)) == code_above(results_of(raw, position, captures))
 }
 
-/// The first entry that doesn't agree, from the index `first` on, among as many as there are
-/// summaries of captures.
-fn first_in_piece<B: Geometry>(raw: &Raw<B>, first: u64, captures: &[Exits]) -> Option<u64>
-    requires inside { first + length captures.now ≤ size_of B.POINTS raw.now.pair }
-    requires captures { (k : ℕ) → k < length captures.now → exits_at captures.now k ≡ exits_of ((net_at B.shape (level_of raw.now.pair)).exits (first + k)) }
-    requires before { (k : ℕ) → k < first → Agrees B.shape raw.now k }
-    ensures { MatchOption result ((k : ℕ) → k < first + length captures.now → Agrees B.shape raw.now k) (IsFirstToDiffer B.shape raw.now) }
+/// The first entry that doesn't agree.
+pub(crate) fn first_to_differ<B: Geometry>(graph: &PairGraph<B>, raw: &Raw<B>) -> Option<u64>
+    requires { graph.now ≡ raw.now.pair }
+    ensures { MatchOption result ((k : ℕ) → k < entry_count B.shape B.POINTS raw.now.layout raw.now.pair → Agrees B.shape raw.now k) (IsFirstToDiffer B.shape raw.now) }
 {
-    let pair = raw.pair();
-    let _ = pair.size();
-    if captures.is_empty() {
+    let numbering = raw.numbering();
+    let count = numbering.count();
+    if count == 0 {
         return None;
     }
-    let mut position = pair.position(first);
-    for (place, exits) in captures.iter().enumerate() {
-        let index = first + place as u64;
-        if !agrees(raw, index, &position, *exits) {
+    let mut position = numbering.position(0);
+    let mut row = Row::of::<B>(position.own());
+    for index in 0..count {
+        let captures = graph.exits_by_row(&row, &position);
+        if !agrees(raw, index, &position, captures) {
             return Some(index);
         }
-        if place + 1 < captures.len() {
-            position = pair.following(&position, index + 1);
+        if index + 1 < count {
+            go_on(numbering, &mut position, &mut row, index + 1);
         }
     }
     None
 }
 
-/// How many entries the table has: one for each node of the graph of its pair.
-fn entries<B: Geometry>(raw: &Raw<B>) -> u64
-    ensures value { result ≡ size_of B.POINTS raw.now.pair }
-    ensures nodes { result ≡ (net_at B.shape (level_of raw.now.pair)).size }
-    ensures few { result ≤ 2 ^ 40 }
+/// Goes on to the position of the next entry, and to what is kept of its own stones.
+fn go_on<B: Geometry>(
+    numbering: &Numbering<B>,
+    position: &mut Position<B>,
+    row: &mut Row,
+    index: u64,
+)
+    requires counts { is_of (pair_of numbering.now) position.old ≡ true }
+    requires before { entry_index B.shape B.POINTS (layout_of numbering.now) (pair_of numbering.now) position.old + 1 ≡ index }
+    requires inside { index < entry_count B.shape B.POINTS (layout_of numbering.now) (pair_of numbering.now) }
+    requires row { IsRow B.shape B.POINTS row.old }
+    ensures entry { entry_index B.shape B.POINTS (layout_of numbering.now) (pair_of numbering.now) position.new ≡ index }
+    ensures counts { is_of (pair_of numbering.now) position.new ≡ true }
+    ensures lawful { IsPosition B.shape position.new }
+    ensures own_entry { has_own_entry B.shape (layout_of numbering.now) position.new ≡ true }
+    ensures row { IsRow B.shape B.POINTS row.new }
+    ensures own { row.new.own ≡ position.new.own }
 {
-    raw.pair().size()
-}
-
-/// The first entry that doesn't agree.
-pub(crate) fn first_to_differ<B: Board>(graph: &PairGraph<B>, raw: &Raw<B>) -> Option<u64>
-    requires { graph.now ≡ raw.now.pair }
-    ensures { MatchOption result ((k : ℕ) → k < size_of B.POINTS raw.now.pair → Agrees B.shape raw.now k) (IsFirstToDiffer B.shape raw.now) }
-{
-    let mut captures = [Exits::NONE; PIECE];
-    let size = entries(raw);
-    for piece in 0..size.div_ceil(PIECE as u64) {
-        let first = piece * PIECE as u64;
-        let count = (size - first).min(PIECE as u64) as usize;
-        graph.read_exits(first, &mut captures[..count]);
-        if let Some(index) = first_in_piece(raw, first, &captures[..count]) {
-            return Some(index);
-        }
-    }
-    None
+    *position = numbering.following(position, index);
+    row.follow(position);
 }

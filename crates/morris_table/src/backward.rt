@@ -9,6 +9,7 @@ ghost use Rattle.morris_wave.specs.Nets.{times};
 ghost use Rattle.morris_table.specs.PairNets.{pair_net};
 ghost use Rattle.morris_table.specs.Backward.{moves_into, indices_before};
 
+use crate::layout::Layout;
 use morris_board::board::Geometry;
 use morris_board::points::Points;
 use morris_board::position::Position;
@@ -65,7 +66,7 @@ pub(crate) fn list_predecessors<B: Geometry>(
 ) -> Result<(), AllocError>
     requires { is_of pair.now position.now ≡ true }
     ensures times { OnOk result ((j : ℕ) → j < size_of B.POINTS pair.now
-        → times j out.new.items ≡ times (index_of B.POINTS pair.now position.now) ((pair_net B.shape pair.now).quiet j)) }
+        → times j out.new.items ≡ times (index_of B.POINTS pair.now position.now) ((pair_net B.shape Layout.Full pair.now).quiet j)) }
     ensures nodes { OnOk result (All (λ j. j < size_of B.POINTS pair.now) out.new.items) }
     ensures few { OnOk result (vec_len out.new ≤ 65535) }
     ensures err { OnErr result (out.new.items ≡ []) }

@@ -13,6 +13,7 @@ ghost use Rattle.morris_table.specs.Headline.{IsBlockOf, TellsTheGame};
 
 use crate::exact::Exact;
 use crate::graph::PairGraph;
+use crate::layout::Layout;
 use crate::shelf::Shelf;
 use crate::sweeping::BuildFault;
 use morris_board::board::{Board, Geometry};
@@ -65,15 +66,16 @@ pub fn build<B: Board, A: Gate, R: Threads + Wait + Sync>(
         → MatchResult result (λ _. range_fault workers blocks ≡ None) (λ fault. out_of_range fault ≡ range_fault workers blocks) }
     ensures missing { IfErr result (λ fault. (number : ℕ) → fault ≡ BuildFault.Missing number → number < blocks) }
     ensures pair { IfOk result (λ t. t.pair ≡ pair) }
+    ensures layout { IfOk result (λ t. t.layout ≡ Layout.Full) }
     ensures exact { IfOk result (IsTable B.shape) }
-    ensures too_deep { result ≡ Err BuildFault.TooDeep → IsTooDeep (net_at B.shape (level_of pair)) }
-    ensures not_too_deep { OnOk result (¬ IsTooDeep (net_at B.shape (level_of pair))) }
+    ensures too_deep { result ≡ Err BuildFault.TooDeep → IsTooDeep (net_at B.shape (level_of Layout.Full pair)) }
+    ensures not_too_deep { OnOk result (¬ IsTooDeep (net_at B.shape (level_of Layout.Full pair))) }
     // The same in the words of the game.
     ensures beyond { result ≡ Err BuildFault.TooDeep → IsBeyondCodes B.shape pair }
     ensures within { OnOk result (¬ IsBeyondCodes B.shape pair) }
     // Whenever a block's lock is free, each decided entry is the game's value and exact depth at
     // its position and the tallies count the entries.
-    ensures whenever { (s : BlockState) → IsBlockOf B.shape pair s → TellsTheGame B.shape pair s }
+    ensures whenever { (s : BlockState) → IsBlockOf B.shape Layout.Full pair s → TellsTheGame B.shape Layout.Full pair s }
 {
     let graph = PairGraph::new(shelf, pair)?;
     let codes = solve(rt, alloc, &graph, gate, workers, blocks)?;

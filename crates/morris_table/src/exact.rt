@@ -1,12 +1,15 @@
 //! Tables of the game's values.
 ghost use Rattle.std.specs.Prelude.{◌≡◌, ℕ, ◌+◌, ◌<◌, ◌≤◌, ◌^◌, true, length, slice_index, vec_len, IfOk};
 ghost use Rattle.morris_board.specs.Positions.{Sides, IsPosition};
-ghost use Rattle.morris_index.specs.Pairs.{is_of, size_of, index_of};
+ghost use Rattle.morris_index.specs.Pairs.{is_of};
 ghost use Rattle.morris_wave.specs.Nets.{times};
 ghost use Rattle.morris_table.specs.Codes.{IsValue, value_in};
+ghost use Rattle.morris_table.specs.Entries.{entry_count, entry_index};
+ghost use Rattle.morris_table.specs.Numberings.{layout_of, pair_of};
 ghost use Rattle.morris_table.specs.Tables.{table, IsTable, greatest_code, tallies_of};
 
 use crate::layout::Layout;
+use crate::numbering::Numbering;
 use crate::raw::Raw;
 use crate::value::Value;
 use morris_board::board::Geometry;
@@ -15,82 +18,96 @@ use morris_index::pair::Pair;
 use std::alloc::{AllocError, Global};
 use std::marker::Model;
 
-/// The table of a pair: for each of its positions the code of the value that best play of both players leads to. A code is 0 for a draw
-/// and otherwise one more than the depth in plies. Depths of losses are even and those of wins odd, so an odd code is a loss and an even
-/// one above 0 a win.
+/// The table of a pair: for each of its entries the code of the value that best play of both players
+/// leads to from the entry's position. In layout `Full` each position has an entry; in layout
+/// `Classes` a position has the value of the one to which it is led, since that is an image of it. A
+/// code is 0 for a draw and otherwise one more than the depth in plies. Depths of losses are even and
+/// those of wins odd, so an odd code is a loss and an even one above 0 a win.
 #[derive(Drop)]
 pub struct Exact<B: Geometry> {
-    pair: Pair<B>,
+    numbering: Numbering<B>,
     codes: Vec<u16>,
 }
 
 impl<B: Geometry> Model for Exact<B> {
+    ghost use Rattle.morris_table.specs.Numberings.{layout_of, pair_of};
     ghost use Rattle.morris_table.specs.Tables.{Table, table, IsTable};
 
     ghost Value = { Table };
 
-    ghost view = { λ exact. table exact.pair exact.codes.items };
+    ghost view = { λ exact. table (layout_of exact.numbering) (pair_of exact.numbering) exact.codes.items };
 
-    ghost invariant = { λ exact. IsTable B.shape (table exact.pair exact.codes.items) };
+    ghost invariant = { λ exact. IsTable B.shape (table (layout_of exact.numbering) (pair_of exact.numbering) exact.codes.items) };
 }
 
 impl<B: Geometry> Exact<B> {
-    /// The table of a pair with these codes, which are those of its positions in the order of their indices.
-    pub(crate) fn new(pair: Pair<B>, codes: Vec<u16>) -> Exact<B>
-        requires { IsTable B.shape (table pair codes.items) }
-        ensures { result ≡ table pair codes.items }
+    /// The table with these codes, which are those of the entries in their order.
+    pub(crate) fn new(numbering: Numbering<B>, codes: Vec<u16>) -> Exact<B>
+        requires { IsTable B.shape (table (layout_of numbering) (pair_of numbering) codes.items) }
+        ensures { result ≡ table (layout_of numbering) (pair_of numbering) codes.items }
     {
-        Exact { pair, codes }
+        Exact { numbering, codes }
     }
 
-    /// The pair whose positions the table has.
+    /// The pair whose positions the table tells of.
     pub fn pair(&self) -> Pair<B>
         ensures value { result ≡ self.now.pair }
         ensures lawful { IsTable B.shape self.now }
     {
-        self.pair
+        self.numbering.pair()
     }
 
     /// How the entries are laid out.
     pub fn layout(&self) -> Layout
-        ensures { result ≡ Layout.Full }
+        ensures { result ≡ self.now.layout }
     {
-        Layout::Full
+        self.numbering.layout()
     }
 
-    /// How many entries the table has: one for each position of the pair.
+    /// How many entries the table has: in layout `Full` one for each position of the pair.
     pub fn len(&self) -> u64
         ensures value { result ≡ length self.now.codes }
-        ensures size { result ≡ size_of B.POINTS self.now.pair }
+        ensures size { result ≡ entry_count B.shape B.POINTS self.now.layout self.now.pair }
+        ensures few { result ≤ 2 ^ 40 }
     {
+        // The proof learns here how many entries there may be.
+        let _ = self.numbering.count();
         self.codes.len() as u64
     }
 
-    /// The code of the position with index `i`, which is below [`Exact::len`].
+    /// The code of the entry `i`, which is below [`Exact::len`].
     pub fn code(&self, i: u64) -> u16
-        requires { i < size_of B.POINTS self.now.pair }
+        requires { i < entry_count B.shape B.POINTS self.now.layout self.now.pair }
         ensures { result ≡ slice_index self.now.codes i }
     {
         self.codes[i as usize]
+    }
+
+    /// The code of a position of the pair.
+    pub(crate) fn code_of(&self, position: &Position<B>) -> u16
+        requires { is_of self.now.pair position.now ≡ true }
+        ensures value { result ≡ slice_index self.now.codes (entry_index B.shape B.POINTS self.now.layout self.now.pair position.now) }
+        ensures lawful { IsTable B.shape self.now }
+    {
+        self.code(self.numbering.entry(position))
     }
 
     /// The value of a position of the pair.
     pub fn value_of(&self, position: &Position<B>) -> Value
         requires { is_of self.now.pair position.now ≡ true }
         ensures value { IsValue B.shape position.now result }
-        ensures code { result ≡ value_in (slice_index self.now.codes (index_of B.POINTS self.now.pair position.now)) }
+        ensures code { result ≡ value_in (slice_index self.now.codes (entry_index B.shape B.POINTS self.now.layout self.now.pair position.now)) }
     {
         // The proof learns the rules of a position where its stones are read.
         let _ = position.own();
-        let index = self.pair().index(position);
-        value_of_code(self.code(index))
+        value_of_code(self.code_of(position))
     }
 
-    /// The same pair and codes, to be judged again by whoever gets them.
+    /// The same pair, layout and codes, to be judged again by whoever gets them.
     pub fn into_raw(self) -> Raw<B>
         ensures { result ≡ self }
     {
-        Raw::new(self.pair, self.codes)
+        Raw::new(self.numbering, self.codes)
     }
 
     /// How many entries have each code, from 0 up to the greatest code of the table.

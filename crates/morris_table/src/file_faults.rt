@@ -16,7 +16,7 @@ pub enum ReadFault {
     /// The file doesn't begin with `NMMT`.
     #[error("not a table file")]
     Magic,
-    /// The version isn't 1.
+    /// The version is neither 1 nor 2.
     #[error("unknown version")]
     Version,
     /// The table is one of another board.
@@ -28,7 +28,7 @@ pub enum ReadFault {
     /// The board has fewer points than there are stones.
     #[error("more stones than points")]
     Crowded,
-    /// The number of entries isn't that of the pair.
+    /// The number of entries isn't that of the pair in the layout of the version.
     #[error("wrong number of entries")]
     Count,
     /// The digest isn't that of the bytes before it.
@@ -40,7 +40,7 @@ pub enum ReadFault {
     /// A read of the source failed.
     #[error("reading failed")]
     Read,
-    /// There was no room for the codes.
+    /// There was no room for the classes of a file of version 2, or for the codes.
     #[error("out of memory")]
     Memory,
 }

@@ -22,7 +22,9 @@ ghost use Rattle.morris_table.specs.Graphs.{IsTableOf, IsNeeded, IsLedTo, exits_
 
 use crate::backward::list_predecessors;
 use crate::exact::Exact;
+use crate::layout::Layout;
 use crate::levels::PairLevels;
+use crate::numbering::Numbering;
 use crate::rows::{Row, advance, read_counts};
 use crate::shelf::{Needs, Shelf};
 use morris_board::board::{Board, Geometry};
@@ -96,11 +98,11 @@ impl<'a, B: Geometry> PairGraph<'a, B> {
     pub fn new(shelf: &'a Shelf<B>, pair: Pair<B>) -> Result<PairGraph<'a, B>, Needs<B>>
         ensures needs { MatchResult result (λ _. first_missing shelf.now pair ≡ None) (λ needs. first_missing shelf.now pair ≡ Some needs.0) }
         ensures pair { IfOk result (λ graph. graph ≡ pair) }
-        ensures values { OnOk result (HasGameValues B.shape pair) }
-        ensures deep { OnOk result (IsTooDeep (net_at B.shape (level_of pair)) ↔ IsBeyondCodes B.shape pair) }
+        ensures values { OnOk result ((l : Layout) → HasGameValues B.shape l pair) }
+        ensures deep { OnOk result (IsTooDeep (net_at B.shape (level_of Layout.Full pair)) ↔ IsBeyondCodes B.shape pair) }
         // What the blocks of the graph hold, at any wave and whatever is applied, is the game's,
         // also where a table is missing.
-        ensures blocks { (s : BlockState) → IsBlockOf B.shape pair s → TellsTheGame B.shape pair s }
+        ensures blocks { (s : BlockState) → IsBlockOf B.shape Layout.Full pair s → TellsTheGame B.shape Layout.Full pair s }
     {
         let (less_lesser, less_greater) = captured_pairs(&pair);
         if let Some(needs) = shelf.missing(pair) {
@@ -115,11 +117,11 @@ impl<'a, B: Geometry> PairGraph<'a, B> {
 
     /// The table of the pair, of the codes of all nodes in order.
     pub(crate) fn table(&self, codes: Vec<u16>) -> Exact<B>
-        requires len { vec_len codes ≡ (net_at B.shape (level_of self.now)).size }
-        requires codes { (i : ℕ) → i < (net_at B.shape (level_of self.now)).size → HasCode (net_at B.shape (level_of self.now)) i (slice_index codes.items i) }
-        ensures { result ≡ table self.now codes.items }
+        requires len { vec_len codes ≡ (net_at B.shape (level_of Layout.Full self.now)).size }
+        requires codes { (i : ℕ) → i < (net_at B.shape (level_of Layout.Full self.now)).size → HasCode (net_at B.shape (level_of Layout.Full self.now)) i (slice_index codes.items i) }
+        ensures { result ≡ table Layout.Full self.now codes.items }
     {
-        Exact::new(self.pair, codes)
+        Exact::new(Numbering::Full(self.pair), codes)
     }
 
     /// The table of a pair that this one needs.
@@ -147,7 +149,7 @@ impl<'a, B: Geometry> PairGraph<'a, B> {
         // The proof learns here that the stones are those of a position.
         let _ = position.own();
         match Pair::of(position) {
-            Some(pair) => self.table_of(pair).code(pair.index(position)),
+            Some(pair) => self.table_of(pair).code_of(position),
             None => 1,
         }
     }
@@ -214,7 +216,7 @@ impl<'a, B: Geometry> PairGraph<'a, B> {
 
     /// The summary of what the captures of a position of the pair lead to, from what is kept of its
     /// own stones.
-    fn exits_by_row(&self, row: &Row, position: &Position<B>) -> Exits
+    pub(crate) fn exits_by_row(&self, row: &Row, position: &Position<B>) -> Exits
         requires counts { is_of self.now position.now ≡ true }
         requires lawful { IsPosition B.shape position.now }
         requires own { row.now.own ≡ position.now.own }
@@ -250,7 +252,7 @@ impl<'a, B: Geometry> PairGraph<'a, B> {
     /// room for.
     fn read_exits_from(&self, first: u64, exits: &mut [Exits])
         requires { first + length exits.old ≤ size_of B.POINTS self.now }
-        ensures { (k : ℕ) → k < length exits.old → exits_at exits.new k ≡ exits_of ((net_at B.shape (level_of self.now)).exits (first + k)) }
+        ensures { (k : ℕ) → k < length exits.old → exits_at exits.new k ≡ exits_of ((net_at B.shape (level_of Layout.Full self.now)).exits (first + k)) }
     {
         let pair = self.pair;
         let _ = pair.greater();
@@ -271,10 +273,11 @@ impl<'a, B: Geometry> PairGraph<'a, B> {
 
 impl<'a, B: Board> Graph for PairGraph<'a, B> {
     ghost use Rattle.morris_table.specs.PairNets.{level_of};
+    ghost use Rattle.morris_table.specs.declared.layout.Layout.TheVariants.{Full};
 
     type Name = PairLevels<B>;
 
-    ghost level = { λ pair. level_of pair };
+    ghost level = { λ pair. level_of Full pair };
 
     fn level(&self) -> u64 {
         u64::from(self.pair.greater()) * 10 + u64::from(self.pair.lesser())

@@ -1,23 +1,25 @@
 //! The header of a table file: what stands before the codes.
-ghost use Rattle.std.specs.Prelude.{◌≡◌, ◌≤◌, ◌^◌, IfOk, IfErr};
-ghost use Rattle.morris_index.specs.Pairs.{size_of};
-ghost use Rattle.morris_table.specs.TableFiles.{header_of};
-ghost use Rattle.morris_table.specs.FileReading.{header_at, pair_in, IsOfBytes};
+ghost use Rattle.std.specs.Prelude.{◌≡◌, ◌≤◌, ◌^◌, Ok, length, IfOk, IfErr};
+ghost use Rattle.morris_table.specs.Numberings.{layout_of, pair_of};
+ghost use Rattle.morris_table.specs.Tables.{IsTable};
+ghost use Rattle.morris_table.specs.TableFiles.{header_of, version_of};
+ghost use Rattle.morris_table.specs.FileReading.{header_at, kind_in, heading_in, IsOfBytes, IsHeadingRefusal};
 ghost use Rattle.morris_table.specs.Headers.{header_bytes};
 
+use crate::exact::Exact;
 use crate::file_faults::ReadFault;
+use crate::layout::Layout;
+use crate::numbering::Numbering;
 use morris_board::board::Geometry;
 use morris_index::faults::PairFault;
 use morris_index::pair::Pair;
+use std::alloc::Global;
 
 /// How many bytes a header has.
 pub(crate) const HEADER: usize = 16;
 
 /// What each file begins with.
 const MAGIC: [u8; 4] = *b"NMMT";
-
-/// The version of a file that has an entry for each position.
-const VERSION: u8 = 1;
 
 /// The fields of a header, as they stand in a file. They may be those of no table.
 #[derive(Clone, Copy)]
@@ -31,19 +33,21 @@ pub(crate) struct Header {
 }
 
 impl Header {
-    /// The header of the tables of a pair.
+    /// The header of the file of a table.
     #[tactic(auto, unfolding(crate::specs::TableFiles::header_of, crate::specs::Headers::header_bytes))]
-    pub(crate) fn of<B: Geometry>(pair: Pair<B>) -> Header
-        ensures value { header_bytes result ≡ header_of B.shape pair (size_of B.POINTS pair) }
-        ensures few { size_of B.POINTS pair ≤ 2 ^ 40 }
+    pub(crate) fn of<B: Geometry>(table: &Exact<B>) -> Header
+        ensures value { header_bytes result ≡ header_of B.shape table.now.layout table.now.pair (length table.now.codes) }
+        ensures few { length table.now.codes ≤ 2 ^ 40 }
+        ensures lawful { IsTable B.shape table.now }
     {
+        let pair = table.pair();
         Header {
             magic: MAGIC,
-            version: VERSION,
+            version: version_of(table.layout()),
             board: B::ID,
             greater: pair.greater(),
             lesser: pair.lesser(),
-            entries: pair.size(),
+            entries: table.len(),
         }
     }
 
@@ -79,36 +83,61 @@ impl Header {
         bytes
     }
 
-    /// The pair of the table that the header stands before.
+    /// How the entries of the table are numbered that the header stands before.
     ///
     /// # Errors
-    /// The first of `Magic`, `Version`, `BoardId`, `Counts`, `Crowded` and `Count` that applies.
-    #[tactic(auto, unfolding(crate::specs::FileReading::pair_in))]
-    pub(crate) fn pair<B: Geometry>(&self) -> Result<Pair<B>, ReadFault>
-        ensures value { result ≡ pair_in B.shape self.now }
-        ensures few { IfOk result (λ pair. size_of B.POINTS pair ≤ 2 ^ 40) }
+    /// The first of `Magic`, `Version`, `BoardId`, `Counts` and `Crowded` that applies; then `Memory`
+    /// where there is no room for the classes; then `Count`.
+    #[tactic(auto, unfolding(crate::specs::FileReading::heading_in, crate::specs::FileReading::counted_in))]
+    pub(crate) fn numbering<B: Geometry>(&self, alloc: Global) -> Result<Numbering<B>, ReadFault>
+        ensures found { IfOk result (λ made. heading_in B.shape self.now ≡ Ok (layout_of made, pair_of made)) }
+        ensures refused { IfErr result (IsHeadingRefusal B.shape self.now) }
+    {
+        let (layout, pair) = self.kind()?;
+        let numbering = Numbering::make(alloc, pair, layout)?;
+        if self.entries != numbering.count() {
+            return Err(ReadFault::Count);
+        }
+        Ok(numbering)
+    }
+
+    /// The layout and the pair of the table that the header stands before.
+    ///
+    /// # Errors
+    /// The first of `Magic`, `Version`, `BoardId`, `Counts` and `Crowded` that applies.
+    #[tactic(auto, unfolding(crate::specs::FileReading::kind_in))]
+    fn kind<B: Geometry>(&self) -> Result<(Layout, Pair<B>), ReadFault>
+        ensures value { result ≡ kind_in B.shape self.now }
         ensures refused { IfErr result IsOfBytes }
     {
         if self.magic != MAGIC {
             return Err(ReadFault::Magic);
         }
-        if self.version != VERSION {
-            return Err(ReadFault::Version);
-        }
+        let layout = match self.version {
+            1 => Layout::Full,
+            2 => Layout::Classes,
+            _ => return Err(ReadFault::Version),
+        };
         if self.board != B::ID {
             return Err(ReadFault::BoardId);
         }
         if self.greater < self.lesser {
             return Err(ReadFault::Counts);
         }
-        let pair = match Pair::new(self.greater, self.lesser) {
-            Ok(pair) => pair,
-            Err(PairFault::Counts) => return Err(ReadFault::Counts),
-            Err(PairFault::Crowded) => return Err(ReadFault::Crowded),
-        };
-        if self.entries != pair.size() {
-            return Err(ReadFault::Count);
+        match Pair::new(self.greater, self.lesser) {
+            Ok(pair) => Ok((layout, pair)),
+            Err(PairFault::Counts) => Err(ReadFault::Counts),
+            Err(PairFault::Crowded) => Err(ReadFault::Crowded),
         }
-        Ok(pair)
+    }
+}
+
+/// The version of the files of a layout.
+fn version_of(layout: Layout) -> u8
+    ensures { result ≡ version_of layout }
+{
+    match layout {
+        Layout::Full => 1,
+        Layout::Classes => 2,
     }
 }

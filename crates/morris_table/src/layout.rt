@@ -5,4 +5,8 @@
 pub enum Layout {
     /// An entry for each position, at its index.
     Full,
+    /// An entry for each position in which the player to move stands on the representative of a
+    /// class of sets of points. A position is led to one of these by a symmetry of the board, and
+    /// has its value.
+    Classes,
 }

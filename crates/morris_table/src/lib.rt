@@ -16,6 +16,7 @@ pub mod graph;
 mod header;
 pub mod layout;
 pub mod levels;
+mod numbering;
 pub mod raw;
 pub mod reading;
 mod rows;

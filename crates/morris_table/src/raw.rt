@@ -1,10 +1,13 @@
 //! Tables that may be wrong.
 ghost use Rattle.std.specs.Prelude.{◌≡◌, ◌≢◌, ◌<◌, length, slice_index, vec_len, IfOk, IfErr, MatchResult};
 ghost use Rattle.morris_index.specs.Pairs.{IsPair, size_of};
+ghost use Rattle.morris_table.specs.Entries.{entry_count};
+ghost use Rattle.morris_table.specs.Numberings.{layout_of, pair_of};
 ghost use Rattle.morris_table.specs.Raws.{IsRaw};
 ghost use Rattle.morris_table.specs.Tables.{table};
 
 use crate::layout::Layout;
+use crate::numbering::Numbering;
 use morris_board::board::Geometry;
 use morris_index::pair::Pair;
 use std::marker::Model;
@@ -15,28 +18,29 @@ use thiserror::Error;
 #[error("wrong number of entries")]
 pub struct Count;
 
-/// A pair with one code for each of its positions, such as a file states them. Any code may be
-/// wrong: [`Raw::verify`] makes an exact table of it where none is.
+/// A pair in a layout with one code for each of its entries, such as a file states them. Any code may
+/// be wrong: [`Raw::verify`] makes an exact table of it where none is.
 #[derive(Drop)]
 pub struct Raw<B: Geometry> {
-    pair: Pair<B>,
+    numbering: Numbering<B>,
     codes: Vec<u16>,
 }
 
 impl<B: Geometry> Model for Raw<B> {
+    ghost use Rattle.morris_table.specs.Numberings.{layout_of, pair_of};
     ghost use Rattle.morris_table.specs.Tables.{Table, table};
     ghost use Rattle.morris_table.specs.Raws.{IsRaw};
 
     ghost Value = { Table };
 
-    ghost view = { λ raw. table raw.pair raw.codes.items };
+    ghost view = { λ raw. table (layout_of raw.numbering) (pair_of raw.numbering) raw.codes.items };
 
-    ghost invariant = { λ raw. IsRaw B.shape (table raw.pair raw.codes.items) };
+    ghost invariant = { λ raw. IsRaw B.shape (table (layout_of raw.numbering) (pair_of raw.numbering) raw.codes.items) };
 }
 
 impl<B: Geometry> Raw<B> {
-    /// The table of a pair with these codes, one for each of its positions in the order of their
-    /// indices.
+    /// The table of a pair in layout `Full` with these codes, one for each of its positions in the
+    /// order of their indices. Tables in layout `Classes` are read from their files.
     ///
     /// # Errors
     /// The codes and [`Count`] where there isn't one for each entry.
@@ -45,67 +49,78 @@ impl<B: Geometry> Raw<B> {
         layout: Layout,
         codes: Vec<u16>,
     ) -> Result<Raw<B>, (Vec<u16>, Count)>
+        requires { layout ≡ Layout.Full }
         ensures count { MatchResult result (λ _. vec_len codes ≡ size_of B.POINTS pair) (λ _. vec_len codes ≢ size_of B.POINTS pair) }
-        ensures value { IfOk result (λ raw. raw ≡ table pair codes.items) }
+        ensures value { IfOk result (λ raw. raw ≡ table layout pair codes.items) }
         ensures given_back { IfErr result (λ refused. refused.0 ≡ codes) }
     {
-        let entries = match layout {
-            Layout::Full => pair.size(),
+        let numbering = match layout {
+            Layout::Full => Numbering::Full(pair),
+            Layout::Classes => unreachable!(),
         };
-        if codes.len() as u64 != entries {
+        if codes.len() as u64 != numbering.count() {
             return Err((codes, Count));
         }
-        Ok(Raw::new(pair, codes))
+        Ok(Raw::new(numbering, codes))
     }
 
-    /// The same, where there is a code for each position.
-    pub(crate) fn new(pair: Pair<B>, codes: Vec<u16>) -> Raw<B>
-        requires { vec_len codes ≡ size_of B.POINTS pair }
-        ensures { result ≡ table pair codes.items }
+    /// The table with these codes, one for each entry.
+    pub(crate) fn new(numbering: Numbering<B>, codes: Vec<u16>) -> Raw<B>
+        requires { vec_len codes ≡ entry_count B.shape B.POINTS (layout_of numbering) (pair_of numbering) }
+        ensures { result ≡ table (layout_of numbering) (pair_of numbering) codes.items }
     {
         // The proof learns here that the numbers of stones are those of a pair.
-        let _ = pair.greater();
-        Raw { pair, codes }
+        let _ = numbering.pair();
+        Raw { numbering, codes }
     }
 
-    /// The pair whose positions the table has.
+    /// The pair whose positions the table tells of.
     pub fn pair(&self) -> Pair<B>
         ensures value { result ≡ self.now.pair }
         ensures lawful { IsPair B.POINTS self.now.pair }
         ensures raw { IsRaw B.shape self.now }
     {
-        self.pair
+        self.numbering.pair()
     }
 
     /// How the entries are laid out.
     pub fn layout(&self) -> Layout
-        ensures { result ≡ Layout.Full }
+        ensures { result ≡ self.now.layout }
     {
-        Layout::Full
+        self.numbering.layout()
     }
 
-    /// How many entries the table has: one for each position of the pair.
+    /// How the entries are numbered.
+    pub(crate) fn numbering(&self) -> &Numbering<B>
+        ensures layout { layout_of result.now ≡ self.now.layout }
+        ensures pair { pair_of result.now ≡ self.now.pair }
+    {
+        &self.numbering
+    }
+
+    /// How many entries the table has: in layout `Full` one for each position of the pair.
     pub fn len(&self) -> u64
         ensures value { result ≡ length self.now.codes }
-        ensures size { result ≡ size_of B.POINTS self.now.pair }
+        ensures size { result ≡ entry_count B.shape B.POINTS self.now.layout self.now.pair }
     {
         self.codes.len() as u64
     }
 
     /// The code that the entry `i` states, which is below [`Raw::len`].
     pub fn code(&self, i: u64) -> u16
-        requires { i < size_of B.POINTS self.now.pair }
+        requires { i < entry_count B.shape B.POINTS self.now.layout self.now.pair }
         ensures { result ≡ slice_index self.now.codes i }
     {
         self.codes[i as usize]
     }
 
-    /// The pair and the codes.
-    pub(crate) fn into_parts(self) -> (Pair<B>, Vec<u16>)
-        ensures pair { result.0 ≡ self.pair }
+    /// How the entries are numbered, and the codes.
+    pub(crate) fn into_parts(self) -> (Numbering<B>, Vec<u16>)
+        ensures layout { layout_of result.0 ≡ self.layout }
+        ensures pair { pair_of result.0 ≡ self.pair }
         ensures codes { result.1.items ≡ self.codes }
         ensures raw { IsRaw B.shape self }
     {
-        (self.pair, self.codes)
+        (self.numbering, self.codes)
     }
 }

@@ -4,7 +4,7 @@ ghost use Rattle.std.specs.Io.KnownBytes.{Consumes, IsAtEnd};
 ghost use Rattle.sha2.specs.Hashers.{Holds256};
 ghost use Rattle.morris_board.specs.Streams.{CountsFailure};
 ghost use Rattle.morris_table.specs.TableFiles.{code_bytes, file_of, next_file_of};
-ghost use Rattle.morris_table.specs.FileReading.{Reads, HasHeader, StandsInFile, StandsWithin, body_length, bytes_past, CountsRead, EndsEarly, ContinuesFile, only_file_in, next_file_in, file_in, header_in};
+ghost use Rattle.morris_table.specs.FileReading.{Reads, MayTakeRoom, StandsInFile, StandsWithin, body_length, bytes_past, CountsRead, EndsEarly, ContinuesFile, only_file_in, next_file_in, file_in, header_in, header_at, roomless_in};
 
 use crate::file_faults::ReadFault;
 use crate::header::{HEADER, Header};
@@ -22,14 +22,16 @@ const DIGEST: usize = 32;
 
 /// Reads a table from its file, after which the source has to end. The codes may be wrong.
 ///
-/// Bytes are read in pieces of several KiB. The codes are all that memory is taken for, and only
-/// once the header is known to be right. Fewer than `u64::MAX` calls of the source may have failed
-/// before.
+/// Version 1 is a table in layout `Full`, version 2 one in layout `Classes`. Bytes are read in pieces
+/// of several KiB. Memory is taken for the classes, in version 2, and for the codes, once the header
+/// is known to be right; only the number of entries by classes is compared after the classes are made.
+/// Fewer than `u64::MAX` calls of the source may have failed before.
 ///
 /// # Errors
 /// The first step that refuses decides, in the order of [`ReadFault`]: the source ends within the
 /// header (`Short`); the header isn't one of a table of this board (`Magic`, `Version`, `BoardId`,
-/// `Counts`, `Crowded`, `Count`); there is no room for the codes (`Memory`); the source ends within
+/// `Counts`, `Crowded`); in version 2 there is no room for the classes (`Memory`); the number of
+/// entries is another (`Count`); there is no room for the codes (`Memory`); the source ends within
 /// the codes or the digest (`Short`); the digest is wrong (`Digest`); a byte follows (`Trailing`).
 /// `Read` where a read failed, which isn't tried again. After a refusal the source stands somewhere
 /// in the file that was refused, as long as its header says it is; after `Trailing` it may stand one
@@ -41,7 +43,7 @@ pub fn read_table<B: Geometry, S: Source>(
     requires { S.failures source.old < 2 ^ 64 - 1 }
     ensures outcome { Reads (only_file_in B.shape) (S.remaining source.old) (S.remaining source.new) result }
     ensures file { IfOk result (λ raw. Consumes (S.remaining source.old) (S.remaining source.new) (file_of B.shape raw)) }
-    ensures memory { result ≡ Err ReadFault.Memory → HasHeader B.shape (S.remaining source.old) }
+    ensures memory { result ≡ Err ReadFault.Memory → MayTakeRoom B.shape (S.remaining source.old) }
     ensures place { StandsInFile B.shape (bytes_past result) (S.remaining source.old) (S.remaining source.new) }
     ensures counted { CountsRead (S.failures source.old) (S.failures source.new) result }
 {
@@ -70,7 +72,7 @@ pub fn read_next<B: Geometry, S: Source>(
     requires { S.failures source.old < 2 ^ 64 - 1 }
     ensures outcome { Reads (next_file_in B.shape) (S.remaining source.old) (S.remaining source.new) result }
     ensures file { IfOk result (λ found. Consumes (S.remaining source.old) (S.remaining source.new) (next_file_of B.shape found)) }
-    ensures memory { result ≡ Err ReadFault.Memory → HasHeader B.shape (S.remaining source.old) }
+    ensures memory { result ≡ Err ReadFault.Memory → MayTakeRoom B.shape (S.remaining source.old) }
     ensures place { StandsInFile B.shape 0 (S.remaining source.old) (S.remaining source.new) }
     ensures counted { CountsRead (S.failures source.old) (S.failures source.new) result }
 {
@@ -94,14 +96,14 @@ fn read_after<B: Geometry, S: Source>(
     requires { S.failures source.old < 2 ^ 64 - 1 }
     ensures outcome { Reads (λ bytes. file_in B.shape (header.now ++ bytes)) (S.remaining source.old) (S.remaining source.new) result }
     ensures file { IfOk result (λ raw. ContinuesFile (S.remaining source.old) (S.remaining source.new) header.now (file_of B.shape raw)) }
-    ensures memory { result ≡ Err ReadFault.Memory → IsOk (header_in B.shape header.now) }
+    ensures memory { result ≡ Err ReadFault.Memory → IsOk (roomless_in B.shape (header_at header.now)) }
     ensures place { StandsWithin (body_length B.shape (header_in B.shape header.now)) (S.remaining source.old) (S.remaining source.new) }
     ensures counted { CountsRead (S.failures source.old) (S.failures source.new) result }
 {
-    let pair = Header::from_bytes(header).pair()?;
+    let numbering = Header::from_bytes(header).numbering(alloc)?;
     let mut hasher = Sha256::new();
     hasher.update(header);
-    let codes = read_codes(alloc, source, pair.size() as usize, &mut hasher)?;
+    let codes = read_codes(alloc, source, numbering.count() as usize, &mut hasher)?;
     let mut digest = [0; DIGEST];
     if fill(source, &mut digest)? < DIGEST {
         return Err(ReadFault::Short);
@@ -109,7 +111,7 @@ fn read_after<B: Geometry, S: Source>(
     if digest != hasher.finalize() {
         return Err(ReadFault::Digest);
     }
-    Ok(Raw::new(pair, codes))
+    Ok(Raw::new(numbering, codes))
 }
 
 /// Reads this many codes, and feeds their bytes to the hasher.

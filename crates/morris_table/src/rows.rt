@@ -8,6 +8,7 @@ ghost use Rattle.morris_board.specs.Positions.{IsPosition};
 ghost use Rattle.morris_table.specs.PairNets.{is_quiet, is_capture, level_of, net_at};
 ghost use Rattle.morris_table.specs.Rows.{arrivals, may_close, IsRow};
 
+use crate::layout::Layout;
 use morris_board::board::Geometry;
 use morris_board::points::Points;
 use morris_board::position::Position;
@@ -116,6 +117,18 @@ impl Row {
         self.all - gone
     }
 
+    /// Goes on to what is kept of the own stones of a position, where they are others.
+    pub(crate) fn follow<B: Geometry>(&mut self, position: &Position<B>)
+        requires { IsRow B.shape B.POINTS self.old }
+        ensures row { IsRow B.shape B.POINTS self.new }
+        ensures own { self.new.own ≡ position.now.own }
+    {
+        let own = position.own();
+        if own != self.own {
+            *self = Row::of::<B>(own);
+        }
+    }
+
     /// Whether a position with these own stones has captures.
     pub(crate) fn has_captures<B: Geometry>(&self, position: &Position<B>) -> bool
         requires own { self.now.own ≡ position.now.own }
@@ -145,17 +158,14 @@ pub(crate) fn advance<B: Geometry>(
     ensures own { row.new.own ≡ position.new.own }
 {
     *position = pair.following(position, index);
-    let own = position.own();
-    if own != row.own {
-        *row = Row::of::<B>(own);
-    }
+    row.follow(position);
 }
 
 /// The numbers of quiet moves of the positions of a pair from the index `first` on, as many as
 /// there is room for.
 pub(crate) fn read_counts<B: Geometry>(pair: &Pair<B>, first: u64, counts: &mut [u16])
     requires { first + length counts.old ≤ size_of B.POINTS pair.now }
-    ensures { (k : ℕ) → k < length counts.old → slice_index counts.new k ≡ length ((net_at B.shape (level_of pair.now)).quiet (first + k)) }
+    ensures { (k : ℕ) → k < length counts.old → slice_index counts.new k ≡ length ((net_at B.shape (level_of Layout.Full pair.now)).quiet (first + k)) }
 {
     // The proof learns here what the pair's numbers are, and that its indices are small.
     let _ = pair.greater();

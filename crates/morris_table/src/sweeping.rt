@@ -9,6 +9,7 @@ ghost use Rattle.morris_table.specs.Sweeping.{needed_by, is_of_sweep};
 
 use crate::exact::Exact;
 use crate::graph::PairGraph;
+use crate::layout::Layout;
 use crate::shelf::{Needs, Shelf};
 use morris_board::board::{Board, Geometry};
 use morris_index::pair::Pair;
@@ -77,9 +78,10 @@ pub fn sweep_pair<B: Board>(
     // Nothing is refused for workers or blocks, of which there are none.
     ensures alone { IfErr result (λ fault. is_of_sweep fault ≡ true) }
     ensures pair { IfOk result (λ t. t.pair ≡ pair) }
+    ensures layout { IfOk result (λ t. t.layout ≡ Layout.Full) }
     ensures exact { IfOk result (IsTable B.shape) }
-    ensures too_deep { result ≡ Err BuildFault.TooDeep → IsTooDeep (net_at B.shape (level_of pair)) }
-    ensures not_too_deep { OnOk result (¬ IsTooDeep (net_at B.shape (level_of pair))) }
+    ensures too_deep { result ≡ Err BuildFault.TooDeep → IsTooDeep (net_at B.shape (level_of Layout.Full pair)) }
+    ensures not_too_deep { OnOk result (¬ IsTooDeep (net_at B.shape (level_of Layout.Full pair))) }
     // The same in the words of the game.
     ensures beyond { result ≡ Err BuildFault.TooDeep → IsBeyondCodes B.shape pair }
     ensures within { OnOk result (¬ IsBeyondCodes B.shape pair) }

@@ -1,6 +1,6 @@
 //! Tables that are looked at before they are believed.
 ghost use Rattle.std.specs.Prelude.{◌≡◌, ◌<◌, ◌↔◌, ℕ, None, IsTrue, is_ok, IfOk, IfErr, IfSome, MatchOption, MatchResult};
-ghost use Rattle.morris_index.specs.Pairs.{size_of};
+ghost use Rattle.morris_table.specs.Entries.{entry_count};
 ghost use Rattle.morris_table.specs.Tables.{IsTable};
 ghost use Rattle.morris_table.specs.Shelves.{first_missing};
 ghost use Rattle.morris_table.specs.Graphs.{HasGameValues};
@@ -31,8 +31,8 @@ pub enum VerifyFault<B: Geometry> {
 impl<B: Board> Raw<B> {
     /// The exact table with these codes, where each of them is that of its position in the game.
     /// Each entry is compared with those that the legal moves of its position lead to: those in
-    /// this table as they are stated, and those below from the shelf. A table in which all entries
-    /// agree with theirs is exact. It takes no memory.
+    /// this table as they are stated, and those below from the shelf, in whichever layout they are. A
+    /// table in which all entries agree with theirs is exact. It takes no memory.
     ///
     /// # Errors
     /// The table as it was and `Needs` with the first of the pairs that the pair needs whose table
@@ -48,7 +48,7 @@ impl<B: Board> Raw<B> {
         ensures given_back { IfErr result (λ refused. refused.0 ≡ self) }
         // A table is exact where all of its entries agree, and only there.
         ensures agreement { first_missing shelf.now self.pair ≡ None
-            → (((i : ℕ) → i < size_of B.POINTS self.pair → Agrees B.shape self i) ↔ IsTable B.shape self) }
+            → (((i : ℕ) → i < entry_count B.shape B.POINTS self.layout self.pair → Agrees B.shape self i) ↔ IsTable B.shape self) }
     {
         let graph = match PairGraph::new(shelf, self.pair()) {
             Ok(graph) => graph,
@@ -65,17 +65,17 @@ fn judged<B: Geometry>(
     raw: Raw<B>,
     differing: Option<u64>,
 ) -> Result<Exact<B>, (Raw<B>, VerifyFault<B>)>
-    requires values { HasGameValues B.shape raw.pair }
-    requires differing { MatchOption differing ((k : ℕ) → k < size_of B.POINTS raw.pair → Agrees B.shape raw k) (IsFirstToDiffer B.shape raw) }
+    requires values { HasGameValues B.shape raw.layout raw.pair }
+    requires differing { MatchOption differing ((k : ℕ) → k < entry_count B.shape B.POINTS raw.layout raw.pair → Agrees B.shape raw k) (IsFirstToDiffer B.shape raw) }
     ensures exact { IsTrue (is_ok result) ↔ IsTable B.shape raw }
     ensures value { IfOk result (λ t. t ≡ raw) }
     ensures differs { IfErr result (λ refused. (missing_in refused.1 ≡ None) × IfSome (differing_in refused.1) (IsFirstToDiffer B.shape raw)) }
     ensures given_back { IfErr result (λ refused. refused.0 ≡ raw) }
-    ensures agreement { ((i : ℕ) → i < size_of B.POINTS raw.pair → Agrees B.shape raw i) ↔ IsTable B.shape raw }
+    ensures agreement { ((i : ℕ) → i < entry_count B.shape B.POINTS raw.layout raw.pair → Agrees B.shape raw i) ↔ IsTable B.shape raw }
 {
-    let (pair, codes) = raw.into_parts();
+    let (numbering, codes) = raw.into_parts();
     match differing {
-        Some(index) => Err((Raw::new(pair, codes), VerifyFault::Differs(index))),
-        None => Ok(Exact::new(pair, codes)),
+        Some(index) => Err((Raw::new(numbering, codes), VerifyFault::Differs(index))),
+        None => Ok(Exact::new(numbering, codes)),
     }
 }

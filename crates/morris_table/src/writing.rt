@@ -3,7 +3,6 @@ ghost use Rattle.std.specs.Prelude.{◌≡◌, ℕ, ◌+◌, ◌*◌, ◌-◌, �
 ghost use Rattle.std.specs.Io.KnownBytes.{Appends};
 ghost use Rattle.sha2.specs.Hashers.{Holds256};
 ghost use Rattle.morris_board.specs.Streams.{CountsFailure, HasSent};
-ghost use Rattle.morris_index.specs.Pairs.{size_of};
 ghost use Rattle.morris_table.specs.Tables.{Table};
 ghost use Rattle.morris_table.specs.Raws.{IsRaw};
 ghost use Rattle.morris_table.specs.TableFiles.{code_bytes, file_of};
@@ -19,7 +18,8 @@ use sha2::{Digest, Sha256};
 /// How many bytes are written at a time, at most.
 const PIECE: usize = 4096;
 
-/// Writes the file of a table, in pieces of several KiB. It takes no memory.
+/// Writes the file of a table, in pieces of several KiB: version 1 in layout `Full`, version 2 in
+/// layout `Classes`. It takes no memory.
 ///
 /// Fewer than `u64::MAX` calls of the sink may have failed before.
 ///
@@ -52,7 +52,7 @@ fn put_file<B: Geometry, S: Sink>(sink: &mut S, table: &Exact<B>) -> Result<u64,
     ensures lawful { IsRaw B.shape table.now }
     ensures few { length table.now.codes < 2 ^ 64 }
 {
-    let header = Header::of(table.pair()).to_bytes();
+    let header = Header::of(table).to_bytes();
     let mut hasher = Sha256::new();
     hasher.update(&header);
     let sent = put(sink, 0, &header)?;
@@ -74,7 +74,7 @@ fn put_codes<B: Geometry, S: Sink>(
     ensures hashed { OnOk result ((before : List ℕ) → Holds256 hasher.old before → Holds256 hasher.new (before ++ code_bytes table.now.codes)) }
 {
     let mut piece = [0; PIECE];
-    let count = table.pair().size();
+    let count = table.len();
     let mut first = 0;
     let mut sent = sent;
     while first < count {
@@ -91,11 +91,11 @@ fn put_codes<B: Geometry, S: Sink>(
 /// Fills `piece` with the codes of a table from the entry `first` on, which the table has.
 fn copy_codes<B: Geometry>(table: &Exact<B>, first: u64, piece: &mut [u8])
     requires even { length piece.old % 2 ≡ 0 }
-    requires inside { 2 * first + length piece.old ≤ 2 * size_of B.POINTS table.now.pair }
+    requires inside { 2 * first + length piece.old ≤ 2 * length table.now.codes }
     ensures { piece.new ≡ code_bytes (take (length piece.old / 2) (drop first table.now.codes)) }
 {
-    // The proof learns here how many entries there may be.
-    let _ = table.pair().size();
+    // The proof learns here how many entries there are.
+    let _ = table.len();
     for i in 0..piece.len() / 2 {
         let [high, low] = table.code(first + i as u64).to_be_bytes();
         piece[2 * i] = high;

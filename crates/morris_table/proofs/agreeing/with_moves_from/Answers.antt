@@ -1,12 +1,11 @@
 use Rattle.std.proofs.Common.{◌≡◌, ℕ, ◌++◌, List, true, false, None, sym, ap, ◌∙◌, refl}
 use Rattle.std.proofs.lemmas.List.{append-nil}
 use Rattle.morris_board.specs.Sets.{has, members}
-use Rattle.morris_moves.specs.Rules.{closes, reach, move, result_of}
+use Rattle.morris_moves.specs.Rules.{closes, reach, move}
 use Rattle.morris_moves.proofs.SetLaws.{point_lt}
 use Rattle.morris_moves.proofs.MaskLaws.{reach-lt}
 use Rattle.morris_table.specs.Agreement.{all_added}
 use Rattle.morris_wave.specs.Summaries.{added}
-use Rattle.morris_index.specs.Moves.{InPair, in_pair}
 use Rattle.morris_table.proofs.BackLawsLoops.{end_of, next_points}
 use Rattle.morris_table.proofs.AgreementLaws.{all_added-none, all_added-more, quiet_codes-none, codes_to, codes_to-closing, codes_to-quiet, codes_to-all, quiet_listed, stated_at}
 use Rattle.morris_table.proofs.agreeing.with_moves_from.Goals as goal
@@ -25,12 +24,8 @@ closes-requires-clause-end g c =
     point_lt _ g.B.Geometry.POINTS c.in-Some.to
     (reach-lt g.B.Geometry.shape g.B.Geometry.POINTS g.met.B.Geometry.point_count c.args.position.now c.args.from _ refl) here
 
-pub index_after-requires-clause-indices : goal.index_after-requires-clause-indices
-index_after-requires-clause-indices g c =
-    c.requires.indices ∙ ap (λ d. in_pair d c.args.position.now) (sym (ap (λ (q : InPair). q.pair) c.requires.indices))
-
-pub index_after-requires-clause-listed : goal.index_after-requires-clause-listed
-index_after-requires-clause-listed g c =
+pub entry_after-requires-clause-listed : goal.entry_after-requires-clause-listed
+entry_after-requires-clause-listed g c =
     let here : has (reach g.B.Geometry.shape c.args.position.now c.args.from) c.in-Some.to ≡ true =
     end_of (reach g.B.Geometry.shape c.args.position.now c.args.from) c.loop-to.yielded c.in-Some.to (members c.next.new.self)
     (ap (λ (zs : List ℕ). c.loop-to.yielded ++ zs) (sym c.in-Some.ensures.steps) ∙ c.loop-to.invariant.points) in
@@ -43,8 +38,7 @@ loop-to-preserved-then-not-closes g c =
     let free : closes g.B.Geometry.shape c.args.position.now.own c.args.from c.in-Some.to ≡ false =
     rw (← c.own-own.ensures.points) (sym c.closes.ensures ∙ c.if-not-closes.true) in
     let stated = stated_at g.B.Geometry.shape g.B.Geometry.POINTS g.met.B.Geometry.point_count c.args.raw.now c.args.position.now (move c.args.from c.in-Some.to None)
-    c.args.indices.now.pair (result_of c.args.position.now (move c.args.from c.in-Some.to None)) c.index_after.result c.code.result
-    (ap (λ (q : InPair). q.pair) c.requires.indices) refl c.index_after.ensures.index c.code.ensures in
+    c.entry_after.result c.code.result c.entry_after.ensures.entry c.code.ensures in
     record {
       points = next_points c.loop-to.yielded c.in-Some.to c.loop-to.to-iterator c.next.new.self _ c.loop-to.invariant.points c.in-Some.ensures.steps;
       added = c.with-results.ensures.value

@@ -6,7 +6,7 @@ use Rattle.std.specs.Io.KnownBytes.{Consumes}
 use Rattle.morris_table.specs.Tables.{Table}
 use Rattle.morris_table.specs.FileReading.{file_in, next_file_in}
 use Rattle.morris_table.specs.declared.file_faults.ReadFault.TheVariants as fault
-use Rattle.morris_table.proofs.ReadingLaws.{reads_none, reads_end, reads_on_err, reads_on_ok, has_header, next_file_in-short, next_file_in-err, next_file_in-ok}
+use Rattle.morris_table.proofs.ReadingLaws.{reads_none, reads_end, reads_on_err, reads_on_ok, may_take, next_file_in-short, next_file_in-err, next_file_in-ok}
 use Rattle.morris_table.proofs.PlaceLaws.{stands-behind}
 use Rattle.morris_table.proofs.reading.read_next.Goals as goal
 
@@ -46,7 +46,7 @@ returns-in_err-read_after-clause-memory g c = λ want.
     let all : take c.in_ok-count.count header ≡ header = take_all c.in_ok-count.count header (omega arith) in
     let read = subst (Consumes (g.S.Source.remaining c.args.source.now) (g.S.Source.remaining c.fill.new.source)) all c.in_ok-count.ensures.bytes in
     let is_memory : c.in_err-read_after.field-0.0 ≡ fault.Memory = let e = sym failed.1 ∙ want in let k = failed.2 in cc in
-    has_header g.B.Geometry.shape header long (g.S.Source.remaining c.args.source.now) (g.S.Source.remaining c.fill.new.source) read
+    may_take g.B.Geometry.shape header long (g.S.Source.remaining c.args.source.now) (g.S.Source.remaining c.fill.new.source) read
     (c.in_err-read_after.ensures.memory (ap Err is_memory))
 
 pub returns-clause-outcome : goal.returns-clause-outcome

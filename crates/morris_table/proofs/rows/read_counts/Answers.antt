@@ -1,3 +1,4 @@
+use Rattle.morris_table.specs.declared.layout.Layout.TheVariants.{Full}
 use Rattle.std.proofs.Common.{◌≡◌, ◌+◌, length, sym, ap, subst, ◌∙◌, arith}
 use Rattle.std.proofs.lemmas.List.{length-set}
 use Rattle.morris_index.specs.Pairs.{IsPair, is_of, index_of}
@@ -15,14 +16,14 @@ overflow_add-first-then-place-counts g c = omega (arith, c.size.ensures.value, c
 
 pub loop-place-preserved : goal.loop-place-preserved
 loop-place-preserved g c =
-    let here : c.quiet_moves.result ≡ length ((net_at g.B.Geometry.shape (level_of c.args.pair.now)).quiet (c.args.first + c.loop-place.place)) =
+    let here : c.quiet_moves.result ≡ length ((net_at g.B.Geometry.shape (level_of Full c.args.pair.now)).quiet (c.args.first + c.loop-place.place)) =
     c.quiet_moves.ensures
-    ∙ quiet_count_at g.B.Geometry.shape g.met.B.Geometry.is_lawful g.B.Geometry.POINTS g.met.B.Geometry.point_count c.args.pair.now
+    ∙ quiet_count_at g.B.Geometry.shape g.met.B.Geometry.is_lawful g.met.B.Geometry.has_symmetries g.B.Geometry.POINTS g.met.B.Geometry.point_count c.args.pair.now
     (subst (λ n. IsPair n c.args.pair.now) (sym g.met.B.Geometry.point_count) c.greater.ensures.lawful)
     c.loop-place.position c.loop-place.invariant.lawful c.loop-place.invariant.counts (c.args.first + c.loop-place.place) (c.loop-place.invariant.at (omega arith)) in
     record {
       len = length-set c.loop-place.counts c.loop-place.place c.quiet_moves.result ∙ c.loop-place.invariant.len;
-      read = each_more (λ k. length ((net_at g.B.Geometry.shape (level_of c.args.pair.now)).quiet (c.args.first + k))) c.loop-place.counts c.loop-place.place
+      read = each_more (λ k. length ((net_at g.B.Geometry.shape (level_of Full c.args.pair.now)).quiet (c.args.first + k))) c.loop-place.counts c.loop-place.place
           c.quiet_moves.result (omega arith) here c.loop-place.invariant.read;
       at = elim c.if-place-counts.branch [
         | then-place-counts w ↦ λ h. ap (index_of g.B.Geometry.POINTS c.args.pair.now) w.position-is ∙ (w.advance.ensures.index ∙ omega arith)

@@ -1,3 +1,4 @@
+use Rattle.morris_table.specs.declared.layout.Layout.TheVariants.{Full}
 use Rattle.std.proofs.Common.{◌≡◌, ℕ, ◌+◌, ◌<◌, true, length, slice_index}
 use Rattle.morris_board.specs.Positions.{IsPosition}
 use Rattle.morris_index.specs.Pairs.{is_of, index_of}
@@ -8,7 +9,7 @@ use Rattle.morris_table.proofs.rows.read_counts.Given as goal
 abbrev pub invariant-loop-place : goal.invariant-loop-place
 invariant-loop-place g l = record {
   len : length l.counts ≡ length l.initial.counts;
-  read : (k : ℕ) → k < l.place → slice_index l.counts k ≡ length ((net_at g.B.Geometry.shape (level_of l.pair)).quiet (l.first + k));
+  read : (k : ℕ) → k < l.place → slice_index l.counts k ≡ length ((net_at g.B.Geometry.shape (level_of Full l.pair)).quiet (l.first + k));
   at : l.place < length l.counts → index_of g.B.Geometry.POINTS l.pair l.position ≡ l.first + l.place;
   counts : is_of l.pair l.position ≡ true;
   lawful : IsPosition g.B.Geometry.shape l.position;

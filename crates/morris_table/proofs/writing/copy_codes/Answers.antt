@@ -3,7 +3,6 @@ use Rattle.std.proofs.Common.{◌≡◌, ℕ, ◌+◌, ◌*◌, ◌<◌, List, [
 use Rattle.std.proofs.Math.ListN.{set}
 use Rattle.std.specs.Int.{w16, to_be_bytes}
 use Rattle.std.proofs.lemmas.List.{take_more, take_more_set, length-set, get_or-drop}
-use Rattle.morris_index.specs.Pairs.{size_of}
 use Rattle.morris_table.specs.TableFiles.{code_bytes}
 use Rattle.morris_table.proofs.FileLaws.{code_bytes-more}
 use Rattle.morris_table.proofs.writing.copy_codes.Goals as goal
@@ -38,7 +37,5 @@ loop-i-init g c = refl
 pub loop-i-preserved : goal.loop-i-preserved
 loop-i-preserved g c =
     let codes = c.args.table.now.codes in
-    let entries : length codes ≡ size_of g.B.Geometry.POINTS c.args.table.now.pair =
-    c.pair.ensures.lawful.counted ∙ ap (λ n. size_of n c.args.table.now.pair) g.met.B.Geometry.point_count in
     code_more c.loop-i.piece codes c.to_be_bytes.result c.args.first c.loop-i.i c.code.result (omega arith) (omega (arith, length-drop c.args.first codes))
     c.loop-i.invariant c.to_be_bytes.ensures c.code.ensures

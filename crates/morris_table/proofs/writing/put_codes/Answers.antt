@@ -7,16 +7,7 @@ use Rattle.morris_board.proofs.SentLaws.{AllSent-nil, AllSent-append, PartSent-w
 use Rattle.std.proofs.lemmas.List.{take_all}
 use Rattle.morris_table.specs.TableFiles.{code_bytes}
 use Rattle.morris_table.proofs.FileLaws.{length-code_bytes, code_bytes-piece, code_bytes-parts}
-use Rattle.morris_index.specs.Pairs.{Counts, size_of}
-use Rattle.morris_table.specs.Tables.{Table, IsTable}
-use Rattle.morris_table.proofs.writing.put_codes.Given as given
 use Rattle.morris_table.proofs.writing.put_codes.Goals as goal
-
--- the size of the pair is the number of entries
-sized : (g : given.Over) (size : ℕ) (pair : Counts) (t : Table) → size ≡ size_of g.B.Geometry.POINTS pair → pair ≡ t.pair → IsTable g.B.Geometry.shape t
-    → size ≡ length t.codes
-sized g size pair t e same exact =
-    e ∙ ap (size_of g.B.Geometry.POINTS) same ∙ ap (λ n. size_of n t.pair) (sym g.met.B.Geometry.point_count) ∙ sym exact.counted
 
 pub loop-first-init : goal.loop-first-init
 unfolding code_bytes
@@ -77,12 +68,12 @@ loop-first-preserved g c =
 pub returns-clause-sent : goal.returns-clause-sent
 returns-clause-sent g c =
     let codes = c.args.table.now.codes in
-    let all : take c.loop-first.first codes ≡ codes = take_all c.loop-first.first codes (omega (arith, sized g c.size-count.result c.pair.result c.args.table.now c.size-count.ensures.value c.pair.ensures.value c.pair.ensures.lawful)) in
+    let all : take c.loop-first.first codes ≡ codes = take_all c.loop-first.first codes (omega (arith, c.len-count.ensures.value)) in
     subst (λ sent. AllSent (g.S.Sink.contents c.args.sink.now) (g.S.Sink.contents c.loop-first.sink) c.args.sent c.loop-first.sent (code_bytes sent)) all
     c.loop-first.invariant.sent
 
 pub returns-clause-hashed : goal.returns-clause-hashed
 returns-clause-hashed g c = λ before h.
     let codes = c.args.table.now.codes in
-    let all : take c.loop-first.first codes ≡ codes = take_all c.loop-first.first codes (omega (arith, sized g c.size-count.result c.pair.result c.args.table.now c.size-count.ensures.value c.pair.ensures.value c.pair.ensures.lawful)) in
+    let all : take c.loop-first.first codes ≡ codes = take_all c.loop-first.first codes (omega (arith, c.len-count.ensures.value)) in
     subst (λ sent. Holds256 c.loop-first.hasher (before ++ code_bytes sent)) all (c.loop-first.invariant.hashed before h)

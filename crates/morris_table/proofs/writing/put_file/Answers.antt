@@ -5,32 +5,19 @@ use Rattle.sha2.specs.Sha256.{sha256}
 use Rattle.sha2.proofs.Facts256.{length-sha256}
 use Rattle.morris_board.specs.Streams.{PartSent, HasSent}
 use Rattle.morris_board.proofs.SentLaws.{AllSent-append, PartSent-longer, PartSent-within, HasSent-append}
-use Rattle.morris_index.specs.Pairs.{Counts, size_of}
-use Rattle.morris_table.specs.Tables.{Table, IsTable}
+use Rattle.morris_table.specs.Tables.{Table}
 use Rattle.morris_table.specs.TableFiles.{header_of, code_bytes, content_of, file_of}
 use Rattle.morris_table.proofs.FileLaws.{file_of-parts, length-header_of, length-code_bytes, IsRaw-from_exact}
 use Rattle.morris_table.proofs.writing.put_file.Given as given
 use Rattle.morris_table.proofs.writing.put_file.Goals as goal
 
--- the number of entries is the size of the pair
-entries : (g : given.Over) (t : Table) → IsTable g.B.Geometry.shape t → size_of g.B.Geometry.POINTS t.pair ≡ length t.codes
-entries g t exact = ap (λ n. size_of n t.pair) (sym g.met.B.Geometry.point_count) ∙ sym exact.counted
-
--- the bytes that are written first are the header of the file
-header_is : (g : given.Over) (t : Table) (pair : Counts) (bytes of : List ℕ) → IsTable g.B.Geometry.shape t → pair ≡ t.pair
-    → of ≡ header_of g.B.Geometry.shape pair (size_of g.B.Geometry.POINTS pair) → bytes ≡ of
-    → bytes ≡ header_of g.B.Geometry.shape t.pair (length t.codes)
-header_is g t pair bytes of exact same made copied =
-    copied ∙ made ∙ ap (λ c. header_of g.B.Geometry.shape c (size_of g.B.Geometry.POINTS c)) same
-    ∙ ap (header_of g.B.Geometry.shape t.pair) (entries g t exact)
-
 -- the file, with the header as it was written
-split_file : (g : given.Over) (t : Table) (header : List ℕ) → header ≡ header_of g.B.Geometry.shape t.pair (length t.codes)
+split_file : (g : given.Over) (t : Table) (header : List ℕ) → header ≡ header_of g.B.Geometry.shape t.layout t.pair (length t.codes)
     → file_of g.B.Geometry.shape t ≡ header ++ code_bytes t.codes ++ sha256 (content_of g.B.Geometry.shape t)
 split_file g t header same =
     file_of-parts g.B.Geometry.shape t ∙ ap (λ h. h ++ code_bytes t.codes ++ sha256 (content_of g.B.Geometry.shape t)) (sym same)
 
-content_is : (g : given.Over) (t : Table) (header : List ℕ) → header ≡ header_of g.B.Geometry.shape t.pair (length t.codes)
+content_is : (g : given.Over) (t : Table) (header : List ℕ) → header ≡ header_of g.B.Geometry.shape t.layout t.pair (length t.codes)
     → header ++ code_bytes t.codes ≡ content_of g.B.Geometry.shape t
 unfolding content_of
 content_is g t header same = ap (λ h. h ++ code_bytes t.codes) same
@@ -40,7 +27,7 @@ returns-in_err-sent-clause-sent g c =
     let failed = err_from_is_err_and c.from_residual.result c.from_residual.ensures.1 in
     let t = c.args.table.now in
     let header = c.to_bytes-header.result in
-    let same = header_is g t c.pair.result header _ c.pair.ensures.lawful c.pair.ensures.value c.of.ensures.value c.to_bytes-header.ensures in
+    let same = c.to_bytes-header.ensures ∙ c.of.ensures.value in
     let rest = code_bytes t.codes ++ sha256 (content_of g.B.Geometry.shape t) in
     let whole : file_of g.B.Geometry.shape t ≡ header ++ rest =
     split_file g t header same ∙ append_assoc header (code_bytes t.codes) (sha256 (content_of g.B.Geometry.shape t)) in
@@ -53,7 +40,7 @@ returns-in_err-sent-2-clause-sent g c =
     let failed = err_from_is_err_and c.from_residual-in_err-sent-2.result c.from_residual-in_err-sent-2.ensures.1 in
     let t = c.args.table.now in
     let header = c.to_bytes-header.result in
-    let same = header_is g t c.pair.result header _ c.pair.ensures.lawful c.pair.ensures.value c.of.ensures.value c.to_bytes-header.ensures in
+    let same = c.to_bytes-header.ensures ∙ c.of.ensures.value in
     rw (failed.1, failed.2)
     (PartSent-within (g.S.Sink.contents c.args.sink.now) (g.S.Sink.contents c.put.new.sink) (g.S.Sink.contents c.put_codes.new.sink)
     0 c.in_ok-sent.sent c.in_err-sent-2.field-0.0 header (code_bytes t.codes) (sha256 (content_of g.B.Geometry.shape t)) (file_of g.B.Geometry.shape t)
@@ -63,16 +50,16 @@ pub put-requires-2-clause-room : goal.put-requires-2-clause-room
 put-requires-2-clause-room g c =
     let t = c.args.table.now in
     let header = c.to_bytes-header.result in
-    let same = header_is g t c.pair.result header _ c.pair.ensures.lawful c.pair.ensures.value c.of.ensures.value c.to_bytes-header.ensures in
+    let same = c.to_bytes-header.ensures ∙ c.of.ensures.value in
     let digest : c.finalize.result ≡ sha256 (header ++ code_bytes t.codes) =
     c.finalize.ensures (header ++ code_bytes t.codes) (c.in_ok-sent-2.ensures.hashed header (c.update.ensures [] c.new-hasher.ensures)) in
-    let few : length t.codes ≤ 2 ^ 40 = omega (arith, entries g t c.pair.ensures.lawful, ap (size_of g.B.Geometry.POINTS) c.pair.ensures.value, c.of.ensures.few) in
+    let few : length t.codes ≤ 2 ^ 40 = c.of.ensures.few in
     omega (
       arith,
       c.in_ok-sent.ensures.sent.count,
       c.in_ok-sent-2.ensures.sent.count,
       ap length same,
-      length-header_of g.B.Geometry.shape t.pair (length t.codes),
+      length-header_of g.B.Geometry.shape t.layout t.pair (length t.codes),
       length-code_bytes t.codes,
       ap length digest,
       length-sha256 (header ++ code_bytes t.codes),
@@ -83,7 +70,7 @@ returns-clause-sent g c =
     let t = c.args.table.now in
     let header = c.to_bytes-header.result in
     let front = header ++ code_bytes t.codes in
-    let same = header_is g t c.pair.result header _ c.pair.ensures.lawful c.pair.ensures.value c.of.ensures.value c.to_bytes-header.ensures in
+    let same = c.to_bytes-header.ensures ∙ c.of.ensures.value in
     let digest : c.finalize.result ≡ sha256 (content_of g.B.Geometry.shape t) =
     c.finalize.ensures front (c.in_ok-sent-2.ensures.hashed header (c.update.ensures [] c.new-hasher.ensures)) ∙ ap sha256 (content_is g t header same) in
     let whole : front ++ c.finalize.result ≡ file_of g.B.Geometry.shape t = ap (λ d. front ++ d) digest ∙ sym (split_file g t header same) in
@@ -95,4 +82,4 @@ returns-clause-sent g c =
     c.put-2.ensures.sent)
 
 pub returns-clause-lawful : goal.returns-clause-lawful
-returns-clause-lawful g c = IsRaw-from_exact g.B.Geometry.shape c.args.table.now c.pair.ensures.lawful
+returns-clause-lawful g c = IsRaw-from_exact g.B.Geometry.shape c.args.table.now c.of.ensures.lawful

@@ -1,3 +1,4 @@
+use Rattle.morris_table.specs.declared.layout.Layout.TheVariants.{Full}
 use Rattle.std.proofs.Common.{◌≡◌, ◌+◌, ap, ◌∙◌, arith}
 use Rattle.std.proofs.lemmas.List.{length-set}
 use Rattle.morris_index.specs.Pairs.{is_of, index_of}
@@ -10,13 +11,13 @@ use Rattle.morris_table.proofs.graph.PairGraph.read_exits_from.Goals.{then-place
 
 pub loop-place-preserved : goal.loop-place-preserved
 loop-place-preserved g c =
-    let here : c.exits_by_row.result ≡ exits_of ((net_at g.B.Geometry.shape (level_of c.self.inside.pair)).exits (c.args.first + c.loop-place.place)) =
+    let here : c.exits_by_row.result ≡ exits_of ((net_at g.B.Geometry.shape (level_of Full c.self.inside.pair)).exits (c.args.first + c.loop-place.place)) =
     c.exits_by_row.ensures
-    ∙ exits_same g.B.Geometry.shape g.met.B.Geometry.is_lawful g.B.Geometry.POINTS g.met.B.Geometry.point_count c.self.inside.pair c.self.invariant.lawful
+    ∙ exits_same g.B.Geometry.shape g.met.B.Geometry.is_lawful g.met.B.Geometry.has_symmetries g.B.Geometry.POINTS g.met.B.Geometry.point_count c.self.inside.pair c.self.invariant.lawful
     c.loop-place.position c.loop-place.invariant.lawful c.loop-place.invariant.counts (c.args.first + c.loop-place.place) (c.loop-place.invariant.at (omega arith)) in
     record {
       len = length-set c.loop-place.exits c.loop-place.place c.exits_by_row.result ∙ c.loop-place.invariant.len;
-      read = exits_more (λ k. exits_of ((net_at g.B.Geometry.shape (level_of c.self.inside.pair)).exits (c.args.first + k))) c.loop-place.exits c.loop-place.place
+      read = exits_more (λ k. exits_of ((net_at g.B.Geometry.shape (level_of Full c.self.inside.pair)).exits (c.args.first + k))) c.loop-place.exits c.loop-place.place
           c.exits_by_row.result (omega arith) here c.loop-place.invariant.read;
       at = elim c.if-place-exits.branch [
         | then-place-exits w ↦ λ h. ap (index_of g.B.Geometry.POINTS c.self.inside.pair) w.position-is ∙ (w.advance.ensures.index ∙ omega arith)

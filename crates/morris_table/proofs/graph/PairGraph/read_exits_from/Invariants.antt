@@ -1,3 +1,4 @@
+use Rattle.morris_table.specs.declared.layout.Layout.TheVariants.{Full}
 use Rattle.std.proofs.Common.{◌≡◌, ℕ, ◌+◌, ◌<◌, true, length}
 use Rattle.morris_board.specs.Positions.{IsPosition}
 use Rattle.morris_index.specs.Pairs.{is_of, index_of}
@@ -10,7 +11,7 @@ use Rattle.morris_table.proofs.graph.PairGraph.read_exits_from.Given as goal
 abbrev pub invariant-loop-place : goal.invariant-loop-place
 invariant-loop-place g l = record {
   len : length l.exits ≡ length l.initial.exits;
-  read : (k : ℕ) → k < l.place → exits_at l.exits k ≡ exits_of ((net_at g.B.Geometry.shape (level_of l.pair)).exits (l.first + k));
+  read : (k : ℕ) → k < l.place → exits_at l.exits k ≡ exits_of ((net_at g.B.Geometry.shape (level_of Full l.pair)).exits (l.first + k));
   at : l.place < length l.exits → index_of g.B.Geometry.POINTS l.pair l.position ≡ l.first + l.place;
   counts : is_of l.pair l.position ≡ true;
   lawful : IsPosition g.B.Geometry.shape l.position;

@@ -5,5 +5,5 @@ use Rattle.morris_table.proofs.graph.PairGraphGraph.read_counts.Goals as goal
 pub read_counts-requires : goal.read_counts-requires
 read_counts-requires g c =
     subst (λ k. c.args.first + length c.args.counts.now ≤ k)
-    (size_at g.B.Geometry.shape g.met.B.Geometry.is_lawful g.B.Geometry.POINTS g.met.B.Geometry.point_count c.self.inside.pair c.self.invariant.lawful)
+    (size_at g.B.Geometry.shape g.met.B.Geometry.is_lawful g.met.B.Geometry.has_symmetries g.B.Geometry.POINTS g.met.B.Geometry.point_count c.self.inside.pair c.self.invariant.lawful)
     (rw (← c.self.view_is) at c.requires)

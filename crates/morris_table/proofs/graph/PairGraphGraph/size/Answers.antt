@@ -1,3 +1,4 @@
+use Rattle.morris_table.specs.declared.layout.Layout.TheVariants.{Full}
 use Rattle.std.proofs.Common.{◌≡◌, sym, subst, ◌∙◌}
 use Rattle.morris_table.specs.PairNets.{level_of, net_at}
 use Rattle.morris_table.proofs.GraphLaws.{size_at}
@@ -5,5 +6,5 @@ use Rattle.morris_table.proofs.graph.PairGraphGraph.size.Goals as goal
 
 pub returns : goal.returns
 returns g c =
-    subst (λ d. c.size.result ≡ (net_at g.B.Geometry.shape (level_of d)).size) c.self.view_is
-    (c.size.ensures.value ∙ sym (size_at g.B.Geometry.shape g.met.B.Geometry.is_lawful g.B.Geometry.POINTS g.met.B.Geometry.point_count c.self.inside.pair c.self.invariant.lawful))
+    subst (λ d. c.size.result ≡ (net_at g.B.Geometry.shape (level_of Full d)).size) c.self.view_is
+    (c.size.ensures.value ∙ sym (size_at g.B.Geometry.shape g.met.B.Geometry.is_lawful g.met.B.Geometry.has_symmetries g.B.Geometry.POINTS g.met.B.Geometry.point_count c.self.inside.pair c.self.invariant.lawful))

@@ -1,0 +1,28 @@
+-- How the entries of a pair are numbered, and what is kept for the entries after quiet moves.
+use Rattle.std.specs.Prelude.{◌≡◌, ℕ}
+use Rattle.morris_index.specs.Pairs.{Counts, IsPair}
+use Rattle.morris_index.specs.Moves.{InPair}
+use Rattle.morris_table.specs.declared.layout.Layout.{Layout}
+use Rattle.morris_table.specs.declared.layout.Layout.TheVariants as layout
+use Rattle.morris_table.specs.declared.numbering.Numbering.{Numbering}
+use Rattle.morris_table.specs.declared.numbering.Numbering.TheVariants as numbering
+use Rattle.morris_table.specs.declared.numbering.Successors.{Successors}
+use Rattle.morris_table.specs.declared.numbering.Successors.TheVariants as successors
+
+-- the layout of a numbering, and its pair
+abbrev pub layout_of : {B : Type 0} → Numbering B → Layout
+layout_of (numbering.Full pair) = layout.Full
+layout_of (numbering.Classes pair) = layout.Classes
+
+abbrev pub pair_of : {B : Type 0} → Numbering B → Counts
+pair_of (numbering.Full pair) = pair
+pair_of (numbering.Classes pair) = pair
+
+-- the layout in which the entries after a position are found, and the position in its pair
+abbrev pub layout_after : {B : Type 0} → Successors B → Layout
+layout_after (successors.Full from) = layout.Full
+layout_after (successors.Classes from) = layout.Classes
+
+abbrev pub position_before : {B : Type 0} → Successors B → InPair
+position_before (successors.Full from) = from
+position_before (successors.Classes from) = from
