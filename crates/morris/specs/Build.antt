@@ -6,6 +6,8 @@ use Rattle.morris_board.specs.Boards.{Shape}
 use Rattle.morris_index.specs.Pairs.{Counts, below_of}
 use Rattle.morris_workers.specs.Ranges.{range_fault}
 use Rattle.morris_workers.specs.declared.fault.SolveFault.{SolveFault}
+use Rattle.morris_table.specs.declared.layout.Layout.{Layout}
+use Rattle.morris_table.specs.declared.layout.Layout.TheVariants.{Full}
 use Rattle.morris_table.specs.Known.{IsBeyondCodes}
 use Rattle.morris_table.specs.Shelves.{Stored, table_on}
 use Rattle.morris_table.specs.TableFiles.{file_of}
@@ -23,16 +25,17 @@ use Rattle.morris.specs.Stats.{HasTooDeep}
 abbrev pub pairs_written : Bool → Counts → List Counts
 pairs_written all pair = if all then below_of pair else pair ∷ []
 
--- one table for each of these pairs, in their order, in which each code is the game's value and
--- exact depth
-pub record AreTablesOf (board : Shape) (pairs : List Counts) (tables : List Table) : Type 0 where
+-- one table in a layout for each of these pairs, in their order, in which each code is the game's
+-- value and exact depth
+pub record AreTablesOf (board : Shape) (l : Layout) (pairs : List Counts) (tables : List Table) : Type 0 where
   pub of_pairs : map (λ t. t.pair) tables ≡ pairs
+  pub of_layout : All (λ (t : Table). t.layout ≡ l) tables
   pub exact : All (IsTable board) tables
 
 -- the files of such tables were written, one after the other and nothing else
-abbrev pub AnswersFiles : {T : Type 0} → Shape → List Counts → Option (List ℕ) → Option (List ℕ) → Result T Fault → Type 0
-AnswersFiles board pairs old new result =
-    (tables : List Table) × AreTablesOf board pairs tables × Prints old new (flat_map (file_of board) tables) result
+abbrev pub AnswersFiles : {T : Type 0} → Shape → Layout → List Counts → Option (List ℕ) → Option (List ℕ) → Result T Fault → Type 0
+AnswersFiles board l pairs old new result =
+    (tables : List Table) × AreTablesOf board l pairs tables × Prints old new (flat_map (file_of board) tables) result
 
 -- the file of the table that a shelf has of a pair
 abbrev pub file_on : Shape → Stored → Counts → List ℕ
@@ -42,9 +45,13 @@ file_on board shelf c = elim (table_on shelf c) [ None ↦ [] | Some t ↦ file_
 abbrev pub HasTables : Stored → List Counts → Type 0
 HasTables shelf pairs = (c : Counts) → Contains pairs c → is_some (table_on shelf c) ≡ true
 
--- the shelf has a table of each of these pairs in which each code is the game's
-abbrev pub HasExact : Shape → Stored → List Counts → Type 0
-HasExact board shelf pairs = (c : Counts) → Contains pairs c → (t : Table) × (table_on shelf c ≡ Some t) × (t.pair ≡ c) × IsTable board t
+-- the shelf has a table of this pair in a layout, in which each code is the game's
+abbrev pub HasExactAt : Shape → Layout → Stored → Counts → Type 0
+HasExactAt board l shelf c = (t : Table) × (table_on shelf c ≡ Some t) × (t.pair ≡ c) × (t.layout ≡ l) × IsTable board t
+
+-- it has such a table of each of these pairs
+abbrev pub HasExact : Shape → Layout → Stored → List Counts → Type 0
+HasExact board l shelf pairs = (c : Counts) → Contains pairs c → HasExactAt board l shelf c
 
 -- ---- the refusals
 
@@ -69,9 +76,9 @@ IsUnbuiltFor board pair blocks _ = ⊥
 -- suffice for all depths, and the files are written, or the first bytes of them up to the write that
 -- failed.
 abbrev pub AnswersBuilt : {T : Type 0} → Shape → Counts → ℕ → Bool → Option (List ℕ) → Option (List ℕ) → Result T Fault → Type 0
-AnswersBuilt board pair blocks all old new (Ok done) = ¬ HasTooDeep board pair × AnswersFiles board (pairs_written all pair) old new (Ok done)
+AnswersBuilt board pair blocks all old new (Ok done) = ¬ HasTooDeep board pair × AnswersFiles board Full (pairs_written all pair) old new (Ok done)
 AnswersBuilt board pair blocks all old new (Err (fault.Write sent)) =
-    ¬ HasTooDeep board pair × AnswersFiles {T = Unit {0}} board (pairs_written all pair) old new (Err (fault.Write sent))
+    ¬ HasTooDeep board pair × AnswersFiles {T = Unit {0}} board Full (pairs_written all pair) old new (Err (fault.Write sent))
 AnswersBuilt board pair blocks all old new (Err refused) = IsUnbuiltFor board pair blocks refused × Keeps old new
 
 -- What it answers with so many workers and blocks: where there may not be so many, the fault that

@@ -6,12 +6,11 @@ ghost use Rattle.morris_index.specs.Pairs.{Counts, EndsIn, below_of};
 ghost use Rattle.morris_table.specs.Known.{IsBeyondCodes};
 ghost use Rattle.morris_table.specs.Shelves.{first_missing, table_on};
 ghost use Rattle.morris_table.specs.TableFiles.{file_of};
-ghost use Rattle.morris_table.specs.Tables.{IsTable, Table};
 ghost use Rattle.morris_workers.specs.Ranges.{range_fault};
 ghost use Rattle.morris.specs.Faults.{CountsWrites, is_write, solve_fault};
 ghost use Rattle.morris.specs.Look.{board_of};
 ghost use Rattle.morris.specs.Stats.{HasTooDeep};
-ghost use Rattle.morris.specs.Build.{AnswersBuild, AnswersBuildOn, AnswersBuilt, AnswersFiles, HasExact, HasTables, IsUnbuiltAt, IsUnbuiltFor, file_on, pairs_written};
+ghost use Rattle.morris.specs.Build.{AnswersBuild, AnswersBuildOn, AnswersBuilt, AnswersFiles, HasExact, HasExactAt, HasTables, IsUnbuiltAt, IsUnbuiltFor, file_on, pairs_written};
 
 use crate::boards::{NamedBoard, read_board};
 use crate::fault::Fault;
@@ -24,6 +23,7 @@ use morris_index::pair::Pair;
 use morris_table::building::build;
 use morris_table::exact::Exact;
 use morris_table::file_faults::Write;
+use morris_table::layout::Layout;
 use morris_table::shelf::Shelf;
 use morris_table::writing::write_table;
 use morris_workers::{OpenGate, check_numbers};
@@ -128,7 +128,7 @@ fn build_below<B: Board, R: Threads + Wait + Sync>(
     team: Team,
 ) -> Result<Shelf<B>, Fault>
     requires range { range_fault team.workers team.blocks ≡ None }
-    ensures exact { IfOk result (λ shelf. HasExact B.shape shelf (below_of pair)) }
+    ensures exact { IfOk result (λ shelf. HasExact B.shape Layout.Full shelf (below_of pair)) }
     ensures last { OnOk result (EndsIn (below_of pair) pair) }
     ensures within { OnOk result (¬ HasTooDeep B.shape pair) }
     ensures refused { IfErr result (IsUnbuiltFor B.shape pair team.blocks) }
@@ -151,7 +151,7 @@ fn build_onto<B: Board, R: Threads + Wait + Sync>(
 ) -> Result<(), Fault>
     requires ready { first_missing shelf.old pair ≡ None }
     requires range { range_fault team.workers team.blocks ≡ None }
-    ensures exact { OnOk result ((t : Table) × (table_on shelf.new pair ≡ Some t) × (t.pair ≡ pair) × IsTable B.shape t) }
+    ensures exact { OnOk result (HasExactAt B.shape Layout.Full shelf.new pair) }
     ensures others { OnOk result ((other : Counts) → other ≢ pair → table_on shelf.new other ≡ table_on shelf.old other) }
     ensures within { OnOk result (¬ IsBeyondCodes B.shape pair) }
     ensures refused { IfErr result (IsUnbuiltAt B.shape pair team.blocks) }
@@ -172,9 +172,9 @@ fn write_files<B: Geometry, O: Sink>(
     output: &mut O,
 ) -> Result<(), Fault>
     requires failures { O.failures output.old < 2 ^ 64 - 1 }
-    requires exact { HasExact B.shape shelf.now (below_of pair) }
+    requires exact { HasExact B.shape Layout.Full shelf.now (below_of pair) }
     requires last { EndsIn (below_of pair) pair }
-    ensures files { AnswersFiles B.shape (pairs_written all pair) (O.contents output.old) (O.contents output.new) result }
+    ensures files { AnswersFiles B.shape Layout.Full (pairs_written all pair) (O.contents output.old) (O.contents output.new) result }
     ensures unrefused { IfErr result (λ refused. is_write refused ≡ true) }
     ensures counted { CountsWrites (O.failures output.old) (O.failures output.new) result }
 {
@@ -192,11 +192,11 @@ fn send_files<B: Geometry, O: Sink>(
     output: &mut O,
 ) -> Result<u64, u64>
     requires failures { O.failures output.old < 2 ^ 64 - 1 }
-    requires exact { HasExact B.shape shelf.now (below_of pair) }
+    requires exact { HasExact B.shape Layout.Full shelf.now (below_of pair) }
     requires last { EndsIn (below_of pair) pair }
     ensures sent { HasSent (O.contents output.old) (O.contents output.new) 0 (flat_map (file_on B.shape shelf.now) (pairs_written all pair)) result }
     ensures counted { CountsFailure (O.failures output.old) (O.failures output.new) result }
-    ensures exact { HasExact B.shape shelf.now (pairs_written all pair) }
+    ensures exact { HasExact B.shape Layout.Full shelf.now (pairs_written all pair) }
 {
     if all {
         write_below(shelf, pair, output)
@@ -254,6 +254,6 @@ fn file_length<B: Geometry>(table: &Exact<B>) -> u64
     ensures few { result ≤ 2 ^ 42 }
 {
     // The proof learns here how many entries there may be.
-    let _ = table.pair().size();
+    let _ = table.len();
     16 + 2 * table.len() + 32
 }

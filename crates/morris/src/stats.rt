@@ -1,8 +1,9 @@
 //! The command `stats`.
-ghost use Rattle.std.specs.Prelude.{◌≡◌, ◌≢◌, ◌-◌, ◌^◌, ◌<◌, ◌≤◌, None, true, is_some, length, IfErr, IfOk, OnErr, OnOk};
+ghost use Rattle.std.specs.Prelude.{◌≡◌, ◌≢◌, ◌-◌, ◌^◌, ◌<◌, ◌≤◌, None, length, IfErr, IfOk, OnErr, OnOk};
 ghost use Rattle.morris_index.specs.Pairs.{Counts, EndsIn, below_of};
 ghost use Rattle.morris_table.specs.Known.{IsBeyondCodes};
 ghost use Rattle.morris_table.specs.Shelves.{first_missing, table_on};
+ghost use Rattle.morris.specs.Build.{HasExactAt};
 ghost use Rattle.morris.specs.Faults.{CountsWrites, Prints};
 ghost use Rattle.morris.specs.Look.{board_of};
 ghost use Rattle.morris.specs.Stats.{AnswersOn, AnswersStats, HasTallies, HasTooDeep, IsRefusedAt, IsRefusedFor, stats_text};
@@ -17,6 +18,7 @@ use morris_board::nine::Nine;
 use morris_board::streams::buffered::Buffered;
 use morris_board::streams::{Failed, Sink};
 use morris_index::pair::Pair;
+use morris_table::layout::Layout;
 use morris_table::shelf::Shelf;
 use morris_table::sweeping::sweep_pair;
 use std::alloc::Global;
@@ -89,7 +91,7 @@ fn count_values<B: Board>(alloc: Global, pair: Pair<B>) -> Result<Vec<u64>, Faul
 
 /// The tables of all pairs below a pair, its own among them.
 fn sweep_below<B: Board>(alloc: Global, pair: Pair<B>) -> Result<Shelf<B>, Fault>
-    ensures there { IfOk result (λ shelf. is_some (table_on shelf pair) ≡ true) }
+    ensures exact { IfOk result (λ shelf. HasExactAt B.shape Layout.Full shelf pair) }
     ensures within { OnOk result (¬ HasTooDeep B.shape pair) }
     ensures refused { IfErr result (IsRefusedFor B.shape pair) }
 {
@@ -119,7 +121,7 @@ pub fn sweep_before<B: Board>(alloc: Global, pair: Pair<B>) -> Result<Shelf<B>, 
 /// Puts the table of a pair on a shelf that has those that it needs.
 fn sweep_onto<B: Board>(alloc: Global, shelf: &mut Shelf<B>, pair: Pair<B>) -> Result<(), Fault>
     requires { first_missing shelf.old pair ≡ None }
-    ensures there { OnOk result (is_some (table_on shelf.new pair) ≡ true) }
+    ensures exact { OnOk result (HasExactAt B.shape Layout.Full shelf.new pair) }
     ensures others { OnOk result ((other : Counts) → other ≢ pair → table_on shelf.new other ≡ table_on shelf.old other) }
     ensures within { OnOk result (¬ IsBeyondCodes B.shape pair) }
     ensures unchanged { OnErr result (shelf.new ≡ shelf.old) }

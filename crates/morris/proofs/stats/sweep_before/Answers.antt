@@ -1,4 +1,4 @@
-use Rattle.std.proofs.Common.{rules, ◌≡◌, ◌∷◌, [], ◌++◌, None, sym, ap, subst, ◌∙◌, append_assoc}
+use Rattle.std.proofs.Common.{rules, ◌≡◌, ◌∷◌, [], ◌++◌, None, is_some, sym, ap, subst, ◌∙◌, append_assoc}
 use Rattle.std.proofs.lemmas.List.{append-nil}
 use Rattle.morris_index.specs.Pairs.{below_of}
 use Rattle.morris_table.specs.Shelves.{first_missing}
@@ -19,7 +19,7 @@ loop-below-preserved g c = record {
       ∙ (ap (λ rest. c.loop-below.yielded ++ rest) (sym c.in-Some.ensures.steps) ∙ c.loop-below.invariant.split);
   there =
       one_table_more c.loop-below.shelf c.sweep_onto.new.shelf c.loop-below.yielded c.in-Some.below c.loop-below.invariant.there
-      c.in_ok-sweep_onto.ensures.there c.in_ok-sweep_onto.ensures.others;
+      (ap is_some c.in_ok-sweep_onto.ensures.exact.1) c.in_ok-sweep_onto.ensures.others;
 }
 
 pub returns-clause-ready : goal.returns-clause-ready

@@ -1,14 +1,15 @@
 use Rattle.std.proofs.Common.{◌≡◌, ◌++◌}
 use Rattle.std.specs.List.{Contains}
+use Rattle.morris_table.specs.declared.layout.Layout.TheVariants.{Full}
 use Rattle.morris_index.specs.Pairs.{Counts, below_of}
 use Rattle.morris_table.specs.Known.{IsBeyondCodes}
-use Rattle.morris.specs.Build.{HasTables}
+use Rattle.morris.specs.Build.{HasExact}
 use Rattle.morris.proofs.stats.sweep_below.Given as goal
 
 -- the shelf has the tables of the pairs so far, codes suffice for these, and the iterator has the others
 abbrev pub invariant-loop-smaller : goal.invariant-loop-smaller
 invariant-loop-smaller g l = record {
   split : l.yielded ++ l.smaller-iterator ≡ below_of l.fn.pair;
-  there : HasTables l.shelf l.yielded;
+  exact : HasExact g.B.Geometry.shape Full l.shelf l.yielded;
   within : (c : Counts) → Contains l.yielded c → ¬ IsBeyondCodes g.B.Geometry.shape c;
 }
