@@ -17,3 +17,4 @@ pub mod KeepLaws
 pub mod ClassPairLaws
 pub mod ClassMoveLaws
 pub mod ClassCounts
+pub mod FallLaws

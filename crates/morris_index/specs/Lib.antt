@@ -6,3 +6,4 @@ pub mod Moves
 pub mod Classes
 pub mod ClassPairs
 pub mod ClassMoves
+pub mod Falls

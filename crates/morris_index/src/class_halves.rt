@@ -39,8 +39,8 @@ pub(crate) fn class_half_index<B: Geometry>(classes: &Classes<B>, position: &Pos
 }
 
 /// The number of the first entry in which the player to move stands on the representative of the
-/// class of `own`, among those with as many stones and `other` of the opponent; and the symmetry that
-/// leads `own` there.
+/// class of `own`, among those with as many stones and `other` of the opponent; and the symmetry
+/// that leads `own` there.
 pub(crate) fn class_half_start<B: Geometry>(
     classes: &Classes<B>,
     own: Points,
@@ -60,8 +60,8 @@ pub(crate) fn class_half_start<B: Geometry>(
     (u64::from(class) * choices, symmetry)
 }
 
-/// The position of the entry with this number among those with `own` stones of the player to move and
-/// `other` of the opponent. The player to move stands on the representative of a class.
+/// The position of the entry with this number among those with `own` stones of the player to move
+/// and `other` of the opponent. The player to move stands on the representative of a class.
 pub(crate) fn class_half_position<B: Geometry>(
     classes: &Classes<B>,
     own: u8,

@@ -1,16 +1,19 @@
 //! Pairs of numbers of stones, with their positions numbered by classes.
-ghost use Rattle.std.specs.Prelude.{◌≡◌, ◌<◌, ◌≤◌, ◌^◌, true, IfOk};
+ghost use Rattle.std.specs.Prelude.{◌≡◌, ◌≢◌, ◌↔◌, ◌<◌, ◌≤◌, ◌^◌, length, true, IfOk};
+ghost use Rattle.std.specs.List.{AllPairs, Contains};
 ghost use Rattle.morris_board.specs.Sets.{count_of};
 ghost use Rattle.morris_board.specs.Positions.{Sides, sides, IsPosition};
 ghost use Rattle.morris_index.specs.Pairs.{IsPair, is_of};
 ghost use Rattle.morris_index.specs.Classes.{symmetry_of};
 ghost use Rattle.morris_index.specs.ClassPairs.{led, class_size_of, class_index_of};
 ghost use Rattle.morris_index.specs.ClassMoves.{class_start_of};
+ghost use Rattle.morris_index.specs.Falls.{HasEntry};
 
 use crate::class_halves::{
     class_half_index, class_half_position, class_half_size, class_half_start,
 };
 use crate::classes::Classes;
+use crate::falls::FallsOn;
 use crate::pair::Pair;
 use morris_board::board::Geometry;
 use morris_board::points::Points;
@@ -18,8 +21,8 @@ use morris_board::position::Position;
 use std::alloc::{AllocError, Global};
 use std::marker::Model;
 
-/// A pair, and the classes of the sets of its two numbers of stones. Its entries are numbered so that
-/// positions which a symmetry carries into one another mostly have the same one.
+/// A pair, and the classes of the sets of its two numbers of stones. Its entries are numbered so
+/// that positions which a symmetry carries into one another mostly have the same one.
 #[derive(Drop)]
 pub struct ClassPair<B: Geometry> {
     pair: Pair<B>,
@@ -78,8 +81,8 @@ impl<B: Geometry> ClassPair<B> {
     }
 
     /// The entry of a position of the pair, below [`ClassPair::size`]. The position is led by the
-    /// symmetry of the points of the player to move, see [`Classes::class_of`]; positions that are led
-    /// to the same one have the same entry, and no others have it.
+    /// symmetry of the points of the player to move, see [`Classes::class_of`]; positions that are
+    /// led to the same one have the same entry, and no others have it.
     pub fn index(&self, position: &Position<B>) -> u64
         requires { is_of self.now position.now ≡ true }
         ensures value { result ≡ class_index_of B.shape B.POINTS self.now position.now }
@@ -115,8 +118,8 @@ impl<B: Geometry> ClassPair<B> {
         }
     }
 
-    /// The position of an entry, below [`ClassPair::size`]: the one to which all positions with this
-    /// entry are led.
+    /// The position of an entry, below [`ClassPair::size`]: the one to which all positions with
+    /// this entry are led.
     pub fn position(&self, index: u64) -> Position<B>
         requires { index < class_size_of B.shape B.POINTS self.now }
         ensures index { class_index_of B.shape B.POINTS self.now result ≡ index }
@@ -131,5 +134,22 @@ impl<B: Geometry> ClassPair<B> {
         } else {
             class_half_position(&self.lesser, lesser, greater, index - first)
         }
+    }
+
+    /// All positions whose entry is `index`, below [`ClassPair::size`], each once: those that are
+    /// led to [`ClassPair::position`].
+    pub fn falls_on(&self, index: u64) -> FallsOn<'_, B>
+        requires { index < class_size_of B.shape B.POINTS self.now }
+        ensures listed { (s : Sides) → Contains result s ↔ HasEntry B.shape B.POINTS self.now index s }
+        ensures once { AllPairs (λ s t. s ≢ t) result }
+        ensures few { length result ≤ B.SYMMETRIES }
+    {
+        let position = self.position(index);
+        let classes = if position.own().count() == self.pair.greater() {
+            &self.greater
+        } else {
+            &self.lesser
+        };
+        FallsOn::of(classes, position)
     }
 }

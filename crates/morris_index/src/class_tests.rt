@@ -244,3 +244,64 @@ fn entries_of_moved_stones_on_grid(rt: HostRuntime) -> Result<(), Fail> {
 fn entries_of_moved_stones_on_nine(rt: HostRuntime) -> Result<(), Fail> {
     assert_entries_after(&rt, rt.alloc(), Pair::<Nine>::new(4, 3)?, 2_641_717)
 }
+
+/// The positions of an entry have it, and their indices are marked, none of which was marked
+/// before. How many there are.
+fn mark_falls<B: Geometry>(
+    rt: &impl Abort,
+    entries: &ClassPair<B>,
+    index: u64,
+    marked: &mut [bool],
+) -> usize {
+    assert!(rt; index < entries.size());
+    let pair = entries.pair();
+    let mut count = 0usize;
+    for position in entries.falls_on(index) {
+        assert!(rt; Pair::of(&position) == Some(pair));
+        assert_eq!(rt; entries.index(&position), index);
+        let place = pair.index(&position) as usize;
+        assert!(rt; place < marked.len() && !marked[place]);
+        marked[place] = true;
+        count = count.saturating_add(1);
+    }
+    count
+}
+
+/// The positions of all entries of a pair are its `size` positions, each once.
+fn assert_falls<B: Geometry>(
+    rt: &impl Abort,
+    alloc: Global,
+    pair: Pair<B>,
+    size: usize,
+) -> Result<(), Fail> {
+    let entries = ClassPair::make(alloc, pair)?;
+    let mut marked = vec![in alloc; false; size]?;
+    let mut count = 0usize;
+    for index in 0..entries.size() {
+        count = count.saturating_add(mark_falls(rt, &entries, index, &mut marked));
+    }
+    assert_eq!(rt; count, size);
+    Ok(())
+}
+
+#[test]
+fn positions_of_all_entries_are_those_of_the_pair(rt: HostRuntime) -> Result<(), Fail> {
+    assert_falls(&rt, rt.alloc(), Pair::<Grid>::new(3, 3)?, 1_680)?;
+    assert_falls(&rt, rt.alloc(), Pair::<Grid>::new(4, 3)?, 2_520)
+}
+
+/// So many positions have the entry.
+fn assert_fall_count(rt: &impl Abort, entries: &ClassPair<Grid>, index: u64, count: usize) {
+    assert!(rt; index < entries.size());
+    assert_eq!(rt; entries.falls_on(index).count(), count);
+}
+
+// Worked out by another program, from what the entries are.
+#[test]
+fn positions_of_an_entry_are_counted(rt: HostRuntime) -> Result<(), Fail> {
+    let entries = ClassPair::make(rt.alloc(), Pair::<Grid>::new(3, 3)?)?;
+    assert_fall_count(&rt, &entries, 6, 4);
+    assert_fall_count(&rt, &entries, 40, 8);
+    assert_fall_count(&rt, &entries, 200, 2);
+    Ok(())
+}

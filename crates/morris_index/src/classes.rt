@@ -13,8 +13,8 @@ use morris_board::points::Points;
 use std::alloc::{AllocError, Global};
 use std::marker::{Model, PhantomData};
 
-/// The classes of the sets of a number of points, 3 to 9. The class of a set is the set of its images
-/// under the symmetries of the board; its representative is the one with the least mask.
+/// The classes of the sets of a number of points, 3 to 9. The class of a set is the set of its
+/// images under the symmetries of the board; its representative is the one with the least mask.
 #[derive(Drop)]
 pub struct Classes<B: Geometry> {
     count: u8,
@@ -34,8 +34,8 @@ impl<B: Geometry> Model for Classes<B> {
     ghost invariant = { λ classes. IsClasses B.shape B.POINTS classes.count classes.kept.classes.items classes.kept.symmetries.items classes.kept.representatives.items };
 }
 
-/// What is kept of sets of points: at the rank of each, its class and the symmetry that leads to its
-/// representative; and the masks of the representatives, in the order of their classes.
+/// What is kept of sets of points: at the rank of each, its class and the symmetry that leads to
+/// its representative; and the masks of the representatives, in the order of their classes.
 #[derive(Drop)]
 struct Kept {
     classes: Vec<u32>,
@@ -71,8 +71,8 @@ impl<B: Geometry> Classes<B> {
         })
     }
 
-    /// How many classes there are. They are numbered from 0, in ascending order of the masks of their
-    /// representatives.
+    /// How many classes there are. They are numbered from 0, in ascending order of the masks of
+    /// their representatives.
     pub fn count(&self) -> u32
         ensures value { result ≡ class_count B.shape self.now }
         ensures few { result ≤ choose B.POINTS self.now }
@@ -80,8 +80,8 @@ impl<B: Geometry> Classes<B> {
         self.kept.representatives.len() as u32
     }
 
-    /// The class of a set of as many points as the classes are of, and the least symmetry that leads
-    /// the set to the representative.
+    /// The class of a set of as many points as the classes are of, and the least symmetry that
+    /// leads the set to the representative.
     pub fn class_of(&self, set: Points) -> (u32, u8)
         requires within { set < 2 ^ B.POINTS }
         requires count { count_of set ≡ self.now }
@@ -95,8 +95,8 @@ impl<B: Geometry> Classes<B> {
         (kept.classes[rank], kept.symmetries[rank])
     }
 
-    /// The representative of a class, below [`Classes::count`]: of all its sets the one with the least
-    /// mask.
+    /// The representative of a class, below [`Classes::count`]: of all its sets the one with the
+    /// least mask.
     pub fn representative(&self, class: u32) -> Points
         requires { class < class_count B.shape self.now }
         ensures least { representative_of B.shape result ≡ result }

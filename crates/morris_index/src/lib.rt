@@ -8,6 +8,7 @@ pub mod class_pair;
 #[cfg(test)]
 mod class_tests;
 pub mod classes;
+pub mod falls;
 pub mod faults;
 mod halves;
 pub mod pair;

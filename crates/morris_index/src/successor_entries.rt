@@ -13,8 +13,8 @@ use morris_board::position::Position;
 use std::marker::Model;
 
 /// What is kept of a position, so that the entry of each position after a quiet move from it is
-/// found in constant time. In all of these the opponent is to move and stands where it stood, so the
-/// same symmetry leads them.
+/// found in constant time. In all of these the opponent is to move and stands where it stood, so
+/// the same symmetry leads them.
 #[derive(Drop)]
 #[derive_where(Debug)]
 pub struct SuccessorEntries<B: Geometry> {

@@ -1,0 +1,216 @@
+-- The positions that have an entry: each is led to the position of the entry by one of the
+-- symmetries, and those that are led there have this entry.
+use Rattle.std.proofs.Common.{◌≡◌, ◌≢◌, ℕ, zero, suc, ◌+◌, ◌-◌, ◌<◌, ◌≤◌, Bool, true, false, List, [], ◌∷◌, length, map, filter, ◌↔◌, refl, sym, ◌∙◌, ap, ap₂, subst, inl, inr, arith}
+use Rattle.std.proofs.lemmas.Bool.{cases_Bool, cases_eq, eqb-true, eq-eqb, ne_eqb}
+use Rattle.std.proofs.lemmas.List.Elements.{All-contains_itself, All-weaker, Contains-append_left, Contains-append_right, Contains-append_cases, Contains-push, Contains-push_cases}
+use Rattle.std.proofs.lemmas.List.Kept.{AllPairs-cons}
+use Rattle.std.specs.List.{range_with_len, AllPairs, Contains}
+use Rattle.morris_board.specs.Boards.{Shape}
+use Rattle.morris_board.specs.Sets.{members, count_of}
+use Rattle.morris_board.specs.Positions.{Sides, IsPosition}
+use Rattle.morris_board.specs.Symmetries.{image_sides, inverse_of, HasSymmetries}
+use Rattle.morris_board.proofs.ImageLaws.{IsOneToOne, IsOneToOne-back, one_to_one, IsPosition-image, count_of-image, image_sides-undone}
+use Rattle.morris_index.specs.Numbering.{rank_of, number_outside}
+use Rattle.morris_index.specs.Classes.{symmetry_of, classes_below, class_of}
+use Rattle.morris_index.specs.ClassPairs.{led, class_index_of}
+use Rattle.morris_index.specs.Pairs.{Counts, is_of}
+use Rattle.morris_index.specs.Falls.{HasEntry, taken_from, is_led_by, falls_from}
+use Rattle.morris_index.proofs.ClassLaws.{symmetry_within}
+use Rattle.morris_index.specs.ClassMoves.{class_start_of}
+use Rattle.morris_index.proofs.ClassPairLaws.{led_own}
+use Rattle.morris_index.proofs.ClassMoveLaws.{entry-parts}
+
+-- ---- the results of a function at those numbers of a range that pass a test
+
+module _ {X : Type 0} (f : ℕ → X) (keep : ℕ → Bool) where
+  abbrev kept : ℕ → ℕ → List X
+  kept a n = map f (filter keep (range_with_len a n))
+
+  kept-yes : (a n : ℕ) → keep a ≡ true → kept a (suc n) ≡ f a ∷ kept (a + 1) n
+  kept-yes a n h = rw h refl
+
+  kept-no : (a n : ℕ) → keep a ≡ false → kept a (suc n) ≡ kept (a + 1) n
+  kept-no a n h = rw h refl
+
+  kept-from : (a n : ℕ) (x : X) → Contains (kept a n) x → (s : ℕ) × (a ≤ s) × (s < a + n) × (keep s ≡ true) × (f s ≡ x)
+  kept-from a zero x c = absurd (omega arith)
+  kept-from a (suc n) x c = elim (cases_Bool (keep a)) [
+    | inl h ↦ elim (Contains-append_cases (f a ∷ []) (kept (a + 1) n) x (subst (λ xs. Contains xs x) (kept-yes a n h) c)) [
+      | inl here ↦ elim (Contains-push_cases [] (f a) x here) [
+        | inl none ↦ absurd (omega arith)
+        | inr e ↦ (a, omega arith, omega arith, h, e)
+      ]
+      | inr later ↦ let r = kept-from (a + 1) n x later in (r.0, omega (arith, r.1), omega (arith, r.2), r.3, r.4)
+    ]
+    | inr h ↦ let r = kept-from (a + 1) n x (subst (λ xs. Contains xs x) (kept-no a n h) c) in (r.0, omega (arith, r.1), omega (arith, r.2), r.3, r.4)
+  ]
+
+  kept-has : (a n s : ℕ) → a ≤ s → s < a + n → keep s ≡ true → Contains (kept a n) (f s)
+  kept-has a zero s low high h = absurd (omega arith)
+  kept-has a (suc n) s low high h = elim (cases_eq s a) [
+    | inl e ↦
+        subst (λ xs. Contains xs (f s)) (sym (kept-yes a n (ap keep (sym e) ∙ h)))
+        (subst (λ t. Contains (f a ∷ kept (a + 1) n) (f t)) (sym e) (Contains-append_left (f a ∷ []) (kept (a + 1) n) (f a) (Contains-push [] (f a))))
+    | inr d ↦
+        let later : Contains (kept (a + 1) n) (f s) = kept-has (a + 1) n s (omega arith) (omega arith) h in
+        elim (cases_Bool (keep a)) [
+          | inl y ↦ subst (λ xs. Contains xs (f s)) (sym (kept-yes a n y)) (Contains-append_right (f a ∷ []) (kept (a + 1) n) (f s) later)
+          | inr y ↦ subst (λ xs. Contains xs (f s)) (sym (kept-no a n y)) later
+        ]
+  ]
+
+  -- where no two results are the same, none stands in the list twice
+  kept-once : ((s t : ℕ) → keep s ≡ true → keep t ≡ true → f s ≡ f t → s ≡ t) → (a n : ℕ) → AllPairs (λ x y. x ≢ y) (kept a n)
+  kept-once alone a zero = λ i j d less within. absurd (omega arith)
+  kept-once alone a (suc n) = elim (cases_Bool (keep a)) [
+    | inl h ↦
+        subst (AllPairs (λ x y. x ≢ y)) (sym (kept-yes a n h))
+        (AllPairs-cons (λ x y. x ≢ y) (f a) (kept (a + 1) n)
+        (All-weaker (Contains (kept (a + 1) n)) (λ y. f a ≢ y) (λ y c e.
+        let r = kept-from (a + 1) n y c in
+        let same : a ≡ r.0 = alone a r.0 h r.3 (e ∙ sym r.4) in
+        omega (arith, r.1)) (kept (a + 1) n) (All-contains_itself (kept (a + 1) n)))
+        (kept-once alone (a + 1) n))
+    | inr h ↦ subst (AllPairs (λ x y. x ≢ y)) (sym (kept-no a n h)) (kept-once alone (a + 1) n)
+  ]
+
+  kept-few : (a n : ℕ) → length (kept a n) ≤ n
+  kept-few a zero = omega arith
+  kept-few a (suc n) = elim (cases_Bool (keep a)) [
+    | inl h ↦ omega (arith, ap length (kept-yes a n h), kept-few (a + 1) n)
+    | inr h ↦ omega (arith, ap length (kept-no a n h), kept-few (a + 1) n)
+  ]
+
+-- ---- the list, symmetry by symmetry
+
+module _ (board : Shape) (p : Sides) (first : ℕ) where
+  abbrev rest : ℕ → List Sides
+  rest n = kept (taken_from board p) (is_led_by board p) first n
+
+  abbrev after : ℕ → List Sides
+  after n = kept (taken_from board p) (is_led_by board p) (first + 1) n
+
+  pub falls-yes : first < board.symmetries → symmetry_of board (taken_from board p first).own ≡ first
+      → falls_from board p first ≡ taken_from board p first ∷ falls_from board p (first + 1)
+  unfolding falls_from
+  falls-yes low h =
+      let e : board.symmetries - first ≡ suc (board.symmetries - (first + 1)) = omega arith in
+      ap rest e ∙ kept-yes (taken_from board p) (is_led_by board p) first (board.symmetries - (first + 1)) (eq-eqb _ _ h)
+
+  pub falls-no : first < board.symmetries → symmetry_of board (taken_from board p first).own ≢ first
+      → falls_from board p first ≡ falls_from board p (first + 1)
+  unfolding falls_from
+  falls-no low h =
+      let e : board.symmetries - first ≡ suc (board.symmetries - (first + 1)) = omega arith in
+      ap rest e ∙ kept-no (taken_from board p) (is_led_by board p) first (board.symmetries - (first + 1)) (ne_eqb _ _ h)
+
+  pub falls-end : board.symmetries ≤ first → falls_from board p first ≡ []
+  unfolding falls_from
+  falls-end past = let e : board.symmetries - first ≡ 0 = omega arith in ap rest e
+
+-- ---- images under the inverse of a symmetry
+
+module _ (board : Shape) (few : board.points ≤ 24) (y : HasSymmetries board) where
+  one : (s : ℕ) → s < board.symmetries → IsOneToOne board.points (board.image s) (board.image (inverse_of s))
+  one s low = one_to_one board _ _ (y.symmetry s low)
+
+  back : (s : ℕ) → s < board.symmetries → IsOneToOne board.points (board.image (inverse_of s)) (board.image s)
+  back s low = IsOneToOne-back board.points _ _ (one s low)
+
+  -- a position has as many stones as its image
+  pub image_count : (x p : Sides) (t : ℕ) → IsPosition board x → image_sides (board.image (inverse_of t)) x ≡ p → t < board.symmetries → count_of x.own ≡ count_of p.own
+  image_count x p t h e low =
+      sym (count_of-image board.points few _ _ (back t low) x.own h.stones.own_within) ∙ ap (λ (s : Sides). count_of s.own) e
+
+  module _ (p : Sides) (h : IsPosition board p) (s : ℕ) (low : s < board.symmetries) where
+    taken_position : IsPosition board (taken_from board p s)
+    taken_position = IsPosition-image board few _ _ (back s low) p h
+
+    taken_own : count_of (taken_from board p s).own ≡ count_of p.own
+    taken_own = count_of-image board.points few _ _ (back s low) p.own h.stones.own_within
+
+    taken_other : count_of (taken_from board p s).other ≡ count_of p.other
+    taken_other = count_of-image board.points few _ _ (back s low) p.other h.stones.other_within
+
+    -- where s is its symmetry, it is led to p
+    taken_led : is_led_by board p s ≡ true → led board (taken_from board p s) ≡ p
+    unfolding led
+    taken_led is =
+        ap (λ t. image_sides (board.image t) (taken_from board p s)) (eqb-true _ _ is)
+        ∙ image_sides-undone board few _ _ (back s low) p h.stones
+
+  -- and each position is taken from the one that it is led to
+  module _ (x : Sides) (h : IsPosition board x) where
+    leading_low : symmetry_of board x.own < board.symmetries
+    leading_low = symmetry_within board few y x.own h.stones.own_within
+
+    led_taken : taken_from board (led board x) (symmetry_of board x.own) ≡ x
+    unfolding led
+    led_taken = image_sides-undone board few _ _ (one (symmetry_of board x.own) leading_low) x h.stones
+
+    led_taken_by : is_led_by board (led board x) (symmetry_of board x.own) ≡ true
+    led_taken_by = eq-eqb _ _ (ap (λ (s : Sides). symmetry_of board s.own) led_taken)
+
+-- ---- the positions that have an entry
+
+module _ (board : Shape) (n : ℕ) (few : n ≤ 24) (points : board.points ≡ n) (y : HasSymmetries board) (c : Counts) where
+  low : board.points ≤ 24
+  low = omega arith
+
+  -- positions with as many stones that are led to the same position have the same entry
+  module _ (s t : Sides) (h : IsPosition board s) (k : IsPosition board t) (own : count_of s.own ≡ count_of t.own) (other : count_of s.other ≡ count_of t.other)
+      (same : led board s ≡ led board t) where
+    same_class : class_of board s.own ≡ class_of board t.own
+    unfolding class_of
+    same_class =
+        ap₂ (classes_below board) own
+        (sym (led_own board n few points y s h) ∙ ap (λ (x : Sides). x.own) same ∙ led_own board n few points y t k)
+
+    same_start : class_start_of board n c s.own (count_of s.other) ≡ class_start_of board n c t.own (count_of t.other)
+    same_start = rw (own, other, same_class) refl
+
+    same_entry : class_index_of board n c s ≡ class_index_of board n c t
+    same_entry =
+        entry-parts board n few points y c s
+        ∙ ap₂ (λ a b. a + b) same_start (ap (λ (x : Sides). rank_of (map (number_outside x.own) (members x.other))) same)
+        ∙ sym (entry-parts board n few points y c t)
+
+  module _ (entry : ℕ) (p : Sides) (h : HasEntry board n c entry p)
+      (led_there : (s : Sides) → IsPosition board s → is_of c s ≡ true → class_index_of board n c s ≡ entry → p ≡ led board s) where
+    itself : led board p ≡ p
+    itself = sym (led_there p h.lawful h.counts h.entry_is)
+
+    falls_has : (s : ℕ) → s < board.symmetries → is_led_by board p s ≡ true → HasEntry board n c entry (taken_from board p s)
+    falls_has s s_low is = record {
+      lawful = taken_position board low y p h.lawful s s_low;
+      counts = rw (taken_own board low y p h.lawful s s_low, taken_other board low y p h.lawful s s_low) h.counts;
+      entry_is = same_entry (taken_from board p s) p (taken_position board low y p h.lawful s s_low) h.lawful (taken_own board low y p h.lawful s s_low)
+          (taken_other board low y p h.lawful s s_low) (taken_led board low y p h.lawful s s_low is ∙ sym itself) ∙ h.entry_is;
+    }
+
+    pub falls-listed : (x : Sides) → Contains (falls_from board p 0) x ↔ HasEntry board n c entry x
+    unfolding falls_from
+    falls-listed x = (
+      (λ k.
+          let r = kept-from (taken_from board p) (is_led_by board p) 0 (board.symmetries - 0) x k in
+          subst (HasEntry board n c entry) r.4 (falls_has r.0 (omega (arith, r.2)) r.3)),
+      (λ k.
+          let there : p ≡ led board x = led_there x k.lawful k.counts k.entry_is in
+          let g_low : symmetry_of board x.own < board.symmetries = leading_low board low y x k.lawful in
+          let is : is_led_by board p (symmetry_of board x.own) ≡ true =
+          ap (λ t. is_led_by board t (symmetry_of board x.own)) there ∙ led_taken_by board low y x k.lawful in
+          subst (Contains (kept (taken_from board p) (is_led_by board p) 0 (board.symmetries - 0)))
+          (ap (λ t. taken_from board t (symmetry_of board x.own)) there ∙ led_taken board low y x k.lawful)
+          (kept-has (taken_from board p) (is_led_by board p) 0 (board.symmetries - 0) (symmetry_of board x.own) (omega arith) (omega arith) is)),
+    )
+
+pub falls-once : (board : Shape) (p : Sides) → AllPairs (λ s t. s ≢ t) (falls_from board p 0)
+unfolding falls_from
+falls-once board p =
+    kept-once (taken_from board p) (is_led_by board p)
+    (λ s t hs ht e. sym (eqb-true _ _ hs) ∙ ap (λ (x : Sides). symmetry_of board x.own) e ∙ eqb-true _ _ ht)
+    0 (board.symmetries - 0)
+
+pub falls-few : (board : Shape) (p : Sides) → length (falls_from board p 0) ≤ board.symmetries
+unfolding falls_from
+falls-few board p = omega (arith, kept-few (taken_from board p) (is_led_by board p) 0 (board.symmetries - 0))

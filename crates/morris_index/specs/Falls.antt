@@ -1,0 +1,29 @@
+-- The positions of a pair that have a given entry. They are found from the one that all of them are
+-- led to: each symmetry leads one of its images there.
+use Rattle.std.specs.Prelude.{◌≡◌, ℕ, ◌-◌, Bool, true, nat_eq, List, map, filter}
+use Rattle.std.specs.List.{range_with_len}
+use Rattle.morris_board.specs.Boards.{Shape}
+use Rattle.morris_board.specs.Positions.{Sides, IsPosition}
+use Rattle.morris_board.specs.Symmetries.{image_sides, inverse_of}
+use Rattle.morris_index.specs.Classes.{symmetry_of}
+use Rattle.morris_index.specs.ClassPairs.{class_index_of}
+use Rattle.morris_index.specs.Pairs.{Counts, is_of}
+
+-- s is a position of the pair, and this is its entry
+pub record HasEntry (board : Shape) (n : ℕ) (c : Counts) (entry : ℕ) (s : Sides) : Type 0 where
+  pub lawful : IsPosition board s
+  pub counts : is_of c s ≡ true
+  pub entry_is : class_index_of board n c s ≡ entry
+
+-- the position that symmetry s takes to p
+abbrev pub taken_from : Shape → Sides → ℕ → Sides
+taken_from board p s = image_sides (board.image (inverse_of s)) p
+
+-- Whether s is the symmetry that leads that position. Of the symmetries that take a position to p just
+-- one is.
+abbrev pub is_led_by : Shape → Sides → ℕ → Bool
+is_led_by board p s = nat_eq (symmetry_of board (taken_from board p s).own) s
+
+-- the positions that the symmetries from `first` on lead to p
+unfoldable pub falls_from : Shape → Sides → ℕ → List Sides
+falls_from board p first = map (taken_from board p) (filter (is_led_by board p) (range_with_len first (board.symmetries - first)))
