@@ -128,13 +128,16 @@ module _ (board : Shape) (few : board.points ≤ 24) (y : HasSymmetries board) (
         sym (led_none s h s_own)
         ∙ led_alone board board.points few refl y c s t (position_of board c s pair h s_of) (position_of board c t pair k t_of) s_of t_of same
         ∙ led_none t k t_own;
-    stands = λ s h of. (led board s, record {
-      position = there s h;
-      of = of_there s h of;
-      own = own_there s h;
-      entry = index_there s h;
-      one_value = IsImage-value board few s (led board s) h (image_there s h);
-    });
+    stands = λ s h of. (
+      led board s,
+      record {
+        position = there s h;
+        of = of_there s h of;
+        own = own_there s h;
+        entry = index_there s h;
+        one_value = IsImage-value board few s (led board s) h (image_there s h);
+      },
+    );
   }
 
 -- ---- in either layout

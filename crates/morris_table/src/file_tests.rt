@@ -84,7 +84,7 @@ pub(crate) fn file_of(
 }
 
 /// What `read_table` refuses these bytes for.
-fn refusal(alloc: Global, file: &[u8]) -> Option<ReadFault> {
+pub(crate) fn refusal(alloc: Global, file: &[u8]) -> Option<ReadFault> {
     read_table::<Grid, _>(alloc, &mut FromRead::new(file)).err()
 }
 
@@ -94,7 +94,12 @@ fn next_refusal(alloc: Global, file: &[u8]) -> Option<ReadFault> {
 }
 
 /// The bytes with the one at a place changed.
-fn altered(alloc: Global, file: &[u8], place: usize, byte: u8) -> Result<Vec<u8>, AllocError> {
+pub(crate) fn altered(
+    alloc: Global,
+    file: &[u8],
+    place: usize,
+    byte: u8,
+) -> Result<Vec<u8>, AllocError> {
     let mut copy = Vec::from_slice(alloc, file)?;
     if let Some(there) = copy.get_mut(place) {
         *there = byte;

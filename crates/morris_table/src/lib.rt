@@ -8,6 +8,8 @@ mod backward_tests;
 #[cfg(test)]
 mod build_tests;
 pub mod building;
+#[cfg(test)]
+mod class_file_tests;
 pub mod exact;
 pub mod file_faults;
 #[cfg(test)]
