@@ -11,7 +11,7 @@ use Rattle.std.proofs.lemmas.Bool.{ltb-true, ne_eqb}
 use Rattle.clap.proofs.WalkLemmas.{both}
 use Rattle.clap.specs.Lexer.{long_of, short_of}
 use Rattle.clap.specs.ValueTests.{accepts}
-use Rattle.clap.specs.Values.{read_as, refused_kind}
+use Rattle.clap.specs.Values.{is_request, read_as, refused_kind}
 use Rattle.clap.specs.Facts.{explicit_source, unwrap_or_range, parser_of_value}
 use Rattle.clap.specs.Kinds.{Kinds, check_kinds, or_else, range_kinds, request_kinds, value_kinds, values_kinds}
 use Rattle.clap.specs.Takes.{is_given, value_passes, values_pass}
@@ -19,7 +19,7 @@ use Rattle.clap.specs.Walk.{Held, Names, Outcome, Row, Rule, Step, Text, Waiting
 use Rattle.clap.specs.Simple.{Shape}
 use Rattle.clap.specs.Faults.{action_fault, given_default_fault, bundle_fault, bundle_step_fault, check_fault, default_fault, defaults_fault, flag_word_fault, flags_fault, level_fault, long_fault, option_fault, other_fault, positional_fault, react_fault, set_fault, settle_fault, short_fault, step_fault, stray_fault, turn_fault, use_fault, values_fault, walk_fault, word_fault}
 use Rattle.clap.specs.declared.builder.action.ArgAction.{ArgAction}
-use Rattle.clap.specs.declared.builder.action.ArgAction.TheVariants.{Set, SetTrue, Help}
+use Rattle.clap.specs.declared.builder.action.ArgAction.TheVariants.{Set, SetTrue, SetFalse, Append, Count, Help, HelpShort, HelpLong, Version}
 use Rattle.clap.specs.declared.builder.value_parser.Reading.{Reading}
 use Rattle.clap.specs.declared.builder.value_parser.ValueParser.{ValueParser}
 use Rattle.clap.specs.declared.error.kind.ErrorKind.TheVariants.{DisplayHelp, InvalidSubcommand, InvalidValue, TooManyValues}
@@ -84,11 +84,12 @@ pub record RowPasses (c : List Rule) (r : Row) : Type 0 where
   pub passes : values_pass rule r.values ≡ true
   pub reading : r.reading ≡ reading_by rule
 
--- the argument is the one of its id, and is set to a value at least, or is a flag that stands for a value at least, or asks for help
+-- the argument is the one of its id, and is set to a value at least, or is a flag that stands for a value at least, or asks for help or for the
+-- version
 pub record IsPlainRule (c : List Rule) (a : Rule) : Type 0 where
   pub known : arg_by_id c a.id ≡ Some a
   pub kind : ((action_of a ≡ Set) × (nat_lt 0 (unwrap_or_range a.range).start_inclusive ≡ true))
-      ⊎ (((action_of a ≡ SetTrue) × (nat_lt 0 (length a.missing) ≡ true)) ⊎ (action_of a ≡ Help))
+      ⊎ (((action_of a ≡ SetTrue) × (nat_lt 0 (length a.missing) ≡ true)) ⊎ (is_request (action_of a) ≡ true))
 
 at_row_each : (P : Row → Type 0) (id : Text) (change : Row → List Row) (missing rows : List Row)
     → ((r : Row) → bytes_eq r.id id ≡ true → P r → Each P (change r)) → Each P missing → Each P rows → Each P (at_row id change missing rows)
@@ -150,6 +151,19 @@ module _ (c : List Rule) (again : Bool) (plain_rules : Each (IsPlainRule c) c) w
       filled_rows c a CommandLine vals (without a.id rows) p.known some (all_accepted a.ignore_case (parser_of_value a.parser) vals (then_none _ _ none))
       (without_rows c a.id rows h)
 
+  -- a request leaves the rows as they are
+  request_keeps : (x : ArgAction) (id : Text) (how : Reading) (values : List Text) (rows : List Row) → is_request x ≡ true → Passing c rows
+      → Passing c (used_as x id how values rows)
+  request_keeps Set id how values rows asks h = cc
+  request_keeps Append id how values rows asks h = cc
+  request_keeps SetTrue id how values rows asks h = cc
+  request_keeps SetFalse id how values rows asks h = cc
+  request_keeps Count id how values rows asks h = cc
+  request_keeps Help id how values rows asks h = h
+  request_keeps HelpShort id how values rows asks h = h
+  request_keeps HelpLong id how values rows asks h = h
+  request_keeps Version id how values rows asks h = h
+
   used_passes : (a : Rule) (values : List Text) (rows : List Row) → IsPlainRule c a → use_fault again a values rows ≡ [] → Passing c rows
       → Passing c (used a values rows)
   used_passes a values rows p none h = elim p.kind [
@@ -165,7 +179,7 @@ module _ (c : List Rule) (again : Bool) (plain_rules : Each (IsPlainRule c) c) w
         let as_set : set_fault again a vals rows ≡ [] = subst (λ (x : ArgAction). action_fault x again a vals rows ≡ []) k.0 act in
         subst (λ (x : ArgAction). Passing c (used_as x a.id (reading_by a) vals rows)) (sym k.0)
         (set_passes a vals rows p (missing_values a values k.1) as_set h)
-    | inr (inr k) ↦ subst (λ (x : ArgAction). Passing c (used_as x a.id (reading_by a) (values_or_missing a values) rows)) (sym k) h
+    | inr (inr k) ↦ request_keeps (action_of a) a.id (reading_by a) (values_or_missing a values) rows k h
   ]
 
   by_rule_passes : (o : Option Rule) (values : List Text) (rows : List Row) → ((a : Rule) → o ≡ Some a → IsPlainRule c a)

@@ -271,7 +271,10 @@ all_serve = (
 )
 
 program_plain : Each (IsPlainRule (built whole).top.rules) (built whole).top.rules
-program_plain = (record { known = refl; kind = inr (inr refl) }, tt)
+program_plain = (
+  record { known = refl; kind = inr (inr refl) },
+  (record { known = refl; kind = inr (inr refl) }, tt),
+)
 
 not_named_help : (s : Shape) (name : Text) → s.name ≡ codes "help" → s.aliases ≡ [] → answers_to name (label_of s) ≡ true
     → bytes_eq name (codes "help") ≡ false → ⊥

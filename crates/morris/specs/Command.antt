@@ -1,5 +1,7 @@
 -- What the program makes of its words.
-use Rattle.std.specs.Prelude.{◌≡◌, ◌≢◌, ◌⊎◌, ℕ, Bool, true, false, List, [], Option, Result, Ok, Err}
+use Rattle.std.specs.Prelude.{◌≡◌, ◌≢◌, ◌⊎◌, ℕ, Bool, true, false, List, [], String, codes, map, string_bytes, Option, Result, Ok, Err}
+use Rattle.std.specs.Vec.Iter.{into_iter_items}
+use Rattle.std.specs.declared.vec.IntoIter.{IntoIter}
 use Rattle.std.specs.Io.KnownBytes.{Keeps}
 use Rattle.clap.specs.Words.{IsAmong, Kinds, Row, Text}
 use Rattle.clap.specs.declared.error.kind.ErrorKind.{ErrorKind}
@@ -16,9 +18,13 @@ use Rattle.morris.specs.Build.{AnswersBuild}
 use Rattle.morris.specs.Probe.{AnswersProbe}
 use Rattle.morris.specs.Verify.{AnswersVerify, Input}
 
--- the words have a mistake, and not a request for help alone
+-- the words have a mistake, and not a request for help or for the version alone
 abbrev pub HasMistake : Kinds → Type 0
-HasMistake kinds = (k : ErrorKind) × (k ≢ kind.DisplayHelp) × IsAmong k kinds
+HasMistake kinds = (k : ErrorKind) × (k ≢ kind.DisplayHelp) × (k ≢ kind.DisplayVersion) × IsAmong k kinds
+
+-- the words ask for help or for the version
+abbrev pub AsksToShow : Kinds → Type 0
+AsksToShow kinds = IsAmong kind.DisplayHelp kinds ⊎ IsAmong kind.DisplayVersion kinds
 
 -- what the command of a request answers, of its input before and after it, and of what was printed
 abbrev pub Answers : {T : Type 0} → Input → Input → Option (List ℕ) → Option (List ℕ) → Request → Result T Fault → Type 0
@@ -45,10 +51,20 @@ abbrev pub status_of : {T : Type 0} → Result T Fault → ℕ
 status_of (Ok done) = 0
 status_of (Err fault) = 1
 
--- How the words were answered, where they have no mistake: by the command that they ask for; by
--- help where they ask for that, or by want of memory, with nothing read.
+-- How the words were answered, where they have no mistake: by the command that they ask for; by a
+-- text where they ask for help or for the version, or by want of memory, with nothing read.
 abbrev pub Ends : List Text → Input → Input → Option (List ℕ) → Option (List ℕ) → Result (Unit {0}) Fault → Type 0
 Ends words before after old new answer =
     ((request : Request) × AsksFor (named_by words) request × (faults_of words ≡ []) × Answers before after old new request answer)
-    ⊎ ((IsAmong kind.DisplayHelp (faults_of words) × (after ≡ before) × ((text : List ℕ) × Prints old new text answer))
+    ⊎ ((AsksToShow (faults_of words) × (after ≡ before) × ((text : List ℕ) × Prints old new text answer))
     ⊎ ((answer ≡ Err fault.Memory) × (after ≡ before) × Keeps old new))
+
+-- ---- the words that the system gives
+
+-- the texts of the words that the system gave
+abbrev pub texts_of : {A : Type 0} → IntoIter (String A) A → List Text
+texts_of words = map string_bytes (into_iter_items words)
+
+-- what is told where one of them is no text
+abbrev pub not_text : List ℕ
+not_text = codes "error: a word of the command line is not text\n"

@@ -152,10 +152,14 @@ abbrev pub CountsWrites : {T : Type 0} → ℕ → ℕ → Result T Fault → Ty
 CountsWrites old new (Ok done) = new ≡ old
 CountsWrites old new (Err f) = new ≡ (if is_write f then old + 1 else old)
 
--- the line of a fault was written, or its first bytes up to the write that failed
+-- a text was written to the error sink, or its first bytes up to the write that failed
+abbrev pub ReportsText : {E : Type 0} → (E → Option (List ℕ)) → (E → ℕ) → E → E → List ℕ → Type 0
+ReportsText contents failures old new text =
+    (sent : Result (Unit {0}) ℕ) × WentOut (contents old) (contents new) text sent × CountsFailure (failures old) (failures new) sent
+
+-- the line of a fault was written, or its first bytes
 abbrev pub ReportsFault : {E : Type 0} → (E → Option (List ℕ)) → (E → ℕ) → E → E → Fault → Type 0
-ReportsFault contents failures old new f =
-    (sent : Result (Unit {0}) ℕ) × WentOut (contents old) (contents new) (fault_line f) sent × CountsFailure (failures old) (failures new) sent
+ReportsFault contents failures old new f = ReportsText contents failures old new (fault_line f)
 
 -- what was reported of an answer: nothing where it is `Ok`, and else its fault
 abbrev pub Reports : {E T : Type 0} → (E → Option (List ℕ)) → (E → ℕ) → E → E → Result T Fault → Type 0

@@ -15,7 +15,7 @@ use Rattle.clap.specs.declared.error.kind.ErrorKind.TheVariants as kind
 use Rattle.morris.specs.declared.words.Request.{Request}
 use Rattle.morris.specs.declared.words.Request.TheVariants.{Look, Stats, Build, Verify, Probe}
 use Rattle.morris.specs.declared.words.Refusal.{Refusal}
-use Rattle.morris.specs.declared.words.Refusal.TheVariants.{Memory, Help, Wrong}
+use Rattle.morris.specs.declared.words.Refusal.TheVariants.{Memory, Help, Version, Wrong}
 
 -- ---- the commands
 
@@ -38,10 +38,10 @@ look_app =
     with_rule (with_rule (with_rule (new_app (codes "look")) (required_rule (codes "BOARD")))
     (required_rule (codes "TEXT"))) depth_rule
 
--- a program that wants one of its commands
+-- a program that has a version to show and wants one of its commands
 abbrev pub program : App
 program = record (new_app (codes "morris")) {
-  top = record (new_app (codes "morris")).top { subcommand_required = true };
+  top = record (new_app (codes "morris")).top { has_version = true; subcommand_required = true };
 }
 
 -- `stats BOARD PAIR`
@@ -97,7 +97,7 @@ has_globals c = (out-Command c).has_globals
 -- ---- what the words ask for
 
 -- what `clap` finds against the words: the kinds of mistake that they may have, or a request for
--- help, and nothing where it takes them
+-- help or for the version, and nothing where it takes them
 abbrev pub faults_of : List Text → Kinds
 faults_of words = fault_of morris_app words
 
@@ -185,15 +185,17 @@ NamesCommand named =
 abbrev pub NamesRequest : Option (Text × List Row) → Type 0
 NamesRequest named = IsSomeAnd named NamesCommand
 
--- how an error of a kind is answered: a request for help by help, and a mistake by what is wrong.
--- Memory may run out at any kind.
+-- how an error of a kind is answered: a request for help by help, one for the version by the
+-- version, and a mistake by what is wrong. Memory may run out at any kind.
 abbrev pub IsAnswerTo : ErrorKind → Refusal → Type 0
 IsAnswerTo k Memory = ⊤
 IsAnswerTo k (Help text) = k ≡ kind.DisplayHelp
-IsAnswerTo k (Wrong text) = (k ≢ kind.DisplayHelp) × (k ≢ kind.OutOfMemory)
+IsAnswerTo k (Version text) = k ≡ kind.DisplayVersion
+IsAnswerTo k (Wrong text) = (k ≢ kind.DisplayHelp) × (k ≢ kind.DisplayVersion) × (k ≢ kind.OutOfMemory)
 
 -- the refusal answers one of these kinds
 abbrev pub IsAnswerToOneOf : Kinds → Refusal → Type 0
 IsAnswerToOneOf kinds Memory = ⊤
 IsAnswerToOneOf kinds (Help text) = IsAmong kind.DisplayHelp kinds
-IsAnswerToOneOf kinds (Wrong text) = (k : ErrorKind) × (k ≢ kind.DisplayHelp) × IsAmong k kinds
+IsAnswerToOneOf kinds (Version text) = IsAmong kind.DisplayVersion kinds
+IsAnswerToOneOf kinds (Wrong text) = (k : ErrorKind) × (k ≢ kind.DisplayHelp) × (k ≢ kind.DisplayVersion) × IsAmong k kinds

@@ -2,11 +2,11 @@
 ghost use Rattle.std.specs.Prelude.{◌≡◌, ◌≢◌, ◌-◌, ◌^◌, ◌<◌, ◌≤◌, [], IsTrue, false, map, if◌then◌else◌};
 ghost use Rattle.morris_board.specs.Streams.{CountsFailure};
 ghost use Rattle.morris_probe.specs.Reports.{WentOut};
-ghost use Rattle.morris.specs.Faults.{CountsWrites, Prints, Reports, ReportsFault, fault_line};
+ghost use Rattle.morris.specs.Faults.{CountsWrites, Prints, Reports, ReportsFault, ReportsText, fault_line};
 ghost use Rattle.morris.specs.declared.fault.Fault.TheVariants as fault;
 ghost use Rattle.morris.specs.Words.{IsInRange, faults_of, named_by};
 ghost use Rattle.morris.specs.Verify.{input_of};
-ghost use Rattle.morris.specs.Command.{Answers, AsksToRead, Ends, HasMistake, status_of, takes_input};
+ghost use Rattle.morris.specs.Command.{Answers, AsksToRead, Ends, HasMistake, not_text, status_of, takes_input};
 
 use crate::build::build_out;
 use crate::fault::Fault;
@@ -26,12 +26,12 @@ use std::thread::Threads;
 /// Reads the words of a command line, of which the first is the program's own name, runs the
 /// command that they name, and answers the exit status of the program.
 ///
-/// 0: the words have no mistake, and the whole text of the command, or of the help that was asked
-/// for, went to `output`, and nothing to `errors`. 1: the command was refused, or memory was, and
-/// `output` has got nothing, or a part of the text where a write failed; the fault went to `errors`
-/// as one line, `fault N: ` and its text. 2: the words name no command, or not the arguments that
-/// it takes; what is wrong with them went to `errors`, and nothing to `output`. A fault while
-/// `errors` is written is ignored. Only `verify` and `probe` read `input`.
+/// 0: the words have no mistake, and the whole text of the command, or of the help or the version
+/// that was asked for, went to `output`, and nothing to `errors`. 1: the command was refused, or
+/// memory was, and `output` has got nothing, or a part of the text where a write failed; the fault
+/// went to `errors` as one line, `fault N: ` and its text. 2: the words name no command, or not the
+/// arguments that it takes; what is wrong with them went to `errors`, and nothing to `output`. A
+/// fault while `errors` is written is ignored. Only `verify` and `probe` read `input`.
 pub fn command<R: Threads + Wait + Sync, W: AsStr, I: Source, O: Sink, E: Sink>(
     rt: &R,
     alloc: Global,
@@ -47,6 +47,7 @@ pub fn command<R: Threads + Wait + Sync, W: AsStr, I: Source, O: Sink, E: Sink>(
     ensures mistaken { result ≡ 2 → HasMistake (faults_of (map W.text words.now)) }
     ensures silent { result ≡ 2 → output.new ≡ output.old }
     ensures untouched { result ≡ 2 → input.new ≡ input.old }
+    ensures told { result ≡ 2 → (text : _) × ReportsText E.contents E.failures errors.old errors.new text }
     ensures unread { ¬ AsksToRead (named_by (map W.text words.now)) → input.new ≡ input.old }
     ensures answer { result ≢ 2 → (answer : _)
         × Ends (map W.text words.now) (input_of (I.remaining input.old) (I.failures input.old)) (input_of (I.remaining input.new) (I.failures input.new))
@@ -55,10 +56,11 @@ pub fn command<R: Threads + Wait + Sync, W: AsStr, I: Source, O: Sink, E: Sink>(
 {
     match read_words(alloc, words) {
         Ok(request) => finish(run(rt, alloc, request, input, output), errors),
-        Err(Refusal::Help(text)) => finish(print_help(text.as_str(), output), errors),
+        Err(Refusal::Help(text)) => finish(print_text(text.as_str(), output), errors),
+        Err(Refusal::Version(text)) => finish(print_text(text.as_str(), output), errors),
         Err(Refusal::Memory) => finish(Err(Fault::Memory), errors),
         Err(Refusal::Wrong(text)) => {
-            let _ = put(errors, 0, text.as_bytes());
+            let _ = send_text(text.as_str(), errors);
             2
         }
     }
@@ -70,15 +72,12 @@ pub fn refuse_words<E: Sink>(out_of_memory: bool, errors: &mut E) -> u8
     requires { E.failures errors.old < 2 ^ 64 - 1 }
     ensures status { result ≡ (if out_of_memory then 1 else 2) }
     ensures reported { IsTrue out_of_memory → ReportsFault E.contents E.failures errors.old errors.new fault.Memory }
+    ensures told { out_of_memory ≡ false → ReportsText E.contents E.failures errors.old errors.new not_text }
 {
     if out_of_memory {
         return finish(Err(Fault::Memory), errors);
     }
-    let _ = put(
-        errors,
-        0,
-        b"error: a word of the command line is not text\n",
-    );
+    let _ = send_text("error: a word of the command line is not text\n", errors);
     2
 }
 
@@ -115,15 +114,27 @@ fn run<R: Threads + Wait + Sync, I: Source, O: Sink>(
     }
 }
 
-/// Prints the text of the help that was asked for.
-fn print_help<O: Sink>(text: &str, output: &mut O) -> Result<(), Fault>
+/// Prints the text of the help, or of the version, that was asked for.
+fn print_text<O: Sink>(text: &str, output: &mut O) -> Result<(), Fault>
     requires { O.failures output.old < 2 ^ 64 - 1 }
     ensures shown { Prints (O.contents output.old) (O.contents output.new) text.now result }
     ensures counted { CountsWrites (O.failures output.old) (O.failures output.new) result }
 {
-    match put(output, 0, text.as_bytes()) {
-        Ok(_) => Ok(()),
+    match send_text(text, output) {
+        Ok(()) => Ok(()),
         Err(sent) => Err(Fault::Write(sent)),
+    }
+}
+
+/// Sends a text: the whole, or as many bytes of it as go out.
+fn send_text<S: Sink>(text: &str, sink: &mut S) -> Result<(), u64>
+    requires { S.failures sink.old < 2 ^ 64 - 1 }
+    ensures sent { WentOut (S.contents sink.old) (S.contents sink.new) text.now result }
+    ensures counted { CountsFailure (S.failures sink.old) (S.failures sink.new) result }
+{
+    match put(sink, 0, text.as_bytes()) {
+        Ok(_) => Ok(()),
+        Err(sent) => Err(sent),
     }
 }
 

@@ -6,9 +6,17 @@ mod build;
 #[cfg(test)]
 mod build_tests;
 mod command;
+mod entry;
+#[cfg(test)]
+mod entry_tests;
 mod fault;
+mod help;
+#[cfg(test)]
+mod help_tests;
 mod look;
 mod pairs;
+#[cfg(test)]
+mod pairs_tests;
 mod print;
 mod print_fault;
 mod print_stats;
@@ -26,32 +34,17 @@ mod verify;
 mod verify_tests;
 mod words;
 
-use command::{command, refuse_words};
+use entry::answer_words;
 use morris_board::streams::{FromRead, IntoWrite};
-use std::io::ErrorKind;
+use std::env;
 use std::process::ExitCode;
-use std::rt::Env;
-use std::{env, io};
 
 fn main(rt: HostRuntime) -> ExitCode {
-    let mut input = FromRead::new(rt.stdin());
-    let mut output = IntoWrite::new(rt.stdout());
-    let mut errors = IntoWrite::new(rt.stderr());
-    let status = match words_of(&rt) {
-        Ok(words) => {
-            let words = words.as_slice();
-            command(&rt, rt.alloc(), words, &mut input, &mut output, &mut errors)
-        }
-        Err(error) => refuse_words(error.kind() == ErrorKind::OutOfMemory, &mut errors),
-    };
-    ExitCode::from(status)
-}
-
-/// The words of the command line, the program's own name first.
-fn words_of(rt: &(impl Env + AllocGlobal)) -> io::Result<Vec<String>> {
-    let mut words = Vec::new(rt.alloc());
-    for word in env::args(rt)? {
-        words.push(word)?;
-    }
-    Ok(words)
+    answer_words(
+        &rt,
+        env::args(&rt),
+        &mut FromRead::new(rt.stdin()),
+        &mut IntoWrite::new(rt.stdout()),
+        &mut IntoWrite::new(rt.stderr()),
+    )
 }

@@ -7,6 +7,7 @@ ghost use Rattle.morris.specs.Words.{IsAnswerTo, IsAnswerToOneOf, IsInRange, Nam
 ghost use Rattle.morris.specs.Words.{depth_rule, faults_of, has_globals, look_app, morris_app, named_by, probe_app};
 ghost use Rattle.morris.specs.Words.{required_rule, stats_app, verify_app, workers_rule};
 
+use crate::help;
 use clap::error::ErrorKind;
 use clap::{Arg, ArgAction, ArgMatches, Command, Error, value_parser};
 use std::alloc::{AllocError, Global};
@@ -56,13 +57,16 @@ pub enum Refusal {
     Memory,
     /// Help was asked for: its text, for standard output.
     Help(String),
+    /// The version was asked for: its text, for standard output.
+    Version(String),
     /// The words were refused: what is wrong with them, for standard error.
     Wrong(String),
 }
 
 /// Reads the words, of which the first is the program's own name. `Memory` is answered only where
-/// an allocation was refused, `Help` to `--help`, `-h` and `help`, and `Wrong` where the words name
-/// no command, or not the arguments that it takes.
+/// an allocation was refused, `Help` to `--help`, `-h` and `help`, `Version` to `--version` and `-V`
+/// in place of a command, and `Wrong` where the words name no command, or not the arguments that it
+/// takes.
 pub fn read_words<'a, S: AsStr>(alloc: Global, words: &'a [S]) -> Result<Request<'a>, Refusal>
     ensures taken { OnOk result (faults_of (map S.text words.entry.now) ≡ []) }
     ensures request { IfOk result (AsksFor (named_by (map S.text words.entry.now))) }
@@ -83,6 +87,11 @@ fn parse<'a, S: AsStr>(alloc: Global, words: &'a [S]) -> Result<ArgMatches<'a>, 
     morris_command(alloc)?.try_get_matches_from(words)
 }
 
+// The version of the program, and those of the table files that it writes and reads.
+const VERSION: &str = "0.1.0\ntable files: writes version 1, reads version 1";
+
+const BOARD_HELP: &str = "The board: nine or grid";
+
 const POSITION_HELP: &str = "The position: for each point X own, O other or . vacant";
 
 const PAIR_HELP: &str = "The numbers of stones of the two players: 3-3, 4-3, ..";
@@ -99,6 +108,8 @@ fn morris_command<'a>(alloc: Global) -> Result<Command<'a>, AllocError>
     Command::new(alloc, "morris")
         .bin_name("morris")?
         .about("Endgame tables for Nine Men's Morris")
+        .version(VERSION)
+        .after_help(help::PROGRAM)
         .subcommand_required(true)
         .subcommand(look_command(alloc)?)?
         .subcommand(stats_command(alloc)?)?
@@ -113,7 +124,8 @@ fn look_command<'a>(alloc: Global) -> Result<Command<'a>, AllocError>
 {
     Command::new(alloc, "look")
         .about("Show a position, its legal moves and its value within N plies")
-        .arg(required_arg(alloc, "BOARD", "The board: nine or grid"))?
+        .after_help(help::LOOK)
+        .arg(required_arg(alloc, "BOARD", BOARD_HELP))?
         .arg(required_arg(alloc, "TEXT", POSITION_HELP))?
         .arg(depth_arg(alloc))
 }
@@ -124,7 +136,8 @@ fn stats_command<'a>(alloc: Global) -> Result<Command<'a>, AllocError>
 {
     Command::new(alloc, "stats")
         .about("Count the values of all positions with a pair's numbers of stones")
-        .arg(required_arg(alloc, "BOARD", "The board: nine or grid"))?
+        .after_help(help::STATS)
+        .arg(required_arg(alloc, "BOARD", BOARD_HELP))?
         .arg(required_arg(alloc, "PAIR", PAIR_HELP))
 }
 
@@ -134,7 +147,8 @@ fn build_command<'a>(alloc: Global) -> Result<Command<'a>, AllocError>
 {
     Command::new(alloc, "build")
         .about("Build the table of a pair, and write its file to standard output")
-        .arg(required_arg(alloc, "BOARD", "The board: nine or grid"))?
+        .after_help(help::BUILD)
+        .arg(required_arg(alloc, "BOARD", BOARD_HELP))?
         .arg(required_arg(alloc, "PAIR", PAIR_HELP))?
         .arg(workers_arg(alloc))?
         .arg(blocks_arg(alloc))?
@@ -147,7 +161,8 @@ fn verify_command<'a>(alloc: Global) -> Result<Command<'a>, AllocError>
 {
     Command::new(alloc, "verify")
         .about("Check each entry of a table file, which is read from standard input")
-        .arg(required_arg(alloc, "BOARD", "The board: nine or grid"))
+        .after_help(help::VERIFY)
+        .arg(required_arg(alloc, "BOARD", BOARD_HELP))
 }
 
 fn probe_command<'a>(alloc: Global) -> Result<Command<'a>, AllocError>
@@ -158,7 +173,8 @@ fn probe_command<'a>(alloc: Global) -> Result<Command<'a>, AllocError>
         .about(
             "Report the value and the best moves of a position, by table files on standard input",
         )
-        .arg(required_arg(alloc, "BOARD", "The board: nine or grid"))?
+        .after_help(help::PROBE)
+        .arg(required_arg(alloc, "BOARD", BOARD_HELP))?
         .arg(required_arg(alloc, "TEXT", POSITION_HELP))
 }
 
@@ -311,6 +327,8 @@ fn refusal_of(alloc: Global, error: &Error) -> Refusal
     };
     if error.kind() == ErrorKind::DisplayHelp {
         Refusal::Help(text)
+    } else if error.kind() == ErrorKind::DisplayVersion {
+        Refusal::Version(text)
     } else {
         Refusal::Wrong(text)
     }

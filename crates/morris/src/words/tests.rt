@@ -189,7 +189,7 @@ fn refuses_words(rt: HostRuntime) {
     expect_wrong(&rt, &["m", "build", "grid"]);
     expect_wrong(&rt, &["m", "build", "grid", "3-3", "4-3"]);
     expect_wrong(&rt, &["m", "stats", "grid", "3-3", "--all"]);
-    expect_wrong(&rt, &["m", "--version"]);
+    expect_wrong(&rt, &["m", "look", "--version"]);
     expect_wrong(&rt, &["m", "help", "peek"]);
 }
 
@@ -209,6 +209,22 @@ fn gives_help(rt: HostRuntime) {
     let build_usage = "Usage: morris build [OPTIONS] <BOARD> <PAIR>";
     expect_help(&rt, &["m", "help", "build"], build_usage);
     expect_help(&rt, &["m", "build", "grid", "--help"], "[default: 16]");
+}
+
+// The words ask for the version.
+fn expect_version(rt: &(impl Abort + AllocGlobal), words: &[&str]) {
+    let is_version = match read_words(rt.alloc(), words) {
+        Err(Refusal::Version(text)) => text.as_str().starts_with("morris "),
+        _other => false,
+    };
+    assert!(rt; is_version, "{words:?}");
+}
+
+#[test]
+fn gives_the_version(rt: HostRuntime) {
+    expect_version(&rt, &["m", "--version"]);
+    expect_version(&rt, &["m", "-V"]);
+    expect_version(&rt, &["m", "-V", "look"]);
 }
 
 // The words are wrong, and this is all that is said of them.

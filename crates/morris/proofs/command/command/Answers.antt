@@ -14,15 +14,25 @@ returns-in-Err-Memory-clause-answer g c = λ other. (
   c.finish-in-Err-Memory.ensures.reported,
 )
 
--- Help is printed where it was asked for.
+-- Help is printed where it was asked for, and so is the version.
 pub returns-in-Err-Help-clause-answer : goal.returns-in-Err-Help-clause-answer
 returns-in-Err-Help-clause-answer g c = λ other.
     let kinds = faults_of (map g.W.AsStr.text c.args.words.now) in
     let asked = subst (IsAnswerToOneOf kinds) c.in-Err-Help.field-0-is c.in-Err-Help.ensures.refused in (
-      c.print_help.result,
-      inr (inl (asked, refl, (c.as_str.result.now, c.print_help.ensures.shown))),
+      c.print_text.result,
+      inr (inl (inl asked, refl, (c.as_str.result.now, c.print_text.ensures.shown))),
       c.finish-in-Err-Help.ensures.status,
       c.finish-in-Err-Help.ensures.reported,
+    )
+
+pub returns-in-Err-Version-clause-answer : goal.returns-in-Err-Version-clause-answer
+returns-in-Err-Version-clause-answer g c = λ other.
+    let kinds = faults_of (map g.W.AsStr.text c.args.words.now) in
+    let asked = subst (IsAnswerToOneOf kinds) c.in-Err-Version.field-0-is c.in-Err-Version.ensures.refused in (
+      c.print_text-in-Err-Version.result,
+      inr (inl (inr asked, refl, (c.as_str-in-Err-Version.result.now, c.print_text-in-Err-Version.ensures.shown))),
+      c.finish-in-Err-Version.ensures.status,
+      c.finish-in-Err-Version.ensures.reported,
     )
 
 -- A request for a command that reads its input was asked for by the words.

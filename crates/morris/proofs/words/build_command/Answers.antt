@@ -8,7 +8,8 @@ use Rattle.morris.proofs.words.build_command.Goals as goal
 pub returns-clause-app : goal.returns-clause-app
 unfolding build_app
 returns-clause-app c =
-    let start : app_of c.about.result ≡ new_app (codes "build") = ap app_of_fields c.about.ensures ∙ c.new.ensures.app in
+    let about : app_of c.about.result ≡ new_app (codes "build") = ap app_of_fields c.about.ensures ∙ c.new.ensures.app in
+    let start : app_of c.after_help.result ≡ new_app (codes "build") = ap app_of_fields c.after_help.ensures ∙ about in
     let one = c.in_ok-arg.ensures.shape c.required_arg.ensures.local ∙ ap₂ with_rule start c.required_arg.ensures.rule in
     let two = c.in_ok-arg-2.ensures.shape c.required_arg-2.ensures.local ∙ ap₂ with_rule one c.required_arg-2.ensures.rule in
     let three = c.in_ok-arg-3.ensures.shape c.workers_arg.ensures.local ∙ ap₂ with_rule two c.workers_arg.ensures.rule in
@@ -17,7 +18,8 @@ returns-clause-app c =
 
 pub returns-clause-local : goal.returns-clause-local
 returns-clause-local c =
-    let start : has_globals c.about.result ≡ false = ap (λ f. f.has_globals) c.about.ensures ∙ c.new.ensures.local in
+    let about : has_globals c.about.result ≡ false = ap (λ f. f.has_globals) c.about.ensures ∙ c.new.ensures.local in
+    let start : has_globals c.after_help.result ≡ false = ap (λ f. f.has_globals) c.after_help.ensures ∙ about in
     let one = c.in_ok-arg.ensures.globals ∙ ap₂ (λ a b. a || b) start c.required_arg.ensures.local in
     let two = c.in_ok-arg-2.ensures.globals ∙ ap₂ (λ a b. a || b) one c.required_arg-2.ensures.local in
     let three = c.in_ok-arg-3.ensures.globals ∙ ap₂ (λ a b. a || b) two c.workers_arg.ensures.local in

@@ -2,10 +2,10 @@ use Rattle.std.proofs.Common.{◌≡◌, ◌∙◌, inl, inr, map, subst, sym}
 use Rattle.clap.specs.Words.{HasKind, IsAmong, Kinds, kind_of}
 use Rattle.clap.specs.declared.error.Error.{Error}
 use Rattle.clap.specs.declared.error.kind.ErrorKind.{ErrorKind}
-use Rattle.clap.specs.declared.error.kind.ErrorKind.TheVariants.{DisplayHelp, OutOfMemory}
+use Rattle.clap.specs.declared.error.kind.ErrorKind.TheVariants.{DisplayHelp, DisplayVersion, OutOfMemory}
 use Rattle.morris.specs.Words.{AsksFor, IsAnswerTo, IsAnswerToOneOf, NamesRequest, faults_of}
 use Rattle.morris.specs.declared.words.Refusal.{Refusal}
-use Rattle.morris.specs.declared.words.Refusal.TheVariants.{Memory, Help, Wrong}
+use Rattle.morris.specs.declared.words.Refusal.TheVariants.{Memory, Help, Version, Wrong}
 use Rattle.morris.proofs.Requests.{named}
 use Rattle.morris.proofs.words.read_words.Goals as goal
 
@@ -17,7 +17,16 @@ answered kinds e (Help text) has answers = elim has [
       cc
   | inr among ↦ subst (λ (k : ErrorKind). IsAmong k kinds) answers among
 ]
-answered kinds e (Wrong text) has answers = elim has [ inl memory ↦ absurd (answers.1 memory) | inr among ↦ (kind_of e, answers.0, among) ]
+answered kinds e (Version text) has answers = elim has [
+  | inl memory ↦
+      let bad : OutOfMemory ≡ DisplayVersion = sym memory ∙ answers in
+      cc
+  | inr among ↦ subst (λ (k : ErrorKind). IsAmong k kinds) answers among
+]
+answered kinds e (Wrong text) has answers = elim has [
+  | inl memory ↦ absurd (answers.2 memory)
+  | inr among ↦ (kind_of e, answers.0, answers.1, among)
+]
 
 pub request_of-requires : goal.request_of-requires
 request_of-requires g c =

@@ -4,7 +4,7 @@ use Rattle.clap.specs.Words.{Kinds, Text}
 use Rattle.clap.proofs.OnLiterals.{clap_on_literals}
 use Rattle.morris.specs.Words.{IsAnswerToOneOf, faults_of, look_app, morris_app, stats_app}
 use Rattle.morris.specs.declared.words.Refusal.{Refusal}
-use Rattle.morris.specs.declared.words.Refusal.TheVariants.{Memory, Help, Wrong}
+use Rattle.morris.specs.declared.words.Refusal.TheVariants.{Memory, Help, Version, Wrong}
 use Rattle.morris.proofs.words.tests.stored_request.Goals as goal
 
 abbrev stored : List Text
@@ -17,7 +17,8 @@ no_fault = refl
 only_memory : (r : Refusal) → IsAnswerToOneOf [] r → r ≡ Memory
 only_memory Memory h = refl
 only_memory (Help text) h = absurd h
-only_memory (Wrong text) h = absurd h.2
+only_memory (Version text) h = absurd h
+only_memory (Wrong text) h = absurd h.3
 
 pub returns : goal.returns
 returns c =

@@ -1,0 +1,151 @@
+//! What the help says below the arguments: what the words mean, the exit statuses and an example.
+//! The lines are at most 80 characters wide.
+
+/// Of the program as a whole.
+pub(crate) const PROGRAM: &str = "\
+Words:\n  \
+BOARD  nine, the usual board of 24 points, or grid, a small one of 9 points\n  \
+TEXT   a position, with one character for each point, in the order of their\n         \
+numbers: X a stone of the player to move (own), O one of the opponent\n         \
+(other), . a vacant point\n  \
+PAIR   how many stones the players have: 4-3 and 3-4 are one pair, of all\n         \
+positions with 4 own and 3 other stones, or with 3 own and 4 other\n\
+\n\
+The points of nine and of grid:\n\
+\n  \
+0-----------1-----------2      0---1---2\n  \
+|           |           |      |   |   |\n  \
+|   8-------9------10   |      3---4---5\n  \
+|   |       |       |   |      |   |   |\n  \
+|   |  16--17--18   |   |      6---7---8\n  \
+|   |   |       |   |   |\n  \
+7--15--23      19--11---3\n  \
+|   |   |       |   |   |\n  \
+|   |  22--21--20   |   |\n  \
+|   |       |       |   |\n  \
+|  14------13------12   |\n  \
+|           |           |\n  \
+6-----------5-----------4\n\
+\n\
+Exit status:\n  \
+0  done, or help or the version was asked for\n  \
+1  a fault: one line `fault N: ..` on standard error, and nothing on standard\n     \
+output unless a write failed\n  \
+2  words that aren't allowed: what is wrong with them, on standard error\n\
+\n\
+Example:\n  \
+$ morris stats grid 3-3\n  \
+3-3 1680 positions\n  \
+won in 1: 936\n  \
+lost in 2: 36\n  \
+won in 3: 108\n  \
+draw: 600\n\
+\n\
+`morris help COMMAND` has more of each command.";
+
+/// Of `look`.
+pub(crate) const LOOK: &str = "\
+TEXT has one character for each point, in the order of their numbers: X for a\n\
+stone of the player to move (own), O for one of the opponent (other), . for a\n\
+vacant point. On nine the points are numbered clockwise from the top left\n\
+corner, on the outer ring (0 to 7), then the middle one (8 to 15), then the\n\
+inner one (16 to 23); on grid row by row (0 to 8). `morris --help` draws both.\n\
+\n\
+It prints the text, how many stones each player has, each legal move (0-3 from\n\
+point 0 to point 3, 8-2x5 one that also takes the stone on 5), how many moves\n\
+there are, and the value as far as N plies tell (a ply is one player's move):\n  \
+won in 3          the player to move can force a win in 3 plies, not in fewer\n  \
+lost in 2         the opponent can force a win in 2 plies, not in fewer\n  \
+unknown within 2  neither can force a win in 2 plies: it may be won or lost in\n                    \
+more, or drawn\n\
+\n\
+Exit status: 0 done; 1 a fault, one line on standard error; 2 words that aren't\n\
+allowed.\n\
+\n\
+Example:\n  \
+$ morris look grid XXXXO.OO.\n  \
+XXXXO.OO.\n  \
+own 4 other 3\n  \
+2-5\n  \
+moves 1\n  \
+unknown within 2";
+
+/// Of `stats`.
+pub(crate) const STATS: &str = "\
+PAIR is how many stones the players have, each 3 to 9: a digit, a hyphen and a\n\
+digit. 4-3 and 3-4 are one pair, of all positions in which the player to move\n\
+has 4 stones (own) and the opponent 3 (other), or 3 and 4.\n\
+\n\
+It finds the values of the pair and of the pairs that it rests on, on one\n\
+thread, and prints how many positions there are, how many are won and lost in\n\
+each number of plies (a ply is one player's move; the player to move is the one\n\
+who wins or loses), and how many are drawn: neither player can force a win.\n\
+\n\
+Exit status: 0 done; 1 a fault, one line on standard error; 2 words that aren't\n\
+allowed.\n\
+\n\
+Example:\n  \
+$ morris stats grid 3-3\n  \
+3-3 1680 positions\n  \
+won in 1: 936\n  \
+lost in 2: 36\n  \
+won in 3: 108\n  \
+draw: 600";
+
+/// Of `build`.
+pub(crate) const BUILD: &str = "\
+PAIR is how many stones the players have, each 3 to 9: a digit, a hyphen and a\n\
+digit. 4-3 and 3-4 are one pair, of all positions in which the player to move\n\
+has 4 stones (own) and the opponent 3 (other), or 3 and 4.\n\
+\n\
+It builds the tables of the pairs that the pair rests on, then that of the pair,\n\
+and writes nothing before the last of them is built. The bytes are the same for\n\
+every number of workers and blocks.\n\
+\n\
+Exit status: 0 done; 1 a fault, one line on standard error; 2 words that aren't\n\
+allowed.\n\
+\n\
+Example: the table of 3-3, and a file with those of 3-3 and 4-3\n  \
+$ morris build nine 3-3 --workers 4 > table\n  \
+$ morris build grid 4-3 --all > tables";
+
+/// Of `verify`.
+pub(crate) const VERIFY: &str = "\
+It reads the file of one table, as `morris build` writes it, finds the values of\n\
+the pairs that the table's pair rests on, and compares each entry of the table\n\
+with what the rules give from the entries of its results. So nothing of the file\n\
+is believed.\n\
+\n\
+Exit status: 0 each entry is the game's; 1 a fault, one line on standard error,\n\
+such as `fault 14: entry 20 differs` with the first entry that is wrong, counted\n\
+from 0; 2 words that aren't allowed.\n\
+\n\
+Example:\n  \
+$ morris build grid 3-3 | morris verify grid\n  \
+verified 3-3: 1680 entries";
+
+/// Of `probe`.
+pub(crate) const PROBE: &str = "\
+TEXT has one character for each point, in the order of their numbers: X for a\n\
+stone of the player to move (own), O for one of the opponent (other), . for a\n\
+vacant point. On nine the points are numbered clockwise from the top left\n\
+corner, on the outer ring (0 to 7), then the middle one (8 to 15), then the\n\
+inner one (16 to 23); on grid row by row (0 to 8). `morris --help` draws both.\n\
+\n\
+It reads up to 64 table files, one after the other, as `morris build --all`\n\
+writes them: each after those of the pairs that its pair needs. It verifies\n\
+each, and then prints the text, the value (`won in 3`, `lost in 2`, in plies, or\n\
+`draw`) and the best moves: those that win soonest, else those that keep the\n\
+draw, else those that lose latest. 8-2x5 is a move from point 8 to point 2 that\n\
+takes the stone on point 5.\n\
+\n\
+Exit status: 0 done; 1 a fault, one line on standard error; 2 words that aren't\n\
+allowed.\n\
+\n\
+Example:\n  \
+$ morris build grid 4-3 --all | morris probe grid XX..OO.OX\n  \
+XX..OO.OX\n  \
+won in 1\n  \
+8-2x4\n  \
+8-2x5\n  \
+8-2x7";
