@@ -39,25 +39,36 @@ fn assert_built(
     assert!(rt; answer.errors.is_empty());
 }
 
+/// So many workers over so many blocks give this file of 3-3 on the board of nine points.
+fn assert_built_by(
+    rt: &(impl Abort + AllocGlobal + Threads + Wait + Sync),
+    workers: &str,
+    blocks: &str,
+    file: &[u8],
+) {
+    let words = [
+        "morris",
+        "build",
+        "grid",
+        "3-3",
+        "--workers",
+        workers,
+        "--blocks",
+        blocks,
+    ];
+    assert_built(rt, words.as_slice(), file);
+}
+
 #[test]
 fn a_table_is_built_by_any_number_of_workers(rt: HostRuntime) -> Result<(), Fail> {
     let file = file(rt.alloc())?;
     let file = file.as_slice();
     assert_eq!(rt; file.len(), 3_408);
     assert_built(&rt, ["morris", "build", "grid", "3-3"].as_slice(), file);
-    for (workers, blocks) in [("1", "1"), ("2", "5"), ("7", "64"), ("64", "1024")] {
-        let words = [
-            "morris",
-            "build",
-            "grid",
-            "3-3",
-            "--workers",
-            workers,
-            "--blocks",
-            blocks,
-        ];
-        assert_built(&rt, words.as_slice(), file);
-    }
+    assert_built_by(&rt, "1", "1", file);
+    assert_built_by(&rt, "2", "5", file);
+    assert_built_by(&rt, "7", "64", file);
+    assert_built_by(&rt, "64", "1024", file);
     Ok(())
 }
 
@@ -81,34 +92,41 @@ fn the_files_of_all_pairs_below_are_one_after_the_other(rt: HostRuntime) -> Resu
     Ok(())
 }
 
+/// A build of these is refused with this fault, and writes nothing.
+fn assert_build_refused(
+    rt: &(impl Abort + AllocGlobal + Threads + Wait + Sync),
+    board: &str,
+    pair: &str,
+    workers: usize,
+    blocks: usize,
+    fault: Fault,
+) {
+    let mut output = IntoWrite::new(Vec::new(rt.alloc()));
+    let answer = build_out(
+        rt,
+        rt.alloc(),
+        board,
+        pair,
+        workers,
+        blocks,
+        true,
+        &mut output,
+    );
+    assert_eq!(rt; answer, Err(fault));
+    assert!(rt; output.into_inner().is_empty());
+}
+
 #[test]
 fn a_refused_build_names_its_fault_and_writes_nothing(rt: HostRuntime) {
-    let table = [
-        ("round", "3-3", 1, 1, Fault::Board),
-        ("grid", "33", 1, 1, Fault::PairText),
-        ("grid", "3-2", 0, 1, Fault::Counts),
-        ("grid", "9-9", 0, 1, Fault::Crowded),
-        ("grid", "3-3", 0, 1, Fault::Workers),
-        ("grid", "3-3", 65, 1, Fault::Workers),
-        ("grid", "3-3", 0, 0, Fault::Workers),
-        ("grid", "3-3", 1, 0, Fault::Blocks),
-        ("grid", "3-3", 64, 1_025, Fault::Blocks),
-    ];
-    for (board, pair, workers, blocks, fault) in table {
-        let mut output = IntoWrite::new(Vec::new(rt.alloc()));
-        let answer = build_out(
-            &rt,
-            rt.alloc(),
-            board,
-            pair,
-            workers,
-            blocks,
-            true,
-            &mut output,
-        );
-        assert_eq!(rt; answer, Err(fault));
-        assert!(rt; output.into_inner().is_empty());
-    }
+    assert_build_refused(&rt, "round", "3-3", 1, 1, Fault::Board);
+    assert_build_refused(&rt, "grid", "33", 1, 1, Fault::PairText);
+    assert_build_refused(&rt, "grid", "3-2", 0, 1, Fault::Counts);
+    assert_build_refused(&rt, "grid", "9-9", 0, 1, Fault::Crowded);
+    assert_build_refused(&rt, "grid", "3-3", 0, 1, Fault::Workers);
+    assert_build_refused(&rt, "grid", "3-3", 65, 1, Fault::Workers);
+    assert_build_refused(&rt, "grid", "3-3", 0, 0, Fault::Workers);
+    assert_build_refused(&rt, "grid", "3-3", 1, 0, Fault::Blocks);
+    assert_build_refused(&rt, "grid", "3-3", 64, 1_025, Fault::Blocks);
     let words = ["morris", "build", "round", "3-3"];
     assert_answer(&rt, words.as_slice(), 1, "", "fault 25: no such board\n");
 }
@@ -127,20 +145,23 @@ fn a_failed_write_of_build_tells_what_went_out(rt: HostRuntime) -> Result<(), Fa
     Ok(())
 }
 
+/// A build of 3-3 with this value of an option is refused with status 2.
+fn assert_option_wrong(
+    rt: &(impl Abort + AllocGlobal + Threads + Wait + Sync),
+    option: &str,
+    value: &str,
+) {
+    let words = ["morris", "build", "grid", "3-3", option, value];
+    assert_wrong(rt, words.as_slice());
+}
+
 #[test]
 fn build_takes_a_board_a_pair_and_numbers_in_their_ranges(rt: HostRuntime) {
     assert_wrong(&rt, ["morris", "build", "grid"].as_slice());
-    for (option, value) in [
-        ("--workers", "0"),
-        ("--workers", "65"),
-        ("--workers", "-1"),
-        ("--workers", "x"),
-        ("--blocks", "0"),
-        ("--blocks", "1025"),
-    ] {
-        assert_wrong(
-            &rt,
-            ["morris", "build", "grid", "3-3", option, value].as_slice(),
-        );
-    }
+    assert_option_wrong(&rt, "--workers", "0");
+    assert_option_wrong(&rt, "--workers", "65");
+    assert_option_wrong(&rt, "--workers", "-1");
+    assert_option_wrong(&rt, "--workers", "x");
+    assert_option_wrong(&rt, "--blocks", "0");
+    assert_option_wrong(&rt, "--blocks", "1025");
 }

@@ -56,6 +56,7 @@ point 0 to point 3, 8-2x5 one that also takes the stone on 5), how many moves\n\
 there are, and the value as far as N plies tell (a ply is one player's move):\n  \
 won in 3          the player to move can force a win in 3 plies, not in fewer\n  \
 lost in 2         the opponent can force a win in 2 plies, not in fewer\n  \
+lost in 0         the player to move has no legal move, and so has lost\n  \
 unknown within 2  neither can force a win in 2 plies: it may be won or lost in\n                    \
 more, or drawn\n\
 \n\

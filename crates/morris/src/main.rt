@@ -5,6 +5,8 @@ mod boards;
 mod build;
 #[cfg(test)]
 mod build_tests;
+#[cfg(test)]
+mod class_tests;
 mod command;
 mod entry;
 #[cfg(test)]

@@ -14,7 +14,9 @@ use std::alloc::Global;
 use std::io;
 use std::io::{ErrorKind, Read};
 use std::process::Abort;
+use std::sync::Wait;
 use std::test::Fail;
+use std::thread::Threads;
 
 const DRAWN: [&str; 4] = ["morris", "probe", "grid", "XXXOOO..."];
 
@@ -60,20 +62,28 @@ fn bundle(alloc: Global, files: &[&[u8]]) -> Result<Vec<u8>, Fail> {
     Ok(bytes)
 }
 
+/// The position is reported so by the tables of the input.
+fn assert_reported(
+    rt: &(impl Abort + AllocGlobal + Threads + Wait + Sync),
+    input: &[u8],
+    position: &str,
+    report: &str,
+) {
+    let words = ["morris", "probe", "grid", position];
+    assert_answer_on(rt, words.as_slice(), input, 0, report, "");
+}
+
 #[test]
 fn positions_are_reported_by_the_table_of_their_pair(rt: HostRuntime) -> Result<(), Fail> {
     let file = file(rt.alloc())?;
+    let file = file.as_slice();
+    let drawn = "XXXOOO...\ndraw\n0-6\n1-7\n2-8\n";
+    assert_reported(&rt, file, "XXXOOO...", drawn);
+    assert_reported(&rt, file, "XXX.OO.O.", WON_TEXT);
     let lost = "OO.OXX.X.\nlost in 2\n4-2\n4-6\n4-8\n5-2\n5-6\n5-8\n7-2\n7-6\n7-8\n";
-    let table = [
-        ("XXXOOO...", "XXXOOO...\ndraw\n0-6\n1-7\n2-8\n"),
-        ("XXX.OO.O.", WON_TEXT),
-        ("OO.OXX.X.", lost),
-        ("XX..OO.OX", "XX..OO.OX\nwon in 1\n8-2x4\n8-2x5\n8-2x7\n"),
-    ];
-    for (text, wanted) in table {
-        let words = ["morris", "probe", "grid", text];
-        assert_answer_on(&rt, words.as_slice(), file.as_slice(), 0, wanted, "");
-    }
+    assert_reported(&rt, file, "OO.OXX.X.", lost);
+    let captures = "XX..OO.OX\nwon in 1\n8-2x4\n8-2x5\n8-2x7\n";
+    assert_reported(&rt, file, "XX..OO.OX", captures);
     Ok(())
 }
 
@@ -193,22 +203,22 @@ fn an_input_that_fails_at_any_call_is_refused(rt: HostRuntime) -> Result<(), Fai
     Ok(())
 }
 
+/// Board and text are refused with this fault, over an input whose first reading fails.
+fn assert_refused_unread(rt: &(impl Abort + AllocGlobal), board: &str, text: &str, fault: Fault) {
+    let mut input = FromRead::new(Broken);
+    let mut output = IntoWrite::new(Vec::new(rt.alloc()));
+    let answer = probe_in(rt.alloc(), board, text, &mut input, &mut output);
+    assert_eq!(rt; answer, Err(fault), "{text}");
+    assert!(rt; output.into_inner().is_empty());
+}
+
 #[test]
 fn board_and_text_are_looked_at_before_the_input(rt: HostRuntime) {
-    let table = [
-        ("round", "XXX.OO.O.", Fault::Board),
-        ("grid", "X?", Fault::Length),
-        ("grid", "xXX.OO.O.", Fault::Character(0)),
-        ("grid", "XXXOO....", Fault::Stones),
-        ("grid", "XXX.OO.O.", Fault::Read),
-    ];
-    for (board, text, fault) in table {
-        let mut input = FromRead::new(Broken);
-        let mut output = IntoWrite::new(Vec::new(rt.alloc()));
-        let answer = probe_in(rt.alloc(), board, text, &mut input, &mut output);
-        assert_eq!(rt; answer, Err(fault), "{text}");
-        assert!(rt; output.into_inner().is_empty());
-    }
+    assert_refused_unread(&rt, "round", "XXX.OO.O.", Fault::Board);
+    assert_refused_unread(&rt, "grid", "X?", Fault::Length);
+    assert_refused_unread(&rt, "grid", "xXX.OO.O.", Fault::Character(0));
+    assert_refused_unread(&rt, "grid", "XXXOO....", Fault::Stones);
+    assert_refused_unread(&rt, "grid", "XXX.OO.O.", Fault::Read);
 }
 
 #[test]

@@ -134,25 +134,34 @@ fn stats_counts_the_values_of_a_pair_of_the_usual_board(rt: HostRuntime) {
     assert_answer(&rt, words.as_slice(), 0, NINE_3_3, "");
 }
 
+/// `stats` is refused with this line, and prints nothing.
+fn assert_stats_refused(
+    rt: &(impl Abort + AllocGlobal + Threads + Wait + Sync),
+    board: &str,
+    pair: &str,
+    line: &str,
+) {
+    let words = ["morris", "stats", board, pair];
+    assert_answer(rt, words.as_slice(), 1, "", line);
+}
+
 #[test]
 fn refused_stats_names_its_fault_and_prints_nothing(rt: HostRuntime) {
-    let cases = [
-        ("round", "3-3", "fault 25: no such board\n"),
-        ("round", "33", "fault 25: no such board\n"),
-        ("", "9-9", "fault 25: no such board\n"),
-        ("grid", "33", "fault 26: not a pair\n"),
-        ("grid", "", "fault 26: not a pair\n"),
-        ("grid", "3-é", "fault 26: not a pair\n"),
-        ("grid", "3-2", "fault 4: bad counts\n"),
-        ("grid", "9-0", "fault 4: bad counts\n"),
-        ("nine", "3-2", "fault 4: bad counts\n"),
-        ("grid", "9-9", "fault 5: more stones than points\n"),
-        ("grid", "7-3", "fault 5: more stones than points\n"),
-    ];
-    for (board, pair, fault) in cases {
-        let words = ["morris", "stats", board, pair];
-        assert_answer(&rt, words.as_slice(), 1, "", fault);
-    }
+    let board = "fault 25: no such board\n";
+    assert_stats_refused(&rt, "round", "3-3", board);
+    assert_stats_refused(&rt, "round", "33", board);
+    assert_stats_refused(&rt, "", "9-9", board);
+    let text = "fault 26: not a pair\n";
+    assert_stats_refused(&rt, "grid", "33", text);
+    assert_stats_refused(&rt, "grid", "", text);
+    assert_stats_refused(&rt, "grid", "3-é", text);
+    let counts = "fault 4: bad counts\n";
+    assert_stats_refused(&rt, "grid", "3-2", counts);
+    assert_stats_refused(&rt, "grid", "9-0", counts);
+    assert_stats_refused(&rt, "nine", "3-2", counts);
+    let crowded = "fault 5: more stones than points\n";
+    assert_stats_refused(&rt, "grid", "9-9", crowded);
+    assert_stats_refused(&rt, "grid", "7-3", crowded);
 }
 
 #[test]

@@ -150,33 +150,32 @@ fn look_shows_jumps_on_nine(rt: HostRuntime) -> Result<(), Fail> {
     Ok(())
 }
 
+/// `look` is refused with this line, and prints nothing.
+fn assert_look_refused(
+    rt: &(impl Abort + AllocGlobal + Threads + Wait + Sync),
+    board: &str,
+    text: &str,
+    line: &str,
+) {
+    let words = ["morris", "look", board, text];
+    assert_answer(rt, words.as_slice(), 1, "", line);
+}
+
 #[test]
 fn a_refused_look_names_its_fault_and_prints_nothing(rt: HostRuntime) {
-    let cases = [
-        ("round", "XXX.OO.O.", "fault 25: no such board\n"),
-        ("", "XXX.OO.O.", "fault 25: no such board\n"),
-        ("Grid", "XXX.OO.O.", "fault 25: no such board\n"),
-        ("round", "X?", "fault 25: no such board\n"),
-        (
-            "grid",
-            "X?",
-            "fault 1: text is not one character per point\n",
-        ),
-        ("grid", "", "fault 1: text is not one character per point\n"),
-        (
-            "nine",
-            "OO..X....O.X..........X",
-            "fault 1: text is not one character per point\n",
-        ),
-        ("grid", "xXX.OO.O.", "fault 2: bad character at 0\n"),
-        ("grid", "XXX.OO.é", "fault 2: bad character at 7\n"),
-        ("grid", "XXXOO....", "fault 3: bad number of stones\n"),
-        ("grid", "X..OOO...", "fault 3: bad number of stones\n"),
-    ];
-    for (board, text, fault) in cases {
-        let words = ["morris", "look", board, text];
-        assert_answer(&rt, words.as_slice(), 1, "", fault);
-    }
+    let board = "fault 25: no such board\n";
+    assert_look_refused(&rt, "round", "XXX.OO.O.", board);
+    assert_look_refused(&rt, "", "XXX.OO.O.", board);
+    assert_look_refused(&rt, "Grid", "XXX.OO.O.", board);
+    assert_look_refused(&rt, "round", "X?", board);
+    let length = "fault 1: text is not one character per point\n";
+    assert_look_refused(&rt, "grid", "X?", length);
+    assert_look_refused(&rt, "grid", "", length);
+    assert_look_refused(&rt, "nine", "OO..X....O.X..........X", length);
+    assert_look_refused(&rt, "grid", "xXX.OO.O.", "fault 2: bad character at 0\n");
+    assert_look_refused(&rt, "grid", "XXX.OO.é", "fault 2: bad character at 7\n");
+    assert_look_refused(&rt, "grid", "XXXOO....", "fault 3: bad number of stones\n");
+    assert_look_refused(&rt, "grid", "X..OOO...", "fault 3: bad number of stones\n");
 }
 
 #[test]
@@ -323,26 +322,30 @@ fn fifty_four_moves_go_out_in_one_write(rt: HostRuntime) {
     assert!(rt; written.kept.as_slice().ends_with(b"moves 54\nlost in 2\n"));
 }
 
+/// The words are refused with status 1 and this line where the output has so much room.
+fn assert_write_fails(
+    rt: &(impl Abort + AllocGlobal + Threads + Wait + Sync),
+    words: &[&str],
+    room: usize,
+    line: &str,
+) {
+    let mut input = FromRead::new([].as_slice());
+    let mut output = IntoWrite::new(Narrow::new(rt.alloc(), room));
+    let mut errors = IntoWrite::new(Vec::new(rt.alloc()));
+    let status = command(rt, rt.alloc(), words, &mut input, &mut output, &mut errors);
+    assert_eq!(rt; status, 1);
+    assert_eq!(rt; errors.into_inner().as_slice(), line.as_bytes());
+}
+
 #[test]
 fn a_failed_write_is_a_fault_of_the_program(rt: HostRuntime) {
     let words = ["morris", "look", "grid", "XXX.OO.O."];
-    for (words, room) in [
-        (words.as_slice(), 0),
-        (["morris", "--help"].as_slice(), 0),
-        (words.as_slice(), 16),
-    ] {
-        let mut input = FromRead::new([].as_slice());
-        let mut output = IntoWrite::new(Narrow::new(rt.alloc(), room));
-        let mut errors = IntoWrite::new(Vec::new(rt.alloc()));
-        let status = command(&rt, rt.alloc(), words, &mut input, &mut output, &mut errors);
-        assert_eq!(rt; status, 1);
-        let line = if room == 0 {
-            "fault 23: writing failed after 0 bytes\n"
-        } else {
-            "fault 23: writing failed after 16 bytes\n"
-        };
-        assert_eq!(rt; errors.into_inner().as_slice(), line.as_bytes());
-    }
+    let help = ["morris", "--help"];
+    let nothing = "fault 23: writing failed after 0 bytes\n";
+    assert_write_fails(&rt, words.as_slice(), 0, nothing);
+    assert_write_fails(&rt, help.as_slice(), 0, nothing);
+    let some = "fault 23: writing failed after 16 bytes\n";
+    assert_write_fails(&rt, words.as_slice(), 16, some);
 }
 
 #[test]
@@ -375,62 +378,81 @@ fn words_that_cannot_be_had_are_refused(rt: HostRuntime) {
     assert!(rt; !errors.into_inner().is_empty());
 }
 
-#[test]
-fn each_fault_has_its_number_and_its_text(rt: HostRuntime) -> Result<(), Fail> {
-    let faults = [
-        (Fault::Length, 1, "text is not one character per point"),
-        (Fault::Character(4), 2, "bad character at 4"),
-        (Fault::Stones, 3, "bad number of stones"),
-        (Fault::Counts, 4, "bad counts"),
-        (Fault::Crowded, 5, "more stones than points"),
-        (Fault::Blocks, 6, "blocks must be 1 to 1024"),
-        (Fault::Missing(3), 8, "block 3 is not complete"),
-        (Fault::TooDeep, 10, "depth is too great"),
-        (Fault::Workers, 11, "workers must be 1 to 64"),
-        (Fault::Memory, 12, "out of memory"),
-        (Fault::Needs(4, 3), 13, "needs 4-3"),
-        (Fault::Differs(20), 14, "entry 20 differs"),
-        (Fault::Short, 15, "file is too short"),
-        (Fault::Magic, 16, "not a table file"),
-        (Fault::Version, 17, "unknown version"),
-        (Fault::BoardId, 18, "another board"),
-        (Fault::Count, 19, "wrong number of entries"),
-        (Fault::Digest, 20, "digest is wrong"),
-        (Fault::Trailing, 21, "bytes after the table"),
-        (Fault::Read, 22, "reading failed"),
-        (Fault::Write(16), 23, "writing failed after 16 bytes"),
-        (Fault::Board, 25, "no such board"),
-        (Fault::PairText, 26, "not a pair"),
-        (Fault::TooMany, 27, "more than 64 tables"),
-    ];
-    for (fault, number, text) in faults {
-        assert_eq!(rt; fault.number(), number);
-        let shown = format!(in rt.alloc(); "{fault}")?;
-        assert_eq!(rt; shown.as_str(), text);
-    }
+/// The fault has this number, and this text.
+fn assert_fault(
+    rt: &(impl Abort + AllocGlobal),
+    fault: Fault,
+    number: u8,
+    text: &str,
+) -> Result<(), Fail> {
+    assert_eq!(rt; fault.number(), number);
+    let shown = format!(in rt.alloc(); "{fault}")?;
+    assert_eq!(rt; shown.as_str(), text);
     Ok(())
 }
 
 #[test]
+fn each_fault_of_words_and_builds_has_its_number_and_its_text(rt: HostRuntime) -> Result<(), Fail> {
+    assert_fault(&rt, Fault::Length, 1, "text is not one character per point")?;
+    assert_fault(&rt, Fault::Character(4), 2, "bad character at 4")?;
+    assert_fault(&rt, Fault::Stones, 3, "bad number of stones")?;
+    assert_fault(&rt, Fault::Counts, 4, "bad counts")?;
+    assert_fault(&rt, Fault::Crowded, 5, "more stones than points")?;
+    assert_fault(&rt, Fault::Blocks, 6, "blocks must be 1 to 1024")?;
+    assert_fault(&rt, Fault::Missing(3), 8, "block 3 is not complete")?;
+    assert_fault(&rt, Fault::TooDeep, 10, "depth is too great")?;
+    assert_fault(&rt, Fault::Workers, 11, "workers must be 1 to 64")?;
+    assert_fault(&rt, Fault::Memory, 12, "out of memory")?;
+    assert_fault(&rt, Fault::Board, 25, "no such board")?;
+    assert_fault(&rt, Fault::PairText, 26, "not a pair")
+}
+
+#[test]
+fn each_fault_of_files_and_streams_has_its_number_and_its_text(
+    rt: HostRuntime,
+) -> Result<(), Fail> {
+    assert_fault(&rt, Fault::Needs(4, 3), 13, "needs 4-3")?;
+    assert_fault(&rt, Fault::Differs(20), 14, "entry 20 differs")?;
+    assert_fault(&rt, Fault::Short, 15, "file is too short")?;
+    assert_fault(&rt, Fault::Magic, 16, "not a table file")?;
+    assert_fault(&rt, Fault::Version, 17, "unknown version")?;
+    assert_fault(&rt, Fault::BoardId, 18, "another board")?;
+    assert_fault(&rt, Fault::Count, 19, "wrong number of entries")?;
+    assert_fault(&rt, Fault::Digest, 20, "digest is wrong")?;
+    assert_fault(&rt, Fault::Trailing, 21, "bytes after the table")?;
+    assert_fault(&rt, Fault::Read, 22, "reading failed")?;
+    assert_fault(&rt, Fault::Write(16), 23, "writing failed after 16 bytes")?;
+    assert_fault(&rt, Fault::TooMany, 27, "more than 64 tables")
+}
+
+/// The text is read as the pair of these numbers.
+fn assert_pair(rt: &impl Abort, text: &str, greater: u8, lesser: u8) {
+    let counts = read_pair::<Grid>(text)
+        .ok()
+        .map(|pair| (pair.greater(), pair.lesser()));
+    assert_eq!(rt; counts, Some((greater, lesser)), "{text}");
+}
+
+/// The text is refused with this fault.
+fn assert_no_pair(rt: &impl Abort, text: &str, fault: Fault) {
+    assert_eq!(rt; read_pair::<Grid>(text).err(), Some(fault), "{text}");
+}
+
+#[test]
 fn a_pair_is_read_from_its_text(rt: HostRuntime) {
-    for (text, greater, lesser) in [("3-3", 3, 3), ("4-3", 4, 3), ("3-4", 4, 3), ("6-3", 6, 3)] {
-        let pair = read_pair::<Grid>(text);
-        let counts = pair.ok().map(|pair| (pair.greater(), pair.lesser()));
-        assert_eq!(rt; counts, Some((greater, lesser)), "{text}");
-    }
-    for (text, fault) in [
-        ("33", Fault::PairText),
-        ("4-3x", Fault::PairText),
-        ("4+3", Fault::PairText),
-        ("a-3", Fault::PairText),
-        ("é-", Fault::PairText),
-        ("", Fault::PairText),
-        ("0-3", Fault::Counts),
-        ("3-2", Fault::Counts),
-        ("9-9", Fault::Crowded),
-        ("5-5", Fault::Crowded),
-    ] {
-        assert_eq!(rt; read_pair::<Grid>(text).err(), Some(fault), "{text}");
-    }
+    assert_pair(&rt, "3-3", 3, 3);
+    assert_pair(&rt, "4-3", 4, 3);
+    assert_pair(&rt, "3-4", 4, 3);
+    assert_pair(&rt, "6-3", 6, 3);
+    assert_no_pair(&rt, "33", Fault::PairText);
+    assert_no_pair(&rt, "4-3x", Fault::PairText);
+    assert_no_pair(&rt, "4+3", Fault::PairText);
+    assert_no_pair(&rt, "a-3", Fault::PairText);
+    assert_no_pair(&rt, "é-", Fault::PairText);
+    assert_no_pair(&rt, "", Fault::PairText);
+    assert_no_pair(&rt, "0-3", Fault::Counts);
+    assert_no_pair(&rt, "3-2", Fault::Counts);
+    assert_no_pair(&rt, "9-9", Fault::Crowded);
+    assert_no_pair(&rt, "5-5", Fault::Crowded);
     assert!(rt; read_pair::<Nine>("9-9").is_ok());
 }

@@ -344,24 +344,33 @@ fn a_changed_byte_of_the_digest_is_named(rt: HostRuntime) -> Result<(), Fail> {
     change_bytes(&rt, rt.alloc(), 2800, THREE_THREE)
 }
 
+/// A file is refused for this once one byte was changed.
+fn assert_refused(
+    rt: &impl Abort,
+    alloc: Global,
+    file: &[u8],
+    (place, byte): (usize, u8),
+    fault: ReadFault,
+) -> Result<(), Fail> {
+    let file = altered(alloc, file, place, byte)?;
+    assert_eq!(rt; refusal(alloc, file.as_slice()), Some(fault));
+    assert_eq!(rt; next_refusal(alloc, file.as_slice()), Some(fault));
+    Ok(())
+}
+
 #[test]
 fn the_first_step_that_refuses_decides(rt: HostRuntime) -> Result<(), Fail> {
-    let file = file_of(&rt, rt.alloc(), &three_three(rt.alloc())?)?;
-    for (place, byte, fault) in [
-        (0, b'M', ReadFault::Magic),
-        (4, 9, ReadFault::Version),
-        (4, 2, ReadFault::Version),
-        (5, 0, ReadFault::BoardId),
-        (6, 4, ReadFault::Count),
-        (6, 7, ReadFault::Crowded),
-        (7, 4, ReadFault::Counts),
-        // One entry less: 1,680 is 0x690.
-        (15, 0x8f, ReadFault::Count),
-    ] {
-        let damaged = altered(rt.alloc(), &file, place, byte)?;
-        assert_eq!(rt; refusal(rt.alloc(), &damaged), Some(fault));
-        assert_eq!(rt; next_refusal(rt.alloc(), &damaged), Some(fault));
-    }
+    let alloc = rt.alloc();
+    let file = file_of(&rt, alloc, &three_three(alloc)?)?;
+    assert_refused(&rt, alloc, &file, (0, b'M'), ReadFault::Magic)?;
+    assert_refused(&rt, alloc, &file, (4, 9), ReadFault::Version)?;
+    assert_refused(&rt, alloc, &file, (4, 2), ReadFault::Count)?;
+    assert_refused(&rt, alloc, &file, (5, 0), ReadFault::BoardId)?;
+    assert_refused(&rt, alloc, &file, (6, 4), ReadFault::Count)?;
+    assert_refused(&rt, alloc, &file, (6, 7), ReadFault::Crowded)?;
+    assert_refused(&rt, alloc, &file, (7, 4), ReadFault::Counts)?;
+    // One entry less: 1,680 is 0x690.
+    assert_refused(&rt, alloc, &file, (15, 0x8f), ReadFault::Count)?;
     let other = altered(rt.alloc(), &altered(rt.alloc(), &file, 4, 9)?, 0, b'M')?;
     assert_eq!(rt; refusal(rt.alloc(), &other), Some(ReadFault::Magic));
     Ok(())
