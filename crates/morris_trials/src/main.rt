@@ -54,6 +54,7 @@ fn run<R: Print + Threads + Wait + Sync>(rt: &R, alloc: Global, name: &str) -> O
         "sweep_pair" => tables::sweeps_a_pair(rt, alloc),
         "tallies" => tables::counts_codes(rt, alloc),
         "read_table" => tables::reads_a_table(rt, alloc),
+        "read_classes" => tables::reads_a_table_by_classes(rt, alloc),
         "read_next" => tables::reads_the_next_table(rt, alloc),
         "best" => tables::finds_best_moves(rt, alloc),
         "report" => tables::reports(rt, alloc),

@@ -13,6 +13,7 @@ use morris_table::graph::PairGraph;
 use morris_table::reading::{read_next, read_table};
 use morris_table::shelf::Shelf;
 use morris_table::sweeping::sweep_pair;
+use morris_table::value::Value;
 use morris_table::writing::write_table;
 use morris_wave::Graph;
 use std::alloc::Global;
@@ -168,6 +169,50 @@ pub(crate) fn reads_a_table(rt: &impl Print, alloc: Global) -> Option<()> {
     tell(rt, "read_table", "first", &first.map(|raw| raw.len()))?;
     let again = read_table::<Grid, _>(alloc, &mut FromRead::new(file.as_slice()));
     tell(rt, "read_table", "again", &again.map(|raw| raw.len()))
+}
+
+/// What the file of 3-3 by classes begins with: version 2, board 1, and 320 entries.
+const HEADER_OF_CLASSES: [u8; 16] = *b"NMMT\x02\x01\x03\x03\x00\x00\x00\x00\x00\x00\x01\x40";
+
+/// The SHA-256 at its end, as another program reckons it.
+const DIGEST_OF_CLASSES: [u8; 32] = [
+    0x89, 0xf4, 0x4e, 0x18, 0xa9, 0x46, 0x21, 0x8d, 0x21, 0x23, 0xe2, 0x3d, 0x32, 0xb2, 0x58, 0xf0,
+    0x99, 0xe1, 0x8c, 0x48, 0xb8, 0x25, 0x12, 0xe4, 0x9a, 0xba, 0xb1, 0x0f, 0xf5, 0xa7, 0x2d, 0x8a,
+];
+
+/// The code of a value in a file.
+fn code_of(value: Value) -> u16 {
+    match value {
+        Value::Draw => 0,
+        Value::Won(depth) | Value::Lost(depth) => depth.saturating_add(1),
+    }
+}
+
+/// The file of the table of 3-3 by classes: each entry has the code of its position.
+fn file_by_classes(alloc: Global) -> Option<Vec<u8>> {
+    let shelf = shelf(alloc)?;
+    let pair = Pair::new(3, 3).ok()?;
+    let table = shelf.get(pair)?;
+    let entries = ClassPair::make(alloc, pair).ok()?;
+    let mut file = Vec::new(alloc);
+    file.extend_from_slice(HEADER_OF_CLASSES.as_slice()).ok()?;
+    for entry in 0..entries.size() {
+        let code = code_of(table.value_of(&entries.position(entry)));
+        file.extend_from_slice(code.to_be_bytes().as_slice()).ok()?;
+    }
+    file.extend_from_slice(DIGEST_OF_CLASSES.as_slice()).ok()?;
+    Some(file)
+}
+
+pub(crate) fn reads_a_table_by_classes(rt: &impl Print, alloc: Global) -> Option<()> {
+    let file = file_by_classes(alloc)?;
+    let mut source = FromRead::new(file.as_slice());
+    mark(alloc)?;
+    let first = read_table::<Grid, _>(alloc, &mut source);
+    mark(alloc)?;
+    tell(rt, "read_classes", "first", &first.map(|raw| raw.len()))?;
+    let again = read_table::<Grid, _>(alloc, &mut FromRead::new(file.as_slice()));
+    tell(rt, "read_classes", "again", &again.map(|raw| raw.len()))
 }
 
 pub(crate) fn reads_the_next_table(rt: &impl Print, alloc: Global) -> Option<()> {
