@@ -87,7 +87,8 @@ fn read(alloc: Global, file: &[u8]) -> Result<Raw<Grid>, Fail> {
 
 /// The exact table of a file over the tables of a shelf.
 fn verified(alloc: Global, file: &[u8], shelf: &Shelf<Grid>) -> Result<Exact<Grid>, Fail> {
-    match read(alloc, file)?.verify(shelf) {
+    let raw = read(alloc, file)?;
+    match raw.verify(shelf) {
         Ok(table) => Ok(table),
         Err((_, fault)) => Err(Fail::from(fault)),
     }
@@ -96,9 +97,11 @@ fn verified(alloc: Global, file: &[u8], shelf: &Shelf<Grid>) -> Result<Exact<Gri
 /// The entry that is told as the first one that doesn't agree.
 fn differing(alloc: Global, file: &[u8]) -> Result<Option<u64>, Fail> {
     let shelf = Shelf::new(alloc)?;
-    match read(alloc, file)?.verify(&shelf) {
+    let raw = read(alloc, file)?;
+    match raw.verify(&shelf) {
+        Ok(_) => Ok(None),
         Err((_, VerifyFault::Differs(index))) => Ok(Some(index)),
-        _ => Ok(None),
+        Err((_, VerifyFault::Needs(_))) => Ok(None),
     }
 }
 
