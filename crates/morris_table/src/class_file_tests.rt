@@ -90,7 +90,8 @@ fn verified(alloc: Global, file: &[u8], shelf: &Shelf<Grid>) -> Result<Exact<Gri
     let raw = read(alloc, file)?;
     match raw.verify(shelf) {
         Ok(table) => Ok(table),
-        Err((_, fault)) => Err(Fail::from(fault)),
+        Err((_, VerifyFault::Differs(_))) => Err(Fail::new("an entry differs")),
+        Err((_, VerifyFault::Needs(_))) => Err(Fail::new("a table is missing")),
     }
 }
 
