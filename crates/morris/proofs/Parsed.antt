@@ -1,5 +1,5 @@
--- What holds of the matches of a command in whose words `clap` finds no mistake: each row belongs to an argument, and has values that passed that
--- argument's parser.
+-- What holds of the matches of a command in whose words `clap` finds no mistake: each row belongs
+-- to an argument, and has values that passed that argument's parser.
 use Rattle.std.proofs.Common.{◌≡◌, ◌∙◌, ◌<◌, ◌&&◌, ◌||◌, ◌⊎◌, ◌++◌, ℕ, Bool, true, false, not, zero, suc, refl, sym, ap, subst, inl, inr, arith, List, [], ◌∷◌, length, Option, Some, None, is_some, codes, length-append}
 use Rattle.std.specs.Prelude.{⊤, ◌==◌, drop, encode_utf8, find, fold, if◌then◌else◌, slice_get, nat_lt}
 use Rattle.std.specs.List.{list_all, list_any}
@@ -76,7 +76,8 @@ all_accepted i p (v ∷ vs) h =
 
 -- ---- rows
 
--- the row belongs to an argument, and has a value at least, each of which passed that argument's parser
+-- the row belongs to an argument, and has a value at least, each of which passed that argument's
+-- parser
 pub record RowPasses (c : List Rule) (r : Row) : Type 0 where
   pub rule : Rule
   pub known : arg_by_id c r.id ≡ Some rule
@@ -84,8 +85,8 @@ pub record RowPasses (c : List Rule) (r : Row) : Type 0 where
   pub passes : values_pass rule r.values ≡ true
   pub reading : r.reading ≡ reading_by rule
 
--- the argument is the one of its id, and is set to a value at least, or is a flag that stands for a value at least, or asks for help or for the
--- version
+-- the argument is the one of its id, and is set to a value at least, or is a flag that stands for a
+-- value at least, or asks for help or for the version
 pub record IsPlainRule (c : List Rule) (a : Rule) : Type 0 where
   pub known : arg_by_id c a.id ≡ Some a
   pub kind : ((action_of a ≡ Set) × (nat_lt 0 (unwrap_or_range a.range).start_inclusive ≡ true))

@@ -1,4 +1,5 @@
--- Where `clap` finds no mistake in the words, they name a command of the program, with the values that its request wants.
+-- Where `clap` finds no mistake in the words, they name a command of the program, with the values
+-- that its request wants.
 use Rattle.std.proofs.Common.{◌≡◌, ◌∙◌, ◌&&◌, ◌||◌, ◌⊎◌, Bool, true, false, not, refl, sym, ap, subst, inl, inr, List, [], ◌∷◌, Option, Some, None, is_some, codes}
 use Rattle.std.specs.Prelude.{find, option_map, pos}
 use Rattle.std.specs.Option.{option_map_or}
@@ -250,7 +251,8 @@ only_left : (b : Bool) → (b || false) ≡ true → b ≡ true
 only_left true h = refl
 only_left false h = h
 
--- a command of the program: its words make a request, or it is `help`, whose words always ask for help
+-- a command of the program: its words make a request, or it is `help`, whose words always ask for
+-- help
 abbrev Serves : Shape → Type 0
 Serves s = ((words : List Text) → level_fault s [] nothing_held words false [] ≡ [] → NamesRequest (Some (rows_at s words)))
     ⊎ ((s.name ≡ codes "help") × (s.aliases ≡ []))

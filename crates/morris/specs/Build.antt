@@ -73,8 +73,8 @@ IsUnbuiltFor board pair blocks _ = ⊥
 -- ---- the answer
 
 -- What `build` answers of a pair: one of these refusals, with nothing written; otherwise codes
--- suffice for all depths, and the files are written, or the first bytes of them up to the write that
--- failed.
+-- suffice for all depths, and the files are written, or the first bytes of them up to the write
+-- that failed.
 abbrev pub AnswersBuilt : {T : Type 0} → Shape → Counts → ℕ → Bool → Option (List ℕ) → Option (List ℕ) → Result T Fault → Type 0
 AnswersBuilt board pair blocks all old new (Ok done) = ¬ HasTooDeep board pair × AnswersFiles board Full (pairs_written all pair) old new (Ok done)
 AnswersBuilt board pair blocks all old new (Err (fault.Write sent)) =
@@ -82,7 +82,8 @@ AnswersBuilt board pair blocks all old new (Err (fault.Write sent)) =
 AnswersBuilt board pair blocks all old new (Err refused) = IsUnbuiltFor board pair blocks refused × Keeps old new
 
 -- What it answers with so many workers and blocks: where there may not be so many, the fault that
--- says so, with nothing written and before anything is built; otherwise what it answers of the pair.
+-- says so, with nothing written and before anything is built; otherwise what it answers of the
+-- pair.
 abbrev pub AnswersTeam : {T : Type 0} → Shape → Counts → ℕ → Bool → Option (List ℕ) → Option (List ℕ) → Result T Fault → Option SolveFault → Type 0
 AnswersTeam board pair blocks all old new result (Some refused) = (result ≡ Err (solve_fault refused)) × Keeps old new
 AnswersTeam board pair blocks all old new result None = AnswersBuilt board pair blocks all old new result

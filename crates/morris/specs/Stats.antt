@@ -35,12 +35,13 @@ depth_lines counts = flat_map (λ depth. depth_line depth (slice_index counts de
 abbrev pub draw_line : ℕ → List ℕ
 draw_line count = number_line (codes "draw: ") count
 
--- All of it, where `tallies` says how many positions have each code, from 0 up: the code 0 is a draw, and any other code is one more than
--- the depth.
+-- All of it, where `tallies` says how many positions have each code, from 0 up: the code 0 is a
+-- draw, and any other code is one more than the depth.
 unfoldable pub stats_text : ℕ → Counts → List ℕ → List ℕ
 stats_text n pair tallies = pair_line n pair ++ depth_lines (drop 1 tallies) ++ draw_line (slice_index tallies 0)
 
--- these are how many positions of the pair have each code, where each code is the game's value and exact depth
+-- these are how many positions of the pair have each code, where each code is the game's value and
+-- exact depth
 abbrev pub HasTallies : Shape → Counts → List ℕ → Type 0
 HasTallies board pair tallies = (entries : List ℕ) × IsTable board (table Full pair entries) × (tallies ≡ tallies_of entries)
 
@@ -53,7 +54,8 @@ PrintsStats board pair old new result =
 abbrev pub HasTooDeep : Shape → Counts → Type 0
 HasTooDeep board pair = (below : Counts) × Contains (below_of pair) below × IsBeyondCodes board below
 
--- why a pair isn't swept, where those that it needs are there; and why a pair isn't swept after those below it
+-- why a pair isn't swept, where those that it needs are there; and why a pair isn't swept after
+-- those below it
 abbrev pub IsRefusedAt : Shape → Counts → Fault → Type 0
 IsRefusedAt board pair fault.Memory = ⊤
 IsRefusedAt board pair fault.TooDeep = IsBeyondCodes board pair
@@ -64,14 +66,15 @@ IsRefusedFor board pair fault.Memory = ⊤
 IsRefusedFor board pair fault.TooDeep = HasTooDeep board pair
 IsRefusedFor board pair _ = ⊥
 
--- What `stats` answers of a pair: a refusal of memory, or of a depth that is too great, with nothing printed; otherwise codes suffice for
--- all depths, and the pair's text is printed.
+-- What `stats` answers of a pair: a refusal of memory, or of a depth that is too great, with
+-- nothing printed; otherwise codes suffice for all depths, and the pair's text is printed.
 abbrev pub AnswersPair : {T : Type 0} → Shape → Counts → Option (List ℕ) → Option (List ℕ) → Result T Fault → Type 0
 AnswersPair board pair old new (Err fault.Memory) = Keeps old new
 AnswersPair board pair old new (Err fault.TooDeep) = HasTooDeep board pair × Keeps old new
 AnswersPair board pair old new result = ¬ HasTooDeep board pair × PrintsStats board pair old new result
 
--- What it answers on a board: the fault of a text that names no pair, with nothing printed; otherwise what it answers of the pair.
+-- What it answers on a board: the fault of a text that names no pair, with nothing printed;
+-- otherwise what it answers of the pair.
 abbrev pub AnswersRead : {T : Type 0} → Shape → Option (List ℕ) → Option (List ℕ) → Result T Fault → Result Counts Fault → Type 0
 AnswersRead board old new result (Err refused) = (result ≡ Err refused) × Keeps old new
 AnswersRead board old new result (Ok pair) = AnswersPair board pair old new result
@@ -79,7 +82,8 @@ AnswersRead board old new result (Ok pair) = AnswersPair board pair old new resu
 abbrev pub AnswersOn : {T : Type 0} → Shape → List ℕ → Option (List ℕ) → Option (List ℕ) → Result T Fault → Type 0
 AnswersOn board text old new result = AnswersRead board old new result (read_pair_of board.points text)
 
--- What `stats` answers: the fault of a board that isn't there, with nothing printed; otherwise what it answers on the board.
+-- What `stats` answers: the fault of a board that isn't there, with nothing printed; otherwise what
+-- it answers on the board.
 abbrev pub AnswersStats : {T : Type 0} → Option Shape → List ℕ → Option (List ℕ) → Option (List ℕ) → Result T Fault → Type 0
 AnswersStats None text old new result = (result ≡ Err fault.Board) × Keeps old new
 AnswersStats (Some board) text old new result = AnswersOn board text old new result

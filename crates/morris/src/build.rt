@@ -42,8 +42,8 @@ pub struct Team {
 
 /// Builds the tables of all pairs below the one that the text `pair` names on the board named
 /// `board`, in order and the pair's own among them, and writes the file of the pair's table; or,
-/// with `all`, the files of all of them, one after the other in that order. Each is built by so many
-/// workers over so many blocks; the bytes are the same for every number of them.
+/// with `all`, the files of all of them, one after the other in that order. Each is built by so
+/// many workers over so many blocks; the bytes are the same for every number of them.
 ///
 /// # Errors
 /// [`Fault::Board`] where there is no such board, else [`Fault::PairText`], [`Fault::Counts`] or

@@ -15,8 +15,8 @@ use std::sync::Wait;
 use std::test::Fail;
 use std::thread::Threads;
 
-/// The files of 3-3 and 4-3 on the board of nine points, 3,408 and 5,088 bytes, from tables that one
-/// thread swept.
+/// The files of 3-3 and 4-3 on the board of nine points, 3,408 and 5,088 bytes, from tables that
+/// one thread swept.
 fn both_files(alloc: Global) -> Result<Vec<u8>, Fail> {
     let mut shelf = Shelf::<Grid>::new(alloc)?;
     let mut sink = IntoWrite::new(Vec::new(alloc));

@@ -1,5 +1,5 @@
-// Files of version 2, whose entries are those of classes, as `morris verify` and `morris probe` take
-// them.
+// Files of version 2, whose entries are those of classes, as `morris verify` and `morris probe`
+// take them.
 use crate::tests::assert_answer_on;
 use crate::verify_tests::file;
 use morris_board::grid::Grid;
@@ -14,8 +14,8 @@ use std::sync::Wait;
 use std::test::Fail;
 use std::thread::Threads;
 
-/// The SHA-256 of the header and the 320 codes of 3-3 on the board of nine points, as another program
-/// reckons it, which has made the file from its own classes.
+/// The SHA-256 of the header and the 320 codes of 3-3 on the board of nine points, as another
+/// program reckons it, which has made the file from its own classes.
 const DIGEST: [u8; 32] = [
     0x89, 0xf4, 0x4e, 0x18, 0xa9, 0x46, 0x21, 0x8d, 0x21, 0x23, 0xe2, 0x3d, 0x32, 0xb2, 0x58, 0xf0,
     0x99, 0xe1, 0x8c, 0x48, 0xb8, 0x25, 0x12, 0xe4, 0x9a, 0xba, 0xb1, 0x0f, 0xf5, 0xa7, 0x2d, 0x8a,

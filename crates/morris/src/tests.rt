@@ -13,7 +13,8 @@ use std::sync::Wait;
 use std::test::Fail;
 use std::thread::Threads;
 
-/// What the program answers to words: its exit status, and what goes to standard output and standard error.
+/// What the program answers to words: its exit status, and what goes to standard output and
+/// standard error.
 #[derive(Drop)]
 pub(crate) struct Answer {
     pub(crate) status: u8,
@@ -62,7 +63,8 @@ pub fn assert_answer_on(
     assert_eq!(rt; answer.errors.as_slice(), errors.as_bytes(), "{words:?}");
 }
 
-/// The words are refused with status 2, with a text on standard error and nothing on standard output.
+/// The words are refused with status 2, with a text on standard error and nothing on standard
+/// output.
 pub fn assert_wrong(rt: &(impl Abort + AllocGlobal + Threads + Wait + Sync), words: &[&str]) {
     let answer = answer_to(rt, words, &[]);
     assert_eq!(rt; answer.status, 2, "{words:?}");
@@ -116,8 +118,8 @@ fn look_shows_slides_and_a_capture_on_nine(rt: HostRuntime) {
     assert_answer(&rt, words.as_slice(), 0, text, "");
 }
 
-/// O threatens to close mills on 2 and on 17, and X can stop only one of them. In the second position every stone of O stands in a mill, so
-/// that a capture may take any.
+/// O threatens to close mills on 2 and on 17, and X can stop only one of them. In the second
+/// position every stone of O stands in a mill, so that a capture may take any.
 #[test]
 fn look_shows_jumps_on_nine(rt: HostRuntime) -> Result<(), Fail> {
     let words = ["morris", "look", "nine", "OO..X....O.X..........X."];

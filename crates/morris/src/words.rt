@@ -64,9 +64,9 @@ pub enum Refusal {
 }
 
 /// Reads the words, of which the first is the program's own name. `Memory` is answered only where
-/// an allocation was refused, `Help` to `--help`, `-h` and `help`, `Version` to `--version` and `-V`
-/// in place of a command, and `Wrong` where the words name no command, or not the arguments that it
-/// takes.
+/// an allocation was refused, `Help` to `--help`, `-h` and `help`, `Version` to `--version` and
+/// `-V` in place of a command, and `Wrong` where the words name no command, or not the arguments
+/// that it takes.
 pub fn read_words<'a, S: AsStr>(alloc: Global, words: &'a [S]) -> Result<Request<'a>, Refusal>
     ensures taken { OnOk result (faults_of (map S.text words.entry.now) ≡ []) }
     ensures request { IfOk result (AsksFor (named_by (map S.text words.entry.now))) }

@@ -17,8 +17,8 @@ fn set_of(rt: &impl Abort, list: &[u8]) -> Points {
     set
 }
 
-/// The board has just these mills, in this order, of which those with a point go through it, and just
-/// these pairs of adjacent points.
+/// The board has just these mills, in this order, of which those with a point go through it, and
+/// just these pairs of adjacent points.
 fn assert_board<B: Geometry>(rt: &impl Abort, mills: &[[u8; 3]], pairs: &[(u8, u8)]) {
     assert_eq!(rt; mills.len(), B::MILLS as usize);
     for (number, points) in mills.iter().enumerate() {

@@ -1,5 +1,5 @@
--- Classes of sets of points. The class of a set is the set of its images under the symmetries of the
--- board.
+-- Classes of sets of points. The class of a set is the set of its images under the symmetries of
+-- the board.
 use Rattle.std.specs.Prelude.{◌≡◌, ℕ, ◌^◌, ◌<◌, ◌≤◌, Bool, true, ◌&&◌, nat_eq, nat_le, List, length, slice_index}
 use Rattle.std.specs.List.{range_with_len, list_all, position_or_len}
 use Rattle.morris_board.specs.Boards.{Shape}
@@ -25,8 +25,8 @@ representative_of board set = image_of (board.image (symmetry_of board set)) set
 unfoldable pub is_representative : Shape → ℕ → ℕ → Bool
 is_representative board count set = nat_eq (representative_of board set) set && nat_eq (count_of set) count
 
--- The classes of sets of `count` points are numbered 0, 1, .. in ascending order of the masks of their
--- representatives: how many of these are below a mask.
+-- The classes of sets of `count` points are numbered 0, 1, .. in ascending order of the masks of
+-- their representatives: how many of these are below a mask.
 unfoldable pub classes_below : Shape → ℕ → ℕ → ℕ
 classes_below board count mask = count_below (is_representative board count) mask
 
@@ -39,7 +39,8 @@ unfoldable pub class_count : Shape → ℕ → ℕ
 class_count board count = classes_below board count (2 ^ board.points)
 
 -- What is kept of the sets of `count` points, on n points, whose rank is below `to`: at the rank of
--- each, its class and its symmetry; and the representatives among them, in the order of their classes.
+-- each, its class and its symmetry; and the representatives among them, in the order of their
+-- classes.
 pub record IsKept (board : Shape) (n count to : ℕ) (classes symmetries representatives : List ℕ) : Type 0 where
   pub classes_len : length classes ≡ to
   pub symmetries_len : length symmetries ≡ to

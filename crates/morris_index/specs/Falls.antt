@@ -19,8 +19,8 @@ pub record HasEntry (board : Shape) (n : ℕ) (c : Counts) (entry : ℕ) (s : Si
 abbrev pub taken_from : Shape → Sides → ℕ → Sides
 taken_from board p s = image_sides (board.image (inverse_of s)) p
 
--- Whether s is the symmetry that leads that position. Of the symmetries that take a position to p just
--- one is.
+-- Whether s is the symmetry that leads that position. Of the symmetries that take a position to p
+-- just one is.
 abbrev pub is_led_by : Shape → Sides → ℕ → Bool
 is_led_by board p s = nat_eq (symmetry_of board (taken_from board p s).own) s
 

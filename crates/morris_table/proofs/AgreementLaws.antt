@@ -550,8 +550,8 @@ stated_at board n points t s m index code index_is is =
 
 -- ---- an entry, by its position
 
--- where a position has an entry for its own, the entry agrees exactly where its code is the one that
--- the rules give this position
+-- where a position has an entry for its own, the entry agrees exactly where its code is the one
+-- that the rules give this position
 pub agrees_at : (board : Shape) → is_board board ≡ true → HasSymmetries board → (n : ℕ) → board.points ≡ n → (t : Table) → IsPair board.points t.pair
     → (s : Sides) → IsPosition board s → is_of t.pair s ≡ true → has_own_entry board t.layout s ≡ true
     → (i : ℕ) → entry_index board n t.layout t.pair s ≡ i → (code above : ℕ) (r : Bool) → r ≡ eqb code above → code ≡ get_or t.codes i 0

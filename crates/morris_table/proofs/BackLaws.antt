@@ -246,7 +246,8 @@ module _ (b : Shape) (small : b.points ≤ 24) (c : Counts) (pair : IsPair b.poi
             (leads-other s m l ∙ sym (leads-other s k r)) in
             alike m k points.0 points.1 l.quiet r.quiet
 
-    -- a move that led to q from the position with index j is one of the moves of that position, and the reverse
+    -- a move that led to q from the position with index j is one of the moves of that position, and
+    -- the reverse
     before_after : (j : ℕ) → 0 < count_by (is_from j) (all_before b q)
         → (s : Sides) × (m : Move) × IsIndexed b c j s × Contains (filter is_quiet (moves_of b s)) m × (is_to s m ≡ true)
     before_after j h =

@@ -31,7 +31,8 @@ some_between : (n : ℕ) (o : Option ℕ) → some_below (suc n) o ≡ true → 
 some_between n None h k = absurd (both_ways false refl h)
 some_between n (Some depth) h k = let e : depth ≡ n = omega (arith, ltb-true depth (suc n) h, ltb-false depth n k) in ap Some e
 
--- the least depth of a lost exit is 65,534 where an exit is lost in so many plies, and none in fewer
+-- the least depth of a lost exit is 65,534 where an exit is lost in so many plies, and none in
+-- fewer
 module _ (codes : List ℕ) where
   late_odd : (exits_of codes).least_lost ≡ Some 65534 → (code : ℕ) → Contains codes code → is_odd code ≡ true → 65535 ≤ code
   late_odd e code at odd =
@@ -174,7 +175,8 @@ module _ (board : Shape) (few : board.points ≤ 24) (c : Counts) (known : IsKno
       ]
     ]
 
-  -- the graph is too deep exactly where the values of the pair, or those that its captures lead to, are beyond codes of 16 bits
+  -- the graph is too deep exactly where the values of the pair, or those that its captures lead to,
+  -- are beyond codes of 16 bits
   pub too_deep_game : IsPair board.points c → IsTooDeep (pair_net board Full c) → IsBeyondCodes board c
   too_deep_game pair deep =
       let at = position_at board few c pair deep.0 (rw (size-pair_net board Full c) at deep.1) in

@@ -142,7 +142,8 @@ module _ (board : Shape) (t : Sides) where
     ]
   ]
 
-  -- what the code that a search up to 65,534 plies finds says in fewer than n plies is what the game says
+  -- what the code that a search up to 65,534 plies finds says in fewer than n plies is what the
+  -- game says
   abbrev IsSearched : ℕ → Type 0
   IsSearched n =
       (is_lost_exit n (code_to 65534 board t) ≡ lost_before n board t) × (is_won_exit n (code_to 65534 board t) ≡ won_before n board t)
@@ -175,7 +176,8 @@ module _ (board : Shape) (few : board.points ≤ 24) (l : Layout) (c : Counts) (
       (is_lost (pair_net board l c) n (entry_index board board.points l c s) ≡ lost_before n board s)
       × (is_won (pair_net board l c) n (entry_index board board.points l c s) ≡ won_before n board s)
 
-  -- the exits of the pair's nodes are lost, and won, where the positions are that the captures lead to
+  -- the exits of the pair's nodes are lost, and won, where the positions are that the captures lead
+  -- to
   abbrev ExitsAgree : ℕ → Type 0
   ExitsAgree n =
       (s : Sides) → IsPosition board s → is_of c s ≡ true → (m : Move) → Contains (moves_of board s) m → is_quiet m ≡ false → IsSearched board (result_of s m) n

@@ -40,7 +40,8 @@ module _ (n outside count rank : ℕ) (few : n ≤ 24) where
 
 -- ---- each index is that of a position
 
--- stones with given numbers, none of one player where the other has one, and with this index among those numbers
+-- stones with given numbers, none of one player where the other has one, and with this index among
+-- those numbers
 record IsIndexed (n a b index : ℕ) (s : Sides) : Type 0 where
   pub own_within : s.own < 2 ^ n
   pub other_within : s.other < 2 ^ n

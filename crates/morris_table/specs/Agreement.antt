@@ -44,8 +44,8 @@ unfoldable pub all_added : Exits → List ℕ → Exits
 all_added exits [] = exits
 all_added exits (code ∷ codes) = all_added (added exits code) codes
 
--- entry i is the code that the rules give the position that has it for its own, from the codes of its
--- results
+-- entry i is the code that the rules give the position that has it for its own, from the codes of
+-- its results
 abbrev pub Agrees : Shape → Table → ℕ → Type 0
 Agrees board t i =
     (s : Sides) → IsPosition board s → is_of t.pair s ≡ true → has_own_entry board t.layout s ≡ true

@@ -8,14 +8,15 @@ use Rattle.morris_index.specs.ClassPairs.{class_size_of, class_index_of}
 use Rattle.morris_table.specs.declared.layout.Layout.{Layout}
 use Rattle.morris_table.specs.declared.layout.Layout.TheVariants.{Full, Classes}
 
--- How many entries there are, on n points. Full: one for each position of the pair. Classes: for each
--- class of sets of the player to move, one for each set of the opponent beside its representative.
+-- How many entries there are, on n points. Full: one for each position of the pair. Classes: for
+-- each class of sets of the player to move, one for each set of the opponent beside its
+-- representative.
 abbrev pub entry_count : Shape → ℕ → Layout → Counts → ℕ
 entry_count board n Full c = size_of n c
 entry_count board n Classes c = class_size_of board n c
 
--- The index of the entry that tells a position's value. Full: the position's own. Classes: that of the
--- position to which it is led by the symmetry of the set of the player to move.
+-- The index of the entry that tells a position's value. Full: the position's own. Classes: that of
+-- the position to which it is led by the symmetry of the set of the player to move.
 abbrev pub entry_index : Shape → ℕ → Layout → Counts → Sides → ℕ
 entry_index board n Full c s = index_of n c s
 entry_index board n Classes c s = class_index_of board n c s

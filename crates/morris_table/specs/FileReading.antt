@@ -52,9 +52,9 @@ is_version version = nat_eq version 1 || nat_eq version 2
 abbrev pub layout_in : ℕ → Layout
 layout_in version = if nat_eq version 2 then Classes else Full
 
--- What table a header is of, in steps: it begins with NMMT; its version is known; the board is the one
--- that is asked for; the numbers of stones are those of a pair, the greater one first; and the board
--- has points for them.
+-- What table a header is of, in steps: it begins with NMMT; its version is known; the board is the
+-- one that is asked for; the numbers of stones are those of a pair, the greater one first; and the
+-- board has points for them.
 unfoldable pub kind_in : Shape → Header → Result (Layout × Counts) ReadFault
 kind_in board header =
     unless (bytes_eq header.magic magic) fault.Magic (
@@ -142,8 +142,8 @@ abbrev pub MayTakeRoom : Shape → Option (List ℕ) → Type 0
 MayTakeRoom board None = Unit {0}
 MayTakeRoom board (Some bytes) = (16 ≤ length bytes) × IsOk (roomless_in board (header_at (take 16 bytes)))
 
--- how many bytes stand after a header: two for each entry and 32 for the digest, and none after what
--- is refused as a header
+-- how many bytes stand after a header: two for each entry and 32 for the digest, and none after
+-- what is refused as a header
 abbrev pub body_length : Shape → Result (Layout × Counts) ReadFault → ℕ
 body_length board (Ok kind) = 2 * entry_count board board.points kind.0 kind.1 + 32
 body_length board (Err refusal) = 0

@@ -25,15 +25,15 @@ abbrev pub IsNeeded : Shape → Option Counts → Option Table → Type 0
 IsNeeded board None table = table ≡ None
 IsNeeded board (Some d) table = (t : Table) × (table ≡ Some t) × IsTableOf board d t
 
--- The graph of a pair has the tables of the two pairs that captures lead to: the one with one stone less in the lesser number, and the
--- one with one stone less in the greater number.
+-- The graph of a pair has the tables of the two pairs that captures lead to: the one with one stone
+-- less in the lesser number, and the one with one stone less in the greater number.
 pub record IsPairGraph (board : Shape) (c : Counts) (of_lesser of_greater : Option Table) : Type 0 where
   pub lawful : IsPair board.points c
   pub lesser : IsNeeded board (less_lesser c) of_lesser
   pub greater : IsNeeded board (less_greater c) of_greater
 
--- A position that a capture from the pair may lead to is of a pair that this one needs, or of no pair, since the player to move has two
--- stones.
+-- A position that a capture from the pair may lead to is of a pair that this one needs, or of no
+-- pair, since the player to move has two stones.
 abbrev pub IsLedTo : Counts → Sides → Type 0
 IsLedTo c s = IfSome (pair_of s) (λ d. Contains (needed c) d)
 

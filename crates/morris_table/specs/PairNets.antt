@@ -1,5 +1,5 @@
--- The graph of a pair in a layout: its nodes are the positions of the pair that have an entry of their
--- own, by the indices of these entries.
+-- The graph of a pair in a layout: its nodes are the positions of the pair that have an entry of
+-- their own, by the indices of these entries.
 use Rattle.std.specs.Prelude.{ℕ, ◌+◌, ◌-◌, ◌*◌, ◌/◌, ◌%◌, ◌^◌, Bool, not, ◌&&◌, nat_eq, nat_lt, nat_le, List, [], length, map, filter, is_none, if◌then◌else◌}
 use Rattle.std.specs.List.{range_with_len, list_all, flat_map}
 use Rattle.morris_board.specs.Sets.{has, members}
@@ -77,8 +77,9 @@ is_net g = nat_le g.size (2 ^ 40) && list_all (keeps_limits g) (range_with_len 0
 abbrev empty_net : Net
 empty_net = record { size = 0; quiet = λ i. []; exits = λ i. [] }
 
--- The graph of a level of a board, which is that of the pair and the layout with this number. Numbers of
--- no pair stand for a graph without nodes, and so would what isn't a graph, which no pair of a board is.
+-- The graph of a level of a board, which is that of the pair and the layout with this number.
+-- Numbers of no pair stand for a graph without nodes, and so would what isn't a graph, which no
+-- pair of a board is.
 unfoldable pub net_at : Shape → ℕ → Net
 net_at board level =
     let g = pair_net board (layout_at level) (counts_at level) in

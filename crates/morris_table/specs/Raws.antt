@@ -5,8 +5,8 @@ use Rattle.morris_index.specs.Pairs.{IsPair}
 use Rattle.morris_table.specs.Entries.{entry_count}
 use Rattle.morris_table.specs.Tables.{Table}
 
--- A raw table has one number of 16 bits for each entry of its pair in its layout. Nothing is said of
--- what the numbers are.
+-- A raw table has one number of 16 bits for each entry of its pair in its layout. Nothing is said
+-- of what the numbers are.
 pub record IsRaw (board : Shape) (t : Table) : Type 0 where
   pub lawful : IsPair board.points t.pair
   pub counted : length t.codes ≡ entry_count board board.points t.layout t.pair

@@ -18,8 +18,8 @@ pub record Table : Type 0 where
 abbrev pub table : Layout → Counts → List ℕ → Table
 table layout pair codes = record { layout = layout; pair = pair; codes = codes }
 
--- An exact table has one code for each entry of its pair in its layout, and the code at the entry of a
--- position of the pair says the position's value in the game.
+-- An exact table has one code for each entry of its pair in its layout, and the code at the entry
+-- of a position of the pair says the position's value in the game.
 pub record IsTable (board : Shape) (t : Table) : Type 0 where
   pub lawful : IsPair board.points t.pair
   pub counted : length t.codes ≡ entry_count board board.points t.layout t.pair

@@ -53,7 +53,8 @@ fn entry_after<B: Geometry>(
     ensures entry { result ≡ entry_index B.shape B.POINTS raw.now.layout raw.now.pair (result_of position.now (move from to None)) }
     ensures inside { result < entry_count B.shape B.POINTS raw.now.layout raw.now.pair }
 {
-    // The proof learns here that the stones are those of a position, and the table's those of a pair.
+    // The proof learns here that the stones are those of a position, and the table's those of a
+    // pair.
     let _ = position.own();
     let _ = raw.pair();
     successors.entry(from, to)

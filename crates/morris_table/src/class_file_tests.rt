@@ -1,5 +1,5 @@
-// Files of version 2 of the board `grid`: made from swept tables position by position, read, damaged
-// at each place, verified, and written again; and both layouts on one shelf.
+// Files of version 2 of the board `grid`: made from swept tables position by position, read,
+// damaged at each place, verified, and written again; and both layouts on one shelf.
 use crate::exact::Exact;
 use crate::file_faults::ReadFault;
 use crate::file_tests::{altered, file_of, refusal};

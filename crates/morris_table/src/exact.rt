@@ -18,11 +18,11 @@ use morris_index::pair::Pair;
 use std::alloc::{AllocError, Global};
 use std::marker::Model;
 
-/// The table of a pair: for each of its entries the code of the value that best play of both players
-/// leads to from the entry's position. In layout `Full` each position has an entry; in layout
-/// `Classes` a position has the value of the one to which it is led, since that is an image of it. A
-/// code is 0 for a draw and otherwise one more than the depth in plies. Depths of losses are even and
-/// those of wins odd, so an odd code is a loss and an even one above 0 a win.
+/// The table of a pair: for each of its entries the code of the value that best play of both
+/// players leads to from the entry's position. In layout `Full` each position has an entry; in
+/// layout `Classes` a position has the value of the one to which it is led, since that is an image
+/// of it. A code is 0 for a draw and otherwise one more than the depth in plies. Depths of losses
+/// are even and those of wins odd, so an odd code is a loss and an even one above 0 a win.
 #[derive(Drop)]
 pub struct Exact<B: Geometry> {
     numbering: Numbering<B>,

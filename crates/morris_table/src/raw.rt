@@ -18,8 +18,8 @@ use thiserror::Error;
 #[error("wrong number of entries")]
 pub struct Count;
 
-/// A pair in a layout with one code for each of its entries, such as a file states them. Any code may
-/// be wrong: [`Raw::verify`] makes an exact table of it where none is.
+/// A pair in a layout with one code for each of its entries, such as a file states them. Any code
+/// may be wrong: [`Raw::verify`] makes an exact table of it where none is.
 #[derive(Drop)]
 pub struct Raw<B: Geometry> {
     numbering: Numbering<B>,

@@ -22,10 +22,10 @@ const DIGEST: usize = 32;
 
 /// Reads a table from its file, after which the source has to end. The codes may be wrong.
 ///
-/// Version 1 is a table in layout `Full`, version 2 one in layout `Classes`. Bytes are read in pieces
-/// of several KiB. Memory is taken for the classes, in version 2, and for the codes, once the header
-/// is known to be right; only the number of entries by classes is compared after the classes are made.
-/// Fewer than `u64::MAX` calls of the source may have failed before.
+/// Version 1 is a table in layout `Full`, version 2 one in layout `Classes`. Bytes are read in
+/// pieces of several KiB. Memory is taken for the classes, in version 2, and for the codes, once
+/// the header is known to be right; only the number of entries by classes is compared after the
+/// classes are made. Fewer than `u64::MAX` calls of the source may have failed before.
 ///
 /// # Errors
 /// The first step that refuses decides, in the order of [`ReadFault`]: the source ends within the

@@ -31,8 +31,8 @@ pub enum VerifyFault<B: Geometry> {
 impl<B: Board> Raw<B> {
     /// The exact table with these codes, where each of them is that of its position in the game.
     /// Each entry is compared with those that the legal moves of its position lead to: those in
-    /// this table as they are stated, and those below from the shelf, in whichever layout they are. A
-    /// table in which all entries agree with theirs is exact. It takes no memory.
+    /// this table as they are stated, and those below from the shelf, in whichever layout they are.
+    /// A table in which all entries agree with theirs is exact. It takes no memory.
     ///
     /// # Errors
     /// The table as it was and `Needs` with the first of the pairs that the pair needs whose table

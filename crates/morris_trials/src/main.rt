@@ -3,12 +3,11 @@
 //! The program makes each call that takes memory by itself: it prints what the call answers, how it
 //! leaves what it works on, and what it answers then.
 //!
-//! The words of the command line are names of calls.
-//! `ci/refused_memory` runs this program once for each request for memory of each call, and has that
-//! request refused.
+//! The words of the command line are names of calls. `ci/refused_memory` runs this program once for
+//! each request for memory of each call, and has that request refused.
 //!
-//! Its functions have no clauses: what they print is compared by the gate, with the stored output and
-//! after each refusal, and no contract can say what a terminal takes.
+//! Its functions have no clauses: what they print is compared by the gate, with the stored output
+//! and after each refusal, and no contract can say what a terminal takes.
 #![tactic(auto)]
 
 mod engine;

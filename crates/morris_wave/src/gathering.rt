@@ -155,14 +155,15 @@ fn in_order<N: Levels>(
 
 /// The codes of all nodes, gathered from the blocks of a graph at a complete wave.
 ///
-/// A node's code is there if its depth is at most the wave; otherwise its entry is 0. Where all blocks
-/// are settled, these are the codes of all nodes, and the graph isn't too deep.
+/// A node's code is there if its depth is at most the wave; otherwise its entry is 0. Where all
+/// blocks are settled, these are the codes of all nodes, and the graph isn't too deep.
 ///
 /// # Errors
 ///
-/// Goes through the blocks in their order: `Foreign` with the place of a block of another level or cut,
-/// `Double` with a number that already came, `Missing` with the number of a block that isn't complete at
-/// the wave. Then `Missing` with the least number that didn't come, and `Memory` at last.
+/// Goes through the blocks in their order: `Foreign` with the place of a block of another level or
+/// cut, `Double` with a number that already came, `Missing` with the number of a block that isn't
+/// complete at the wave. Then `Missing` with the least number that didn't come, and `Memory` at
+/// last.
 pub fn gather<N: Levels>(
     alloc: Global,
     level: u64,
@@ -228,8 +229,8 @@ fn drained<N: Levels>(
     Ok(codes)
 }
 
-// The entries of all blocks, in the order of their numbers. Where the blocks stand in it, each is let
-// go once it was copied.
+// The entries of all blocks, in the order of their numbers. Where the blocks stand in it, each is
+// let go once it was copied.
 fn taken_in_order<N: Levels>(
     alloc: Global,
     level: u64,
@@ -255,8 +256,9 @@ fn taken_in_order<N: Levels>(
     }
 }
 
-/// The codes that `gather` gives. It takes the blocks, and where they stand in the order of their numbers
-/// it lets each go once its codes are copied, so that answer and blocks are never there as a whole.
+/// The codes that `gather` gives. It takes the blocks, and where they stand in the order of their
+/// numbers it lets each go once its codes are copied, so that answer and blocks are never there as
+/// a whole.
 ///
 /// # Errors
 ///

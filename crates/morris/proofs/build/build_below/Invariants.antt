@@ -6,7 +6,8 @@ use Rattle.morris_table.specs.Known.{IsBeyondCodes}
 use Rattle.morris.specs.Build.{HasExact}
 use Rattle.morris.proofs.build.build_below.Given as goal
 
--- the shelf has the tables of the pairs so far, codes suffice for these, and the iterator has the others
+-- the shelf has the tables of the pairs so far, codes suffice for these, and the iterator has the
+-- others
 abbrev pub invariant-loop-below : goal.invariant-loop-below
 invariant-loop-below g l = record {
   split : l.yielded ++ l.below-iterator ≡ below_of l.fn.pair;
