@@ -34,8 +34,8 @@ pub trait Geometry: Copy {
     const NAME: &'static str;
 
     /// How many symmetries the board has: the ways to lay it on itself, so that adjacent points come
-    /// to adjacent points and mills to mills. They are numbered from 0, and 0 leaves each point
-    /// where it is.
+    /// to adjacent points and mills to mills. There are at most 16. They are numbered from 0, and 0
+    /// leaves each point where it is.
     const SYMMETRIES: u8;
 
     /// The points that are adjacent to `point`, a point of the board.
@@ -84,6 +84,8 @@ pub trait Geometry: Copy {
     ghost file_id: { shape.id ≡ ID };
 
     ghost symmetry_count: { shape.symmetries ≡ SYMMETRIES };
+
+    ghost few_symmetries: { SYMMETRIES ≤ 16 };
 
     ghost has_symmetries: { HasSymmetries shape };
 }

@@ -121,6 +121,8 @@ impl Geometry for Grid {
 
     ghost symmetry_count = { symmetry_count-grid };
 
+    ghost few_symmetries = { Prim.omega arith };
+
     ghost has_symmetries = { symmetries-grid };
 }
 

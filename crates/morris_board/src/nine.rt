@@ -168,6 +168,8 @@ impl Geometry for Nine {
 
     ghost symmetry_count = { symmetry_count-nine };
 
+    ghost few_symmetries = { Prim.omega arith };
+
     ghost has_symmetries = { symmetries-nine };
 }
 
