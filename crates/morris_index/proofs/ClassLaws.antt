@@ -1,17 +1,18 @@
 -- Laws of classes: the symmetry and the representative of a set, and the numbers of the classes.
-use Rattle.std.proofs.Common.{◌≡◌, ℕ, zero, suc, ◌+◌, ◌-◌, ◌^◌, ◌<◌, ◌≤◌, Bool, true, false, leb, get_or, refl, sym, ap, ◌∙◌, inl, inr, subst, arith}
-use Rattle.std.proofs.lemmas.Bool.{cases_Bool, cases_eq, cases_lt, eq-eqb, eqb-true, le-leb, leb-true, and_parts, and_from, false_from_ne_true}
+use Rattle.std.proofs.Common.{◌≡◌, ℕ, zero, suc, ◌+◌, ◌-◌, ◌^◌, ◌<◌, ◌≤◌, Bool, true, false, ◌&&◌, eqb, leb, ltb, get_or, refl, sym, ap, ◌∙◌, inl, inr, ◌⊎◌, subst, arith}
+use Rattle.std.proofs.lemmas.Bool.{cases_Bool, cases_eq, cases_lt, eq-eqb, eqb-true, le-leb, leb-true, lt-ltb, ltb-true, and_parts, and_from, or_cases, or_right, both_ways, false_from_ne_true}
 use Rattle.std.proofs.lemmas.List.Sums.{position_or_len_is}
 use Rattle.std.proofs.lemmas.List.FromFn.{get_or-range_with_len, length-range_with_len}
 use Rattle.std.specs.List.{range_with_len, list_all}
 use Rattle.morris_board.specs.Boards.{Shape}
-use Rattle.morris_board.specs.Sets.{count_of}
+use Rattle.morris_board.specs.Sets.{has, count_of, with_point}
+use Rattle.morris_board.proofs.PointsLaws.{same_test, has-none, has-with}
 use Rattle.morris_board.specs.Symmetries.{image_of, inverse_of, HasSymmetries}
 use Rattle.morris_board.specs.SymmetryLaws.{below}
 use Rattle.morris_board.proofs.ImageLaws.{IsOneToOne, one_to_one, image_of-lt, count_of-image, image_of-then, image_of-unmoved}
 use Rattle.morris_board.proofs.ImageTables.{image_of-same}
 use Rattle.morris_index.specs.Numbering.{count_below}
-use Rattle.morris_index.specs.Classes.{is_leading, symmetry_of, representative_of, is_representative, classes_below, class_of}
+use Rattle.morris_index.specs.Classes.{is_leading, symmetry_of, representative_of, is_representative, classes_below, class_of, AreLeading}
 use Rattle.morris_index.proofs.RankLaws.{count-none, count-yes, count-no}
 
 -- ---- a test over a range
@@ -96,6 +97,96 @@ module _ (board : Shape) (set : ℕ) where
       let found = first_of_all (board.symmetries - 1) in
       let is = subst (λ n. IsFirst board n set found.0) e found.1 in
       subst (IsFirst board board.symmetries set) (sym (first_is found.0 is)) is
+
+-- ---- all symmetries that lead to the least image
+
+-- x has the symmetries below `count` that lead to the same image as s, and no other numbers
+pub record AreSame (board : Shape) (count set s x : ℕ) : Type 0 where
+  pub each : (t : ℕ) → has x t ≡ true → (t < count) × (image_of (board.image t) set ≡ image_of (board.image s) set)
+  pub all : (t : ℕ) → t < count → image_of (board.image t) set ≡ image_of (board.image s) set → has x t ≡ true
+
+pub more_is : (x p q : ℕ) → has (with_point x p) q ≡ true → (has x q ≡ true) ⊎ (q ≡ p)
+more_is x p q h = elim (or_cases (has x q) (eqb q p) (sym (has-with x p q) ∙ h)) [
+  | inl old ↦ inl old
+  | inr new ↦ inr (eqb-true q p new)
+]
+
+pub more_old : (x p q : ℕ) → has x q ≡ true → has (with_point x p) q ≡ true
+more_old x p q h = has-with x p q ∙ rw h refl
+
+pub more_new : (x p q : ℕ) → q ≡ p → has (with_point x p) q ≡ true
+more_new x p q e = has-with x p q ∙ or_right (has x q) (eqb q p) (eq-eqb q p e)
+
+only_is : (p q : ℕ) → has (with_point 0 p) q ≡ true → q ≡ p
+only_is p q h = elim (more_is 0 p q h) [
+  | inl old ↦ absurd (both_ways (has 0 q) (has-none q) old)
+  | inr e ↦ e
+]
+
+module _ (board : Shape) (set : ℕ) where
+  pub same_one : AreSame board 1 set 0 (with_point 0 0)
+  same_one = record {
+    each = λ t h. let e = only_is 0 t h in (omega (arith, e), ap (at board set) e);
+    all = λ t low h. more_new 0 0 t (omega arith);
+  }
+
+  -- a lesser image: its symmetry alone
+  pub same_new : (count s : ℕ) → IsFirst board count set s → at board set count < at board set s → AreSame board (count + 1) set count (with_point 0 count)
+  same_new count s first less = record {
+    each = λ t h. let e = only_is count t h in (omega (arith, e), ap (at board set) e);
+    all = λ t low h. elim (cases_eq t count) [
+      | inl e ↦ more_new 0 count t e
+      | inr d ↦ let l = first.least t (omega arith) in absurd (omega (arith, h, l, less))
+    ];
+  }
+
+  -- the same image: one symmetry more
+  pub same_more : (count s x : ℕ) → AreSame board count set s x → at board set count ≡ at board set s → AreSame board (count + 1) set s (with_point x count)
+  same_more count s x h same = record {
+    each = λ t y. elim (more_is x count t y) [
+      | inl old ↦ let r = h.each t old in (omega (arith, r.0), r.1)
+      | inr e ↦ (omega (arith, e), ap (at board set) e ∙ same)
+    ];
+    all = λ t low e. elim (cases_eq t count) [
+      | inl new ↦ more_new x count t new
+      | inr d ↦ more_old x count t (h.all t (omega arith) e)
+    ];
+  }
+
+  -- a greater image: no symmetry more
+  pub same_no : (count s x : ℕ) → AreSame board count set s x → at board set s < at board set count → AreSame board (count + 1) set s x
+  same_no count s x h less = record {
+    each = λ t y. let r = h.each t y in (omega (arith, r.0), r.1);
+    all = λ t low e. elim (cases_eq t count) [
+      | inl new ↦ absurd (omega (arith, less, e, ap (at board set) new))
+      | inr d ↦ h.all t (omega arith) e
+    ];
+  }
+
+  -- a symmetry that leads to the least image leads to the same image as the first that does
+  leads_same : (s t : ℕ) → IsFirst board board.symmetries set s → t < board.symmetries → is_leading board set t ≡ true → at board set t ≡ at board set s
+  unfolding is_leading
+  leads_same s t first low h =
+      omega (arith, first.least t low, leb-true (at board set t) (at board set s) (below (λ k. leb (at board set t) (at board set k)) board.symmetries h s first.within))
+
+  same_leads : (s t : ℕ) → IsFirst board board.symmetries set s → at board set t ≡ at board set s → is_leading board set t ≡ true
+  unfolding is_leading
+  same_leads s t first e =
+      all_range (λ u. leb (at board set t) (at board set u)) 0 board.symmetries (λ u low. le-leb _ _ (omega (arith, e, first.least u (omega arith))))
+
+  pub leading_set : (s x : ℕ) → IsFirst board board.symmetries set s → AreSame board board.symmetries set s x → AreLeading board set x
+  leading_set s x first h t =
+      same_test (has x t) (ltb t board.symmetries && is_leading board set t)
+      (λ y. let r = h.each t y in and_from _ _ (lt-ltb t board.symmetries r.0) (same_leads s t first r.1))
+      (λ y.
+      let parts = and_parts _ _ y in
+      let low : t < board.symmetries = ltb-true _ _ parts.0 in
+      h.all t low (leads_same s t first low parts.1))
+
+  -- so it leads to the representative
+  pub led_least : (t : ℕ) → t < board.symmetries → is_leading board set t ≡ true → image_of (board.image t) set ≡ representative_of board set
+  unfolding representative_of
+  led_least t low h = leads_same (symmetry_of board set) t (symmetry_first board set (omega arith)) low h
 
 -- ---- images of images
 

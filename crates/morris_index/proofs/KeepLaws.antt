@@ -1,5 +1,5 @@
 -- What is kept of the sets of a number of points, set by set in the order of their ranks.
-use Rattle.std.proofs.Common.{◌≡◌, ℕ, suc, ◌+◌, ◌-◌, ◌^◌, ◌<◌, ◌≤◌, true, List, [], ◌∷◌, ◌++◌, length, get_or, refl, sym, ap, ◌∙◌, inl, inr, subst, arith, length-append}
+use Rattle.std.proofs.Common.{◌≡◌, ℕ, suc, ◌+◌, ◌-◌, ◌^◌, ◌<◌, ◌≤◌, true, List, [], ◌∷◌, ◌++◌, length, get_or, refl, sym, ap, ap₂, ◌∙◌, inl, inr, subst, arith, length-append}
 use Rattle.std.proofs.lemmas.Bool.{cases_eq}
 use Rattle.std.proofs.lemmas.List.{get_or_append_left, get_or_push}
 use Rattle.morris_board.specs.Boards.{Shape}
@@ -8,11 +8,11 @@ use Rattle.morris_board.specs.Symmetries.{HasSymmetries}
 use Rattle.morris_board.proofs.PointsLaws.{has-none}
 use Rattle.morris_index.specs.Binomials.{choose}
 use Rattle.morris_index.specs.Numbering.{IsRanked}
-use Rattle.morris_index.specs.Classes.{symmetry_of, representative_of, is_representative, classes_below, class_of, class_count, IsKept, IsClasses}
+use Rattle.morris_index.specs.Classes.{symmetry_of, representative_of, is_representative, classes_below, class_of, class_count, AreLeading, IsKept, IsClasses}
 use Rattle.morris_index.proofs.BinomialTable.{choose_small}
 use Rattle.morris_index.proofs.IndexLaws.{number_outside-none, rank_outside-lt, rank_outside-same}
 use Rattle.morris_index.proofs.OrderLaws.{rank_at, rank_less, mask_less}
-use Rattle.morris_index.proofs.ClassLaws.{representative_within, representative_count, representative_le, class_of-representative, symmetry_within, representative_twice, test_parts, test_from, test_other, test_count, none_below, none_between, one_more, no_more, class_lt}
+use Rattle.morris_index.proofs.ClassLaws.{representative_within, representative_count, representative_le, class_of-representative, symmetry_within, representative_twice, test_parts, test_from, test_other, test_count, none_below, none_between, one_more, no_more, class_lt, class_alone}
 
 -- ---- ranked sets
 
@@ -55,13 +55,15 @@ module _ (board : Shape) (n count : ℕ) (low : n ≤ 24) (points : board.points
   on_board set h = subst (λ k. set < 2 ^ k) (sym points) h
 
   -- before the first set
-  pub kept-none : IsKept board n count 0 [] [] []
+  pub kept-none : IsKept board n count 0 [] [] [] []
   kept-none = record {
     classes_len = refl;
     symmetries_len = refl;
+    leading_len = refl;
     few = omega arith;
     class = λ r s h. absurd (omega arith);
     symmetry = λ r s h. absurd (omega arith);
+    leads = λ r s h. absurd (omega arith);
     listed = λ k h. absurd (omega arith);
     whole = λ mask le f g. none_below board count mask (λ s less. elim (cases_eq (count_of s) count) [
       | inl e ↦ absurd (omega (arith, f (rank_at s) s (ranked n count s (omega arith) e) less))
@@ -69,8 +71,8 @@ module _ (board : Shape) (n count : ℕ) (low : n ≤ 24) (points : board.points
     ]);
   }
 
-  module _ (rank set : ℕ) (here : IsRanked n 0 count rank set) (classes symmetries representatives : List ℕ)
-      (before : IsKept board n count rank classes symmetries representatives) where
+  module _ (rank set : ℕ) (here : IsRanked n 0 count rank set) (classes symmetries leading representatives : List ℕ)
+      (before : IsKept board n count rank classes symmetries leading representatives) where
     small : set < 2 ^ board.points
     small = on_board set here.within
 
@@ -103,12 +105,13 @@ module _ (board : Shape) (n count : ℕ) (low : n ≤ 24) (points : board.points
     other_class d = before.class (rank_at other) other (other_rank d) other_ranked ∙ class_of-representative board few y set small
 
     -- the lists with the entry of this set at their end
-    entered : (f : ℕ → ℕ) (list : List ℕ) (x : ℕ) → length list ≡ rank → x ≡ f set
-        → ((r s : ℕ) → r < rank → IsRanked n 0 count r s → get_or list r 0 ≡ f s)
-        → (r s : ℕ) → r < rank + 1 → IsRanked n 0 count r s → get_or (list ++ x ∷ []) r 0 ≡ f s
-    entered f list x len is old r s less h = elim (cases_eq r rank) [
-      | inl e ↦ get_or_push list x 0 r (len ∙ sym e) ∙ is ∙ ap f (sym (ranks_same n count low r rank s set h here e))
-      | inr d ↦ get_or_append_left list (x ∷ []) 0 r (omega arith) ∙ old r s (omega arith) h
+    entered : (is : ℕ → ℕ → Type 0) (list : List ℕ) (x : ℕ) → length list ≡ rank → is set x
+        → ((r s : ℕ) → r < rank → IsRanked n 0 count r s → is s (get_or list r 0))
+        → (r s : ℕ) → r < rank + 1 → IsRanked n 0 count r s → is s (get_or (list ++ x ∷ []) r 0)
+    entered is list x len new old r s less h = elim (cases_eq r rank) [
+      | inl e ↦
+          subst (is s) (sym (get_or_push list x 0 r (len ∙ sym e))) (subst (λ t. is t x) (sym (ranks_same n count low r rank s set h here e)) new)
+      | inr d ↦ subst (is s) (sym (get_or_append_left list (x ∷ []) 0 r (omega arith))) (old r s (omega arith) h)
     ]
 
     -- no set between this one and the next
@@ -128,16 +131,18 @@ module _ (board : Shape) (n count : ℕ) (low : n ≤ 24) (points : board.points
           | inr d ↦ test_count board count s d
         ])
 
-    module _ (symmetry : ℕ) (symmetry_is : symmetry ≡ symmetry_of board set) where
+    module _ (symmetry : ℕ) (symmetry_is : symmetry ≡ symmetry_of board set) (ways : ℕ) (ways_are : AreLeading board set ways) where
       -- the set is a representative
       pub kept-new : other ≡ set
-          → IsKept board n count (rank + 1) (classes ++ length representatives ∷ []) (symmetries ++ symmetry ∷ []) (representatives ++ set ∷ [])
+          → IsKept board n count (rank + 1) (classes ++ length representatives ∷ []) (symmetries ++ symmetry ∷ []) (leading ++ ways ∷ []) (representatives ++ set ∷ [])
       kept-new own = record {
         classes_len = omega (arith, before.classes_len, length-append classes (length representatives ∷ []));
         symmetries_len = omega (arith, before.symmetries_len, length-append symmetries (symmetry ∷ []));
+        leading_len = omega (arith, before.leading_len, length-append leading (ways ∷ []));
         few = omega (arith, before.few, length-append representatives (set ∷ []));
-        class = entered (class_of board) classes (length representatives) before.classes_len (own_class own) before.class;
-        symmetry = entered (symmetry_of board) symmetries symmetry before.symmetries_len symmetry_is before.symmetry;
+        class = entered (λ t x. x ≡ class_of board t) classes (length representatives) before.classes_len (own_class own) before.class;
+        symmetry = entered (λ t x. x ≡ symmetry_of board t) symmetries symmetry before.symmetries_len symmetry_is before.symmetry;
+        leads = entered (AreLeading board) leading ways before.leading_len ways_are before.leads;
         listed = λ k less. elim (cases_eq k (length representatives)) [
           | inl e ↦
               let at : get_or (representatives ++ set ∷ []) k 0 ≡ set = get_or_push representatives set 0 k (sym e) in
@@ -157,20 +162,22 @@ module _ (board : Shape) (n count : ℕ) (low : n ≤ 24) (points : board.points
 
       -- it isn't: its class is that of its representative
       pub kept-other : (other ≡ set → ⊥)
-          → IsKept board n count (rank + 1) (classes ++ get_or classes (rank_at other) 0 ∷ []) (symmetries ++ symmetry ∷ []) representatives
+          → IsKept board n count (rank + 1) (classes ++ get_or classes (rank_at other) 0 ∷ []) (symmetries ++ symmetry ∷ []) (leading ++ ways ∷ []) representatives
       kept-other d = record {
         classes_len = omega (arith, before.classes_len, length-append classes (get_or classes (rank_at other) 0 ∷ []));
         symmetries_len = omega (arith, before.symmetries_len, length-append symmetries (symmetry ∷ []));
+        leading_len = omega (arith, before.leading_len, length-append leading (ways ∷ []));
         few = omega (arith, before.few);
-        class = entered (class_of board) classes (get_or classes (rank_at other) 0) before.classes_len (other_class d) before.class;
-        symmetry = entered (symmetry_of board) symmetries symmetry before.symmetries_len symmetry_is before.symmetry;
+        class = entered (λ t x. x ≡ class_of board t) classes (get_or classes (rank_at other) 0) before.classes_len (other_class d) before.class;
+        symmetry = entered (λ t x. x ≡ symmetry_of board t) symmetries symmetry before.symmetries_len symmetry_is before.symmetry;
+        leads = entered (AreLeading board) leading ways before.leading_len ways_are before.leads;
         listed = before.listed;
         whole = λ mask le f g. beyond mask le f g ∙ no_more board count set (test_other board count set d) ∙ below_is;
       }
 
   -- ---- all sets
 
-  module _ (classes symmetries representatives : List ℕ) (all : IsClasses board n count classes symmetries representatives) where
+  module _ (classes symmetries leading representatives : List ℕ) (all : IsClasses board n count classes symmetries leading representatives) where
     pub class_count-is : class_count board count ≡ length representatives
     unfolding class_count
     class_count-is =
@@ -193,6 +200,9 @@ module _ (board : Shape) (n count : ℕ) (low : n ≤ 24) (points : board.points
       pub symmetry_at : get_or symmetries (rank_at set) 0 ≡ symmetry_of board set
       symmetry_at = all.kept.symmetry (rank_at set) set rank_in here
 
+      pub leads_at : AreLeading board set (get_or leading (rank_at set) 0)
+      leads_at = all.kept.leads (rank_at set) set rank_in here
+
       pub symmetry_lt : symmetry_of board set < board.symmetries
       symmetry_lt = symmetry_within board few y set (on_board set within)
 
@@ -204,6 +214,16 @@ module _ (board : Shape) (n count : ℕ) (low : n ≤ 24) (points : board.points
           (class_lt board count (representative_of board set) (2 ^ board.points)
           (test_from board count (representative_of board set) (representative_twice board few y set small) (representative_count board few y set small ∙ counted))
           (representative_within board few y set small))
+
+      -- the representative of its class is the one that is listed
+      pub representative_alone : (r : ℕ) → representative_of board r ≡ r → count_of r ≡ count → class_of board r ≡ class_of board set → r ≡ representative_of board set
+      unfolding class_of
+      representative_alone r own r_count same =
+          let small = on_board set within in
+          class_alone board count r (representative_of board set)
+          (test_from board count r own r_count)
+          (test_from board count (representative_of board set) (representative_twice board few y set small) (representative_count board few y set small ∙ counted))
+          (ap₂ (classes_below board) (sym r_count) (sym own) ∙ same ∙ ap (λ k. classes_below board k (representative_of board set)) counted)
 
     module _ (class : ℕ) (low_class : class < class_count board count) where
       abbrev found : ℕ

@@ -16,5 +16,6 @@ pub mod ClassLaws
 pub mod KeepLaws
 pub mod ClassPairLaws
 pub mod ClassMoveLaws
+mod CarriedLaws
 pub mod ClassCounts
 pub mod FallLaws

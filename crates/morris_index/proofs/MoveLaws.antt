@@ -101,7 +101,7 @@ index-parts n c p = elim (cases_eq (count_of p.own) c.greater) [
 
 module _ (n : ℕ) (low : n ≤ 24) (c : Counts) (s : Sides) (placed : IsPlaced n s) (own_few : count_of s.own ≤ 9) (other_few : count_of s.other ≤ 9) (u v : ℕ)
     (u_in : u < n) (free_own : has s.own u ≡ false) (free_other : has s.other u ≡ false) (here : has s.other v ≡ true) where
-  before_count : count_of (taken_back s u v).own ≡ count_of s.other
+  pub before_count : count_of (taken_back s u v).own ≡ count_of s.other
   before_count = count_of-moved s.other u v n placed.other_within (omega arith) free_other here u_in
 
   pub before_placed : IsPlaced n (taken_back s u v)

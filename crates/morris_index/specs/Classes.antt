@@ -1,9 +1,9 @@
 -- Classes of sets of points. The class of a set is the set of its images under the symmetries of
 -- the board.
-use Rattle.std.specs.Prelude.{◌≡◌, ℕ, ◌^◌, ◌<◌, ◌≤◌, Bool, true, ◌&&◌, nat_eq, nat_le, List, length, slice_index}
+use Rattle.std.specs.Prelude.{◌≡◌, ℕ, ◌^◌, ◌<◌, ◌≤◌, Bool, true, ◌&&◌, nat_eq, nat_lt, nat_le, List, length, slice_index}
 use Rattle.std.specs.List.{range_with_len, list_all, position_or_len}
 use Rattle.morris_board.specs.Boards.{Shape}
-use Rattle.morris_board.specs.Sets.{count_of}
+use Rattle.morris_board.specs.Sets.{has, count_of}
 use Rattle.morris_board.specs.Symmetries.{image_of}
 use Rattle.morris_index.specs.Binomials.{choose}
 use Rattle.morris_index.specs.Numbering.{count_below, IsRanked}
@@ -12,6 +12,10 @@ use Rattle.morris_index.specs.Numbering.{count_below, IsRanked}
 unfoldable pub is_leading : Shape → ℕ → ℕ → Bool
 is_leading board set s =
     list_all (λ t. nat_le (image_of (board.image s) set) (image_of (board.image t) set)) (range_with_len 0 board.symmetries)
+
+-- x has the symmetries that lead a set to its image with the least mask, and no other numbers
+abbrev pub AreLeading : Shape → ℕ → ℕ → Type 0
+AreLeading board set x = (s : ℕ) → has x s ≡ (nat_lt s board.symmetries && is_leading board set s)
 
 -- the least symmetry that leads a set to its image with the least mask
 unfoldable pub symmetry_of : Shape → ℕ → ℕ
@@ -39,14 +43,16 @@ unfoldable pub class_count : Shape → ℕ → ℕ
 class_count board count = classes_below board count (2 ^ board.points)
 
 -- What is kept of the sets of `count` points, on n points, whose rank is below `to`: at the rank of
--- each, its class and its symmetry; and the representatives among them, in the order of their
--- classes.
-pub record IsKept (board : Shape) (n count to : ℕ) (classes symmetries representatives : List ℕ) : Type 0 where
+-- each, its class, its symmetry and all symmetries that lead it; and the representatives among
+-- them, in the order of their classes.
+pub record IsKept (board : Shape) (n count to : ℕ) (classes symmetries leading representatives : List ℕ) : Type 0 where
   pub classes_len : length classes ≡ to
   pub symmetries_len : length symmetries ≡ to
+  pub leading_len : length leading ≡ to
   pub few : length representatives ≤ to
   pub class : (rank set : ℕ) → rank < to → IsRanked n 0 count rank set → slice_index classes rank ≡ class_of board set
   pub symmetry : (rank set : ℕ) → rank < to → IsRanked n 0 count rank set → slice_index symmetries rank ≡ symmetry_of board set
+  pub leads : (rank set : ℕ) → rank < to → IsRanked n 0 count rank set → AreLeading board set (slice_index leading rank)
   pub listed : (k : ℕ) → k < length representatives
       → (is_representative board count (slice_index representatives k) ≡ true) × (slice_index representatives k < 2 ^ n)
       × (classes_below board count (slice_index representatives k) ≡ k)
@@ -56,7 +62,7 @@ pub record IsKept (board : Shape) (n count to : ℕ) (classes symmetries represe
       → classes_below board count mask ≡ length representatives
 
 -- the same of all sets of `count` points
-pub record IsClasses (board : Shape) (n count : ℕ) (classes symmetries representatives : List ℕ) : Type 0 where
+pub record IsClasses (board : Shape) (n count : ℕ) (classes symmetries leading representatives : List ℕ) : Type 0 where
   pub few : count ≤ 9
   pub fits : count ≤ n
-  pub kept : IsKept board n count (choose n count) classes symmetries representatives
+  pub kept : IsKept board n count (choose n count) classes symmetries leading representatives

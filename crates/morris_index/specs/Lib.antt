@@ -7,3 +7,4 @@ pub mod Classes
 pub mod ClassPairs
 pub mod ClassMoves
 pub mod Falls
+pub mod Carried

@@ -3,7 +3,7 @@
 ghost use Rattle.std.specs.Prelude.{◌≡◌, ◌<◌, ◌≤◌, ◌^◌, true};
 ghost use Rattle.morris_board.specs.Sets.{count_of};
 ghost use Rattle.morris_board.specs.Positions.{Sides, IsPosition};
-ghost use Rattle.morris_index.specs.Classes.{symmetry_of, class_of};
+ghost use Rattle.morris_index.specs.Classes.{symmetry_of, representative_of, class_of, AreLeading};
 ghost use Rattle.morris_index.specs.ClassPairs.{led, class_half_size, class_half_index};
 ghost use Rattle.morris_index.specs.ClassMoves.{class_half_start};
 ghost use Rattle.morris_index.specs.Pairs.{has_counts, IsHalf};
@@ -58,6 +58,25 @@ pub(crate) fn class_half_start<B: Geometry>(
     let (class, symmetry) = classes.class_of(own);
     let choices = binomial(B::POINTS - own.count(), other);
     (u64::from(class) * choices, symmetry)
+}
+
+/// The same number of an entry, the representative, and all symmetries that lead `own` there.
+pub(crate) fn class_half_leads<B: Geometry>(
+    classes: &Classes<B>,
+    own: Points,
+    other: u8,
+) -> (u64, Points, Points)
+    requires classes { classes.now ≡ count_of own }
+    requires within { own < 2 ^ B.POINTS }
+    requires most { other ≤ 9 }
+    ensures start { result.0 ≡ class_half_start B.shape B.POINTS own other }
+    ensures representative { result.1 ≡ representative_of B.shape own }
+    ensures symmetries { AreLeading B.shape own result.2 }
+    ensures few { result.0 < 2 ^ 53 }
+{
+    let (class, representative, symmetries) = classes.leads_of(own);
+    let choices = binomial(B::POINTS - own.count(), other);
+    (u64::from(class) * choices, representative, symmetries)
 }
 
 /// The position of the entry with this number among those with `own` stones of the player to move

@@ -4,13 +4,13 @@ ghost use Rattle.std.specs.List.{AllPairs, Contains};
 ghost use Rattle.morris_board.specs.Sets.{count_of};
 ghost use Rattle.morris_board.specs.Positions.{Sides, sides, IsPosition};
 ghost use Rattle.morris_index.specs.Pairs.{IsPair, is_of};
-ghost use Rattle.morris_index.specs.Classes.{symmetry_of};
+ghost use Rattle.morris_index.specs.Classes.{symmetry_of, representative_of, AreLeading};
 ghost use Rattle.morris_index.specs.ClassPairs.{led, class_size_of, class_index_of};
 ghost use Rattle.morris_index.specs.ClassMoves.{class_start_of};
 ghost use Rattle.morris_index.specs.Falls.{HasEntry};
 
 use crate::class_halves::{
-    class_half_index, class_half_position, class_half_size, class_half_start,
+    class_half_index, class_half_leads, class_half_position, class_half_size, class_half_start,
 };
 use crate::classes::Classes;
 use crate::falls::FallsOn;
@@ -115,6 +115,29 @@ impl<B: Geometry> ClassPair<B> {
             let first = class_half_size(&self.greater, greater, self.pair.lesser());
             let (start, symmetry) = class_half_start(&self.lesser, own, other.count());
             (first + start, symmetry)
+        }
+    }
+
+    /// The same first entry, the representative, and all symmetries that lead `own` there.
+    pub(crate) fn leads_of(&self, own: Points, other: Points) -> (u64, Points, Points)
+        requires within { own < 2 ^ B.POINTS }
+        requires counts { is_of self.now (sides own other) ≡ true }
+        ensures start { result.0 ≡ class_start_of B.shape B.POINTS self.now own (count_of other) }
+        ensures representative { result.1 ≡ representative_of B.shape own }
+        ensures symmetries { AreLeading B.shape own result.2 }
+        ensures few { result.0 ≤ 2 ^ 54 }
+    {
+        let greater = self.pair.greater();
+        if own.count() == greater {
+            class_half_leads(&self.greater, own, other.count())
+        } else {
+            let first = class_half_size(&self.greater, greater, self.pair.lesser());
+            let (start, representative, symmetries) = class_half_leads(
+                &self.lesser,
+                own,
+                other.count(),
+            );
+            (first + start, representative, symmetries)
         }
     }
 

@@ -12,6 +12,9 @@ pub mod falls;
 pub mod faults;
 mod halves;
 pub mod pair;
+pub mod predecessor_entries;
+#[cfg(test)]
+mod predecessor_entries_tests;
 pub mod predecessors;
 mod ranks;
 pub mod successor_entries;

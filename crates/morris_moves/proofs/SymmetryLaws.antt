@@ -163,7 +163,7 @@ module _ (b : Shape) (few : b.points ≤ 24) (f back : ℕ → ℕ) (y : IsSymme
     unfolding result_of
     result_of-image m low high taken = rw (left_of-image m.taken taken, moved-image s.own m.from m.to h.own_within low high) refl
 
-    taken_within : (m : Move) → IsLegalMove b s m → (r : ℕ) → m.taken ≡ Some r → r < b.points
+    pub taken_within : (m : Move) → IsLegalMove b s m → (r : ℕ) → m.taken ≡ Some r → r < b.points
     taken_within m l r e = point_lt s.other b.points r h.other_within (l.taken_other r e)
 
     -- the image of a legal move is a legal move of the image, and its result is the image of the

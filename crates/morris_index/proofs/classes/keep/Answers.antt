@@ -19,7 +19,7 @@ pub rank-requires-clause-board : goal.rank-requires-clause-board
 rank-requires-clause-board g c =
     rw c.least_image-least.ensures.image
     (within_24 _ g.B.Geometry.POINTS (other_within g.B.Geometry.shape g.B.Geometry.POINTS c.args.count (omega (arith, g.met.B.Geometry.few)) g.met.B.Geometry.point_count g.met.B.Geometry.has_symmetries
-    c.args.rank c.args.set c.requires.ranked c.args.kept.now.classes.items c.args.kept.now.symmetries.items c.args.kept.now.representatives.items c.requires.before) (omega (arith, g.met.B.Geometry.few)))
+    c.args.rank c.args.set c.requires.ranked c.args.kept.now.classes.items c.args.kept.now.symmetries.items c.args.kept.now.leading.items c.args.kept.now.representatives.items c.requires.before) (omega (arith, g.met.B.Geometry.few)))
 
 pub rank-requires-clause-few : goal.rank-requires-clause-few
 rank-requires-clause-few g c =
@@ -28,7 +28,7 @@ rank-requires-clause-few g c =
       arith,
       c.requires.few,
       (other_ranked g.B.Geometry.shape g.B.Geometry.POINTS c.args.count (omega (arith, g.met.B.Geometry.few)) g.met.B.Geometry.point_count g.met.B.Geometry.has_symmetries
-          c.args.rank c.args.set c.requires.ranked c.args.kept.now.classes.items c.args.kept.now.symmetries.items c.args.kept.now.representatives.items c.requires.before).counted,
+          c.args.rank c.args.set c.requires.ranked c.args.kept.now.classes.items c.args.kept.now.symmetries.items c.args.kept.now.leading.items c.args.kept.now.representatives.items c.requires.before).counted,
     ))
 
 pub index-requires : goal.index-requires
@@ -36,7 +36,7 @@ index-requires g c =
     let differ : representative_of g.B.Geometry.shape c.args.set ≡ c.args.set → ⊥ =
     λ e. c.if-mask.false (c.mask.ensures ∙ c.least_image-least.ensures.image ∙ e ∙ sym c.mask-2.ensures) in
     let low = other_rank g.B.Geometry.shape g.B.Geometry.POINTS c.args.count (omega (arith, g.met.B.Geometry.few)) g.met.B.Geometry.point_count g.met.B.Geometry.has_symmetries
-    c.args.rank c.args.set c.requires.ranked c.args.kept.now.classes.items c.args.kept.now.symmetries.items c.args.kept.now.representatives.items c.requires.before differ in
+    c.args.rank c.args.set c.requires.ranked c.args.kept.now.classes.items c.args.kept.now.symmetries.items c.args.kept.now.leading.items c.args.kept.now.representatives.items c.requires.before differ in
     let at : c.rank.result ≡ rank_at (representative_of g.B.Geometry.shape c.args.set) = c.rank.ensures ∙ ap rank_at c.least_image-least.ensures.image in
     omega (arith, low, at, c.requires.before.classes_len)
 
@@ -46,21 +46,21 @@ returns g c = elim c.if-mask.branch [
       let own : representative_of g.B.Geometry.shape c.args.set ≡ c.args.set =
       sym c.least_image-least.ensures.image ∙ sym c.mask.ensures ∙ w.if-mask.true ∙ c.mask-2.ensures in
       let next : w.len-next.result ≡ length c.args.kept.now.representatives.items = omega (arith, w.len-next.ensures) in
-      rw (c.in_ok-push-2.ensures.items, c.in_ok-push-3.ensures.items, w.kept-is, w.class-is, next, w.in_ok-push.ensures.items, w.mask-then-mask.ensures)
+      rw (c.in_ok-push-2.ensures.items, c.in_ok-push-3.ensures.items, c.in_ok-push-4.ensures.items, w.kept-is, w.class-is, next, w.in_ok-push.ensures.items, w.mask-then-mask.ensures)
       (kept-new g.B.Geometry.shape g.B.Geometry.POINTS c.args.count (omega (arith, g.met.B.Geometry.few)) g.met.B.Geometry.point_count g.met.B.Geometry.has_symmetries
-      c.args.rank c.args.set c.requires.ranked c.args.kept.now.classes.items c.args.kept.now.symmetries.items c.args.kept.now.representatives.items c.requires.before c.least_image-least.result.1 c.least_image-least.ensures.symmetry own)
+      c.args.rank c.args.set c.requires.ranked c.args.kept.now.classes.items c.args.kept.now.symmetries.items c.args.kept.now.leading.items c.args.kept.now.representatives.items c.requires.before c.least_image-least.result.1 c.least_image-least.ensures.symmetry c.mask-3.result (rw c.mask-3.ensures c.least_image-least.ensures.leading) own)
   | else-mask w ↦
       let differ : representative_of g.B.Geometry.shape c.args.set ≡ c.args.set → ⊥ =
       λ e. w.if-mask.false (c.mask.ensures ∙ c.least_image-least.ensures.image ∙ e ∙ sym c.mask-2.ensures) in
       let low = other_rank g.B.Geometry.shape g.B.Geometry.POINTS c.args.count (omega (arith, g.met.B.Geometry.few)) g.met.B.Geometry.point_count g.met.B.Geometry.has_symmetries
-      c.args.rank c.args.set c.requires.ranked c.args.kept.now.classes.items c.args.kept.now.symmetries.items c.args.kept.now.representatives.items c.requires.before differ in
+      c.args.rank c.args.set c.requires.ranked c.args.kept.now.classes.items c.args.kept.now.symmetries.items c.args.kept.now.leading.items c.args.kept.now.representatives.items c.requires.before differ in
       let at : w.rank.result ≡ rank_at (representative_of g.B.Geometry.shape c.args.set) = w.rank.ensures ∙ ap rank_at c.least_image-least.ensures.image in
       let under : w.rank.result < length c.args.kept.now.classes.items = omega (arith, low, at, c.requires.before.classes_len) in
       let class : w.index.result.now ≡ get_or c.args.kept.now.classes.items (rank_at (representative_of g.B.Geometry.shape c.args.set)) 0 =
       w.index.ensures
       ∙ get_or_default_zero c.args.kept.now.classes.items w.rank.result _ under
       ∙ ap (λ r. get_or c.args.kept.now.classes.items r 0) at in
-      rw (c.in_ok-push-2.ensures.items, c.in_ok-push-3.ensures.items, w.kept-is, w.class-is, class)
+      rw (c.in_ok-push-2.ensures.items, c.in_ok-push-3.ensures.items, c.in_ok-push-4.ensures.items, w.kept-is, w.class-is, class)
       (kept-other g.B.Geometry.shape g.B.Geometry.POINTS c.args.count (omega (arith, g.met.B.Geometry.few)) g.met.B.Geometry.point_count g.met.B.Geometry.has_symmetries
-      c.args.rank c.args.set c.requires.ranked c.args.kept.now.classes.items c.args.kept.now.symmetries.items c.args.kept.now.representatives.items c.requires.before c.least_image-least.result.1 c.least_image-least.ensures.symmetry differ)
+      c.args.rank c.args.set c.requires.ranked c.args.kept.now.classes.items c.args.kept.now.symmetries.items c.args.kept.now.leading.items c.args.kept.now.representatives.items c.requires.before c.least_image-least.result.1 c.least_image-least.ensures.symmetry c.mask-3.result (rw c.mask-3.ensures c.least_image-least.ensures.leading) differ)
 ]

@@ -14,44 +14,44 @@ rank-rank-requires-clause-few g c = omega (arith, c.requires.count, c.self.view_
 pub index-requires : goal.index-requires
 index-requires g c =
     let low = rank_in g.B.Geometry.shape g.B.Geometry.POINTS c.self.inside.count (omega (arith, g.met.B.Geometry.few)) g.met.B.Geometry.point_count g.met.B.Geometry.has_symmetries
-    c.self.inside.kept.classes.items c.self.inside.kept.symmetries.items c.self.inside.kept.representatives.items c.self.invariant c.args.set c.requires.within (c.requires.count ∙ sym c.self.view_is) in
+    c.self.inside.kept.classes.items c.self.inside.kept.symmetries.items c.self.inside.kept.leading.items c.self.inside.kept.representatives.items c.self.invariant c.args.set c.requires.within (c.requires.count ∙ sym c.self.view_is) in
     omega (arith, low, c.rank-rank.ensures, c.self.invariant.kept.classes_len)
 
 pub index-requires-2 : goal.index-requires-2
 index-requires-2 g c =
     let low = rank_in g.B.Geometry.shape g.B.Geometry.POINTS c.self.inside.count (omega (arith, g.met.B.Geometry.few)) g.met.B.Geometry.point_count g.met.B.Geometry.has_symmetries
-    c.self.inside.kept.classes.items c.self.inside.kept.symmetries.items c.self.inside.kept.representatives.items c.self.invariant c.args.set c.requires.within (c.requires.count ∙ sym c.self.view_is) in
+    c.self.inside.kept.classes.items c.self.inside.kept.symmetries.items c.self.inside.kept.leading.items c.self.inside.kept.representatives.items c.self.invariant c.args.set c.requires.within (c.requires.count ∙ sym c.self.view_is) in
     omega (arith, low, c.rank-rank.ensures, c.self.invariant.kept.symmetries_len)
 
 pub returns-clause-class : goal.returns-clause-class
 returns-clause-class g c =
     let counted : count_of c.args.set ≡ c.self.inside.count = c.requires.count ∙ sym c.self.view_is in
     let low = rank_in g.B.Geometry.shape g.B.Geometry.POINTS c.self.inside.count (omega (arith, g.met.B.Geometry.few)) g.met.B.Geometry.point_count g.met.B.Geometry.has_symmetries
-    c.self.inside.kept.classes.items c.self.inside.kept.symmetries.items c.self.inside.kept.representatives.items c.self.invariant c.args.set c.requires.within counted in
+    c.self.inside.kept.classes.items c.self.inside.kept.symmetries.items c.self.inside.kept.leading.items c.self.inside.kept.representatives.items c.self.invariant c.args.set c.requires.within counted in
     let under : c.rank-rank.result < length c.self.inside.kept.classes.items = omega (arith, low, c.rank-rank.ensures, c.self.invariant.kept.classes_len) in
     c.index.ensures
     ∙ get_or_default_zero c.self.inside.kept.classes.items c.rank-rank.result _ under
     ∙ ap (λ r. get_or c.self.inside.kept.classes.items r 0) c.rank-rank.ensures
     ∙ class_at g.B.Geometry.shape g.B.Geometry.POINTS c.self.inside.count (omega (arith, g.met.B.Geometry.few)) g.met.B.Geometry.point_count g.met.B.Geometry.has_symmetries
-    c.self.inside.kept.classes.items c.self.inside.kept.symmetries.items c.self.inside.kept.representatives.items c.self.invariant c.args.set c.requires.within counted
+    c.self.inside.kept.classes.items c.self.inside.kept.symmetries.items c.self.inside.kept.leading.items c.self.inside.kept.representatives.items c.self.invariant c.args.set c.requires.within counted
 
 pub returns-clause-below : goal.returns-clause-below
 returns-clause-below g c =
     let counted : count_of c.args.set ≡ c.self.inside.count = c.requires.count ∙ sym c.self.view_is in
     rw (returns-clause-class g c, ← c.self.view_is) (class_of-lt g.B.Geometry.shape g.B.Geometry.POINTS c.self.inside.count (omega (arith, g.met.B.Geometry.few)) g.met.B.Geometry.point_count g.met.B.Geometry.has_symmetries
-    c.self.inside.kept.classes.items c.self.inside.kept.symmetries.items c.self.inside.kept.representatives.items c.self.invariant c.args.set c.requires.within counted)
+    c.self.inside.kept.classes.items c.self.inside.kept.symmetries.items c.self.inside.kept.leading.items c.self.inside.kept.representatives.items c.self.invariant c.args.set c.requires.within counted)
 
 pub returns-clause-symmetry : goal.returns-clause-symmetry
 returns-clause-symmetry g c =
     let counted : count_of c.args.set ≡ c.self.inside.count = c.requires.count ∙ sym c.self.view_is in
     let low = rank_in g.B.Geometry.shape g.B.Geometry.POINTS c.self.inside.count (omega (arith, g.met.B.Geometry.few)) g.met.B.Geometry.point_count g.met.B.Geometry.has_symmetries
-    c.self.inside.kept.classes.items c.self.inside.kept.symmetries.items c.self.inside.kept.representatives.items c.self.invariant c.args.set c.requires.within counted in
+    c.self.inside.kept.classes.items c.self.inside.kept.symmetries.items c.self.inside.kept.leading.items c.self.inside.kept.representatives.items c.self.invariant c.args.set c.requires.within counted in
     let under : c.rank-rank.result < length c.self.inside.kept.symmetries.items = omega (arith, low, c.rank-rank.ensures, c.self.invariant.kept.symmetries_len) in
     c.index-2.ensures
     ∙ get_or_default_zero c.self.inside.kept.symmetries.items c.rank-rank.result _ under
     ∙ ap (λ r. get_or c.self.inside.kept.symmetries.items r 0) c.rank-rank.ensures
     ∙ symmetry_at g.B.Geometry.shape g.B.Geometry.POINTS c.self.inside.count (omega (arith, g.met.B.Geometry.few)) g.met.B.Geometry.point_count g.met.B.Geometry.has_symmetries
-    c.self.inside.kept.classes.items c.self.inside.kept.symmetries.items c.self.inside.kept.representatives.items c.self.invariant c.args.set c.requires.within counted
+    c.self.inside.kept.classes.items c.self.inside.kept.symmetries.items c.self.inside.kept.leading.items c.self.inside.kept.representatives.items c.self.invariant c.args.set c.requires.within counted
 
 pub returns-clause-one : goal.returns-clause-one
 returns-clause-one g c =
@@ -61,5 +61,5 @@ returns-clause-one g c =
       returns-clause-symmetry g c,
       g.met.B.Geometry.symmetry_count,
       symmetry_lt g.B.Geometry.shape g.B.Geometry.POINTS c.self.inside.count (omega (arith, g.met.B.Geometry.few)) g.met.B.Geometry.point_count g.met.B.Geometry.has_symmetries
-          c.self.inside.kept.classes.items c.self.inside.kept.symmetries.items c.self.inside.kept.representatives.items c.self.invariant c.args.set c.requires.within counted,
+          c.self.inside.kept.classes.items c.self.inside.kept.symmetries.items c.self.inside.kept.leading.items c.self.inside.kept.representatives.items c.self.invariant c.args.set c.requires.within counted,
     )

@@ -6,7 +6,7 @@ use Rattle.morris_index.proofs.classes.Classes.make.Goals as goal
 
 pub loop-index-init : goal.loop-index-init
 loop-index-init g c =
-    rw (c.in_ok-with_capacity.ensures.items, c.in_ok-with_capacity-2.ensures.items, c.new.ensures.items)
+    rw (c.in_ok-with_capacity.ensures.items, c.in_ok-with_capacity-2.ensures.items, c.in_ok-with_capacity-3.ensures.items, c.new.ensures.items)
     (kept-none g.B.Geometry.shape g.B.Geometry.POINTS c.args.count (omega (arith, g.met.B.Geometry.few)) g.met.B.Geometry.point_count g.met.B.Geometry.has_symmetries)
 
 pub unrank-set-requires-clause-small : goal.unrank-set-requires-clause-small

@@ -1,0 +1,238 @@
+-- The moves that a move is carried to: the entries from which they lead, symmetry by symmetry.
+use Rattle.std.proofs.Common.{◌≡◌, ◌≢◌, ℕ, zero, suc, ◌+◌, ◌-◌, ◌^◌, ◌<◌, ◌≤◌, Bool, true, false, not, ◌&&◌, ◌||◌, eqb, ltb, List, [], ◌∷◌, ◌++◌, map, filter, slice_index, refl, sym, ◌∙◌, ap, ap₂, subst, inl, inr, arith, append_assoc}
+use Rattle.std.specs.List.{range_with_len, list_all}
+use Rattle.std.proofs.lemmas.Bool.{cases_Bool, cases_eq, cases_lt, eq-eqb, ne_eqb, lt-ltb, le-ltb, ltb-true, and_parts, and_from, and_right}
+use Rattle.std.proofs.lemmas.List.{map-append}
+use Rattle.std.proofs.lemmas.List.Folds.{list_all-append}
+use Rattle.morris_board.specs.Boards.{Shape}
+use Rattle.morris_board.specs.Sets.{has, members, count_of, with_point}
+use Rattle.morris_board.specs.Positions.{Sides, IsApart}
+use Rattle.morris_board.specs.Symmetries.{image_of, image_sides, inverse_of, HasSymmetries}
+use Rattle.morris_board.proofs.PointsLaws.{has-none, has-with, all_members}
+use Rattle.morris_board.proofs.ImageLaws.{IsOneToOne, one_to_one, IsApart-image, count_of-image}
+use Rattle.morris_index.specs.Numbering.{rank_of, number_outside}
+use Rattle.morris_index.specs.Classes.{is_leading, symmetry_of, representative_of, class_of, AreLeading}
+use Rattle.morris_index.specs.ClassPairs.{led, class_index_of}
+use Rattle.morris_index.specs.ClassMoves.{class_start_of}
+use Rattle.morris_index.specs.Pairs.{Counts, is_of}
+use Rattle.morris_index.specs.Moves.{InPair, taken_back}
+use Rattle.morris_index.specs.Carried.{carries, IsCarriedBack}
+use Rattle.morris_index.proofs.BinomialTable.{choose_small}
+use Rattle.morris_index.proofs.RankLaws.{passing, passing-yes, passing-no, passing-above}
+use Rattle.morris_index.proofs.IndexLaws.{IsPlaced, placed, within_24, other_rank-lt, halves_of, is_of-first, is_of-second}
+use Rattle.morris_index.proofs.PairLaws.{own_count, other_count}
+use Rattle.morris_index.proofs.MoveLaws.{vacant_own, vacant_other, before_count, before_placed}
+use Rattle.morris_index.proofs.ClassLaws.{more_new, led_least, representative_twice, class_of-representative}
+use Rattle.morris_index.proofs.ClassPairLaws.{led_itself}
+use Rattle.morris_index.proofs.ClassMoveLaws.{entry-parts}
+
+-- ---- a set of the numbers that pass a test, number by number
+
+or_false : (b : Bool) → (b || false) ≡ b
+or_false true = refl
+or_false false = refl
+
+pub none_pass : (test : ℕ → Bool) (s : ℕ) → has 0 s ≡ (ltb s 0 && test s)
+none_pass test s = has-none s ∙ sym (rw (le-ltb s 0 (omega arith)) refl)
+
+module _ (test : ℕ → Bool) (k x : ℕ) (before : (s : ℕ) → has x s ≡ (ltb s k && test s)) where
+  as_before : (s : ℕ) → s ≢ k → ltb s (k + 1) ≡ ltb s k
+  as_before s d = elim (cases_lt s k) [
+    | inl l ↦ lt-ltb s (k + 1) (omega arith) ∙ sym (lt-ltb s k l)
+    | inr g ↦ le-ltb s (k + 1) (omega arith) ∙ sym (le-ltb s k g)
+  ]
+
+  pub one_passes : test k ≡ true → (s : ℕ) → has (with_point x k) s ≡ (ltb s (k + 1) && test s)
+  one_passes h s = elim (cases_eq s k) [
+    | inl e ↦ more_new x k s e ∙ sym (and_from (ltb s (k + 1)) (test s) (lt-ltb s (k + 1) (omega arith)) (ap test e ∙ h))
+    | inr d ↦ has-with x k s ∙ rw (ne_eqb s k d, as_before s d) (or_false (has x s) ∙ before s)
+  ]
+
+  pub one_fails : test k ≡ false → (s : ℕ) → has x s ≡ (ltb s (k + 1) && test s)
+  one_fails h s = elim (cases_eq s k) [
+    | inl e ↦
+        before s ∙ and_right (ltb s k) (test s) (ap test e ∙ h) ∙ sym (and_right (ltb s (k + 1)) (test s) (ap test e ∙ h))
+    | inr d ↦ before s ∙ ap (λ b. b && test s) (sym (as_before s d))
+  ]
+
+passing-same : (f g : ℕ → Bool) (n : ℕ) → ((k : ℕ) → k < n → f k ≡ g k) → passing f n ≡ passing g n
+passing-same f g zero same = refl
+passing-same f g (suc n) same = elim (cases_Bool (g n)) [
+  | inl h ↦
+      passing-yes f n (same n (omega arith) ∙ h) ∙ ap (λ t. t ++ n ∷ []) (passing-same f g n (λ k low. same k (omega arith))) ∙ sym (passing-yes g n h)
+  | inr h ↦
+      passing-no f n (same n (omega arith) ∙ h) ∙ passing-same f g n (λ k low. same k (omega arith)) ∙ sym (passing-no g n h)
+]
+
+-- its members are the numbers that pass
+members-listed : (test : ℕ → Bool) (x n : ℕ) → n ≤ 32 → ((s : ℕ) → has x s ≡ (ltb s n && test s)) → members x ≡ filter test (range_with_len 0 n)
+unfolding members
+members-listed test x n low is =
+    let e : 32 ≡ (32 - n) + n = omega arith in
+    ap (passing (has x)) e
+    ∙ passing-above (has x) n (32 - n) (λ k h. is k ∙ ap (λ b. b && test k) (le-ltb k n h))
+    ∙ passing-same (has x) test n (λ k h. is k ∙ ap (λ b. b && test k) (lt-ltb k n h))
+
+-- what an iterator over a set yields is in the set
+pub member_has : (x p : ℕ) (before after left : List ℕ) → before ++ left ≡ members x → left ≡ p ∷ after → has x p ≡ true
+member_has x p before after left split step =
+    let cut : before ++ p ∷ after ≡ members x = ap (λ t. before ++ t) (sym step) ∙ split in
+    (and_parts (has x p) (list_all (has x) after) (and_parts (list_all (has x) before) (list_all (has x) (p ∷ after))
+    (sym (list_all-append (has x) before (p ∷ after)) ∙ ap (list_all (has x)) cut ∙ all_members x (has x) (λ k h. h))).1).0
+
+pub split_after : (before whole : List ℕ) (p : ℕ) (after left : List ℕ) → left ≡ p ∷ after → before ++ left ≡ whole → (before ++ p ∷ []) ++ after ≡ whole
+split_after before whole p after left step split = append_assoc before (p ∷ []) after ∙ ap (λ t. before ++ t) (sym step) ∙ split
+
+-- one result more at the end of a list
+pub pushed : (f : ℕ → ℕ) (old yielded out : List ℕ) (s x : ℕ) → out ≡ old ++ map f yielded → x ≡ f s → out ++ x ∷ [] ≡ old ++ map f (yielded ++ s ∷ [])
+pushed f old yielded out s x e is =
+    ap₂ (λ a b. a ++ b ∷ []) e is
+    ∙ append_assoc old (map f yielded) (f s ∷ [])
+    ∙ ap (λ t. old ++ t) (sym (map-append f yielded (s ∷ [])))
+
+both_and : (a b c : Bool) → ((a && b) && (a && c)) ≡ (a && (b && c))
+both_and true b c = refl
+both_and false b c = refl
+
+-- ---- the image of a position under a symmetry that leads the player to move
+
+module _ (board : Shape) (n : ℕ) (few : n ≤ 24) (points : board.points ≡ n) (y : HasSymmetries board) where
+  low : board.points ≤ 24
+  low = omega arith
+
+  on_board : (set : ℕ) → set < 2 ^ n → set < 2 ^ board.points
+  on_board set h = subst (λ k. set < 2 ^ k) (sym points) h
+
+  off_board : (set : ℕ) → set < 2 ^ board.points → set < 2 ^ n
+  off_board set h = subst (λ k. set < 2 ^ k) points h
+
+  module _ (q : Sides) (h : IsPlaced n q) (t : ℕ) (t_low : t < board.symmetries) (leads : is_leading board q.own t ≡ true) where
+    abbrev carried : Sides
+    carried = image_sides (board.image t) q
+
+    one : IsOneToOne board.points (board.image t) (board.image (inverse_of t))
+    one = one_to_one board _ _ (y.symmetry t t_low)
+
+    apart : IsApart board q
+    apart = record { own_within = on_board q.own h.own_within; other_within = on_board q.other h.other_within; apart = h.apart }
+
+    carried_apart : IsApart board carried
+    carried_apart = IsApart-image board low _ _ one q apart
+
+    carried_placed : IsPlaced n carried
+    carried_placed = record {
+      own_within = off_board carried.own carried_apart.own_within;
+      other_within = off_board carried.other carried_apart.other_within;
+      apart = carried_apart.apart;
+    }
+
+    carried_own : carried.own ≡ representative_of board q.own
+    carried_own = led_least board q.own t t_low leads
+
+    own_same : count_of carried.own ≡ count_of q.own
+    own_same = count_of-image board.points low _ _ one q.own apart.own_within
+
+    other_same : count_of carried.other ≡ count_of q.other
+    other_same = count_of-image board.points low _ _ one q.other apart.other_within
+
+    itself : led board carried ≡ carried
+    itself =
+        led_itself board n few points y carried.own carried.other carried_placed.own_within carried_placed.other_within
+        (ap (representative_of board) carried_own ∙ representative_twice board low y q.own apart.own_within ∙ sym carried_own)
+
+    same_class : class_of board carried.own ≡ class_of board q.own
+    same_class = ap (class_of board) carried_own ∙ class_of-representative board low y q.own apart.own_within
+
+    same_start : (c : Counts) → class_start_of board n c carried.own (count_of carried.other) ≡ class_start_of board n c q.own (count_of q.other)
+    same_start c = rw (own_same, other_same, same_class) refl
+
+    abbrev carried_rank : ℕ
+    carried_rank = rank_of (map (number_outside (representative_of board q.own)) (members carried.other))
+
+    rank_same : rank_of (map (number_outside (led board carried).own) (members (led board carried).other)) ≡ carried_rank
+    rank_same =
+        ap (λ (s : Sides). rank_of (map (number_outside s.own) (members s.other))) itself
+        ∙ ap (λ o. rank_of (map (number_outside o) (members carried.other))) carried_own
+
+    carried_entry : (c : Counts) → class_start_of board n c q.own (count_of q.other) + carried_rank ≡ class_index_of board n c carried
+    carried_entry c = sym (entry-parts board n few points y c carried ∙ ap₂ (λ a b. a + b) (same_start c) rank_same)
+
+    carried_few : count_of q.other ≤ 9 → carried_rank ≤ 1307504
+    carried_few most =
+        omega (
+          arith,
+          ap (λ o. rank_of (map (number_outside o) (members carried.other))) carried_own,
+          other_rank-lt n (omega arith) carried carried_placed,
+          choose_small (n - count_of carried.own) (count_of carried.other) (omega arith) (omega (arith, other_same)),
+        )
+
+  -- ---- the position before a quiet move
+
+  module _ (q : InPair) (images : List ℕ) (returning : ℕ) (k : IsCarriedBack board q images returning) (u v : ℕ) (u_in : u < n)
+      (vacant : not (has q.position.own u || has q.position.other u) ≡ true) (here : has q.position.other v ≡ true) where
+    abbrev s : Sides
+    s = q.position
+
+    abbrev before : Sides
+    before = taken_back s u v
+
+    own_most : count_of s.own ≤ 9
+    own_most = (own_count s k.lawful.sized).1
+
+    other_most : count_of s.other ≤ 9
+    other_most = (other_count s k.lawful.sized).1
+
+    pub before_here : IsPlaced n before
+    before_here =
+        before_placed n few q.pair s (placed board n s points k.lawful) own_most other_most u v u_in (vacant_own _ _ vacant) (vacant_other _ _ vacant) here
+
+    mover_count : count_of before.own ≡ count_of s.other
+    mover_count =
+        before_count n few q.pair s (placed board n s points k.lawful) own_most other_most u v u_in (vacant_own _ _ vacant) (vacant_other _ _ vacant) here
+
+    pub before_of : is_of q.pair before ≡ true
+    before_of = elim (halves_of q.pair s k.counts) [
+      | inl a ↦
+          is_of-second q.pair before (and_from _ _ (eq-eqb (count_of before.own) q.pair.lesser (mover_count ∙ a.1)) (eq-eqb (count_of before.other) q.pair.greater a.0))
+      | inr a ↦
+          is_of-first q.pair before (and_from _ _ (eq-eqb (count_of before.own) q.pair.greater (mover_count ∙ a.2)) (eq-eqb (count_of before.other) q.pair.lesser a.1))
+    ]
+
+    module _ (leading carrying : ℕ) (leads : AreLeading board before.own leading) (common : (t : ℕ) → has carrying t ≡ (has leading t && has returning t)) where
+      carrying_is : (t : ℕ) → has carrying t ≡ (ltb t board.symmetries && carries board s before.own t)
+      carrying_is t =
+          common t
+          ∙ ap₂ (λ a b. a && b) (leads t) (k.returns t)
+          ∙ both_and (ltb t board.symmetries) (is_leading board before.own t) (eqb (symmetry_of board (image_of (board.image t) s.own)) (inverse_of t))
+
+      -- the symmetries that carry the move
+      pub members_are : board.symmetries ≤ 32 → members carrying ≡ filter (carries board s before.own) (range_with_len 0 board.symmetries)
+      members_are most = members-listed (carries board s before.own) carrying board.symmetries most carrying_is
+
+      module _ (t : ℕ) (inside : has carrying t ≡ true) where
+        both : (ltb t board.symmetries ≡ true) × (carries board s before.own t ≡ true)
+        both = and_parts _ _ (sym (carrying_is t) ∙ inside)
+
+        pub carrying_low : t < board.symmetries
+        carrying_low = ltb-true t board.symmetries both.0
+
+        leading_too : is_leading board before.own t ≡ true
+        leading_too = (and_parts _ _ both.1).0
+
+        image_is : slice_index images t ≡ image_of (board.image t) s.own
+        image_is = k.image_at t carrying_low
+
+        pub image_24 : slice_index images t < 2 ^ 24
+        image_24 = rw image_is (within_24 _ n (carried_placed before before_here t carrying_low leading_too).other_within few)
+
+        pub image_few : count_of (slice_index images t) ≤ 9
+        image_few = rw image_is (omega (arith, other_same before before_here t carrying_low leading_too, own_most))
+
+        abbrev pub entry_rank : ℕ
+        entry_rank = rank_of (map (number_outside (representative_of board before.own)) (members (slice_index images t)))
+
+        pub entry_few : entry_rank ≤ 1307504
+        entry_few = rw image_is (carried_few before before_here t carrying_low leading_too own_most)
+
+        pub entry_is : class_start_of board n q.pair before.own (count_of s.own) + entry_rank ≡ class_index_of board n q.pair (image_sides (board.image t) before)
+        entry_is = rw image_is (carried_entry before before_here t carrying_low leading_too q.pair)

@@ -1,0 +1,89 @@
+//! The entries of the positions before a position, where they are numbered by classes.
+ghost use Rattle.std.specs.Prelude.{◌≡◌, ◌<◌, ◌||◌, ◌++◌, not, true, OnOk};
+ghost use Rattle.morris_board.specs.Sets.{has};
+ghost use Rattle.morris_index.specs.Pairs.{is_of};
+ghost use Rattle.morris_index.specs.Moves.{in_pair};
+ghost use Rattle.morris_index.specs.Carried.{entries_before};
+
+use crate::class_pair::ClassPair;
+use crate::ranks::rank;
+use morris_board::board::Geometry;
+use morris_board::points::Points;
+use morris_board::position::Position;
+use std::alloc::AllocError;
+use std::marker::Model;
+
+/// What is kept of a position, so that the entries of the positions before a quiet move to it are
+/// found by one look-up of the stones of the player who made it.
+#[derive(Drop)]
+pub struct PredecessorEntries<'a, B: Geometry> {
+    /// The pair that the position is one of, with its classes.
+    pair: &'a ClassPair<B>,
+    /// The position.
+    position: Position<B>,
+    /// The images of the stones of the player to move under each symmetry.
+    images: [Points; 16],
+    /// The symmetries whose inverse is the one that leads the image under them.
+    returning: Points,
+}
+
+impl<'a, B: Geometry> Model for PredecessorEntries<'a, B> {
+    ghost use Rattle.morris_index.specs.Moves.{InPair, in_pair};
+    ghost use Rattle.morris_index.specs.Carried.{IsCarriedBack};
+
+    ghost Value = { InPair };
+
+    ghost view = { λ entries. in_pair entries.pair.now entries.position };
+
+    ghost invariant = { λ entries. IsCarriedBack B.shape (in_pair entries.pair.now entries.position) entries.images entries.returning };
+}
+
+impl<'a, B: Geometry> PredecessorEntries<'a, B> {
+    /// What is to be kept of a position of the pair.
+    pub fn of(pair: &'a ClassPair<B>, position: &Position<B>) -> PredecessorEntries<'a, B>
+        requires { is_of pair.now position.now ≡ true }
+        ensures { result ≡ in_pair pair.now position.now }
+    {
+        let own = position.own();
+        let mut images = [Points::EMPTY; 16];
+        let mut returning = Points::EMPTY;
+        for symmetry in 0..B::SYMMETRIES {
+            let image = B::image_of(symmetry, own);
+            images[symmetry as usize] = image;
+            if pair.start_of(image, position.other()).1 == B::inverse(symmetry) {
+                returning = returning.with(symmetry);
+            }
+        }
+        PredecessorEntries {
+            pair,
+            position: *position,
+            images,
+            returning,
+        }
+    }
+
+    /// Adds the entries from which the images of the quiet move from `from` to `to` lead to the
+    /// entry of the position, for each symmetry that carries the move to one from a position with
+    /// an entry of its own: mostly there is one. A stone of the opponent stands on `to`, and `from`
+    /// is vacant.
+    ///
+    /// # Errors
+    /// [`AllocError`] where memory runs out. Then some of the entries may have been added.
+    pub fn add(&self, from: u8, to: u8, out: &mut Vec<u64>) -> Result<(), AllocError>
+        requires start { from < B.POINTS }
+        requires vacant { not (has self.now.position.own from || has self.now.position.other from) ≡ true }
+        requires end { has self.now.position.other to ≡ true }
+        ensures { OnOk result (out.new.items ≡ out.old.items ++ entries_before B.shape B.POINTS self.now.pair self.now.position from to) }
+    {
+        let own = self.position.own();
+        let mover = self.position.other().without(to).with(from);
+        let (start, representative, leading) = self.pair.leads_of(mover, own);
+        let carrying = leading.common(self.returning);
+        let images = &self.images;
+        for symmetry in carrying.iter() {
+            let image = images[symmetry as usize];
+            out.push(start + rank(image, representative))?;
+        }
+        Ok(())
+    }
+}
