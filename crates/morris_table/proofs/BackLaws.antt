@@ -38,10 +38,10 @@ none_is : (o : Option ℕ) → is_none o ≡ true → o ≡ None
 none_is None h = refl
 none_is (Some t) h = absurd (both_ways false refl h)
 
-quiet_taken : (m : Move) → is_quiet m ≡ true → m.taken ≡ None
+pub quiet_taken : (m : Move) → is_quiet m ≡ true → m.taken ≡ None
 quiet_taken m h = none_is m.taken h
 
-taken_quiet : (m : Move) → m.taken ≡ None → is_quiet m ≡ true
+pub taken_quiet : (m : Move) → m.taken ≡ None → is_quiet m ≡ true
 taken_quiet m e = ap is_none e
 
 -- what is known of a quiet move to one of q's opponent's stones that led to q
@@ -87,7 +87,7 @@ module _ (b : Shape) (q : Sides) where
   abbrev Apart : Move → Move → Type 0
   Apart m k = m ≡ k → ⊥
 
-  moves_before_differ : Ascends Apart all_before
+  pub moves_before_differ : Ascends Apart all_before
   unfolding moves_before moves_into
   moves_before_differ =
       Ascends-flat_map (λ x y. x < y) Apart (λ v. moves_into b q v b.points) (members q.other) (Ascends-members q.other)
@@ -112,7 +112,7 @@ not_before_itself : (m : Move) → Precedes m m → ⊥
 not_before_itself m h = both_ways false refl
     (rw (le-ltb m.from m.from (omega arith), eq-eqb m.from m.from refl, le-ltb m.to m.to (omega arith), eq-eqb m.to m.to refl, precedes_itself m.taken) at h)
 
-moves_differ : (b : Shape) (s : Sides) → Ascends (λ m k. m ≡ k → ⊥) (moves_of b s)
+pub moves_differ : (b : Shape) (s : Sides) → Ascends (λ m k. m ≡ k → ⊥) (moves_of b s)
 moves_differ b s =
     Ascends-weaker Precedes (λ m k. m ≡ k → ⊥) (λ m k h e. not_before_itself k (subst (λ x. Precedes x k) e h)) (moves_of b s)
     (Ascends-from_AllPairs Precedes (moves_of b s) (moves_in_order b s))
@@ -133,18 +133,18 @@ module _ (b : Shape) (small : b.points ≤ 24) (c : Counts) (pair : IsPair b.poi
   is_apart : (s : Sides) → IsPlaced b.points s → IsApart b s
   is_apart s p = record { own_within = p.own_within; other_within = p.other_within; apart = p.apart }
 
-  is_placed : (s : Sides) → IsApart b s → IsPlaced b.points s
+  pub is_placed : (s : Sides) → IsApart b s → IsPlaced b.points s
   is_placed s p = record { own_within = p.own_within; other_within = p.other_within; apart = p.apart }
 
-  is_position : (s : Sides) → IsPlaced b.points s → is_of c s ≡ true → IsPosition b s
+  pub is_position : (s : Sides) → IsPlaced b.points s → is_of c s ≡ true → IsPosition b s
   is_position s p of = record { stones = is_apart s p; sized = sized_of s of }
 
   module _ (q : Sides) (h : IsPosition b q) (of : is_of c q ≡ true) where
     -- a quiet move of a position of the pair that leads to q
-    record LeadsTo (s : Sides) (m : Move) : Type 0 where
-      move : IsLegalMove b s m
-      quiet : m.taken ≡ None
-      result : result_of s m ≡ q
+    pub record LeadsTo (s : Sides) (m : Move) : Type 0 where
+      pub move : IsLegalMove b s m
+      pub quiet : m.taken ≡ None
+      pub result : result_of s m ≡ q
 
     leads : (s : Sides) → IsPlaced b.points s → is_of c s ≡ true → (m : Move) → Contains (moves_of b s) m → is_quiet m ≡ true
         → index_of b.points c (result_of s m) ≡ index_of b.points c q → LeadsTo s m
@@ -165,18 +165,18 @@ module _ (b : Shape) (small : b.points ≤ 24) (c : Counts) (pair : IsPair b.poi
     unfolding result_of
     leads-own s m l = ap (λ t. left_of s.other t) (sym l.quiet) ∙ ap (λ (x : Sides). x.own) l.result
 
-    leads-other : (s : Sides) (m : Move) → LeadsTo s m → moved s.own m.from m.to ≡ q.other
+    pub leads-other : (s : Sides) (m : Move) → LeadsTo s m → moved s.own m.from m.to ≡ q.other
     unfolding result_of
     leads-other s m l = ap (λ (x : Sides). x.other) l.result
 
-    leads-before : (s : Sides) (m : Move) → LeadsTo s m → before q m ≡ s
+    pub leads-before : (s : Sides) (m : Move) → LeadsTo s m → before q m ≡ s
     unfolding before
     leads-before s m l =
         ap₂ sides
         (ap (λ o. moved o m.to m.from) (sym (leads-other s m l)) ∙ moved_back s.own m.from m.to l.move.from_own l.move.to_not_own)
         (sym (leads-own s m l))
 
-    leads-led : (s : Sides) → IsPlaced b.points s → (m : Move) → Contains (moves_of b s) m → LeadsTo s m → HasLed b q m
+    pub leads-led : (s : Sides) → IsPlaced b.points s → (m : Move) → Contains (moves_of b s) m → LeadsTo s m → HasLed b q m
     leads-led s p m k l = record {
       start = l.move.from_within;
       end = subst (λ o. has o m.to ≡ true) (leads-other s m l) (moved_here s.own m.from m.to l.move.from_own l.move.to_not_own);
@@ -194,10 +194,10 @@ module _ (b : Shape) (small : b.points ≤ 24) (c : Counts) (pair : IsPair b.poi
     pub led-of : (m : Move) → HasLed b q m → is_of c (before q m) ≡ true
     led-of m l = is_of-quiet c q (before q m) of (count_of-before_own b small q h m l.start l.vacant l.end) (count_of-before_other b small q h m l.start l.vacant l.end)
 
-    led-moves : (m : Move) → HasLed b q m → Contains (moves_of b (before q m)) m
+    pub led-moves : (m : Move) → HasLed b q m → Contains (moves_of b (before q m)) m
     led-moves m l = legal_is_listed b (before q m) small (IsApart-before b small q h m l.start l.vacant l.end) m l.legal
 
-    led-result : (m : Move) → HasLed b q m → result_of (before q m) m ≡ q
+    pub led-result : (m : Move) → HasLed b q m → result_of (before q m) m ≡ q
     unfolding result_of before
     led-result m l =
         ap₂ sides (ap (λ t. left_of q.own t) l.quiet) (moved_back q.other m.to m.from l.end (vacant_parts q m.from l.vacant).1)
@@ -333,11 +333,11 @@ module _ (b : Shape) (small : b.points ≤ 24) (c : Counts) (pair : IsPair b.poi
     )
 
     -- at most nine stones came from at most 24 points
+    pub few_moves : length (all_before b q) ≤ 9 * 24
+    unfolding moves_before count_of
+    few_moves =
+        omega (arith, length-flat_map_le (λ v. moves_into b q v b.points) 24 (members q.other) few_into, (other_count q h.sized).1)
+
     pub few_before : length (indices_before b.points c q (all_before b q)) ≤ 9 * 24
-    unfolding indices_before moves_before count_of
-    few_before = omega (
-      arith,
-      length-map (all_before b q) (λ m. index_of b.points c (before q m)),
-      length-flat_map_le (λ v. moves_into b q v b.points) 24 (members q.other) few_into,
-      (other_count q h.sized).1,
-    )
+    unfolding indices_before
+    few_before = omega (arith, length-map (all_before b q) (λ m. index_of b.points c (before q m)), few_moves)

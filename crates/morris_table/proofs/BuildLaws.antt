@@ -1,13 +1,19 @@
--- A refusal of the build of a pair comes from the same refusal of the workers.
-use Rattle.std.proofs.Common.{◌≡◌, Result, Ok, Err, Option, None, MatchResult, refl, sym, ap, ◌∙◌}
+-- A refusal of the build of a pair comes from the same refusal of the workers, or of the graph.
+use Rattle.std.proofs.Common.{◌≡◌, ℕ, Bool, true, false, cond, Result, Ok, Err, Option, Some, None, MatchResult, IfErr, refl, sym, ap, ◌∙◌, ◌<◌, ◌⊎◌, inl, inr}
+use Rattle.std.proofs.lemmas.Bool.{both_ways}
+use Rattle.std.proofs.lemmas.Option.{none-some}
 use Rattle.std.specs.Result.{IsErrAnd}
 use Rattle.morris_index.specs.Pairs.{Counts}
 use Rattle.morris_workers.specs.declared.fault.SolveFault.{SolveFault}
 use Rattle.morris_workers.specs.declared.fault.SolveFault.TheVariants as solve
+use Rattle.morris_workers.specs.Ranges.{range_fault, is_range_fault}
 use Rattle.morris_table.specs.declared.sweeping.BuildFault.{BuildFault}
-use Rattle.morris_table.specs.declared.sweeping.BuildFault.TheVariants.{TooDeep}
+use Rattle.morris_table.specs.declared.sweeping.BuildFault.TheVariants.{Memory, Missing, TooDeep}
+use Rattle.morris_table.specs.declared.class_graph.ClassGraphFault.{ClassGraphFault}
+use Rattle.morris_table.specs.declared.class_graph.ClassGraphFault.TheVariants as graph
+use Rattle.morris_table.specs.ClassGraphs.{missing_for, unmade}
 use Rattle.morris_table.specs.Sweeping.{needed_by}
-use Rattle.morris_table.specs.Building.{solved}
+use Rattle.morris_table.specs.Building.{solved, out_of_range}
 
 pub refused_deep : {A B : Type 0} (r : Result A (BuildFault B)) (fault : SolveFault)
     → IsErrAnd r (λ e. e ≡ solved fault) → r ≡ Err TooDeep → fault ≡ solve.TooDeep
@@ -33,3 +39,73 @@ pub nothing_needed : {A B : Type 0} (r : Result A (BuildFault B)) (fault : Solve
     → IsErrAnd r (λ e. e ≡ solved fault) → missing ≡ None → MatchResult r (λ _. missing ≡ None) (λ e. needed_by e ≡ missing)
 nothing_needed {B = B} (Err x) fault missing h none = ap needed_by h ∙ none_needed B fault ∙ sym none
 nothing_needed (Ok x) fault missing h none = none
+
+-- ---- the numbers of workers and blocks
+
+-- whether it is no fault, or one of these numbers
+abbrev is_of_range : Option SolveFault → Bool
+is_of_range None = true
+is_of_range (Some fault) = is_range_fault fault
+
+of_range : (x y : Bool) → is_of_range (cond x (Some solve.Workers) (cond y (Some solve.Blocks) None)) ≡ true
+of_range true y = refl
+of_range false true = refl
+of_range false false = refl
+
+-- where the fault isn't of these numbers, nothing is wrong with them
+none_wrong : (o : Option SolveFault) (fault : SolveFault) → is_of_range o ≡ true → is_range_fault fault ≡ false
+    → ((other : SolveFault) → o ≡ Some other → Some fault ≡ Some other) → None ≡ o
+none_wrong None fault known apart same = refl
+none_wrong (Some other) fault known apart same = absurd (both_ways (is_range_fault fault) apart (ap is_of_range (same other refl) ∙ known))
+
+told_range : (o : Option SolveFault) (fault : SolveFault) → is_of_range o ≡ true → (is_range_fault fault ≡ true → o ≡ Some fault)
+    → ((other : SolveFault) → o ≡ Some other → Some fault ≡ Some other) → (B : Type 0) → out_of_range {B = B} (solved fault) ≡ o
+told_range o solve.Workers known here same B = sym (here refl)
+told_range o solve.Blocks known here same B = sym (here refl)
+told_range o solve.Memory known here same B = none_wrong o solve.Memory known refl same
+told_range o (solve.Missing number) known here same B = none_wrong o (solve.Missing number) known refl same
+told_range o solve.TooDeep known here same B = none_wrong o solve.TooDeep known refl same
+
+pub refused_range : {A B : Type 0} (r : Result A (BuildFault B)) (fault : SolveFault) (workers blocks : ℕ) → IsErrAnd r (λ e. e ≡ solved fault)
+    → (is_range_fault fault ≡ true → range_fault workers blocks ≡ Some fault)
+    → ((other : SolveFault) → range_fault workers blocks ≡ Some other → Some fault ≡ Some other)
+    → MatchResult r (λ _. range_fault workers blocks ≡ None) (λ e. out_of_range e ≡ range_fault workers blocks)
+refused_range (Ok x) fault workers blocks h here same = absurd h
+refused_range {B = B} (Err x) fault workers blocks h here same =
+    ap out_of_range h ∙ told_range (range_fault workers blocks) fault (of_range _ _) here same B
+
+-- ---- the graph of a pair by classes
+
+needed_unmade : {B : Type 0} (fault : ClassGraphFault B) → needed_by (unmade fault) ≡ missing_for fault
+needed_unmade (graph.Needs needs) = refl
+needed_unmade graph.Memory = refl
+
+pub unmade_needed : {A B : Type 0} (r : Result A (BuildFault B)) (fault : ClassGraphFault B) (missing : Option Counts)
+    → IsErrAnd r (λ e. e ≡ unmade fault) → missing_for fault ≡ missing → MatchResult r (λ _. missing ≡ None) (λ e. needed_by e ≡ missing)
+unmade_needed (Err x) fault missing h same = ap needed_by h ∙ needed_unmade fault ∙ same
+unmade_needed (Ok x) fault missing h same = absurd h
+
+-- where no table is missing, memory is refused
+pub unmade_range : {A B : Type 0} (r : Result A (BuildFault B)) (fault : ClassGraphFault B) (missing : Option Counts) (range : Option SolveFault)
+    → IsErrAnd r (λ e. e ≡ unmade fault) → missing_for fault ≡ missing → missing ≡ None
+    → MatchResult r (λ _. range ≡ None) (λ e. (e ≡ Memory) ⊎ (out_of_range e ≡ range))
+unmade_range (Err x) (graph.Needs needs) missing range h same none = absurd (none-some needs.0 (sym (same ∙ none)))
+unmade_range (Err x) graph.Memory missing range h same none = inl h
+unmade_range (Ok x) fault missing range h same none = absurd h
+
+pub unmade_number : {A B : Type 0} (r : Result A (BuildFault B)) (fault : ClassGraphFault B) (blocks : ℕ)
+    → IsErrAnd r (λ e. e ≡ unmade fault) → IfErr r (λ e. (number : ℕ) → e ≡ Missing number → number < blocks)
+unmade_number (Err x) (graph.Needs needs) blocks h = λ number e. cc
+unmade_number (Err x) graph.Memory blocks h = λ number e. cc
+unmade_number (Ok x) fault blocks h = absurd h
+
+pub unmade_deep : {A B : Type 0} (r : Result A (BuildFault B)) (fault : ClassGraphFault B) → IsErrAnd r (λ e. e ≡ unmade fault) → r ≡ Err TooDeep → ⊥
+unmade_deep (Err x) (graph.Needs needs) h e = cc
+unmade_deep (Err x) graph.Memory h e = cc
+unmade_deep (Ok x) fault h e = cc
+
+-- a number out of range that is told in any case
+pub told_after : {A B : Type 0} (r : Result A (BuildFault B)) (range : Option SolveFault)
+    → MatchResult r (λ _. range ≡ None) (λ e. out_of_range e ≡ range) → MatchResult r (λ _. range ≡ None) (λ e. (e ≡ Memory) ⊎ (out_of_range e ≡ range))
+told_after (Ok x) range h = h
+told_after (Err x) range h = inr h

@@ -1,28 +1,32 @@
--- The graph of a pair is too deep exactly where codes of 16 bits can't tell the game's values.
+-- The graph of a pair, in either layout, is too deep exactly where codes of 16 bits can't tell the
+-- game's values.
 use Rattle.std.proofs.Common.{◌≡◌, ℕ, suc, ◌-◌, ◌<◌, ◌≤◌, ◌%◌, max, Bool, true, false, not, ltb, leb, List, [], ◌∷◌, map, Option, Some, None, is_none, filter, refl, sym, ap, subst, ◌∙◌, inl, inr, ◌⊎◌, arith}
 use Rattle.std.proofs.lemmas.Bool.{cases_lt, both_ways, and_parts, and_from, eqb-true, eqb-false, eq-eqb, ltb-true, ltb-false, leb-true, le-leb, not-true, false_from_ne_true}
 use Rattle.std.specs.List.{Contains}
 use Rattle.morris_board.specs.Boards.{Shape}
 use Rattle.morris_board.specs.Positions.{Sides, IsPosition}
+use Rattle.morris_board.specs.Symmetries.{HasSymmetries}
 use Rattle.morris_moves.specs.declared.step.Move.{Move}
 use Rattle.morris_moves.specs.Rules.{moves_of, result_of}
 use Rattle.morris_moves.specs.Values.{IsLostIn}
 use Rattle.morris_moves.proofs.ListLaws.{Contains-head, Contains-tail, Contains-map, Contains-map_cases, any_contained, contained_any}
 use Rattle.morris_moves.proofs.ValueLaws.{lost_is_even}
-use Rattle.morris_index.specs.Pairs.{Counts, IsPair, is_of, index_of}
+use Rattle.morris_index.specs.Pairs.{Counts, IsPair, is_of}
 use Rattle.morris_wave.specs.Nets.{Net}
 use Rattle.morris_wave.specs.Exits.{is_odd, is_won_code, greatest, depths, exits_of, some_below}
 use Rattle.morris_wave.specs.Values.{is_lost_exit, HasDepth, HasCode, IsTooDeep}
 use Rattle.morris_wave.proofs.ExitTests.{some_exit_lost}
-use Rattle.morris_table.specs.declared.layout.Layout.TheVariants.{Full}
-use Rattle.morris_table.specs.EntryLaws.{laid-full}
+use Rattle.morris_table.specs.declared.layout.Layout.{Layout}
+use Rattle.morris_table.specs.Entries.{entry_index, has_own_entry}
+use Rattle.morris_table.specs.EntryLaws.{IsLaid, laid}
 use Rattle.morris_table.specs.Codes.{IsCodeOf, code_to}
 use Rattle.morris_table.specs.PairNets.{is_capture, capture_codes, pair_net}
 use Rattle.morris_table.specs.Known.{IsKnown, WinsLateByCapture, IsBeyondCodes}
 use Rattle.morris_table.specs.FilterLaws.{filter-contains, contained-filter}
 use Rattle.morris_table.proofs.CodeLaws.{one_code, code_cases, code_of_lost, code_to-is}
 use Rattle.morris_table.specs.NetLaws.{size-pair_net, index_in, exits-at}
-use Rattle.morris_table.proofs.PositionLaws.{position_at}
+use Rattle.morris_table.proofs.PositionLaws.{position_of_entry}
+use Rattle.morris_table.proofs.LateLaws.{wins_late-image}
 use Rattle.morris_table.proofs.NodeLaws.{node_code, code_node}
 
 -- ---- exits of the depth 65,534
@@ -99,8 +103,18 @@ abbrev IsDeepNode : Net → ℕ → Type 0
 IsDeepNode g i = ((depth : ℕ) × (65534 ≤ depth) × HasDepth g i depth)
     ⊎ (((exits_of (g.exits i)).least_lost ≡ Some 65534) ⊎ ((exits_of (g.exits i)).greatest_won ≡ Some 65534))
 
-module _ (board : Shape) (few : board.points ≤ 24) (c : Counts) (known : IsKnown board c) where
-  module _ (s : Sides) (h : IsPosition board s) (of : is_of c s ≡ true) where
+module _ (board : Shape) (few : board.points ≤ 24) (y : HasSymmetries board) (l : Layout) (c : Counts) (pair : IsPair board.points c) (known : IsKnown board c) where
+  entries : IsLaid board l c
+  entries = laid board few y l c pair
+
+  -- whether the captures of a node lead to a loss in 65,534 plies and to none in fewer
+  abbrev deep_at : ℕ → Type 0
+  deep_at i = (exits_of ((pair_net board l c).exits i)).least_lost ≡ Some 65534
+
+  module _ (s : Sides) (h : IsPosition board s) (of : is_of c s ≡ true) (own : has_own_entry board l s ≡ true) where
+    abbrev codes : List ℕ
+    codes = (pair_net board l c).exits (entry_index board board.points l c s)
+
     code_is : (m : Move) → Contains (moves_of board s) m → is_capture m ≡ true → (code : ℕ) → IsCodeOf board (result_of s m) code
         → code_to 65534 board (result_of s m) ≡ code
     code_is m listed takes code is =
@@ -108,24 +122,22 @@ module _ (board : Shape) (few : board.points ≤ 24) (c : Counts) (known : IsKno
         code_to-is board (result_of s m) k.0 k.2 k.1 ∙ one_code board (result_of s m) k.0 code k.2 is
 
     -- the exits of a node are the codes of what the captures of its position lead to
-    pub capture_code : (code : ℕ) → Contains ((pair_net board Full c).exits (index_of board.points c s)) code
-        → (m : Move) × Contains (moves_of board s) m × (is_capture m ≡ true) × IsCodeOf board (result_of s m) code
+    capture_code : (code : ℕ) → Contains codes code → (m : Move) × Contains (moves_of board s) m × (is_capture m ≡ true) × IsCodeOf board (result_of s m) code
     unfolding capture_codes
     capture_code code listed =
         let by = Contains-map_cases (λ m. code_to 65534 board (result_of s m)) (filter is_capture (moves_of board s)) code
-        (subst (λ codes. Contains codes code) (exits-at board few Full c (laid-full board few c) s h of refl) listed) in
+        (subst (λ xs. Contains xs code) (exits-at board few l c entries s h of own) listed) in
         let m = by.0 in
         let passed = filter-contains is_capture (moves_of board s) m by.1 in
         let k = known s h of m passed.0 passed.1 in
         (m, passed.0, passed.1, subst (IsCodeOf board (result_of s m)) (sym (code_is m passed.0 passed.1 k.0 k.2) ∙ by.2) k.2)
 
-    pub code_captured : (m : Move) → Contains (moves_of board s) m → is_capture m ≡ true → (code : ℕ) → IsCodeOf board (result_of s m) code
-        → Contains ((pair_net board Full c).exits (index_of board.points c s)) code
+    code_captured : (m : Move) → Contains (moves_of board s) m → is_capture m ≡ true → (code : ℕ) → IsCodeOf board (result_of s m) code → Contains codes code
     unfolding capture_codes
     code_captured m listed takes code is =
         let moves = contained-filter is_capture (moves_of board s) m listed takes in
         let there = Contains-map (λ m. code_to 65534 board (result_of s m)) (filter is_capture (moves_of board s)) m moves in
-        subst (λ codes. Contains codes code) (sym (exits-at board few Full c (laid-full board few c) s h of refl))
+        subst (λ xs. Contains xs code) (sym (exits-at board few l c entries s h of own))
         (subst (Contains (map (λ m. code_to 65534 board (result_of s m)) (filter is_capture (moves_of board s)))) (code_is m listed takes code is) there)
 
     -- an odd code is a loss
@@ -139,12 +151,9 @@ module _ (board : Shape) (few : board.points ≤ 24) (c : Counts) (known : IsKno
       ]
     ]
 
-    abbrev deep_exits : Type 0
-    deep_exits = (exits_of ((pair_net board Full c).exits (index_of board.points c s))).least_lost ≡ Some 65534
-
-    wins_late : deep_exits → WinsLateByCapture board s
+    wins_late : deep_at (entry_index board board.points l c s) → WinsLateByCapture board s
     wins_late e =
-        let at = capture_code 65535 (late_in ((pair_net board Full c).exits (index_of board.points c s)) e) in
+        let at = capture_code 65535 (late_in codes e) in
         let lost = lost_of at.0 65535 at.3 refl in
         let depth : lost.0 ≡ 65534 = omega (arith, lost.1) in
         record {
@@ -153,46 +162,53 @@ module _ (board : Shape) (few : board.points ≤ 24) (c : Counts) (known : IsKno
               let even = lost_is_even board (result_of s m) d is in
               let there = code_captured m listed takes (suc d) (code_of_lost board (result_of s m) d is) in
               let odd : is_odd (suc d) ≡ true = eq-eqb (suc d % 2) 1 (omega arith) in
-              omega (arith, late_odd ((pair_net board Full c).exits (index_of board.points c s)) e (suc d) there odd);
+              omega (arith, late_odd codes e (suc d) there odd);
         }
 
-    wins_late_back : WinsLateByCapture board s → deep_exits
+    wins_late_back : WinsLateByCapture board s → deep_at (entry_index board board.points l c s)
     wins_late_back w =
         let m = w.late.0 in
-        late_back ((pair_net board Full c).exits (index_of board.points c s))
-        (code_captured m w.late.1 w.late.2 65535 (code_of_lost board (result_of s m) 65534 w.late.3))
-        (λ code at odd.
+        late_back codes (code_captured m w.late.1 w.late.2 65535 (code_of_lost board (result_of s m) 65534 w.late.3)) (λ code at odd.
         let by = capture_code code at in
         let lost = lost_of by.0 code by.3 odd in
         omega (arith, lost.1, w.none_before by.0 lost.0 by.1 by.2 lost.2))
 
-    node_deep : IsDeepNode (pair_net board Full c) (index_of board.points c s) → IsBeyondCodes board c
+    node_deep : IsDeepNode (pair_net board l c) (entry_index board board.points l c s) → IsBeyondCodes board c
     node_deep why = elim why [
-      | inl deep ↦ (s, h, of, inl (suc deep.0, omega (arith, deep.1), node_code board few Full c (laid-full board few c) known s h of (suc deep.0) deep.2))
+      | inl deep ↦ (s, h, of, inl (suc deep.0, omega (arith, deep.1), node_code board few l c entries known s h of (suc deep.0) deep.2))
       | inr exits ↦ elim exits [
         | inl lost ↦ (s, h, of, inr (wins_late lost))
-        | inr won ↦ absurd (no_deep_win ((pair_net board Full c).exits (index_of board.points c s)) won)
+        | inr won ↦ absurd (no_deep_win codes won)
       ]
     ]
 
   -- the graph is too deep exactly where the values of the pair, or those that its captures lead to,
   -- are beyond codes of 16 bits
-  pub too_deep_game : IsPair board.points c → IsTooDeep (pair_net board Full c) → IsBeyondCodes board c
-  too_deep_game pair deep =
-      let at = position_at board few c pair deep.0 (rw (size-pair_net board Full c) at deep.1) in
-      node_deep at.0 at.1 at.2 (subst (IsDeepNode (pair_net board Full c)) (sym at.3) deep.2)
+  pub too_deep_game : IsTooDeep (pair_net board l c) → IsBeyondCodes board c
+  too_deep_game deep =
+      let at = position_of_entry board few y l c pair deep.0 (rw (size-pair_net board l c) at deep.1) in
+      let w = at.1 in
+      node_deep at.0 w.position w.of w.own (subst (IsDeepNode (pair_net board l c)) (sym w.entry) deep.2)
 
-  pub game_too_deep : IsBeyondCodes board c → IsTooDeep (pair_net board Full c)
+  -- a position that wins late by a capture is that of a node, or the image of such a one
+  late_node : (s : Sides) → IsPosition board s → is_of c s ≡ true → WinsLateByCapture board s → deep_at (entry_index board board.points l c s)
+  late_node s h of w =
+      let stands = entries.stands s h of in
+      let t = stands.0 in
+      let u = stands.1 in
+      subst deep_at u.entry (wins_late_back t u.position u.of u.own (wins_late-image board few s t h u.image w))
+
+  pub game_too_deep : IsBeyondCodes board c → IsTooDeep (pair_net board l c)
   game_too_deep beyond =
       let s = beyond.0 in
       let h = beyond.1 in
       let of = beyond.2 in
-      let i = index_of board.points c s in
-      let low : index_of board.points c s < (pair_net board Full c).size = rw (size-pair_net board Full c) (index_in board few Full c (laid-full board few c) s h of) in
+      let i = entry_index board board.points l c s in
+      let low : entry_index board board.points l c s < (pair_net board l c).size = rw (size-pair_net board l c) (index_in board few l c entries s h of) in
       elim beyond.3 [
         | inl great ↦
             let depth : great.0 ≡ suc (great.0 - 1) = omega (arith, great.1) in
-            let node = code_node board few Full c (laid-full board few c) known s h of great.0 great.2 in
-            (i, low, inl (great.0 - 1, omega (arith, great.1), subst (HasCode (pair_net board Full c) i) depth node))
-        | inr late ↦ (i, low, inr (inl (wins_late_back s h of late)))
+            let node = code_node board few l c entries known s h of great.0 great.2 in
+            (i, low, inl (great.0 - 1, omega (arith, great.1), subst (HasCode (pair_net board l c) i) depth node))
+        | inr late ↦ (i, low, inr (inl (late_node s h of late)))
       ]

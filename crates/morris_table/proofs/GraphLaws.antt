@@ -20,8 +20,8 @@ use Rattle.morris_wave.specs.Exits.{exits_of}
 use Rattle.morris_wave.specs.Values.{HasCode, IsTooDeep}
 use Rattle.morris_table.specs.declared.layout.Layout.{Layout}
 use Rattle.morris_table.specs.declared.layout.Layout.TheVariants.{Full}
-use Rattle.morris_table.specs.Entries.{entry_index}
-use Rattle.morris_table.specs.EntryLaws.{laid, laid-full}
+use Rattle.morris_table.specs.Entries.{entry_count, entry_index, has_own_entry}
+use Rattle.morris_table.specs.EntryLaws.{IsLaid, laid, laid-full}
 use Rattle.morris_table.specs.Codes.{IsCodeOf, code_to}
 use Rattle.morris_table.specs.PairNets.{is_capture, is_quiet, quiet_results, capture_codes, pair_net, level_of, net_at}
 use Rattle.morris_table.specs.Tables.{Table}
@@ -122,35 +122,39 @@ exits_by-capture board s ms m takes code is few =
 
 -- ---- the graph of a pair is the one of its level
 
-module _ (board : Shape) (lawful : is_board board ≡ true) (y : HasSymmetries board) (n : ℕ) (points : board.points ≡ n) (c : Counts) (pair : IsPair board.points c) where
-  pub size_at : (net_at board (level_of Full c)).size ≡ size_of n c
-  size_at = ap (λ (g : Net). g.size) (net_at-level_of board lawful y Full c pair) ∙ size-pair_net board Full c ∙ ap (λ k. size_of k c) points
+module _ (board : Shape) (lawful : is_board board ≡ true) (y : HasSymmetries board) (n : ℕ) (points : board.points ≡ n) (l : Layout) (c : Counts)
+    (pair : IsPair board.points c) where
+  entries_here : IsLaid board l c
+  entries_here = laid board (points_few board lawful) y l c pair
 
-  pub is_node : (i : ℕ) → i < (net_at board (level_of Full c)).size → i < size_of n c
+  pub size_at : (net_at board (level_of l c)).size ≡ entry_count board n l c
+  size_at = ap (λ (g : Net). g.size) (net_at-level_of board lawful y l c pair) ∙ size-pair_net board l c ∙ ap (λ k. entry_count board k l c) points
+
+  pub is_node : (i : ℕ) → i < (net_at board (level_of l c)).size → i < entry_count board n l c
   is_node i low = subst (λ k. i < k) size_at low
 
-  pub quiet_count_at : (s : Sides) → IsPosition board s → is_of c s ≡ true → (i : ℕ) → index_of n c s ≡ i
-      → length (filter is_quiet (moves_of board s)) ≡ length ((net_at board (level_of Full c)).quiet i)
+  pub quiet_count_at : (s : Sides) → IsPosition board s → is_of c s ≡ true → has_own_entry board l s ≡ true → (i : ℕ) → entry_index board n l c s ≡ i
+      → length (filter is_quiet (moves_of board s)) ≡ length ((net_at board (level_of l c)).quiet i)
   unfolding quiet_results
-  quiet_count_at s h of i at =
-      sym (length-map (filter is_quiet (moves_of board s)) (λ m. index_of board.points c (result_of s m)))
-      ∙ ap length (sym (quiet-at board (points_few board lawful) Full c (laid-full board (points_few board lawful) c) s h of refl) ∙ ap (pair_net board Full c).quiet (ap (λ k. index_of k c s) points ∙ at))
-      ∙ ap (λ (g : Net). length (g.quiet i)) (sym (net_at-level_of board lawful y Full c pair))
+  quiet_count_at s h of kept i at =
+      sym (length-map (filter is_quiet (moves_of board s)) (λ m. entry_index board board.points l c (result_of s m)))
+      ∙ ap length (sym (quiet-at board (points_few board lawful) l c entries_here s h of kept) ∙ ap (pair_net board l c).quiet (ap (λ k. entry_index board k l c s) points ∙ at))
+      ∙ ap (λ (g : Net). length (g.quiet i)) (sym (net_at-level_of board lawful y l c pair))
 
-  pub exits_same : (s : Sides) → IsPosition board s → is_of c s ≡ true → (i : ℕ) → index_of n c s ≡ i
-      → exits_of (capture_codes board s) ≡ exits_of ((net_at board (level_of Full c)).exits i)
-  exits_same s h of i at =
-      ap exits_of (sym (exits-at board (points_few board lawful) Full c (laid-full board (points_few board lawful) c) s h of refl) ∙ ap (pair_net board Full c).exits (ap (λ k. index_of k c s) points ∙ at))
-      ∙ ap (λ (g : Net). exits_of (g.exits i)) (sym (net_at-level_of board lawful y Full c pair))
+  pub exits_same : (s : Sides) → IsPosition board s → is_of c s ≡ true → has_own_entry board l s ≡ true → (i : ℕ) → entry_index board n l c s ≡ i
+      → exits_of (capture_codes board s) ≡ exits_of ((net_at board (level_of l c)).exits i)
+  exits_same s h of kept i at =
+      ap exits_of (sym (exits-at board (points_few board lawful) l c entries_here s h of kept) ∙ ap (pair_net board l c).exits (ap (λ k. entry_index board k l c s) points ∙ at))
+      ∙ ap (λ (g : Net). exits_of (g.exits i)) (sym (net_at-level_of board lawful y l c pair))
 
   -- what leads to a node, counted in the one and in the other
-  pub times_at : (s : Sides) (xs : List ℕ) (i : ℕ) → index_of n c s ≡ i
-      → ((j : ℕ) → j < size_of n c → times j xs ≡ times (index_of n c s) ((pair_net board Full c).quiet j))
-      → (j : ℕ) → j < (net_at board (level_of Full c)).size → times j xs ≡ times i ((net_at board (level_of Full c)).quiet j)
+  pub times_at : (s : Sides) (xs : List ℕ) (i : ℕ) → entry_index board n l c s ≡ i
+      → ((j : ℕ) → j < entry_count board n l c → times j xs ≡ times (entry_index board n l c s) ((pair_net board l c).quiet j))
+      → (j : ℕ) → j < (net_at board (level_of l c)).size → times j xs ≡ times i ((net_at board (level_of l c)).quiet j)
   times_at s xs i at h j low =
-      h j (is_node j low) ∙ ap (λ k. times k ((pair_net board Full c).quiet j)) at ∙ ap (λ (g : Net). times i (g.quiet j)) (sym (net_at-level_of board lawful y Full c pair))
+      h j (is_node j low) ∙ ap (λ k. times k ((pair_net board l c).quiet j)) at ∙ ap (λ (g : Net). times i (g.quiet j)) (sym (net_at-level_of board lawful y l c pair))
 
-  pub nodes_at : (xs : List ℕ) → All (λ j. j < size_of n c) xs → All (λ j. j < (net_at board (level_of Full c)).size) xs
+  pub nodes_at : (xs : List ℕ) → All (λ j. j < entry_count board n l c) xs → All (λ j. j < (net_at board (level_of l c)).size) xs
   nodes_at xs h = subst (λ size. All (λ j. j < size) xs) (sym size_at) h
 
 -- ---- the values of the nodes
@@ -184,12 +188,14 @@ game_values board lawful y l c pair known s code h of =
     )
 
 -- the graph is too deep where codes of 16 bits don't tell the values of the game
-pub game_depths : (board : Shape) → is_board board ≡ true → HasSymmetries board → (c : Counts) → IsPair board.points c → IsKnown board c
-    → IsTooDeep (net_at board (level_of Full c)) ↔ IsBeyondCodes board c
-game_depths board lawful y c pair known =
+pub game_depths : (board : Shape) → is_board board ≡ true → HasSymmetries board → (l : Layout) (c : Counts) → IsPair board.points c → IsKnown board c
+    → IsTooDeep (net_at board (level_of l c)) ↔ IsBeyondCodes board c
+game_depths board lawful y l c pair known =
     let few = points_few board lawful in
-    let same = net_at-level_of board lawful y Full c pair in
-    (λ deep. too_deep_game board few c known pair (subst IsTooDeep same deep), λ beyond. subst IsTooDeep (sym same) (game_too_deep board few c known beyond))
+    let same = net_at-level_of board lawful y l c pair in (
+      λ deep. too_deep_game board few y l c pair known (subst IsTooDeep same deep),
+      λ beyond. subst IsTooDeep (sym same) (game_too_deep board few y l c pair known beyond),
+    )
 
 -- the two tables as the code finds them
 module _ (board : Shape) (lawful : is_board board ≡ true) (y : HasSymmetries board) (n : ℕ) (points : board.points ≡ n) (c : Counts) (first second : Option Counts)
@@ -208,16 +214,16 @@ module _ (board : Shape) (lawful : is_board board ≡ true) (y : HasSymmetries b
   pub values_over : (l : Layout) → HasGameValues board l c
   values_over l = game_values board lawful y l c pair_here known_over
 
-  pub depths_over : IsTooDeep (net_at board (level_of Full c)) ↔ IsBeyondCodes board c
-  depths_over = game_depths board lawful y c pair_here known_over
+  pub depths_over : (l : Layout) → IsTooDeep (net_at board (level_of l c)) ↔ IsBeyondCodes board c
+  depths_over l = game_depths board lawful y l c pair_here known_over
 
 -- the codes of all nodes are those of the positions
-pub exact_codes : (board : Shape) → is_board board ≡ true → HasSymmetries board → (c : Counts) (of_lesser of_greater : Option Table)
-    → IsPairGraph board c of_lesser of_greater → (codes : List ℕ) → length codes ≡ (net_at board (level_of Full c)).size
-    → ((i : ℕ) → i < (net_at board (level_of Full c)).size → HasCode (net_at board (level_of Full c)) i (get_or codes i 0))
-    → (s : Sides) → IsPosition board s → is_of c s ≡ true → IsCodeOf board s (get_or codes (index_of board.points c s) 0)
-exact_codes board lawful y c of_lesser of_greater graph codes len each s h of =
+pub exact_codes : (board : Shape) → is_board board ≡ true → HasSymmetries board → (l : Layout) (c : Counts) (of_lesser of_greater : Option Table)
+    → IsPairGraph board c of_lesser of_greater → (codes : List ℕ) → length codes ≡ (net_at board (level_of l c)).size
+    → ((i : ℕ) → i < (net_at board (level_of l c)).size → HasCode (net_at board (level_of l c)) i (get_or codes i 0))
+    → (s : Sides) → IsPosition board s → is_of c s ≡ true → IsCodeOf board s (get_or codes (entry_index board board.points l c s) 0)
+exact_codes board lawful y l c of_lesser of_greater graph codes len each s h of =
     let few = points_few board lawful in
-    let low : index_of board.points c s < size_of board.points c = index-lt board.points c (omega arith) s (placed board board.points s refl h) of in
-    (game_values board lawful y Full c graph.lawful (known_here board y few c of_lesser of_greater graph) s (get_or codes (index_of board.points c s) 0) h of).0
-    (each (index_of board.points c s) (subst (λ k. index_of board.points c s < k) (sym (size_at board lawful y board.points refl c graph.lawful)) low))
+    let low : entry_index board board.points l c s < entry_count board board.points l c = (laid board few y l c graph.lawful).below s h of in
+    (game_values board lawful y l c graph.lawful (known_here board y few c of_lesser of_greater graph) s (get_or codes (entry_index board board.points l c s) 0) h of).0
+    (each (entry_index board board.points l c s) (subst (λ k. entry_index board board.points l c s < k) (sym (size_at board lawful y board.points refl l c graph.lawful)) low))

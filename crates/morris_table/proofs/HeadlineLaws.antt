@@ -6,7 +6,7 @@ use Rattle.std.specs.List.{flat_map, range_with_len}
 use Rattle.morris_board.specs.Boards.{Shape, is_board}
 use Rattle.morris_board.specs.Positions.{Sides, IsPosition}
 use Rattle.morris_board.specs.Symmetries.{HasSymmetries}
-use Rattle.morris_index.specs.Pairs.{Counts, IsPair, is_of, size_of, index_of}
+use Rattle.morris_index.specs.Pairs.{Counts, IsPair, is_of}
 use Rattle.morris_wave.specs.Nets.{Net}
 use Rattle.morris_wave.specs.Blocks.{BlockState, in_applied, first_of, first_node, count_of, entries_of}
 use Rattle.morris_wave.specs.Values.{code_within, HasCode}
@@ -15,8 +15,9 @@ use Rattle.morris_wave.proofs.Depths.{code_is}
 use Rattle.morris_wave.proofs.Known.{decided_at_most, entry_code}
 use Rattle.morris_wave.proofs.Blocking.{first_of-le}
 use Rattle.morris_wave.proofs.Settled.{three_kinds}
-use Rattle.morris_table.specs.declared.layout.Layout.TheVariants.{Full}
-use Rattle.morris_table.specs.EntryLaws.{laid-full}
+use Rattle.morris_table.specs.declared.layout.Layout.{Layout}
+use Rattle.morris_table.specs.Entries.{entry_count, entry_index}
+use Rattle.morris_table.specs.EntryLaws.{laid}
 use Rattle.morris_table.specs.Codes.{IsCodeOf}
 use Rattle.morris_table.specs.PairNets.{at_index, pair_net, net_at}
 use Rattle.morris_table.specs.Headline.{IsBlockOf, positions_in, entry_of, TellsTheGame}
@@ -32,47 +33,48 @@ entry_small g n a i = elim (cases_Bool (is_decided_at g n a i)) [
   | inr still ↦ omega (arith, cond-false {A = ℕ} (is_decided_at g n a i) (code_within g (suc n) i) 0 still)
 ]
 
--- what is said of each index of a range is said of the positions with these indices
-listed_from : (board : Shape) → board.points ≤ 24 → (c : Counts) → IsPair board.points c → (f : ℕ → ℕ) (first count : ℕ)
-    → ((i : ℕ) → first ≤ i → i < first + count → i < size_of board.points c)
-    → map f (range_with_len first count) ≡ map (λ p. f (index_of board.points c p)) (flat_map (at_index board Full c) (range_with_len first count))
-listed_from board few c pair f first zero inside = refl
-listed_from board few c pair f first (suc count) inside =
-    let one = at_index-some board few c pair first (inside first (omega arith) (omega arith)) in
-    let rest = flat_map (at_index board Full c) (range_with_len (first + 1) count) in
-    ap₂ (λ x xs. x ∷ xs) (ap f (sym one.3)) (listed_from board few c pair f (first + 1) count (λ i low high. inside i (omega arith) (omega arith)))
-    ∙ sym (ap (λ ps. map (λ p. f (index_of board.points c p)) (ps ++ rest)) one.4)
+-- what is said of each entry of a range is said of the positions that have these entries
+listed_from : (board : Shape) → board.points ≤ 24 → HasSymmetries board → (l : Layout) (c : Counts) → IsPair board.points c → (f : ℕ → ℕ) (first count : ℕ)
+    → ((i : ℕ) → first ≤ i → i < first + count → i < entry_count board board.points l c)
+    → map f (range_with_len first count) ≡ map (λ p. f (entry_index board board.points l c p)) (flat_map (at_index board l c) (range_with_len first count))
+listed_from board few y l c pair f first zero inside = refl
+listed_from board few y l c pair f first (suc count) inside =
+    let one = at_index-some board few y l c pair first (inside first (omega arith) (omega arith)) in
+    let rest = flat_map (at_index board l c) (range_with_len (first + 1) count) in
+    ap₂ (λ x xs. x ∷ xs) (ap f (sym one.1.entry)) (listed_from board few y l c pair f (first + 1) count (λ i low high. inside i (omega arith) (omega arith)))
+    ∙ sym (ap (λ ps. map (λ p. f (entry_index board board.points l c p)) (ps ++ rest)) one.2)
 
-module _ (board : Shape) (lawful : is_board board ≡ true) (y : HasSymmetries board) (c : Counts) (pair : IsPair board.points c) (s : BlockState) (h : IsBlockOf board Full c s) where
-  same_net : net_at board s.level ≡ pair_net board Full c
-  same_net = ap (net_at board) h.level ∙ net_at-level_of board lawful y Full c pair
+module _ (board : Shape) (lawful : is_board board ≡ true) (y : HasSymmetries board) (l : Layout) (c : Counts) (pair : IsPair board.points c) (s : BlockState)
+    (h : IsBlockOf board l c s) where
+  same_net : net_at board s.level ≡ pair_net board l c
+  same_net = ap (net_at board) h.level ∙ net_at-level_of board lawful y l c pair
 
-  exact_at : (p : Sides) → IsPosition board p → is_of c p ≡ true → 0 < entry_of board Full c s p → IsCodeOf board p (entry_of board Full c s p)
+  exact_at : (p : Sides) → IsPosition board p → is_of c p ≡ true → 0 < entry_of board l c s p → IsCodeOf board p (entry_of board l c s p)
   exact_at p position of decided =
       let g : Net = net_at board s.level in
-      let i : ℕ = index_of board.points c p in
-      small_code board (points_few board lawful) Full c (laid-full board (points_few board lawful) c) p position of (entry_of board Full c s p) decided
+      let i : ℕ = entry_index board board.points l c p in
+      small_code board (points_few board lawful) l c (laid board (points_few board lawful) y l c pair) p position of (entry_of board l c s p) decided
       (omega (arith, h.wave, entry_small g s.wave (in_applied s) i))
-      (subst (λ (net : Net). HasCode net i (entry_of board Full c s p)) same_net (entry_code g s.wave (in_applied s) i decided))
+      (subst (λ (net : Net). HasCode net i (entry_of board l c s p)) same_net (entry_code g s.wave (in_applied s) i decided))
 
-  nodes_inside : (i : ℕ) → first_node s ≤ i → i < first_node s + count_of s → i < size_of board.points c
+  nodes_inside : (i : ℕ) → first_node s ≤ i → i < first_node s + count_of s → i < entry_count board board.points l c
   nodes_inside i low high =
       let last : first_of s.cut (s.number + 1) ≤ s.cut.size = first_of-le s.cut h.cut (s.number + 1) (omega (arith, h.number)) in
-      let size : s.cut.size ≡ size_of board.points c = sym h.size ∙ ap (λ (g : Net). g.size) same_net ∙ size-pair_net board Full c in
+      let size : s.cut.size ≡ entry_count board board.points l c = sym h.size ∙ ap (λ (g : Net). g.size) same_net ∙ size-pair_net board l c in
       omega (arith, last, size, low, high)
 
-  listed_here : entries_of (net_at board s.level) s ≡ map (entry_of board Full c s) (positions_in board Full c s)
+  listed_here : entries_of (net_at board s.level) s ≡ map (entry_of board l c s) (positions_in board l c s)
   listed_here =
-      listed_from board (points_few board lawful) c pair (entry_at (net_at board s.level) s.wave (in_applied s)) (first_node s) (count_of s) nodes_inside
+      listed_from board (points_few board lawful) y l c pair (entry_at (net_at board s.level) s.wave (in_applied s)) (first_node s) (count_of s) nodes_inside
 
-  tells : TellsTheGame board Full c s
+  tells : TellsTheGame board l c s
   tells = record {
     exact = λ p position of inside decided. exact_at p position of decided;
     listed = listed_here;
-    tallied = three_kinds (entries_of (net_at board s.level) s) ∙ ap length listed_here ∙ length-map (positions_in board Full c s) (entry_of board Full c s);
+    tallied = three_kinds (entries_of (net_at board s.level) s) ∙ ap length listed_here ∙ length-map (positions_in board l c s) (entry_of board l c s);
   }
 
 -- the same, where the board's number of points is known by another name
 pub whenever : (board : Shape) → is_board board ≡ true → HasSymmetries board → (n : ℕ) → board.points ≡ n → (c : Counts) → IsPair n c
-    → (s : BlockState) → IsBlockOf board Full c s → TellsTheGame board Full c s
-whenever board lawful y n points c pair s h = tells board lawful y c (subst (λ m. IsPair m c) (sym points) pair) s h
+    → (l : Layout) (s : BlockState) → IsBlockOf board l c s → TellsTheGame board l c s
+whenever board lawful y n points c pair l s h = tells board lawful y l c (subst (λ m. IsPair m c) (sym points) pair) s h

@@ -3,6 +3,7 @@ pub mod CodeLaws
 pub mod PositionLaws
 pub mod NodeLaws
 pub mod HeadlineLaws
+pub mod LateLaws
 pub mod DepthLaws
 pub mod TallyLaws
 pub mod TableLaws
@@ -13,6 +14,8 @@ pub mod BackLawsLoops
 pub mod BackLawsMoves
 pub mod BackLawsNodes
 pub mod BackLawsSources
+pub mod Doubles
+pub mod ClassBackLaws
 pub mod QuietLaws
 pub mod RowLaws
 pub mod GraphLaws

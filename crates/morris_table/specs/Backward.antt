@@ -7,6 +7,7 @@ use Rattle.morris_moves.specs.declared.step.Move.{Move}
 use Rattle.morris_moves.specs.Rules.{move}
 use Rattle.morris_moves.specs.Backward.{before, has_come}
 use Rattle.morris_index.specs.Pairs.{Counts, index_of}
+use Rattle.morris_index.specs.Carried.{entries_before}
 
 -- the quiet moves to v that led to s from a point below n, in order of that point
 unfoldable pub moves_into : Shape → Sides → ℕ → ℕ → List Move
@@ -19,3 +20,8 @@ moves_before board s n points = flat_map (λ v. moves_into board s v n) points
 -- the positions before these moves, by their indices in the pair, on n points
 unfoldable pub indices_before : ℕ → Counts → Sides → List Move → List ℕ
 indices_before n c s moves = map (λ m. index_of n c (before s m)) moves
+
+-- the entries from which these moves lead to the entry of s where entries are those of classes, each
+-- as often as symmetries carry one of the moves there
+unfoldable pub entries_leading : Shape → ℕ → Counts → Sides → List Move → List ℕ
+entries_leading board n c s moves = flat_map (λ m. entries_before board n c s m.from m.to) moves

@@ -1,17 +1,17 @@
 -- Laws of the entries of a table, in either layout: each entry is that of one position, and each
 -- position has the value of the one whose entry tells it.
-use Rattle.std.proofs.Common.{◌≡◌, ℕ, ◌+◌, ◌-◌, ◌*◌, ◌^◌, ◌<◌, ◌≤◌, true, eqb, map, refl, sym, ap, ap₂, subst, ◌∙◌, inl, inr, arith}
+use Rattle.std.proofs.Common.{◌≡◌, ℕ, ◌+◌, ◌-◌, ◌*◌, ◌^◌, ◌<◌, ◌≤◌, true, map, refl, sym, ap, ap₂, ◌∙◌, inl, inr, ◌⊎◌, arith}
 use Rattle.std.proofs.lemmas.Bool.{cases_eq, eqb-true, eq-eqb, and_from}
 use Rattle.morris_board.specs.Boards.{Shape}
 use Rattle.morris_board.specs.Sets.{members, count_of}
-use Rattle.morris_board.specs.Positions.{Sides, sides, IsPosition, is_sized}
+use Rattle.morris_board.specs.Positions.{Sides, IsPosition, is_sized}
 use Rattle.morris_board.specs.Symmetries.{inverse_of, HasSymmetries}
 use Rattle.morris_moves.specs.Images.{IsImage, HaveOneValue}
 use Rattle.morris_moves.proofs.SymmetryLaws.{IsImage-value}
 use Rattle.morris_index.specs.Binomials.{choose}
 use Rattle.morris_index.specs.Numbering.{rank_of, number_outside, half_size}
-use Rattle.morris_index.specs.Pairs.{Counts, IsPair, IsHalf, is_of, size_of, index_of}
-use Rattle.morris_index.specs.Classes.{symmetry_of, representative_of, class_of, class_count}
+use Rattle.morris_index.specs.Pairs.{Counts, IsPair, IsHalf, is_of, size_of}
+use Rattle.morris_index.specs.Classes.{symmetry_of, representative_of, class_of}
 use Rattle.morris_index.specs.ClassPairs.{led, class_half_size, class_half_index, class_size_of, class_index_of}
 use Rattle.morris_index.proofs.PairLaws.{from_between}
 use Rattle.morris_index.proofs.IndexLaws.{IsPlaced, placed, halves_of, index-same, index-lt, size-one, size-two, half_size-few}
@@ -23,12 +23,14 @@ use Rattle.morris_table.specs.declared.layout.Layout.{Layout}
 use Rattle.morris_table.specs.declared.layout.Layout.TheVariants.{Full, Classes}
 use Rattle.morris_table.specs.Entries.{entry_count, entry_index, has_own_entry}
 
--- The position t stands for the position s: it has the entry of s for its own, and the value of s.
+-- The position t stands for the position s: it is s or an image of it, has the entry of s for its
+-- own, and the value of s.
 pub record StandsFor (board : Shape) (l : Layout) (c : Counts) (s t : Sides) : Type 0 where
   pub position : IsPosition board t
   pub of : is_of c t ≡ true
   pub own : has_own_entry board l t ≡ true
   pub entry : entry_index board board.points l c t ≡ entry_index board board.points l c s
+  pub image : (s ≡ t) ⊎ IsImage board s t
   pub one_value : HaveOneValue board s t
 
 -- The entries of a pair: that of a position is one of them; two positions don't have one for their
@@ -46,7 +48,7 @@ pub laid-full : (board : Shape) → board.points ≤ 24 → (c : Counts) → IsL
 laid-full board few c = record {
   below = λ s h of. index-lt board.points c (omega arith) s (placed board board.points s refl h) of;
   alone = λ s t h k s_of t_of s_own t_own same. index-same board.points c (omega arith) s t h k s_of t_of same;
-  stands = λ s h of. (s, record { position = h; of = of; own = refl; entry = refl; one_value = record { lost = λ n. refl; won = λ n. refl } });
+  stands = λ s h of. (s, record { position = h; of = of; own = refl; entry = refl; image = inl refl; one_value = record { lost = λ n. refl; won = λ n. refl } });
 }
 
 -- ---- entries by classes
@@ -63,7 +65,7 @@ is_sized-is_of n c s h of = elim (halves_of c s of) [
 ]
 
 -- placed stones with the numbers of a pair are a position
-position_of : (board : Shape) (c : Counts) (s : Sides) → IsPair board.points c → IsPlaced board.points s → is_of c s ≡ true → IsPosition board s
+pub position_of : (board : Shape) (c : Counts) (s : Sides) → IsPair board.points c → IsPlaced board.points s → is_of c s ≡ true → IsPosition board s
 position_of board c s pair h of = record {
   stones = record { own_within = h.own_within; other_within = h.other_within; apart = h.apart };
   sized = is_sized-is_of board.points c s pair of;
@@ -71,7 +73,7 @@ position_of board c s pair h of = record {
 
 module _ (board : Shape) (few : board.points ≤ 24) (y : HasSymmetries board) (c : Counts) where
   -- a position whose own set is a representative is led to itself
-  led_none : (s : Sides) → IsPlaced board.points s → has_own_entry board Classes s ≡ true → led board s ≡ s
+  pub led_none : (s : Sides) → IsPlaced board.points s → has_own_entry board Classes s ≡ true → led board s ≡ s
   led_none s h own =
       led_itself board board.points few refl y s.own s.other h.own_within h.other_within (eqb-true (representative_of board s.own) s.own own)
 
@@ -108,7 +110,7 @@ module _ (board : Shape) (few : board.points ≤ 24) (y : HasSymmetries board) (
         (ap₂ (λ x r. x * r) class_there (ap₂ (λ a b. choose (board.points - a) b) own_count other_count))
         (ap (λ (t : Sides). rank_of (map (number_outside t.own) (members t.other))) led_twice)
 
-    index_there : class_index_of board board.points c (led board s) ≡ class_index_of board board.points c s
+    pub index_there : class_index_of board board.points c (led board s) ≡ class_index_of board board.points c s
     unfolding class_index_of
     index_there = rw (own_count, half_there) refl
 
@@ -135,6 +137,7 @@ module _ (board : Shape) (few : board.points ≤ 24) (y : HasSymmetries board) (
         of = of_there s h of;
         own = own_there s h;
         entry = index_there s h;
+        image = inr (image_there s h);
         one_value = IsImage-value board few s (led board s) h (image_there s h);
       },
     );

@@ -16,6 +16,7 @@ pub mod Headers
 pub mod Shelves
 pub mod Graphs
 pub mod Sweeping
+pub mod ClassGraphs
 pub mod Agreement
 pub mod Verifying
 pub mod Headline

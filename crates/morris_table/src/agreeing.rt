@@ -16,7 +16,7 @@ ghost use Rattle.morris_table.specs.Agreement.{code_above, code_from, result_cod
 use crate::graph::PairGraph;
 use crate::numbering::{Numbering, Successors};
 use crate::raw::Raw;
-use crate::rows::Row;
+use crate::rows::{Row, advance};
 use morris_board::board::Geometry;
 use morris_board::position::Position;
 use morris_moves::rules::{closes, reach};
@@ -143,30 +143,8 @@ pub(crate) fn first_to_differ<B: Geometry>(graph: &PairGraph<B>, raw: &Raw<B>) -
             return Some(index);
         }
         if index + 1 < count {
-            go_on(numbering, &mut position, &mut row, index + 1);
+            advance(numbering, &mut position, &mut row, index + 1);
         }
     }
     None
-}
-
-/// Goes on to the position of the next entry, and to what is kept of its own stones.
-fn go_on<B: Geometry>(
-    numbering: &Numbering<B>,
-    position: &mut Position<B>,
-    row: &mut Row,
-    index: u64,
-)
-    requires counts { is_of (pair_of numbering.now) position.old ≡ true }
-    requires before { entry_index B.shape B.POINTS (layout_of numbering.now) (pair_of numbering.now) position.old + 1 ≡ index }
-    requires inside { index < entry_count B.shape B.POINTS (layout_of numbering.now) (pair_of numbering.now) }
-    requires row { IsRow B.shape B.POINTS row.old }
-    ensures entry { entry_index B.shape B.POINTS (layout_of numbering.now) (pair_of numbering.now) position.new ≡ index }
-    ensures counts { is_of (pair_of numbering.now) position.new ≡ true }
-    ensures lawful { IsPosition B.shape position.new }
-    ensures own_entry { has_own_entry B.shape (layout_of numbering.now) position.new ≡ true }
-    ensures row { IsRow B.shape B.POINTS row.new }
-    ensures own { row.new.own ≡ position.new.own }
-{
-    *position = numbering.following(position, index);
-    row.follow(position);
 }

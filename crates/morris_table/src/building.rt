@@ -8,9 +8,10 @@ ghost use Rattle.morris_table.specs.Known.{IsBeyondCodes};
 ghost use Rattle.morris_table.specs.Tables.{IsTable};
 ghost use Rattle.morris_table.specs.Shelves.{first_missing};
 ghost use Rattle.morris_table.specs.Sweeping.{needed_by};
-ghost use Rattle.morris_table.specs.Building.{out_of_range};
+ghost use Rattle.morris_table.specs.Building.{out_of_range, TellsRange};
 ghost use Rattle.morris_table.specs.Headline.{IsBlockOf, TellsTheGame};
 
+use crate::class_graph::ClassGraph;
 use crate::exact::Exact;
 use crate::graph::PairGraph;
 use crate::layout::Layout;
@@ -80,4 +81,70 @@ pub fn build<B: Board, A: Gate, R: Threads + Wait + Sync>(
     let graph = PairGraph::new(shelf, pair)?;
     let codes = solve(rt, alloc, &graph, gate, workers, blocks)?;
     Ok(graph.table(codes))
+}
+
+/// [`build`] in layout `Classes`.
+fn build_classes<B: Board, A: Gate, R: Threads + Wait + Sync>(
+    rt: &R,
+    alloc: Global,
+    shelf: &Shelf<B>,
+    pair: Pair<B>,
+    gate: &A,
+    workers: usize,
+    blocks: usize,
+) -> Result<Exact<B>, BuildFault<B>>
+    ensures needs { MatchResult result (λ _. first_missing shelf.now pair ≡ None) (λ fault. needed_by fault ≡ first_missing shelf.now pair) }
+    ensures range { first_missing shelf.now pair ≡ None
+        → MatchResult result (λ _. range_fault workers blocks ≡ None) (λ fault. TellsRange Layout.Classes fault (range_fault workers blocks)) }
+    ensures missing { IfErr result (λ fault. (number : ℕ) → fault ≡ BuildFault.Missing number → number < blocks) }
+    ensures pair { IfOk result (λ t. t.pair ≡ pair) }
+    ensures layout { IfOk result (λ t. t.layout ≡ Layout.Classes) }
+    ensures exact { IfOk result (IsTable B.shape) }
+    ensures too_deep { result ≡ Err BuildFault.TooDeep → IsTooDeep (net_at B.shape (level_of Layout.Classes pair)) }
+    ensures not_too_deep { OnOk result (¬ IsTooDeep (net_at B.shape (level_of Layout.Classes pair))) }
+    ensures beyond { result ≡ Err BuildFault.TooDeep → IsBeyondCodes B.shape pair }
+    ensures within { OnOk result (¬ IsBeyondCodes B.shape pair) }
+    ensures whenever { (s : BlockState) → IsBlockOf B.shape Layout.Classes pair s → TellsTheGame B.shape Layout.Classes pair s }
+{
+    let graph = ClassGraph::new(alloc, shelf, pair)?;
+    let entry_codes = solve(rt, alloc, &graph, gate, workers, blocks)?;
+    Ok(graph.into_table(entry_codes))
+}
+
+/// [`build`] with a layout: the exact table of a pair with its entries so laid out, over tables of
+/// either layout.
+///
+/// # Errors
+/// Those of [`build`], in the same order. In layout `Classes` memory for the classes is asked for
+/// after the tables, so that `Memory` may come before `Workers` and `Blocks`.
+pub fn build_as<B: Board, A: Gate, R: Threads + Wait + Sync>(
+    rt: &R,
+    alloc: Global,
+    shelf: &Shelf<B>,
+    pair: Pair<B>,
+    layout: Layout,
+    gate: &A,
+    workers: usize,
+    blocks: usize,
+) -> Result<Exact<B>, BuildFault<B>>
+    ensures needs { MatchResult result (λ _. first_missing shelf.now pair ≡ None) (λ fault. needed_by fault ≡ first_missing shelf.now pair) }
+    ensures range { first_missing shelf.now pair ≡ None
+        → MatchResult result (λ _. range_fault workers blocks ≡ None) (λ fault. TellsRange layout fault (range_fault workers blocks)) }
+    ensures missing { IfErr result (λ fault. (number : ℕ) → fault ≡ BuildFault.Missing number → number < blocks) }
+    ensures pair { IfOk result (λ t. t.pair ≡ pair) }
+    ensures layout { IfOk result (λ t. t.layout ≡ layout) }
+    ensures exact { IfOk result (IsTable B.shape) }
+    ensures too_deep { result ≡ Err BuildFault.TooDeep → IsTooDeep (net_at B.shape (level_of layout pair)) }
+    ensures not_too_deep { OnOk result (¬ IsTooDeep (net_at B.shape (level_of layout pair))) }
+    // The same in the words of the game.
+    ensures beyond { result ≡ Err BuildFault.TooDeep → IsBeyondCodes B.shape pair }
+    ensures within { OnOk result (¬ IsBeyondCodes B.shape pair) }
+    // Whenever a block's lock is free, each decided entry is the game's value and exact depth at
+    // its position and the tallies count the entries.
+    ensures whenever { (s : BlockState) → IsBlockOf B.shape layout pair s → TellsTheGame B.shape layout pair s }
+{
+    match layout {
+        Layout::Full => build(rt, alloc, shelf, pair, gate, workers, blocks),
+        Layout::Classes => build_classes(rt, alloc, shelf, pair, gate, workers, blocks),
+    }
 }

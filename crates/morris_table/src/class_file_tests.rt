@@ -66,7 +66,7 @@ fn three_three(alloc: Global) -> Result<Exact<Grid>, Fail> {
 }
 
 /// The file of the classes of 3-3.
-fn three_three_file(alloc: Global) -> Result<Vec<u8>, Fail> {
+pub(crate) fn three_three_file(alloc: Global) -> Result<Vec<u8>, Fail> {
     let codes = codes_by_classes(alloc, &three_three(alloc)?)?;
     file_with(alloc, &THREE_THREE_HEADER, codes.as_slice())
 }
@@ -107,7 +107,7 @@ fn differing(alloc: Global, file: &[u8]) -> Result<Option<u64>, Fail> {
 }
 
 /// Whether two tables of one pair give each of its positions the same value.
-fn agree(a: &Exact<Grid>, b: &Exact<Grid>) -> bool {
+pub(crate) fn agree(a: &Exact<Grid>, b: &Exact<Grid>) -> bool {
     let pair = a.pair();
     if b.pair() != pair {
         return false;

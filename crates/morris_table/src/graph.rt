@@ -6,13 +6,15 @@ ghost use Rattle.morris_board.specs.Positions.{IsPosition};
 ghost use Rattle.morris_board.specs.Sets.{has, members};
 ghost use Rattle.morris_moves.specs.declared.step.Move.{Move};
 ghost use Rattle.morris_moves.specs.Rules.{closes, reach, takable, moves_to};
-ghost use Rattle.morris_index.specs.Pairs.{IsPair, is_of, size_of, less_lesser, less_greater, needed};
+ghost use Rattle.morris_index.specs.Pairs.{IsPair, is_of, less_lesser, less_greater, needed};
 ghost use Rattle.morris_table.specs.Rows.{IsRow};
 ghost use Rattle.morris_wave.specs.Blocks.{BlockState};
 ghost use Rattle.morris_wave.specs.Solving.{exits_at};
 ghost use Rattle.morris_wave.specs.Exits.{exits_of};
 ghost use Rattle.morris_wave.specs.Values.{HasCode, IsTooDeep};
 ghost use Rattle.morris_table.specs.Codes.{IsCodeOf};
+ghost use Rattle.morris_table.specs.Entries.{entry_count};
+ghost use Rattle.morris_table.specs.Numberings.{layout_of, pair_of};
 ghost use Rattle.morris_table.specs.PairNets.{capture_codes, level_of, net_at};
 ghost use Rattle.morris_table.specs.Known.{IsBeyondCodes};
 ghost use Rattle.morris_table.specs.Tables.{table};
@@ -99,10 +101,10 @@ impl<'a, B: Geometry> PairGraph<'a, B> {
         ensures needs { MatchResult result (λ _. first_missing shelf.now pair ≡ None) (λ needs. first_missing shelf.now pair ≡ Some needs.0) }
         ensures pair { IfOk result (λ graph. graph ≡ pair) }
         ensures values { OnOk result ((l : Layout) → HasGameValues B.shape l pair) }
-        ensures deep { OnOk result (IsTooDeep (net_at B.shape (level_of Layout.Full pair)) ↔ IsBeyondCodes B.shape pair) }
+        ensures deep { OnOk result ((l : Layout) → (IsTooDeep (net_at B.shape (level_of l pair)) ↔ IsBeyondCodes B.shape pair)) }
         // What the blocks of the graph hold, at any wave and whatever is applied, is the game's,
         // also where a table is missing.
-        ensures blocks { (s : BlockState) → IsBlockOf B.shape Layout.Full pair s → TellsTheGame B.shape Layout.Full pair s }
+        ensures blocks { (l : Layout) (s : BlockState) → IsBlockOf B.shape l pair s → TellsTheGame B.shape l pair s }
     {
         let (less_lesser, less_greater) = captured_pairs(&pair);
         if let Some(needs) = shelf.missing(pair) {
@@ -121,7 +123,20 @@ impl<'a, B: Geometry> PairGraph<'a, B> {
         requires codes { (i : ℕ) → i < (net_at B.shape (level_of Layout.Full self.now)).size → HasCode (net_at B.shape (level_of Layout.Full self.now)) i (slice_index codes.items i) }
         ensures { result ≡ table Layout.Full self.now codes.items }
     {
-        Exact::new(Numbering::Full(self.pair), codes)
+        self.table_by(Numbering::Full(self.pair), codes)
+    }
+
+    /// The table of the pair with its entries so numbered, of their codes in order.
+    pub(crate) fn table_by(&self, numbering: Numbering<B>, codes: Vec<u16>) -> Exact<B>
+        requires pair { pair_of numbering ≡ self.now }
+        requires len { vec_len codes ≡ (net_at B.shape (level_of (layout_of numbering) self.now)).size }
+        requires codes { (i : ℕ) → i < (net_at B.shape (level_of (layout_of numbering) self.now)).size
+            → HasCode (net_at B.shape (level_of (layout_of numbering) self.now)) i (slice_index codes.items i) }
+        ensures { result ≡ table (layout_of numbering) self.now codes.items }
+    {
+        // The proof learns here that the graph has the tables that it needs.
+        let _ = &self.pair;
+        Exact::new(numbering, codes)
     }
 
     /// The table of a pair that this one needs.
@@ -240,7 +255,7 @@ impl<'a, B: Geometry> PairGraph<'a, B> {
     }
 
     /// The summary of what the captures of a position of the pair lead to.
-    fn exits_at(&self, position: &Position<B>) -> Exits
+    pub(crate) fn exits_at(&self, position: &Position<B>) -> Exits
         requires counts { is_of self.now position.now ≡ true }
         requires lawful { IsPosition B.shape position.now }
         ensures { result ≡ exits_of (capture_codes B.shape position.now) }
@@ -248,24 +263,24 @@ impl<'a, B: Geometry> PairGraph<'a, B> {
         self.exits_by_row(&Row::of::<B>(position.own()), position)
     }
 
-    /// The summaries of the positions of the pair from the index `first` on, as many as there is
-    /// room for.
-    fn read_exits_from(&self, first: u64, exits: &mut [Exits])
-        requires { first + length exits.old ≤ size_of B.POINTS self.now }
-        ensures { (k : ℕ) → k < length exits.old → exits_at exits.new k ≡ exits_of ((net_at B.shape (level_of Layout.Full self.now)).exits (first + k)) }
+    /// The summaries of the positions of the entries from `first` on, as many as there is room for.
+    pub(crate) fn read_exits_from(&self, numbering: &Numbering<B>, first: u64, exits: &mut [Exits])
+        requires pair { pair_of numbering.now ≡ self.now }
+        requires inside { first + length exits.old ≤ entry_count B.shape B.POINTS (layout_of numbering.now) self.now }
+        ensures { (k : ℕ) → k < length exits.old → exits_at exits.new k ≡ exits_of ((net_at B.shape (level_of (layout_of numbering.now) self.now)).exits (first + k)) }
     {
-        let pair = self.pair;
-        let _ = pair.greater();
-        let _ = pair.size();
+        // The proof learns here what the pair's numbers are, and that its entries are few.
+        let _ = &self.pair;
+        let _ = numbering.count();
         if exits.is_empty() {
             return;
         }
-        let mut position = pair.position(first);
+        let mut position = numbering.position(first);
         let mut row = Row::of::<B>(position.own());
         for place in 0..exits.len() {
             exits[place] = self.exits_by_row(&row, &position);
             if place + 1 < exits.len() {
-                advance(&pair, &mut position, &mut row, first + place as u64 + 1);
+                advance(numbering, &mut position, &mut row, first + place as u64 + 1);
             }
         }
     }
@@ -297,13 +312,13 @@ impl<'a, B: Board> Graph for PairGraph<'a, B> {
     }
 
     fn read_counts(&self, first: u64, counts: &mut [u16]) {
-        read_counts(&self.pair, first, counts)
+        read_counts(&Numbering::Full(self.pair), first, counts)
     }
 
     fn read_exits(&self, first: u64, exits: &mut [Exits]) {
         // The proof learns here that the graph's numbers of stones are those of a pair.
         let _ = &self.pair;
-        self.read_exits_from(first, exits)
+        self.read_exits_from(&Numbering::Full(self.pair), first, exits)
     }
 
     fn back(&self, i: u64, out: &mut Vec<u64>) -> Result<(), AllocError> {

@@ -8,8 +8,12 @@ mod backward_tests;
 #[cfg(test)]
 mod build_tests;
 pub mod building;
+mod class_backward;
 #[cfg(test)]
 mod class_file_tests;
+pub mod class_graph;
+#[cfg(test)]
+mod class_graph_tests;
 pub mod exact;
 pub mod file_faults;
 #[cfg(test)]

@@ -3,16 +3,17 @@ ghost use Rattle.std.specs.Prelude.{◌≡◌, ℕ, ◌+◌, ◌<◌, ◌≤◌,
 ghost use Rattle.std.specs.List.{list_any};
 ghost use Rattle.morris_board.specs.Sets.{has, members, count_of};
 ghost use Rattle.morris_moves.specs.Rules.{closes, goes, moves_of};
-ghost use Rattle.morris_index.specs.Pairs.{is_of, index_of, size_of};
+ghost use Rattle.morris_index.specs.Pairs.{is_of};
 ghost use Rattle.morris_board.specs.Positions.{IsPosition};
+ghost use Rattle.morris_table.specs.Entries.{entry_count, entry_index, has_own_entry};
+ghost use Rattle.morris_table.specs.Numberings.{layout_of, pair_of};
 ghost use Rattle.morris_table.specs.PairNets.{is_quiet, is_capture, level_of, net_at};
 ghost use Rattle.morris_table.specs.Rows.{arrivals, may_close, IsRow};
 
-use crate::layout::Layout;
+use crate::numbering::Numbering;
 use morris_board::board::Geometry;
 use morris_board::points::Points;
 use morris_board::position::Position;
-use morris_index::pair::Pair;
 use morris_moves::rules::closes;
 
 /// What is kept of the stones of one player.
@@ -140,45 +141,48 @@ impl Row {
     }
 }
 
-/// Goes on to the position of the pair with the next index, and to what is kept of its own stones.
+/// Goes on to the position that has the next entry for its own, and to what is kept of its own
+/// stones.
 pub(crate) fn advance<B: Geometry>(
-    pair: &Pair<B>,
+    numbering: &Numbering<B>,
     position: &mut Position<B>,
     row: &mut Row,
     index: u64,
 )
-    requires counts { is_of pair.now position.old ≡ true }
-    requires before { index_of B.POINTS pair.now position.old + 1 ≡ index }
-    requires inside { index < size_of B.POINTS pair.now }
+    requires counts { is_of (pair_of numbering.now) position.old ≡ true }
+    requires before { entry_index B.shape B.POINTS (layout_of numbering.now) (pair_of numbering.now) position.old + 1 ≡ index }
+    requires inside { index < entry_count B.shape B.POINTS (layout_of numbering.now) (pair_of numbering.now) }
     requires row { IsRow B.shape B.POINTS row.old }
-    ensures index { index_of B.POINTS pair.now position.new ≡ index }
-    ensures counts { is_of pair.now position.new ≡ true }
+    ensures entry { entry_index B.shape B.POINTS (layout_of numbering.now) (pair_of numbering.now) position.new ≡ index }
+    ensures counts { is_of (pair_of numbering.now) position.new ≡ true }
     ensures lawful { IsPosition B.shape position.new }
+    ensures own_entry { has_own_entry B.shape (layout_of numbering.now) position.new ≡ true }
     ensures row { IsRow B.shape B.POINTS row.new }
     ensures own { row.new.own ≡ position.new.own }
 {
-    *position = pair.following(position, index);
+    *position = numbering.following(position, index);
     row.follow(position);
 }
 
-/// The numbers of quiet moves of the positions of a pair from the index `first` on, as many as
-/// there is room for.
-pub(crate) fn read_counts<B: Geometry>(pair: &Pair<B>, first: u64, counts: &mut [u16])
-    requires { first + length counts.old ≤ size_of B.POINTS pair.now }
-    ensures { (k : ℕ) → k < length counts.old → slice_index counts.new k ≡ length ((net_at B.shape (level_of Layout.Full pair.now)).quiet (first + k)) }
+/// The numbers of quiet moves of the positions of the entries from `first` on, as many as there is
+/// room for.
+pub(crate) fn read_counts<B: Geometry>(numbering: &Numbering<B>, first: u64, counts: &mut [u16])
+    requires { first + length counts.old ≤ entry_count B.shape B.POINTS (layout_of numbering.now) (pair_of numbering.now) }
+    ensures { (k : ℕ) → k < length counts.old → slice_index counts.new k
+        ≡ length ((net_at B.shape (level_of (layout_of numbering.now) (pair_of numbering.now))).quiet (first + k)) }
 {
-    // The proof learns here what the pair's numbers are, and that its indices are small.
-    let _ = pair.greater();
-    let _ = pair.size();
+    // The proof learns here what the pair's numbers are, and that its entries are few.
+    let _ = numbering.pair();
+    let _ = numbering.count();
     if counts.is_empty() {
         return;
     }
-    let mut position = pair.position(first);
+    let mut position = numbering.position(first);
     let mut row = Row::of::<B>(position.own());
     for place in 0..counts.len() {
         counts[place] = row.quiet_moves(&position);
         if place + 1 < counts.len() {
-            advance(pair, &mut position, &mut row, first + place as u64 + 1);
+            advance(numbering, &mut position, &mut row, first + place as u64 + 1);
         }
     }
 }

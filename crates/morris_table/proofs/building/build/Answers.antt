@@ -1,9 +1,10 @@
 use Rattle.morris_table.specs.declared.layout.Layout.TheVariants.{Full}
 use Rattle.std.proofs.Common.{Err, ap, sym, subst}
+use Rattle.std.specs.Result.{result_err}
 use Rattle.morris_wave.specs.Values.{IsTooDeep}
 use Rattle.morris_table.specs.PairNets.{level_of, net_at}
 use Rattle.morris_table.specs.Shelves.{first_missing}
-use Rattle.morris_table.proofs.BuildLaws.{refused_deep, nothing_needed}
+use Rattle.morris_table.proofs.BuildLaws.{refused_deep, nothing_needed, refused_range}
 use Rattle.morris_table.proofs.building.build.Goals as goal
 
 pub returns-in_err-codes-clause-needs : goal.returns-in_err-codes-clause-needs
@@ -17,7 +18,7 @@ returns-in_err-codes-clause-too_deep g c = λ e.
     (c.in_err-codes.ensures.too_deep (ap Err (refused_deep c.from_residual-in_err-codes.result c.in_err-codes.field-0.0 c.from_residual-in_err-codes.ensures.1 e)))
 
 pub returns-in_err-codes-clause-beyond : goal.returns-in_err-codes-clause-beyond
-returns-in_err-codes-clause-beyond g c = λ e. c.in_ok-graph.ensures.deep.0 (returns-in_err-codes-clause-too_deep g c e)
+returns-in_err-codes-clause-beyond g c = λ e. (c.in_ok-graph.ensures.deep Full).0 (returns-in_err-codes-clause-too_deep g c e)
 
 pub returns-clause-not_too_deep : goal.returns-clause-not_too_deep
 returns-clause-not_too_deep g c = λ deep.
@@ -26,4 +27,18 @@ returns-clause-not_too_deep g c = λ deep.
 pub returns-clause-within : goal.returns-clause-within
 returns-clause-within g c = λ beyond.
     c.in_ok-codes.ensures.not_too_deep (subst (λ d. IsTooDeep (net_at g.B.Geometry.shape (level_of Full d))) (sym c.in_ok-graph.ensures.pair)
-    (c.in_ok-graph.ensures.deep.1 beyond))
+    ((c.in_ok-graph.ensures.deep Full).1 beyond))
+
+pub returns-in_err-codes-clause-range : goal.returns-in_err-codes-clause-range
+returns-in_err-codes-clause-range g c = λ there.
+    refused_range c.from_residual-in_err-codes.result c.in_err-codes.field-0.0 c.args.workers c.args.blocks c.from_residual-in_err-codes.ensures.1
+    c.in_err-codes.ensures.in_range (λ other e. ap result_err (c.in_err-codes.ensures.refused other e))
+
+pub returns-in_err-graph-clause-whenever : goal.returns-in_err-graph-clause-whenever
+returns-in_err-graph-clause-whenever g c = c.new.ensures.blocks Full
+
+pub returns-in_err-codes-clause-whenever : goal.returns-in_err-codes-clause-whenever
+returns-in_err-codes-clause-whenever g c = c.new.ensures.blocks Full
+
+pub returns-clause-whenever : goal.returns-clause-whenever
+returns-clause-whenever g c = c.new.ensures.blocks Full

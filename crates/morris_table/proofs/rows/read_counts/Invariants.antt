@@ -1,7 +1,8 @@
-use Rattle.morris_table.specs.declared.layout.Layout.TheVariants.{Full}
 use Rattle.std.proofs.Common.{◌≡◌, ℕ, ◌+◌, ◌<◌, true, length, slice_index}
 use Rattle.morris_board.specs.Positions.{IsPosition}
-use Rattle.morris_index.specs.Pairs.{is_of, index_of}
+use Rattle.morris_index.specs.Pairs.{is_of}
+use Rattle.morris_table.specs.Entries.{entry_index, has_own_entry}
+use Rattle.morris_table.specs.Numberings.{layout_of, pair_of}
 use Rattle.morris_table.specs.PairNets.{level_of, net_at}
 use Rattle.morris_table.specs.Rows.{IsRow}
 use Rattle.morris_table.proofs.rows.read_counts.Given as goal
@@ -9,9 +10,10 @@ use Rattle.morris_table.proofs.rows.read_counts.Given as goal
 abbrev pub invariant-loop-place : goal.invariant-loop-place
 invariant-loop-place g l = record {
   len : length l.counts ≡ length l.initial.counts;
-  read : (k : ℕ) → k < l.place → slice_index l.counts k ≡ length ((net_at g.B.Geometry.shape (level_of Full l.pair)).quiet (l.first + k));
-  at : l.place < length l.counts → index_of g.B.Geometry.POINTS l.pair l.position ≡ l.first + l.place;
-  counts : is_of l.pair l.position ≡ true;
+  read : (k : ℕ) → k < l.place → slice_index l.counts k ≡ length ((net_at g.B.Geometry.shape (level_of (layout_of l.numbering) (pair_of l.numbering))).quiet (l.first + k));
+  at : l.place < length l.counts → entry_index g.B.Geometry.shape g.B.Geometry.POINTS (layout_of l.numbering) (pair_of l.numbering) l.position ≡ l.first + l.place;
+  counts : is_of (pair_of l.numbering) l.position ≡ true;
+  own_entry : has_own_entry g.B.Geometry.shape (layout_of l.numbering) l.position ≡ true;
   lawful : IsPosition g.B.Geometry.shape l.position;
   row : IsRow g.B.Geometry.shape g.B.Geometry.POINTS l.row;
   own : l.row.own ≡ l.position.own;

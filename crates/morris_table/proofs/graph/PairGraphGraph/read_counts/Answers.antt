@@ -1,3 +1,4 @@
+use Rattle.morris_table.specs.declared.layout.Layout.TheVariants.{Full}
 use Rattle.std.proofs.Common.{◌+◌, ◌≤◌, length, subst}
 use Rattle.morris_table.proofs.GraphLaws.{size_at}
 use Rattle.morris_table.proofs.graph.PairGraphGraph.read_counts.Goals as goal
@@ -5,5 +6,5 @@ use Rattle.morris_table.proofs.graph.PairGraphGraph.read_counts.Goals as goal
 pub read_counts-requires : goal.read_counts-requires
 read_counts-requires g c =
     subst (λ k. c.args.first + length c.args.counts.now ≤ k)
-    (size_at g.B.Geometry.shape g.met.B.Geometry.is_lawful g.met.B.Geometry.has_symmetries g.B.Geometry.POINTS g.met.B.Geometry.point_count c.self.inside.pair c.self.invariant.lawful)
+    (size_at g.B.Geometry.shape g.met.B.Geometry.is_lawful g.met.B.Geometry.has_symmetries g.B.Geometry.POINTS g.met.B.Geometry.point_count Full c.self.inside.pair c.self.invariant.lawful)
     (rw (← c.self.view_is) at c.requires)

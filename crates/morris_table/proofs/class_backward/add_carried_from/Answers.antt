@@ -1,0 +1,41 @@
+use Rattle.std.proofs.Common.{◌≡◌, ℕ, ◌++◌, true, List, sym, ap, ◌∙◌, append_assoc}
+use Rattle.std.proofs.lemmas.List.{append-nil}
+use Rattle.morris_board.specs.Sets.{has, members}
+use Rattle.morris_index.specs.Carried.{entries_before}
+use Rattle.morris_table.proofs.BackLawsLoops.{end_of, next_points}
+use Rattle.morris_table.proofs.BackLawsSources.{source_lt, source_vacant}
+use Rattle.morris_table.proofs.ClassBackLaws.{leading_into_none, leading_into_more}
+use Rattle.morris_table.proofs.class_backward.add_carried_from.Goals as goal
+
+pub loop-from-init : goal.loop-from-init
+loop-from-init g c = record {
+  points = ap members (c.into_iter-from-iterator.ensures.into_iter_gives ∙ c.iter-from-items.ensures.points);
+  listed = sym (ap (λ xs. c.args.out.now.items ++ xs)
+      (leading_into_none g.B.Geometry.shape g.B.Geometry.POINTS c.args.entries.now.pair c.args.entries.now.position c.args.to) ∙ append-nil c.args.out.now.items);
+}
+
+pub add-requires-clause-start : goal.add-requires-clause-start
+add-requires-clause-start g c =
+    let here : has c.args.points c.in-Some.from ≡ true = end_of c.args.points c.loop-from.yielded c.in-Some.from (members c.next.new.self)
+    (ap (λ (zs : List ℕ). c.loop-from.yielded ++ zs) (sym c.in-Some.ensures.steps) ∙ c.loop-from.invariant.points) in
+    source_lt g.B.Geometry.shape g.B.Geometry.POINTS g.met.B.Geometry.point_count g.met.B.Geometry.few c.args.entries.now.position c.args.to c.args.points
+    c.requires.sources c.in-Some.from here
+
+pub add-requires-clause-vacant : goal.add-requires-clause-vacant
+add-requires-clause-vacant g c =
+    let here : has c.args.points c.in-Some.from ≡ true = end_of c.args.points c.loop-from.yielded c.in-Some.from (members c.next.new.self)
+    (ap (λ (zs : List ℕ). c.loop-from.yielded ++ zs) (sym c.in-Some.ensures.steps) ∙ c.loop-from.invariant.points) in
+    source_vacant g.B.Geometry.shape g.B.Geometry.POINTS g.met.B.Geometry.point_count g.met.B.Geometry.few c.args.entries.now.position c.args.to c.args.points
+    c.requires.sources c.in-Some.from here
+
+pub loop-from-preserved : goal.loop-from-preserved
+loop-from-preserved g c = record {
+  points = next_points c.loop-from.yielded c.in-Some.from c.loop-from.from-iterator c.next.new.self (members c.args.points) c.loop-from.invariant.points
+      c.in-Some.ensures.steps;
+  listed = c.in_ok-add.ensures
+      ∙ (ap (λ (xs : List ℕ). xs ++ entries_before g.B.Geometry.shape g.B.Geometry.POINTS c.args.entries.now.pair c.args.entries.now.position c.in-Some.from c.args.to)
+      c.loop-from.invariant.listed
+      ∙ (append_assoc c.args.out.now.items _ _
+      ∙ ap (λ (xs : List ℕ). c.args.out.now.items ++ xs)
+      (leading_into_more g.B.Geometry.shape g.B.Geometry.POINTS c.args.entries.now.pair c.args.entries.now.position c.loop-from.yielded c.in-Some.from c.args.to)));
+}

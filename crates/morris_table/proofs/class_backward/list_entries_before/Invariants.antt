@@ -1,0 +1,10 @@
+use Rattle.std.proofs.Common.{◌≡◌, ◌++◌}
+use Rattle.morris_board.specs.Sets.{members}
+use Rattle.morris_table.specs.Backward.{moves_before, entries_leading}
+use Rattle.morris_table.proofs.class_backward.list_entries_before.Given as goal
+
+abbrev pub invariant-loop-to : goal.invariant-loop-to
+invariant-loop-to g l = record {
+  points : l.yielded ++ members l.to-iterator ≡ members l.position.other;
+  listed : l.out.items ≡ entries_leading g.B.Geometry.shape g.B.Geometry.POINTS l.classes l.position (moves_before g.B.Geometry.shape l.position g.B.Geometry.POINTS l.yielded);
+}
