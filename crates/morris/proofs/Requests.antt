@@ -13,7 +13,7 @@ use Rattle.clap.specs.Values.{bool_text}
 use Rattle.clap.specs.Walk.{Row, Rule, Text, answers_to, finished, has_row, nothing_held, rows_after, settled, stop_after, walk, with_default}
 use Rattle.clap.specs.Simple.{App, Shape, argument_words, built, built_leaf, entered, filled, help_rule, inherited, label_of, marked_built, names_of, new_shape, rows_at, with_index, with_leaf_noted, with_subcommand}
 use Rattle.clap.specs.declared.builder.value_parser.ValueParser.TheVariants as parser
-use Rattle.morris.specs.Words.{HasBuildValues, HasLookValues, HasProbeValues, HasStatsValues, HasVerifyValues, NamesRequest, all_rule, blocks_rule, build_app, depth_rule, faults_of, look_app, morris_app, named_by, probe_app, program, required_rule, stats_app, verify_app, workers_rule}
+use Rattle.morris.specs.Words.{HasBuildValues, HasLookValues, HasProbeValues, HasStatsValues, HasVerifyValues, NamesRequest, all_rule, blocks_rule, build_app, classes_rule, depth_rule, faults_of, look_app, morris_app, named_by, probe_app, program, required_rule, stats_app, verify_app, workers_rule}
 use Rattle.morris.proofs.Parsed.{Each, Each-find, HasValue, IsNotHelp, IsPlainRule, arguments_there, default_fills, default_keeps, given_value, level_passes, row_value, subcommand_there}
 
 -- ---- `look`, as it is built
@@ -38,7 +38,7 @@ stats_top = record (new_shape (codes "stats")) { rules = required_rule (codes "B
 
 abbrev build_top : Shape
 build_top = record (new_shape (codes "build")) {
-  rules = required_rule (codes "BOARD") ∷ required_rule (codes "PAIR") ∷ workers_rule ∷ blocks_rule ∷ all_rule ∷ [];
+  rules = required_rule (codes "BOARD") ∷ required_rule (codes "PAIR") ∷ workers_rule ∷ blocks_rule ∷ all_rule ∷ classes_rule ∷ [];
 }
 
 abbrev verify_top : Shape
@@ -126,8 +126,11 @@ workers = filled workers_rule
 abbrev blocks : Rule
 blocks = filled blocks_rule
 
-abbrev flag : Rule
-flag = filled all_rule
+abbrev all_flag : Rule
+all_flag = filled all_rule
+
+abbrev classes_flag : Rule
+classes_flag = filled classes_rule
 
 abbrev build : Shape
 build = built_leaf (inherited (with_leaf_noted (marked_built whole.top)) build_top)
@@ -143,24 +146,32 @@ build_plain = (
         record { known = refl; kind = inl (refl, refl) },
         (
           record { known = refl; kind = inr (inl (refl, refl)) },
-          (record { known = refl; kind = inr (inr refl) }, tt),
+          (
+            record { known = refl; kind = inr (inl (refl, refl)) },
+            (record { known = refl; kind = inr (inr refl) }, tt),
+          ),
         ),
       ),
     ),
   ),
 )
 
--- the rows with the defaults of the numbers and of the flag have all three
-has_all : (start : List Row) → let rows = with_default (with_default (with_default (with_default start workers) blocks) flag) help in
+-- the rows with the defaults of the numbers and of the flags have all four
+has_all : (start : List Row)
+    → let rows = with_default (with_default (with_default (with_default (with_default start workers) blocks) all_flag) classes_flag) help in
     (has_row (codes "workers") rows ≡ true) × (has_row (codes "blocks") rows ≡ true) × (has_row (codes "all") rows ≡ true)
+    × (has_row (codes "classes") rows ≡ true)
 has_all start =
     let one = with_default start workers in
     let two = with_default one blocks in
-    let three = with_default two flag in (
-      default_keeps (codes "workers") help three
-          (default_keeps (codes "workers") flag two (default_keeps (codes "workers") blocks one (default_fills workers (codes "2") [] start refl))),
-      default_keeps (codes "blocks") help three (default_keeps (codes "blocks") flag two (default_fills blocks (codes "16") [] one refl)),
-      default_keeps (codes "all") help three (default_fills flag (codes "false") [] two refl),
+    let three = with_default two all_flag in
+    let four = with_default three classes_flag in
+    let kept : (id : Text) → has_row id three ≡ true → has_row id (with_default four help) ≡ true =
+    λ id has. default_keeps id help four (default_keeps id classes_flag three has) in (
+      kept (codes "workers") (default_keeps (codes "workers") all_flag two (default_keeps (codes "workers") blocks one (default_fills workers (codes "2") [] start refl))),
+      kept (codes "blocks") (default_keeps (codes "blocks") all_flag two (default_fills blocks (codes "16") [] one refl)),
+      kept (codes "all") (default_fills all_flag (codes "false") [] two refl),
+      default_keeps (codes "classes") help four (default_fills classes_flag (codes "false") [] three refl),
     )
 
 -- a text that passed the parser of a flag says true or false
@@ -183,8 +194,10 @@ build_fits words none =
     let second : HasValue rows pair = given_value build.rules rows pair level.rows given.1 refl in
     let third : HasValue rows workers = row_value build.rules rows workers level.rows has.0 refl in
     let fourth : HasValue rows blocks = row_value build.rules rows blocks level.rows has.1 refl in
-    let fifth : HasValue rows flag = row_value build.rules rows flag level.rows has.2 refl in
-    let says = says_bool fifth.first fifth.passes in
+    let fifth : HasValue rows all_flag = row_value build.rules rows all_flag level.rows has.2 refl in
+    let sixth : HasValue rows classes_flag = row_value build.rules rows classes_flag level.rows has.3 refl in
+    let says_all = says_bool fifth.first fifth.passes in
+    let says_classes = says_bool sixth.first sixth.passes in
     record {
       board = ap is_some first.is_first;
       pair = ap is_some second.is_first;
@@ -194,8 +207,10 @@ build_fits words none =
       blocks_text = fourth.first;
       blocks_read = fourth.read;
       blocks_in_range = accepts-Accepts false (parser.Signed (pos 1) (pos 1024)) fourth.first fourth.passes;
-      all = says.0;
-      all_read = fifth.read ∙ ap (λ t. Some t) says.1;
+      all = says_all.0;
+      all_read = fifth.read ∙ ap (λ t. Some t) says_all.1;
+      classes = says_classes.0;
+      classes_read = sixth.read ∙ ap (λ t. Some t) says_classes.1;
     }
 
 -- ---- `verify`, as it is built

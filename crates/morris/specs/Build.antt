@@ -7,7 +7,7 @@ use Rattle.morris_index.specs.Pairs.{Counts, below_of}
 use Rattle.morris_workers.specs.Ranges.{range_fault}
 use Rattle.morris_workers.specs.declared.fault.SolveFault.{SolveFault}
 use Rattle.morris_table.specs.declared.layout.Layout.{Layout}
-use Rattle.morris_table.specs.declared.layout.Layout.TheVariants.{Full}
+use Rattle.morris_table.specs.declared.layout.Layout.TheVariants.{Full, Classes}
 use Rattle.morris_table.specs.Known.{IsBeyondCodes}
 use Rattle.morris_table.specs.Shelves.{Stored, table_on}
 use Rattle.morris_table.specs.TableFiles.{file_of}
@@ -19,6 +19,11 @@ use Rattle.morris.specs.PairText.{read_pair_of}
 use Rattle.morris.specs.Stats.{HasTooDeep}
 
 -- ---- the files
+
+-- the layout of the tables: an entry for each class of positions where that is asked for, and
+-- otherwise one for each position
+abbrev pub layout_asked : Bool → Layout
+layout_asked classes = if classes then Classes else Full
 
 -- the pairs whose files are written: all those below a pair, in order, its own among them, or its
 -- own alone
@@ -72,34 +77,35 @@ IsUnbuiltFor board pair blocks _ = ⊥
 
 -- ---- the answer
 
--- What `build` answers of a pair: one of these refusals, with nothing written; otherwise codes
--- suffice for all depths, and the files are written, or the first bytes of them up to the write
--- that failed.
-abbrev pub AnswersBuilt : {T : Type 0} → Shape → Counts → ℕ → Bool → Option (List ℕ) → Option (List ℕ) → Result T Fault → Type 0
-AnswersBuilt board pair blocks all old new (Ok done) = ¬ HasTooDeep board pair × AnswersFiles board Full (pairs_written all pair) old new (Ok done)
-AnswersBuilt board pair blocks all old new (Err (fault.Write sent)) =
-    ¬ HasTooDeep board pair × AnswersFiles {T = Unit {0}} board Full (pairs_written all pair) old new (Err (fault.Write sent))
-AnswersBuilt board pair blocks all old new (Err refused) = IsUnbuiltFor board pair blocks refused × Keeps old new
+-- What `build` answers of a pair in a layout: one of these refusals, with nothing written;
+-- otherwise codes suffice for all depths, and the files are written, or the first bytes of them up
+-- to the write that failed.
+abbrev pub AnswersBuilt : {T : Type 0} → Shape → Layout → Counts → ℕ → Bool → Option (List ℕ) → Option (List ℕ) → Result T Fault → Type 0
+AnswersBuilt board l pair blocks all old new (Ok done) = ¬ HasTooDeep board pair × AnswersFiles board l (pairs_written all pair) old new (Ok done)
+AnswersBuilt board l pair blocks all old new (Err (fault.Write sent)) =
+    ¬ HasTooDeep board pair × AnswersFiles {T = Unit {0}} board l (pairs_written all pair) old new (Err (fault.Write sent))
+AnswersBuilt board l pair blocks all old new (Err refused) = IsUnbuiltFor board pair blocks refused × Keeps old new
 
 -- What it answers with so many workers and blocks: where there may not be so many, the fault that
 -- says so, with nothing written and before anything is built; otherwise what it answers of the
 -- pair.
-abbrev pub AnswersTeam : {T : Type 0} → Shape → Counts → ℕ → Bool → Option (List ℕ) → Option (List ℕ) → Result T Fault → Option SolveFault → Type 0
-AnswersTeam board pair blocks all old new result (Some refused) = (result ≡ Err (solve_fault refused)) × Keeps old new
-AnswersTeam board pair blocks all old new result None = AnswersBuilt board pair blocks all old new result
+abbrev pub AnswersTeam : {T : Type 0} → Shape → Layout → Counts → ℕ → Bool → Option (List ℕ) → Option (List ℕ) → Result T Fault → Option SolveFault → Type 0
+AnswersTeam board l pair blocks all old new result (Some refused) = (result ≡ Err (solve_fault refused)) × Keeps old new
+AnswersTeam board l pair blocks all old new result None = AnswersBuilt board l pair blocks all old new result
 
 -- What it answers on a board: the fault of a text that names no pair, with nothing written;
 -- otherwise what it answers with its workers and blocks.
-abbrev pub AnswersRead : {T : Type 0} → Shape → ℕ → ℕ → Bool → Option (List ℕ) → Option (List ℕ) → Result T Fault → Result Counts Fault → Type 0
-AnswersRead board workers blocks all old new result (Err refused) = (result ≡ Err refused) × Keeps old new
-AnswersRead board workers blocks all old new result (Ok pair) =
-    AnswersTeam board pair blocks all old new result (range_fault workers blocks)
+abbrev pub AnswersRead : {T : Type 0} → Shape → Layout → ℕ → ℕ → Bool → Option (List ℕ) → Option (List ℕ) → Result T Fault → Result Counts Fault → Type 0
+AnswersRead board l workers blocks all old new result (Err refused) = (result ≡ Err refused) × Keeps old new
+AnswersRead board l workers blocks all old new result (Ok pair) =
+    AnswersTeam board l pair blocks all old new result (range_fault workers blocks)
 
-abbrev pub AnswersBuildOn : {T : Type 0} → Shape → List ℕ → ℕ → ℕ → Bool → Option (List ℕ) → Option (List ℕ) → Result T Fault → Type 0
-AnswersBuildOn board text workers blocks all old new result = AnswersRead board workers blocks all old new result (read_pair_of board.points text)
+abbrev pub AnswersBuildOn : {T : Type 0} → Shape → Layout → List ℕ → ℕ → ℕ → Bool → Option (List ℕ) → Option (List ℕ) → Result T Fault → Type 0
+AnswersBuildOn board l text workers blocks all old new result = AnswersRead board l workers blocks all old new result (read_pair_of board.points text)
 
 -- What `build` answers: the fault of a board that isn't there, with nothing written; otherwise what
--- it answers on the board.
-abbrev pub AnswersBuild : {T : Type 0} → Option Shape → List ℕ → ℕ → ℕ → Bool → Option (List ℕ) → Option (List ℕ) → Result T Fault → Type 0
-AnswersBuild None text workers blocks all old new result = (result ≡ Err fault.Board) × Keeps old new
-AnswersBuild (Some board) text workers blocks all old new result = AnswersBuildOn board text workers blocks all old new result
+-- it answers on the board, with tables in the layout that is asked for.
+abbrev pub AnswersBuild : {T : Type 0} → Option Shape → List ℕ → ℕ → ℕ → Bool → Bool → Option (List ℕ) → Option (List ℕ) → Result T Fault → Type 0
+AnswersBuild None text workers blocks all classes old new result = (result ≡ Err fault.Board) × Keeps old new
+AnswersBuild (Some board) text workers blocks all classes old new result =
+    AnswersBuildOn board (layout_asked classes) text workers blocks all old new result

@@ -30,7 +30,8 @@ AsksToShow kinds = IsAmong kind.DisplayHelp kinds ⊎ IsAmong kind.DisplayVersio
 abbrev pub Answers : {T : Type 0} → Input → Input → Option (List ℕ) → Option (List ℕ) → Request → Result T Fault → Type 0
 Answers before after old new (Look board text depth) result = Looks (board_of board.now) text.now depth old new result
 Answers before after old new (Stats board pair) result = AnswersStats (board_of board.now) pair.now old new result
-Answers before after old new (Build board pair workers blocks all) result = AnswersBuild (board_of board.now) pair.now workers blocks all old new result
+Answers before after old new (Build board pair workers blocks all classes) result =
+    AnswersBuild (board_of board.now) pair.now workers blocks all classes old new result
 Answers before after old new (Verify board) result = AnswersVerify (board_of board.now) before after old new result
 Answers before after old new (Probe board text) result = AnswersProbe (board_of board.now) text.now before after old new result
 
@@ -38,7 +39,7 @@ Answers before after old new (Probe board text) result = AnswersProbe (board_of 
 abbrev pub takes_input : Request → Bool
 takes_input (Look board text depth) = false
 takes_input (Stats board pair) = false
-takes_input (Build board pair workers blocks all) = false
+takes_input (Build board pair workers blocks all classes) = false
 takes_input (Verify board) = true
 takes_input (Probe board text) = true
 

@@ -70,11 +70,15 @@ blocks_rule = record (new_rule (codes "blocks")) {
 abbrev pub all_rule : Rule
 all_rule = record (new_rule (codes "all")) { long = Some (codes "all"); action = Some action.SetTrue }
 
--- `build BOARD PAIR [--workers W] [--blocks K] [--all]`
+-- `--classes`, a flag
+abbrev pub classes_rule : Rule
+classes_rule = record (new_rule (codes "classes")) { long = Some (codes "classes"); action = Some action.SetTrue }
+
+-- `build BOARD PAIR [--workers W] [--blocks K] [--all] [--classes]`
 unfoldable pub build_app : App
 build_app =
-    with_rule (with_rule (with_rule (with_rule (with_rule (new_app (codes "build")) (required_rule (codes "BOARD")))
-    (required_rule (codes "PAIR"))) workers_rule) blocks_rule) all_rule
+    with_rule (with_rule (with_rule (with_rule (with_rule (with_rule (new_app (codes "build")) (required_rule (codes "BOARD")))
+    (required_rule (codes "PAIR"))) workers_rule) blocks_rule) all_rule) classes_rule
 
 -- `verify BOARD`
 unfoldable pub verify_app : App
@@ -119,11 +123,12 @@ AsksFor (Some (name, rows)) (Look board text depth) =
     × (option_map number_of (one_of (codes "depth") rows) ≡ Some depth)
 AsksFor (Some (name, rows)) (Stats board pair) =
     (name ≡ codes "stats") × (first_of (codes "BOARD") rows ≡ Some board.now) × (first_of (codes "PAIR") rows ≡ Some pair.now)
-AsksFor (Some (name, rows)) (Build board pair workers blocks all) =
+AsksFor (Some (name, rows)) (Build board pair workers blocks all classes) =
     (name ≡ codes "build") × (first_of (codes "BOARD") rows ≡ Some board.now) × (first_of (codes "PAIR") rows ≡ Some pair.now)
     × (option_map number_of (one_of (codes "workers") rows) ≡ Some workers)
     × (option_map number_of (one_of (codes "blocks") rows) ≡ Some blocks)
     × (one_of (codes "all") rows ≡ Some (bool_text all))
+    × (one_of (codes "classes") rows ≡ Some (bool_text classes))
 AsksFor (Some (name, rows)) (Verify board) = (name ≡ codes "verify") × (first_of (codes "BOARD") rows ≡ Some board.now)
 AsksFor (Some (name, rows)) (Probe board text) =
     (name ≡ codes "probe") × (first_of (codes "BOARD") rows ≡ Some board.now) × (first_of (codes "TEXT") rows ≡ Some text.now)
@@ -132,7 +137,7 @@ AsksFor (Some (name, rows)) (Probe board text) =
 abbrev pub IsInRange : Request → Type 0
 IsInRange (Look board text depth) = depth ≤ 6
 IsInRange (Stats board pair) = ⊤
-IsInRange (Build board pair workers blocks all) = ((1 ≤ workers) × (workers ≤ 64)) × ((1 ≤ blocks) × (blocks ≤ 1024))
+IsInRange (Build board pair workers blocks all classes) = ((1 ≤ workers) × (workers ≤ 64)) × ((1 ≤ blocks) × (blocks ≤ 1024))
 IsInRange (Verify board) = ⊤
 IsInRange (Probe board text) = ⊤
 
@@ -151,7 +156,7 @@ pub record HasStatsValues (rows : List Row) : Type 0 where
   pub pair : is_some (first_of (codes "PAIR") rows) ≡ true
 
 -- the values of which `build` makes its request: board and pair are there, and so are a number of
--- workers from 1 to 64, one of blocks from 1 to 1,024, and the value of its flag
+-- workers from 1 to 64, one of blocks from 1 to 1,024, and the values of its flags
 pub record HasBuildValues (rows : List Row) : Type 0 where
   pub board : is_some (first_of (codes "BOARD") rows) ≡ true
   pub pair : is_some (first_of (codes "PAIR") rows) ≡ true
@@ -163,6 +168,8 @@ pub record HasBuildValues (rows : List Row) : Type 0 where
   pub blocks_in_range : IsSignedIn (pos 1) (pos 1024) blocks_text
   pub all : Bool
   pub all_read : one_of (codes "all") rows ≡ Some (bool_text all)
+  pub classes : Bool
+  pub classes_read : one_of (codes "classes") rows ≡ Some (bool_text classes)
 
 -- the value of which `verify` makes its request: a board is there
 pub record HasVerifyValues (rows : List Row) : Type 0 where

@@ -10,7 +10,7 @@ ghost use Rattle.morris_workers.specs.Ranges.{range_fault};
 ghost use Rattle.morris.specs.Faults.{CountsWrites, is_write, solve_fault};
 ghost use Rattle.morris.specs.Look.{board_of};
 ghost use Rattle.morris.specs.Stats.{HasTooDeep};
-ghost use Rattle.morris.specs.Build.{AnswersBuild, AnswersBuildOn, AnswersBuilt, AnswersFiles, HasExact, HasExactAt, HasTables, IsUnbuiltAt, IsUnbuiltFor, file_on, pairs_written};
+ghost use Rattle.morris.specs.Build.{AnswersBuild, AnswersBuildOn, AnswersBuilt, AnswersFiles, HasExact, HasExactAt, HasTables, IsUnbuiltAt, IsUnbuiltFor, file_on, layout_asked, pairs_written};
 
 use crate::boards::{NamedBoard, read_board};
 use crate::fault::Fault;
@@ -20,7 +20,7 @@ use morris_board::grid::Grid;
 use morris_board::nine::Nine;
 use morris_board::streams::Sink;
 use morris_index::pair::Pair;
-use morris_table::building::build;
+use morris_table::building::build_as;
 use morris_table::exact::Exact;
 use morris_table::file_faults::Write;
 use morris_table::layout::Layout;
@@ -42,8 +42,10 @@ pub struct Team {
 
 /// Builds the tables of all pairs below the one that the text `pair` names on the board named
 /// `board`, in order and the pair's own among them, and writes the file of the pair's table; or,
-/// with `all`, the files of all of them, one after the other in that order. Each is built by so
-/// many workers over so many blocks; the bytes are the same for every number of them.
+/// with `all`, the files of all of them, one after the other in that order. With `classes` each
+/// table has an entry for each class of positions, and its file is of version 2; otherwise it has
+/// one for each position, and its file is of version 1. Each is built by so many workers over so
+/// many blocks; the bytes are the same for every number of them.
 ///
 /// # Errors
 /// [`Fault::Board`] where there is no such board, else [`Fault::PairText`], [`Fault::Counts`] or
@@ -62,34 +64,47 @@ pub fn build_out<R: Threads + Wait + Sync, O: Sink>(
     workers: usize,
     blocks: usize,
     all: bool,
+    classes: bool,
     output: &mut O,
 ) -> Result<(), Fault>
     requires { O.failures output.old < 2 ^ 64 - 1 }
-    ensures answer { AnswersBuild (board_of board.now) pair.now workers blocks all (O.contents output.old) (O.contents output.new) result }
+    ensures answer { AnswersBuild (board_of board.now) pair.now workers blocks all classes (O.contents output.old) (O.contents output.new) result }
     ensures counted { CountsWrites (O.failures output.old) (O.failures output.new) result }
 {
-    let team = Team { workers, blocks };
+    let (layout, team) = (layout_of(classes), Team { workers, blocks });
     match read_board(board)? {
-        NamedBoard::Nine => build_on::<Nine, R, O>(rt, alloc, pair, team, all, output),
-        NamedBoard::Grid => build_on::<Grid, R, O>(rt, alloc, pair, team, all, output),
+        NamedBoard::Nine => build_on::<Nine, R, O>(rt, alloc, layout, pair, team, all, output),
+        NamedBoard::Grid => build_on::<Grid, R, O>(rt, alloc, layout, pair, team, all, output),
+    }
+}
+
+/// The layout of the tables, by whether entries for classes are asked for.
+fn layout_of(classes: bool) -> Layout
+    ensures { result ≡ layout_asked classes }
+{
+    if classes {
+        Layout::Classes
+    } else {
+        Layout::Full
     }
 }
 
 fn build_on<B: Board, R: Threads + Wait + Sync, O: Sink>(
     rt: &R,
     alloc: Global,
+    layout: Layout,
     text: &str,
     team: Team,
     all: bool,
     output: &mut O,
 ) -> Result<(), Fault>
     requires { O.failures output.old < 2 ^ 64 - 1 }
-    ensures answer { AnswersBuildOn B.shape text.now team.workers team.blocks all (O.contents output.old) (O.contents output.new) result }
+    ensures answer { AnswersBuildOn B.shape layout text.now team.workers team.blocks all (O.contents output.old) (O.contents output.new) result }
     ensures counted { CountsWrites (O.failures output.old) (O.failures output.new) result }
 {
     let pair = read_pair::<B>(text)?;
     check_team(team)?;
-    build_pair(rt, alloc, pair, team, all, output)
+    build_pair(rt, alloc, layout, pair, team, all, output)
 }
 
 /// Whether there are so many workers and blocks as there may be.
@@ -106,6 +121,7 @@ fn check_team(team: Team) -> Result<(), Fault>
 fn build_pair<B: Board, R: Threads + Wait + Sync, O: Sink>(
     rt: &R,
     alloc: Global,
+    layout: Layout,
     pair: Pair<B>,
     team: Team,
     all: bool,
@@ -113,22 +129,23 @@ fn build_pair<B: Board, R: Threads + Wait + Sync, O: Sink>(
 ) -> Result<(), Fault>
     requires failures { O.failures output.old < 2 ^ 64 - 1 }
     requires range { range_fault team.workers team.blocks ≡ None }
-    ensures answer { AnswersBuilt B.shape pair team.blocks all (O.contents output.old) (O.contents output.new) result }
+    ensures answer { AnswersBuilt B.shape layout pair team.blocks all (O.contents output.old) (O.contents output.new) result }
     ensures counted { CountsWrites (O.failures output.old) (O.failures output.new) result }
 {
-    let shelf = build_below(rt, alloc, pair, team)?;
-    write_files(&shelf, pair, all, output)
+    let shelf = build_below(rt, alloc, layout, pair, team)?;
+    write_files(&shelf, layout, pair, all, output)
 }
 
-/// The tables of all pairs below a pair, its own among them.
+/// The tables of all pairs below a pair, its own among them, in a layout.
 fn build_below<B: Board, R: Threads + Wait + Sync>(
     rt: &R,
     alloc: Global,
+    layout: Layout,
     pair: Pair<B>,
     team: Team,
 ) -> Result<Shelf<B>, Fault>
     requires range { range_fault team.workers team.blocks ≡ None }
-    ensures exact { IfOk result (λ shelf. HasExact B.shape Layout.Full shelf (below_of pair)) }
+    ensures exact { IfOk result (λ shelf. HasExact B.shape layout shelf (below_of pair)) }
     ensures last { OnOk result (EndsIn (below_of pair) pair) }
     ensures within { OnOk result (¬ HasTooDeep B.shape pair) }
     ensures refused { IfErr result (IsUnbuiltFor B.shape pair team.blocks) }
@@ -136,49 +153,51 @@ fn build_below<B: Board, R: Threads + Wait + Sync>(
 {
     let mut shelf = Shelf::new(alloc)?;
     for below in pair.below() {
-        build_onto(rt, alloc, &mut shelf, below, team)?;
+        build_onto(rt, alloc, &mut shelf, layout, below, team)?;
     }
     Ok(shelf)
 }
 
-/// Puts the table of a pair on a shelf that has those that it needs.
+/// Puts the table of a pair in a layout on a shelf that has those that it needs.
 fn build_onto<B: Board, R: Threads + Wait + Sync>(
     rt: &R,
     alloc: Global,
     shelf: &mut Shelf<B>,
+    layout: Layout,
     pair: Pair<B>,
     team: Team,
 ) -> Result<(), Fault>
     requires ready { first_missing shelf.old pair ≡ None }
     requires range { range_fault team.workers team.blocks ≡ None }
-    ensures exact { OnOk result (HasExactAt B.shape Layout.Full shelf.new pair) }
+    ensures exact { OnOk result (HasExactAt B.shape layout shelf.new pair) }
     ensures others { OnOk result ((other : Counts) → other ≢ pair → table_on shelf.new other ≡ table_on shelf.old other) }
     ensures within { OnOk result (¬ IsBeyondCodes B.shape pair) }
     ensures refused { IfErr result (IsUnbuiltAt B.shape pair team.blocks) }
 {
     let Team { workers, blocks } = team;
-    let table = build(rt, alloc, shelf, pair, &OpenGate, workers, blocks)?;
+    let table = build_as(rt, alloc, shelf, pair, layout, &OpenGate, workers, blocks)?;
     match shelf.put(table) {
         Ok(()) => Ok(()),
         Err(_) => unreachable!(),
     }
 }
 
-/// Writes the file of a pair's table, or those of all pairs below it.
+/// Writes the file of a pair's table, or those of all pairs below it, where these are in a layout.
 fn write_files<B: Geometry, O: Sink>(
     shelf: &Shelf<B>,
+    layout: Layout,
     pair: Pair<B>,
     all: bool,
     output: &mut O,
 ) -> Result<(), Fault>
     requires failures { O.failures output.old < 2 ^ 64 - 1 }
-    requires exact { HasExact B.shape Layout.Full shelf.now (below_of pair) }
+    requires exact { HasExact B.shape layout shelf.now (below_of pair) }
     requires last { EndsIn (below_of pair) pair }
-    ensures files { AnswersFiles B.shape Layout.Full (pairs_written all pair) (O.contents output.old) (O.contents output.new) result }
+    ensures files { AnswersFiles B.shape layout (pairs_written all pair) (O.contents output.old) (O.contents output.new) result }
     ensures unrefused { IfErr result (λ refused. is_write refused ≡ true) }
     ensures counted { CountsWrites (O.failures output.old) (O.failures output.new) result }
 {
-    match send_files(shelf, pair, all, output) {
+    match send_files(shelf, layout, pair, all, output) {
         Ok(_) => Ok(()),
         Err(sent) => Err(Fault::Write(sent)),
     }
@@ -187,16 +206,17 @@ fn write_files<B: Geometry, O: Sink>(
 /// Sends these files, and answers how many bytes went out.
 fn send_files<B: Geometry, O: Sink>(
     shelf: &Shelf<B>,
+    layout: Layout,
     pair: Pair<B>,
     all: bool,
     output: &mut O,
 ) -> Result<u64, u64>
     requires failures { O.failures output.old < 2 ^ 64 - 1 }
-    requires exact { HasExact B.shape Layout.Full shelf.now (below_of pair) }
+    requires exact { HasExact B.shape layout shelf.now (below_of pair) }
     requires last { EndsIn (below_of pair) pair }
     ensures sent { HasSent (O.contents output.old) (O.contents output.new) 0 (flat_map (file_on B.shape shelf.now) (pairs_written all pair)) result }
     ensures counted { CountsFailure (O.failures output.old) (O.failures output.new) result }
-    ensures exact { HasExact B.shape Layout.Full shelf.now (pairs_written all pair) }
+    ensures exact { HasExact B.shape layout shelf.now (pairs_written all pair) }
 {
     if all {
         write_below(shelf, pair, output)

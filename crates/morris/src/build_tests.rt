@@ -28,7 +28,7 @@ fn both_files(alloc: Global) -> Result<Vec<u8>, Fail> {
 }
 
 /// The words give this file, with nothing on standard error.
-fn assert_built(
+pub(crate) fn assert_built(
     rt: &(impl Abort + AllocGlobal + Threads + Wait + Sync),
     words: &[&str],
     file: &[u8],
@@ -92,7 +92,7 @@ fn the_files_of_all_pairs_below_are_one_after_the_other(rt: HostRuntime) -> Resu
     Ok(())
 }
 
-/// A build of these is refused with this fault, and writes nothing.
+/// A build of these is refused with this fault, and writes nothing, in either layout.
 fn assert_build_refused(
     rt: &(impl Abort + AllocGlobal + Threads + Wait + Sync),
     board: &str,
@@ -101,19 +101,22 @@ fn assert_build_refused(
     blocks: usize,
     fault: Fault,
 ) {
-    let mut output = IntoWrite::new(Vec::new(rt.alloc()));
-    let answer = build_out(
-        rt,
-        rt.alloc(),
-        board,
-        pair,
-        workers,
-        blocks,
-        true,
-        &mut output,
-    );
-    assert_eq!(rt; answer, Err(fault));
-    assert!(rt; output.into_inner().is_empty());
+    for classes in [false, true] {
+        let mut output = IntoWrite::new(Vec::new(rt.alloc()));
+        let answer = build_out(
+            rt,
+            rt.alloc(),
+            board,
+            pair,
+            workers,
+            blocks,
+            true,
+            classes,
+            &mut output,
+        );
+        assert_eq!(rt; answer, Err(fault));
+        assert!(rt; output.into_inner().is_empty());
+    }
 }
 
 #[test]
@@ -136,7 +139,17 @@ fn a_failed_write_of_build_tells_what_went_out(rt: HostRuntime) -> Result<(), Fa
     let files = both_files(rt.alloc())?;
     for room in [0, 1, 15, 16, 3_407, 3_408, 3_409, 3_500, 8_495] {
         let mut output = IntoWrite::new(Narrow::new(rt.alloc(), room));
-        let answer = build_out(&rt, rt.alloc(), "grid", "4-3", 2, 5, true, &mut output);
+        let answer = build_out(
+            &rt,
+            rt.alloc(),
+            "grid",
+            "4-3",
+            2,
+            5,
+            true,
+            false,
+            &mut output,
+        );
         assert_eq!(rt; answer, Err(Fault::Write(room as u64)));
         let narrow = output.into_inner();
         assert_eq!(rt; Some(narrow.kept.as_slice()), files.as_slice().get(..room));

@@ -1,10 +1,15 @@
-// Files of version 2, whose entries are those of classes, as `morris verify` and `morris probe`
-// take them.
-use crate::tests::assert_answer_on;
+// Files of version 2, whose entries are those of classes, as `morris build` writes them and
+// `morris verify` and `morris probe` take them.
+use crate::build::build_out;
+use crate::build_tests::assert_built;
+use crate::fault::Fault;
+use crate::tests::{Narrow, answer_to, assert_answer_on};
 use crate::verify_tests::file;
 use morris_board::grid::Grid;
+use morris_board::streams::IntoWrite;
 use morris_index::class_pair::ClassPair;
 use morris_index::pair::Pair;
+use morris_table::exact::Exact;
 use morris_table::shelf::Shelf;
 use morris_table::sweeping::sweep_pair;
 use morris_table::value::Value;
@@ -21,6 +26,12 @@ const DIGEST: [u8; 32] = [
     0x99, 0xe1, 0x8c, 0x48, 0xb8, 0x25, 0x12, 0xe4, 0x9a, 0xba, 0xb1, 0x0f, 0xf5, 0xa7, 0x2d, 0x8a,
 ];
 
+/// That of the header and the 470 codes of 4-3, by the same program.
+const DIGEST_OF_FOUR: [u8; 32] = [
+    0xed, 0xb5, 0x2c, 0x09, 0x45, 0xc8, 0xe3, 0x35, 0x31, 0xd3, 0xa3, 0x77, 0xac, 0x8f, 0xdf, 0x58,
+    0xe4, 0x5a, 0xc9, 0xb0, 0x06, 0x27, 0x8b, 0xa7, 0x67, 0xd9, 0xe3, 0xb6, 0x37, 0x95, 0xec, 0x8d,
+];
+
 /// The code of a value: 0 for a draw, otherwise one more than the depth.
 fn code_of(value: Value) -> u16 {
     match value {
@@ -29,18 +40,43 @@ fn code_of(value: Value) -> u16 {
     }
 }
 
-/// The file of the classes of 3-3 on the board of nine points, 688 bytes.
-fn class_file(alloc: Global) -> Result<Vec<u8>, Fail> {
-    let shelf = Shelf::<Grid>::new(alloc)?;
-    let table = sweep_pair(alloc, &shelf, Pair::new(3, 3)?)?;
+/// The file of the classes of a pair with this header and this digest, whose codes are those of a
+/// table of all positions.
+fn class_file_of(
+    alloc: Global,
+    header: &[u8; 16],
+    table: &Exact<Grid>,
+    digest: &[u8; 32],
+) -> Result<Vec<u8>, Fail> {
     let classes = ClassPair::make(alloc, table.pair())?;
-    let mut bytes = Vec::from_slice(alloc, b"NMMT\x02\x01\x03\x03\0\0\0\0\0\0\x01\x40")?;
+    let mut bytes = Vec::from_slice(alloc, header)?;
     for entry in 0..classes.size() {
         let code = code_of(table.value_of(&classes.position(entry)));
         bytes.extend_from_slice(&code.to_be_bytes())?;
     }
-    bytes.extend_from_slice(DIGEST.as_slice())?;
+    bytes.extend_from_slice(digest.as_slice())?;
     Ok(bytes)
+}
+
+/// The file of the classes of 3-3 on the board of nine points, 688 bytes.
+fn class_file(alloc: Global) -> Result<Vec<u8>, Fail> {
+    let shelf = Shelf::<Grid>::new(alloc)?;
+    let table = sweep_pair(alloc, &shelf, Pair::new(3, 3)?)?;
+    let header = b"NMMT\x02\x01\x03\x03\0\0\0\0\0\0\x01\x40";
+    class_file_of(alloc, header, &table, &DIGEST)
+}
+
+/// Those of 3-3 and 4-3, 688 and 988 bytes, one after the other.
+fn class_files(alloc: Global) -> Result<Vec<u8>, Fail> {
+    let mut shelf = Shelf::<Grid>::new(alloc)?;
+    let below = sweep_pair(alloc, &shelf, Pair::new(3, 3)?)?;
+    let _ = shelf.put(below);
+    let table = sweep_pair(alloc, &shelf, Pair::new(4, 3)?)?;
+    let header = b"NMMT\x02\x01\x04\x03\0\0\0\0\0\0\x01\xd6";
+    let mut files = class_file(alloc)?;
+    let file = class_file_of(alloc, header, &table, &DIGEST_OF_FOUR)?;
+    files.extend_from_slice(file.as_slice())?;
+    Ok(files)
 }
 
 #[test]
@@ -101,5 +137,79 @@ fn a_file_of_one_version_isnt_one_of_the_other(rt: HostRuntime) -> Result<(), Fa
     let wrong = "fault 19: wrong number of entries\n";
     assert_answer_on(&rt, words.as_slice(), full.as_slice(), 1, "", wrong);
     assert_answer_on(&rt, words.as_slice(), classes.as_slice(), 1, "", wrong);
+    Ok(())
+}
+
+/// So many workers give these files of the classes of 3-3 and 4-3.
+fn assert_classes_built_by(
+    rt: &(impl Abort + AllocGlobal + Threads + Wait + Sync),
+    workers: &str,
+    files: &[u8],
+) {
+    let words = [
+        "morris",
+        "build",
+        "grid",
+        "4-3",
+        "--all",
+        "--classes",
+        "--workers",
+        workers,
+    ];
+    assert_built(rt, words.as_slice(), files);
+}
+
+#[test]
+fn tables_of_classes_are_built_by_any_number_of_workers(rt: HostRuntime) -> Result<(), Fail> {
+    let files = class_files(rt.alloc())?;
+    let files = files.as_slice();
+    assert_eq!(rt; files.len(), 1_676);
+    assert_classes_built_by(&rt, "1", files);
+    assert_classes_built_by(&rt, "2", files);
+    assert_classes_built_by(&rt, "7", files);
+    let lower = ["morris", "build", "grid", "3-3", "--classes"];
+    assert_built(&rt, lower.as_slice(), files.get(..688).unwrap_or(files));
+    let alone = ["morris", "build", "grid", "4-3", "--classes"];
+    assert_built(&rt, alone.as_slice(), files.get(688..).unwrap_or(files));
+    Ok(())
+}
+
+#[test]
+fn built_tables_of_classes_are_verified(rt: HostRuntime) -> Result<(), Fail> {
+    let words = ["morris", "verify", "grid"];
+    let alone = ["morris", "build", "grid", "4-3", "--classes"];
+    let built = answer_to(&rt, alone.as_slice(), &[]).output;
+    assert_eq!(rt; built.len(), 988);
+    let verified = "verified 4-3: 470 entries\n";
+    assert_answer_on(&rt, words.as_slice(), built.as_slice(), 0, verified, "");
+    let all = ["morris", "build", "grid", "3-4", "--all", "--classes"];
+    let built = answer_to(&rt, all.as_slice(), &[]).output;
+    assert_eq!(rt; built.len(), 1_676);
+    let report = "XX..OO.OX\nwon in 1\n8-2x4\n8-2x5\n8-2x7\n";
+    assert_reported(&rt, built.as_slice(), "XX..OO.OX", report);
+    Ok(())
+}
+
+#[test]
+fn a_failed_write_of_classes_tells_what_went_out(rt: HostRuntime) -> Result<(), Fail> {
+    let files = class_files(rt.alloc())?;
+    for room in [0, 1, 15, 16, 687, 688, 689, 1_675] {
+        let mut output = IntoWrite::new(Narrow::new(rt.alloc(), room));
+        let answer = build_out(
+            &rt,
+            rt.alloc(),
+            "grid",
+            "4-3",
+            2,
+            5,
+            true,
+            true,
+            &mut output,
+        );
+        assert_eq!(rt; answer, Err(Fault::Write(room as u64)));
+        let narrow = output.into_inner();
+        assert_eq!(rt; Some(narrow.kept.as_slice()), files.as_slice().get(..room));
+        assert_eq!(rt; narrow.calls_after, 1);
+    }
     Ok(())
 }

@@ -105,9 +105,12 @@ fn run<R: Threads + Wait + Sync, I: Source, O: Sink>(
             workers,
             blocks,
             all,
+            classes,
         } => {
             let (workers, blocks) = (usize::from(workers), usize::from(blocks));
-            build_out(rt, alloc, board, pair, workers, blocks, all, output)
+            build_out(
+                rt, alloc, board, pair, workers, blocks, all, classes, output,
+            )
         }
         Request::Verify { board } => verify_in(alloc, board, input, output),
         Request::Probe { board, text } => probe_in(alloc, board, text, input, output),

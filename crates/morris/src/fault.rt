@@ -48,7 +48,7 @@ pub enum Fault {
     Short,
     /// The input doesn't begin with the letters of a table file.
     Magic,
-    /// The version of a table file isn't 1.
+    /// The version of a table file is neither 1 nor 2.
     Version,
     /// A table file is one of another board.
     BoardId,

@@ -103,12 +103,18 @@ It builds the tables of the pairs that the pair rests on, then that of the pair,
 and writes nothing before the last of them is built. The bytes are the same for\n\
 every number of workers and blocks.\n\
 \n\
+With --classes most positions that a symmetry of the board leads to one another\n\
+share an entry, so that the files are smaller. They are of version 2, which\n\
+`verify` and `probe` read as well.\n\
+\n\
 Exit status: 0 done; 1 a fault, one line on standard error; 2 words that aren't\n\
 allowed.\n\
 \n\
-Example: the table of 3-3, and a file with those of 3-3 and 4-3\n  \
+Example: the table of 3-3, and a file with those of 3-3 and 4-3, by positions\n\
+and by classes\n  \
 $ morris build nine 3-3 --workers 4 > table\n  \
-$ morris build grid 4-3 --all > tables";
+$ morris build grid 4-3 --all > tables\n  \
+$ morris build grid 4-3 --all --classes > smaller";
 
 /// Of `verify`.
 pub(crate) const VERIFY: &str = "\

@@ -8,7 +8,7 @@ use std::sync::Wait;
 use std::test::Fail;
 use std::thread::Threads;
 
-const VERSION: &str = "morris 0.1.0\ntable files: writes version 1, reads versions 1 and 2\n";
+const VERSION: &str = "morris 0.1.0\ntable files: writes and reads versions 1 and 2\n";
 
 /// The text of help that these words ask for.
 fn help(
@@ -126,7 +126,11 @@ fn help_of_stats_and_build_tells_what_a_pair_is(rt: HostRuntime) -> Result<(), F
     assert_lines(&rt, "stats", STATUSES.as_slice())?;
     assert_lines(&rt, "build", PAIRS.as_slice())?;
     assert_lines(&rt, "build", STATUSES.as_slice())?;
-    let shown = ["  $ morris build grid 4-3 --all > tables\n"];
+    let shown = [
+        "  $ morris build grid 4-3 --all > tables\n",
+        "  $ morris build grid 4-3 --all --classes > smaller\n",
+        "They are of version 2",
+    ];
     assert_lines(&rt, "build", shown.as_slice())?;
     let words = ["morris", "stats", "grid", "3-3"];
     assert_shows(
@@ -175,7 +179,7 @@ fn version_goes_to_standard_output(rt: HostRuntime) {
     assert_wrong(&rt, &["morris", "version"]);
 }
 
-/// The versions that it names are those that a file has and that are read.
+/// The versions that it names are those that files have and that are read.
 #[test]
 fn version_names_the_versions_of_the_table_files(rt: HostRuntime) -> Result<(), Fail> {
     let mut table = file(rt.alloc())?;

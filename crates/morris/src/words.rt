@@ -3,7 +3,7 @@ ghost use Rattle.std.specs.Prelude.{◌≡◌, [], IfErr, IfOk, OnOk, Some, code
 ghost use Rattle.clap.specs.Words.{FailsBy, app_of, found_of, kind_of, rows_of, rule_of};
 ghost use Rattle.clap.specs.Words.{subcommand_rows_of};
 ghost use Rattle.morris.specs.Words.{AsksFor, HasBuildValues, HasLookValues, HasProbeValues, HasStatsValues, HasVerifyValues};
-ghost use Rattle.morris.specs.Words.{IsAnswerTo, IsAnswerToOneOf, IsInRange, NamesRequest, all_rule, blocks_rule, build_app};
+ghost use Rattle.morris.specs.Words.{IsAnswerTo, IsAnswerToOneOf, IsInRange, NamesRequest, all_rule, blocks_rule, build_app, classes_rule};
 ghost use Rattle.morris.specs.Words.{depth_rule, faults_of, has_globals, look_app, morris_app, named_by, probe_app};
 ghost use Rattle.morris.specs.Words.{required_rule, stats_app, verify_app, workers_rule};
 
@@ -30,13 +30,15 @@ pub enum Request<'a> {
     },
     /// Build the table of the pair that `pair` names on the board named `board`, and of each pair
     /// below it, with 1 to 64 `workers` and 1 to 1,024 `blocks`, and write the table file of the
-    /// pair, or where `all` is true those of all these pairs.
+    /// pair, or where `all` is true those of all these pairs. Where `classes` is true the tables
+    /// have an entry for each class of positions, and otherwise one for each position.
     Build {
         board: &'a str,
         pair: &'a str,
         workers: u8,
         blocks: u16,
         all: bool,
+        classes: bool,
     },
     /// Verify the table file on the input, of the board named `board`.
     Verify {
@@ -88,7 +90,7 @@ fn parse<'a, S: AsStr>(alloc: Global, words: &'a [S]) -> Result<ArgMatches<'a>, 
 }
 
 // The version of the program, and those of the table files that it writes and reads.
-const VERSION: &str = "0.1.0\ntable files: writes version 1, reads versions 1 and 2";
+const VERSION: &str = "0.1.0\ntable files: writes and reads versions 1 and 2";
 
 const BOARD_HELP: &str = "The board: nine or grid";
 
@@ -152,7 +154,8 @@ fn build_command<'a>(alloc: Global) -> Result<Command<'a>, AllocError>
         .arg(required_arg(alloc, "PAIR", PAIR_HELP))?
         .arg(workers_arg(alloc))?
         .arg(blocks_arg(alloc))?
-        .arg(all_arg(alloc))
+        .arg(all_arg(alloc))?
+        .arg(classes_arg(alloc))
 }
 
 fn verify_command<'a>(alloc: Global) -> Result<Command<'a>, AllocError>
@@ -231,6 +234,16 @@ fn all_arg<'a>(alloc: Global) -> Arg<'a>
         .help("Write the files of the pairs below it too, one after the other")
 }
 
+fn classes_arg<'a>(alloc: Global) -> Arg<'a>
+    ensures rule { rule_of result ≡ classes_rule }
+    ensures local { result.global ≡ false }
+{
+    Arg::new(alloc, "classes")
+        .long("classes")
+        .action(ArgAction::SetTrue)
+        .help("Have one entry for each class of positions: files of version 2")
+}
+
 fn request_of<'a>(matches: &ArgMatches<'a>) -> Request<'a>
     requires { NamesRequest (subcommand_rows_of matches.now) }
     ensures request { AsksFor (subcommand_rows_of matches.now) result }
@@ -285,12 +298,14 @@ fn build_request<'a>(found: &ArgMatches<'a>) -> Request<'a>
     ) else {
         unreachable!()
     };
+    let (all, classes) = (found.get_flag("all"), found.get_flag("classes"));
     Request::Build {
         board,
         pair,
         workers,
         blocks,
-        all: found.get_flag("all"),
+        all,
+        classes,
     }
 }
 

@@ -50,6 +50,7 @@ fn run<R: Print + Threads + Wait + Sync>(rt: &R, alloc: Global, name: &str) -> O
         "shelf" => tables::makes_a_shelf(rt, alloc),
         "classes" => tables::makes_classes(rt, alloc),
         "class_pair" => tables::makes_entries_of_classes(rt, alloc),
+        "class_graph" => tables::makes_a_graph_of_classes(rt, alloc),
         "sweep_pair" => tables::sweeps_a_pair(rt, alloc),
         "tallies" => tables::counts_codes(rt, alloc),
         "read_table" => tables::reads_a_table(rt, alloc),
@@ -58,6 +59,7 @@ fn run<R: Print + Threads + Wait + Sync>(rt: &R, alloc: Global, name: &str) -> O
         "best" => tables::finds_best_moves(rt, alloc),
         "report" => tables::reports(rt, alloc),
         "build" => threads::builds(rt, alloc),
+        "build_classes" => threads::builds_by_classes(rt, alloc),
         _ => None,
     }
 }

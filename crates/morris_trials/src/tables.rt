@@ -8,6 +8,7 @@ use morris_index::classes::Classes;
 use morris_index::pair::Pair;
 use morris_probe::best::best;
 use morris_probe::report::report;
+use morris_table::class_graph::ClassGraph;
 use morris_table::exact::Exact;
 use morris_table::graph::PairGraph;
 use morris_table::reading::{read_next, read_table};
@@ -266,4 +267,15 @@ pub(crate) fn reports(rt: &impl Print, alloc: Global) -> Option<()> {
     let again = report(alloc, &mut sink, &shelf, &position);
     let text = String::from_utf8(sink.into_inner()).ok()?;
     tell(rt, "report", "again", &again.map(|_| text))
+}
+
+pub(crate) fn makes_a_graph_of_classes(rt: &impl Print, alloc: Global) -> Option<()> {
+    let shelf = Shelf::<Grid>::new(alloc).ok()?;
+    let pair = Pair::new(3, 3).ok()?;
+    mark(alloc)?;
+    let first = ClassGraph::new(alloc, &shelf, pair).map(|graph| graph.size());
+    mark(alloc)?;
+    tell(rt, "class_graph", "first", &first)?;
+    let again = ClassGraph::new(alloc, &shelf, pair).map(|graph| graph.size());
+    tell(rt, "class_graph", "again", &again)
 }

@@ -1,9 +1,10 @@
-//! The call that builds a table by several workers.
+//! The calls that build a table by several workers.
 use crate::tables::{tell_shelf, tell_table};
 use crate::told::mark;
 use morris_board::grid::Grid;
 use morris_index::pair::Pair;
-use morris_table::building::build;
+use morris_table::building::{build, build_as};
+use morris_table::layout::Layout;
 use morris_table::shelf::Shelf;
 use morris_workers::OpenGate;
 use std::alloc::Global;
@@ -20,4 +21,20 @@ pub(crate) fn builds<R: Print + Threads + Wait + Sync>(rt: &R, alloc: Global) ->
     tell_shelf(rt, "build", &shelf)?;
     let again = build(rt, alloc, &shelf, pair, &OpenGate, 2, 5);
     tell_table(rt, alloc, "build", "again", &again)
+}
+
+pub(crate) fn builds_by_classes<R: Print + Threads + Wait + Sync>(
+    rt: &R,
+    alloc: Global,
+) -> Option<()> {
+    let shelf = Shelf::<Grid>::new(alloc).ok()?;
+    let pair = Pair::new(3, 3).ok()?;
+    let layout = Layout::Classes;
+    mark(alloc)?;
+    let first = build_as(rt, alloc, &shelf, pair, layout, &OpenGate, 2, 5);
+    mark(alloc)?;
+    tell_table(rt, alloc, "build_classes", "first", &first)?;
+    tell_shelf(rt, "build_classes", &shelf)?;
+    let again = build_as(rt, alloc, &shelf, pair, layout, &OpenGate, 2, 5);
+    tell_table(rt, alloc, "build_classes", "again", &again)
 }

@@ -29,7 +29,7 @@ fn expect_stats(rt: &(impl Abort + AllocGlobal), words: &[&str], wanted: (&str, 
 fn expect_build(
     rt: &(impl Abort + AllocGlobal),
     words: &[&str],
-    wanted: (&str, &str, u8, u16, bool),
+    wanted: (&str, &str, u8, u16, bool, bool),
 ) {
     let is_wanted = match read_words(rt.alloc(), words) {
         Ok(
@@ -39,6 +39,7 @@ fn expect_build(
                 workers,
                 blocks,
                 all,
+                classes,
             },
         ) => {
             board == wanted.0
@@ -46,6 +47,7 @@ fn expect_build(
                 && workers == wanted.2
                 && blocks == wanted.3
                 && all == wanted.4
+                && classes == wanted.5
         }
         _other => false,
     };
@@ -97,7 +99,7 @@ fn reads_stats(rt: HostRuntime) {
 #[test]
 fn reads_build(rt: HostRuntime) {
     let plain = ["morris", "build", "grid", "3-3"];
-    expect_build(&rt, &plain, ("grid", "3-3", 2, 16, false));
+    expect_build(&rt, &plain, ("grid", "3-3", 2, 16, false, false));
     let each = [
         "m",
         "build",
@@ -109,17 +111,33 @@ fn reads_build(rt: HostRuntime) {
         "5",
         "--all",
     ];
-    expect_build(&rt, &each, ("nine", "4-3", 7, 5, true));
+    expect_build(&rt, &each, ("nine", "4-3", 7, 5, true, false));
     let between = ["m", "build", "--all", "grid", "--blocks=1024", "3-3"];
-    expect_build(&rt, &between, ("grid", "3-3", 2, 1024, true));
+    expect_build(&rt, &between, ("grid", "3-3", 2, 1024, true, false));
     let most = ["m", "build", "grid", "3-3", "--workers=64"];
-    expect_build(&rt, &most, ("grid", "3-3", 64, 16, false));
+    expect_build(&rt, &most, ("grid", "3-3", 64, 16, false, false));
     let least = ["m", "build", "grid", "3-3", "--workers", "1"];
-    expect_build(&rt, &least, ("grid", "3-3", 1, 16, false));
+    expect_build(&rt, &least, ("grid", "3-3", 1, 16, false, false));
     let whole = ["m", "build", "grid", "3-3", "--blocks", "1"];
-    expect_build(&rt, &whole, ("grid", "3-3", 2, 1, false));
+    expect_build(&rt, &whole, ("grid", "3-3", 2, 1, false, false));
     let after_dashes = ["m", "build", "grid", "--", "--all"];
-    expect_build(&rt, &after_dashes, ("grid", "--all", 2, 16, false));
+    expect_build(&rt, &after_dashes, ("grid", "--all", 2, 16, false, false));
+}
+
+#[test]
+fn reads_the_flags_of_build_in_any_order(rt: HostRuntime) {
+    let classes = ["m", "build", "grid", "3-3", "--classes"];
+    expect_build(&rt, &classes, ("grid", "3-3", 2, 16, false, true));
+    let both = ["m", "build", "nine", "4-3", "--all", "--classes"];
+    expect_build(&rt, &both, ("nine", "4-3", 2, 16, true, true));
+    let between = ["m", "build", "--classes", "grid", "--all", "3-3"];
+    expect_build(&rt, &between, ("grid", "3-3", 2, 16, true, true));
+    let after_dashes = ["m", "build", "--all", "--", "grid", "--classes"];
+    expect_build(
+        &rt,
+        &after_dashes,
+        ("grid", "--classes", 2, 16, true, false),
+    );
 }
 
 #[test]
@@ -166,6 +184,9 @@ fn refuses_workers_and_blocks(rt: HostRuntime) {
     expect_wrong(&rt, &["m", "build", "grid", "3-3", "--blocks"]);
     expect_wrong(&rt, &["m", "build", "grid", "3-3", "--all=true"]);
     expect_wrong(&rt, &["m", "build", "grid", "3-3", "--all", "--all"]);
+    expect_wrong(&rt, &["m", "build", "grid", "3-3", "--classes=true"]);
+    let twice = ["m", "build", "grid", "3-3", "--classes", "--classes"];
+    expect_wrong(&rt, &twice);
 }
 
 #[test]
@@ -189,6 +210,8 @@ fn refuses_words(rt: HostRuntime) {
     expect_wrong(&rt, &["m", "build", "grid"]);
     expect_wrong(&rt, &["m", "build", "grid", "3-3", "4-3"]);
     expect_wrong(&rt, &["m", "stats", "grid", "3-3", "--all"]);
+    expect_wrong(&rt, &["m", "stats", "grid", "3-3", "--classes"]);
+    expect_wrong(&rt, &["m", "verify", "grid", "--classes"]);
     expect_wrong(&rt, &["m", "look", "--version"]);
     expect_wrong(&rt, &["m", "help", "peek"]);
 }

@@ -1,6 +1,5 @@
 use Rattle.std.proofs.Common.{◌≡◌, ◌++◌}
 use Rattle.std.specs.List.{Contains}
-use Rattle.morris_table.specs.declared.layout.Layout.TheVariants.{Full}
 use Rattle.morris_index.specs.Pairs.{Counts, below_of}
 use Rattle.morris_table.specs.Known.{IsBeyondCodes}
 use Rattle.morris.specs.Build.{HasExact}
@@ -11,6 +10,6 @@ use Rattle.morris.proofs.build.build_below.Given as goal
 abbrev pub invariant-loop-below : goal.invariant-loop-below
 invariant-loop-below g l = record {
   split : l.yielded ++ l.below-iterator ≡ below_of l.fn.pair;
-  exact : HasExact g.B.Geometry.shape Full l.shelf l.yielded;
+  exact : HasExact g.B.Geometry.shape l.fn.layout l.shelf l.yielded;
   within : (c : Counts) → Contains l.yielded c → ¬ IsBeyondCodes g.B.Geometry.shape c;
 }

@@ -14,7 +14,8 @@ returns-clause-app c =
     let two = c.in_ok-arg-2.ensures.shape c.required_arg-2.ensures.local ∙ ap₂ with_rule one c.required_arg-2.ensures.rule in
     let three = c.in_ok-arg-3.ensures.shape c.workers_arg.ensures.local ∙ ap₂ with_rule two c.workers_arg.ensures.rule in
     let four = c.in_ok-arg-4.ensures.shape c.blocks_arg.ensures.local ∙ ap₂ with_rule three c.blocks_arg.ensures.rule in
-    IfOk-weaker c.arg-5.result _ _ (λ r h. h.shape c.all_arg.ensures.local ∙ ap₂ with_rule four c.all_arg.ensures.rule) c.arg-5.ensures
+    let five = c.in_ok-arg-5.ensures.shape c.all_arg.ensures.local ∙ ap₂ with_rule four c.all_arg.ensures.rule in
+    IfOk-weaker c.arg-6.result _ _ (λ r h. h.shape c.classes_arg.ensures.local ∙ ap₂ with_rule five c.classes_arg.ensures.rule) c.arg-6.ensures
 
 pub returns-clause-local : goal.returns-clause-local
 returns-clause-local c =
@@ -24,4 +25,5 @@ returns-clause-local c =
     let two = c.in_ok-arg-2.ensures.globals ∙ ap₂ (λ a b. a || b) one c.required_arg-2.ensures.local in
     let three = c.in_ok-arg-3.ensures.globals ∙ ap₂ (λ a b. a || b) two c.workers_arg.ensures.local in
     let four = c.in_ok-arg-4.ensures.globals ∙ ap₂ (λ a b. a || b) three c.blocks_arg.ensures.local in
-    IfOk-weaker c.arg-5.result _ _ (λ r h. h.globals ∙ ap₂ (λ a b. a || b) four c.all_arg.ensures.local) c.arg-5.ensures
+    let five = c.in_ok-arg-5.ensures.globals ∙ ap₂ (λ a b. a || b) four c.all_arg.ensures.local in
+    IfOk-weaker c.arg-6.result _ _ (λ r h. h.globals ∙ ap₂ (λ a b. a || b) five c.classes_arg.ensures.local) c.arg-6.ensures

@@ -61,13 +61,16 @@ returns-clause-request c =
     (c.get_one.ensures.value _ (one_text-rows found (codes "workers") ∙ c.requires.workers_read)) (λ u x g. g.0) (omega arith) c.requires.workers_in_range in
     let blocks = read_number (λ bs r. ParsesUnsigned 16 10 bs r × ExplainsUnsignedError 10 bs r × HasUnsignedDigitsIfOk bs r) 16 1 1024 c.requires.blocks_text c.get_one-2.result
     (c.get_one-2.ensures.value _ (one_text-rows found (codes "blocks") ∙ c.requires.blocks_read)) (λ u x g. g.0) (omega arith) c.requires.blocks_in_range in
-    let all = flag_read c.requires.all c.get_flag.result _ (one_text-rows found (codes "all") ∙ c.requires.all_read) c.get_flag.ensures.value c.get_flag.ensures.other in (
+    let all = flag_read c.requires.all c.get_flag-all.result _ (one_text-rows found (codes "all") ∙ c.requires.all_read) c.get_flag-all.ensures.value c.get_flag-all.ensures.other in
+    let classes = flag_read c.requires.classes c.get_flag-classes.result _ (one_text-rows found (codes "classes") ∙ c.requires.classes_read) c.get_flag-classes.ensures.value
+    c.get_flag-classes.ensures.other in (
       refl,
       sym (c.get_str.ensures ∙ first_value-rows found (codes "BOARD")) ∙ ap (option_map (λ s. s.now)) arm.is-0,
       sym (c.get_str-2.ensures ∙ first_value-rows found (codes "PAIR")) ∙ ap (option_map (λ s. s.now)) arm.is-1,
       ap (option_map number_of) c.requires.workers_read ∙ (ap (λ n. Some n) workers.4 ∙ (sym workers.1 ∙ arm.is-2)),
       ap (option_map number_of) c.requires.blocks_read ∙ (ap (λ n. Some n) blocks.4 ∙ (sym blocks.1 ∙ arm.is-3)),
       c.requires.all_read ∙ ap (λ b. Some (bool_text b)) all,
+      c.requires.classes_read ∙ ap (λ b. Some (bool_text b)) classes,
     )
 
 same_number : (n m : ℕ) (r : Option ℕ) → r ≡ Some n → r ≡ Some m → n ≡ m
