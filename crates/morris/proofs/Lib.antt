@@ -1,4 +1,5 @@
 pub mod Parsed
+pub mod ReadLaws
 pub mod Requests
 pub mod ShelfLaws
 pub mod StatsLaws

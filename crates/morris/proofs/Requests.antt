@@ -1,7 +1,7 @@
 -- Where `clap` finds no mistake in the words, they name a command of the program, with the values
 -- that its request wants.
 use Rattle.std.proofs.Common.{◌≡◌, ◌∙◌, ◌&&◌, ◌||◌, ◌⊎◌, Bool, true, false, not, refl, sym, ap, subst, inl, inr, List, [], ◌∷◌, Option, Some, None, is_some, codes}
-use Rattle.std.specs.Prelude.{find, option_map, pos}
+use Rattle.std.specs.Prelude.{find, fold, option_map, pos}
 use Rattle.std.specs.Option.{option_map_or}
 use Rattle.std.specs.Str.{bytes_eq}
 use Rattle.std.proofs.lemmas.Slice.Eq.{bytes_eq-Decides}
@@ -10,11 +10,45 @@ use Rattle.clap.specs.Faults.{built_fault, entered_fault, level_fault}
 use Rattle.clap.specs.Takes.{is_given}
 use Rattle.clap.specs.ValueTests.{accepts}
 use Rattle.clap.specs.Values.{bool_text}
-use Rattle.clap.specs.Walk.{Row, Rule, Text, answers_to, finished, has_row, nothing_held, rows_after, settled, stop_after, walk, with_default}
-use Rattle.clap.specs.Simple.{App, Shape, argument_words, built, built_leaf, entered, filled, help_rule, inherited, label_of, marked_built, names_of, new_shape, rows_at, with_index, with_leaf_noted, with_subcommand}
+use Rattle.clap.specs.Walk.{Row, Rule, Text, answers_to, arg_by_id, finished, has_row, nothing_held, one_of, rows_after, settled, stop_after, walk, with_default}
+use Rattle.clap.specs.Simple.{App, Shape, argument_words, built, built_leaf, entered, filled, help_rule, inherited, label_of, marked_built, names_of, new_rule, new_shape, rows_at, with_index, with_leaf_noted, with_subcommand}
+use Rattle.clap.specs.declared.builder.action.ArgAction.TheVariants.{SetTrue}
 use Rattle.clap.specs.declared.builder.value_parser.ValueParser.TheVariants as parser
-use Rattle.morris.specs.Words.{HasBuildValues, HasLookValues, HasProbeValues, HasStatsValues, HasVerifyValues, NamesRequest, all_rule, blocks_rule, build_app, classes_rule, depth_rule, faults_of, look_app, morris_app, named_by, probe_app, program, required_rule, stats_app, verify_app, workers_rule}
-use Rattle.morris.proofs.Parsed.{Each, Each-find, HasValue, IsNotHelp, IsPlainRule, arguments_there, default_fills, default_keeps, given_value, level_passes, row_value, subcommand_there}
+use Rattle.morris.specs.Words.{HasBuildValues, HasLookValues, HasProbeValues, HasStatsValues, HasVerifyValues, NamesRequest, all_rule, blocks_rule, build_app, classes_rule, depth_rule, faults_of, look_app, morris_app, named_by, probe_app, program, progress_rule, required_rule, stats_app, verify_app, workers_rule}
+use Rattle.morris.proofs.Parsed.{Each, Each-find, HasValue, IsNotHelp, IsPlainRule, Passing, arguments_there, default_fills, default_keeps, given_value, level_passes, row_value, subcommand_there}
+
+-- ---- arguments that have a value where they are left out
+
+-- no default takes a row away
+defaults_keep : (id : Text) (rules : List Rule) (rows : List Row) → has_row id rows ≡ true → has_row id (fold with_default rows rules) ≡ true
+defaults_keep id [] rows has = has
+defaults_keep id (a ∷ rest) rows has = defaults_keep id rest (with_default rows a) (default_keeps id a rows has)
+
+-- so an argument with a default has a row, whichever arguments come after it
+default_stays : (a : Rule) (v : Text) (vs : List Text) (rest : List Rule) (rows : List Row) → a.defaults ≡ v ∷ vs
+    → has_row a.id (fold with_default rows (a ∷ rest)) ≡ true
+default_stays a v vs rest rows is = defaults_keep a.id rest (with_default rows a) (default_fills a v vs rows is)
+
+-- the flag of a name, as it is built
+abbrev flag : Text → Rule
+flag name = filled (record (new_rule name) { long = Some name; action = Some SetTrue })
+
+-- a text that passed the parser of a flag says true or false
+says_bool : (t : Text) → accepts false parser.Bool t ≡ true → (b : Bool) × (t ≡ bool_text b)
+says_bool t pass = go (bytes_eq t (codes "true")) refl
+  where
+    go : (b : Bool) → bytes_eq t (codes "true") ≡ b → (b : Bool) × (t ≡ bool_text b)
+    go true e = (true, (bytes_eq-Decides t (codes "true")).0 e)
+    go false e = (false, (bytes_eq-Decides t (codes "false")).0 (rw e at pass))
+
+-- the rows with the default of a flag say true or false of it
+flag_says : (c : List Rule) (name : Text) (rest : List Rule) (rows : List Row) → Passing c (fold with_default rows (flag name ∷ rest))
+    → arg_by_id c name ≡ Some (flag name) → (b : Bool) × (one_of name (fold with_default rows (flag name ∷ rest)) ≡ Some (bool_text b))
+flag_says c name rest rows passes known =
+    let all = fold with_default rows (flag name ∷ rest) in
+    let value : HasValue all (flag name) = row_value c all (flag name) passes (default_stays (flag name) (codes "false") [] rest rows refl) known in
+    let says = says_bool value.first value.passes in
+    (says.0, value.read ∙ ap (λ t. Some t) says.1)
 
 -- ---- `look`, as it is built
 
@@ -34,18 +68,18 @@ abbrev look_top : Shape
 look_top = record (new_shape (codes "look")) { rules = required_rule (codes "BOARD") ∷ required_rule (codes "TEXT") ∷ depth_rule ∷ [] }
 
 abbrev stats_top : Shape
-stats_top = record (new_shape (codes "stats")) { rules = required_rule (codes "BOARD") ∷ required_rule (codes "PAIR") ∷ [] }
+stats_top = record (new_shape (codes "stats")) { rules = required_rule (codes "BOARD") ∷ required_rule (codes "PAIR") ∷ progress_rule ∷ [] }
 
 abbrev build_top : Shape
 build_top = record (new_shape (codes "build")) {
-  rules = required_rule (codes "BOARD") ∷ required_rule (codes "PAIR") ∷ workers_rule ∷ blocks_rule ∷ all_rule ∷ classes_rule ∷ [];
+  rules = required_rule (codes "BOARD") ∷ required_rule (codes "PAIR") ∷ workers_rule ∷ blocks_rule ∷ all_rule ∷ classes_rule ∷ progress_rule ∷ [];
 }
 
 abbrev verify_top : Shape
-verify_top = record (new_shape (codes "verify")) { rules = required_rule (codes "BOARD") ∷ [] }
+verify_top = record (new_shape (codes "verify")) { rules = required_rule (codes "BOARD") ∷ progress_rule ∷ [] }
 
 abbrev probe_top : Shape
-probe_top = record (new_shape (codes "probe")) { rules = required_rule (codes "BOARD") ∷ required_rule (codes "TEXT") ∷ [] }
+probe_top = record (new_shape (codes "probe")) { rules = required_rule (codes "BOARD") ∷ required_rule (codes "TEXT") ∷ progress_rule ∷ [] }
 
 abbrev whole : App
 whole = with_subcommand (with_subcommand (with_subcommand (with_subcommand (with_subcommand program look_top) stats_top) build_top) verify_top) probe_top
@@ -77,9 +111,7 @@ look_fits words none =
     let start = (settled look.rules (walk look.rules [] nothing_held words).held).rows in
     let missing : (not (is_given (codes "BOARD") rows) || (not (is_given (codes "TEXT") rows) || false)) ≡ false = arguments_there look rows false level.checked in
     let given = both_given _ _ missing in
-    let has : has_row (codes "depth") rows ≡ true =
-    default_keeps (codes "depth") help (with_default (with_default (with_default start board) position) depth)
-    (default_fills depth (codes "2") [] (with_default (with_default start board) position) refl) in
+    let has : has_row (codes "depth") rows ≡ true = default_stays depth (codes "2") [] (help ∷ []) (with_default (with_default start board) position) refl in
     let first : HasValue rows board = given_value look.rules rows board level.rows given.0 refl in
     let second : HasValue rows position = given_value look.rules rows position level.rows given.1 refl in
     let third : HasValue rows depth = row_value look.rules rows depth level.rows has refl in
@@ -104,7 +136,10 @@ stats_plain = (
   record { known = refl; kind = inl (refl, refl) },
   (
     record { known = refl; kind = inl (refl, refl) },
-    (record { known = refl; kind = inr (inr refl) }, tt),
+    (
+      record { known = refl; kind = inr (inl (refl, refl)) },
+      (record { known = refl; kind = inr (inr refl) }, tt),
+    ),
   ),
 )
 
@@ -112,11 +147,18 @@ stats_fits : (words : List Text) → level_fault stats [] nothing_held words fal
 stats_fits words none =
     let level = level_passes stats [] words false [] stats_plain none in
     let rows = rows_after stats.rules [] words in
+    let start = (settled stats.rules (walk stats.rules [] nothing_held words).held).rows in
     let missing : (not (is_given (codes "BOARD") rows) || (not (is_given (codes "PAIR") rows) || false)) ≡ false = arguments_there stats rows false level.checked in
     let given = both_given _ _ missing in
     let first : HasValue rows board = given_value stats.rules rows board level.rows given.0 refl in
     let second : HasValue rows pair = given_value stats.rules rows pair level.rows given.1 refl in
-    record { board = ap is_some first.is_first; pair = ap is_some second.is_first }
+    let progress = flag_says stats.rules (codes "progress") (help ∷ []) (with_default (with_default start board) pair) level.rows refl in
+    record {
+      board = ap is_some first.is_first;
+      pair = ap is_some second.is_first;
+      progress = progress.0;
+      progress_read = progress.1;
+    }
 
 -- ---- `build`, as it is built
 
@@ -125,12 +167,6 @@ workers = filled workers_rule
 
 abbrev blocks : Rule
 blocks = filled blocks_rule
-
-abbrev all_flag : Rule
-all_flag = filled all_rule
-
-abbrev classes_flag : Rule
-classes_flag = filled classes_rule
 
 abbrev build : Shape
 build = built_leaf (inherited (with_leaf_noted (marked_built whole.top)) build_top)
@@ -148,39 +184,16 @@ build_plain = (
           record { known = refl; kind = inr (inl (refl, refl)) },
           (
             record { known = refl; kind = inr (inl (refl, refl)) },
-            (record { known = refl; kind = inr (inr refl) }, tt),
+            (
+              record { known = refl; kind = inr (inl (refl, refl)) },
+              (record { known = refl; kind = inr (inr refl) }, tt),
+            ),
           ),
         ),
       ),
     ),
   ),
 )
-
--- the rows with the defaults of the numbers and of the flags have all four
-has_all : (start : List Row)
-    → let rows = with_default (with_default (with_default (with_default (with_default start workers) blocks) all_flag) classes_flag) help in
-    (has_row (codes "workers") rows ≡ true) × (has_row (codes "blocks") rows ≡ true) × (has_row (codes "all") rows ≡ true)
-    × (has_row (codes "classes") rows ≡ true)
-has_all start =
-    let one = with_default start workers in
-    let two = with_default one blocks in
-    let three = with_default two all_flag in
-    let four = with_default three classes_flag in
-    let kept : (id : Text) → has_row id three ≡ true → has_row id (with_default four help) ≡ true =
-    λ id has. default_keeps id help four (default_keeps id classes_flag three has) in (
-      kept (codes "workers") (default_keeps (codes "workers") all_flag two (default_keeps (codes "workers") blocks one (default_fills workers (codes "2") [] start refl))),
-      kept (codes "blocks") (default_keeps (codes "blocks") all_flag two (default_fills blocks (codes "16") [] one refl)),
-      kept (codes "all") (default_fills all_flag (codes "false") [] two refl),
-      default_keeps (codes "classes") help four (default_fills classes_flag (codes "false") [] three refl),
-    )
-
--- a text that passed the parser of a flag says true or false
-says_bool : (t : Text) → accepts false parser.Bool t ≡ true → (b : Bool) × (t ≡ bool_text b)
-says_bool t pass = go (bytes_eq t (codes "true")) refl
-  where
-    go : (b : Bool) → bytes_eq t (codes "true") ≡ b → (b : Bool) × (t ≡ bool_text b)
-    go true e = (true, (bytes_eq-Decides t (codes "true")).0 e)
-    go false e = (false, (bytes_eq-Decides t (codes "false")).0 (rw e at pass))
 
 build_fits : (words : List Text) → level_fault build [] nothing_held words false [] ≡ [] → HasBuildValues (rows_after build.rules [] words)
 build_fits words none =
@@ -189,15 +202,21 @@ build_fits words none =
     let start = (settled build.rules (walk build.rules [] nothing_held words).held).rows in
     let missing : (not (is_given (codes "BOARD") rows) || (not (is_given (codes "PAIR") rows) || false)) ≡ false = arguments_there build rows false level.checked in
     let given = both_given _ _ missing in
-    let has = has_all (with_default (with_default start board) pair) in
+    let two = with_default (with_default start board) pair in
+    let three = with_default two workers in
+    let four = with_default three blocks in
+    let five = with_default four (flag (codes "all")) in
+    let six = with_default five (flag (codes "classes")) in
+    let after_classes = flag (codes "progress") ∷ help ∷ [] in
+    let after_all = flag (codes "classes") ∷ after_classes in
+    let after_blocks = flag (codes "all") ∷ after_all in
     let first : HasValue rows board = given_value build.rules rows board level.rows given.0 refl in
     let second : HasValue rows pair = given_value build.rules rows pair level.rows given.1 refl in
-    let third : HasValue rows workers = row_value build.rules rows workers level.rows has.0 refl in
-    let fourth : HasValue rows blocks = row_value build.rules rows blocks level.rows has.1 refl in
-    let fifth : HasValue rows all_flag = row_value build.rules rows all_flag level.rows has.2 refl in
-    let sixth : HasValue rows classes_flag = row_value build.rules rows classes_flag level.rows has.3 refl in
-    let says_all = says_bool fifth.first fifth.passes in
-    let says_classes = says_bool sixth.first sixth.passes in
+    let third : HasValue rows workers = row_value build.rules rows workers level.rows (default_stays workers (codes "2") [] (blocks ∷ after_blocks) two refl) refl in
+    let fourth : HasValue rows blocks = row_value build.rules rows blocks level.rows (default_stays blocks (codes "16") [] after_blocks three refl) refl in
+    let all = flag_says build.rules (codes "all") after_all four level.rows refl in
+    let classes = flag_says build.rules (codes "classes") after_classes five level.rows refl in
+    let progress = flag_says build.rules (codes "progress") (help ∷ []) six level.rows refl in
     record {
       board = ap is_some first.is_first;
       pair = ap is_some second.is_first;
@@ -207,10 +226,12 @@ build_fits words none =
       blocks_text = fourth.first;
       blocks_read = fourth.read;
       blocks_in_range = accepts-Accepts false (parser.Signed (pos 1) (pos 1024)) fourth.first fourth.passes;
-      all = says_all.0;
-      all_read = fifth.read ∙ ap (λ t. Some t) says_all.1;
-      classes = says_classes.0;
-      classes_read = sixth.read ∙ ap (λ t. Some t) says_classes.1;
+      all = all.0;
+      all_read = all.1;
+      classes = classes.0;
+      classes_read = classes.1;
+      progress = progress.0;
+      progress_read = progress.1;
     }
 
 -- ---- `verify`, as it is built
@@ -221,7 +242,10 @@ verify = built_leaf (inherited (with_leaf_noted (marked_built whole.top)) verify
 verify_plain : Each (IsPlainRule verify.rules) verify.rules
 verify_plain = (
   record { known = refl; kind = inl (refl, refl) },
-  (record { known = refl; kind = inr (inr refl) }, tt),
+  (
+    record { known = refl; kind = inr (inl (refl, refl)) },
+    (record { known = refl; kind = inr (inr refl) }, tt),
+  ),
 )
 
 one_given : (p : Bool) → (not p || false) ≡ false → p ≡ true
@@ -232,9 +256,11 @@ verify_fits : (words : List Text) → level_fault verify [] nothing_held words f
 verify_fits words none =
     let level = level_passes verify [] words false [] verify_plain none in
     let rows = rows_after verify.rules [] words in
+    let start = (settled verify.rules (walk verify.rules [] nothing_held words).held).rows in
     let missing : (not (is_given (codes "BOARD") rows) || false) ≡ false = arguments_there verify rows false level.checked in
     let first : HasValue rows board = given_value verify.rules rows board level.rows (one_given _ missing) refl in
-    record { board = ap is_some first.is_first }
+    let progress = flag_says verify.rules (codes "progress") (help ∷ []) (with_default start board) level.rows refl in
+    record { board = ap is_some first.is_first; progress = progress.0; progress_read = progress.1 }
 
 -- ---- `probe`, as it is built
 
@@ -246,7 +272,10 @@ probe_plain = (
   record { known = refl; kind = inl (refl, refl) },
   (
     record { known = refl; kind = inl (refl, refl) },
-    (record { known = refl; kind = inr (inr refl) }, tt),
+    (
+      record { known = refl; kind = inr (inl (refl, refl)) },
+      (record { known = refl; kind = inr (inr refl) }, tt),
+    ),
   ),
 )
 
@@ -254,11 +283,18 @@ probe_fits : (words : List Text) → level_fault probe [] nothing_held words fal
 probe_fits words none =
     let level = level_passes probe [] words false [] probe_plain none in
     let rows = rows_after probe.rules [] words in
+    let start = (settled probe.rules (walk probe.rules [] nothing_held words).held).rows in
     let missing : (not (is_given (codes "BOARD") rows) || (not (is_given (codes "TEXT") rows) || false)) ≡ false = arguments_there probe rows false level.checked in
     let given = both_given _ _ missing in
     let first : HasValue rows board = given_value probe.rules rows board level.rows given.0 refl in
     let second : HasValue rows position = given_value probe.rules rows position level.rows given.1 refl in
-    record { board = ap is_some first.is_first; text = ap is_some second.is_first }
+    let progress = flag_says probe.rules (codes "progress") (help ∷ []) (with_default (with_default start board) position) level.rows refl in
+    record {
+      board = ap is_some first.is_first;
+      text = ap is_some second.is_first;
+      progress = progress.0;
+      progress_read = progress.1;
+    }
 
 -- ---- the program
 

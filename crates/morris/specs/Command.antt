@@ -29,19 +29,19 @@ AsksToShow kinds = IsAmong kind.DisplayHelp kinds ⊎ IsAmong kind.DisplayVersio
 -- what the command of a request answers, of its input before and after it, and of what was printed
 abbrev pub Answers : {T : Type 0} → Input → Input → Option (List ℕ) → Option (List ℕ) → Request → Result T Fault → Type 0
 Answers before after old new (Look board text depth) result = Looks (board_of board.now) text.now depth old new result
-Answers before after old new (Stats board pair) result = AnswersStats (board_of board.now) pair.now old new result
-Answers before after old new (Build board pair workers blocks all classes) result =
+Answers before after old new (Stats board pair progress) result = AnswersStats (board_of board.now) pair.now old new result
+Answers before after old new (Build board pair workers blocks all classes progress) result =
     AnswersBuild (board_of board.now) pair.now workers blocks all classes old new result
-Answers before after old new (Verify board) result = AnswersVerify (board_of board.now) before after old new result
-Answers before after old new (Probe board text) result = AnswersProbe (board_of board.now) text.now before after old new result
+Answers before after old new (Verify board progress) result = AnswersVerify (board_of board.now) before after old new result
+Answers before after old new (Probe board text progress) result = AnswersProbe (board_of board.now) text.now before after old new result
 
 -- whether a request is for a command that reads its input
 abbrev pub takes_input : Request → Bool
 takes_input (Look board text depth) = false
-takes_input (Stats board pair) = false
-takes_input (Build board pair workers blocks all classes) = false
-takes_input (Verify board) = true
-takes_input (Probe board text) = true
+takes_input (Stats board pair progress) = false
+takes_input (Build board pair workers blocks all classes progress) = false
+takes_input (Verify board progress) = true
+takes_input (Probe board text progress) = true
 
 -- the command that was named reads its input
 abbrev pub AsksToRead : Option (Text × List Row) → Type 0

@@ -44,9 +44,15 @@ program = record (new_app (codes "morris")) {
   top = record (new_app (codes "morris")).top { has_version = true; subcommand_required = true };
 }
 
--- `stats BOARD PAIR`
+-- `--progress`, a flag: its value is true where it is given, and false where it is left out
+abbrev pub progress_rule : Rule
+progress_rule = record (new_rule (codes "progress")) { long = Some (codes "progress"); action = Some action.SetTrue }
+
+-- `stats BOARD PAIR [--progress]`
 unfoldable pub stats_app : App
-stats_app = with_rule (with_rule (new_app (codes "stats")) (required_rule (codes "BOARD"))) (required_rule (codes "PAIR"))
+stats_app =
+    with_rule (with_rule (with_rule (new_app (codes "stats")) (required_rule (codes "BOARD")))
+    (required_rule (codes "PAIR"))) progress_rule
 
 -- `--workers W`, W a number from 1 to 64, and 2 where it is left out
 abbrev pub workers_rule : Rule
@@ -66,7 +72,7 @@ blocks_rule = record (new_rule (codes "blocks")) {
   defaults = codes "16" ∷ [];
 }
 
--- `--all`, a flag: its value is true where it is given, and false where it is left out
+-- `--all`, a flag
 abbrev pub all_rule : Rule
 all_rule = record (new_rule (codes "all")) { long = Some (codes "all"); action = Some action.SetTrue }
 
@@ -74,19 +80,21 @@ all_rule = record (new_rule (codes "all")) { long = Some (codes "all"); action =
 abbrev pub classes_rule : Rule
 classes_rule = record (new_rule (codes "classes")) { long = Some (codes "classes"); action = Some action.SetTrue }
 
--- `build BOARD PAIR [--workers W] [--blocks K] [--all] [--classes]`
+-- `build BOARD PAIR [--workers W] [--blocks K] [--all] [--classes] [--progress]`
 unfoldable pub build_app : App
 build_app =
-    with_rule (with_rule (with_rule (with_rule (with_rule (with_rule (new_app (codes "build")) (required_rule (codes "BOARD")))
-    (required_rule (codes "PAIR"))) workers_rule) blocks_rule) all_rule) classes_rule
+    with_rule (with_rule (with_rule (with_rule (with_rule (with_rule (with_rule (new_app (codes "build")) (required_rule (codes "BOARD")))
+    (required_rule (codes "PAIR"))) workers_rule) blocks_rule) all_rule) classes_rule) progress_rule
 
--- `verify BOARD`
+-- `verify BOARD [--progress]`
 unfoldable pub verify_app : App
-verify_app = with_rule (new_app (codes "verify")) (required_rule (codes "BOARD"))
+verify_app = with_rule (with_rule (new_app (codes "verify")) (required_rule (codes "BOARD"))) progress_rule
 
--- `probe BOARD TEXT`
+-- `probe BOARD TEXT [--progress]`
 unfoldable pub probe_app : App
-probe_app = with_rule (with_rule (new_app (codes "probe")) (required_rule (codes "BOARD"))) (required_rule (codes "TEXT"))
+probe_app =
+    with_rule (with_rule (with_rule (new_app (codes "probe")) (required_rule (codes "BOARD")))
+    (required_rule (codes "TEXT"))) progress_rule
 
 -- the program `morris` with its commands
 unfoldable pub morris_app : App
@@ -121,25 +129,31 @@ AsksFor (Some (name, rows)) (Look board text depth) =
     (name ≡ codes "look") × (first_of (codes "BOARD") rows ≡ Some board.now)
     × (first_of (codes "TEXT") rows ≡ Some text.now)
     × (option_map number_of (one_of (codes "depth") rows) ≡ Some depth)
-AsksFor (Some (name, rows)) (Stats board pair) =
+AsksFor (Some (name, rows)) (Stats board pair progress) =
     (name ≡ codes "stats") × (first_of (codes "BOARD") rows ≡ Some board.now) × (first_of (codes "PAIR") rows ≡ Some pair.now)
-AsksFor (Some (name, rows)) (Build board pair workers blocks all classes) =
+    × (one_of (codes "progress") rows ≡ Some (bool_text progress))
+AsksFor (Some (name, rows)) (Build board pair workers blocks all classes progress) =
     (name ≡ codes "build") × (first_of (codes "BOARD") rows ≡ Some board.now) × (first_of (codes "PAIR") rows ≡ Some pair.now)
     × (option_map number_of (one_of (codes "workers") rows) ≡ Some workers)
     × (option_map number_of (one_of (codes "blocks") rows) ≡ Some blocks)
     × (one_of (codes "all") rows ≡ Some (bool_text all))
     × (one_of (codes "classes") rows ≡ Some (bool_text classes))
-AsksFor (Some (name, rows)) (Verify board) = (name ≡ codes "verify") × (first_of (codes "BOARD") rows ≡ Some board.now)
-AsksFor (Some (name, rows)) (Probe board text) =
+    × (one_of (codes "progress") rows ≡ Some (bool_text progress))
+AsksFor (Some (name, rows)) (Verify board progress) =
+    (name ≡ codes "verify") × (first_of (codes "BOARD") rows ≡ Some board.now)
+    × (one_of (codes "progress") rows ≡ Some (bool_text progress))
+AsksFor (Some (name, rows)) (Probe board text progress) =
     (name ≡ codes "probe") × (first_of (codes "BOARD") rows ≡ Some board.now) × (first_of (codes "TEXT") rows ≡ Some text.now)
+    × (one_of (codes "progress") rows ≡ Some (bool_text progress))
 
 -- a depth to look ahead is at most 6 plies; workers are 1 to 64, and blocks 1 to 1,024
 abbrev pub IsInRange : Request → Type 0
 IsInRange (Look board text depth) = depth ≤ 6
-IsInRange (Stats board pair) = ⊤
-IsInRange (Build board pair workers blocks all classes) = ((1 ≤ workers) × (workers ≤ 64)) × ((1 ≤ blocks) × (blocks ≤ 1024))
-IsInRange (Verify board) = ⊤
-IsInRange (Probe board text) = ⊤
+IsInRange (Stats board pair progress) = ⊤
+IsInRange (Build board pair workers blocks all classes progress) =
+    ((1 ≤ workers) × (workers ≤ 64)) × ((1 ≤ blocks) × (blocks ≤ 1024))
+IsInRange (Verify board progress) = ⊤
+IsInRange (Probe board text progress) = ⊤
 
 -- the values of which `look` makes its request: board and text are there, and so is a depth from 0
 -- to 6
@@ -150,10 +164,13 @@ pub record HasLookValues (rows : List Row) : Type 0 where
   pub read : one_of (codes "depth") rows ≡ Some (without_minus depth)
   pub in_range : IsSignedIn (pos 0) (pos 6) depth
 
--- the values of which `stats` makes its request: board and pair are there
+-- the values of which `stats` makes its request: board and pair are there, and so is the value of
+-- its flag
 pub record HasStatsValues (rows : List Row) : Type 0 where
   pub board : is_some (first_of (codes "BOARD") rows) ≡ true
   pub pair : is_some (first_of (codes "PAIR") rows) ≡ true
+  pub progress : Bool
+  pub progress_read : one_of (codes "progress") rows ≡ Some (bool_text progress)
 
 -- the values of which `build` makes its request: board and pair are there, and so are a number of
 -- workers from 1 to 64, one of blocks from 1 to 1,024, and the values of its flags
@@ -170,15 +187,22 @@ pub record HasBuildValues (rows : List Row) : Type 0 where
   pub all_read : one_of (codes "all") rows ≡ Some (bool_text all)
   pub classes : Bool
   pub classes_read : one_of (codes "classes") rows ≡ Some (bool_text classes)
+  pub progress : Bool
+  pub progress_read : one_of (codes "progress") rows ≡ Some (bool_text progress)
 
--- the value of which `verify` makes its request: a board is there
+-- the values of which `verify` makes its request: a board is there, and so is the value of its flag
 pub record HasVerifyValues (rows : List Row) : Type 0 where
   pub board : is_some (first_of (codes "BOARD") rows) ≡ true
+  pub progress : Bool
+  pub progress_read : one_of (codes "progress") rows ≡ Some (bool_text progress)
 
--- the values of which `probe` makes its request: board and text are there
+-- the values of which `probe` makes its request: board and text are there, and so is the value of
+-- its flag
 pub record HasProbeValues (rows : List Row) : Type 0 where
   pub board : is_some (first_of (codes "BOARD") rows) ≡ true
   pub text : is_some (first_of (codes "TEXT") rows) ≡ true
+  pub progress : Bool
+  pub progress_read : one_of (codes "progress") rows ≡ Some (bool_text progress)
 
 -- a name and values: of a command of the program, and those of which it makes its request
 abbrev pub NamesCommand : Text × List Row → Type 0

@@ -98,7 +98,11 @@ fn run<R: Threads + Wait + Sync, I: Source, O: Sink>(
 {
     match request {
         Request::Look { board, text, depth } => look(board, text, depth, output),
-        Request::Stats { board, pair } => stats(alloc, board, pair, output),
+        Request::Stats {
+            board,
+            pair,
+            progress: _,
+        } => stats(alloc, board, pair, output),
         Request::Build {
             board,
             pair,
@@ -106,14 +110,19 @@ fn run<R: Threads + Wait + Sync, I: Source, O: Sink>(
             blocks,
             all,
             classes,
+            progress: _,
         } => {
             let (workers, blocks) = (usize::from(workers), usize::from(blocks));
             build_out(
                 rt, alloc, board, pair, workers, blocks, all, classes, output,
             )
         }
-        Request::Verify { board } => verify_in(alloc, board, input, output),
-        Request::Probe { board, text } => probe_in(alloc, board, text, input, output),
+        Request::Verify { board, progress: _ } => verify_in(alloc, board, input, output),
+        Request::Probe {
+            board,
+            text,
+            progress: _,
+        } => probe_in(alloc, board, text, input, output),
     }
 }
 

@@ -82,6 +82,10 @@ thread, and prints how many positions there are, how many are won and lost in\n\
 each number of plies (a ply is one player's move; the player to move is the one\n\
 who wins or loses), and how many are drawn: neither player can force a win.\n\
 \n\
+--progress writes lines `progress: ..` to standard error: first how many entries\n\
+there are in all and about how much memory they take, then at most one a second\n\
+and one at each pair's end. Standard output is the same with and without it.\n\
+\n\
 Exit status: 0 done; 1 a fault, one line on standard error; 2 words that aren't\n\
 allowed.\n\
 \n\
@@ -107,6 +111,10 @@ With --classes most positions that a symmetry of the board leads to one another\
 share an entry, so that the files are smaller. They are of version 2, which\n\
 `verify` and `probe` read as well.\n\
 \n\
+--progress writes lines `progress: ..` to standard error: first how many entries\n\
+there are in all and about how much memory they take, then at most one a second\n\
+and one at each pair's end. Standard output is the same with and without it.\n\
+\n\
 Exit status: 0 done; 1 a fault, one line on standard error; 2 words that aren't\n\
 allowed.\n\
 \n\
@@ -122,6 +130,10 @@ It reads the file of one table, as `morris build` writes it, finds the values of
 the pairs that the table's pair rests on, and compares each entry of the table\n\
 with what the rules give from the entries of its results. So nothing of the file\n\
 is believed.\n\
+\n\
+--progress writes lines `progress: ..` to standard error: first how many entries\n\
+there are in all and about how much memory they take, then at most one a second\n\
+and one at each pair's end. Standard output is the same with and without it.\n\
 \n\
 Exit status: 0 each entry is the game's; 1 a fault, one line on standard error,\n\
 such as `fault 14: entry 20 differs` with the first entry that is wrong, counted\n\
@@ -145,6 +157,10 @@ each, and then prints the text, the value (`won in 3`, `lost in 2`, in plies, or
 `draw`) and the best moves: those that win soonest, else those that keep the\n\
 draw, else those that lose latest. 8-2x5 is a move from point 8 to point 2 that\n\
 takes the stone on point 5.\n\
+\n\
+--progress writes lines `progress: ..` to standard error: first how many entries\n\
+there are in all and about how much memory they take, then at most one a second\n\
+and one at each pair's end. Standard output is the same with and without it.\n\
 \n\
 Exit status: 0 done; 1 a fault, one line on standard error; 2 words that aren't\n\
 allowed.\n\

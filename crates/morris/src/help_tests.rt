@@ -74,6 +74,12 @@ const STATUSES: [&str; 1] = [
     "Exit status: 0 done; 1 a fault, one line on standard error; 2 words that aren't\nallowed.",
 ];
 
+const PROGRESS: [&str; 3] = [
+    "--progress writes lines `progress: ..` to standard error: first how many entries\n",
+    "there are in all and about how much memory they take, then at most one a second\n",
+    "and one at each pair's end. Standard output is the same with and without it.\n",
+];
+
 #[test]
 fn help_of_the_whole_tells_what_the_words_mean(rt: HostRuntime) -> Result<(), Fail> {
     let text = help(&rt, &["morris", "--help"])?;
@@ -124,8 +130,10 @@ fn help_of_look_tells_what_its_words_mean(rt: HostRuntime) -> Result<(), Fail> {
 fn help_of_stats_and_build_tells_what_a_pair_is(rt: HostRuntime) -> Result<(), Fail> {
     assert_lines(&rt, "stats", PAIRS.as_slice())?;
     assert_lines(&rt, "stats", STATUSES.as_slice())?;
+    assert_lines(&rt, "stats", PROGRESS.as_slice())?;
     assert_lines(&rt, "build", PAIRS.as_slice())?;
     assert_lines(&rt, "build", STATUSES.as_slice())?;
+    assert_lines(&rt, "build", PROGRESS.as_slice())?;
     let shown = [
         "  $ morris build grid 4-3 --all > tables\n",
         "  $ morris build grid 4-3 --all --classes > smaller\n",
@@ -149,8 +157,10 @@ fn help_of_verify_and_probe_shows_what_they_read(rt: HostRuntime) -> Result<(), 
         "verify",
         &["Exit status: 0 each entry is the game's; 1 a fault"],
     )?;
+    assert_lines(&rt, "verify", PROGRESS.as_slice())?;
     assert_lines(&rt, "probe", POINTS.as_slice())?;
     assert_lines(&rt, "probe", STATUSES.as_slice())?;
+    assert_lines(&rt, "probe", PROGRESS.as_slice())?;
     let table = file(rt.alloc())?;
     assert_shows(
         &rt,

@@ -5,7 +5,7 @@ ghost use Rattle.clap.specs.Words.{subcommand_rows_of};
 ghost use Rattle.morris.specs.Words.{AsksFor, HasBuildValues, HasLookValues, HasProbeValues, HasStatsValues, HasVerifyValues};
 ghost use Rattle.morris.specs.Words.{IsAnswerTo, IsAnswerToOneOf, IsInRange, NamesRequest, all_rule, blocks_rule, build_app, classes_rule};
 ghost use Rattle.morris.specs.Words.{depth_rule, faults_of, has_globals, look_app, morris_app, named_by, probe_app};
-ghost use Rattle.morris.specs.Words.{required_rule, stats_app, verify_app, workers_rule};
+ghost use Rattle.morris.specs.Words.{progress_rule, required_rule, stats_app, verify_app, workers_rule};
 
 use crate::help;
 use clap::error::ErrorKind;
@@ -23,15 +23,18 @@ pub enum Request<'a> {
         text: &'a str,
         depth: u8,
     },
-    /// Count the values of the positions of the pair that `pair` names on the board named `board`.
+    /// Count the values of the positions of the pair that `pair` names on the board named `board`,
+    /// and where `progress` is true tell on standard error how far it is.
     Stats {
         board: &'a str,
         pair: &'a str,
+        progress: bool,
     },
     /// Build the table of the pair that `pair` names on the board named `board`, and of each pair
     /// below it, with 1 to 64 `workers` and 1 to 1,024 `blocks`, and write the table file of the
     /// pair, or where `all` is true those of all these pairs. Where `classes` is true the tables
-    /// have an entry for each class of positions, and otherwise one for each position.
+    /// have an entry for each class of positions, and otherwise one for each position. Where
+    /// `progress` is true tell on standard error how far it is.
     Build {
         board: &'a str,
         pair: &'a str,
@@ -39,16 +42,20 @@ pub enum Request<'a> {
         blocks: u16,
         all: bool,
         classes: bool,
+        progress: bool,
     },
-    /// Verify the table file on the input, of the board named `board`.
+    /// Verify the table file on the input, of the board named `board`, and where `progress` is true
+    /// tell on standard error how far it is.
     Verify {
         board: &'a str,
+        progress: bool,
     },
     /// Report the position that `text` writes on the board named `board`, by the tables on the
-    /// input.
+    /// input, and where `progress` is true tell on standard error how far it is.
     Probe {
         board: &'a str,
         text: &'a str,
+        progress: bool,
     },
 }
 
@@ -140,7 +147,8 @@ fn stats_command<'a>(alloc: Global) -> Result<Command<'a>, AllocError>
         .about("Count the values of all positions with a pair's numbers of stones")
         .after_help(help::STATS)
         .arg(required_arg(alloc, "BOARD", BOARD_HELP))?
-        .arg(required_arg(alloc, "PAIR", PAIR_HELP))
+        .arg(required_arg(alloc, "PAIR", PAIR_HELP))?
+        .arg(progress_arg(alloc))
 }
 
 fn build_command<'a>(alloc: Global) -> Result<Command<'a>, AllocError>
@@ -155,7 +163,8 @@ fn build_command<'a>(alloc: Global) -> Result<Command<'a>, AllocError>
         .arg(workers_arg(alloc))?
         .arg(blocks_arg(alloc))?
         .arg(all_arg(alloc))?
-        .arg(classes_arg(alloc))
+        .arg(classes_arg(alloc))?
+        .arg(progress_arg(alloc))
 }
 
 fn verify_command<'a>(alloc: Global) -> Result<Command<'a>, AllocError>
@@ -165,7 +174,8 @@ fn verify_command<'a>(alloc: Global) -> Result<Command<'a>, AllocError>
     Command::new(alloc, "verify")
         .about("Check each entry of a table file, which is read from standard input")
         .after_help(help::VERIFY)
-        .arg(required_arg(alloc, "BOARD", BOARD_HELP))
+        .arg(required_arg(alloc, "BOARD", BOARD_HELP))?
+        .arg(progress_arg(alloc))
 }
 
 fn probe_command<'a>(alloc: Global) -> Result<Command<'a>, AllocError>
@@ -178,7 +188,8 @@ fn probe_command<'a>(alloc: Global) -> Result<Command<'a>, AllocError>
         )
         .after_help(help::PROBE)
         .arg(required_arg(alloc, "BOARD", BOARD_HELP))?
-        .arg(required_arg(alloc, "TEXT", POSITION_HELP))
+        .arg(required_arg(alloc, "TEXT", POSITION_HELP))?
+        .arg(progress_arg(alloc))
 }
 
 fn required_arg<'a>(alloc: Global, name: &'a str, help: &'a str) -> Arg<'a>
@@ -244,6 +255,16 @@ fn classes_arg<'a>(alloc: Global) -> Arg<'a>
         .help("Have one entry for each class of positions: files of version 2")
 }
 
+fn progress_arg<'a>(alloc: Global) -> Arg<'a>
+    ensures rule { rule_of result ≡ progress_rule }
+    ensures local { result.global ≡ false }
+{
+    Arg::new(alloc, "progress")
+        .long("progress")
+        .action(ArgAction::SetTrue)
+        .help("Tell on standard error how far it is")
+}
+
 fn request_of<'a>(matches: &ArgMatches<'a>) -> Request<'a>
     requires { NamesRequest (subcommand_rows_of matches.now) }
     ensures request { AsksFor (subcommand_rows_of matches.now) result }
@@ -282,7 +303,12 @@ fn stats_request<'a>(found: &ArgMatches<'a>) -> Request<'a>
     let (Some(board), Some(pair)) = (found.get_str("BOARD"), found.get_str("PAIR")) else {
         unreachable!()
     };
-    Request::Stats { board, pair }
+    let progress = found.get_flag("progress");
+    Request::Stats {
+        board,
+        pair,
+        progress,
+    }
 }
 
 fn build_request<'a>(found: &ArgMatches<'a>) -> Request<'a>
@@ -299,6 +325,7 @@ fn build_request<'a>(found: &ArgMatches<'a>) -> Request<'a>
         unreachable!()
     };
     let (all, classes) = (found.get_flag("all"), found.get_flag("classes"));
+    let progress = found.get_flag("progress");
     Request::Build {
         board,
         pair,
@@ -306,6 +333,7 @@ fn build_request<'a>(found: &ArgMatches<'a>) -> Request<'a>
         blocks,
         all,
         classes,
+        progress,
     }
 }
 
@@ -317,7 +345,8 @@ fn verify_request<'a>(found: &ArgMatches<'a>) -> Request<'a>
     let Some(board) = found.get_str("BOARD") else {
         unreachable!()
     };
-    Request::Verify { board }
+    let progress = found.get_flag("progress");
+    Request::Verify { board, progress }
 }
 
 fn probe_request<'a>(found: &ArgMatches<'a>) -> Request<'a>
@@ -328,7 +357,12 @@ fn probe_request<'a>(found: &ArgMatches<'a>) -> Request<'a>
     let (Some(board), Some(text)) = (found.get_str("BOARD"), found.get_str("TEXT")) else {
         unreachable!()
     };
-    Request::Probe { board, text }
+    let progress = found.get_flag("progress");
+    Request::Probe {
+        board,
+        text,
+        progress,
+    }
 }
 
 fn refusal_of(alloc: Global, error: &Error) -> Refusal

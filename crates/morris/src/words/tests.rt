@@ -17,9 +17,15 @@ fn expect_look(rt: &(impl Abort + AllocGlobal), words: &[&str], wanted: (&str, &
 }
 
 // The words make this request for `stats`.
-fn expect_stats(rt: &(impl Abort + AllocGlobal), words: &[&str], wanted: (&str, &str)) {
+fn expect_stats(rt: &(impl Abort + AllocGlobal), words: &[&str], wanted: (&str, &str, bool)) {
     let is_wanted = match read_words(rt.alloc(), words) {
-        Ok(Request::Stats { board, pair }) => board == wanted.0 && pair == wanted.1,
+        Ok(
+            Request::Stats {
+                board,
+                pair,
+                progress,
+            },
+        ) => { board == wanted.0 && pair == wanted.1 && progress == wanted.2 }
         _other => false,
     };
     assert!(rt; is_wanted, "{words:?}");
@@ -29,7 +35,7 @@ fn expect_stats(rt: &(impl Abort + AllocGlobal), words: &[&str], wanted: (&str, 
 fn expect_build(
     rt: &(impl Abort + AllocGlobal),
     words: &[&str],
-    wanted: (&str, &str, u8, u16, bool, bool),
+    wanted: (&str, &str, u8, u16, bool, bool, bool),
 ) {
     let is_wanted = match read_words(rt.alloc(), words) {
         Ok(
@@ -40,6 +46,7 @@ fn expect_build(
                 blocks,
                 all,
                 classes,
+                progress,
             },
         ) => {
             board == wanted.0
@@ -48,7 +55,32 @@ fn expect_build(
                 && blocks == wanted.3
                 && all == wanted.4
                 && classes == wanted.5
+                && progress == wanted.6
         }
+        _other => false,
+    };
+    assert!(rt; is_wanted, "{words:?}");
+}
+
+// The words make this request for `verify`.
+fn expect_verify(rt: &(impl Abort + AllocGlobal), words: &[&str], wanted: (&str, bool)) {
+    let is_wanted = match read_words(rt.alloc(), words) {
+        Ok(Request::Verify { board, progress }) => board == wanted.0 && progress == wanted.1,
+        _other => false,
+    };
+    assert!(rt; is_wanted, "{words:?}");
+}
+
+// The words make this request for `probe`.
+fn expect_probe(rt: &(impl Abort + AllocGlobal), words: &[&str], wanted: (&str, &str, bool)) {
+    let is_wanted = match read_words(rt.alloc(), words) {
+        Ok(
+            Request::Probe {
+                board,
+                text,
+                progress,
+            },
+        ) => { board == wanted.0 && text == wanted.1 && progress == wanted.2 }
         _other => false,
     };
     assert!(rt; is_wanted, "{words:?}");
@@ -90,16 +122,47 @@ fn reads_look(rt: HostRuntime) {
 
 #[test]
 fn reads_stats(rt: HostRuntime) {
-    expect_stats(&rt, &["morris", "stats", "grid", "3-3"], ("grid", "3-3"));
-    expect_stats(&rt, &["m", "stats", "nine", "9-4"], ("nine", "9-4"));
-    expect_stats(&rt, &["", "stats", "--", "grid", "--"], ("grid", "--"));
-    expect_stats(&rt, &["m", "stats", "", "né"], ("", "né"));
+    let plain = ["morris", "stats", "grid", "3-3"];
+    expect_stats(&rt, &plain, ("grid", "3-3", false));
+    expect_stats(&rt, &["m", "stats", "nine", "9-4"], ("nine", "9-4", false));
+    let dashes = ["", "stats", "--", "grid", "--"];
+    expect_stats(&rt, &dashes, ("grid", "--", false));
+    expect_stats(&rt, &["m", "stats", "", "né"], ("", "né", false));
+    let progress = ["m", "stats", "grid", "3-3", "--progress"];
+    expect_stats(&rt, &progress, ("grid", "3-3", true));
+    let between = ["m", "stats", "--progress", "grid", "3-3"];
+    expect_stats(&rt, &between, ("grid", "3-3", true));
+    let after_dashes = ["m", "stats", "grid", "--", "--progress"];
+    expect_stats(&rt, &after_dashes, ("grid", "--progress", false));
+}
+
+#[test]
+fn reads_verify(rt: HostRuntime) {
+    expect_verify(&rt, &["morris", "verify", "grid"], ("grid", false));
+    let progress = ["m", "verify", "nine", "--progress"];
+    expect_verify(&rt, &progress, ("nine", true));
+    let before = ["m", "verify", "--progress", "grid"];
+    expect_verify(&rt, &before, ("grid", true));
+    let after_dashes = ["m", "verify", "--", "--progress"];
+    expect_verify(&rt, &after_dashes, ("--progress", false));
+}
+
+#[test]
+fn reads_probe(rt: HostRuntime) {
+    let plain = ["morris", "probe", "grid", "XX..OO.OX"];
+    expect_probe(&rt, &plain, ("grid", "XX..OO.OX", false));
+    let progress = ["m", "probe", "nine", "X", "--progress"];
+    expect_probe(&rt, &progress, ("nine", "X", true));
+    let between = ["m", "probe", "grid", "--progress", "X"];
+    expect_probe(&rt, &between, ("grid", "X", true));
+    let after_dashes = ["m", "probe", "grid", "--", "--progress"];
+    expect_probe(&rt, &after_dashes, ("grid", "--progress", false));
 }
 
 #[test]
 fn reads_build(rt: HostRuntime) {
     let plain = ["morris", "build", "grid", "3-3"];
-    expect_build(&rt, &plain, ("grid", "3-3", 2, 16, false, false));
+    expect_build(&rt, &plain, ("grid", "3-3", 2, 16, false, false, false));
     let each = [
         "m",
         "build",
@@ -111,32 +174,54 @@ fn reads_build(rt: HostRuntime) {
         "5",
         "--all",
     ];
-    expect_build(&rt, &each, ("nine", "4-3", 7, 5, true, false));
+    expect_build(&rt, &each, ("nine", "4-3", 7, 5, true, false, false));
     let between = ["m", "build", "--all", "grid", "--blocks=1024", "3-3"];
-    expect_build(&rt, &between, ("grid", "3-3", 2, 1024, true, false));
+    expect_build(&rt, &between, ("grid", "3-3", 2, 1024, true, false, false));
     let most = ["m", "build", "grid", "3-3", "--workers=64"];
-    expect_build(&rt, &most, ("grid", "3-3", 64, 16, false, false));
+    expect_build(&rt, &most, ("grid", "3-3", 64, 16, false, false, false));
     let least = ["m", "build", "grid", "3-3", "--workers", "1"];
-    expect_build(&rt, &least, ("grid", "3-3", 1, 16, false, false));
+    expect_build(&rt, &least, ("grid", "3-3", 1, 16, false, false, false));
     let whole = ["m", "build", "grid", "3-3", "--blocks", "1"];
-    expect_build(&rt, &whole, ("grid", "3-3", 2, 1, false, false));
+    expect_build(&rt, &whole, ("grid", "3-3", 2, 1, false, false, false));
     let after_dashes = ["m", "build", "grid", "--", "--all"];
-    expect_build(&rt, &after_dashes, ("grid", "--all", 2, 16, false, false));
+    expect_build(
+        &rt,
+        &after_dashes,
+        ("grid", "--all", 2, 16, false, false, false),
+    );
 }
 
 #[test]
 fn reads_the_flags_of_build_in_any_order(rt: HostRuntime) {
     let classes = ["m", "build", "grid", "3-3", "--classes"];
-    expect_build(&rt, &classes, ("grid", "3-3", 2, 16, false, true));
+    expect_build(&rt, &classes, ("grid", "3-3", 2, 16, false, true, false));
     let both = ["m", "build", "nine", "4-3", "--all", "--classes"];
-    expect_build(&rt, &both, ("nine", "4-3", 2, 16, true, true));
+    expect_build(&rt, &both, ("nine", "4-3", 2, 16, true, true, false));
     let between = ["m", "build", "--classes", "grid", "--all", "3-3"];
-    expect_build(&rt, &between, ("grid", "3-3", 2, 16, true, true));
+    expect_build(&rt, &between, ("grid", "3-3", 2, 16, true, true, false));
     let after_dashes = ["m", "build", "--all", "--", "grid", "--classes"];
     expect_build(
         &rt,
         &after_dashes,
-        ("grid", "--classes", 2, 16, true, false),
+        ("grid", "--classes", 2, 16, true, false, false),
+    );
+    let progress = ["m", "build", "grid", "3-3", "--progress"];
+    expect_build(&rt, &progress, ("grid", "3-3", 2, 16, false, false, true));
+    let each = [
+        "m",
+        "build",
+        "--progress",
+        "--all",
+        "grid",
+        "--classes",
+        "3-3",
+    ];
+    expect_build(&rt, &each, ("grid", "3-3", 2, 16, true, true, true));
+    let text = ["m", "build", "--progress", "--", "grid", "--progress"];
+    expect_build(
+        &rt,
+        &text,
+        ("grid", "--progress", 2, 16, false, false, true),
     );
 }
 
@@ -190,6 +275,23 @@ fn refuses_workers_and_blocks(rt: HostRuntime) {
 }
 
 #[test]
+fn refuses_progress(rt: HostRuntime) {
+    expect_wrong(&rt, &["m", "look", "grid", "X", "--progress"]);
+    expect_wrong(&rt, &["m", "look", "--progress", "grid", "X"]);
+    let stats = ["m", "stats", "grid", "3-3", "--progress", "--progress"];
+    expect_wrong(&rt, &stats);
+    let build = ["m", "build", "grid", "3-3", "--progress", "--progress"];
+    expect_wrong(&rt, &build);
+    let verify = ["m", "verify", "grid", "--progress", "--progress"];
+    expect_wrong(&rt, &verify);
+    let probe = ["m", "probe", "grid", "X", "--progress", "--progress"];
+    expect_wrong(&rt, &probe);
+    expect_wrong(&rt, &["m", "verify", "grid", "--progress=true"]);
+    expect_wrong(&rt, &["m", "--progress", "verify", "grid"]);
+    expect_wrong(&rt, &["m", "verify", "--progress"]);
+}
+
+#[test]
 fn refuses_words(rt: HostRuntime) {
     expect_wrong(&rt, &[]);
     expect_wrong(&rt, &[""]);
@@ -226,12 +328,16 @@ fn gives_help(rt: HostRuntime) {
     expect_help(&rt, &["m", "help", "look"], look_usage);
     expect_help(&rt, &["m", "look", "--help"], look_usage);
     expect_help(&rt, &["m", "look", "grid", "--help"], "[default: 2]");
-    let stats_usage = "Usage: morris stats <BOARD> <PAIR>";
+    let stats_usage = "Usage: morris stats [OPTIONS] <BOARD> <PAIR>";
     expect_help(&rt, &["m", "help", "stats"], stats_usage);
     expect_help(&rt, &["m", "stats", "--help"], stats_usage);
     let build_usage = "Usage: morris build [OPTIONS] <BOARD> <PAIR>";
     expect_help(&rt, &["m", "help", "build"], build_usage);
     expect_help(&rt, &["m", "build", "grid", "--help"], "[default: 16]");
+    let verify_usage = "Usage: morris verify [OPTIONS] <BOARD>";
+    expect_help(&rt, &["m", "verify", "--help"], verify_usage);
+    let probe_usage = "Usage: morris probe [OPTIONS] <BOARD> <TEXT>";
+    expect_help(&rt, &["m", "probe", "--help"], probe_usage);
 }
 
 // The words ask for the version.

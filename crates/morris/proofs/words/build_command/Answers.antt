@@ -15,7 +15,8 @@ returns-clause-app c =
     let three = c.in_ok-arg-3.ensures.shape c.workers_arg.ensures.local ∙ ap₂ with_rule two c.workers_arg.ensures.rule in
     let four = c.in_ok-arg-4.ensures.shape c.blocks_arg.ensures.local ∙ ap₂ with_rule three c.blocks_arg.ensures.rule in
     let five = c.in_ok-arg-5.ensures.shape c.all_arg.ensures.local ∙ ap₂ with_rule four c.all_arg.ensures.rule in
-    IfOk-weaker c.arg-6.result _ _ (λ r h. h.shape c.classes_arg.ensures.local ∙ ap₂ with_rule five c.classes_arg.ensures.rule) c.arg-6.ensures
+    let six = c.in_ok-arg-6.ensures.shape c.classes_arg.ensures.local ∙ ap₂ with_rule five c.classes_arg.ensures.rule in
+    IfOk-weaker c.arg-7.result _ _ (λ r h. h.shape c.progress_arg.ensures.local ∙ ap₂ with_rule six c.progress_arg.ensures.rule) c.arg-7.ensures
 
 pub returns-clause-local : goal.returns-clause-local
 returns-clause-local c =
@@ -26,4 +27,5 @@ returns-clause-local c =
     let three = c.in_ok-arg-3.ensures.globals ∙ ap₂ (λ a b. a || b) two c.workers_arg.ensures.local in
     let four = c.in_ok-arg-4.ensures.globals ∙ ap₂ (λ a b. a || b) three c.blocks_arg.ensures.local in
     let five = c.in_ok-arg-5.ensures.globals ∙ ap₂ (λ a b. a || b) four c.all_arg.ensures.local in
-    IfOk-weaker c.arg-6.result _ _ (λ r h. h.globals ∙ ap₂ (λ a b. a || b) five c.classes_arg.ensures.local) c.arg-6.ensures
+    let six = c.in_ok-arg-6.ensures.globals ∙ ap₂ (λ a b. a || b) five c.classes_arg.ensures.local in
+    IfOk-weaker c.arg-7.result _ _ (λ r h. h.globals ∙ ap₂ (λ a b. a || b) six c.progress_arg.ensures.local) c.arg-7.ensures

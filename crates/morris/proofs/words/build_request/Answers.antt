@@ -1,12 +1,12 @@
-use Rattle.std.proofs.Common.{◌≡◌, ◌∙◌, ◌≤◌, ◌<◌, ◌^◌, ℕ, Bool, List, ap, arith, refl, sym, subst, Option, Some, None, Ok, Result, codes, is_some, false, true, option_map}
+use Rattle.std.proofs.Common.{◌≡◌, ◌∙◌, ◌≤◌, ◌<◌, ◌^◌, ℕ, List, ap, arith, refl, sym, subst, Option, Some, Ok, Result, codes, is_some, true, option_map}
 use Rattle.std.specs.Prelude.{pos}
 use Rattle.std.specs.Str.Parse.{ParsesUnsigned, ExplainsUnsignedError, HasUnsignedDigitsIfOk}
-use Rattle.clap.specs.Values.{bool_text}
 use Rattle.clap.specs.Words.{IsSignedIn, ReadsOne, found_of, without_minus}
 use Rattle.clap.proofs.CallerLemmas.{some_of_text}
 use Rattle.clap.proofs.CallerReads.{signed_reads}
 use Rattle.clap.proofs.WalkLemmas.{first_value-rows, one_text-rows}
 use Rattle.morris.specs.Words.{number_of}
+use Rattle.morris.proofs.ReadLaws.{flag_read, not_both, not_there}
 use Rattle.morris.proofs.words.build_request.Goals as goal
 use Rattle.morris.proofs.words.build_request.Goals.{in_default-via-in-Some+in-Some+in-Some+in_default, in_default-via-in-Some+in-Some+in_default, in_default-via-in-Some+in_default, in_default-via-in_default}
 
@@ -18,16 +18,6 @@ read_number {E} G bits low high t r one only fits in_range =
     let got = signed_reads E G bits low high t r one only fits in_range in
     let reads : G (without_minus t) (Ok got.0) = subst (λ o. ReadsOne G (without_minus t) o) got.1 one in
     (got.0, got.1, got.2, got.3, sym (only (without_minus t) (Ok got.0) reads).1)
-
-not_both : {X : Type 0} (r : Option X) (x : X) → r ≡ None → r ≡ Some x → ⊥
-not_both r x none some =
-    let bad : None ≡ Some x = sym none ∙ some in
-    cc
-
-not_there : {X : Type 0} (r : Option X) → r ≡ None → is_some r ≡ true → ⊥
-not_there r none some =
-    let bad : false ≡ true = sym (ap is_some none) ∙ some in
-    cc
 
 pub unreachable-requires : goal.unreachable-requires
 unreachable-requires c =
@@ -47,12 +37,6 @@ unreachable-requires c =
       | in_default-via-in_default w ↦ not_there c.get_str.result w.in_default.is-0 board
     ]
 
--- a flag whose value is known is read as that value
-flag_read : (b result : Bool) (o : Option (List ℕ)) → o ≡ Some (bool_text b) → (o ≡ Some (codes "true") → result ≡ true)
-    → (o ≡ Some (codes "false") → result ≡ false) → b ≡ result
-flag_read true result o is on off = sym (on is)
-flag_read false result o is on off = sym (off is)
-
 pub returns-clause-request : goal.returns-clause-request
 returns-clause-request c =
     let found = found_of c.args.found.now in
@@ -60,17 +44,15 @@ returns-clause-request c =
     let workers = read_number (λ bs r. ParsesUnsigned 8 10 bs r × ExplainsUnsignedError 10 bs r × HasUnsignedDigitsIfOk bs r) 8 1 64 c.requires.workers_text c.get_one.result
     (c.get_one.ensures.value _ (one_text-rows found (codes "workers") ∙ c.requires.workers_read)) (λ u x g. g.0) (omega arith) c.requires.workers_in_range in
     let blocks = read_number (λ bs r. ParsesUnsigned 16 10 bs r × ExplainsUnsignedError 10 bs r × HasUnsignedDigitsIfOk bs r) 16 1 1024 c.requires.blocks_text c.get_one-2.result
-    (c.get_one-2.ensures.value _ (one_text-rows found (codes "blocks") ∙ c.requires.blocks_read)) (λ u x g. g.0) (omega arith) c.requires.blocks_in_range in
-    let all = flag_read c.requires.all c.get_flag-all.result _ (one_text-rows found (codes "all") ∙ c.requires.all_read) c.get_flag-all.ensures.value c.get_flag-all.ensures.other in
-    let classes = flag_read c.requires.classes c.get_flag-classes.result _ (one_text-rows found (codes "classes") ∙ c.requires.classes_read) c.get_flag-classes.ensures.value
-    c.get_flag-classes.ensures.other in (
+    (c.get_one-2.ensures.value _ (one_text-rows found (codes "blocks") ∙ c.requires.blocks_read)) (λ u x g. g.0) (omega arith) c.requires.blocks_in_range in (
       refl,
       sym (c.get_str.ensures ∙ first_value-rows found (codes "BOARD")) ∙ ap (option_map (λ s. s.now)) arm.is-0,
       sym (c.get_str-2.ensures ∙ first_value-rows found (codes "PAIR")) ∙ ap (option_map (λ s. s.now)) arm.is-1,
       ap (option_map number_of) c.requires.workers_read ∙ (ap (λ n. Some n) workers.4 ∙ (sym workers.1 ∙ arm.is-2)),
       ap (option_map number_of) c.requires.blocks_read ∙ (ap (λ n. Some n) blocks.4 ∙ (sym blocks.1 ∙ arm.is-3)),
-      c.requires.all_read ∙ ap (λ b. Some (bool_text b)) all,
-      c.requires.classes_read ∙ ap (λ b. Some (bool_text b)) classes,
+      flag_read found (codes "all") c.requires.all c.get_flag-all.result c.requires.all_read c.get_flag-all.ensures.value c.get_flag-all.ensures.other,
+      flag_read found (codes "classes") c.requires.classes c.get_flag-classes.result c.requires.classes_read c.get_flag-classes.ensures.value c.get_flag-classes.ensures.other,
+      flag_read found (codes "progress") c.requires.progress c.get_flag-progress.result c.requires.progress_read c.get_flag-progress.ensures.value c.get_flag-progress.ensures.other,
     )
 
 same_number : (n m : ℕ) (r : Option ℕ) → r ≡ Some n → r ≡ Some m → n ≡ m

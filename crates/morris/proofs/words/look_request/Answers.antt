@@ -1,4 +1,4 @@
-use Rattle.std.proofs.Common.{◌≡◌, ◌∙◌, ◌≤◌, ℕ, List, ap, arith, refl, sym, subst, Option, Some, None, Ok, Result, codes, is_some, false, true, option_map}
+use Rattle.std.proofs.Common.{◌≡◌, ◌∙◌, ◌≤◌, ℕ, List, ap, arith, refl, sym, subst, Option, Some, Ok, Result, codes, is_some, true, option_map}
 use Rattle.std.specs.Prelude.{pos}
 use Rattle.std.specs.Str.Parse.{ParsesUnsigned, ExplainsUnsignedError, HasUnsignedDigitsIfOk}
 use Rattle.clap.specs.Words.{IsSignedIn, ReadsOne, found_of, without_minus}
@@ -6,6 +6,7 @@ use Rattle.clap.proofs.CallerLemmas.{some_of_text}
 use Rattle.clap.proofs.CallerReads.{signed_reads}
 use Rattle.clap.proofs.WalkLemmas.{first_value-rows, one_text-rows}
 use Rattle.morris.specs.Words.{number_of}
+use Rattle.morris.proofs.ReadLaws.{not_both, not_there}
 use Rattle.morris.proofs.words.look_request.Goals as goal
 use Rattle.morris.proofs.words.look_request.Goals.{in_default-via-in-Some+in-Some+in_default, in_default-via-in-Some+in_default, in_default-via-in_default}
 
@@ -17,16 +18,6 @@ read_number E G t r only one in_range =
     let reads : G (without_minus t) (Ok got.0) = subst (λ o. ReadsOne G (without_minus t) o) got.1 one in
     let number : got.0 ≡ number_of (without_minus t) = (only (without_minus t) (Ok got.0) reads).1 in
     (got.0, got.1, got.3, sym number)
-
-not_both : {X : Type 0} (r : Option X) (x : X) → r ≡ None → r ≡ Some x → ⊥
-not_both r x none some =
-    let bad : None ≡ Some x = sym none ∙ some in
-    cc
-
-not_there : {X : Type 0} (r : Option X) → r ≡ None → is_some r ≡ true → ⊥
-not_there r none some =
-    let bad : false ≡ true = sym (ap is_some none) ∙ some in
-    cc
 
 pub unreachable-requires : goal.unreachable-requires
 unreachable-requires c =

@@ -1,14 +1,10 @@
-use Rattle.std.proofs.Common.{◌≡◌, ◌∙◌, ap, refl, sym, Option, None, codes, is_some, false, true, option_map}
+use Rattle.std.proofs.Common.{◌≡◌, ◌∙◌, ap, refl, sym, codes, is_some, true, option_map}
 use Rattle.clap.specs.Words.{found_of}
 use Rattle.clap.proofs.CallerLemmas.{some_of_text}
 use Rattle.clap.proofs.WalkLemmas.{first_value-rows}
+use Rattle.morris.proofs.ReadLaws.{flag_read, not_there}
 use Rattle.morris.proofs.words.probe_request.Goals as goal
 use Rattle.morris.proofs.words.probe_request.Goals.{in_default-via-in-Some+in_default, in_default-via-in_default}
-
-not_there : {X : Type 0} (r : Option X) → r ≡ None → is_some r ≡ true → ⊥
-not_there r none some =
-    let bad : false ≡ true = sym (ap is_some none) ∙ some in
-    cc
 
 pub unreachable-requires : goal.unreachable-requires
 unreachable-requires c =
@@ -29,4 +25,5 @@ returns-clause-request c =
       refl,
       sym (c.get_str.ensures ∙ first_value-rows found (codes "BOARD")) ∙ ap (option_map (λ s. s.now)) arm.is-0,
       sym (c.get_str-2.ensures ∙ first_value-rows found (codes "TEXT")) ∙ ap (option_map (λ s. s.now)) arm.is-1,
+      flag_read found (codes "progress") c.requires.progress c.get_flag-progress.result c.requires.progress_read c.get_flag-progress.ensures.value c.get_flag-progress.ensures.other,
     )
