@@ -17,6 +17,9 @@ mod survey;
 mod tickets;
 #[cfg(test)]
 mod tickets_tests;
+mod watch;
+#[cfg(test)]
+mod watch_tests;
 mod wave;
 mod yard;
 #[cfg(test)]
@@ -24,6 +27,7 @@ mod yard_tests;
 
 pub use fault::SolveFault;
 pub use gate::{Gate, OpenGate, Turn};
-pub use solver::{check_numbers, solve};
+pub use solver::{check_numbers, solve, solve_watched};
 pub use tickets::{Drawn, TicketSeat, Tickets};
+pub use watch::{Unwatched, Watch};
 pub use yard::Yard;

@@ -11,6 +11,7 @@ use crate::fault::{LAST_WAVE, SolveFault};
 use crate::gate::Gate;
 use crate::making::make_blocks;
 use crate::survey::survey;
+use crate::watch::{Unwatched, Watch};
 use crate::wave::run_wave;
 use crate::yard::Yard;
 use morris_wave::{Block, Cut, Graph, Levels, gather_from};
@@ -48,24 +49,28 @@ fn cut_into(size: u64, parts: u64) -> Cut
     cut
 }
 
-// Goes from wave to wave until all blocks are settled, and says at which wave they are.
-fn run_waves<G: Graph + Send + Sync, A: Gate, R: Threads + Wait + Sync>(
+// Goes from wave to wave until all blocks are settled, and says at which wave they are. The watch is
+// told of each wave before it is run.
+fn run_waves<G: Graph + Send + Sync, A: Gate, R: Threads + Wait + Sync, W: Watch>(
     rt: &R,
     alloc: Global,
     graph: &G,
     gate: &A,
     yard: &Yard<G::Name>,
     shares: &Cut,
+    watch: &mut W,
 ) -> Result<u16, SolveFault>
     requires shared { shares.now.size ≡ yard.now }
     requires blocks { (1 ≤ yard.now) × (yard.now ≤ 1024) }
     requires workers { (1 ≤ shares.now.blocks) × (shares.now.blocks ≤ 64) }
-    ensures { IfErr result (Tells (G.Name.net (G.level graph.now)) yard.now) }
+    ensures told { IfErr result (Tells (G.Name.net (G.level graph.now)) yard.now) }
+    ensures watched { W.becomes watch.old watch.new }
 {
     for wave in 0..=LAST_WAVE {
         if survey(rt, graph, yard, wave)? {
             return Ok(wave);
         }
+        watch.wave(wave + 1);
         run_wave(rt, alloc, graph, gate, yard, shares, wave + 1)?;
     }
     // The survey of the last wave ends the waves. Of what stands behind locks no proof knows as much.
@@ -127,7 +132,6 @@ fn codes_of<N: Levels>(
 /// refused, in a wave before anything else that the wave would answer. `Missing` with the least number of a
 /// block that isn't complete, where a gate has sent workers away. `TooDeep` only where `sweep` answers it;
 /// such a graph is never answered with codes.
-#[tactic(auto, using(morris_wave::proofs::Plies::ply_rules, morris_wave::proofs::Plies::code_rules))]
 pub fn solve<G: Graph + Send + Sync, A: Gate, R: Threads + Wait + Sync>(
     rt: &R,
     alloc: Global,
@@ -152,11 +156,49 @@ pub fn solve<G: Graph + Send + Sync, A: Gate, R: Threads + Wait + Sync>(
     // And it tells who wins: codes of lost nodes are odd, those of won nodes even.
     ensures outcome { CodeRules (G.Name.net (G.level graph.now)) }
 {
+    solve_watched(rt, alloc, graph, gate, workers, blocks, &mut Unwatched)
+}
+
+/// [`solve`], and tells `watch` of each wave before it begins (see [`Watch`]): of waves 1, 2, .. and of
+/// no wave where the blocks are settled before the first one.
+///
+/// # Errors
+///
+/// Those of [`solve`]. Where numbers are out of range, or the blocks aren't made, the watch is told
+/// nothing. A wave that was told may still be refused.
+#[tactic(auto, using(morris_wave::proofs::Plies::ply_rules, morris_wave::proofs::Plies::code_rules))]
+pub fn solve_watched<G: Graph + Send + Sync, A: Gate, R: Threads + Wait + Sync, W: Watch>(
+    rt: &R,
+    alloc: Global,
+    graph: &G,
+    gate: &A,
+    workers: usize,
+    blocks: usize,
+    watch: &mut W,
+) -> Result<Vec<u16>, SolveFault>
+    // Numbers out of range are refused, workers first.
+    ensures refused { (fault : SolveFault) → range_fault workers blocks ≡ Some fault → result ≡ Err fault }
+    // And no others are.
+    ensures in_range { IfErr result (λ fault. is_range_fault fault ≡ true → range_fault workers blocks ≡ Some fault) }
+    ensures ok_range { OnOk result (range_fault workers blocks ≡ None) }
+    ensures len { IfOk result (λ v. vec_len v ≡ (G.Name.net (G.level graph.now)).size) }
+    ensures codes { IfOk result (λ v. (i : ℕ) → i < (G.Name.net (G.level graph.now)).size
+        → HasCode (G.Name.net (G.level graph.now)) i (slice_index v.items i)) }
+    ensures not_too_deep { OnOk result (¬ IsTooDeep (G.Name.net (G.level graph.now))) }
+    ensures too_deep { result ≡ Err SolveFault.TooDeep → IsTooDeep (G.Name.net (G.level graph.now)) }
+    ensures missing { IfErr result (λ fault. (number : ℕ) → fault ≡ SolveFault.Missing number → number < blocks) }
+    // A code is counted in plies as the rules of the game do.
+    ensures plies { PlyRules (G.Name.net (G.level graph.now)) }
+    // And it tells who wins: codes of lost nodes are odd, those of won nodes even.
+    ensures outcome { CodeRules (G.Name.net (G.level graph.now)) }
+    // The watch is as it may be after it was told, whatever the answer.
+    ensures watched { W.becomes watch.old watch.new }
+{
     check_numbers(workers, blocks)?;
     let cut = cut_into(graph.size(), blocks as u64);
     let shares = cut_into(blocks as u64, workers as u64);
     let made = make_blocks(rt, alloc, graph, &cut, &shares)?;
     let yard = Yard::new(alloc, made)?;
-    let wave = run_waves(rt, alloc, graph, gate, &yard, &shares)?;
+    let wave = run_waves(rt, alloc, graph, gate, &yard, &shares, watch)?;
     codes_of(alloc, graph.level(), wave, &cut, yard.into_blocks())
 }
