@@ -1,12 +1,15 @@
 // Tables built by workers are those of a sweep, whatever the numbers of workers and blocks.
-use crate::building::build;
+ghost use Rattle.std.specs.Prelude.{◌≤◌, vec_len};
+
+use crate::building::{build, build_as, build_watched};
 use crate::file_tests::file_of;
+use crate::layout::Layout;
 use crate::shelf::{Needs, Shelf};
 use crate::sweep_tests::{codes_of, shelf_of};
 use crate::sweeping::{BuildFault, sweep_pair};
 use morris_board::grid::Grid;
 use morris_index::pair::Pair;
-use morris_workers::{Gate, OpenGate, Turn};
+use morris_workers::{Gate, OpenGate, Turn, Watch};
 use std::alloc::Global;
 use std::process::Abort;
 use std::sync::Wait;
@@ -212,5 +215,93 @@ fn two_workers_are_at_work_at_once(rt: HostRuntime) -> Result<(), Fail> {
     let table = build(&rt, rt.alloc(), &shelf, Pair::new(3, 3)?, &gate, 2, 5)?;
     let tallies = table.tallies(rt.alloc())?;
     assert_eq!(rt; tallies.as_slice(), [600, 0, 936, 36, 108].as_slice());
+    Ok(())
+}
+
+/// Writes down the waves that it is told.
+#[derive(Drop)]
+struct Scribe {
+    told: Vec<u16>,
+}
+
+impl Watch for Scribe {
+    ghost use Rattle.std.proofs.Common.{arith};
+
+    ghost becomes = { λ old new. vec_len old.told ≤ vec_len new.told };
+
+    fn wave(&mut self, wave: u16) {
+        // A wave for which memory is refused is missing in the list, which a test sees.
+        let _ = self.told.push(wave);
+    }
+
+    ghost stays = { λ watch. omega arith };
+
+    ghost joins = { λ first then last once again. omega (arith, once, again) };
+}
+
+/// A build of 3-3 that is watched gives the codes of one that isn't. No value of 3-3 is deeper than
+/// a win in 3, which wave 3 decides; wave 4 decides nothing more.
+fn assert_told<R: Abort + Threads + Wait + Sync>(
+    rt: &R,
+    alloc: Global,
+    layout: Layout,
+    workers: usize,
+    blocks: usize,
+) -> Result<(), Fail> {
+    let shelf = &Shelf::<Grid>::new(alloc)?;
+    let pair = Pair::new(3, 3)?;
+    let told = Vec::new(alloc);
+    let mut scribe = Scribe { told };
+    let (watch, gate) = (&mut scribe, &OpenGate);
+    let watched = build_watched(rt, alloc, shelf, pair, layout, gate, watch, workers, blocks)?;
+    let codes = codes_of(alloc, &watched)?;
+    assert!(rt; watched.layout() == layout);
+    assert_eq!(rt; scribe.told.as_slice(), [1, 2, 3, 4].as_slice());
+    let alone = build_as(rt, alloc, shelf, pair, layout, gate, workers, blocks)?;
+    assert_eq!(rt; codes_of(alloc, &alone)?.as_slice(), codes.as_slice());
+    Ok(())
+}
+
+#[test]
+fn a_watch_is_told_the_waves_of_a_build(rt: HostRuntime) -> Result<(), Fail> {
+    for (workers, blocks) in [(1, 1), (2, 5), (3, 64)] {
+        assert_told(&rt, rt.alloc(), Layout::Full, workers, blocks)?;
+        assert_told(&rt, rt.alloc(), Layout::Classes, workers, blocks)?;
+    }
+    Ok(())
+}
+
+/// What a build over this shelf is refused for, whose workers are all sent away.
+fn refusal<R: Threads + Wait + Sync>(
+    rt: &R,
+    alloc: Global,
+    shelf: &Shelf<Grid>,
+    pair: Pair<Grid>,
+    layout: Layout,
+    watch: &mut Scribe,
+    workers: usize,
+) -> Option<BuildFault<Grid>> {
+    build_watched(rt, alloc, shelf, pair, layout, &Shut, watch, workers, 5).err()
+}
+
+#[test]
+fn a_watch_is_told_nothing_of_a_build_that_is_refused_before(rt: HostRuntime) -> Result<(), Fail> {
+    let alloc = rt.alloc();
+    let shelf = Shelf::new(alloc)?;
+    let (low, high) = (Pair::new(3, 3)?, Pair::new(4, 3)?);
+    let told = Vec::new(alloc);
+    let mut scribe = Scribe { told };
+    let watch = &mut scribe;
+    for layout in [Layout::Full, Layout::Classes] {
+        let missing = refusal(&rt, alloc, &shelf, high, layout, watch, 2);
+        assert_eq!(rt; missing, Some(BuildFault::Needs(Needs(low))));
+        let idle = refusal(&rt, alloc, &shelf, low, layout, watch, 0);
+        assert_eq!(rt; idle, Some(BuildFault::Workers));
+        assert!(rt; watch.told.is_empty());
+    }
+    // The first wave begins, and every worker is sent away.
+    let shut = refusal(&rt, alloc, &shelf, low, Layout::Classes, watch, 2);
+    assert_eq!(rt; shut, Some(BuildFault::Missing(0)));
+    assert_eq!(rt; watch.told.as_slice(), [1].as_slice());
     Ok(())
 }

@@ -19,7 +19,7 @@ use crate::shelf::Shelf;
 use crate::sweeping::BuildFault;
 use morris_board::board::{Board, Geometry};
 use morris_index::pair::Pair;
-use morris_workers::{Gate, SolveFault, solve};
+use morris_workers::{Gate, SolveFault, Unwatched, Watch, solve_watched};
 use std::alloc::Global;
 use std::sync::Wait;
 use std::thread::Threads;
@@ -78,37 +78,8 @@ pub fn build<B: Board, A: Gate, R: Threads + Wait + Sync>(
     // its position and the tallies count the entries.
     ensures whenever { (s : BlockState) → IsBlockOf B.shape Layout.Full pair s → TellsTheGame B.shape Layout.Full pair s }
 {
-    let graph = PairGraph::new(shelf, pair)?;
-    let codes = solve(rt, alloc, &graph, gate, workers, blocks)?;
-    Ok(graph.table(codes))
-}
-
-/// [`build`] in layout `Classes`.
-fn build_classes<B: Board, A: Gate, R: Threads + Wait + Sync>(
-    rt: &R,
-    alloc: Global,
-    shelf: &Shelf<B>,
-    pair: Pair<B>,
-    gate: &A,
-    workers: usize,
-    blocks: usize,
-) -> Result<Exact<B>, BuildFault<B>>
-    ensures needs { MatchResult result (λ _. first_missing shelf.now pair ≡ None) (λ fault. needed_by fault ≡ first_missing shelf.now pair) }
-    ensures range { first_missing shelf.now pair ≡ None
-        → MatchResult result (λ _. range_fault workers blocks ≡ None) (λ fault. TellsRange Layout.Classes fault (range_fault workers blocks)) }
-    ensures missing { IfErr result (λ fault. (number : ℕ) → fault ≡ BuildFault.Missing number → number < blocks) }
-    ensures pair { IfOk result (λ t. t.pair ≡ pair) }
-    ensures layout { IfOk result (λ t. t.layout ≡ Layout.Classes) }
-    ensures exact { IfOk result (IsTable B.shape) }
-    ensures too_deep { result ≡ Err BuildFault.TooDeep → IsTooDeep (net_at B.shape (level_of Layout.Classes pair)) }
-    ensures not_too_deep { OnOk result (¬ IsTooDeep (net_at B.shape (level_of Layout.Classes pair))) }
-    ensures beyond { result ≡ Err BuildFault.TooDeep → IsBeyondCodes B.shape pair }
-    ensures within { OnOk result (¬ IsBeyondCodes B.shape pair) }
-    ensures whenever { (s : BlockState) → IsBlockOf B.shape Layout.Classes pair s → TellsTheGame B.shape Layout.Classes pair s }
-{
-    let graph = ClassGraph::new(alloc, shelf, pair)?;
-    let entry_codes = solve(rt, alloc, &graph, gate, workers, blocks)?;
-    Ok(graph.into_table(entry_codes))
+    let (layout, watch) = (Layout::Full, &mut Unwatched);
+    build_watched(rt, alloc, shelf, pair, layout, gate, watch, workers, blocks)
 }
 
 /// [`build`] with a layout: the exact table of a pair with its entries so laid out, over tables of
@@ -143,8 +114,54 @@ pub fn build_as<B: Board, A: Gate, R: Threads + Wait + Sync>(
     // its position and the tallies count the entries.
     ensures whenever { (s : BlockState) → IsBlockOf B.shape layout pair s → TellsTheGame B.shape layout pair s }
 {
+    let watch = &mut Unwatched;
+    build_watched(rt, alloc, shelf, pair, layout, gate, watch, workers, blocks)
+}
+
+/// [`build_as`], and tells `watch` of each wave before it begins (see [`Watch`]).
+///
+/// # Errors
+/// Those of [`build_as`], in the same order. The watch is told nothing before the graph of the pair
+/// is made and the numbers of workers and blocks are in range.
+pub fn build_watched<B: Board, A: Gate, V: Watch, R: Threads + Wait + Sync>(
+    rt: &R,
+    alloc: Global,
+    shelf: &Shelf<B>,
+    pair: Pair<B>,
+    layout: Layout,
+    gate: &A,
+    watch: &mut V,
+    workers: usize,
+    blocks: usize,
+) -> Result<Exact<B>, BuildFault<B>>
+    ensures needs { MatchResult result (λ _. first_missing shelf.now pair ≡ None) (λ fault. needed_by fault ≡ first_missing shelf.now pair) }
+    ensures range { first_missing shelf.now pair ≡ None
+        → MatchResult result (λ _. range_fault workers blocks ≡ None) (λ fault. TellsRange layout fault (range_fault workers blocks)) }
+    ensures missing { IfErr result (λ fault. (number : ℕ) → fault ≡ BuildFault.Missing number → number < blocks) }
+    ensures pair { IfOk result (λ t. t.pair ≡ pair) }
+    ensures layout { IfOk result (λ t. t.layout ≡ layout) }
+    ensures exact { IfOk result (IsTable B.shape) }
+    ensures too_deep { result ≡ Err BuildFault.TooDeep → IsTooDeep (net_at B.shape (level_of layout pair)) }
+    ensures not_too_deep { OnOk result (¬ IsTooDeep (net_at B.shape (level_of layout pair))) }
+    // The same in the words of the game.
+    ensures beyond { result ≡ Err BuildFault.TooDeep → IsBeyondCodes B.shape pair }
+    ensures within { OnOk result (¬ IsBeyondCodes B.shape pair) }
+    // Whenever a block's lock is free, each decided entry is the game's value and exact depth at
+    // its position and the tallies count the entries.
+    ensures whenever { (s : BlockState) → IsBlockOf B.shape layout pair s → TellsTheGame B.shape layout pair s }
+    // The watch is as it may be after it was told, whatever the answer.
+    ensures watched { V.becomes watch.old watch.new }
+{
     match layout {
-        Layout::Full => build(rt, alloc, shelf, pair, gate, workers, blocks),
-        Layout::Classes => build_classes(rt, alloc, shelf, pair, gate, workers, blocks),
+        Layout::Full => {
+            let graph = PairGraph::new(shelf, pair)?;
+            let codes = solve_watched(rt, alloc, &graph, gate, workers, blocks, watch)?;
+            Ok(graph.table(codes))
+        }
+        Layout::Classes => {
+            let graph = ClassGraph::new(alloc, shelf, pair)?;
+            let entry_codes = solve_watched(rt, alloc, &graph, gate, workers, blocks, watch)?;
+            Ok(graph.into_table(entry_codes))
+        }
     }
 }
