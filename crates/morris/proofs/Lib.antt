@@ -1,5 +1,4 @@
 pub mod Parsed
-pub mod ReadLaws
 pub mod Requests
 pub mod ShelfLaws
 pub mod StatsLaws
@@ -8,3 +7,4 @@ pub mod VerifyLaws
 mod BundleLaws
 pub mod BuildLaws
 pub mod UnbuiltLaws
+pub mod ReadLaws

@@ -9,6 +9,7 @@ use Rattle.clap.specs.declared.error.kind.ErrorKind.TheVariants as kind
 use Rattle.morris.specs.declared.fault.Fault.{Fault}
 use Rattle.morris.specs.declared.fault.Fault.TheVariants as fault
 use Rattle.morris.specs.Faults.{Prints}
+use Rattle.morris.specs.Progress.{Tells}
 use Rattle.morris.specs.Words.{AsksFor, faults_of, named_by}
 use Rattle.morris.specs.declared.words.Request.{Request}
 use Rattle.morris.specs.declared.words.Request.TheVariants.{Look, Stats, Build, Verify, Probe}
@@ -42,6 +43,19 @@ takes_input (Stats board pair progress) = false
 takes_input (Build board pair workers blocks all classes progress) = false
 takes_input (Verify board progress) = true
 takes_input (Probe board text progress) = true
+
+-- whether a request asks to be told how far its command is
+abbrev pub asks_progress : Request → Bool
+asks_progress (Look board text depth) = false
+asks_progress (Stats board pair progress) = progress
+asks_progress (Build board pair workers blocks all classes progress) = progress
+asks_progress (Verify board progress) = progress
+asks_progress (Probe board text progress) = progress
+
+-- what was told of how far the command is: nothing; or, where the words ask for it, some lines
+abbrev pub TellsProgress : {E : Type 0} → (E → Option (List ℕ)) → (E → ℕ) → List Text → E → E → Type 0
+TellsProgress contents failures words old new =
+    (new ≡ old) ⊎ ((request : Request) × AsksFor (named_by words) request × (asks_progress request ≡ true) × Tells contents failures old new)
 
 -- the command that was named reads its input
 abbrev pub AsksToRead : Option (Text × List Row) → Type 0

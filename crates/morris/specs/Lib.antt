@@ -8,3 +8,5 @@ pub mod Words
 pub mod Command
 pub mod Probe
 pub mod Build
+pub mod Progress
+pub mod ProgressLaws

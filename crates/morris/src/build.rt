@@ -9,18 +9,21 @@ ghost use Rattle.morris_table.specs.TableFiles.{file_of};
 ghost use Rattle.morris_workers.specs.Ranges.{range_fault};
 ghost use Rattle.morris.specs.Faults.{CountsWrites, is_write, solve_fault};
 ghost use Rattle.morris.specs.Look.{board_of};
+ghost use Rattle.morris.specs.Progress.{Becomes};
 ghost use Rattle.morris.specs.Stats.{HasTooDeep};
 ghost use Rattle.morris.specs.Build.{AnswersBuild, AnswersBuildOn, AnswersBuilt, AnswersFiles, HasExact, HasExactAt, HasTables, IsUnbuiltAt, IsUnbuiltFor, file_on, layout_asked, pairs_written};
 
 use crate::boards::{NamedBoard, read_board};
 use crate::fault::Fault;
 use crate::pairs::read_pair;
+use crate::progress::{Nowhere, Progress, announce_making};
+use crate::size::Team;
 use morris_board::board::{Board, Geometry};
 use morris_board::grid::Grid;
 use morris_board::nine::Nine;
 use morris_board::streams::Sink;
 use morris_index::pair::Pair;
-use morris_table::building::build_as;
+use morris_table::building::build_watched;
 use morris_table::exact::Exact;
 use morris_table::file_faults::Write;
 use morris_table::layout::Layout;
@@ -30,14 +33,16 @@ use morris_workers::{OpenGate, check_numbers};
 use std::alloc::Global;
 use std::sync::Wait;
 use std::thread::Threads;
+use std::time::Clock;
 
-/// So many workers, for graphs that are cut into so many blocks.
+/// What is built, and by whom.
 #[derive(Clone, Copy, Debug, PartialEq, Eq)]
-pub struct Team {
-    /// 1 to 64.
-    pub workers: usize,
-    /// 1 to 1,024.
-    pub blocks: usize,
+struct Plan {
+    // The layout of the tables.
+    layout: Layout,
+    team: Team,
+    // Whether the files of all tables are written, or that of the last alone.
+    all: bool,
 }
 
 /// Builds the tables of all pairs below the one that the text `pair` names on the board named
@@ -71,10 +76,48 @@ pub fn build_out<R: Threads + Wait + Sync, O: Sink>(
     ensures answer { AnswersBuild (board_of board.now) pair.now workers blocks all classes (O.contents output.old) (O.contents output.new) result }
     ensures counted { CountsWrites (O.failures output.old) (O.failures output.new) result }
 {
-    let (layout, team) = (layout_of(classes), Team { workers, blocks });
+    let (clock, mut nowhere) = (Nowhere, Nowhere);
+    let mut progress = Progress::new(&clock, false, &mut nowhere);
+    let team = Team { workers, blocks };
+    build_told(
+        rt,
+        alloc,
+        board,
+        pair,
+        team,
+        all,
+        classes,
+        output,
+        &mut progress,
+    )
+}
+
+/// [`build_out`], which tells `progress` how far it is.
+#[tactic(auto, using(crate::specs::ProgressLaws::told_laws))]
+pub fn build_told<R: Threads + Wait + Sync, O: Sink, C: Clock, E: Sink>(
+    rt: &R,
+    alloc: Global,
+    board: &str,
+    pair: &str,
+    team: Team,
+    all: bool,
+    classes: bool,
+    output: &mut O,
+    progress: &mut Progress<'_, C, E>,
+) -> Result<(), Fault>
+    requires { O.failures output.old < 2 ^ 64 - 1 }
+    ensures answer { AnswersBuild (board_of board.now) pair.now team.workers team.blocks all classes (O.contents output.old) (O.contents output.new) result }
+    ensures counted { CountsWrites (O.failures output.old) (O.failures output.new) result }
+    ensures told { Becomes E.contents E.failures progress.old progress.new }
+{
+    let plan = Plan {
+        layout: layout_of(classes),
+        team,
+        all,
+    };
     match read_board(board)? {
-        NamedBoard::Nine => build_on::<Nine, R, O>(rt, alloc, layout, pair, team, all, output),
-        NamedBoard::Grid => build_on::<Grid, R, O>(rt, alloc, layout, pair, team, all, output),
+        NamedBoard::Nine => build_on::<Nine, R, O, C, E>(rt, alloc, plan, pair, output, progress),
+        NamedBoard::Grid => build_on::<Grid, R, O, C, E>(rt, alloc, plan, pair, output, progress),
     }
 }
 
@@ -89,22 +132,23 @@ fn layout_of(classes: bool) -> Layout
     }
 }
 
-fn build_on<B: Board, R: Threads + Wait + Sync, O: Sink>(
+#[tactic(auto, using(crate::specs::ProgressLaws::told_laws))]
+fn build_on<B: Board, R: Threads + Wait + Sync, O: Sink, C: Clock, E: Sink>(
     rt: &R,
     alloc: Global,
-    layout: Layout,
+    plan: Plan,
     text: &str,
-    team: Team,
-    all: bool,
     output: &mut O,
+    progress: &mut Progress<'_, C, E>,
 ) -> Result<(), Fault>
     requires { O.failures output.old < 2 ^ 64 - 1 }
-    ensures answer { AnswersBuildOn B.shape layout text.now team.workers team.blocks all (O.contents output.old) (O.contents output.new) result }
+    ensures answer { AnswersBuildOn B.shape plan.layout text.now plan.team.workers plan.team.blocks plan.all (O.contents output.old) (O.contents output.new) result }
     ensures counted { CountsWrites (O.failures output.old) (O.failures output.new) result }
+    ensures told { Becomes E.contents E.failures progress.old progress.new }
 {
     let pair = read_pair::<B>(text)?;
-    check_team(team)?;
-    build_pair(rt, alloc, layout, pair, team, all, output)
+    check_team(plan.team)?;
+    build_pair(rt, alloc, plan, pair, output, progress)
 }
 
 /// Whether there are so many workers and blocks as there may be.
@@ -118,31 +162,35 @@ fn check_team(team: Team) -> Result<(), Fault>
     }
 }
 
-fn build_pair<B: Board, R: Threads + Wait + Sync, O: Sink>(
+#[tactic(auto, using(crate::specs::ProgressLaws::told_laws))]
+fn build_pair<B: Board, R: Threads + Wait + Sync, O: Sink, C: Clock, E: Sink>(
     rt: &R,
     alloc: Global,
-    layout: Layout,
+    plan: Plan,
     pair: Pair<B>,
-    team: Team,
-    all: bool,
     output: &mut O,
+    progress: &mut Progress<'_, C, E>,
 ) -> Result<(), Fault>
     requires failures { O.failures output.old < 2 ^ 64 - 1 }
-    requires range { range_fault team.workers team.blocks ≡ None }
-    ensures answer { AnswersBuilt B.shape layout pair team.blocks all (O.contents output.old) (O.contents output.new) result }
+    requires range { range_fault plan.team.workers plan.team.blocks ≡ None }
+    ensures answer { AnswersBuilt B.shape plan.layout pair plan.team.blocks plan.all (O.contents output.old) (O.contents output.new) result }
     ensures counted { CountsWrites (O.failures output.old) (O.failures output.new) result }
+    ensures told { Becomes E.contents E.failures progress.old progress.new }
 {
-    let shelf = build_below(rt, alloc, layout, pair, team)?;
+    let Plan { layout, team, all } = plan;
+    let shelf = build_below(rt, alloc, layout, pair, team, progress)?;
     write_files(&shelf, layout, pair, all, output)
 }
 
 /// The tables of all pairs below a pair, its own among them, in a layout.
-fn build_below<B: Board, R: Threads + Wait + Sync>(
+#[tactic(auto, using(crate::specs::ProgressLaws::told_laws))]
+fn build_below<B: Board, R: Threads + Wait + Sync, C: Clock, E: Sink>(
     rt: &R,
     alloc: Global,
     layout: Layout,
     pair: Pair<B>,
     team: Team,
+    progress: &mut Progress<'_, C, E>,
 ) -> Result<Shelf<B>, Fault>
     requires range { range_fault team.workers team.blocks ≡ None }
     ensures exact { IfOk result (λ shelf. HasExact B.shape layout shelf (below_of pair)) }
@@ -150,22 +198,26 @@ fn build_below<B: Board, R: Threads + Wait + Sync>(
     ensures within { OnOk result (¬ HasTooDeep B.shape pair) }
     ensures refused { IfErr result (IsUnbuiltFor B.shape pair team.blocks) }
     ensures unwritten { IfErr result (λ refused. is_write refused ≡ false) }
+    ensures told { Becomes E.contents E.failures progress.old progress.new }
 {
     let mut shelf = Shelf::new(alloc)?;
+    announce_making(alloc, pair, layout, Some(team), progress);
     for below in pair.below() {
-        build_onto(rt, alloc, &mut shelf, layout, below, team)?;
+        build_onto(rt, alloc, &mut shelf, layout, below, team, progress)?;
     }
     Ok(shelf)
 }
 
 /// Puts the table of a pair in a layout on a shelf that has those that it needs.
-fn build_onto<B: Board, R: Threads + Wait + Sync>(
+#[tactic(auto, using(crate::specs::ProgressLaws::told_laws))]
+fn build_onto<B: Board, R: Threads + Wait + Sync, C: Clock, E: Sink>(
     rt: &R,
     alloc: Global,
     shelf: &mut Shelf<B>,
     layout: Layout,
     pair: Pair<B>,
     team: Team,
+    progress: &mut Progress<'_, C, E>,
 ) -> Result<(), Fault>
     requires ready { first_missing shelf.old pair ≡ None }
     requires range { range_fault team.workers team.blocks ≡ None }
@@ -173,9 +225,15 @@ fn build_onto<B: Board, R: Threads + Wait + Sync>(
     ensures others { OnOk result ((other : Counts) → other ≢ pair → table_on shelf.new other ≡ table_on shelf.old other) }
     ensures within { OnOk result (¬ IsBeyondCodes B.shape pair) }
     ensures refused { IfErr result (IsUnbuiltAt B.shape pair team.blocks) }
+    ensures told { Becomes E.contents E.failures progress.old progress.new }
 {
     let Team { workers, blocks } = team;
-    let table = build_as(rt, alloc, shelf, pair, layout, &OpenGate, workers, blocks)?;
+    progress.begin_pair(pair);
+    let gate = &OpenGate;
+    let table = build_watched(
+        rt, alloc, shelf, pair, layout, gate, progress, workers, blocks,
+    )?;
+    progress.end_pair(pair, table.len());
     match shelf.put(table) {
         Ok(()) => Ok(()),
         Err(_) => unreachable!(),

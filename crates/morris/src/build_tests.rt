@@ -14,6 +14,7 @@ use std::process::Abort;
 use std::sync::Wait;
 use std::test::Fail;
 use std::thread::Threads;
+use std::time::Clock;
 
 /// The files of 3-3 and 4-3 on the board of nine points, 3,408 and 5,088 bytes, from tables that
 /// one thread swept.
@@ -29,7 +30,7 @@ fn both_files(alloc: Global) -> Result<Vec<u8>, Fail> {
 
 /// The words give this file, with nothing on standard error.
 pub(crate) fn assert_built(
-    rt: &(impl Abort + AllocGlobal + Threads + Wait + Sync),
+    rt: &(impl Abort + AllocGlobal + Threads + Wait + Clock + Sync),
     words: &[&str],
     file: &[u8],
 ) {
@@ -41,7 +42,7 @@ pub(crate) fn assert_built(
 
 /// So many workers over so many blocks give this file of 3-3 on the board of nine points.
 fn assert_built_by(
-    rt: &(impl Abort + AllocGlobal + Threads + Wait + Sync),
+    rt: &(impl Abort + AllocGlobal + Threads + Wait + Clock + Sync),
     workers: &str,
     blocks: &str,
     file: &[u8],
@@ -94,7 +95,7 @@ fn the_files_of_all_pairs_below_are_one_after_the_other(rt: HostRuntime) -> Resu
 
 /// A build of these is refused with this fault, and writes nothing, in either layout.
 fn assert_build_refused(
-    rt: &(impl Abort + AllocGlobal + Threads + Wait + Sync),
+    rt: &(impl Abort + AllocGlobal + Threads + Wait + Clock + Sync),
     board: &str,
     pair: &str,
     workers: usize,
@@ -160,7 +161,7 @@ fn a_failed_write_of_build_tells_what_went_out(rt: HostRuntime) -> Result<(), Fa
 
 /// A build of 3-3 with this value of an option is refused with status 2.
 fn assert_option_wrong(
-    rt: &(impl Abort + AllocGlobal + Threads + Wait + Sync),
+    rt: &(impl Abort + AllocGlobal + Threads + Wait + Clock + Sync),
     option: &str,
     value: &str,
 ) {

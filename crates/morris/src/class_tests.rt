@@ -18,6 +18,7 @@ use std::process::Abort;
 use std::sync::Wait;
 use std::test::Fail;
 use std::thread::Threads;
+use std::time::Clock;
 
 /// The SHA-256 of the header and the 320 codes of 3-3 on the board of nine points, as another
 /// program reckons it, which has made the file from its own classes.
@@ -91,7 +92,7 @@ fn a_table_of_classes_is_verified(rt: HostRuntime) -> Result<(), Fail> {
 
 /// The report of a position by these tables is this text.
 fn assert_reported(
-    rt: &(impl Abort + AllocGlobal + Threads + Wait + Sync),
+    rt: &(impl Abort + AllocGlobal + Threads + Wait + Clock + Sync),
     tables: &[u8],
     text: &str,
     report: &str,
@@ -142,7 +143,7 @@ fn a_file_of_one_version_isnt_one_of_the_other(rt: HostRuntime) -> Result<(), Fa
 
 /// So many workers give these files of the classes of 3-3 and 4-3.
 fn assert_classes_built_by(
-    rt: &(impl Abort + AllocGlobal + Threads + Wait + Sync),
+    rt: &(impl Abort + AllocGlobal + Threads + Wait + Clock + Sync),
     workers: &str,
     files: &[u8],
 ) {

@@ -4,17 +4,20 @@ ghost use Rattle.morris_board.specs.Streams.{CountsFailure};
 ghost use Rattle.morris_probe.specs.Reports.{WentOut};
 ghost use Rattle.morris.specs.Faults.{CountsWrites, Prints, Reports, ReportsFault, ReportsText, fault_line};
 ghost use Rattle.morris.specs.declared.fault.Fault.TheVariants as fault;
+ghost use Rattle.morris.specs.Progress.{Becomes, Tells};
 ghost use Rattle.morris.specs.Words.{IsInRange, faults_of, named_by};
 ghost use Rattle.morris.specs.Verify.{input_of};
-ghost use Rattle.morris.specs.Command.{Answers, AsksToRead, Ends, HasMistake, not_text, status_of, takes_input};
+ghost use Rattle.morris.specs.Command.{Answers, AsksToRead, Ends, HasMistake, TellsProgress, asks_progress, not_text, status_of, takes_input};
 
-use crate::build::build_out;
+use crate::build::build_told;
 use crate::fault::Fault;
 use crate::look::look;
 use crate::print_fault::put_fault;
-use crate::probe::probe_in;
-use crate::stats::stats;
-use crate::verify::verify_in;
+use crate::probe::probe_told;
+use crate::progress::Progress;
+use crate::size::Team;
+use crate::stats::stats_told;
+use crate::verify::verify_told;
 use crate::words::{Refusal, Request, read_words};
 use morris_board::streams::buffered::Buffered;
 use morris_board::streams::{Failed, Sink, Source, put};
@@ -22,6 +25,7 @@ use std::alloc::Global;
 use std::convert::AsStr;
 use std::sync::Wait;
 use std::thread::Threads;
+use std::time::Clock;
 
 /// Reads the words of a command line, of which the first is the program's own name, runs the
 /// command that they name, and answers the exit status of the program.
@@ -32,7 +36,11 @@ use std::thread::Threads;
 /// went to `errors` as one line, `fault N: ` and its text. 2: the words name no command, or not the
 /// arguments that it takes; what is wrong with them went to `errors`, and nothing to `output`. A
 /// fault while `errors` is written is ignored. Only `verify` and `probe` read `input`.
-pub fn command<R: Threads + Wait + Sync, W: AsStr, I: Source, O: Sink, E: Sink>(
+///
+/// Where the words ask for it, lines that begin with `progress: ` go to `errors` before all else
+/// there, with the seconds by the clock of `rt`, until one of them can't be written. Nothing else
+/// changes by it.
+pub fn command<R: Threads + Wait + Clock + Sync, W: AsStr, I: Source, O: Sink, E: Sink>(
     rt: &R,
     alloc: Global,
     words: &[W],
@@ -49,13 +57,17 @@ pub fn command<R: Threads + Wait + Sync, W: AsStr, I: Source, O: Sink, E: Sink>(
     ensures untouched { result ≡ 2 → input.new ≡ input.old }
     ensures told { result ≡ 2 → (text : _) × ReportsText E.contents E.failures errors.old errors.new text }
     ensures unread { ¬ AsksToRead (named_by (map W.text words.now)) → input.new ≡ input.old }
-    ensures answer { result ≢ 2 → (answer : _)
+    ensures answer { result ≢ 2 → (answer : _) × (midway : _)
         × Ends (map W.text words.now) (input_of (I.remaining input.old) (I.failures input.old)) (input_of (I.remaining input.new) (I.failures input.new))
         (O.contents output.old) (O.contents output.new) answer
-        × (result ≡ status_of answer) × Reports E.contents E.failures errors.old errors.new answer }
+        × TellsProgress E.contents E.failures (map W.text words.now) errors.old midway
+        × (result ≡ status_of answer) × Reports E.contents E.failures midway errors.new answer }
 {
     match read_words(alloc, words) {
-        Ok(request) => finish(run(rt, alloc, request, input, output), errors),
+        Ok(request) => {
+            let done = run_told(rt, alloc, request, input, output, errors);
+            finish(done, errors)
+        }
         Err(Refusal::Help(text)) => finish(print_text(text.as_str(), output), errors),
         Err(Refusal::Version(text)) => finish(print_text(text.as_str(), output), errors),
         Err(Refusal::Memory) => finish(Err(Fault::Memory), errors),
@@ -81,13 +93,16 @@ pub fn refuse_words<E: Sink>(out_of_memory: bool, errors: &mut E) -> u8
     2
 }
 
-/// Runs the command of a request.
-fn run<R: Threads + Wait + Sync, I: Source, O: Sink>(
+/// Runs the command of a request, and tells on `errors` how far it is, where the request asks for
+/// it.
+#[tactic(auto, using(crate::specs::ProgressLaws::told_laws))]
+fn run_told<R: Threads + Wait + Clock + Sync, I: Source, O: Sink, E: Sink>(
     rt: &R,
     alloc: Global,
     request: Request<'_>,
     input: &mut I,
     output: &mut O,
+    errors: &mut E,
 ) -> Result<(), Fault>
     requires depth { IsInRange request }
     requires input { I.failures input.old < 2 ^ 64 - 1 }
@@ -95,14 +110,47 @@ fn run<R: Threads + Wait + Sync, I: Source, O: Sink>(
     ensures answer { Answers (input_of (I.remaining input.old) (I.failures input.old)) (input_of (I.remaining input.new) (I.failures input.new))
         (O.contents output.old) (O.contents output.new) request.entry result }
     ensures unread { takes_input request.entry ≡ false → input.new ≡ input.old }
+    ensures told { Tells E.contents E.failures errors.old errors.new }
+    ensures silent { asks_progress request.entry ≡ false → errors.new ≡ errors.old }
+{
+    let mut progress = Progress::new(rt, asks_progress(&request), errors);
+    run(rt, alloc, request, input, output, &mut progress)
+}
+
+/// Whether a request asks to be told how far its command is.
+fn asks_progress(request: &Request<'_>) -> bool
+    ensures { result ≡ asks_progress request.now }
+{
+    match request {
+        Request::Look { .. } => false,
+        Request::Stats { progress, .. }
+        | Request::Build { progress, .. }
+        | Request::Verify { progress, .. }
+        | Request::Probe { progress, .. } => *progress,
+    }
+}
+
+/// Runs the command of a request, which tells `progress` how far it is.
+#[tactic(auto, using(crate::specs::ProgressLaws::told_laws))]
+fn run<R: Threads + Wait + Sync, I: Source, O: Sink, C: Clock, E: Sink>(
+    rt: &R,
+    alloc: Global,
+    request: Request<'_>,
+    input: &mut I,
+    output: &mut O,
+    progress: &mut Progress<'_, C, E>,
+) -> Result<(), Fault>
+    requires depth { IsInRange request }
+    requires input { I.failures input.old < 2 ^ 64 - 1 }
+    requires output { O.failures output.old < 2 ^ 64 - 1 }
+    ensures answer { Answers (input_of (I.remaining input.old) (I.failures input.old)) (input_of (I.remaining input.new) (I.failures input.new))
+        (O.contents output.old) (O.contents output.new) request.entry result }
+    ensures unread { takes_input request.entry ≡ false → input.new ≡ input.old }
+    ensures told { Becomes E.contents E.failures progress.old progress.new }
 {
     match request {
         Request::Look { board, text, depth } => look(board, text, depth, output),
-        Request::Stats {
-            board,
-            pair,
-            progress: _,
-        } => stats(alloc, board, pair, output),
+        Request::Stats { board, pair, .. } => stats_told(alloc, board, pair, output, progress),
         Request::Build {
             board,
             pair,
@@ -110,19 +158,16 @@ fn run<R: Threads + Wait + Sync, I: Source, O: Sink>(
             blocks,
             all,
             classes,
-            progress: _,
+            ..
         } => {
             let (workers, blocks) = (usize::from(workers), usize::from(blocks));
-            build_out(
-                rt, alloc, board, pair, workers, blocks, all, classes, output,
-            )
+            let team = Team { workers, blocks };
+            build_told(rt, alloc, board, pair, team, all, classes, output, progress)
         }
-        Request::Verify { board, progress: _ } => verify_in(alloc, board, input, output),
-        Request::Probe {
-            board,
-            text,
-            progress: _,
-        } => probe_in(alloc, board, text, input, output),
+        Request::Verify { board, .. } => verify_told(alloc, board, input, output, progress),
+        Request::Probe { board, text, .. } => {
+            probe_told(alloc, board, text, input, output, progress)
+        }
     }
 }
 

@@ -4,7 +4,7 @@ ghost use Rattle.std.specs.IoError.{error_kind};
 ghost use Rattle.std.specs.Process.{exit_status};
 ghost use Rattle.std.specs.Vec.Iter.{into_iter_items};
 ghost use Rattle.std.specs.declared.io.ErrorKind.TheVariants.{OutOfMemory};
-ghost use Rattle.morris.specs.Command.{AsksToRead, Ends, HasMistake, not_text, status_of, texts_of};
+ghost use Rattle.morris.specs.Command.{AsksToRead, Ends, HasMistake, TellsProgress, not_text, status_of, texts_of};
 ghost use Rattle.morris.specs.Faults.{Reports, ReportsFault, ReportsText};
 ghost use Rattle.morris.specs.Verify.{input_of};
 ghost use Rattle.morris.specs.Words.{faults_of, named_by};
@@ -19,6 +19,7 @@ use std::io::ErrorKind;
 use std::process::ExitCode;
 use std::sync::Wait;
 use std::thread::Threads;
+use std::time::Clock;
 
 /// Answers the words that the system gave, of which the first is the program's own name: runs the
 /// command that they name, as [`command`] says, on all of them and on these three streams, and
@@ -27,7 +28,7 @@ use std::thread::Threads;
 /// Where the system gave no words, nothing is read and nothing goes to `output`: with want of
 /// memory the status is 1 and fault 12 goes to `errors`, and with a word that isn't text (of bytes
 /// that aren't UTF-8) it is 2, and one line says so on `errors`.
-pub fn answer_words<R: AllocGlobal + Threads + Wait + Sync, I: Source, O: Sink, E: Sink>(
+pub fn answer_words<R: AllocGlobal + Threads + Wait + Clock + Sync, I: Source, O: Sink, E: Sink>(
     rt: &R,
     words: io::Result<Args>,
     input: &mut I,
@@ -43,10 +44,11 @@ pub fn answer_words<R: AllocGlobal + Threads + Wait + Sync, I: Source, O: Sink, 
     ensures told { exit_status result ≡ 2 → (text : _) × ReportsText E.contents E.failures errors.old errors.new text }
     ensures mistaken { IfOk words (λ given. exit_status result ≡ 2 → HasMistake (faults_of (texts_of given))) }
     ensures unread { IfOk words (λ given. ¬ AsksToRead (named_by (texts_of given)) → input.new ≡ input.old) }
-    ensures answer { IfOk words (λ given. exit_status result ≢ 2 → (answer : _)
+    ensures answer { IfOk words (λ given. exit_status result ≢ 2 → (answer : _) × (midway : _)
         × Ends (texts_of given) (input_of (I.remaining input.old) (I.failures input.old)) (input_of (I.remaining input.new) (I.failures input.new))
         (O.contents output.old) (O.contents output.new) answer
-        × (exit_status result ≡ status_of answer) × Reports E.contents E.failures errors.old errors.new answer) }
+        × TellsProgress E.contents E.failures (texts_of given) errors.old midway
+        × (exit_status result ≡ status_of answer) × Reports E.contents E.failures midway errors.new answer) }
 
     // Where there are no words.
     ensures unheard { IfErr words (λ refused. (output.new ≡ output.old) × (input.new ≡ input.old)) }

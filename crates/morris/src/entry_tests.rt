@@ -9,6 +9,7 @@ use std::process::{Abort, ExitCode};
 use std::sync::Wait;
 use std::test::Fail;
 use std::thread::Threads;
+use std::time::Clock;
 
 /// These words, as the system gives them.
 fn given(alloc: Global, words: &[&str]) -> Result<Args, Fail> {
@@ -21,7 +22,7 @@ fn given(alloc: Global, words: &[&str]) -> Result<Args, Fail> {
 
 /// What went to standard output and to standard error, where the exit status is this one.
 fn expect_status(
-    rt: &(impl Abort + AllocGlobal + Threads + Wait + Sync),
+    rt: &(impl Abort + AllocGlobal + Threads + Wait + Clock + Sync),
     words: io::Result<Args>,
     status: u8,
 ) -> (Vec<u8>, Vec<u8>) {

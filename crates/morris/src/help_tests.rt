@@ -7,12 +7,13 @@ use std::process::Abort;
 use std::sync::Wait;
 use std::test::Fail;
 use std::thread::Threads;
+use std::time::Clock;
 
 const VERSION: &str = "morris 0.1.0\ntable files: writes and reads versions 1 and 2\n";
 
 /// The text of help that these words ask for.
 fn help(
-    rt: &(impl Abort + AllocGlobal + Threads + Wait + Sync),
+    rt: &(impl Abort + AllocGlobal + Threads + Wait + Clock + Sync),
     words: &[&str],
 ) -> Result<String, Fail> {
     let answer = answer_to(rt, words, &[]);
@@ -23,7 +24,7 @@ fn help(
 
 /// The help of a command, which has these lines.
 fn assert_lines(
-    rt: &(impl Abort + AllocGlobal + Threads + Wait + Sync),
+    rt: &(impl Abort + AllocGlobal + Threads + Wait + Clock + Sync),
     command: &str,
     lines: &[&str],
 ) -> Result<(), Fail> {
@@ -42,7 +43,7 @@ fn assert_lines(
 
 /// The help of these words shows that this was typed, and what it printed.
 fn assert_shows(
-    rt: &(impl Abort + AllocGlobal + Threads + Wait + Sync),
+    rt: &(impl Abort + AllocGlobal + Threads + Wait + Clock + Sync),
     asked: &[&str],
     typed: &str,
     words: &[&str],
@@ -215,7 +216,7 @@ fn version_names_the_versions_of_the_table_files(rt: HostRuntime) -> Result<(), 
 
 /// Status and standard error of these words, where standard output takes so many bytes.
 fn narrowed(
-    rt: &(impl Abort + AllocGlobal + Threads + Wait + Sync),
+    rt: &(impl Abort + AllocGlobal + Threads + Wait + Clock + Sync),
     words: &[&str],
     room: usize,
 ) -> (u8, Vec<u8>, Vec<u8>) {

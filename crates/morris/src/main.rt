@@ -21,11 +21,16 @@ mod pairs;
 mod pairs_tests;
 mod print;
 mod print_fault;
+mod print_progress;
 mod print_stats;
 mod print_verified;
 mod probe;
 #[cfg(test)]
 mod probe_tests;
+mod progress;
+#[cfg(test)]
+mod progress_tests;
+mod size;
 mod stats;
 #[cfg(test)]
 mod stats_tests;

@@ -4,22 +4,26 @@ ghost use Rattle.morris_table.specs.Shelves.{first_missing};
 ghost use Rattle.morris_table.specs.Tables.{IsTable};
 ghost use Rattle.morris.specs.Faults.{CountsWrites, is_write};
 ghost use Rattle.morris.specs.Look.{board_of};
+ghost use Rattle.morris.specs.Progress.{Becomes};
 ghost use Rattle.morris.specs.Probe.{AnswersOnBoard, AnswersProbe, IsAsked, IsUnfit, Joins, LoadsBundle, AnswersReport};
 ghost use Rattle.morris.specs.Verify.{input_of};
 
 use crate::boards::{NamedBoard, read_board};
 use crate::fault::Fault;
+use crate::progress::{Nowhere, Progress, announce_reading};
 use morris_board::board::Board;
 use morris_board::grid::Grid;
 use morris_board::nine::Nine;
 use morris_board::position::Position;
 use morris_board::streams::{Sink, Source};
+use morris_index::pair::Pair;
 use morris_probe::report::report;
 use morris_table::exact::Exact;
 use morris_table::raw::Raw;
 use morris_table::reading::read_next;
 use morris_table::shelf::Shelf;
 use std::alloc::Global;
+use std::time::Clock;
 
 /// How many table files are taken from the input at most.
 const MOST_FILES: u8 = 64;
@@ -53,17 +57,42 @@ pub fn probe_in<I: Source, O: Sink>(
     ensures unread { ¬ IsAsked (board_of board.now) text.now → input.new ≡ input.old }
     ensures counted { CountsWrites (O.failures output.old) (O.failures output.new) result }
 {
+    let (clock, mut nowhere) = (Nowhere, Nowhere);
+    let mut progress = Progress::new(&clock, false, &mut nowhere);
+    probe_told(alloc, board, text, input, output, &mut progress)
+}
+
+/// [`probe_in`], which tells `progress` how far it is.
+#[tactic(auto, using(crate::specs::ProgressLaws::told_laws))]
+pub fn probe_told<I: Source, O: Sink, C: Clock, E: Sink>(
+    alloc: Global,
+    board: &str,
+    text: &str,
+    input: &mut I,
+    output: &mut O,
+    progress: &mut Progress<'_, C, E>,
+) -> Result<(), Fault>
+    requires input { I.failures input.old < 2 ^ 64 - 1 }
+    requires output { O.failures output.old < 2 ^ 64 - 1 }
+    ensures answer { AnswersProbe (board_of board.now) text.now (input_of (I.remaining input.old) (I.failures input.old))
+        (input_of (I.remaining input.new) (I.failures input.new)) (O.contents output.old) (O.contents output.new) result }
+    ensures unread { ¬ IsAsked (board_of board.now) text.now → input.new ≡ input.old }
+    ensures counted { CountsWrites (O.failures output.old) (O.failures output.new) result }
+    ensures told { Becomes E.contents E.failures progress.old progress.new }
+{
     match read_board(board)? {
-        NamedBoard::Nine => probe_on::<Nine, I, O>(alloc, text, input, output),
-        NamedBoard::Grid => probe_on::<Grid, I, O>(alloc, text, input, output),
+        NamedBoard::Nine => probe_on::<Nine, I, O, C, E>(alloc, text, input, output, progress),
+        NamedBoard::Grid => probe_on::<Grid, I, O, C, E>(alloc, text, input, output, progress),
     }
 }
 
-fn probe_on<B: Board, I: Source, O: Sink>(
+#[tactic(auto, using(crate::specs::ProgressLaws::told_laws))]
+fn probe_on<B: Board, I: Source, O: Sink, C: Clock, E: Sink>(
     alloc: Global,
     text: &str,
     input: &mut I,
     output: &mut O,
+    progress: &mut Progress<'_, C, E>,
 ) -> Result<(), Fault>
     requires input { I.failures input.old < 2 ^ 64 - 1 }
     requires output { O.failures output.old < 2 ^ 64 - 1 }
@@ -71,9 +100,11 @@ fn probe_on<B: Board, I: Source, O: Sink>(
         (input_of (I.remaining input.new) (I.failures input.new)) (O.contents output.old) (O.contents output.new) result }
     ensures unread { ¬ IsAsked (Some B.shape) text.now → input.new ≡ input.old }
     ensures counted { CountsWrites (O.failures output.old) (O.failures output.new) result }
+    ensures told { Becomes E.contents E.failures progress.old progress.new }
 {
     let position = Position::<B>::read(text.as_bytes())?;
-    let shelf = load_bundle::<B, I>(alloc, input)?;
+    let asked = Pair::of(&position);
+    let shelf = load_bundle::<B, I, C, E>(alloc, asked.as_ref(), input, progress)?;
     show_report(alloc, output, &shelf, &position)
 }
 
@@ -94,17 +125,25 @@ fn show_report<B: Board, O: Sink>(
     }
 }
 
-/// The tables of the files on the input, each verified before the next is read.
-fn load_bundle<B: Board, I: Source>(alloc: Global, input: &mut I) -> Result<Shelf<B>, Fault>
+/// The tables of the files on the input, each verified before the next is read, for a position of
+/// the pair `asked`.
+#[tactic(auto, using(crate::specs::ProgressLaws::told_laws))]
+fn load_bundle<B: Board, I: Source, C: Clock, E: Sink>(
+    alloc: Global,
+    asked: Option<&Pair<B>>,
+    input: &mut I,
+    progress: &mut Progress<'_, C, E>,
+) -> Result<Shelf<B>, Fault>
     requires { I.failures input.old < 2 ^ 64 - 1 }
     ensures loaded { LoadsBundle B.shape (input_of (I.remaining input.old) (I.failures input.old))
         (result, input_of (I.remaining input.new) (I.failures input.new)) }
     ensures unwritten { IfErr result (λ refused. is_write refused ≡ false) }
+    ensures told { Becomes E.contents E.failures progress.old progress.new }
 {
     let mut shelf = Shelf::new(alloc)?;
     for _ in 0..MOST_FILES {
         match read_next::<B, I>(alloc, input)? {
-            Some(raw) => put_verified(&mut shelf, raw)?,
+            Some(raw) => put_verified(alloc, &mut shelf, raw, asked, progress)?,
             None => return Ok(shelf),
         }
     }
@@ -115,12 +154,25 @@ fn load_bundle<B: Board, I: Source>(alloc: Global, input: &mut I) -> Result<Shel
 }
 
 /// Puts a table on the shelf once each of its entries is known to be right.
-fn put_verified<B: Board>(shelf: &mut Shelf<B>, raw: Raw<B>) -> Result<(), Fault>
+#[tactic(auto, using(crate::specs::ProgressLaws::told_laws))]
+fn put_verified<B: Board, C: Clock, E: Sink>(
+    alloc: Global,
+    shelf: &mut Shelf<B>,
+    raw: Raw<B>,
+    asked: Option<&Pair<B>>,
+    progress: &mut Progress<'_, C, E>,
+) -> Result<(), Fault>
     ensures joined { OnOk result (Joins B.shape shelf.old shelf.new raw) }
     ensures refused { IfErr result (IsUnfit B.shape shelf.old raw) }
     ensures unwritten { IfErr result (λ refused. is_write refused ≡ false) }
+    ensures told { Becomes E.contents E.failures progress.old progress.new }
 {
+    if let Some(pair) = asked {
+        // The other files are taken to be in the layout of the first.
+        announce_reading(alloc, *pair, raw.layout(), progress);
+    }
     let exact = verify_over(shelf, raw)?;
+    progress.end_pair(exact.pair(), exact.len());
     match shelf.put(exact) {
         Ok(()) => Ok(()),
         Err(_) => unreachable!(),

@@ -17,6 +17,7 @@ use std::process::Abort;
 use std::sync::Wait;
 use std::test::Fail;
 use std::thread::Threads;
+use std::time::Clock;
 
 const DRAWN: [&str; 4] = ["morris", "probe", "grid", "XXXOOO..."];
 
@@ -64,7 +65,7 @@ fn bundle(alloc: Global, files: &[&[u8]]) -> Result<Vec<u8>, Fail> {
 
 /// The position is reported so by the tables of the input.
 fn assert_reported(
-    rt: &(impl Abort + AllocGlobal + Threads + Wait + Sync),
+    rt: &(impl Abort + AllocGlobal + Threads + Wait + Clock + Sync),
     input: &[u8],
     position: &str,
     report: &str,

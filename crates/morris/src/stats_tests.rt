@@ -5,6 +5,7 @@ use morris_board::streams::IntoWrite;
 use std::process::Abort;
 use std::sync::Wait;
 use std::thread::Threads;
+use std::time::Clock;
 
 const GRID_3_3: &str = "\
 3-3 1680 positions\n\
@@ -95,7 +96,11 @@ const GRID_6_3: &str = "\
 lost in 0: 168\n\
 draw: 0\n";
 
-fn assert_stats(rt: &(impl Abort + AllocGlobal + Threads + Wait + Sync), pair: &str, text: &str) {
+fn assert_stats(
+    rt: &(impl Abort + AllocGlobal + Threads + Wait + Clock + Sync),
+    pair: &str,
+    text: &str,
+) {
     assert_answer(
         rt,
         ["morris", "stats", "grid", pair].as_slice(),
@@ -136,7 +141,7 @@ fn stats_counts_the_values_of_a_pair_of_the_usual_board(rt: HostRuntime) {
 
 /// `stats` is refused with this line, and prints nothing.
 fn assert_stats_refused(
-    rt: &(impl Abort + AllocGlobal + Threads + Wait + Sync),
+    rt: &(impl Abort + AllocGlobal + Threads + Wait + Clock + Sync),
     board: &str,
     pair: &str,
     line: &str,

@@ -12,6 +12,7 @@ use std::process::Abort;
 use std::sync::Wait;
 use std::test::Fail;
 use std::thread::Threads;
+use std::time::Clock;
 
 /// What the program answers to words: its exit status, and what goes to standard output and
 /// standard error.
@@ -22,7 +23,7 @@ pub(crate) struct Answer {
     pub(crate) errors: Vec<u8>,
 }
 
-pub(crate) fn answer_to<R: AllocGlobal + Threads + Wait + Sync>(
+pub(crate) fn answer_to<R: AllocGlobal + Threads + Wait + Clock + Sync>(
     rt: &R,
     words: &[&str],
     input: &[u8],
@@ -39,7 +40,7 @@ pub(crate) fn answer_to<R: AllocGlobal + Threads + Wait + Sync>(
 }
 
 pub fn assert_answer(
-    rt: &(impl Abort + AllocGlobal + Threads + Wait + Sync),
+    rt: &(impl Abort + AllocGlobal + Threads + Wait + Clock + Sync),
     words: &[&str],
     status: u8,
     output: &str,
@@ -50,7 +51,7 @@ pub fn assert_answer(
 
 /// The same, where the program is given this input.
 pub fn assert_answer_on(
-    rt: &(impl Abort + AllocGlobal + Threads + Wait + Sync),
+    rt: &(impl Abort + AllocGlobal + Threads + Wait + Clock + Sync),
     words: &[&str],
     input: &[u8],
     status: u8,
@@ -65,7 +66,10 @@ pub fn assert_answer_on(
 
 /// The words are refused with status 2, with a text on standard error and nothing on standard
 /// output.
-pub fn assert_wrong(rt: &(impl Abort + AllocGlobal + Threads + Wait + Sync), words: &[&str]) {
+pub fn assert_wrong(
+    rt: &(impl Abort + AllocGlobal + Threads + Wait + Clock + Sync),
+    words: &[&str],
+) {
     let answer = answer_to(rt, words, &[]);
     assert_eq!(rt; answer.status, 2, "{words:?}");
     assert_eq!(rt; answer.output.len(), 0, "{words:?}");
@@ -154,7 +158,7 @@ fn look_shows_jumps_on_nine(rt: HostRuntime) -> Result<(), Fail> {
 
 /// `look` is refused with this line, and prints nothing.
 fn assert_look_refused(
-    rt: &(impl Abort + AllocGlobal + Threads + Wait + Sync),
+    rt: &(impl Abort + AllocGlobal + Threads + Wait + Clock + Sync),
     board: &str,
     text: &str,
     line: &str,
@@ -326,7 +330,7 @@ fn fifty_four_moves_go_out_in_one_write(rt: HostRuntime) {
 
 /// The words are refused with status 1 and this line where the output has so much room.
 fn assert_write_fails(
-    rt: &(impl Abort + AllocGlobal + Threads + Wait + Sync),
+    rt: &(impl Abort + AllocGlobal + Threads + Wait + Clock + Sync),
     words: &[&str],
     room: usize,
     line: &str,

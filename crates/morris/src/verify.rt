@@ -3,11 +3,14 @@ ghost use Rattle.std.specs.Prelude.{◌≡◌, ◌-◌, ◌^◌, ◌<◌, None, 
 ghost use Rattle.morris_table.specs.Tables.{IsTable};
 ghost use Rattle.morris.specs.Faults.{CountsWrites, Prints};
 ghost use Rattle.morris.specs.Look.{board_of};
+ghost use Rattle.morris.specs.Progress.{Becomes};
 ghost use Rattle.morris.specs.Verify.{AnswersInput, AnswersVerify, Input, IsUnverified, input_of, verified_text};
 
 use crate::boards::{NamedBoard, read_board};
 use crate::fault::Fault;
 use crate::print_verified::put_verified;
+use crate::progress::{Nowhere, Progress};
+use crate::size::Size;
 use crate::stats::sweep_before;
 use morris_board::board::{Board, Geometry};
 use morris_board::grid::Grid;
@@ -20,6 +23,7 @@ use morris_table::raw::Raw;
 use morris_table::reading::read_table;
 use morris_table::verify::VerifyFault;
 use std::alloc::Global;
+use std::time::Clock;
 
 /// Reads the file of one table from `input`, which ends with it, for the board named `board`, and
 /// tells whether each of its codes is that of the game. The pairs below that of the file are swept
@@ -45,25 +49,50 @@ pub fn verify_in<I: Source, O: Sink>(
     ensures unread { board_of board.now ≡ None → input.new ≡ input.old }
     ensures counted { CountsWrites (O.failures output.old) (O.failures output.new) result }
 {
+    let (clock, mut nowhere) = (Nowhere, Nowhere);
+    let mut progress = Progress::new(&clock, false, &mut nowhere);
+    verify_told(alloc, board, input, output, &mut progress)
+}
+
+/// [`verify_in`], which tells `progress` how far it is.
+#[tactic(auto, using(crate::specs::ProgressLaws::told_laws))]
+pub fn verify_told<I: Source, O: Sink, C: Clock, E: Sink>(
+    alloc: Global,
+    board: &str,
+    input: &mut I,
+    output: &mut O,
+    progress: &mut Progress<'_, C, E>,
+) -> Result<(), Fault>
+    requires input { I.failures input.old < 2 ^ 64 - 1 }
+    requires output { O.failures output.old < 2 ^ 64 - 1 }
+    ensures answer { AnswersVerify (board_of board.now) (input_of (I.remaining input.old) (I.failures input.old)) (input_of (I.remaining input.new) (I.failures input.new))
+        (O.contents output.old) (O.contents output.new) result }
+    ensures unread { board_of board.now ≡ None → input.new ≡ input.old }
+    ensures counted { CountsWrites (O.failures output.old) (O.failures output.new) result }
+    ensures told { Becomes E.contents E.failures progress.old progress.new }
+{
     match read_board(board)? {
-        NamedBoard::Nine => verify_on::<Nine, I, O>(alloc, input, output),
-        NamedBoard::Grid => verify_on::<Grid, I, O>(alloc, input, output),
+        NamedBoard::Nine => verify_on::<Nine, I, O, C, E>(alloc, input, output, progress),
+        NamedBoard::Grid => verify_on::<Grid, I, O, C, E>(alloc, input, output, progress),
     }
 }
 
-fn verify_on<B: Board, I: Source, O: Sink>(
+#[tactic(auto, using(crate::specs::ProgressLaws::told_laws))]
+fn verify_on<B: Board, I: Source, O: Sink, C: Clock, E: Sink>(
     alloc: Global,
     input: &mut I,
     output: &mut O,
+    progress: &mut Progress<'_, C, E>,
 ) -> Result<(), Fault>
     requires input { I.failures input.old < 2 ^ 64 - 1 }
     requires output { O.failures output.old < 2 ^ 64 - 1 }
     ensures answer { AnswersInput B.shape (input_of (I.remaining input.old) (I.failures input.old)) (input_of (I.remaining input.new) (I.failures input.new))
         (O.contents output.old) (O.contents output.new) result }
     ensures counted { CountsWrites (O.failures output.old) (O.failures output.new) result }
+    ensures told { Becomes E.contents E.failures progress.old progress.new }
 {
     let raw = read_table::<B, I>(alloc, input)?;
-    let exact = believe(alloc, raw)?;
+    let exact = believe(alloc, raw, progress)?;
     show_verified(exact.pair(), exact.len(), output)
 }
 
@@ -85,14 +114,24 @@ fn show_verified<B: Geometry, S: Sink>(
 }
 
 /// The table that was read, once each of its entries is known to be right.
-fn believe<B: Board>(alloc: Global, raw: Raw<B>) -> Result<Exact<B>, Fault>
+#[tactic(auto, using(crate::specs::ProgressLaws::told_laws))]
+fn believe<B: Board, C: Clock, E: Sink>(
+    alloc: Global,
+    raw: Raw<B>,
+    progress: &mut Progress<'_, C, E>,
+) -> Result<Exact<B>, Fault>
     ensures exact { IfOk result (λ exact. IsTable B.shape raw) }
     ensures value { IfOk result (λ exact. exact ≡ raw) }
     ensures refused { IfErr result (IsUnverified B.shape raw) }
+    ensures told { Becomes E.contents E.failures progress.old progress.new }
 {
-    let shelf = sweep_before(alloc, raw.pair())?;
+    progress.begin(Size::of_verified(raw.pair(), raw.len()));
+    let shelf = sweep_before(alloc, raw.pair(), progress)?;
     match raw.verify(&shelf) {
-        Ok(exact) => Ok(exact),
+        Ok(exact) => {
+            progress.end_pair(exact.pair(), exact.len());
+            Ok(exact)
+        }
         Err((_, VerifyFault::Differs(index))) => Err(Fault::Differs(index)),
         Err((_, VerifyFault::Needs(_))) => unreachable!(),
     }

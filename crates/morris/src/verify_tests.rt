@@ -16,6 +16,7 @@ use std::process::Abort;
 use std::sync::Wait;
 use std::test::Fail;
 use std::thread::Threads;
+use std::time::Clock;
 
 const VERIFIED: &str = "verified 3-3: 1680 entries\n";
 
@@ -97,7 +98,7 @@ fn altered(alloc: Global, file: &[u8], place: usize, byte: u8) -> Result<Vec<u8>
 
 /// The file is refused with this line once one byte was changed, by `verify` and by `probe`.
 fn assert_damaged(
-    rt: &(impl Abort + AllocGlobal + Threads + Wait + Sync),
+    rt: &(impl Abort + AllocGlobal + Threads + Wait + Clock + Sync),
     file: &[u8],
     place: usize,
     byte: u8,

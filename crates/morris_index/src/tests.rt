@@ -248,3 +248,14 @@ fn indices_of_moved_stones_on_nine(rt: HostRuntime) -> Result<(), Fail> {
     assert_all_moved(&rt, rt.alloc(), &Pair::<Nine>::new(4, 3)?, 240_007)?;
     assert_all_moved(&rt, rt.alloc(), &Pair::<Nine>::new(9, 9)?, 12_345_678_901)
 }
+
+/// Neither number alone makes two pairs the same, and the order in which they are given doesn't
+/// make them differ.
+#[test]
+fn pairs_are_compared_by_both_numbers(rt: HostRuntime) -> Result<(), Fail> {
+    let pair = Pair::<Grid>::new(4, 3)?;
+    assert!(rt; pair == Pair::new(3, 4)?);
+    assert!(rt; pair != Pair::new(3, 3)?);
+    assert!(rt; pair != Pair::new(4, 4)?);
+    Ok(())
+}

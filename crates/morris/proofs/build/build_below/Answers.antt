@@ -5,6 +5,7 @@ use Rattle.morris_index.specs.Pairs.{below_of}
 use Rattle.morris.specs.Build.{HasExact}
 use Rattle.morris.proofs.BuildLaws.{has_tables, one_exact_more}
 use Rattle.morris.proofs.ShelfLaws.{none_missing, one_within_more}
+use Rattle.morris.specs.ProgressLaws.{Becomes-joins}
 use Rattle.morris.proofs.build.build_below.Goals as goal
 
 pub build_onto-requires-clause-ready : goal.build_onto-requires-clause-ready
@@ -24,6 +25,9 @@ loop-below-preserved g c = record {
       c.loop-below.invariant.exact c.in_ok-build_onto.ensures.exact c.in_ok-build_onto.ensures.others;
   within =
       one_within_more g.B.Geometry.shape c.loop-below.yielded c.in-Some.below c.loop-below.invariant.within c.in_ok-build_onto.ensures.within;
+  told =
+      Becomes-joins g.E.Sink.contents g.E.Sink.failures c.announce_making.new.progress c.loop-below.progress c.build_onto.new.progress
+      c.loop-below.invariant.told c.build_onto.ensures.told;
 }
 
 pub returns : goal.returns
@@ -36,4 +40,7 @@ returns g c =
       within = λ deep. c.loop-below.invariant.within deep.0 (subst (λ cs. Contains cs deep.0) (sym all) deep.1) deep.2;
       refused = tt;
       unwritten = tt;
+      told =
+          Becomes-joins g.E.Sink.contents g.E.Sink.failures c.args.progress.now c.announce_making.new.progress c.loop-below.progress
+          c.announce_making.ensures c.loop-below.invariant.told;
     }

@@ -1,9 +1,9 @@
 -- The words are those that the system gave, and the exit status is that of the command.
-use Rattle.std.proofs.Common.{ℕ, Option, ◌≡◌, ◌≢◌, ◌∙◌, ap, inr, List, map, refl, subst, sym, Result, Ok, Err, string_bytes}
+use Rattle.std.proofs.Common.{ℕ, Option, ◌≡◌, ◌≢◌, ◌∙◌, ap, inl, inr, List, map, refl, subst, sym, Result, Ok, Err, string_bytes}
 use Rattle.std.specs.Prelude.{IfOk, String}
 use Rattle.std.proofs.KnownBytes.{Keeps-refl}
 use Rattle.clap.specs.Words.{Text}
-use Rattle.morris.specs.Command.{AsksToRead, Ends, HasMistake, status_of, texts_of}
+use Rattle.morris.specs.Command.{AsksToRead, Ends, HasMistake, TellsProgress, status_of, texts_of}
 use Rattle.morris.specs.Faults.{Reports}
 use Rattle.morris.specs.Verify.{Input, input_of}
 use Rattle.morris.specs.Words.{faults_of, named_by}
@@ -41,9 +41,11 @@ returns-in-Ok-list_of-clause-answer g c =
     (λ other.
     let ended = c.command.ensures.answer (λ two. other (c.from.ensures ∙ two)) in (
       ended.0,
-      same_end (map string_bytes c.as_slice-words.result.now) (texts_of c.in-Ok.words) before after old new ended.0 same ended.1,
-      c.from.ensures ∙ ended.2,
-      ended.3,
+      ended.1,
+      same_end (map string_bytes c.as_slice-words.result.now) (texts_of c.in-Ok.words) before after old new ended.0 same ended.2,
+      subst (λ (t : List Text). TellsProgress g.E.Sink.contents g.E.Sink.failures t c.args.errors.now ended.1) same ended.3,
+      c.from.ensures ∙ ended.4,
+      ended.5,
     ))
 
 -- Memory for the list was refused: nothing was read and nothing printed.
@@ -52,7 +54,9 @@ returns-in-Err-list_of-clause-answer g c =
     of_ok c.args.words c.in-Ok.words _ c.in-Ok.is
     (λ other. (
       Err fault.Memory,
+      c.args.errors.now,
       inr (inr (refl, refl, Keeps-refl (g.O.Sink.contents c.args.output.now))),
+      inl refl,
       c.from-in-Err-list_of.ensures ∙ c.refuse_words.ensures.status,
       c.refuse_words.ensures.reported refl,
     ))

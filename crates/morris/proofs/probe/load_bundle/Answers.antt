@@ -5,10 +5,15 @@ use Rattle.morris.specs.declared.fault.Fault.TheVariants as fault
 use Rattle.morris.specs.Probe.{Loads}
 use Rattle.morris.specs.Verify.{input_of}
 use Rattle.morris.proofs.BundleLaws.{at_end, leads_on, leads_to_unfit, one_too_many, read_unwritten, refused_file}
+use Rattle.morris.specs.ProgressLaws.{Becomes-joins, Becomes-stays}
 use Rattle.morris.proofs.probe.load_bundle.Goals as goal
 
 pub loop-init : goal.loop-init
-loop-init g c = record { leads = λ loaded goes. goes; unfailed = refl }
+loop-init g c = record {
+  leads = λ loaded goes. goes;
+  unfailed = refl;
+  told = Becomes-stays g.E.Sink.contents g.E.Sink.failures c.args.progress.now;
+}
 
 pub read_next-requires : goal.read_next-requires
 read_next-requires g c = omega (arith, c.requires, c.loop.invariant.unfailed)
@@ -30,6 +35,7 @@ returns-in_err-raw g c =
                 (record { read = c.in_err-raw.ensures.outcome; counted = c.in_err-raw.ensures.counted; place = c.in_err-raw.ensures.place })),
           ));
       unwritten = rw (failed.1, failed.2) (read_unwritten c.in_err-raw.field-0.0);
+      told = c.loop.invariant.told;
     }
 
 pub returns-in_err-put_verified-in-Some : goal.returns-in_err-put_verified-in-Some
@@ -48,6 +54,9 @@ returns-in_err-put_verified-in-Some g c =
                 c.in_err-put_verified-in-Some.ensures.refused,
           ));
       unwritten = rw (failed.1, failed.2) c.in_err-put_verified-in-Some.ensures.unwritten;
+      told =
+          Becomes-joins g.E.Sink.contents g.E.Sink.failures c.args.progress.now c.loop.progress c.put_verified.new.progress
+          c.loop.invariant.told c.put_verified.ensures.told;
     }
 
 pub returns-in-None : goal.returns-in-None
@@ -62,6 +71,7 @@ returns-in-None g c =
                 (record { read = rw c.in-None.is at c.in_ok-raw.ensures.outcome; counted = c.in_ok-raw.ensures.counted; place = c.in_ok-raw.ensures.place })),
           );
       unwritten = tt;
+      told = c.loop.invariant.told;
     }
 
 pub loop-preserved : goal.loop-preserved
@@ -74,6 +84,9 @@ loop-preserved g c =
           (record { read = rw c.in-Some.is at c.in_ok-raw.ensures.outcome; counted = c.in_ok-raw.ensures.counted; place = c.in_ok-raw.ensures.place })
           c.in_ok-put_verified-in-Some.ensures.joined;
       unfailed = c.in_ok-raw.ensures.counted ∙ c.loop.invariant.unfailed;
+      told =
+          Becomes-joins g.E.Sink.contents g.E.Sink.failures c.args.progress.now c.loop.progress c.put_verified.new.progress
+          c.loop.invariant.told c.put_verified.ensures.told;
     }
 
 pub returns-in_err-read_next : goal.returns-in_err-read_next
@@ -90,6 +103,7 @@ returns-in_err-read_next g c =
                 (record { read = c.in_err-read_next.ensures.outcome; counted = c.in_err-read_next.ensures.counted; place = c.in_err-read_next.ensures.place })),
           ));
       unwritten = rw (failed.1, failed.2) (read_unwritten c.in_err-read_next.field-0.0);
+      told = c.loop.invariant.told;
     }
 
 pub returns-in-Some-2 : goal.returns-in-Some-2
@@ -107,6 +121,7 @@ returns-in-Some-2 g c =
                 (record { read = rw c.in-Some-2.is at c.in_ok-read_next.ensures.outcome; counted = c.in_ok-read_next.ensures.counted; place = c.in_ok-read_next.ensures.place }))),
           );
       unwritten = refl;
+      told = c.loop.invariant.told;
     }
 
 pub returns-in-None-2 : goal.returns-in-None-2
@@ -121,4 +136,5 @@ returns-in-None-2 g c =
                 (record { read = rw c.in-None-2.is at c.in_ok-read_next.ensures.outcome; counted = c.in_ok-read_next.ensures.counted; place = c.in_ok-read_next.ensures.place })),
           );
       unwritten = tt;
+      told = c.loop.invariant.told;
     }

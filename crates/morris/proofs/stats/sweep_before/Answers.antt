@@ -4,6 +4,7 @@ use Rattle.morris_index.specs.Pairs.{below_of}
 use Rattle.morris_table.specs.Shelves.{first_missing}
 use Rattle.morris.specs.Build.{HasTables}
 use Rattle.morris.proofs.ShelfLaws.{before_last, none_missing, one_table_more}
+use Rattle.morris.specs.ProgressLaws.{Becomes-joins}
 use Rattle.morris.proofs.stats.sweep_before.Goals as goal
 
 pub sweep_onto-requires-after_bounds : goal.sweep_onto-requires-after_bounds
@@ -20,6 +21,9 @@ loop-below-preserved g c = record {
   there =
       one_table_more c.loop-below.shelf c.sweep_onto.new.shelf c.loop-below.yielded c.in-Some.below c.loop-below.invariant.there
       (ap is_some c.in_ok-sweep_onto.ensures.exact.1) c.in_ok-sweep_onto.ensures.others;
+  told =
+      Becomes-joins g.E.Sink.contents g.E.Sink.failures c.args.progress.now c.loop-below.progress c.sweep_onto.new.progress
+      c.loop-below.invariant.told c.sweep_onto.ensures.told;
 }
 
 pub returns-clause-ready : goal.returns-clause-ready

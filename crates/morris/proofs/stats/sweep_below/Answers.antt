@@ -6,6 +6,7 @@ use Rattle.morris_table.specs.declared.layout.Layout.TheVariants.{Full}
 use Rattle.morris_index.specs.Pairs.{below_of}
 use Rattle.morris.proofs.BuildLaws.{has_tables, one_exact_more}
 use Rattle.morris.proofs.ShelfLaws.{none_missing, one_within_more}
+use Rattle.morris.specs.ProgressLaws.{Becomes-joins}
 use Rattle.morris.proofs.stats.sweep_below.Goals as goal
 
 pub sweep_onto-requires-after_bounds : goal.sweep_onto-requires-after_bounds
@@ -25,6 +26,9 @@ loop-smaller-preserved g c = record {
       c.loop-smaller.invariant.exact c.in_ok-sweep_onto.ensures.exact c.in_ok-sweep_onto.ensures.others;
   within =
       one_within_more g.B.Geometry.shape c.loop-smaller.yielded c.in-Some.smaller c.loop-smaller.invariant.within c.in_ok-sweep_onto.ensures.within;
+  told =
+      Becomes-joins g.E.Sink.contents g.E.Sink.failures c.announce_making.new.progress c.loop-smaller.progress c.sweep_onto.new.progress
+      c.loop-smaller.invariant.told c.sweep_onto.ensures.told;
 }
 
 pub returns-clause-exact : goal.returns-clause-exact
