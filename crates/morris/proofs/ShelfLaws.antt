@@ -1,4 +1,5 @@
--- A shelf that is filled pair by pair, in an order in which each pair comes after those that it needs.
+-- A shelf that is filled pair by pair, in an order in which each pair comes after those that it
+-- needs.
 use Rattle.std.proofs.Common.{◌≡◌, ◌≢◌, true, List, [], ◌∷◌, ◌++◌, None, is_some, sym, ap, subst, ◌∙◌, inl, inr}
 use Rattle.std.specs.List.{Contains}
 use Rattle.std.proofs.lemmas.List.Elements.{Contains-append_left, Contains-push_cases}

@@ -42,8 +42,8 @@ look_text board s n found = head_text board s ++ list_text board s ++ value_line
 abbrev pub PrintsLook : {T : Type 0} → Shape → Sides → ℕ → Option (List ℕ) → Option (List ℕ) → Result T Fault → Type 0
 PrintsLook board s n old new result = (found : Within) × AnswersWithin board s n found × Prints old new (look_text board s n found) result
 
--- What `look` answers on a board: the fault of a text that is refused, with nothing printed; otherwise the position that was read is
--- printed.
+-- What `look` answers on a board: the fault of a text that is refused, with nothing printed;
+-- otherwise the position that was read is printed.
 abbrev pub LookedAt : {T : Type 0} → Shape → ℕ → Option (List ℕ) → Option (List ℕ) → Result T Fault → Result Sides TextFault → Type 0
 LookedAt board n old new result (Err refused) = (result ≡ Err (text_fault refused)) × Keeps old new
 LookedAt board n old new result (Ok s) = PrintsLook board s n old new result
@@ -51,7 +51,8 @@ LookedAt board n old new result (Ok s) = PrintsLook board s n old new result
 abbrev pub LooksOn : {T : Type 0} → Shape → List ℕ → ℕ → Option (List ℕ) → Option (List ℕ) → Result T Fault → Type 0
 LooksOn board text n old new result = LookedAt board n old new result (read_of board text)
 
--- What `look` answers: the fault of a board that isn't there, with nothing printed; otherwise what it answers on the board.
+-- What `look` answers: the fault of a board that isn't there, with nothing printed; otherwise what
+-- it answers on the board.
 abbrev pub Looks : {T : Type 0} → Option Shape → List ℕ → ℕ → Option (List ℕ) → Option (List ℕ) → Result T Fault → Type 0
 Looks None text n old new result = (result ≡ Err fault.Board) × Keeps old new
 Looks (Some board) text n old new result = LooksOn board text n old new result

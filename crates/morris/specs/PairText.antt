@@ -17,7 +17,8 @@ abbrev pub pair_read : Result Counts PairFault → Result Counts Fault
 pair_read (Ok pair) = Ok pair
 pair_read (Err refused) = Err (pair_fault refused)
 
--- What reading the text of a pair gives, on n points: a refusal of any other text, and then what its two digits make (`0` is 48).
+-- What reading the text of a pair gives, on n points: a refusal of any other text, and then what
+-- its two digits make (`0` is 48).
 abbrev pub read_pair_of : ℕ → List ℕ → Result Counts Fault
 read_pair_of n text =
     if is_pair_text text then pair_read (pair_made n (slice_index text 0 - 48) (slice_index text 2 - 48)) else Err fault.PairText

@@ -72,8 +72,8 @@ AnswersInput board before after old new result =
     (found : Result Table ReadFault) × Reads (only_file_in board) before.bytes after.bytes found × CountsRead before.failures after.failures found
     × StandsInFile board (bytes_past found) before.bytes after.bytes × AnswersFile board old new result found
 
--- What `verify` answers: the fault of a board that isn't there, with nothing printed and nothing read; otherwise
--- what it answers on the board.
+-- What `verify` answers: the fault of a board that isn't there, with nothing printed and nothing
+-- read; otherwise what it answers on the board.
 abbrev pub AnswersVerify : {T : Type 0} → Option Shape → Input → Input → Option (List ℕ) → Option (List ℕ) → Result T Fault → Type 0
 AnswersVerify None before after old new result = (result ≡ Err fault.Board) × (after ≡ before) × Keeps old new
 AnswersVerify (Some board) before after old new result = AnswersInput board before after old new result

@@ -40,9 +40,11 @@ pub enum Fault {
     Workers,
     /// Memory was refused.
     Memory,
-    /// The table of the pair of these numbers of stones, the greater one first, is needed and isn't there.
+    /// The table of the pair of these numbers of stones, the greater one first, is needed and isn't
+    /// there.
     Needs(u8, u8),
-    /// The entry with this index is the first that isn't what the rules give from the entries of its results.
+    /// The entry with this index is the first that isn't what the rules give from the entries of
+    /// its results.
     Differs(u64),
     /// The input ended within a file.
     Short,

@@ -28,10 +28,10 @@ use std::time::Clock;
 /// How many table files are taken from the input at most.
 const MOST_FILES: u8 = 64;
 
-/// Reports the position that `text` writes on the board named `board`: its value and its best moves,
-/// as the tables on the input have them. The input is a bundle, table files one after the other to
-/// its end, at most 64 of them. A table comes after those of the pairs that its pair needs; each is
-/// verified as it comes, and takes the place of an earlier one of its pair.
+/// Reports the position that `text` writes on the board named `board`: its value and its best
+/// moves, as the tables on the input have them. The input is a bundle, table files one after the
+/// other to its end, at most 64 of them. A table comes after those of the pairs that its pair
+/// needs; each is verified as it comes, and takes the place of an earlier one of its pair.
 ///
 /// # Errors
 /// [`Fault::Board`] where there is no such board, else [`Fault::Length`], [`Fault::Character`] or
@@ -39,10 +39,10 @@ const MOST_FILES: u8 = 64;
 /// read. Else the first fault of the bundle: that of a file, as `read_next` of `morris_table` has
 /// it; [`Fault::TooMany`] where a 65th file was read; [`Fault::Needs`] with the first pair that a
 /// table needs and that isn't there, or [`Fault::Differs`] with the index of the first entry that
-/// isn't what the rules give from the entries of its results. Else [`Fault::Needs`] with the pair of
-/// the position, where its table isn't there. [`Fault::Memory`] where memory is refused. In all
-/// these cases nothing is written. Else [`Fault::Write`], with the bytes that went out, at the first
-/// write that fails.
+/// isn't what the rules give from the entries of its results. Else [`Fault::Needs`] with the pair
+/// of the position, where its table isn't there. [`Fault::Memory`] where memory is refused. In all
+/// these cases nothing is written. Else [`Fault::Write`], with the bytes that went out, at the
+/// first write that fails.
 pub fn probe_in<I: Source, O: Sink>(
     alloc: Global,
     board: &str,

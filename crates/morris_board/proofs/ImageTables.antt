@@ -1,5 +1,5 @@
--- The images of sets by tables: the tables of the boards have the images of the points, and the image
--- of a set is found from its points one by one.
+-- The images of sets by tables: the tables of the boards have the images of the points, and the
+-- image of a set is found from its points one by one.
 use Rattle.std.proofs.Common.{◌≡◌, ℕ, ◌+◌, ◌^◌, ◌<◌, ◌≤◌, Bool, true, false, ◌&&◌, ◌||◌, eqb, ltb, List, [], ◌∷◌, ◌++◌, length, map, get_or, refl, sym, ap, subst, ◌∙◌, arith}
 use Rattle.std.proofs.lemmas.Bool.{ltb-true, lt-ltb, and_parts, eqb-true}
 use Rattle.std.proofs.lemmas.List.Folds.{list_all-append, list_any-append}

@@ -34,8 +34,8 @@ pub record IsComposite (board : Shape) (s t u : ℕ) : Type 0 where
   pub within : u < board.symmetries
   pub same : (p : ℕ) → p < board.points → board.image u p ≡ board.image s (board.image t p)
 
--- The symmetries of a board: each of them is one, and its inverse is the way back; symmetry 0 leaves
--- each point where it is; and two of them, one after the other, are one of them.
+-- The symmetries of a board: each of them is one, and its inverse is the way back; symmetry 0
+-- leaves each point where it is; and two of them, one after the other, are one of them.
 pub record HasSymmetries (board : Shape) : Type 0 where
   pub symmetry : (s : ℕ) → s < board.symmetries → IsSymmetry board (board.image s) (board.image (inverse_of s))
   pub inverse_within : (s : ℕ) → s < board.symmetries → inverse_of s < board.symmetries

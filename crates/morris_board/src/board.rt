@@ -33,9 +33,9 @@ pub trait Geometry: Copy {
     /// The name of the board on the command line: `nine` or `grid`.
     const NAME: &'static str;
 
-    /// How many symmetries the board has: the ways to lay it on itself, so that adjacent points come
-    /// to adjacent points and mills to mills. There are at most 16. They are numbered from 0, and 0
-    /// leaves each point where it is.
+    /// How many symmetries the board has: the ways to lay it on itself, so that adjacent points
+    /// come to adjacent points and mills to mills. There are at most 16. They are numbered from 0,
+    /// and 0 leaves each point where it is.
     const SYMMETRIES: u8;
 
     /// The points that are adjacent to `point`, a point of the board.
@@ -66,8 +66,8 @@ pub trait Geometry: Copy {
         requires { symmetry < SYMMETRIES }
         ensures { result ≡ inverse_of symmetry };
 
-    /// The points to which a symmetry, below [`Geometry::SYMMETRIES`], takes those of `set`, a set of
-    /// points of the board.
+    /// The points to which a symmetry, below [`Geometry::SYMMETRIES`], takes those of `set`, a set
+    /// of points of the board.
     fn image_of(symmetry: u8, set: Points) -> Points
         requires symmetry { symmetry < SYMMETRIES }
         requires within { set < 2 ^ POINTS }

@@ -77,9 +77,9 @@ impl<B: Geometry> Position<B> {
         (self.own.count(), self.other.count())
     }
 
-    /// The position to which a symmetry of the board, below [`Geometry::SYMMETRIES`], takes this one:
-    /// each stone goes to the image of its point, and the same player is to move. The image under the
-    /// inverse of the symmetry undoes it, and is undone by it.
+    /// The position to which a symmetry of the board, below [`Geometry::SYMMETRIES`], takes this
+    /// one: each stone goes to the image of its point, and the same player is to move. The image
+    /// under the inverse of the symmetry undoes it, and is undone by it.
     pub fn image(&self, symmetry: u8) -> Position<B>
         requires { symmetry < B.SYMMETRIES }
         ensures image { result ≡ image_sides (B.shape.image symmetry) self.now }

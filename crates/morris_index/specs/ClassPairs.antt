@@ -1,5 +1,5 @@
--- The numbering of the positions of a pair by classes. A position is led by the symmetry of the set of
--- the player to move, so that this set becomes the representative of its class.
+-- The numbering of the positions of a pair by classes. A position is led by the symmetry of the set
+-- of the player to move, so that this set becomes the representative of its class.
 use Rattle.std.specs.Prelude.{ℕ, ◌+◌, ◌-◌, ◌*◌, nat_eq, map, if◌then◌else◌}
 use Rattle.morris_board.specs.Boards.{Shape}
 use Rattle.morris_board.specs.Sets.{members, count_of}
@@ -14,8 +14,8 @@ use Rattle.morris_index.specs.Classes.{symmetry_of, class_of, class_count}
 unfoldable pub led : Shape → Sides → Sides
 led board s = image_sides (board.image (symmetry_of board s.own)) s
 
--- How many entries there are for own stones of the player to move and other ones of the opponent, on n
--- points: for each class, the sets of other points outside its representative.
+-- How many entries there are for own stones of the player to move and other ones of the opponent,
+-- on n points: for each class, the sets of other points outside its representative.
 unfoldable pub class_half_size : Shape → ℕ → ℕ → ℕ → ℕ
 class_half_size board n own other = class_count board own * choose (n - own) other
 

@@ -21,8 +21,8 @@ use Rattle.morris_moves.proofs.ListLaws.{all_contained, contained_all, any_conta
 use Rattle.morris_moves.proofs.LegalLaws.{listed_is_legal, legal_is_listed, IsLegalMove, legal_move}
 use Rattle.morris_moves.proofs.ResultLaws.{IsPosition-result}
 
--- The image of a move goes from the image of the one point to that of the other, and takes the stone
--- on the image of the point that the move takes from.
+-- The image of a move goes from the image of the one point to that of the other, and takes the
+-- stone on the image of the point that the move takes from.
 abbrev pub image_move : (ℕ → ℕ) → Move → Move
 image_move f m = move (f m.from) (f m.to) (option_map f m.taken)
 

@@ -1,5 +1,5 @@
--- The graph of a pair by classes, looked at from an entry: the moves to the position of the entry, each carried by the
--- symmetries that carry it, are the moves of the entries that lead there.
+-- The graph of a pair by classes, looked at from an entry: the moves to the position of the entry,
+-- each carried by the symmetries that carry it, are the moves of the entries that lead there.
 use Rattle.std.proofs.Common.{◌≡◌, ℕ, ◌+◌, ◌*◌, ◌<◌, ◌≤◌, ◌^◌, Bool, true, false, ◌&&◌, eqb, leb, cond, List, [], ◌∷◌, ◌++◌, map, filter, length, refl, sym, ap, ap₂, subst, ◌∙◌, inl, inr, arith, Option, Some, None, append-nil}
 use Rattle.std.specs.List.{All, Contains, range_with_len, count_by, sum_by, flat_map, list_all}
 use Rattle.std.specs.Option.{option_map}

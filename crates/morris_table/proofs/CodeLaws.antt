@@ -1,4 +1,5 @@
--- Laws of codes: a position has one code, and the code is found by looking through the depths in order.
+-- Laws of codes: a position has one code, and the code is found by looking through the depths in
+-- order.
 use Rattle.std.proofs.Common.{◌≡◌, ℕ, zero, suc, ◌+◌, ◌<◌, ◌≤◌, ◌%◌, true, false, cond, eqb, refl, sym, ap, subst, ◌∙◌, inl, inr, ◌⊎◌, arith}
 use Rattle.std.proofs.lemmas.Bool.{cases_eq, eq-eqb, ne_eqb, or_left, or_right, or_parts, or_from, cond-true, cond-false}
 use Rattle.std.specs.List.{Contains}
@@ -24,7 +25,8 @@ pub value_in-odd : (depth : ℕ) → depth % 2 ≡ 1 → value_in (suc depth) �
 value_in-odd depth odd = cond-false (eqb (depth % 2) 0) (Lost depth) (Won depth) (ne_eqb (depth % 2) 0 (λ e. omega arith))
 
 module _ (board : Shape) (s : Sides) where
-  -- a code is 0 at a draw, and else one more than an even depth of a loss, or than an odd depth of a win
+  -- a code is 0 at a draw, and else one more than an even depth of a loss, or than an odd depth of
+  -- a win
   abbrev pub IsDrawCode : ℕ → Type 0
   IsDrawCode code = (code ≡ 0) × IsDraw board s
 

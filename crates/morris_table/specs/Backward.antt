@@ -21,7 +21,7 @@ moves_before board s n points = flat_map (λ v. moves_into board s v n) points
 unfoldable pub indices_before : ℕ → Counts → Sides → List Move → List ℕ
 indices_before n c s moves = map (λ m. index_of n c (before s m)) moves
 
--- the entries from which these moves lead to the entry of s where entries are those of classes, each
--- as often as symmetries carry one of the moves there
+-- the entries from which these moves lead to the entry of s where entries are those of classes,
+-- each as often as symmetries carry one of the moves there
 unfoldable pub entries_leading : Shape → ℕ → Counts → Sides → List Move → List ℕ
 entries_leading board n c s moves = flat_map (λ m. entries_before board n c s m.from m.to) moves

@@ -12,8 +12,8 @@ IsValue board s Draw = IsDraw board s
 IsValue board s (Won depth) = IsWonIn board s depth
 IsValue board s (Lost depth) = IsLostIn board s depth
 
--- A code is 0 for a draw and otherwise one more than the depth. Depths of losses are even and those of wins odd, so an odd code is a loss and
--- an even one above 0 a win.
+-- A code is 0 for a draw and otherwise one more than the depth. Depths of losses are even and those
+-- of wins odd, so an odd code is a loss and an even one above 0 a win.
 abbrev pub value_in : ℕ → Value
 value_in zero = Draw
 value_in (suc depth) = if nat_eq (depth % 2) 0 then Lost depth else Won depth

@@ -1,4 +1,5 @@
--- Laws of lists that a test filters: lists that are joined end to end, the one number of a range that passes, and a list in two parts.
+-- Laws of lists that a test filters: lists that are joined end to end, the one number of a range
+-- that passes, and a list in two parts.
 use Rattle.std.proofs.Common.{◌≡◌, ℕ, zero, suc, ◌+◌, ◌<◌, ◌≤◌, Bool, true, false, not, ◌&&◌, ◌||◌, List, [], ◌∷◌, ◌++◌, append-nil, map, filter, length, refl, ap, subst, ◌∙◌, inl, inr, arith}
 use Rattle.std.proofs.lemmas.Bool.{cases_Bool, cases_eq}
 use Rattle.std.proofs.lemmas.List.Elements.{filter-append, filter_passes, All-contains, All-contains_itself, All-weaker}

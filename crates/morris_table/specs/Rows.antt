@@ -7,7 +7,8 @@ use Rattle.morris_moves.specs.Rules.{closes, goes}
 use Rattle.morris_index.specs.Sums.{total}
 use Rattle.morris_table.specs.declared.rows.Row.{Row}
 
--- how many stones of `own` may come to v by a quiet move, where v is vacant: none where one of them stands there
+-- how many stones of `own` may come to v by a quiet move, where v is vacant: none where one of them
+-- stands there
 unfoldable pub arrivals : Shape → ℕ → ℕ → ℕ
 arrivals board own v = if has own v then 0 else length (filter (λ u. goes board (count_of own) u v && not (closes board own u v)) (members own))
 

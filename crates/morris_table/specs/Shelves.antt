@@ -25,7 +25,8 @@ table_on shelf c = if has_place c then slice_index_or shelf (place_of c) None el
 abbrev pub HasAllBelow : Stored → Counts → Type 0
 HasAllBelow shelf c = (d : Counts) → Contains (below_of c) d → is_some (table_on shelf d) ≡ true
 
--- each table is an exact one of the pair at whose place it stands, and all pairs below a pair on the shelf are on it as well
+-- each table is an exact one of the pair at whose place it stands, and all pairs below a pair on
+-- the shelf are on it as well
 pub record IsShelf (board : Shape) (shelf : Stored) : Type 0 where
   pub places : length shelf ≡ 49
   pub tables : (c : Counts) → IfSome (table_on shelf c) (λ t. (t.pair ≡ c) × IsTable board t)

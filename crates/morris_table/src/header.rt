@@ -86,8 +86,8 @@ impl Header {
     /// How the entries of the table are numbered that the header stands before.
     ///
     /// # Errors
-    /// The first of `Magic`, `Version`, `BoardId`, `Counts` and `Crowded` that applies; then `Memory`
-    /// where there is no room for the classes; then `Count`.
+    /// The first of `Magic`, `Version`, `BoardId`, `Counts` and `Crowded` that applies; then
+    /// `Memory` where there is no room for the classes; then `Count`.
     #[tactic(auto, unfolding(crate::specs::FileReading::heading_in, crate::specs::FileReading::counted_in))]
     pub(crate) fn numbering<B: Geometry>(&self, alloc: Global) -> Result<Numbering<B>, ReadFault>
         ensures found { IfOk result (λ made. heading_in B.shape self.now ≡ Ok (layout_of made, pair_of made)) }

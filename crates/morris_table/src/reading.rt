@@ -34,8 +34,8 @@ const DIGEST: usize = 32;
 /// entries is another (`Count`); there is no room for the codes (`Memory`); the source ends within
 /// the codes or the digest (`Short`); the digest is wrong (`Digest`); a byte follows (`Trailing`).
 /// `Read` where a read failed, which isn't tried again. After a refusal the source stands somewhere
-/// in the file that was refused, as long as its header says it is; after `Trailing` it may stand one
-/// byte past it.
+/// in the file that was refused, as long as its header says it is; after `Trailing` it may stand
+/// one byte past it.
 pub fn read_table<B: Geometry, S: Source>(
     alloc: Global,
     source: &mut S,

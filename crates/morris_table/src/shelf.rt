@@ -21,7 +21,8 @@ pub struct Needs<B: Geometry>(pub Pair<B>);
 /// How many places there are: one for each two numbers of stones from 3 to 9.
 const PLACES: usize = 49;
 
-/// A shelf with room for the tables of all pairs. A shelf that has the table of a pair has those of all pairs below it.
+/// A shelf with room for the tables of all pairs. A shelf that has the table of a pair has those of
+/// all pairs below it.
 #[derive(Drop)]
 pub struct Shelf<B: Geometry> {
     tables: Vec<Option<Exact<B>>>,
@@ -55,8 +56,8 @@ impl<B: Geometry> Shelf<B> {
     /// Puts a table on the shelf, in the place of the one of its pair that is there.
     ///
     /// # Errors
-    /// The table and [`Needs`] with the first of the pairs that its pair needs whose table isn't on the shelf. Then the shelf is
-    /// unchanged.
+    /// The table and [`Needs`] with the first of the pairs that its pair needs whose table isn't on
+    /// the shelf. Then the shelf is unchanged.
     pub fn put(&mut self, table: Exact<B>) -> Result<(), (Exact<B>, Needs<B>)>
         ensures needs { MatchResult result (λ _. first_missing self.old table.pair ≡ None)
             (λ refused. first_missing self.old table.pair ≡ Some refused.1.0) }

@@ -67,8 +67,9 @@ impl<B: Geometry> From<SweepFault> for BuildFault<B> {
 /// The exact table of a pair, over the tables of the pairs that it needs.
 ///
 /// # Errors
-/// `Needs` with the first of the pairs that the pair needs whose table isn't on the shelf, before all else. Then `Memory` where memory is
-/// refused, and `TooDeep` where a code of 16 bits can't tell all values.
+/// `Needs` with the first of the pairs that the pair needs whose table isn't on the shelf, before
+/// all else. Then `Memory` where memory is refused, and `TooDeep` where a code of 16 bits can't
+/// tell all values.
 pub fn sweep_pair<B: Board>(
     alloc: Global,
     shelf: &Shelf<B>,

@@ -10,8 +10,8 @@ use Rattle.morris_wave.proofs.Tests.{any_or, any_same, counts_add, some_counted}
 use Rattle.morris_wave.proofs.Depths.{lost_more, won_more, apart, lost_parity, won_parity}
 use Rattle.morris_wave.proofs.Known.{entry_step, decided_parts, open_same}
 
--- `l` and `w`: lost and won before; `l'` and `w'`: lost and won a ply later; then a node is new where it
--- is decided now and wasn't before
+-- `l` and `w`: lost and won before; `l'` and `w'`: lost and won a ply later; then a node is new
+-- where it is decided now and wasn't before
 new_is_lost : (l l' w w' : Bool) → (w ≡ true → w' ≡ true) → (l' ≡ true → w' ≡ true → ⊥) → (w' ≡ true → w ≡ true) → (not (l || w) && (l' || w')) ≡ (not l && l')
 new_is_lost true l' w w' more apart same = refl
 new_is_lost false true true w' more apart same = absurd (apart refl (more refl))
@@ -113,7 +113,8 @@ swap_ends false true false = refl
 swap_ends false false true = refl
 swap_ends false false false = refl
 
--- a node with no counter left is lost where its exits are won, and that is new where the counter fell
+-- a node with no counter left is lost where its exits are won, and that is new where the counter
+-- fell
 closes : (l x zb za t w : Bool) → zb ≡ (za || (t && zb)) → (l || (x || (zb && w))) ≡ ((l || (x || (za && w))) || (t && (zb && w)))
 closes true x zb za t w h = refl
 closes false true zb za t w h = refl
@@ -142,7 +143,8 @@ counter_falls before after taken e =
     nothing true = refl
     nothing false = refl
 
--- The fresh nodes of `x` are applied beside `a`; node i has `taken` places with them among its quiet results.
+-- The fresh nodes of `x` are applied beside `a`; node i has `taken` places with them among its
+-- quiet results.
 module _ (g : Net) (n : ℕ) (a x : ℕ → Bool) (i taken : ℕ) (counted : taken ≡ count_by (λ j. x j && is_fresh g n j) (g.quiet i)) where
   pub odd_open : is_odd n ≡ true → open_at g n (λ k. a k || x k) i ≡ open_at g n a i
   odd_open odd = open_same g n n (λ k. a k || x k) a i (λ k d l. won_same g a x _ n odd)
@@ -161,7 +163,8 @@ module _ (g : Net) (n : ℕ) (a x : ℕ → Bool) (i taken : ℕ) (counted : tak
           any_or (known_lost g n (λ k. a k || x k)) (known_lost g n a) (λ j. x j && is_fresh g n j) (g.quiet i) (λ j. lost_known g a x j n odd)
           ∙ ap (λ p. list_any (known_lost g n a) (g.quiet i) || p) (sym (some_counted (λ j. x j && is_fresh g n j) (g.quiet i)) ∙ ap (ltb 0) (sym counted))
 
-  -- they are won: the counters fall, and a node whose counter is spent is lost if all its exits are won
+  -- they are won: the counters fall, and a node whose counter is spent is lost if all its exits are
+  -- won
   pub even_open : is_odd n ≡ false → ((j : ℕ) → x j ≡ true → a j ≡ false) → open_at g n a i ≡ open_at g n (λ k. a k || x k) i + taken
   even_open even apart =
       counts_add (λ j. not (known_won g n a j)) (λ j. not (known_won g n (λ k. a k || x k) j)) (λ j. x j && is_fresh g n j) (g.quiet i) (λ j. won_counted g a x j n even (apart j))

@@ -1,4 +1,5 @@
--- Lost and won in fewer than n plies: more plies decide more, no node is both, and each has one depth.
+-- Lost and won in fewer than n plies: more plies decide more, no node is both, and each has one
+-- depth.
 use Rattle.std.proofs.Common.{◌≡◌, ◌≢◌, ℕ, zero, suc, ◌+◌, ◌-◌, ◌<◌, ◌≤◌, ◌%◌, Bool, true, false, not, cond, ltb, leb, List, [], ◌∷◌, refl, sym, ap, ◌∙◌, subst, ⊎_elim, arith, add-suc, add-zero}
 use Rattle.std.specs.List.{list_all, list_any}
 use Rattle.std.proofs.lemmas.Bool.{false≢true, and_parts, and_from, or_cases, or_left, or_right, or_parts, cases_Bool, and_cases, both_ways, cond-true, cond-false, leb-true, leb-false, le-leb, eqb-true, eqb-false, eq-eqb, ne_eqb, false_from_ne_true, not-true}

@@ -1,4 +1,5 @@
--- What is known and decided at a wave: how it grows with each part that is applied, and from wave to wave.
+-- What is known and decided at a wave: how it grows with each part that is applied, and from wave
+-- to wave.
 use Rattle.std.proofs.Common.{◌↔◌, ◌≡◌, ℕ, zero, suc, ◌<◌, Bool, true, false, not, ◌&&◌, ◌||◌, cond, eqb, refl, sym, ap, ap₂, ◌∙◌, subst, ⊎_elim, arith}
 use Rattle.std.specs.List.{list_any, All}
 use Rattle.std.proofs.lemmas.Bool.{false≢true, and_parts, or_cases, or_left, or_right, cases_Bool, both_ways, and_left, cond-true, cond-false, ne_eqb, false_from_ne_true}
@@ -40,7 +41,8 @@ known_won_at_least : (g : Net) (n : ℕ) (a : ℕ → Bool) (j : ℕ) → is_won
 unfolding known_won
 known_won_at_least g n a j h = or_left (is_won g n j) (a j && is_won g (suc n) j) h
 
--- a decided node has a depth of at most n, and one of depth at most n - 1 is decided whatever is applied
+-- a decided node has a depth of at most n, and one of depth at most n - 1 is decided whatever is
+-- applied
 pub decided_at_most : (g : Net) (n : ℕ) (a : ℕ → Bool) (i : ℕ) → is_decided_at g n a i ≡ true → is_decided g (suc n) i ≡ true
 unfolding is_lost is_won
 decided_at_most g n a i h =

@@ -16,7 +16,8 @@ pub waits-le : (n : ℕ) (w : Bool) → cond {A = ℕ} w 0 1 ≤ 1
 waits-le n true = omega arith
 waits-le n false = omega arith
 
--- The fresh nodes of `x` are applied beside `a`; node i has `taken` places with them among its quiet results.
+-- The fresh nodes of `x` are applied beside `a`; node i has `taken` places with them among its
+-- quiet results.
 module _ (g : Net) (n : ℕ) (a x : ℕ → Bool) (i taken : ℕ) (counted : taken ≡ count_by (λ j. x j && is_fresh g n j) (g.quiet i)) where
   pub odd_pending : is_odd n ≡ true → pending_at g n (λ k. a k || x k) i ≡ pending_at g n a i
   odd_pending odd = ap (λ c. c + waits n (exits_of (g.exits i))) (odd_open g n a x i taken counted odd)
@@ -32,7 +33,8 @@ module _ (g : Net) (n : ℕ) (a x : ℕ → Bool) (i taken : ℕ) (counted : tak
 
 -- from a complete wave to the next
 module _ (g : Net) (n i : ℕ) where
-  -- at an odd wave the exits of a node are due where one is lost: the node is won, and no counter falls
+  -- at an odd wave the exits of a node are due where one is lost: the node is won, and no counter
+  -- falls
   pub odd_pending_next : is_odd (suc n) ≡ true → pending_at g (suc n) none i ≡ pending_at g n every i
   odd_pending_next odd = ap₂ (λ c (w : Bool). c + cond {A = ℕ} w 0 1) (open_next g n i) (odd_won n (g.exits i) odd)
 
@@ -50,7 +52,8 @@ module _ (g : Net) (n i : ℕ) where
       (ap (λ t. eqb (open_at g n every i) 0 && t) (sym (odd_won n (g.exits i) odd)) ∙ c)))
       (or_cases (exits_lost (suc n) (exits_of (g.exits i))) (eqb (open_at g n every i) 0 && exits_won (suc n) (exits_of (g.exits i))) now))
 
-  -- at an even wave they are due where all are won: its counter falls by one, and with the last result it is lost
+  -- at an even wave they are due where all are won: its counter falls by one, and with the last
+  -- result it is lost
   pub even_pending_next : is_odd (suc n) ≡ false → pending_at g n every i ≡ pending_at g (suc n) none i + cond {A = ℕ} (eqb (due_wave (exits_of (g.exits i))) (suc n)) 1 0
   even_pending_next even =
       ⊎_elim

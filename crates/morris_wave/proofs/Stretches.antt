@@ -304,7 +304,8 @@ module _ (g : Net) (law : IsNet g) (n first : ℕ) (codes counters due : List �
       let here : first + (i - first) ≡ i = omega (arith, low) in
       subst (λ x. last_due_of (exits_of (g.exits x)) ≤ last_due) here (h.bound (i - first) (omega (arith, low, high)))
 
-  -- at the last wave an exit that isn't due, or a node that got its code, shows that the graph is too deep
+  -- at the last wave an exit that isn't due, or a node that got its code, shows that the graph is
+  -- too deep
   pub last_deep : n ≡ 65534 → (n < last_due) ⊎ (list_any (λ c. eqb c (n + 1)) codes ≡ true) → IsTooDeep g
   last_deep is why =
       ⊎_elim

@@ -96,7 +96,8 @@ none_counted p (x ∷ xs) =
     ne_eqb (count_by (λ y. not (p y)) (x ∷ xs)) 0 (λ z. omega arith) ∙ sym (and_left (p x) (list_all p xs) e))
     (cases_Bool (p x))
 
--- an element passes the first test exactly where it passes one of the others, and never both of them
+-- an element passes the first test exactly where it passes one of the others, and never both of
+-- them
 module _ {X : Type 0} (p q r : X → Bool) where
   pub counts_add : (xs : List X) → ((x : X) → cond {A = ℕ} (p x) 1 0 ≡ cond {A = ℕ} (q x) 1 0 + cond {A = ℕ} (r x) 1 0) → count_by p xs ≡ count_by q xs + count_by r xs
   counts_add [] h = refl

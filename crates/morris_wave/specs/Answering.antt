@@ -21,6 +21,7 @@ has_applied s source = slice_index_or s.applied source false
 abbrev pub answer_to : BlockState → BatchState → Applied
 answer_to s b = if is_for s b then (if has_applied s b.source then Again else Done) else Stranger
 
--- the block after a batch: its source is applied where the batch was taken in, and otherwise nothing changed
+-- the block after a batch: its source is applied where the batch was taken in, and otherwise
+-- nothing changed
 abbrev pub after_batch : BlockState → BatchState → BlockState
 after_batch s b = if is_for s b && not (has_applied s b.source) then record s { applied = slice_set s.applied b.source true } else s

@@ -31,8 +31,8 @@ pub record BatchState : Type 0 where
   pub target : ℕ
   pub nodes : List ℕ
 
--- For each node of the source of depth one less than the wave: its quiet predecessors in the target, each
--- as often as it leads there, in any order.
+-- For each node of the source of depth one less than the wave: its quiet predecessors in the
+-- target, each as often as it leads there, in any order.
 pub record BatchHolds (g : Net) (b : BatchState) : Type 0 where
   pub source : b.source < b.cut.blocks
   pub target : b.target < b.cut.blocks

@@ -18,8 +18,8 @@ pub record IsCut (c : Parts) : Type 0 where
   pub some : 1 ≤ c.blocks
   pub few : c.blocks ≤ 1024
 
--- Block k holds the nodes from size * k / blocks up to, not including, size * (k + 1) / blocks, both
--- rounded down.
+-- Block k holds the nodes from size * k / blocks up to, not including, size * (k + 1) / blocks,
+-- both rounded down.
 abbrev pub first_of : Parts → ℕ → ℕ
 first_of c k = (c.size * k) / c.blocks
 
@@ -83,8 +83,8 @@ pub record IsLastDue (g : Net) (s : BlockState) (due : ℕ) : Type 0 where
   pub bound : (i : ℕ) → IsIn s.cut s.number i → last_due_of (exits_of (g.exits i)) ≤ due
   pub reached : 0 < due → (i : ℕ) × (IsIn s.cut s.number i × (last_due_of (exits_of (g.exits i)) ≡ due))
 
--- A block is settled at a complete wave by which its exits are due, where none of its nodes has the depth
--- of the wave.
+-- A block is settled at a complete wave by which its exits are due, where none of its nodes has the
+-- depth of the wave.
 pub record IsSettled (g : Net) (s : BlockState) : Type 0 where
   pub complete : is_complete s ≡ true
   pub due : (i : ℕ) → IsIn s.cut s.number i → last_due_of (exits_of (g.exits i)) ≤ s.wave

@@ -17,7 +17,8 @@ list_at lists t = slice_index_or lists t []
 abbrev pub AreSorted : Parts → List (List ℕ) → Type 0
 AreSorted c lists = (t : ℕ) → t < length lists → All (IsIn c t) (list_at lists t)
 
--- each node stands in its block's list as often as it did, and once more for each place in the nodes
+-- each node stands in its block's list as often as it did, and once more for each place in the
+-- nodes
 abbrev pub Deals : Parts → List (List ℕ) → List (List ℕ) → List ℕ → Type 0
 Deals c old new nodes = (i : ℕ) → i < c.size → times i (list_at new (block_of c i)) ≡ times i (list_at old (block_of c i)) + times i nodes
 
@@ -29,8 +30,8 @@ LeadTo g c lists nodes = (i : ℕ) → i < c.size → times i (list_at lists (bl
 abbrev pub batch_of : FreshState → ℕ → List ℕ → BatchState
 batch_of f target nodes = record { level = f.level; cut = f.cut; wave = f.wave; source = f.source; target = target; nodes = nodes }
 
--- the batch from a block's fresh nodes to the block `target`, with each predecessor as often as it leads
--- to a fresh node
+-- the batch from a block's fresh nodes to the block `target`, with each predecessor as often as it
+-- leads to a fresh node
 pub record IsBatchOf (g : Net) (f : FreshState) (target : ℕ) (b : BatchState) : Type 0 where
   pub level : b.level ≡ f.level
   pub cut : b.cut ≡ f.cut

@@ -10,8 +10,8 @@ use Rattle.morris_wave.specs.declared.gathering.GatherFault.TheVariants.{Foreign
 abbrev pub has_number : List BlockState → ℕ → Bool
 has_number blocks k = list_any (λ s. s.number == k) blocks
 
--- What speaks against a block at its place: it is of another level or cut, its number already came, or it
--- isn't complete at the wave. The first of these counts.
+-- What speaks against a block at its place: it is of another level or cut, its number already came,
+-- or it isn't complete at the wave. The first of these counts.
 abbrev pub complaint : ℕ → ℕ → Parts → ℕ → Bool → BlockState → Option GatherFault
 complaint level wave cut place came s =
     if (s.level == level) && is_same_cut s.cut cut
@@ -56,7 +56,8 @@ abbrev pub IsFaultAfter : Option GatherFault → Parts → List BlockState → G
 IsFaultAfter (Some found) cut blocks fault = fault ≡ found
 IsFaultAfter None cut blocks fault = IsLateFault cut blocks fault
 
--- the fault of a gathering: what a walk through the blocks finds first, otherwise what comes after it
+-- the fault of a gathering: what a walk through the blocks finds first, otherwise what comes after
+-- it
 abbrev pub IsGatherFault : ℕ → ℕ → Parts → List BlockState → GatherFault → Type 0
 IsGatherFault level wave cut blocks fault = IsFaultAfter (first_complaint level wave cut [] blocks) cut blocks fault
 

@@ -8,8 +8,8 @@ use Rattle.morris_wave.specs.Nets.{Net, times}
 use Rattle.morris_wave.specs.Waves.{open_at, entry_at}
 use Rattle.morris_wave.specs.Solving.{Marks, among, every}
 
--- The wave at which the exits of a node come due, 0 where they never do: the first one that is lost, or
--- where none is lost and none drawn the last one that is won.
+-- The wave at which the exits of a node come due, 0 where they never do: the first one that is
+-- lost, or where none is lost and none drawn the last one that is won.
 abbrev pub due_wave : Exits → ℕ
 due_wave e = elim e.least_lost [ None ↦ if e.drawn then 0 else due_of e.greatest_won | Some depth ↦ depth + 1 ]
 
@@ -17,7 +17,8 @@ due_wave e = elim e.least_lost [ None ↦ if e.drawn then 0 else due_of e.greate
 abbrev pub waits : ℕ → Exits → ℕ
 waits n e = if exits_won n e then 0 else 1
 
--- how many results a node waits for: the quiet ones that aren't both known and won, and its exits as one
+-- how many results a node waits for: the quiet ones that aren't both known and won, and its exits
+-- as one
 abbrev pub pending_at : Net → ℕ → (ℕ → Bool) → ℕ → ℕ
 pending_at g n applied i = open_at g n applied i + waits n (exits_of (g.exits i))
 
@@ -25,8 +26,8 @@ pending_at g n applied i = open_at g n applied i + waits n (exits_of (g.exits i)
 abbrev pub code_of : ℕ → List ℕ → ℕ → ℕ
 code_of first codes i = slice_index codes (i - first)
 
--- The decided nodes, each once, in order of their codes. Those up to `before` have codes below the wave,
--- those up to `here` the wave itself, the others one more.
+-- The decided nodes, each once, in order of their codes. Those up to `before` have codes below the
+-- wave, those up to `here` the wave itself, the others one more.
 pub record Ranked (first wave : ℕ) (codes decided : List ℕ) (before here : ℕ) : Type 0 where
   pub inside : All (λ i. (first ≤ i) × (i < first + length codes)) decided
   pub once : (k : ℕ) → k < length codes → times (first + k) decided ≡ (if slice_index codes k == 0 then 0 else 1)
@@ -71,8 +72,9 @@ left_of counter = (counter + 65535) % 65536 + 1
 abbrev pub LowersBy : (ℕ → ℕ) → List ℕ → List ℕ → List ℕ → Type 0
 LowersBy number old new list = (k : ℕ) → k < length old → (slice_index new k + times (number k) list) % 65536 ≡ slice_index old k
 
--- What lies behind the fresh nodes of a wave was taken in. At an odd wave these are lost, and a node that
--- leads to one is won. At an even wave they are won: the counters fall, and a node is lost as its counter is spent.
+-- What lies behind the fresh nodes of a wave was taken in. At an odd wave these are lost, and a
+-- node that leads to one is won. At an even wave they are won: the counters fall, and a node is
+-- lost as its counter is spent.
 pub record Takes (n first : ℕ) (nodes codes codes' counters counters' : List ℕ) : Type 0 where
   pub odd : is_odd n ≡ true → Marks codes codes' (λ k. among nodes (first + k)) (n + 1) × (counters' ≡ counters)
   pub even : is_odd n ≡ false → LowersBy (λ k. first + k) counters counters' nodes × Marks codes codes' (λ k. among nodes (first + k) && slice_index counters' k == 0) (n + 1)
@@ -86,8 +88,9 @@ pub record ComesDue (n : ℕ) (due codes codes' counters counters' : List ℕ) (
 abbrev pub due_within : ℕ → ℕ
 due_within wave = if nat_lt wave 65535 then wave else 0
 
--- What is kept of the nodes from `first` on at a wave, of which the nodes that pass a test are applied:
--- their codes, what they wait for, which of them come due by their exits, and when the last exit does.
+-- What is kept of the nodes from `first` on at a wave, of which the nodes that pass a test are
+-- applied: their codes, what they wait for, which of them come due by their exits, and when the
+-- last exit does.
 pub record StretchHolds (g : Net) (n : ℕ) (applied : ℕ → Bool) (first : ℕ) (codes counters due : List ℕ) (last_due : ℕ) : Type 0 where
   pub in_graph : first + length codes ≤ g.size
   pub counters_len : length counters ≡ length codes
@@ -97,8 +100,9 @@ pub record StretchHolds (g : Net) (n : ℕ) (applied : ℕ → Bool) (first : �
   pub bound : (k : ℕ) → k < length codes → last_due_of (exits_of (g.exits (first + k))) ≤ last_due
   pub reached : 0 < last_due → (k : ℕ) × ((k < length codes) × (last_due_of (exits_of (g.exits (first + k))) ≡ last_due))
 
--- What was read of the nodes before a place: their first entries, what they wait for, when their exits
--- decide and when the last exit comes due. The others are open, and wait for their quiet results alone.
+-- What was read of the nodes before a place: their first entries, what they wait for, when their
+-- exits decide and when the last exit comes due. The others are open, and wait for their quiet
+-- results alone.
 pub record HasRead (g : Net) (first place : ℕ) (codes counters waves : List ℕ) (last_due : ℕ) : Type 0 where
   pub codes_are : (k : ℕ) → k < place → slice_index codes k ≡ entry_at g 0 every (first + k)
   pub counters_are : (k : ℕ) → k < place → slice_index counters k ≡ pending_at g 0 every (first + k) % 65536

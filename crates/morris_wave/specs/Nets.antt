@@ -3,8 +3,9 @@ use Rattle.std.specs.Prelude.{ℕ, ◌<◌, ◌≤◌, ◌^◌, List, length, �
 use Rattle.std.specs.List.{All, count_by}
 
 -- Nodes 0, 1, .. below the size. A node's results are its quiet results, which are nodes again, and
--- its exits, which are results outside of the graph and known by their codes alone. A code is 0 for a
--- draw and one more than the depth for a win or a loss, so an odd code is lost and an even one above 0 won.
+-- its exits, which are results outside of the graph and known by their codes alone. A code is 0 for
+-- a draw and one more than the depth for a win or a loss, so an odd code is lost and an even one
+-- above 0 won.
 pub record Net : Type 0 where
   pub size : ℕ
   pub quiet : ℕ → List ℕ

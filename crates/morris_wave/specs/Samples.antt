@@ -5,8 +5,8 @@ use Rattle.std.specs.List.{All}
 use Rattle.std.proofs.lemmas.List.Elements.{All-nil, All-cons}
 use Rattle.morris_wave.specs.Nets.{Net, IsNet}
 
--- Node 0 has the quiet result node 1 and no exit. Node 1 has no quiet result, one drawn exit and one exit of
--- code 41.
+-- Node 0 has the quiet result node 1 and no exit. Node 1 has no quiet result, one drawn exit and
+-- one exit of code 41.
 abbrev pub pair_quiet : ℕ → List ℕ
 pair_quiet zero = 1 ∷ []
 pair_quiet (suc i) = []
@@ -33,8 +33,8 @@ pair_codes (suc i) = All-cons (λ c. c ≤ 65535) 0 (41 ∷ []) (omega arith) (A
 pub pair_lawful : IsNet pair_net
 pair_lawful = record { small = omega arith; inside = λ i l. pair_inside i; few = λ i l. pair_few i; codes = λ i l. pair_codes i }
 
--- One node without quiet results. Its exits are one of the code level / 2, and a drawn one where the level
--- is odd.
+-- One node without quiet results. Its exits are one of the code level / 2, and a drawn one where
+-- the level is odd.
 abbrev pub lone_exits : ℕ → List ℕ
 lone_exits level = (level / 2) % 65536 ∷ (if (level % 2) == 1 then 0 ∷ [] else [])
 
@@ -65,8 +65,8 @@ bare_lawful level = record {
   codes = λ i l. All-nil (λ c. c ≤ 65535);
 }
 
--- Three nodes. Node 2 has the quiet result node 1. The exits of node 0 are of codes 5 and 2, those of node 1
--- of codes 2 and 8, and that of node 2 of code 43.
+-- Three nodes. Node 2 has the quiet result node 1. The exits of node 0 are of codes 5 and 2, those
+-- of node 1 of codes 2 and 8, and that of node 2 of code 43.
 abbrev pub trio_quiet : ℕ → List ℕ
 trio_quiet i = if i == 2 then 1 ∷ [] else []
 

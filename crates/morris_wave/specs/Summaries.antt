@@ -12,7 +12,8 @@ abbrev pub greatest_with : Option ℕ → ℕ → ℕ
 greatest_with None depth = depth
 greatest_with (Some known) depth = max known depth
 
--- the summary with one more exit, of this code: an exit of an odd code is lost, one of an even code above 0 won, and one of code 0 a draw
+-- the summary with one more exit, of this code: an exit of an odd code is lost, one of an even code
+-- above 0 won, and one of code 0 a draw
 unfoldable pub added : Exits → ℕ → Exits
 added exits code =
     if is_odd code then record exits { least_lost = Some (least_with exits.least_lost (code - 1)) }

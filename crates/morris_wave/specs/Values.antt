@@ -4,8 +4,8 @@ use Rattle.std.specs.List.{All, Any, list_all, list_any}
 use Rattle.morris_wave.specs.Nets.{Net}
 use Rattle.morris_wave.specs.Exits.{is_odd, is_won_code, exits_of}
 
--- An exit of an odd code c is lost in c - 1 plies, one of an even code above 0 is won in c - 1 plies.
--- Here: in fewer than n plies.
+-- An exit of an odd code c is lost in c - 1 plies, one of an even code above 0 is won in c - 1
+-- plies. Here: in fewer than n plies.
 abbrev pub is_lost_exit : ℕ → ℕ → Bool
 is_lost_exit n c = is_odd c && nat_le c n
 
@@ -20,8 +20,8 @@ some_lost g lost n i = list_any lost (g.quiet i) || list_any (is_lost_exit n) (g
 abbrev pub all_won : Net → (ℕ → Bool) → ℕ → ℕ → Bool
 all_won g won n i = list_all won (g.quiet i) && list_all (is_won_exit n) (g.exits i)
 
--- A node is lost, or won, in fewer than n plies; so within n - 1 plies, and for n = 0 never.
--- A player whose every result is won for the opponent has lost, also where there is no result at all.
+-- A node is lost, or won, in fewer than n plies; so within n - 1 plies, and for n = 0 never. A
+-- player whose every result is won for the opponent has lost, also where there is no result at all.
 -- A player with a result that is lost for the opponent has won.
 unfoldable mutual
   pub is_lost : Net → ℕ → ℕ → Bool
@@ -41,8 +41,8 @@ pub record HasDepth (g : Net) (i depth : ℕ) : Type 0 where
   pub reached : is_decided g (suc depth) i ≡ true
   pub not_before : is_decided g depth i ≡ false
 
--- The code is 0 for a draw: neither side can force a win in any number of plies. Otherwise it is one
--- more than the depth.
+-- The code is 0 for a draw: neither side can force a win in any number of plies. Otherwise it is
+-- one more than the depth.
 abbrev pub HasCode : Net → ℕ → ℕ → Type 0
 HasCode g i zero = (n : ℕ) → is_decided g n i ≡ false
 HasCode g i (suc depth) = HasDepth g i depth
@@ -87,13 +87,15 @@ abbrev pub SomeResultLost : Net → ℕ → ℕ → Type 0
 SomeResultLost g n i = Any (LostWithin g n) (g.quiet i) ⊎ Any (IsExitLost n) (g.exits i)
 
 -- A node is lost within n plies exactly where it has no result, or n is above 0 and every result is
--- won within n - 1. It is won within n exactly where n is above 0 and some result is lost within n - 1.
+-- won within n - 1. It is won within n exactly where n is above 0 and some result is lost within n
+-- - 1.
 pub record PlyRules (g : Net) : Type 0 where
   pub lost : (n i : ℕ) → LostWithin g n i ↔ (HasNoResult g i ⊎ ((0 < n) × EveryResultWon g (n - 1) i))
   pub won : (n i : ℕ) → WonWithin g n i ↔ ((0 < n) × SomeResultLost g (n - 1) i)
 
--- What a depth says of the outcome: a node of even depth is lost within it and one of odd depth won, and it
--- is neither within fewer plies. A node of code 0 is neither within any number of plies, and none is both.
+-- What a depth says of the outcome: a node of even depth is lost within it and one of odd depth
+-- won, and it is neither within fewer plies. A node of code 0 is neither within any number of
+-- plies, and none is both.
 pub record CodeRules (g : Net) : Type 0 where
   pub lost : (i depth : ℕ) → HasDepth g i depth → is_odd depth ≡ false → LostWithin g depth i
   pub won : (i depth : ℕ) → HasDepth g i depth → is_odd depth ≡ true → WonWithin g depth i

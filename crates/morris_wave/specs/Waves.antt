@@ -40,8 +40,8 @@ unfoldable pub is_fresh : Net → ℕ → ℕ → Bool
 is_fresh g zero j = false
 is_fresh g (suc n) j = not (is_decided g n j) && is_decided g (suc n) j
 
--- With this counter of quiet results that aren't known and won, the exits that are due by now decide a
--- node: one of them is lost, or all of them are won and no other result is left.
+-- With this counter of quiet results that aren't known and won, the exits that are due by now
+-- decide a node: one of them is lost, or all of them are won and no other result is left.
 abbrev pub settles : ℕ → ℕ → Exits → Bool
 settles n counter e = exits_lost n e || ((counter == 0) && exits_won n e)
 

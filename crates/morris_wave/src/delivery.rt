@@ -115,8 +115,8 @@ fn seal<N: Levels, L: NodeList>(fresh: &Fresh<N>, target: u64, nodes: L) -> Batc
 /// One batch for each block of the cut, in their order, of the nodes that lead to the fresh nodes.
 ///
 /// Each names the level, the cut, the wave and the source of the fresh nodes. It lists the quiet
-/// predecessors in its target, each as often as it leads to a fresh node. The graph is the one that the
-/// fresh nodes are of.
+/// predecessors in its target, each as often as it leads to a fresh node. The graph is the one that
+/// the fresh nodes are of.
 ///
 /// # Errors
 ///
@@ -135,11 +135,12 @@ pub fn scatter<N: Levels, G: Graph<Name = N>>(
     scatter_reusing(alloc, graph, fresh, &mut spare)
 }
 
-/// The batches that `scatter` gives, in lists taken from the end of `spare` as long as there are any.
+/// The batches that `scatter` gives, in lists taken from the end of `spare` as long as there are
+/// any.
 ///
-/// What stands in those lists is forgotten; only their room is used. `Batch::into_nodes` gives a list
-/// back. So one who scatters often asks seldom for memory. The lists may be of either kind that has room
-/// for each node of the graph.
+/// What stands in those lists is forgotten; only their room is used. `Batch::into_nodes` gives a
+/// list back. So one who scatters often asks seldom for memory. The lists may be of either kind
+/// that has room for each node of the graph.
 ///
 /// # Errors
 ///

@@ -36,7 +36,8 @@ pub enum AdvanceFault {
     TooDeep,
 }
 
-/// How many entries of a block are won, lost and still open; together these are all nodes of the block.
+/// How many entries of a block are won, lost and still open; together these are all nodes of the
+/// block.
 #[derive(Clone, Copy, Debug, PartialEq, Eq)]
 pub struct Tallies {
     /// Entries of even codes above 0.
@@ -120,12 +121,12 @@ impl<N: Levels, L: NodeList> Drop for Batch<N, L> {
 /// The entries of one block of a graph, which go from wave to wave.
 ///
 /// At wave `n` with some sources applied, a node is decided exactly where some exit is lost within
-/// `n - 1` plies or some quiet result is known and lost, or every exit is won within `n - 1` and every
-/// quiet result is known and won. A result is known where its depth is at most `n - 2`, or is `n - 1` and
-/// its block is applied. A decided node's entry is its code, an open node's is 0.
+/// `n - 1` plies or some quiet result is known and lost, or every exit is won within `n - 1` and
+/// every quiet result is known and won. A result is known where its depth is at most `n - 2`, or is
+/// `n - 1` and its block is applied. A decided node's entry is its code, an open node's is 0.
 ///
-/// A block keeps 4 bytes a node, 8 for each decided node and 8 for each node that comes due by its exits.
-/// Room for all of them is taken in `make`.
+/// A block keeps 4 bytes a node, 8 for each decided node and 8 for each node that comes due by its
+/// exits. Room for all of them is taken in `make`.
 pub struct Block<N: Levels> {
     level: u64,
     pub(crate) cut: Cut,
@@ -202,7 +203,8 @@ impl<N: Levels> Block<N> {
     ghost use Rattle.morris_wave.specs.Values.{IsTooDeep, HasCode};
     ghost use Rattle.morris_wave.specs.Answering.{answer_to, after_batch};
 
-    /// The block `number` of a graph at wave 0, before the first wave, where every source counts as applied.
+    /// The block `number` of a graph at wave 0, before the first wave, where every source counts as
+    /// applied.
     ///
     /// The cut is of the graph's size, and has such a block.
     ///
@@ -306,8 +308,8 @@ impl<N: Levels> Block<N> {
         self.kept.last_due
     }
 
-    /// Whether the wave is complete, all exits of the block are due, and none of its nodes has the depth
-    /// of the wave.
+    /// Whether the wave is complete, all exits of the block are due, and none of its nodes has the
+    /// depth of the wave.
     ///
     /// Where all blocks of a graph are settled, no later wave decides anything.
     pub fn settled(&self) -> bool
@@ -325,7 +327,8 @@ impl<N: Levels> Block<N> {
         !self.kept.entries.has_news()
     }
 
-    /// Whether all sources of this wave are applied: one batch of each block of the cut, itself included.
+    /// Whether all sources of this wave are applied: one batch of each block of the cut, itself
+    /// included.
     pub fn is_complete(&self) -> bool
         ensures { result ≡ is_complete self.now }
     {
@@ -334,9 +337,10 @@ impl<N: Levels> Block<N> {
 
     /// Takes in a batch, if it is for this block at its wave and its source isn't applied yet.
     ///
-    /// The nodes of the batch lead to nodes whose depth is one less than the wave. At an odd wave these are
-    /// lost, so each open node of the batch is won. At an even wave they are won, so a node is lost once it
-    /// has no other quiet result left and every exit is won. It takes no memory.
+    /// The nodes of the batch lead to nodes whose depth is one less than the wave. At an odd wave
+    /// these are lost, so each open node of the batch is won. At an even wave they are won, so a
+    /// node is lost once it has no other quiet result left and every exit is won. It takes no
+    /// memory.
     pub fn apply<L: NodeList>(&mut self, batch: &Batch<N, L>) -> Applied
         ensures answer { result ≡ answer_to self.old batch.now }
         ensures state { self.new ≡ after_batch self.old batch.now }
@@ -360,8 +364,8 @@ impl<N: Levels> Block<N> {
     ///
     /// # Errors
     ///
-    /// `NotComplete` where the wave isn't complete, otherwise `TooDeep` at wave 65,534. Neither changes
-    /// the block.
+    /// `NotComplete` where the wave isn't complete, otherwise `TooDeep` at wave 65,534. Neither
+    /// changes the block.
     pub fn advance(&mut self) -> Result<(), AdvanceFault>
         ensures ok { OnOk result ((is_complete self.old ≡ true) × (self.old.wave < 65534) × (self.new ≡ next_wave_of self.old)) }
         ensures err { IfErr result (λ e. (self.new ≡ self.old)
@@ -389,7 +393,8 @@ impl<N: Levels> Block<N> {
         self.kept.entries.decided.as_slice()
     }
 
-    /// The nodes of the block that have the depth one less than its wave, each once; none at wave 0.
+    /// The nodes of the block that have the depth one less than its wave, each once; none at wave
+    /// 0.
     ///
     /// # Errors
     ///

@@ -10,7 +10,8 @@ fn cuts_have_1_to_1024_blocks(rt: HostRuntime) -> Result<(), Fail> {
         assert!(rt; matches!(Cut::new(2, blocks), Err(Blocks)), "at {blocks}");
     }
     assert_eq!(rt; Cut::new(2, 1024)?.blocks(), 1024);
-    // Two nodes in five blocks: node 0 stands in block 2, node 1 in block 4, and the others are empty.
+    // Two nodes in five blocks: node 0 stands in block 2, node 1 in block 4, and the others are
+    // empty.
     let cut = Cut::new(2, 5)?;
     assert_eq!(rt; cut.size(), 2);
     assert_eq!(rt; cut.blocks(), 5);

@@ -29,7 +29,8 @@ fn win_all<L: NodeList>(entries: &mut Listed, nodes: &L)
     }
 }
 
-// Lowers the counter of each node of the list, once for each place there, and closes it as it is spent.
+// Lowers the counter of each node of the list, once for each place there, and closes it as it is
+// spent.
 fn lower_all<L: NodeList>(entries: &mut Listed, counters: &mut Vec<u16>, nodes: &L)
     requires inside { All (λ i. (entries.old.first ≤ i) × (i < entries.old.first + vec_len entries.old.entries.codes)) (L.items nodes.now) }
     requires counters { vec_len counters.old ≡ vec_len entries.old.entries.codes }
@@ -77,7 +78,8 @@ fn win_due(entries: &mut Listed, due: &[u64], used: usize) -> usize
     due.len()
 }
 
-// Lowers the counters of the nodes whose won exits come due at this wave, and closes them as they are spent.
+// Lowers the counters of the nodes whose won exits come due at this wave, and closes them as they
+// are spent.
 fn lose_due(entries: &mut Listed, counters: &mut Vec<u16>, due: &[u64], used: usize) -> usize
     requires wave { 0 < entries.old.wave }
     requires counters { vec_len counters.old ≡ vec_len entries.old.entries.codes }

@@ -1,6 +1,7 @@
 //! Exact depths of win and loss over any graph with exits.
 //!
-//! The crate knows no game. A [`Graph`] gives each node's results, and [`sweep`] the code of each node.
+//! The crate knows no game. A [`Graph`] gives each node's results, and [`sweep`] the code of each
+//! node.
 #![tactic(auto)]
 
 mod delivery;

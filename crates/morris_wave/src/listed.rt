@@ -37,9 +37,9 @@ impl Counted {
     }
 }
 
-// The entries of the nodes from `first` on at a wave, and the decided nodes in order of their codes. Those
-// from the place `before` up to, not including, `here` have the code of the wave; those behind it got
-// theirs at this wave. There is room for every node.
+// The entries of the nodes from `first` on at a wave, and the decided nodes in order of their
+// codes. Those from the place `before` up to, not including, `here` have the code of the wave;
+// those behind it got theirs at this wave. There is room for every node.
 #[derive(Drop)]
 pub(crate) struct Listed {
     pub(crate) first: u64,

@@ -33,11 +33,12 @@ impl Exits {
 
     /// The same with one more exit, of this code.
     ///
-    /// A code is 0 for a draw, and otherwise one more than the depth in plies: an odd code is a loss, an
-    /// even one above 0 a win.
+    /// A code is 0 for a draw, and otherwise one more than the depth in plies: an odd code is a
+    /// loss, an even one above 0 a win.
     pub fn with(self, code: u16) -> Exits
         ensures value { result ≡ added self code }
-        // What is known of a list of exits becomes what is known of the list with this one at its end.
+        // What is known of a list of exits becomes what is known of the list with this one at its
+        // end.
         ensures more { (codes : List ℕ) → self ≡ exits_of codes → result ≡ exits_of (codes ++ code ∷ []) }
     {
         one_more(self, code)
@@ -57,8 +58,8 @@ impl Exits {
         due(self.least_lost).max(due(self.greatest_won))
     }
 
-    // The wave at which the exits come due: where one is lost the first such, otherwise the last one that
-    // is won, or never beside a draw.
+    // The wave at which the exits come due: where one is lost the first such, otherwise the last
+    // one that is won, or never beside a draw.
     pub(crate) fn due_wave(self) -> u32
         ensures { result ≡ due_wave self }
     {
@@ -127,20 +128,22 @@ fn due(depth: Option<u16>) -> u32
 
 /// A family of graphs. A graph of the family is known by its number, the level.
 ///
-/// The family says of each level how many nodes there are, and of each node its quiet results and the codes
-/// of its exits. A code is 0 for a draw, otherwise one more than the depth: odd for a loss, even for a win.
+/// The family says of each level how many nodes there are, and of each node its quiet results and
+/// the codes of its exits. A code is 0 for a draw, otherwise one more than the depth: odd for a
+/// loss, even for a win.
 pub trait Levels: Send + Sync {
     // The graph of a level.
     ghost net: { ℕ → Net };
 
-    // Each of them keeps the limits: at most 2^40 nodes, quiet results that are nodes, at most 65,535 at
-    // a node, and no code above 65,535.
+    // Each of them keeps the limits: at most 2^40 nodes, quiet results that are nodes, at most
+    // 65,535 at a node, and no code above 65,535.
     ghost lawful: { (level : ℕ) → IsNet (net level) };
 }
 
 /// A graph with exits of the family `Name`.
 ///
-/// Its nodes are 0, 1, .. below its size, which is at most 2^40. A node `i` of a call is below the size.
+/// Its nodes are 0, 1, .. below its size, which is at most 2^40. A node `i` of a call is below the
+/// size.
 pub trait Graph {
     ghost use Rattle.morris_wave.specs.Exits.{exits_of};
     ghost use Rattle.morris_wave.specs.Solving.{exits_at};
@@ -158,7 +161,8 @@ pub trait Graph {
     fn size(&self) -> u64
         ensures { result ≡ (Self.Name.net (level self.now)).size };
 
-    /// The number of quiet results of node `i`, which are nodes of this graph again: at most 65,535.
+    /// The number of quiet results of node `i`, which are nodes of this graph again: at most
+    /// 65,535.
     fn quiet_count(&self, i: u64) -> u16
         requires { i < (Self.Name.net (level self.now)).size }
         ensures { result ≡ length ((Self.Name.net (level self.now)).quiet i) };
@@ -178,7 +182,8 @@ pub trait Graph {
         }
     }
 
-    /// The summaries of the results outside of the graph of the nodes from `first` on, as many as there is room for.
+    /// The summaries of the results outside of the graph of the nodes from `first` on, as many as
+    /// there is room for.
     fn read_exits(&self, first: u64, exits: &mut [Exits])
         requires { first + length exits.old ≤ (Self.Name.net (level self.now)).size }
         ensures { (k : ℕ) → k < length exits.old → exits_at exits.new k ≡ exits_of ((Self.Name.net (level self.now)).exits (first + k)) }

@@ -3,8 +3,8 @@ ghost use Rattle.std.specs.Prelude.{◌≡◌, ℕ, ◌<◌, ◌^◌, ◌++◌, 
 
 use std::alloc::{AllocError, Global};
 
-/// A list of nodes, as batches carry them: of 8 bytes a node, or of 4 where all nodes of the graph are
-/// below 2^32.
+/// A list of nodes, as batches carry them: of 8 bytes a node, or of 4 where all nodes of the graph
+/// are below 2^32.
 pub trait NodeList: Drop {
     /// The nodes, in their order.
     ghost items: { Self → List ℕ };

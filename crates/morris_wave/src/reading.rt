@@ -1,5 +1,5 @@
-//! The first entries of a stretch of nodes, what they wait for, and when their exits come due, read from
-//! the graph.
+//! The first entries of a stretch of nodes, what they wait for, and when their exits come due, read
+//! from the graph.
 ghost use Rattle.std.specs.Prelude.{◌≡◌, ℕ, ◌+◌, ◌-◌, ◌%◌, ◌<◌, ◌≤◌, ◌^◌, ◌&&◌, ◌==◌, if◌then◌else◌, max, length, replicate, slice_index, slice_set, IfOk, vec_len};
 ghost use Rattle.morris_wave.specs.Exits.{exits_won, last_due_of};
 ghost use Rattle.morris_wave.specs.Solving.{Marks, every};
@@ -49,7 +49,8 @@ impl Reading {
         })
     }
 
-    // Takes in the exits of the node at a place: it waits for them too, and is lost without any result.
+    // Takes in the exits of the node at a place: it waits for them too, and is lost without any
+    // result.
     fn take(&mut self, place: usize, exits: Exits)
         requires inside { place < vec_len self.old.entries.entries.codes }
         ensures len { vec_len self.new.entries.entries.codes ≡ vec_len self.old.entries.entries.codes }

@@ -167,8 +167,8 @@ impl Graph for BareGraph {
     }
 }
 
-// Node 2 leads to node 1. The exits of node 0 are of codes 5 and 2, those of node 1 of codes 2 and 8, and
-// that of node 2 of code 43. Every level is alike.
+// Node 2 leads to node 1. The exits of node 0 are of codes 5 and 2, those of node 1 of codes 2 and
+// 8, and that of node 2 of code 43. Every level is alike.
 pub(crate) struct Trios;
 
 impl Levels for Trios {

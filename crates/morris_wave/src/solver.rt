@@ -101,17 +101,17 @@ fn run<G: Graph>(alloc: Global, graph: &G, whole: &mut Stretch) -> Result<bool, 
 /// The code of each node of a graph: 0 for a draw, otherwise one more than its depth.
 ///
 /// A node is lost in 0 plies where it has no result. It is won in one ply more than its least lost
-/// result, and lost, where all its results are won, in one ply more than the greatest of these. Codes
-/// of lost nodes are odd. A node that is neither for any number of plies is a draw.
+/// result, and lost, where all its results are won, in one ply more than the greatest of these.
+/// Codes of lost nodes are odd. A node that is neither for any number of plies is a draw.
 ///
-/// The work is in proportion to nodes, quiet results and depths. It takes 4 bytes a node, 8 for each node
-/// that is decided and 8 for each that comes due by its exits, and one list of predecessors. While it reads
-/// the graph it takes 2 bytes a node more.
+/// The work is in proportion to nodes, quiet results and depths. It takes 4 bytes a node, 8 for
+/// each node that is decided and 8 for each that comes due by its exits, and one list of
+/// predecessors. While it reads the graph it takes 2 bytes a node more.
 ///
 /// # Errors
 ///
-/// `TooDeep` exactly where some node has a depth of 65,534 or more, or 65,534 is its least depth of a
-/// lost exit or its greatest depth of a won exit. `Memory` where memory is refused.
+/// `TooDeep` exactly where some node has a depth of 65,534 or more, or 65,534 is its least depth of
+/// a lost exit or its greatest depth of a won exit. `Memory` where memory is refused.
 #[tactic(auto, using(crate::proofs::Plies::ply_rules, crate::proofs::Plies::code_rules))]
 pub fn sweep<G: Graph>(alloc: Global, graph: &G) -> Result<Vec<u16>, SweepFault>
     ensures len { IfOk result (λ v. vec_len v ≡ (G.Name.net (G.level graph.now)).size) }

@@ -10,9 +10,10 @@ use crate::falls;
 use crate::listed::Listed;
 use crate::nodes::NodeList;
 
-// Nodes in their order, from the first one of the entries on. For each there is its entry and a counter of
-// the results that it waits for; its exits count as one of these until all of them are won. A node whose
-// exits decide stands once in `due` with the wave at which they do, and those up to `used` came due.
+// Nodes in their order, from the first one of the entries on. For each there is its entry and a
+// counter of the results that it waits for; its exits count as one of these until all of them are
+// won. A node whose exits decide stands once in `due` with the wave at which they do, and those up
+// to `used` came due.
 #[derive(Drop)]
 pub(crate) struct Stretch {
     pub(crate) entries: Listed,

@@ -29,7 +29,8 @@ sum_none f g [] h e = refl
 sum_none f g (x ∷ xs) h e =
     omega (arith, sum_by-cons g x xs, h zero x refl (omega (arith, sum_by-cons f x xs)), sum_none f g xs (λ i v k. h (suc i) v k) (omega (arith, sum_by-cons f x xs)))
 
--- A seat's term is the whole sum where all other terms are 0. `none` is an element whose terms are 0.
+-- A seat's term is the whole sum where all other terms are 0. `none` is an element whose terms are
+-- 0.
 pub sum_alone : {A : Type 0} (f g : A → ℕ) (l : List A) (i : ℕ) (v none : A) → get_elem? l i ≡ some v → f none ≡ 0 → g none ≡ 0
     → ((j : ℕ) (w : A) → get_elem? l j ≡ some w → f w ≡ 0 → g w ≡ 0) → sum_by f l ≤ f v → sum_by g l ≡ g v
 sum_alone f g l i v none e fn gn h most =

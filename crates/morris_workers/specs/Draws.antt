@@ -1,6 +1,6 @@
 -- The rule of the tickets' counter, a table of one word, and what each step on it does to a view.
--- The word is the number that the next draw finds. It goes on past the limit, since each seat may find
--- once that no number is left.
+-- The word is the number that the next draw finds. It goes on past the limit, since each seat may
+-- find once that no number is left.
 use Rattle.std.specs.Prelude.{◌≡◌, ℕ, ◌+◌, ◌-◌, ◌<◌, ◌≤◌, ◌==◌, ◌||◌, min, if◌then◌else◌, true, false, [], ◌∷◌, ◌++◌, length, slice_index, nat_lt}
 use Rattle.std.specs.List.{sum_by}
 use mathlib.Core.Option.{some}
@@ -70,8 +70,8 @@ joined v w = record { limit = v.limit; drawn = v.drawn ++ w.drawn; splits = v.sp
 abbrev pub spent_view : View
 spent_view = record { limit = 0; drawn = []; splits = 0; ended = false; stands = 0 }
 
--- what the counter says at its end of a seat with the view v: of the numbers below the limit `handed`
--- were drawn, by as many seats as were made
+-- what the counter says at its end of a seat with the view v: of the numbers below the limit
+-- `handed` were drawn, by as many seats as were made
 pub record Counted (limit seats : ℕ) (v : View) (handed : ℕ) : Type 0 where
   pub most : handed ≤ limit
   pub few : length v.drawn ≤ handed

@@ -22,8 +22,8 @@ is_range_fault Memory = false
 is_range_fault (Missing number) = false
 is_range_fault TooDeep = false
 
--- What a fault tells that comes once the numbers are in range: the block that is missing is one of the
--- blocks, and where it says that the graph is too deep, it is.
+-- What a fault tells that comes once the numbers are in range: the block that is missing is one of
+-- the blocks, and where it says that the graph is too deep, it is.
 abbrev pub Tells : Net → ℕ → SolveFault → Type 0
 Tells g blocks Workers = ⊥
 Tells g blocks Blocks = ⊥

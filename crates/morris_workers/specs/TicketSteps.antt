@@ -1,4 +1,5 @@
--- The first seat, from which the others are split, and the last one, to which the others were joined.
+-- The first seat, from which the others are split, and the last one, to which the others were
+-- joined.
 use Rattle.std.specs.Prelude.{◌≡◌, ℕ, false, List, [], length}
 use Rattle.std.specs.List.{list_any}
 use Rattle.atomic_table.specs.declared.shared.Seat.{Seat}

@@ -1,4 +1,5 @@
-//! The rule of the tickets' counter, and the kinds of step on it. All of it exists in the proofs alone.
+//! The rule of the tickets' counter, and the kinds of step on it. All of it exists in the proofs
+//! alone.
 
 use atomic_table::{Join, Play, Split, TableRule};
 use std::collections::LinkedList;
@@ -10,9 +11,9 @@ pub(crate) struct Plan {
     pub(crate) seats: u64,
 }
 
-/// What a seat knows: the limit, the numbers that it drew, how many seats can still be split off it,
-/// whether a draw found no number left, and for how many seats it stands. A seat that was joined to
-/// another stands for none.
+/// What a seat knows: the limit, the numbers that it drew, how many seats can still be split off
+/// it, whether a draw found no number left, and for how many seats it stands. A seat that was
+/// joined to another stands for none.
 pub(crate) struct View {
     pub(crate) limit: u64,
     pub(crate) drawn: LinkedList<u64>,

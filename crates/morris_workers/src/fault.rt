@@ -38,8 +38,8 @@ impl From<AllocError> for SolveFault {
     }
 }
 
-// Blocks that were solved together gather without a fault, want of memory aside. Where they don't, one of
-// them isn't what it should be, and counts as missing.
+// Blocks that were solved together gather without a fault, want of memory aside. Where they don't,
+// one of them isn't what it should be, and counts as missing.
 impl From<GatherFault> for SolveFault {
     ghost use Rattle.morris_workers.specs.Ranges.{solve_fault_of};
 

@@ -11,9 +11,9 @@ use std::ops::Range;
 use std::thread;
 use std::thread::Threads;
 
-// The blocks of these numbers. An exit that comes due after the last wave shows at once that the graph is
-// too deep. The last block is made first: the codes are gathered from the first block on, and what was made
-// last and is let go first goes back to the system.
+// The blocks of these numbers. An exit that comes due after the last wave shows at once that the
+// graph is too deep. The last block is made first: the codes are gathered from the first block on,
+// and what was made last and is let go first goes back to the system.
 fn make_share<G: Graph>(
     alloc: Global,
     graph: &G,

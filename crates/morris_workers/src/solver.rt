@@ -23,7 +23,8 @@ use std::thread::Threads;
 ///
 /// # Errors
 ///
-/// `Workers` where there aren't 1 to 64 workers, otherwise `Blocks` where there aren't 1 to 1,024 blocks.
+/// `Workers` where there aren't 1 to 64 workers, otherwise `Blocks` where there aren't 1 to 1,024
+/// blocks.
 pub fn check_numbers(workers: usize, blocks: usize) -> Result<(), SolveFault>
     ensures { MatchResult result (λ _. range_fault workers blocks ≡ None) (λ fault. range_fault workers blocks ≡ Some fault) }
 {
@@ -49,8 +50,8 @@ fn cut_into(size: u64, parts: u64) -> Cut
     cut
 }
 
-// Goes from wave to wave until all blocks are settled, and says at which wave they are. The watch is
-// told of each wave before it is run.
+// Goes from wave to wave until all blocks are settled, and says at which wave they are. The watch
+// is told of each wave before it is run.
 fn run_waves<G: Graph + Send + Sync, A: Gate, R: Threads + Wait + Sync, W: Watch>(
     rt: &R,
     alloc: Global,
@@ -73,7 +74,8 @@ fn run_waves<G: Graph + Send + Sync, A: Gate, R: Threads + Wait + Sync, W: Watch
         watch.wave(wave + 1);
         run_wave(rt, alloc, graph, gate, yard, shares, wave + 1)?;
     }
-    // The survey of the last wave ends the waves. Of what stands behind locks no proof knows as much.
+    // The survey of the last wave ends the waves. Of what stands behind locks no proof knows as
+    // much.
     Err(SolveFault::Missing(0))
 }
 
@@ -113,25 +115,26 @@ fn codes_of<N: Levels>(
 
 /// The code of each node of a graph: 0 for a draw, otherwise one more than its depth.
 ///
-/// Works with so many workers, 1 to 64, each in a thread of its own where one can be started, and cuts the
-/// graph into so many blocks, 1 to 1,024. The codes are those that `sweep` gives, for every number of
-/// workers and blocks and in whatever order the workers come.
+/// Works with so many workers, 1 to 64, each in a thread of its own where one can be started, and
+/// cuts the graph into so many blocks, 1 to 1,024. The codes are those that `sweep` gives, for
+/// every number of workers and blocks and in whatever order the workers come.
 ///
-/// Wave by wave the workers draw the numbers of the blocks and ask the gate after each draw (see [`Gate`]).
-/// A worker that draws no number, or is told to leave, ends for that wave. A graph whose blocks are settled
-/// before the first wave is answered without any draw. A worker holds one lock at a time, and none while it
-/// looks at the graph.
+/// Wave by wave the workers draw the numbers of the blocks and ask the gate after each draw (see
+/// [`Gate`]). A worker that draws no number, or is told to leave, ends for that wave. A graph whose
+/// blocks are settled before the first wave is answered without any draw. A worker holds one lock
+/// at a time, and none while it looks at the graph.
 ///
-/// The blocks take what [`Block`] says, each worker the fresh nodes and the batches of one block at a time,
-/// of 4 bytes for each node that leads to a fresh one, and room that it keeps for the next block's, at most
-/// 4 MB. At the end the answer takes 2 bytes a node, while the blocks are let go one after the other.
+/// The blocks take what [`Block`] says, each worker the fresh nodes and the batches of one block at
+/// a time, of 4 bytes for each node that leads to a fresh one, and room that it keeps for the next
+/// block's, at most 4 MB. At the end the answer takes 2 bytes a node, while the blocks are let go
+/// one after the other.
 ///
 /// # Errors
 ///
-/// `Workers`, then `Blocks`, for numbers out of range, before all else. Then `Memory` where memory is
-/// refused, in a wave before anything else that the wave would answer. `Missing` with the least number of a
-/// block that isn't complete, where a gate has sent workers away. `TooDeep` only where `sweep` answers it;
-/// such a graph is never answered with codes.
+/// `Workers`, then `Blocks`, for numbers out of range, before all else. Then `Memory` where memory
+/// is refused, in a wave before anything else that the wave would answer. `Missing` with the least
+/// number of a block that isn't complete, where a gate has sent workers away. `TooDeep` only where
+/// `sweep` answers it; such a graph is never answered with codes.
 pub fn solve<G: Graph + Send + Sync, A: Gate, R: Threads + Wait + Sync>(
     rt: &R,
     alloc: Global,
@@ -159,8 +162,8 @@ pub fn solve<G: Graph + Send + Sync, A: Gate, R: Threads + Wait + Sync>(
     solve_watched(rt, alloc, graph, gate, workers, blocks, &mut Unwatched)
 }
 
-/// [`solve`], and tells `watch` of each wave before it begins (see [`Watch`]): of waves 1, 2, .. and of
-/// no wave where the blocks are settled before the first one.
+/// [`solve`], and tells `watch` of each wave before it begins (see [`Watch`]): of waves 1, 2, ..
+/// and of no wave where the blocks are settled before the first one.
 ///
 /// # Errors
 ///

@@ -45,8 +45,8 @@ fn examine<N: Levels>(level: u64, block: &Block<N>, wave: u16) -> Finding
 ///
 /// # Errors
 ///
-/// `Missing` with the least number of a block that isn't complete at this wave. Otherwise `TooDeep` where
-/// one isn't settled at the last wave.
+/// `Missing` with the least number of a block that isn't complete at this wave. Otherwise `TooDeep`
+/// where one isn't settled at the last wave.
 pub(crate) fn survey<G: Graph, R: Wait>(
     rt: &R,
     graph: &G,

@@ -42,8 +42,8 @@ impl Tickets {
     ghost use Rattle.morris_workers.specs.Tickets.{IsSeatOf, IsNewSeatOf, limit_of, seats_of, numbers_of, all_numbers, has_ended};
     ghost use Rattle.morris_workers.specs.TicketSteps.{IsFirstSeat, IsJoined, splits_of};
 
-    /// Tickets for the numbers below the limit, and so many seats that draw from them. The limit is at
-    /// most 1,000,000, and there are 1 to 64 seats. It fails for want of memory alone.
+    /// Tickets for the numbers below the limit, and so many seats that draw from them. The limit is
+    /// at most 1,000,000, and there are 1 to 64 seats. It fails for want of memory alone.
     pub fn new(
         alloc: Global,
         limit: u64,
@@ -95,9 +95,9 @@ impl Tickets {
         TicketSeat::of(self.table.shared.split_seat::<Deal>(first))
     }
 
-    /// The next number, or `None` once all numbers below the limit are drawn. Condition: the seat is of
-    /// these tickets and was not answered with `None` before. It is one step on the counter, waits for
-    /// nobody and takes no memory.
+    /// The next number, or `None` once all numbers below the limit are drawn. Condition: the seat
+    /// is of these tickets and was not answered with `None` before. It is one step on the counter,
+    /// waits for nobody and takes no memory.
     pub fn draw(&self, mine: &mut TicketSeat) -> Option<u64>
         requires seat { IsSeatOf self.now mine.old }
         requires ready { has_ended mine.old ≡ false }
@@ -116,12 +116,12 @@ impl Tickets {
         }
     }
 
-    /// Ends the drawing, and tells how many numbers were drawn and how many of them by the seats given
-    /// back. Condition: at least one seat, each of these tickets. The seats' lists have no number twice,
-    /// within one list or across two, and all are below `handed`. Where as many seats are given back as
-    /// were made, `handed` is `held`; where the two are equal, the lists have each number below them. If
-    /// one of the seats was answered with `None`, `handed` is the limit. It waits for nobody and takes no
-    /// memory.
+    /// Ends the drawing, and tells how many numbers were drawn and how many of them by the seats
+    /// given back. Condition: at least one seat, each of these tickets. The seats' lists have no
+    /// number twice, within one list or across two, and all are below `handed`. Where as many seats
+    /// are given back as were made, `handed` is `held`; where the two are equal, the lists have
+    /// each number below them. If one of the seats was answered with `None`, `handed` is the limit.
+    /// It waits for nobody and takes no memory.
     pub fn close(self, seats: Vec<TicketSeat>) -> Drawn
         requires count { 1 ≤ vec_len seats }
         requires seats { All (IsSeatOf self) seats.items }
@@ -153,8 +153,8 @@ impl Tickets {
         self.join_others(first, seats)
     }
 
-    // The sum is never cut off: it is at most the limit, as the rule of the counter shows once all seats
-    // are joined.
+    // The sum is never cut off: it is at most the limit, as the rule of the counter shows once all
+    // seats are joined.
     fn join_others(&self, first: TicketSeat, others: Vec<TicketSeat>) -> (Seat<(), View>, u64)
         requires first { IsSeatOf self.now first }
         requires others { All (IsSeatOf self.now) others.items }

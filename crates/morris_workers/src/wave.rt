@@ -63,8 +63,8 @@ fn bring<N: Levels>(block: &mut Block<N>, wave: u16)
     }
 }
 
-// Puts the lists of batches that were sent aside for those of the next block, as long as they have no more
-// room together than a worker keeps.
+// Puts the lists of batches that were sent aside for those of the next block, as long as they have
+// no more room together than a worker keeps.
 fn keep_room<N: Levels, L: NodeList>(
     mut batches: Vec<Batch<N, L>>,
     spare: &mut Vec<L>,
@@ -127,8 +127,8 @@ impl<'a, G: Graph, A: Gate, R: Wait> Site<'a, G, A, R> {
         }
     }
 
-    // Sends what a block found to all blocks, one after the other. It begins at the worker's share, so that
-    // workers don't queue at one block.
+    // Sends what a block found to all blocks, one after the other. It begins at the worker's share,
+    // so that workers don't queue at one block.
     fn send<L: NodeList>(
         &self,
         worker: u64,
@@ -164,7 +164,8 @@ impl<'a, G: Graph, A: Gate, R: Wait> Site<'a, G, A, R> {
         ensures { IsSeatOf tickets.now seat.new }
     {
         let mut spare: Vec<L> = Vec::new(self.alloc);
-        // No worker draws more numbers than there are blocks, and then finds once that none is left.
+        // No worker draws more numbers than there are blocks, and then finds once that none is
+        // left.
         for _ in 0..=self.yard.count() {
             let Some(number) = tickets.draw(seat) else {
                 return Ok(());
@@ -177,7 +178,8 @@ impl<'a, G: Graph, A: Gate, R: Wait> Site<'a, G, A, R> {
         Ok(())
     }
 
-    // What one worker does in the wave. It gives back its seat, and says whether memory was refused.
+    // What one worker does in the wave. It gives back its seat, and says whether memory was
+    // refused.
     fn work(&self, tickets: &Tickets, job: Job) -> (TicketSeat, Result<(), AllocError>)
         requires worker { job.worker < self.now.shares.now.blocks }
         requires limit { limit_of tickets.now ≡ self.now.yard.now }
@@ -210,8 +212,8 @@ fn jobs_of(alloc: Global, tickets: &Tickets, seats: Vec<TicketSeat>) -> Result<V
     Ok(jobs)
 }
 
-// What is left to do once all workers are back: the tickets are closed, and if memory was refused anywhere
-// that is the answer.
+// What is left to do once all workers are back: the tickets are closed, and if memory was refused
+// anywhere that is the answer.
 fn hand_back(
     alloc: Global,
     tickets: Tickets,
@@ -244,9 +246,10 @@ fn outcome_of(done: &[(TicketSeat, Result<(), AllocError>)]) -> Result<(), Alloc
 
 /// Takes all blocks from a complete wave to this one, and sends what each of them found to all.
 ///
-/// Each worker first takes the blocks of its share to the wave. Then it draws numbers of blocks and asks the
-/// gate after each draw. On `Go` it sends what the block found to every block; on `Leave` it ends, and
-/// nothing is sent from that block. A worker for which no thread can be started is run by another one.
+/// Each worker first takes the blocks of its share to the wave. Then it draws numbers of blocks and
+/// asks the gate after each draw. On `Go` it sends what the block found to every block; on `Leave`
+/// it ends, and nothing is sent from that block. A worker for which no thread can be started is run
+/// by another one.
 ///
 /// # Errors
 ///

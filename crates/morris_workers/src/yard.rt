@@ -57,8 +57,8 @@ impl<N: Levels> Yard<N> {
 
     /// Waits until block `k` is free, and locks it until the guard is dropped.
     ///
-    /// Whoever gets a guard, at whatever moment, finds a block whose entries are the codes of their nodes
-    /// wherever they aren't open, and whose tallies count the entries.
+    /// Whoever gets a guard, at whatever moment, finds a block whose entries are the codes of their
+    /// nodes wherever they aren't open, and whose tallies count the entries.
     pub fn lock<R: Wait>(&self, rt: &R, k: usize) -> MutexGuard<'_, Block<N>>
         requires { k < self.now }
         ensures { IsExact (N.net (mutex_guard_value result).level) (mutex_guard_value result) }
