@@ -10,3 +10,4 @@ pub mod Probe
 pub mod Build
 pub mod Progress
 pub mod ProgressLaws
+pub mod Sizes

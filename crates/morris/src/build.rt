@@ -16,8 +16,8 @@ ghost use Rattle.morris.specs.Build.{AnswersBuild, AnswersBuildOn, AnswersBuilt,
 use crate::boards::{NamedBoard, read_board};
 use crate::fault::Fault;
 use crate::pairs::read_pair;
-use crate::progress::{Nowhere, Progress, announce_making};
-use crate::size::Team;
+use crate::progress::{Nowhere, Progress, announce};
+use crate::size::{Team, Way};
 use morris_board::board::{Board, Geometry};
 use morris_board::grid::Grid;
 use morris_board::nine::Nine;
@@ -201,7 +201,7 @@ fn build_below<B: Board, R: Threads + Wait + Sync, C: Clock, E: Sink>(
     ensures told { Becomes E.contents E.failures progress.old progress.new }
 {
     let mut shelf = Shelf::new(alloc)?;
-    announce_making(alloc, pair, layout, Some(team), progress);
+    announce(alloc, pair, layout, Way::Built(team), progress);
     for below in pair.below() {
         build_onto(rt, alloc, &mut shelf, layout, below, team, progress)?;
     }

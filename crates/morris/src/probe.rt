@@ -10,7 +10,8 @@ ghost use Rattle.morris.specs.Verify.{input_of};
 
 use crate::boards::{NamedBoard, read_board};
 use crate::fault::Fault;
-use crate::progress::{Nowhere, Progress, announce_reading};
+use crate::progress::{Nowhere, Progress, announce};
+use crate::size::Way;
 use morris_board::board::Board;
 use morris_board::grid::Grid;
 use morris_board::nine::Nine;
@@ -169,7 +170,7 @@ fn put_verified<B: Board, C: Clock, E: Sink>(
 {
     if let Some(pair) = asked {
         // The other files are taken to be in the layout of the first.
-        announce_reading(alloc, *pair, raw.layout(), progress);
+        announce(alloc, *pair, raw.layout(), Way::Read, progress);
     }
     let exact = verify_over(shelf, raw)?;
     progress.end_pair(exact.pair(), exact.len());

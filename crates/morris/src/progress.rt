@@ -5,7 +5,7 @@ ghost use Rattle.morris_probe.specs.Reports.{WentOut};
 ghost use Rattle.morris.specs.Progress.{Becomes, lent_of, news_line, sink_of, tells_of};
 
 use crate::print_progress::put_news_line;
-use crate::size::{Size, Team};
+use crate::size::{Size, Way};
 use morris_board::board::Geometry;
 use morris_board::streams::buffered::Buffered;
 use morris_board::streams::{Failed, Sink};
@@ -92,18 +92,6 @@ impl<'a, R: Clock, E: Sink> Progress<'a, R, E> {
             done: 0,
             whole: 0,
         }
-    }
-
-    /// Whether anything is told.
-    pub fn tells(&self) -> bool
-        ensures { result ≡ tells_of self.now }
-    {
-        self.tells
-    }
-
-    /// Whether it was told how much there is to do.
-    pub fn has_begun(&self) -> bool {
-        self.has_begun
     }
 
     /// Tells how many entries there are in all, and about how much memory they take.
@@ -200,41 +188,23 @@ impl<'a, R: Clock, E: Sink> Watch for Progress<'a, R, E> {
     ghost joins = { λ first midway last once again. Becomes-joins E.contents E.failures first midway last once again };
 }
 
-/// Tells how much there is to do where the tables of all pairs below a pair are made in a layout,
-/// by a team or without one.
-/// Where memory to count them runs out it isn't told; the command then asks for memory itself.
+/// Tells how much there is to do where the tables of all pairs below a pair come about in this way,
+/// unless it was told before. Where memory to count them runs out it isn't told; the command then
+/// asks for memory itself.
 #[tactic(auto, using(crate::specs::ProgressLaws::told_laws))]
-pub fn announce_making<B: Geometry, R: Clock, E: Sink>(
+pub fn announce<B: Geometry, R: Clock, E: Sink>(
     alloc: Global,
     pair: Pair<B>,
     layout: Layout,
-    team: Option<Team>,
+    way: Way,
     progress: &mut Progress<'_, R, E>,
 )
     ensures { Becomes E.contents E.failures progress.old progress.new }
 {
-    if !progress.tells() {
+    if !progress.tells || progress.has_begun {
         return;
     }
-    if let Ok(size) = Size::of_made(alloc, pair, layout, team) {
-        progress.begin(size);
-    }
-}
-
-/// The same where they are read in a layout, unless it was told before.
-#[tactic(auto, using(crate::specs::ProgressLaws::told_laws))]
-pub fn announce_reading<B: Geometry, R: Clock, E: Sink>(
-    alloc: Global,
-    pair: Pair<B>,
-    layout: Layout,
-    progress: &mut Progress<'_, R, E>,
-)
-    ensures { Becomes E.contents E.failures progress.old progress.new }
-{
-    if !progress.tells() || progress.has_begun() {
-        return;
-    }
-    if let Ok(size) = Size::of_read(alloc, pair, layout) {
+    if let Ok(size) = Size::of(alloc, pair, layout, way) {
         progress.begin(size);
     }
 }

@@ -1,7 +1,7 @@
 // What is told of how far a command is, and that nothing else changes by it.
 use crate::command::command;
 use crate::progress::{News, Progress, SoFar};
-use crate::size::{Size, Team};
+use crate::size::{Size, Team, Way};
 use crate::stats::stats_told;
 use crate::tests::{Answer, Narrow, answer_to};
 use crate::verify_tests::file;
@@ -214,17 +214,17 @@ fn entries_are_counted_as_the_tables_have_them(rt: HostRuntime) -> Result<(), Fa
     let pair = Pair::<Nine>::new(4, 3)?;
     let whole = 2_691_920 + 24_227_280;
     assert_eq!(rt;
-        Size::of_made(rt.alloc(), pair, Layout::Full, None)?.entries,
+        Size::of(rt.alloc(), pair, Layout::Full, Way::Swept)?.entries,
         whole
     );
     assert_eq!(rt;
-        Size::of_read(rt.alloc(), pair, Layout::Full)?.entries,
+        Size::of(rt.alloc(), pair, Layout::Full, Way::Read)?.entries,
         whole
     );
     let classes = 210_140 + 1_808_610;
-    let made = Size::of_made(rt.alloc(), pair, Layout::Classes, None)?;
+    let made = Size::of(rt.alloc(), pair, Layout::Classes, Way::Swept)?;
     assert_eq!(rt; made.entries, classes);
-    let mixed = Size::of_verified(pair, 1_808_610).entries;
+    let mixed = Size::of(rt.alloc(), pair, Layout::Full, Way::Verified(1_808_610))?.entries;
     assert_eq!(rt; mixed, 2_691_920 + 1_808_610);
     Ok(())
 }
@@ -235,15 +235,15 @@ fn entries_are_counted_as_the_tables_have_them(rt: HostRuntime) -> Result<(), Fa
 fn memory_is_that_of_the_table_that_takes_most(rt: HostRuntime) -> Result<(), Fail> {
     let pair = Pair::<Nine>::new(4, 3)?;
     let below = 9_000_000 + 2 * 2_691_920;
-    let swept = Size::of_made(rt.alloc(), pair, Layout::Full, None)?;
+    let swept = Size::of(rt.alloc(), pair, Layout::Full, Way::Swept)?;
     assert_eq!(rt; swept.bytes, below + 6 * 24_227_280);
     let team = Team {
         workers: 2,
         blocks: 64,
     };
-    let built = Size::of_made(rt.alloc(), pair, Layout::Full, Some(team))?;
+    let built = Size::of(rt.alloc(), pair, Layout::Full, Way::Built(team))?;
     assert_eq!(rt; built.bytes, below + 9 * 24_227_280);
-    let read = Size::of_read(rt.alloc(), pair, Layout::Full)?;
+    let read = Size::of(rt.alloc(), pair, Layout::Full, Way::Read)?;
     assert_eq!(rt; read.bytes, below + 2 * 24_227_280);
     Ok(())
 }

@@ -1,4 +1,6 @@
 //! How much a command has to do: how many entries there are, and about how much memory it takes.
+ghost use Rattle.std.specs.Prelude.{◌≡◌, ◌+◌, ◌^◌, ◌<◌, IfOk};
+ghost use Rattle.morris.specs.Sizes.{entries_below, entries_of, is_same};
 
 use morris_board::board::Geometry;
 use morris_index::class_pair::ClassPair;
@@ -21,6 +23,19 @@ pub struct Team {
     pub blocks: usize,
 }
 
+/// How the tables of a pair and of those below it come about, one after the other.
+#[derive(Clone, Copy, Debug, PartialEq, Eq)]
+pub enum Way {
+    /// They are swept, on one thread.
+    Swept,
+    /// A team builds them.
+    Built(Team),
+    /// They are read from files.
+    Read,
+    /// Those below are swept, and the pair's own, of so many entries, was read.
+    Verified(u64),
+}
+
 /// So many entries, and about so many bytes of memory to find them, table by table.
 #[derive(Clone, Copy, Debug, PartialEq, Eq)]
 pub struct Size {
@@ -37,8 +52,10 @@ impl Size {
         bytes: BASE,
     };
 
-    /// With a table of so many entries more, which takes so many bytes while it is made.
-    fn with(self, entries: u64, bytes: u64) -> Size {
+    /// With a table of so many entries more, which takes so many bytes while it comes about.
+    fn with(self, entries: u64, bytes: u64) -> Size
+        ensures { self.entries + entries < 2 ^ 64 → result.entries ≡ self.entries + entries }
+    {
         let kept = KEPT.saturating_mul(self.entries);
         let at_once = kept.saturating_add(bytes).saturating_add(BASE);
         Size {
@@ -47,65 +64,65 @@ impl Size {
         }
     }
 
-    /// Of the tables of all pairs below a pair, its own among them, that are made in a layout: by
-    /// a team, or swept on one thread where there is none.
+    /// Of the tables of all pairs below a pair in a layout, its own among them.
     ///
     /// # Errors
     /// [`AllocError`] where memory runs out, which isn't asked for in layout `Full`.
-    pub fn of_made<B: Geometry>(
+    pub fn of<B: Geometry>(
         alloc: Global,
         pair: Pair<B>,
         layout: Layout,
-        team: Option<Team>,
-    ) -> Result<Size, AllocError> {
+        way: Way,
+    ) -> Result<Size, AllocError>
+        // As far as 64 bits hold the number, of which no board needs more than 45.
+        ensures { entries_below B.shape B.POINTS layout pair way < 2 ^ 64
+            → IfOk result (λ size. size.entries ≡ entries_below B.shape B.POINTS layout pair way) }
+    {
         let mut size = Size::NONE;
         for below in pair.below() {
-            let entries = count_entries(alloc, below, layout)?;
-            size = size.with(entries, bytes_of_making(below, entries, team));
-        }
-        Ok(size)
-    }
-
-    /// Of those below a pair, which are swept in layout `Full`, and of its own, which is there and
-    /// has so many entries.
-    pub fn of_verified<B: Geometry>(pair: Pair<B>, entries: u64) -> Size {
-        let mut size = Size::NONE;
-        for below in pair.below() {
-            if below != pair {
-                let entries = below.size();
-                size = size.with(entries, bytes_of_making(below, entries, None));
-            }
-        }
-        size.with(entries, KEPT.saturating_mul(entries))
-    }
-
-    /// Of all of them, which are there in a layout.
-    ///
-    /// # Errors
-    /// [`AllocError`] where memory runs out, which isn't asked for in layout `Full`.
-    pub fn of_read<B: Geometry>(
-        alloc: Global,
-        pair: Pair<B>,
-        layout: Layout,
-    ) -> Result<Size, AllocError> {
-        let mut size = Size::NONE;
-        for below in pair.below() {
-            let entries = count_entries(alloc, below, layout)?;
-            size = size.with(entries, KEPT.saturating_mul(entries));
+            let entries = count_entries(alloc, below, pair, layout, way)?;
+            let bytes = bytes_of(below, pair, entries, way);
+            size = size.with(entries, bytes);
         }
         Ok(size)
     }
 }
 
-/// How many entries the table of a pair has in a layout.
+/// Whether two pairs have the same numbers of stones.
+fn is_same<B: Geometry>(a: Pair<B>, b: Pair<B>) -> bool
+    ensures { result ≡ is_same a b }
+{
+    a.greater() == b.greater() && a.lesser() == b.lesser()
+}
+
+/// How many entries the table of a pair has in a layout, where it is one of those below `last`.
 fn count_entries<B: Geometry>(
     alloc: Global,
     pair: Pair<B>,
+    last: Pair<B>,
     layout: Layout,
-) -> Result<u64, AllocError> {
+    way: Way,
+) -> Result<u64, AllocError>
+    ensures { IfOk result (λ count. count ≡ entries_of B.shape B.POINTS layout last way pair) }
+{
+    if let Way::Verified(entries) = way {
+        if is_same(pair, last) {
+            return Ok(entries);
+        }
+    }
     match layout {
         Layout::Full => Ok(pair.size()),
         Layout::Classes => Ok(ClassPair::make(alloc, pair)?.size()),
+    }
+}
+
+/// About how many bytes the table of a pair with so many entries takes while it comes about.
+fn bytes_of<B: Geometry>(pair: Pair<B>, last: Pair<B>, entries: u64, way: Way) -> u64 {
+    match way {
+        Way::Swept => bytes_of_making(pair, entries, None),
+        Way::Built(team) => bytes_of_making(pair, entries, Some(team)),
+        Way::Verified(_) if !is_same(pair, last) => bytes_of_making(pair, entries, None),
+        Way::Read | Way::Verified(_) => KEPT.saturating_mul(entries),
     }
 }
 

@@ -13,7 +13,8 @@ use crate::boards::{NamedBoard, read_board};
 use crate::fault::Fault;
 use crate::pairs::read_pair;
 use crate::print_stats::put_stats;
-use crate::progress::{Nowhere, Progress, announce_making};
+use crate::progress::{Nowhere, Progress, announce};
+use crate::size::Way;
 use morris_board::board::{Board, Geometry};
 use morris_board::grid::Grid;
 use morris_board::nine::Nine;
@@ -137,7 +138,7 @@ fn sweep_below<B: Board, C: Clock, E: Sink>(
     ensures told { Becomes E.contents E.failures progress.old progress.new }
 {
     let mut shelf = Shelf::new(alloc)?;
-    announce_making(alloc, pair, Layout::Full, None, progress);
+    announce(alloc, pair, Layout::Full, Way::Swept, progress);
     for smaller in pair.below() {
         sweep_onto(alloc, &mut shelf, smaller, progress)?;
     }

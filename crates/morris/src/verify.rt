@@ -9,8 +9,8 @@ ghost use Rattle.morris.specs.Verify.{AnswersInput, AnswersVerify, Input, IsUnve
 use crate::boards::{NamedBoard, read_board};
 use crate::fault::Fault;
 use crate::print_verified::put_verified;
-use crate::progress::{Nowhere, Progress};
-use crate::size::Size;
+use crate::progress::{Nowhere, Progress, announce};
+use crate::size::Way;
 use crate::stats::sweep_before;
 use morris_board::board::{Board, Geometry};
 use morris_board::grid::Grid;
@@ -19,6 +19,7 @@ use morris_board::streams::buffered::Buffered;
 use morris_board::streams::{Failed, Sink, Source};
 use morris_index::pair::Pair;
 use morris_table::exact::Exact;
+use morris_table::layout::Layout;
 use morris_table::raw::Raw;
 use morris_table::reading::read_table;
 use morris_table::verify::VerifyFault;
@@ -125,7 +126,8 @@ fn believe<B: Board, C: Clock, E: Sink>(
     ensures refused { IfErr result (IsUnverified B.shape raw) }
     ensures told { Becomes E.contents E.failures progress.old progress.new }
 {
-    progress.begin(Size::of_verified(raw.pair(), raw.len()));
+    let way = Way::Verified(raw.len());
+    announce(alloc, raw.pair(), Layout::Full, way, progress);
     let shelf = sweep_before(alloc, raw.pair(), progress)?;
     match raw.verify(&shelf) {
         Ok(exact) => {

@@ -26,7 +26,7 @@ loop-below-preserved g c = record {
   within =
       one_within_more g.B.Geometry.shape c.loop-below.yielded c.in-Some.below c.loop-below.invariant.within c.in_ok-build_onto.ensures.within;
   told =
-      Becomes-joins g.E.Sink.contents g.E.Sink.failures c.announce_making.new.progress c.loop-below.progress c.build_onto.new.progress
+      Becomes-joins g.E.Sink.contents g.E.Sink.failures c.announce.new.progress c.loop-below.progress c.build_onto.new.progress
       c.loop-below.invariant.told c.build_onto.ensures.told;
 }
 
@@ -41,6 +41,6 @@ returns g c =
       refused = tt;
       unwritten = tt;
       told =
-          Becomes-joins g.E.Sink.contents g.E.Sink.failures c.args.progress.now c.announce_making.new.progress c.loop-below.progress
-          c.announce_making.ensures c.loop-below.invariant.told;
+          Becomes-joins g.E.Sink.contents g.E.Sink.failures c.args.progress.now c.announce.new.progress c.loop-below.progress
+          c.announce.ensures c.loop-below.invariant.told;
     }

@@ -27,7 +27,7 @@ loop-smaller-preserved g c = record {
   within =
       one_within_more g.B.Geometry.shape c.loop-smaller.yielded c.in-Some.smaller c.loop-smaller.invariant.within c.in_ok-sweep_onto.ensures.within;
   told =
-      Becomes-joins g.E.Sink.contents g.E.Sink.failures c.announce_making.new.progress c.loop-smaller.progress c.sweep_onto.new.progress
+      Becomes-joins g.E.Sink.contents g.E.Sink.failures c.announce.new.progress c.loop-smaller.progress c.sweep_onto.new.progress
       c.loop-smaller.invariant.told c.sweep_onto.ensures.told;
 }
 
