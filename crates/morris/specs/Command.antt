@@ -6,18 +6,18 @@ use Rattle.std.specs.Io.KnownBytes.{Keeps}
 use Rattle.clap.specs.Words.{IsAmong, Kinds, Row, Text}
 use Rattle.clap.specs.declared.error.kind.ErrorKind.{ErrorKind}
 use Rattle.clap.specs.declared.error.kind.ErrorKind.TheVariants as kind
-use Rattle.morris.specs.declared.fault.Fault.{Fault}
-use Rattle.morris.specs.declared.fault.Fault.TheVariants as fault
-use Rattle.morris.specs.Faults.{Prints}
-use Rattle.morris.specs.Progress.{Tells}
-use Rattle.morris.specs.Words.{AsksFor, faults_of, named_by}
-use Rattle.morris.specs.declared.words.Request.{Request}
-use Rattle.morris.specs.declared.words.Request.TheVariants.{Look, Stats, Build, Verify, Probe}
-use Rattle.morris.specs.Look.{Looks, board_of}
-use Rattle.morris.specs.Stats.{AnswersStats}
-use Rattle.morris.specs.Build.{AnswersBuild}
-use Rattle.morris.specs.Probe.{AnswersProbe}
-use Rattle.morris.specs.Verify.{AnswersVerify, Input}
+use Rattle.morris_commands.specs.declared.fault.Fault.{Fault}
+use Rattle.morris_commands.specs.declared.fault.Fault.TheVariants as fault
+use Rattle.morris_commands.specs.Faults.{Prints}
+use Rattle.morris_commands.specs.Progress.{Tells}
+use Rattle.morris_words.specs.Words.{AsksFor, faults_of, named_by}
+use Rattle.morris_words.specs.declared.words.Request.{Request}
+use Rattle.morris_words.specs.declared.words.Request.TheVariants.{Look, Stats, Build, Verify, Probe}
+use Rattle.morris_commands.specs.Look.{Looks, board_of}
+use Rattle.morris_commands.specs.Stats.{AnswersStats}
+use Rattle.morris_commands.specs.Build.{AnswersBuild}
+use Rattle.morris_commands.specs.Probe.{AnswersProbe}
+use Rattle.morris_commands.specs.Verify.{AnswersVerify, Input}
 
 -- the words have a mistake, and not a request for help or for the version alone
 abbrev pub HasMistake : Kinds → Type 0

@@ -1,13 +1,1 @@
-pub mod Faults
-pub mod Look
-pub mod BoardNames
-pub mod PairText
-pub mod Stats
-pub mod Verify
-pub mod Words
 pub mod Command
-pub mod Probe
-pub mod Build
-pub mod Progress
-pub mod ProgressLaws
-pub mod Sizes

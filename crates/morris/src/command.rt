@@ -2,25 +2,25 @@
 ghost use Rattle.std.specs.Prelude.{◌≡◌, ◌≢◌, ◌-◌, ◌^◌, ◌<◌, ◌≤◌, [], IsTrue, false, map, if◌then◌else◌};
 ghost use Rattle.morris_board.specs.Streams.{CountsFailure};
 ghost use Rattle.morris_probe.specs.Reports.{WentOut};
-ghost use Rattle.morris.specs.Faults.{CountsWrites, Prints, Reports, ReportsFault, ReportsText, fault_line};
-ghost use Rattle.morris.specs.declared.fault.Fault.TheVariants as fault;
-ghost use Rattle.morris.specs.Progress.{Becomes, Tells};
-ghost use Rattle.morris.specs.Words.{IsInRange, faults_of, named_by};
-ghost use Rattle.morris.specs.Verify.{input_of};
+ghost use Rattle.morris_commands.specs.Faults.{CountsWrites, Prints, Reports, ReportsFault, ReportsText, fault_line};
+ghost use Rattle.morris_commands.specs.declared.fault.Fault.TheVariants as fault;
+ghost use Rattle.morris_commands.specs.Progress.{Becomes, Tells};
+ghost use Rattle.morris_words.specs.Words.{IsInRange, faults_of, named_by};
+ghost use Rattle.morris_commands.specs.Verify.{input_of};
 ghost use Rattle.morris.specs.Command.{Answers, AsksToRead, Ends, HasMistake, TellsProgress, asks_progress, not_text, status_of, takes_input};
 
-use crate::build::build_told;
-use crate::fault::Fault;
-use crate::look::look;
-use crate::print_fault::put_fault;
-use crate::probe::probe_told;
-use crate::progress::Progress;
-use crate::size::Team;
-use crate::stats::stats_told;
-use crate::verify::verify_told;
-use crate::words::{Refusal, Request, read_words};
 use morris_board::streams::buffered::Buffered;
 use morris_board::streams::{Failed, Sink, Source, put};
+use morris_commands::build::build_told;
+use morris_commands::fault::Fault;
+use morris_commands::look::look;
+use morris_commands::print_fault::put_fault;
+use morris_commands::probe::probe_told;
+use morris_commands::progress::Progress;
+use morris_commands::size::Team;
+use morris_commands::stats::stats_told;
+use morris_commands::verify::verify_told;
+use morris_words::words::{Refusal, Request, read_words};
 use std::alloc::Global;
 use std::convert::AsStr;
 use std::sync::Wait;
@@ -95,7 +95,7 @@ pub fn refuse_words<E: Sink>(out_of_memory: bool, errors: &mut E) -> u8
 
 /// Runs the command of a request, and tells on `errors` how far it is, where the request asks for
 /// it.
-#[tactic(auto, using(crate::specs::ProgressLaws::told_laws))]
+#[tactic(auto, using(morris_commands::specs::ProgressLaws::told_laws))]
 fn run_told<R: Threads + Wait + Clock + Sync, I: Source, O: Sink, E: Sink>(
     rt: &R,
     alloc: Global,
@@ -131,7 +131,7 @@ fn asks_progress(request: &Request<'_>) -> bool
 }
 
 /// Runs the command of a request, which tells `progress` how far it is.
-#[tactic(auto, using(crate::specs::ProgressLaws::told_laws))]
+#[tactic(auto, using(morris_commands::specs::ProgressLaws::told_laws))]
 fn run<R: Threads + Wait + Sync, I: Source, O: Sink, C: Clock, E: Sink>(
     rt: &R,
     alloc: Global,

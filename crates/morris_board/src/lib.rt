@@ -10,5 +10,3 @@ pub mod points;
 pub mod position;
 pub mod streams;
 mod symmetries;
-#[cfg(test)]
-mod tests;

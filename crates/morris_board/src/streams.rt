@@ -244,6 +244,3 @@ pub fn put_number<S: Sink>(sink: &mut S, sent: u64, number: u64) -> Result<u64, 
     let mut buffer = Buffer::new();
     put(sink, sent, buffer.format(number).as_bytes())
 }
-
-#[cfg(test)]
-mod tests;

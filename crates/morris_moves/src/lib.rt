@@ -7,5 +7,3 @@ pub mod look_ahead;
 pub mod rules;
 pub mod search;
 pub mod step;
-#[cfg(test)]
-mod tests;

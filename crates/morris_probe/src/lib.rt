@@ -2,11 +2,7 @@
 #![tactic(auto)]
 
 pub mod best;
-#[cfg(test)]
-mod example;
 pub mod fault;
 pub mod print;
 pub mod report;
-#[cfg(test)]
-mod tests;
 pub mod value;

@@ -153,30 +153,3 @@ fn count_codes(alloc: Global, codes: &[u16]) -> Result<Vec<u64>, AllocError>
     }
     Ok(tallies)
 }
-
-#[cfg(test)]
-mod tests {
-    use super::*;
-    use std::process::Abort;
-    use std::test::Fail;
-
-    #[test]
-    fn codes_say_values(rt: HostRuntime) -> Result<(), Fail> {
-        assert_eq!(rt; value_of_code(0), Value::Draw);
-        assert_eq!(rt; value_of_code(1), Value::Lost(0));
-        assert_eq!(rt; value_of_code(2), Value::Won(1));
-        assert_eq!(rt; value_of_code(3), Value::Lost(2));
-        assert_eq!(rt; value_of_code(65_534), Value::Won(65_533));
-        assert_eq!(rt; value_of_code(65_535), Value::Lost(65_534));
-        Ok(())
-    }
-
-    #[test]
-    fn codes_are_counted(rt: HostRuntime) -> Result<(), Fail> {
-        let tallies = count_codes(rt.alloc(), &[0, 2, 2, 4, 0, 0])?;
-        assert_eq!(rt; tallies.as_slice(), [3, 0, 2, 0, 1].as_slice());
-        let none = count_codes(rt.alloc(), &[])?;
-        assert_eq!(rt; none.as_slice(), [0].as_slice());
-        Ok(())
-    }
-}

@@ -1,22 +1,28 @@
 //! The calls on graphs and their blocks.
-use crate::samples::{Pairs, TwoNodes, advance, blocks_after};
 use crate::told::{mark, or_refused, tell};
+use morris_samples::{PairGraph, Pairs, advance, blocks_after};
 use morris_wave::{Batch, Block, Cut, Graph, gather, scatter, sweep};
 use morris_workers::{Tickets, Yard};
 use std::alloc::Global;
 
+/// Node 1 is won in 41 and node 0 lost in 42.
+const PAIR: PairGraph = PairGraph {
+    level: 0,
+    refuses: false,
+};
+
 pub(crate) fn sweeps(rt: &impl Print, alloc: Global) -> Option<()> {
     mark(alloc)?;
-    let first = sweep(alloc, &TwoNodes);
+    let first = sweep(alloc, &PAIR);
     mark(alloc)?;
     tell(rt, "sweep", "first", &first)?;
-    tell(rt, "sweep", "again", &sweep(alloc, &TwoNodes))
+    tell(rt, "sweep", "again", &sweep(alloc, &PAIR))
 }
 
 pub(crate) fn makes_a_block(rt: &impl Print, alloc: Global) -> Option<()> {
     let cut = Cut::new(2, 2).ok()?;
     mark(alloc)?;
-    let first = Block::make(alloc, &TwoNodes, &cut, 1);
+    let first = Block::make(alloc, &PAIR, &cut, 1);
     mark(alloc)?;
     tell(
         rt,
@@ -24,7 +30,7 @@ pub(crate) fn makes_a_block(rt: &impl Print, alloc: Global) -> Option<()> {
         "first",
         &or_refused(first).map(|block| shown(&block)),
     )?;
-    let again = Block::make(alloc, &TwoNodes, &cut, 1);
+    let again = Block::make(alloc, &PAIR, &cut, 1);
     tell(
         rt,
         "make",
@@ -50,7 +56,7 @@ fn shown(block: &Block<Pairs>) -> (u16, bool, u32, u64, u64, u64) {
 
 /// Block 1 at wave 42, with no source applied: node 1 is fresh there.
 fn fresh_blocks(alloc: Global) -> Option<Vec<Block<Pairs>>> {
-    let mut blocks = blocks_after(alloc, 41)?;
+    let mut blocks = blocks_after(alloc, &PAIR, 2, 41)?;
     advance(&mut blocks)?;
     Some(blocks)
 }
@@ -98,22 +104,22 @@ fn tell_batches(
 pub(crate) fn scatters(rt: &impl Print, alloc: Global) -> Option<()> {
     let blocks = fresh_blocks(alloc)?;
     let block = blocks.get(1)?;
-    if block.level() != TwoNodes.level() {
+    if block.level() != PAIR.level() {
         return None;
     }
     let fresh = block.fresh(alloc).ok()?;
     mark(alloc)?;
-    let first = scatter(alloc, &TwoNodes, &fresh);
+    let first = scatter(alloc, &PAIR, &fresh);
     mark(alloc)?;
     tell_batches(rt, "first", &or_refused(first))?;
     println!(rt; "scatter after: {:?} {:?}", shown(block), fresh.nodes()).ok()?;
-    let again = scatter(alloc, &TwoNodes, &fresh);
+    let again = scatter(alloc, &PAIR, &fresh);
     tell_batches(rt, "again", &or_refused(again))
 }
 
 pub(crate) fn gathers(rt: &impl Print, alloc: Global) -> Option<()> {
     let cut = Cut::new(2, 2).ok()?;
-    let blocks = blocks_after(alloc, 43)?;
+    let blocks = blocks_after(alloc, &PAIR, 2, 43)?;
     mark(alloc)?;
     let first = gather(alloc, 0, 43, &cut, &blocks);
     mark(alloc)?;
@@ -127,8 +133,8 @@ fn given_back(yard: Yard<Pairs>) -> usize {
 }
 
 pub(crate) fn makes_a_yard(rt: &impl Print, alloc: Global) -> Option<()> {
-    let blocks = blocks_after(alloc, 0)?;
-    let others = blocks_after(alloc, 0)?;
+    let blocks = blocks_after(alloc, &PAIR, 2, 0)?;
+    let others = blocks_after(alloc, &PAIR, 2, 0)?;
     mark(alloc)?;
     let first = Yard::new(alloc, blocks);
     mark(alloc)?;

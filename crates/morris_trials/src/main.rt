@@ -1,4 +1,4 @@
-//! What the libraries do under trouble: want of memory, and workers that are sent away.
+//! What the libraries do where memory is wanting.
 //!
 //! The program makes each call that takes memory by itself: it prints what the call answers, how it
 //! leaves what it works on, and what it answers then.
@@ -11,9 +11,6 @@
 #![tactic(auto)]
 
 mod engine;
-#[cfg(test)]
-mod gates_tests;
-mod samples;
 mod tables;
 mod threads;
 mod told;

@@ -11,4 +11,3 @@ pub mod Batches
 pub mod Answering
 pub mod Delivery
 pub mod Gathering
-pub mod Samples

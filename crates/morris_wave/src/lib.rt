@@ -8,21 +8,13 @@ mod delivery;
 mod division;
 mod due;
 mod engine;
-#[cfg(test)]
-mod engine_tests;
 mod falls;
 mod gathering;
-#[cfg(test)]
-mod gathering_tests;
 mod listed;
 mod network;
 mod nodes;
 mod reading;
-#[cfg(test)]
-mod samples;
 mod solver;
-#[cfg(test)]
-mod solver_tests;
 mod stretch;
 
 pub use delivery::{scatter, scatter_reusing};

@@ -9,22 +9,12 @@ mod draws;
 mod fault;
 mod gate;
 mod making;
-#[cfg(test)]
-mod samples;
 mod solver;
-#[cfg(test)]
-mod solver_tests;
 mod survey;
 mod tickets;
-#[cfg(test)]
-mod tickets_tests;
 mod watch;
-#[cfg(test)]
-mod watch_tests;
 mod wave;
 mod yard;
-#[cfg(test)]
-mod yard_tests;
 
 pub use fault::SolveFault;
 pub use gate::{Gate, OpenGate, Turn};

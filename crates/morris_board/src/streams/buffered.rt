@@ -137,6 +137,3 @@ impl<'a, S: Sink> Buffered<'a, S> {
         }
     }
 }
-
-#[cfg(test)]
-mod tests;

@@ -4,11 +4,11 @@ use Rattle.std.specs.Prelude.{IfOk, String}
 use Rattle.std.proofs.KnownBytes.{Keeps-refl}
 use Rattle.clap.specs.Words.{Text}
 use Rattle.morris.specs.Command.{AsksToRead, Ends, HasMistake, TellsProgress, status_of, texts_of}
-use Rattle.morris.specs.Faults.{Reports}
-use Rattle.morris.specs.Verify.{Input, input_of}
-use Rattle.morris.specs.Words.{faults_of, named_by}
-use Rattle.morris.specs.declared.fault.Fault.{Fault}
-use Rattle.morris.specs.declared.fault.Fault.TheVariants as fault
+use Rattle.morris_commands.specs.Faults.{Reports}
+use Rattle.morris_commands.specs.Verify.{Input, input_of}
+use Rattle.morris_words.specs.Words.{faults_of, named_by}
+use Rattle.morris_commands.specs.declared.fault.Fault.{Fault}
+use Rattle.morris_commands.specs.declared.fault.Fault.TheVariants as fault
 use Rattle.morris.proofs.entry.answer_words.Goals as goal
 
 of_ok : {T E : Type 0} (r : Result T E) (x : T) (P : T → Type 0) → r ≡ Ok x → P x → IfOk r P

@@ -1,0 +1,155 @@
+"""Builds crates of the repository from their proofs, each once those below it are built, several
+at a time where there are processors and memory for them.
+
+    python3 ci/proving.py NAME LOG    builds a program with all that it stands on, for ./morris
+
+It says on standard error which crate it is at; what rt says goes to the file LOG, and that of a
+crate that isn't proved stands last there.
+"""
+
+import os
+import re
+import subprocess
+import sys
+import tempfile
+import time
+
+ROOT = os.path.dirname(os.path.dirname(os.path.abspath(__file__)))
+# What the proof of a crate takes with one job, about, and each job more, in bytes.
+ONE_JOB = 3_000_000_000
+MORE_JOBS = 1_500_000_000
+# More jobs are no gain.
+MOST_JOBS = 4
+
+
+def listed():
+    """The repository's crates in the order of crates.txt, each with those that it stands on."""
+    rows = {}
+    with open(f"{ROOT}/crates.txt", encoding="utf-8") as it:
+        for line in it:
+            name, _, uses = line.partition("#")[0].partition(":")
+            if name.split():
+                rows[name.split()[0]] = uses.replace(",", " ").split()
+    return {name: [it for it in uses if it in rows] for name, uses in rows.items()}
+
+
+def crates_below(name):
+    """All crates that a crate stands on, each after those that it stands on itself."""
+    rows, found = listed(), []
+    for it in rows[name]:
+        found += [low for low in [*crates_below(it), it] if low not in found]
+    return found
+
+
+def free_memory():
+    """How much memory is free, in bytes."""
+    with open("/proc/meminfo", encoding="utf-8") as it:
+        return 1024 * int(re.search(r"MemAvailable:\s+(\d+)", it.read())[1])
+
+
+class Proofs:
+    """The crates that are being built, and those that are."""
+
+    def __init__(self, crates):
+        self.left = list(crates)
+        self.built = set()
+        # The process and the file of its output, and the number of jobs, by crate.
+        self.running = {}
+        self.memory = free_memory()
+        self.processors = len(os.sched_getaffinity(0))
+
+    def ready(self):
+        """The crates that can begin: those below are built, and no other run of rt is at work in
+        one of them, since rt locks them all."""
+        busy = {low for it in self.running for low in [*crates_below(it), it]}
+        found = []
+        for it in self.left:
+            mine = {*crates_below(it), it}
+            if mine - {it} <= self.built and not mine & busy:
+                found.append(it)
+                busy |= mine
+        return found
+
+    def begin(self):
+        """Begins what can, as far as processors and memory go, and gives their names."""
+        ready, begun = self.ready(), []
+        for place, crate in enumerate(ready):
+            running = [jobs for _, _, jobs in self.running.values()]
+            idle = self.processors - sum(running)
+            room = self.memory - sum(ONE_JOB + (it - 1) * MORE_JOBS for it in running)
+            if running and (idle < 1 or room < ONE_JOB):
+                break
+            # The lowest gets what remains: the longest row of others waits for it.
+            jobs = min(MOST_JOBS, -(-idle // (len(ready) - place)))
+            jobs = max(1, min(jobs, 1 + (room - ONE_JOB) // MORE_JOBS))
+            # A crate that is alone has as many jobs as rt itself chooses.
+            alone = not running and len(ready) == 1
+            self.running[crate] = (*started(crate, None if alone else jobs), jobs)
+            self.left.remove(crate)
+            begun.append(crate)
+        return begun
+
+    def ended(self):
+        """Waits until one has ended, and gives its name, its status and what rt said."""
+        while True:
+            for crate, (process, said, _) in self.running.items():
+                if process.poll() is not None:
+                    del self.running[crate]
+                    with said:
+                        said.seek(0)
+                        return crate, process.returncode, said.read()
+            time.sleep(0.1)
+
+    def stop(self):
+        for process, said, _ in self.running.values():
+            process.terminate()
+            process.wait()
+            said.close()
+
+
+def started(crate, jobs):
+    """A run of rt that builds a crate, and the file of its output."""
+    folder = f"{ROOT}/crates/{crate}"
+    is_program = os.path.isfile(f"{folder}/src/main.rt")
+    words = ["rt", "run"] if is_program else ["rt", "lib"]
+    words += [] if jobs is None else ["--jobs", str(jobs)]
+    words += ["--", "--help"] if is_program else []
+    said = tempfile.TemporaryFile()
+    how = {"cwd": folder, "stdin": subprocess.DEVNULL, "stdout": said, "stderr": said}
+    return subprocess.Popen(words, **how), said
+
+
+def prove(crates, tell, log=None):
+    """Builds these crates, among which are all that they stand on, the lowest first. Tells which it
+    is at, writes what rt says to a file, and gives whether all are built."""
+    order = sorted(crates, key=lambda it: len(crates_below(it)))
+    proofs, number = Proofs(order), 0
+    try:
+        while proofs.left or proofs.running:
+            for crate in proofs.begin():
+                number += 1
+                tell(f"proving crate {number} of {len(order)}: {crate}")
+            crate, status, said = proofs.ended()
+            (log or sys.stdout.buffer).write(said)
+            (log or sys.stdout.buffer).flush()
+            if status:
+                tell(f"{crate} is not proved")
+                return False
+            proofs.built.add(crate)
+        return True
+    finally:
+        proofs.stop()
+
+
+def main():
+    name, log = sys.argv[1:]
+    say = lambda text: print(f"morris: {text}", file=sys.stderr, flush=True)
+    with open(log, "wb") as it:
+        try:
+            return 0 if prove([*crates_below(name), name], say, it) else 1
+        except KeyboardInterrupt:
+            return 130
+
+
+if __name__ == "__main__":
+    sys.exit(main())

@@ -1,0 +1,46 @@
+use Rattle.std.proofs.Common.{◌≡◌, ◌∷◌, [], ◌++◌, sym, ap, subst, ◌∙◌, append_assoc}
+use Rattle.std.specs.List.{Contains}
+use Rattle.std.proofs.lemmas.List.{append-nil}
+use Rattle.morris_index.specs.Pairs.{below_of}
+use Rattle.morris_commands.specs.Build.{HasExact}
+use Rattle.morris_commands.proofs.BuildLaws.{has_tables, one_exact_more}
+use Rattle.morris_commands.proofs.ShelfLaws.{none_missing, one_within_more}
+use Rattle.morris_commands.specs.ProgressLaws.{Becomes-joins}
+use Rattle.morris_commands.proofs.build.build_below.Goals as goal
+
+pub build_onto-requires-clause-ready : goal.build_onto-requires-clause-ready
+build_onto-requires-clause-ready g c = λ κs within.
+    none_missing c.loop-below.shelf c.loop-below.yielded c.next.new.self (below_of c.args.pair) c.in-Some.below
+    c.below-below-items.ensures.needs_first
+    (ap (λ rest. c.loop-below.yielded ++ rest) (sym c.in-Some.ensures.steps) ∙ c.loop-below.invariant.split)
+    (has_tables g.B.Geometry.shape c.args.layout c.loop-below.shelf c.loop-below.yielded c.loop-below.invariant.exact)
+
+pub loop-below-preserved : goal.loop-below-preserved
+loop-below-preserved g c = record {
+  split =
+      append_assoc c.loop-below.yielded (c.in-Some.below ∷ []) c.next.new.self
+      ∙ (ap (λ rest. c.loop-below.yielded ++ rest) (sym c.in-Some.ensures.steps) ∙ c.loop-below.invariant.split);
+  exact =
+      one_exact_more g.B.Geometry.shape c.args.layout c.loop-below.shelf c.build_onto.new.shelf c.loop-below.yielded c.in-Some.below
+      c.loop-below.invariant.exact c.in_ok-build_onto.ensures.exact c.in_ok-build_onto.ensures.others;
+  within =
+      one_within_more g.B.Geometry.shape c.loop-below.yielded c.in-Some.below c.loop-below.invariant.within c.in_ok-build_onto.ensures.within;
+  told =
+      Becomes-joins g.E.Sink.contents g.E.Sink.failures c.announce.new.progress c.loop-below.progress c.build_onto.new.progress
+      c.loop-below.invariant.told c.build_onto.ensures.told;
+}
+
+pub returns : goal.returns
+returns g c =
+    let all : c.loop-below.yielded ≡ below_of c.args.pair =
+    sym (append-nil c.loop-below.yielded) ∙ (ap (λ rest. c.loop-below.yielded ++ rest) (sym c.in-None.ensures.steps.0) ∙ c.loop-below.invariant.split) in
+    record {
+      exact = subst (HasExact g.B.Geometry.shape c.args.layout c.loop-below.shelf) all c.loop-below.invariant.exact;
+      last = c.below-below-items.ensures.last;
+      within = λ deep. c.loop-below.invariant.within deep.0 (subst (λ cs. Contains cs deep.0) (sym all) deep.1) deep.2;
+      refused = tt;
+      unwritten = tt;
+      told =
+          Becomes-joins g.E.Sink.contents g.E.Sink.failures c.args.progress.now c.announce.new.progress c.loop-below.progress
+          c.announce.ensures c.loop-below.invariant.told;
+    }

@@ -1,0 +1,22 @@
+-- What is printed of the tallies of the pair that the text names.
+use Rattle.std.proofs.Common.{◌≡◌, Ok, sym, ap, subst, ◌∙◌}
+use Rattle.morris_commands.specs.Faults.{Prints}
+use Rattle.morris_commands.specs.PairText.{read_pair_of}
+use Rattle.morris_commands.specs.Stats.{AnswersRead, stats_text}
+use Rattle.morris_commands.proofs.StatsLaws.{answered}
+use Rattle.morris_commands.proofs.stats.stats_on.Goals as goal
+
+pub returns-clause-answer : goal.returns-clause-answer
+returns-clause-answer g c =
+    let board = g.B.Geometry.shape in
+    let points : board.points ≡ g.B.Geometry.POINTS = c.show_tallies.ensures.points in
+    let pair = c.in_ok-pair.pair in
+    let old = g.S.Sink.contents c.args.output.now in
+    let new = g.S.Sink.contents c.show_tallies.new.output in
+    let read : read_pair_of board.points c.args.text.now ≡ Ok pair =
+    ap (λ n. read_pair_of n c.args.text.now) points ∙ sym c.in_ok-pair.ensures in
+    let shown : Prints old new (stats_text g.B.Geometry.POINTS pair c.in_ok-tallies.tallies.items) c.show_tallies.result =
+    subst (λ tallies. Prints old new (stats_text g.B.Geometry.POINTS pair tallies) c.show_tallies.result) c.as_slice.ensures.value c.show_tallies.ensures.shown in
+    subst (λ found. AnswersRead board old new c.show_tallies.result found) (sym read)
+    (answered board pair old new c.in_ok-tallies.tallies.items c.show_tallies.result c.in_ok-tallies.ensures.within c.in_ok-tallies.ensures.counts
+    (subst (λ n. Prints old new (stats_text n pair c.in_ok-tallies.tallies.items) c.show_tallies.result) (sym points) shown))

@@ -1,0 +1,111 @@
+-- What `build` writes.
+use Rattle.std.specs.Prelude.{◌≡◌, ⊤, ℕ, ◌<◌, Bool, true, List, [], ◌∷◌, map, Option, Some, None, is_some, Result, Ok, Err, if◌then◌else◌}
+use Rattle.std.specs.List.{All, Contains, flat_map}
+use Rattle.std.specs.Io.KnownBytes.{Keeps}
+use Rattle.morris_board.specs.Boards.{Shape}
+use Rattle.morris_index.specs.Pairs.{Counts, below_of}
+use Rattle.morris_workers.specs.Ranges.{range_fault}
+use Rattle.morris_workers.specs.declared.fault.SolveFault.{SolveFault}
+use Rattle.morris_table.specs.declared.layout.Layout.{Layout}
+use Rattle.morris_table.specs.declared.layout.Layout.TheVariants.{Full, Classes}
+use Rattle.morris_table.specs.Known.{IsBeyondCodes}
+use Rattle.morris_table.specs.Shelves.{Stored, table_on}
+use Rattle.morris_table.specs.TableFiles.{file_of}
+use Rattle.morris_table.specs.Tables.{IsTable, Table}
+use Rattle.morris_commands.specs.declared.fault.Fault.{Fault}
+use Rattle.morris_commands.specs.declared.fault.Fault.TheVariants as fault
+use Rattle.morris_commands.specs.Faults.{Prints, solve_fault}
+use Rattle.morris_commands.specs.PairText.{read_pair_of}
+use Rattle.morris_commands.specs.Stats.{HasTooDeep}
+
+-- ---- the files
+
+-- the layout of the tables: an entry for each class of positions where that is asked for, and
+-- otherwise one for each position
+abbrev pub layout_asked : Bool → Layout
+layout_asked classes = if classes then Classes else Full
+
+-- the pairs whose files are written: all those below a pair, in order, its own among them, or its
+-- own alone
+abbrev pub pairs_written : Bool → Counts → List Counts
+pairs_written all pair = if all then below_of pair else pair ∷ []
+
+-- one table in a layout for each of these pairs, in their order, in which each code is the game's
+-- value and exact depth
+pub record AreTablesOf (board : Shape) (l : Layout) (pairs : List Counts) (tables : List Table) : Type 0 where
+  pub of_pairs : map (λ t. t.pair) tables ≡ pairs
+  pub of_layout : All (λ (t : Table). t.layout ≡ l) tables
+  pub exact : All (IsTable board) tables
+
+-- the files of such tables were written, one after the other and nothing else
+abbrev pub AnswersFiles : {T : Type 0} → Shape → Layout → List Counts → Option (List ℕ) → Option (List ℕ) → Result T Fault → Type 0
+AnswersFiles board l pairs old new result =
+    (tables : List Table) × AreTablesOf board l pairs tables × Prints old new (flat_map (file_of board) tables) result
+
+-- the file of the table that a shelf has of a pair
+abbrev pub file_on : Shape → Stored → Counts → List ℕ
+file_on board shelf c = elim (table_on shelf c) [ None ↦ [] | Some t ↦ file_of board t ]
+
+-- the shelf has the tables of these pairs
+abbrev pub HasTables : Stored → List Counts → Type 0
+HasTables shelf pairs = (c : Counts) → Contains pairs c → is_some (table_on shelf c) ≡ true
+
+-- the shelf has a table of this pair in a layout, in which each code is the game's
+abbrev pub HasExactAt : Shape → Layout → Stored → Counts → Type 0
+HasExactAt board l shelf c = (t : Table) × (table_on shelf c ≡ Some t) × (t.pair ≡ c) × (t.layout ≡ l) × IsTable board t
+
+-- it has such a table of each of these pairs
+abbrev pub HasExact : Shape → Layout → Stored → List Counts → Type 0
+HasExact board l shelf pairs = (c : Counts) → Contains pairs c → HasExactAt board l shelf c
+
+-- ---- the refusals
+
+-- Why a pair isn't built, where those that it needs are there: want of memory; a block of this
+-- number was left incomplete; or codes don't suffice for the depths.
+abbrev pub IsUnbuiltAt : Shape → Counts → ℕ → Fault → Type 0
+IsUnbuiltAt board pair blocks fault.Memory = ⊤
+IsUnbuiltAt board pair blocks (fault.Missing number) = number < blocks
+IsUnbuiltAt board pair blocks fault.TooDeep = IsBeyondCodes board pair
+IsUnbuiltAt board pair blocks _ = ⊥
+
+-- why a pair isn't built after those below it
+abbrev pub IsUnbuiltFor : Shape → Counts → ℕ → Fault → Type 0
+IsUnbuiltFor board pair blocks fault.Memory = ⊤
+IsUnbuiltFor board pair blocks (fault.Missing number) = number < blocks
+IsUnbuiltFor board pair blocks fault.TooDeep = HasTooDeep board pair
+IsUnbuiltFor board pair blocks _ = ⊥
+
+-- ---- the answer
+
+-- What `build` answers of a pair in a layout: one of these refusals, with nothing written;
+-- otherwise codes suffice for all depths, and the files are written, or the first bytes of them up
+-- to the write that failed.
+abbrev pub AnswersBuilt : {T : Type 0} → Shape → Layout → Counts → ℕ → Bool → Option (List ℕ) → Option (List ℕ) → Result T Fault → Type 0
+AnswersBuilt board l pair blocks all old new (Ok done) = ¬ HasTooDeep board pair × AnswersFiles board l (pairs_written all pair) old new (Ok done)
+AnswersBuilt board l pair blocks all old new (Err (fault.Write sent)) =
+    ¬ HasTooDeep board pair × AnswersFiles {T = Unit {0}} board l (pairs_written all pair) old new (Err (fault.Write sent))
+AnswersBuilt board l pair blocks all old new (Err refused) = IsUnbuiltFor board pair blocks refused × Keeps old new
+
+-- What it answers with so many workers and blocks: where there may not be so many, the fault that
+-- says so, with nothing written and before anything is built; otherwise what it answers of the
+-- pair.
+abbrev pub AnswersTeam : {T : Type 0} → Shape → Layout → Counts → ℕ → Bool → Option (List ℕ) → Option (List ℕ) → Result T Fault → Option SolveFault → Type 0
+AnswersTeam board l pair blocks all old new result (Some refused) = (result ≡ Err (solve_fault refused)) × Keeps old new
+AnswersTeam board l pair blocks all old new result None = AnswersBuilt board l pair blocks all old new result
+
+-- What it answers on a board: the fault of a text that names no pair, with nothing written;
+-- otherwise what it answers with its workers and blocks.
+abbrev pub AnswersRead : {T : Type 0} → Shape → Layout → ℕ → ℕ → Bool → Option (List ℕ) → Option (List ℕ) → Result T Fault → Result Counts Fault → Type 0
+AnswersRead board l workers blocks all old new result (Err refused) = (result ≡ Err refused) × Keeps old new
+AnswersRead board l workers blocks all old new result (Ok pair) =
+    AnswersTeam board l pair blocks all old new result (range_fault workers blocks)
+
+abbrev pub AnswersBuildOn : {T : Type 0} → Shape → Layout → List ℕ → ℕ → ℕ → Bool → Option (List ℕ) → Option (List ℕ) → Result T Fault → Type 0
+AnswersBuildOn board l text workers blocks all old new result = AnswersRead board l workers blocks all old new result (read_pair_of board.points text)
+
+-- What `build` answers: the fault of a board that isn't there, with nothing written; otherwise what
+-- it answers on the board, with tables in the layout that is asked for.
+abbrev pub AnswersBuild : {T : Type 0} → Option Shape → List ℕ → ℕ → ℕ → Bool → Bool → Option (List ℕ) → Option (List ℕ) → Result T Fault → Type 0
+AnswersBuild None text workers blocks all classes old new result = (result ≡ Err fault.Board) × Keeps old new
+AnswersBuild (Some board) text workers blocks all classes old new result =
+    AnswersBuildOn board (layout_asked classes) text workers blocks all old new result

@@ -1,0 +1,11 @@
+pub mod Faults
+pub mod Look
+pub mod BoardNames
+pub mod PairText
+pub mod Stats
+pub mod Verify
+pub mod Probe
+pub mod Build
+pub mod Progress
+pub mod ProgressLaws
+pub mod Sizes

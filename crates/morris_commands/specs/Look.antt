@@ -1,0 +1,62 @@
+-- What `look` prints of a position.
+use Rattle.std.specs.Prelude.{◌≡◌, ℕ, List, ◌++◌, length, codes, Option, Some, None, Result, Ok, Err, bytes_eq, if◌then◌else◌}
+use Rattle.std.specs.List.{flat_map}
+use Rattle.std.specs.Fmt.{decimal}
+use Rattle.std.specs.Io.KnownBytes.{Keeps}
+use Rattle.morris_board.specs.Sets.{count_of}
+use Rattle.morris_board.specs.Boards.{Shape, grid, nine}
+use Rattle.morris_board.specs.Positions.{Sides, text_of, read_of}
+use Rattle.morris_board.specs.declared.faults.TextFault.{TextFault}
+use Rattle.morris_moves.specs.Rules.{moves_of}
+use Rattle.morris_moves.specs.Values.{AnswersWithin}
+use Rattle.morris_moves.specs.declared.search.Within.{Within}
+use Rattle.morris_moves.specs.declared.search.Within.TheVariants.{Lost, Won, Unknown}
+use Rattle.morris_probe.specs.Lines.{line, move_line, number_line}
+use Rattle.morris_commands.specs.declared.fault.Fault.{Fault}
+use Rattle.morris_commands.specs.declared.fault.Fault.TheVariants as fault
+use Rattle.morris_commands.specs.Faults.{Prints, text_fault}
+
+-- `own A other B`
+abbrev pub counts_line : Sides → List ℕ
+counts_line s = codes "own " ++ decimal (count_of s.own) ++ number_line (codes " other ") (count_of s.other)
+
+-- `lost in D`, `won in D`, or `unknown within N`
+abbrev pub value_line : ℕ → Within → List ℕ
+value_line n (Lost d) = number_line (codes "lost in ") d
+value_line n (Won d) = number_line (codes "won in ") d
+value_line n Unknown = number_line (codes "unknown within ") n
+
+-- the position's text and the numbers of stones
+abbrev pub head_text : Shape → Sides → List ℕ
+head_text board s = line (text_of board s) ++ counts_line s
+
+-- each legal move, in order, and how many there are
+abbrev pub list_text : Shape → Sides → List ℕ
+list_text board s = flat_map move_line (moves_of board s) ++ number_line (codes "moves ") (length (moves_of board s))
+
+-- all of it: the position, its legal moves, and its value as far as n plies show it
+unfoldable pub look_text : Shape → Sides → ℕ → Within → List ℕ
+look_text board s n found = head_text board s ++ list_text board s ++ value_line n found
+
+-- `look` prints that text of the value that the search to n plies answers
+abbrev pub PrintsLook : {T : Type 0} → Shape → Sides → ℕ → Option (List ℕ) → Option (List ℕ) → Result T Fault → Type 0
+PrintsLook board s n old new result = (found : Within) × AnswersWithin board s n found × Prints old new (look_text board s n found) result
+
+-- What `look` answers on a board: the fault of a text that is refused, with nothing printed;
+-- otherwise the position that was read is printed.
+abbrev pub LookedAt : {T : Type 0} → Shape → ℕ → Option (List ℕ) → Option (List ℕ) → Result T Fault → Result Sides TextFault → Type 0
+LookedAt board n old new result (Err refused) = (result ≡ Err (text_fault refused)) × Keeps old new
+LookedAt board n old new result (Ok s) = PrintsLook board s n old new result
+
+abbrev pub LooksOn : {T : Type 0} → Shape → List ℕ → ℕ → Option (List ℕ) → Option (List ℕ) → Result T Fault → Type 0
+LooksOn board text n old new result = LookedAt board n old new result (read_of board text)
+
+-- What `look` answers: the fault of a board that isn't there, with nothing printed; otherwise what
+-- it answers on the board.
+abbrev pub Looks : {T : Type 0} → Option Shape → List ℕ → ℕ → Option (List ℕ) → Option (List ℕ) → Result T Fault → Type 0
+Looks None text n old new result = (result ≡ Err fault.Board) × Keeps old new
+Looks (Some board) text n old new result = LooksOn board text n old new result
+
+-- the board of a name
+abbrev pub board_of : List ℕ → Option Shape
+board_of name = if bytes_eq name (codes "nine") then Some nine else (if bytes_eq name (codes "grid") then Some grid else None)

@@ -1,0 +1,89 @@
+-- What `stats` prints of a pair.
+use Rattle.std.specs.Prelude.{◌≡◌, ⊤, ℕ, ◌%◌, List, [], ◌++◌, nat_eq, length, drop, slice_index, codes, Option, Some, None, Result, Ok, Err, if◌then◌else◌}
+use Rattle.std.specs.List.{Contains, flat_map, range_with_len}
+use Rattle.std.specs.Fmt.{decimal}
+use Rattle.std.specs.Io.KnownBytes.{Keeps}
+use Rattle.morris_board.specs.Boards.{Shape}
+use Rattle.morris_index.specs.Pairs.{Counts, below_of, pair_text, size_of}
+use Rattle.morris_table.specs.declared.layout.Layout.TheVariants.{Full}
+use Rattle.morris_table.specs.Known.{IsBeyondCodes}
+use Rattle.morris_table.specs.Tables.{IsTable, table, tallies_of}
+use Rattle.morris_probe.specs.Lines.{number_line}
+use Rattle.morris_commands.specs.declared.fault.Fault.{Fault}
+use Rattle.morris_commands.specs.declared.fault.Fault.TheVariants as fault
+use Rattle.morris_commands.specs.Faults.{Prints}
+use Rattle.morris_commands.specs.PairText.{read_pair_of}
+
+-- `a-b S positions`, where S is how many positions the pair has
+abbrev pub pair_line : ℕ → Counts → List ℕ
+pair_line n pair = pair_text pair ++ (codes " " ++ decimal (size_of n pair)) ++ codes " positions\n"
+
+-- an even depth is lost, an odd one won
+abbrev pub depth_label : ℕ → List ℕ
+depth_label depth = if nat_eq (depth % 2) 0 then codes "lost in " else codes "won in "
+
+-- `lost in D: K` or `won in D: K` where K positions have the depth D, and nothing where none has it
+abbrev pub depth_line : ℕ → ℕ → List ℕ
+depth_line depth count =
+    if nat_eq count 0 then [] else depth_label depth ++ decimal depth ++ number_line (codes ": ") count
+
+-- the lines of the depths 0, 1, .., where `counts` has how many positions have each
+unfoldable pub depth_lines : List ℕ → List ℕ
+depth_lines counts = flat_map (λ depth. depth_line depth (slice_index counts depth)) (range_with_len 0 (length counts))
+
+-- `draw: K`, also where K is 0
+abbrev pub draw_line : ℕ → List ℕ
+draw_line count = number_line (codes "draw: ") count
+
+-- All of it, where `tallies` says how many positions have each code, from 0 up: the code 0 is a
+-- draw, and any other code is one more than the depth.
+unfoldable pub stats_text : ℕ → Counts → List ℕ → List ℕ
+stats_text n pair tallies = pair_line n pair ++ depth_lines (drop 1 tallies) ++ draw_line (slice_index tallies 0)
+
+-- these are how many positions of the pair have each code, where each code is the game's value and
+-- exact depth
+abbrev pub HasTallies : Shape → Counts → List ℕ → Type 0
+HasTallies board pair tallies = (entries : List ℕ) × IsTable board (table Full pair entries) × (tallies ≡ tallies_of entries)
+
+-- `stats` prints the text of these
+abbrev pub PrintsStats : {T : Type 0} → Shape → Counts → Option (List ℕ) → Option (List ℕ) → Result T Fault → Type 0
+PrintsStats board pair old new result =
+    (tallies : List ℕ) × HasTallies board pair tallies × Prints old new (stats_text board.points pair tallies) result
+
+-- codes don't suffice for the depths of the pair, or for those of one below it, on which it rests
+abbrev pub HasTooDeep : Shape → Counts → Type 0
+HasTooDeep board pair = (below : Counts) × Contains (below_of pair) below × IsBeyondCodes board below
+
+-- why a pair isn't swept, where those that it needs are there; and why a pair isn't swept after
+-- those below it
+abbrev pub IsRefusedAt : Shape → Counts → Fault → Type 0
+IsRefusedAt board pair fault.Memory = ⊤
+IsRefusedAt board pair fault.TooDeep = IsBeyondCodes board pair
+IsRefusedAt board pair _ = ⊥
+
+abbrev pub IsRefusedFor : Shape → Counts → Fault → Type 0
+IsRefusedFor board pair fault.Memory = ⊤
+IsRefusedFor board pair fault.TooDeep = HasTooDeep board pair
+IsRefusedFor board pair _ = ⊥
+
+-- What `stats` answers of a pair: a refusal of memory, or of a depth that is too great, with
+-- nothing printed; otherwise codes suffice for all depths, and the pair's text is printed.
+abbrev pub AnswersPair : {T : Type 0} → Shape → Counts → Option (List ℕ) → Option (List ℕ) → Result T Fault → Type 0
+AnswersPair board pair old new (Err fault.Memory) = Keeps old new
+AnswersPair board pair old new (Err fault.TooDeep) = HasTooDeep board pair × Keeps old new
+AnswersPair board pair old new result = ¬ HasTooDeep board pair × PrintsStats board pair old new result
+
+-- What it answers on a board: the fault of a text that names no pair, with nothing printed;
+-- otherwise what it answers of the pair.
+abbrev pub AnswersRead : {T : Type 0} → Shape → Option (List ℕ) → Option (List ℕ) → Result T Fault → Result Counts Fault → Type 0
+AnswersRead board old new result (Err refused) = (result ≡ Err refused) × Keeps old new
+AnswersRead board old new result (Ok pair) = AnswersPair board pair old new result
+
+abbrev pub AnswersOn : {T : Type 0} → Shape → List ℕ → Option (List ℕ) → Option (List ℕ) → Result T Fault → Type 0
+AnswersOn board text old new result = AnswersRead board old new result (read_pair_of board.points text)
+
+-- What `stats` answers: the fault of a board that isn't there, with nothing printed; otherwise what
+-- it answers on the board.
+abbrev pub AnswersStats : {T : Type 0} → Option Shape → List ℕ → Option (List ℕ) → Option (List ℕ) → Result T Fault → Type 0
+AnswersStats None text old new result = (result ≡ Err fault.Board) × Keeps old new
+AnswersStats (Some board) text old new result = AnswersOn board text old new result

@@ -1,0 +1,337 @@
+//! The command `build`.
+ghost use Rattle.std.specs.Prelude.{◌≡◌, ◌≢◌, ◌+◌, ◌-◌, ◌^◌, ◌<◌, ◌≤◌, None, Some, true, false, is_some, length, IfErr, IfOk, MatchResult, OnOk, option_map};
+ghost use Rattle.std.specs.List.{flat_map};
+ghost use Rattle.morris_board.specs.Streams.{CountsFailure, HasSent};
+ghost use Rattle.morris_index.specs.Pairs.{Counts, EndsIn, below_of};
+ghost use Rattle.morris_table.specs.Known.{IsBeyondCodes};
+ghost use Rattle.morris_table.specs.Shelves.{first_missing, table_on};
+ghost use Rattle.morris_table.specs.TableFiles.{file_of};
+ghost use Rattle.morris_workers.specs.Ranges.{range_fault};
+ghost use Rattle.morris_commands.specs.Faults.{CountsWrites, is_write, solve_fault};
+ghost use Rattle.morris_commands.specs.Look.{board_of};
+ghost use Rattle.morris_commands.specs.Progress.{Becomes};
+ghost use Rattle.morris_commands.specs.Stats.{HasTooDeep};
+ghost use Rattle.morris_commands.specs.Build.{AnswersBuild, AnswersBuildOn, AnswersBuilt, AnswersFiles, HasExact, HasExactAt, HasTables, IsUnbuiltAt, IsUnbuiltFor, file_on, layout_asked, pairs_written};
+
+use crate::boards::{NamedBoard, read_board};
+use crate::fault::Fault;
+use crate::pairs::read_pair;
+use crate::progress::{Nowhere, Progress, announce};
+use crate::size::{Team, Way};
+use morris_board::board::{Board, Geometry};
+use morris_board::grid::Grid;
+use morris_board::nine::Nine;
+use morris_board::streams::Sink;
+use morris_index::pair::Pair;
+use morris_table::building::build_watched;
+use morris_table::exact::Exact;
+use morris_table::file_faults::Write;
+use morris_table::layout::Layout;
+use morris_table::shelf::Shelf;
+use morris_table::writing::write_table;
+use morris_workers::{OpenGate, check_numbers};
+use std::alloc::Global;
+use std::sync::Wait;
+use std::thread::Threads;
+use std::time::Clock;
+
+/// What is built, and by whom.
+#[derive(Clone, Copy, Debug, PartialEq, Eq)]
+struct Plan {
+    // The layout of the tables.
+    layout: Layout,
+    team: Team,
+    // Whether the files of all tables are written, or that of the last alone.
+    all: bool,
+}
+
+/// Builds the tables of all pairs below the one that the text `pair` names on the board named
+/// `board`, in order and the pair's own among them, and writes the file of the pair's table; or,
+/// with `all`, the files of all of them, one after the other in that order. With `classes` each
+/// table has an entry for each class of positions, and its file is of version 2; otherwise it has
+/// one for each position, and its file is of version 1. Each is built by so many workers over so
+/// many blocks; the bytes are the same for every number of them.
+///
+/// # Errors
+/// [`Fault::Board`] where there is no such board, else [`Fault::PairText`], [`Fault::Counts`] or
+/// [`Fault::Crowded`] where the text names no pair of the board, in this order; else
+/// [`Fault::Workers`] where there aren't 1 to 64 workers, else [`Fault::Blocks`] where there aren't
+/// 1 to 1,024 blocks; else the first refusal of a build: [`Fault::Memory`] where memory is refused,
+/// [`Fault::Missing`] with the number of a block that was left incomplete, or [`Fault::TooDeep`]
+/// where depths go past what a table can hold. Nothing is then written, since writing begins when
+/// the last table is built. Else [`Fault::Write`], with the bytes that went out, at the first write
+/// that fails.
+pub fn build_out<R: Threads + Wait + Sync, O: Sink>(
+    rt: &R,
+    alloc: Global,
+    board: &str,
+    pair: &str,
+    workers: usize,
+    blocks: usize,
+    all: bool,
+    classes: bool,
+    output: &mut O,
+) -> Result<(), Fault>
+    requires { O.failures output.old < 2 ^ 64 - 1 }
+    ensures answer { AnswersBuild (board_of board.now) pair.now workers blocks all classes (O.contents output.old) (O.contents output.new) result }
+    ensures counted { CountsWrites (O.failures output.old) (O.failures output.new) result }
+{
+    let (clock, mut nowhere) = (Nowhere, Nowhere);
+    let mut progress = Progress::new(&clock, false, &mut nowhere);
+    let team = Team { workers, blocks };
+    build_told(
+        rt,
+        alloc,
+        board,
+        pair,
+        team,
+        all,
+        classes,
+        output,
+        &mut progress,
+    )
+}
+
+/// [`build_out`], which tells `progress` how far it is.
+#[tactic(auto, using(crate::specs::ProgressLaws::told_laws))]
+pub fn build_told<R: Threads + Wait + Sync, O: Sink, C: Clock, E: Sink>(
+    rt: &R,
+    alloc: Global,
+    board: &str,
+    pair: &str,
+    team: Team,
+    all: bool,
+    classes: bool,
+    output: &mut O,
+    progress: &mut Progress<'_, C, E>,
+) -> Result<(), Fault>
+    requires { O.failures output.old < 2 ^ 64 - 1 }
+    ensures answer { AnswersBuild (board_of board.now) pair.now team.workers team.blocks all classes (O.contents output.old) (O.contents output.new) result }
+    ensures counted { CountsWrites (O.failures output.old) (O.failures output.new) result }
+    ensures told { Becomes E.contents E.failures progress.old progress.new }
+{
+    let plan = Plan {
+        layout: layout_of(classes),
+        team,
+        all,
+    };
+    match read_board(board)? {
+        NamedBoard::Nine => build_on::<Nine, R, O, C, E>(rt, alloc, plan, pair, output, progress),
+        NamedBoard::Grid => build_on::<Grid, R, O, C, E>(rt, alloc, plan, pair, output, progress),
+    }
+}
+
+/// The layout of the tables, by whether entries for classes are asked for.
+fn layout_of(classes: bool) -> Layout
+    ensures { result ≡ layout_asked classes }
+{
+    if classes {
+        Layout::Classes
+    } else {
+        Layout::Full
+    }
+}
+
+#[tactic(auto, using(crate::specs::ProgressLaws::told_laws))]
+fn build_on<B: Board, R: Threads + Wait + Sync, O: Sink, C: Clock, E: Sink>(
+    rt: &R,
+    alloc: Global,
+    plan: Plan,
+    text: &str,
+    output: &mut O,
+    progress: &mut Progress<'_, C, E>,
+) -> Result<(), Fault>
+    requires { O.failures output.old < 2 ^ 64 - 1 }
+    ensures answer { AnswersBuildOn B.shape plan.layout text.now plan.team.workers plan.team.blocks plan.all (O.contents output.old) (O.contents output.new) result }
+    ensures counted { CountsWrites (O.failures output.old) (O.failures output.new) result }
+    ensures told { Becomes E.contents E.failures progress.old progress.new }
+{
+    let pair = read_pair::<B>(text)?;
+    check_team(plan.team)?;
+    build_pair(rt, alloc, plan, pair, output, progress)
+}
+
+/// Whether there are so many workers and blocks as there may be.
+fn check_team(team: Team) -> Result<(), Fault>
+    ensures { MatchResult result (λ _. range_fault team.workers team.blocks ≡ None)
+        (λ refused. option_map solve_fault (range_fault team.workers team.blocks) ≡ Some refused) }
+{
+    match check_numbers(team.workers, team.blocks) {
+        Ok(()) => Ok(()),
+        Err(refused) => Err(Fault::from(refused)),
+    }
+}
+
+#[tactic(auto, using(crate::specs::ProgressLaws::told_laws))]
+fn build_pair<B: Board, R: Threads + Wait + Sync, O: Sink, C: Clock, E: Sink>(
+    rt: &R,
+    alloc: Global,
+    plan: Plan,
+    pair: Pair<B>,
+    output: &mut O,
+    progress: &mut Progress<'_, C, E>,
+) -> Result<(), Fault>
+    requires failures { O.failures output.old < 2 ^ 64 - 1 }
+    requires range { range_fault plan.team.workers plan.team.blocks ≡ None }
+    ensures answer { AnswersBuilt B.shape plan.layout pair plan.team.blocks plan.all (O.contents output.old) (O.contents output.new) result }
+    ensures counted { CountsWrites (O.failures output.old) (O.failures output.new) result }
+    ensures told { Becomes E.contents E.failures progress.old progress.new }
+{
+    let Plan { layout, team, all } = plan;
+    let shelf = build_below(rt, alloc, layout, pair, team, progress)?;
+    write_files(&shelf, layout, pair, all, output)
+}
+
+/// The tables of all pairs below a pair, its own among them, in a layout.
+#[tactic(auto, using(crate::specs::ProgressLaws::told_laws))]
+fn build_below<B: Board, R: Threads + Wait + Sync, C: Clock, E: Sink>(
+    rt: &R,
+    alloc: Global,
+    layout: Layout,
+    pair: Pair<B>,
+    team: Team,
+    progress: &mut Progress<'_, C, E>,
+) -> Result<Shelf<B>, Fault>
+    requires range { range_fault team.workers team.blocks ≡ None }
+    ensures exact { IfOk result (λ shelf. HasExact B.shape layout shelf (below_of pair)) }
+    ensures last { OnOk result (EndsIn (below_of pair) pair) }
+    ensures within { OnOk result (¬ HasTooDeep B.shape pair) }
+    ensures refused { IfErr result (IsUnbuiltFor B.shape pair team.blocks) }
+    ensures unwritten { IfErr result (λ refused. is_write refused ≡ false) }
+    ensures told { Becomes E.contents E.failures progress.old progress.new }
+{
+    let mut shelf = Shelf::new(alloc)?;
+    announce(alloc, pair, layout, Way::Built(team), progress);
+    for below in pair.below() {
+        build_onto(rt, alloc, &mut shelf, layout, below, team, progress)?;
+    }
+    Ok(shelf)
+}
+
+/// Puts the table of a pair in a layout on a shelf that has those that it needs.
+#[tactic(auto, using(crate::specs::ProgressLaws::told_laws))]
+fn build_onto<B: Board, R: Threads + Wait + Sync, C: Clock, E: Sink>(
+    rt: &R,
+    alloc: Global,
+    shelf: &mut Shelf<B>,
+    layout: Layout,
+    pair: Pair<B>,
+    team: Team,
+    progress: &mut Progress<'_, C, E>,
+) -> Result<(), Fault>
+    requires ready { first_missing shelf.old pair ≡ None }
+    requires range { range_fault team.workers team.blocks ≡ None }
+    ensures exact { OnOk result (HasExactAt B.shape layout shelf.new pair) }
+    ensures others { OnOk result ((other : Counts) → other ≢ pair → table_on shelf.new other ≡ table_on shelf.old other) }
+    ensures within { OnOk result (¬ IsBeyondCodes B.shape pair) }
+    ensures refused { IfErr result (IsUnbuiltAt B.shape pair team.blocks) }
+    ensures told { Becomes E.contents E.failures progress.old progress.new }
+{
+    let Team { workers, blocks } = team;
+    progress.begin_pair(pair);
+    let gate = &OpenGate;
+    let table = build_watched(
+        rt, alloc, shelf, pair, layout, gate, progress, workers, blocks,
+    )?;
+    progress.end_pair(pair, table.len());
+    match shelf.put(table) {
+        Ok(()) => Ok(()),
+        Err(_) => unreachable!(),
+    }
+}
+
+/// Writes the file of a pair's table, or those of all pairs below it, where these are in a layout.
+fn write_files<B: Geometry, O: Sink>(
+    shelf: &Shelf<B>,
+    layout: Layout,
+    pair: Pair<B>,
+    all: bool,
+    output: &mut O,
+) -> Result<(), Fault>
+    requires failures { O.failures output.old < 2 ^ 64 - 1 }
+    requires exact { HasExact B.shape layout shelf.now (below_of pair) }
+    requires last { EndsIn (below_of pair) pair }
+    ensures files { AnswersFiles B.shape layout (pairs_written all pair) (O.contents output.old) (O.contents output.new) result }
+    ensures unrefused { IfErr result (λ refused. is_write refused ≡ true) }
+    ensures counted { CountsWrites (O.failures output.old) (O.failures output.new) result }
+{
+    match send_files(shelf, layout, pair, all, output) {
+        Ok(_) => Ok(()),
+        Err(sent) => Err(Fault::Write(sent)),
+    }
+}
+
+/// Sends these files, and answers how many bytes went out.
+fn send_files<B: Geometry, O: Sink>(
+    shelf: &Shelf<B>,
+    layout: Layout,
+    pair: Pair<B>,
+    all: bool,
+    output: &mut O,
+) -> Result<u64, u64>
+    requires failures { O.failures output.old < 2 ^ 64 - 1 }
+    requires exact { HasExact B.shape layout shelf.now (below_of pair) }
+    requires last { EndsIn (below_of pair) pair }
+    ensures sent { HasSent (O.contents output.old) (O.contents output.new) 0 (flat_map (file_on B.shape shelf.now) (pairs_written all pair)) result }
+    ensures counted { CountsFailure (O.failures output.old) (O.failures output.new) result }
+    ensures exact { HasExact B.shape layout shelf.now (pairs_written all pair) }
+{
+    if all {
+        write_below(shelf, pair, output)
+    } else {
+        write_one(shelf, pair, 0, output)
+    }
+}
+
+/// Writes the files of the tables of all pairs below a pair, and answers how many bytes went out.
+fn write_below<B: Geometry, O: Sink>(
+    shelf: &Shelf<B>,
+    pair: Pair<B>,
+    output: &mut O,
+) -> Result<u64, u64>
+    requires failures { O.failures output.old < 2 ^ 64 - 1 }
+    requires there { HasTables shelf.now (below_of pair) }
+    ensures sent { HasSent (O.contents output.old) (O.contents output.new) 0 (flat_map (file_on B.shape shelf.now) (below_of pair)) result }
+    ensures counted { CountsFailure (O.failures output.old) (O.failures output.new) result }
+{
+    let mut sent = 0;
+    for below in pair.below() {
+        sent = write_one(shelf, below, sent, output)?;
+    }
+    Ok(sent)
+}
+
+/// Writes the file of a pair's table. `sent` counts the bytes that went out before it; the answer
+/// counts those of the file as well.
+fn write_one<B: Geometry, O: Sink>(
+    shelf: &Shelf<B>,
+    pair: Pair<B>,
+    sent: u64,
+    output: &mut O,
+) -> Result<u64, u64>
+    requires failures { O.failures output.old < 2 ^ 64 - 1 }
+    requires there { is_some (table_on shelf.now pair) ≡ true }
+    requires room { sent < 2 ^ 60 }
+    ensures sent { HasSent (O.contents output.old) (O.contents output.new) sent (file_on B.shape shelf.now pair) result }
+    ensures counted { CountsFailure (O.failures output.old) (O.failures output.new) result }
+    ensures few { IfOk result (λ now. now ≤ sent + 2 ^ 42) }
+{
+    let Some(table) = shelf.get(pair) else {
+        unreachable!()
+    };
+    let length = file_length(table);
+    match write_table(output, table) {
+        Ok(()) => Ok(sent + length),
+        Err(Write(more)) => Err(sent + more),
+    }
+}
+
+/// How many bytes the file of a table has: 16 before the codes, 2 for each code, and 32 after them.
+fn file_length<B: Geometry>(table: &Exact<B>) -> u64
+    ensures value { result ≡ length (file_of B.shape table.now) }
+    ensures few { result ≤ 2 ^ 42 }
+{
+    // The proof learns here how many entries there may be.
+    let _ = table.len();
+    16 + 2 * table.len() + 32
+}

@@ -1,0 +1,50 @@
+//! The command `look`.
+ghost use Rattle.std.specs.Prelude.{◌≡◌, ◌-◌, ◌^◌, ◌<◌, ◌≤◌};
+ghost use Rattle.morris_commands.specs.Faults.{CountsWrites};
+ghost use Rattle.morris_commands.specs.Look.{board_of, Looks, LooksOn};
+
+use crate::boards::{NamedBoard, read_board};
+use crate::fault::Fault;
+use crate::print::put_look;
+use morris_board::board::Geometry;
+use morris_board::grid::Grid;
+use morris_board::nine::Nine;
+use morris_board::position::Position;
+use morris_board::streams::buffered::Buffered;
+use morris_board::streams::{Failed, Sink};
+use morris_moves::look_ahead::within;
+
+/// Shows the position that `text` writes on the board named `board`: its text, how many stones each
+/// side has, its legal moves, and its value as far as `depth` plies show it, at most 6. It takes no
+/// memory.
+///
+/// # Errors
+/// [`Fault::Board`] where there is no such board, else [`Fault::Length`], [`Fault::Character`] or
+/// [`Fault::Stones`] where the text isn't that of a position, in this order and with nothing
+/// written; else [`Fault::Write`], with the bytes that went out, at the first write that fails.
+pub fn look<S: Sink>(board: &str, text: &str, depth: u8, output: &mut S) -> Result<(), Fault>
+    requires depth { depth ≤ 6 }
+    requires failures { S.failures output.old < 2 ^ 64 - 1 }
+    ensures answer { Looks (board_of board.now) text.now depth (S.contents output.old) (S.contents output.new) result }
+    ensures counted { CountsWrites (S.failures output.old) (S.failures output.new) result }
+{
+    match read_board(board)? {
+        NamedBoard::Nine => look_on::<Nine, S>(text, depth, output),
+        NamedBoard::Grid => look_on::<Grid, S>(text, depth, output),
+    }
+}
+
+fn look_on<B: Geometry, S: Sink>(text: &str, depth: u8, output: &mut S) -> Result<(), Fault>
+    requires depth { depth ≤ 6 }
+    requires failures { S.failures output.old < 2 ^ 64 - 1 }
+    ensures answer { LooksOn B.shape text.now depth (S.contents output.old) (S.contents output.new) result }
+    ensures counted { CountsWrites (S.failures output.old) (S.failures output.new) result }
+{
+    let position = Position::<B>::read(text.as_bytes())?;
+    let found = within(&position, depth);
+    let mut out = Buffered::new(output);
+    match put_look(&mut out, &position, depth, found) {
+        Ok(()) => Ok(()),
+        Err(Failed) => Err(Fault::Write(out.sent())),
+    }
+}

@@ -1,0 +1,122 @@
+//! What `stats` prints, piece by piece, through a buffer. Each function ends at the first write
+//! that fails.
+ghost use Rattle.std.specs.Prelude.{◌≡◌, ◌+◌, ◌*◌, ◌^◌, ◌-◌, ◌<◌, ◌≤◌, [], ◌++◌, length, drop, slice_index, OnOk, codes};
+ghost use Rattle.std.specs.Fmt.{decimal};
+ghost use Rattle.morris_board.specs.Buffered.{Passes, held_of, sink_of, taken_of};
+ghost use Rattle.morris_index.specs.Pairs.{pair_text};
+ghost use Rattle.morris_commands.specs.Stats.{depth_line, depth_lines, draw_line, pair_line, stats_text};
+
+use morris_board::board::Geometry;
+use morris_board::streams::buffered::Buffered;
+use morris_board::streams::{Failed, Sink};
+use morris_index::pair::Pair;
+use morris_probe::print::{put_count, put_number_line, put_signed};
+
+/// The numbers of a pair.
+#[tactic(auto, using(morris_board::proofs::BufferedLaws::passed_laws))]
+pub fn put_pair<B: Geometry, S: Sink>(
+    out: &mut Buffered<'_, S>,
+    pair: Pair<B>,
+) -> Result<(), Failed>
+    requires failures { S.failures (sink_of out.old) < 2 ^ 64 - 1 }
+    requires room { taken_of out.old < 2 ^ 10 }
+    ensures passed { Passes S.contents S.failures out.old out.new (pair_text pair) result }
+    ensures few { OnOk result (taken_of out.new ≤ taken_of out.old + 41) }
+{
+    out.put_number(u64::from(pair.greater()))?;
+    put_signed(out, b'-', pair.lesser())
+}
+
+/// A pair and how many positions it has.
+#[tactic(auto, using(morris_board::proofs::BufferedLaws::passed_laws))]
+fn put_pair_line<B: Geometry, S: Sink>(
+    out: &mut Buffered<'_, S>,
+    pair: Pair<B>,
+) -> Result<(), Failed>
+    requires failures { S.failures (sink_of out.old) < 2 ^ 64 - 1 }
+    requires new { taken_of out.old ≡ 0 }
+    ensures passed { Passes S.contents S.failures out.old out.new (pair_line B.POINTS pair) result }
+    ensures few { OnOk result (taken_of out.new < 2 ^ 10) }
+{
+    put_pair(out, pair)?;
+    put_count(out, " ", pair.size())?;
+    out.put(b" positions\n")
+}
+
+/// How many positions have a depth, where there are any.
+#[tactic(auto, using(morris_board::proofs::BufferedLaws::passed_laws))]
+fn put_depth<S: Sink>(out: &mut Buffered<'_, S>, depth: u64, count: u64) -> Result<(), Failed>
+    requires failures { S.failures (sink_of out.old) < 2 ^ 64 - 1 }
+    requires room { taken_of out.old < 2 ^ 63 }
+    ensures passed { Passes S.contents S.failures out.old out.new (depth_line depth count) result }
+    ensures few { OnOk result (taken_of out.new ≤ taken_of out.old + 105) }
+{
+    if count == 0 {
+        return Ok(());
+    }
+    let label = if depth % 2 == 0 {
+        "lost in "
+    } else {
+        "won in "
+    };
+    put_count(out, label, depth)?;
+    put_number_line(out, ": ", count)
+}
+
+/// How many positions have each depth, where there are any. `counts` has the numbers for the depths
+/// 0, 1, ..
+#[tactic(auto, using(morris_board::proofs::BufferedLaws::passed_laws))]
+fn put_depths<S: Sink>(out: &mut Buffered<'_, S>, counts: &[u64]) -> Result<(), Failed>
+    requires failures { S.failures (sink_of out.old) < 2 ^ 64 - 1 }
+    requires few { length counts.now ≤ 2 ^ 16 }
+    requires room { taken_of out.old < 2 ^ 10 }
+    ensures passed { Passes S.contents S.failures out.old out.new (depth_lines counts.now) result }
+    ensures few { OnOk result (taken_of out.new < 2 ^ 32) }
+{
+    for (depth, count) in counts.iter().enumerate() {
+        put_depth(out, depth as u64, *count)?;
+    }
+    Ok(())
+}
+
+/// How many positions are draws, also where there are none.
+fn put_draws<S: Sink>(out: &mut Buffered<'_, S>, count: u64) -> Result<(), Failed>
+    requires failures { S.failures (sink_of out.old) < 2 ^ 64 - 1 }
+    requires room { taken_of out.old < 2 ^ 63 }
+    ensures passed { Passes S.contents S.failures out.old out.new (draw_line count) result }
+    ensures few { OnOk result (taken_of out.new ≤ taken_of out.old + 53) }
+{
+    put_number_line(out, "draw: ", count)
+}
+
+/// How many positions are draws, and how many have the depths 0, 1, ..
+fn draws_and_decided(tallies: &[u64]) -> (u64, &[u64])
+    ensures draws { result.0 ≡ slice_index tallies.now 0 }
+    ensures decided { result.1.now ≡ drop 1 tallies.now }
+{
+    match tallies {
+        [draws, decided @ ..] => (*draws, decided),
+        [] => (0, &[]),
+    }
+}
+
+/// All that `stats` prints of a pair, to the last byte: nothing is held back. `tallies` has how
+/// many positions have each code, from 0 up.
+#[tactic(auto, using(morris_board::proofs::BufferedLaws::passed_laws), unfolding(crate::specs::Stats::stats_text))]
+pub fn put_stats<B: Geometry, S: Sink>(
+    out: &mut Buffered<'_, S>,
+    pair: Pair<B>,
+    tallies: &[u64],
+) -> Result<(), Failed>
+    requires failures { S.failures (sink_of out.old) < 2 ^ 64 - 1 }
+    requires few { length tallies.now ≤ 2 ^ 16 }
+    requires new { taken_of out.old ≡ 0 }
+    ensures passed { Passes S.contents S.failures out.old out.new (stats_text B.POINTS pair tallies.now) result }
+    ensures empty { OnOk result (held_of out.new ≡ []) }
+{
+    let (draws, decided) = draws_and_decided(tallies);
+    put_pair_line(out, pair)?;
+    put_depths(out, decided)?;
+    put_draws(out, draws)?;
+    out.flush()
+}

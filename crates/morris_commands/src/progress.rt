@@ -1,0 +1,253 @@
+//! How far a command is, told line by line.
+ghost use Rattle.std.specs.Prelude.{◌≡◌, ◌-◌, ◌^◌, ◌<◌, ◌≤◌, false};
+ghost use Rattle.morris_board.specs.Streams.{CountsFailure};
+ghost use Rattle.morris_probe.specs.Reports.{WentOut};
+ghost use Rattle.morris_commands.specs.Progress.{Becomes, lent_of, news_line, sink_of, tells_of};
+
+use crate::print_progress::put_news_line;
+use crate::size::{Size, Way};
+use morris_board::board::Geometry;
+use morris_board::streams::buffered::Buffered;
+use morris_board::streams::{Failed, Sink};
+use morris_index::pair::Pair;
+use morris_table::layout::Layout;
+use morris_workers::Watch;
+use std::alloc::Global;
+use std::io;
+use std::time::{Clock, Duration, Instant};
+
+/// One thing that is told.
+#[derive(Clone, Copy, Debug, PartialEq, Eq)]
+pub enum News {
+    /// Before all else: how many entries there are in all, and about how many megabytes of memory
+    /// it takes to find them.
+    Whole {
+        entries: u64,
+        megabytes: u64,
+    },
+    /// A wave, counted from 1, begins for the pair of these numbers of stones.
+    Wave {
+        greater: u8,
+        lesser: u8,
+        wave: u16,
+        so_far: SoFar,
+    },
+    /// The pair of these numbers of stones is done.
+    Done {
+        greater: u8,
+        lesser: u8,
+        so_far: SoFar,
+    },
+}
+
+/// How far it is.
+#[derive(Clone, Copy, Debug, PartialEq, Eq)]
+pub struct SoFar {
+    /// How many entries are done: those of the pairs that are.
+    pub done: u64,
+    /// How many there are in all.
+    pub whole: u64,
+    /// How many seconds it has taken, rounded down.
+    pub seconds: u64,
+}
+
+/// Tells on a sink how far a command is, a line at a time, or nothing where nobody asked.
+///
+/// A line of a wave comes at most once a second; one of a pair that is done always. After a line
+/// that couldn't be written nothing more is told, and nothing else changes.
+#[derive(Drop)]
+pub struct Progress<'a, R, E> {
+    clock: &'a R,
+    errors: &'a mut E,
+    tells: bool,
+    // Nothing where the clock can't be read: then all is told at second 0.
+    began: Option<Instant>,
+    // When the last line of a wave or of a pair was told.
+    last_second: u64,
+    has_begun: bool,
+    // The pair that is at work.
+    greater: u8,
+    lesser: u8,
+    // How many entries are done, and how many there are.
+    done: u64,
+    whole: u64,
+}
+
+impl<'a, R: Clock, E: Sink> Progress<'a, R, E> {
+    /// Who tells on `errors`, if it is wanted, with the seconds from now on by `clock`.
+    pub fn new(clock: &'a R, wanted: bool, errors: &'a mut E) -> Progress<'a, R, E>
+        ensures lent { lent_of result ≡ errors.entry.ghost_name }
+        ensures sink { sink_of result ≡ errors.old }
+        ensures tells { tells_of result ≡ wanted }
+    {
+        Progress {
+            clock,
+            errors,
+            tells: wanted,
+            began: Instant::now(clock).ok(),
+            last_second: 0,
+            has_begun: false,
+            greater: 0,
+            lesser: 0,
+            done: 0,
+            whole: 0,
+        }
+    }
+
+    /// Tells how many entries there are in all, and about how much memory they take.
+    #[tactic(auto, using(crate::specs::ProgressLaws::told_laws))]
+    pub fn begin(&mut self, size: Size)
+        ensures { Becomes E.contents E.failures self.old self.new }
+    {
+        let Size { entries, bytes } = size;
+        self.has_begun = true;
+        self.whole = entries;
+        let megabytes = bytes.div_ceil(1_000_000);
+        self.tell(News::Whole { entries, megabytes });
+    }
+
+    /// A pair begins.
+    #[tactic(auto, using(crate::specs::ProgressLaws::told_laws))]
+    pub fn begin_pair<B: Geometry>(&mut self, pair: Pair<B>)
+        ensures { Becomes E.contents E.failures self.old self.new }
+    {
+        self.greater = pair.greater();
+        self.lesser = pair.lesser();
+    }
+
+    /// Tells that a pair is done, which has so many entries.
+    #[tactic(auto, using(crate::specs::ProgressLaws::told_laws))]
+    pub fn end_pair<B: Geometry>(&mut self, pair: Pair<B>, entries: u64)
+        ensures { Becomes E.contents E.failures self.old self.new }
+    {
+        self.done = self.done.saturating_add(entries);
+        let so_far = self.so_far();
+        self.last_second = so_far.seconds;
+        self.tell(News::Done {
+            greater: pair.greater(),
+            lesser: pair.lesser(),
+            so_far,
+        });
+    }
+
+    fn so_far(&self) -> SoFar {
+        SoFar {
+            done: self.done,
+            whole: self.whole.max(self.done),
+            seconds: self.seconds(),
+        }
+    }
+
+    fn seconds(&self) -> u64 {
+        let Some(began) = self.began else {
+            return 0;
+        };
+        match began.elapsed(self.clock) {
+            Ok(passed) => passed.as_secs(),
+            Err(_) => 0,
+        }
+    }
+
+    /// Tells one of the news, and nothing more after a write that failed.
+    #[tactic(auto, using(crate::specs::ProgressLaws::told_laws))]
+    fn tell(&mut self, news: News)
+        ensures { Becomes E.contents E.failures self.old self.new }
+    {
+        // The caller has to have room for a failure of its own.
+        if !self.tells || self.errors.failures() >= u64::MAX - 2 {
+            return;
+        }
+        self.tells = send_news(self.errors, news).is_ok();
+    }
+}
+
+/// Waves are told at most once a second.
+impl<'a, R: Clock, E: Sink> Watch for Progress<'a, R, E> {
+    ghost use Rattle.morris_commands.specs.Progress.{Becomes};
+    ghost use Rattle.morris_commands.specs.ProgressLaws.{Becomes-joins, Becomes-stays};
+
+    ghost becomes = { λ old new. Becomes E.contents E.failures old new };
+
+    #[tactic(auto, using(crate::specs::ProgressLaws::told_laws))]
+    fn wave(&mut self, wave: u16) {
+        let so_far = self.so_far();
+        if so_far.seconds <= self.last_second {
+            return;
+        }
+        self.last_second = so_far.seconds;
+        self.tell(News::Wave {
+            greater: self.greater,
+            lesser: self.lesser,
+            wave,
+            so_far,
+        });
+    }
+
+    ghost stays = { λ told. Becomes-stays E.contents E.failures told };
+
+    ghost joins = { λ first midway last once again. Becomes-joins E.contents E.failures first midway last once again };
+}
+
+/// Tells how much there is to do where the tables of all pairs below a pair come about in this way,
+/// unless it was told before. Where memory to count them runs out it isn't told; the command then
+/// asks for memory itself.
+#[tactic(auto, using(crate::specs::ProgressLaws::told_laws))]
+pub fn announce<B: Geometry, R: Clock, E: Sink>(
+    alloc: Global,
+    pair: Pair<B>,
+    layout: Layout,
+    way: Way,
+    progress: &mut Progress<'_, R, E>,
+)
+    ensures { Becomes E.contents E.failures progress.old progress.new }
+{
+    if !progress.tells || progress.has_begun {
+        return;
+    }
+    if let Ok(size) = Size::of(alloc, pair, layout, way) {
+        progress.begin(size);
+    }
+}
+
+/// Sends the line of one of the news: the whole, or as many bytes of it as went out.
+fn send_news<E: Sink>(errors: &mut E, news: News) -> Result<(), u64>
+    requires { E.failures errors.old < 2 ^ 64 - 1 }
+    ensures sent { WentOut (E.contents errors.old) (E.contents errors.new) (news_line news) result }
+    ensures counted { CountsFailure (E.failures errors.old) (E.failures errors.new) result }
+{
+    let mut out = Buffered::new(errors);
+    match put_news_line(&mut out, news) {
+        Ok(()) => Ok(()),
+        Err(Failed) => Err(out.sent()),
+    }
+}
+
+/// Where nobody listens: a sink that takes all, and a clock that stands still.
+#[derive(Clone, Copy, Debug)]
+pub struct Nowhere;
+
+impl Sink for Nowhere {
+    ghost use Rattle.std.specs.Prelude.{None};
+
+    ghost contents = { λ s. None };
+
+    ghost failures = { λ s. 0 };
+
+    fn write(&mut self, bytes: &[u8]) -> Result<usize, Failed> {
+        Ok(bytes.len())
+    }
+
+    fn failures(&self) -> u64 {
+        0
+    }
+}
+
+impl Clock for Nowhere {
+    fn monotonic(&self) -> io::Result<Duration> {
+        Ok(Duration::ZERO)
+    }
+
+    fn since_1970(&self) -> io::Result<Duration> {
+        Ok(Duration::ZERO)
+    }
+}

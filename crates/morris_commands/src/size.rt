@@ -1,0 +1,146 @@
+//! How much a command has to do: how many entries there are, and about how much memory it takes.
+ghost use Rattle.std.specs.Prelude.{◌≡◌, ◌+◌, ◌^◌, ◌<◌, IfOk};
+ghost use Rattle.morris_commands.specs.Sizes.{entries_below, entries_of, is_same};
+
+use morris_board::board::Geometry;
+use morris_index::class_pair::ClassPair;
+use morris_index::pair::Pair;
+use morris_table::layout::Layout;
+use std::alloc::{AllocError, Global};
+
+/// What the program takes beside tables, in bytes: above all the lists that the workers keep.
+const BASE: u64 = 9_000_000;
+
+/// What stays of an entry with its table, in bytes: its code.
+const KEPT: u64 = 2;
+
+/// How many workers build, over how many blocks.
+#[derive(Clone, Copy, Debug, PartialEq, Eq)]
+pub struct Team {
+    /// 1 to 64.
+    pub workers: usize,
+    /// 1 to 1,024.
+    pub blocks: usize,
+}
+
+/// How the tables of a pair and of those below it come about, one after the other.
+#[derive(Clone, Copy, Debug, PartialEq, Eq)]
+pub enum Way {
+    /// They are swept, on one thread.
+    Swept,
+    /// A team builds them.
+    Built(Team),
+    /// They are read from files.
+    Read,
+    /// Those below are swept, and the pair's own, of so many entries, was read.
+    Verified(u64),
+}
+
+/// So many entries, and about so many bytes of memory to find them, table by table.
+#[derive(Clone, Copy, Debug, PartialEq, Eq)]
+pub struct Size {
+    /// The entries of all tables.
+    pub entries: u64,
+    /// About how many bytes are taken at once at most.
+    pub bytes: u64,
+}
+
+impl Size {
+    /// Of no table.
+    const NONE: Size = Size {
+        entries: 0,
+        bytes: BASE,
+    };
+
+    /// With a table of so many entries more, which takes so many bytes while it comes about.
+    fn with(self, entries: u64, bytes: u64) -> Size
+        ensures { self.entries + entries < 2 ^ 64 → result.entries ≡ self.entries + entries }
+    {
+        let kept = KEPT.saturating_mul(self.entries);
+        let at_once = kept.saturating_add(bytes).saturating_add(BASE);
+        Size {
+            entries: self.entries.saturating_add(entries),
+            bytes: self.bytes.max(at_once),
+        }
+    }
+
+    /// Of the tables of all pairs below a pair in a layout, its own among them.
+    ///
+    /// # Errors
+    /// [`AllocError`] where memory runs out, which isn't asked for in layout `Full`.
+    pub fn of<B: Geometry>(
+        alloc: Global,
+        pair: Pair<B>,
+        layout: Layout,
+        way: Way,
+    ) -> Result<Size, AllocError>
+        // As far as 64 bits hold the number, of which no board needs more than 45.
+        ensures { entries_below B.shape B.POINTS layout pair way < 2 ^ 64
+            → IfOk result (λ size. size.entries ≡ entries_below B.shape B.POINTS layout pair way) }
+    {
+        let mut size = Size::NONE;
+        for below in pair.below() {
+            let entries = count_entries(alloc, below, pair, layout, way)?;
+            let bytes = bytes_of(below, pair, entries, way);
+            size = size.with(entries, bytes);
+        }
+        Ok(size)
+    }
+}
+
+/// Whether two pairs have the same numbers of stones.
+fn is_same<B: Geometry>(a: Pair<B>, b: Pair<B>) -> bool
+    ensures { result ≡ is_same a b }
+{
+    a.greater() == b.greater() && a.lesser() == b.lesser()
+}
+
+/// How many entries the table of a pair has in a layout, where it is one of those below `last`.
+fn count_entries<B: Geometry>(
+    alloc: Global,
+    pair: Pair<B>,
+    last: Pair<B>,
+    layout: Layout,
+    way: Way,
+) -> Result<u64, AllocError>
+    ensures { IfOk result (λ count. count ≡ entries_of B.shape B.POINTS layout last way pair) }
+{
+    if let Way::Verified(entries) = way {
+        if is_same(pair, last) {
+            return Ok(entries);
+        }
+    }
+    match layout {
+        Layout::Full => Ok(pair.size()),
+        Layout::Classes => Ok(ClassPair::make(alloc, pair)?.size()),
+    }
+}
+
+/// About how many bytes the table of a pair with so many entries takes while it comes about.
+fn bytes_of<B: Geometry>(pair: Pair<B>, last: Pair<B>, entries: u64, way: Way) -> u64 {
+    match way {
+        Way::Swept => bytes_of_making(pair, entries, None),
+        Way::Built(team) => bytes_of_making(pair, entries, Some(team)),
+        Way::Verified(_) if !is_same(pair, last) => bytes_of_making(pair, entries, None),
+        Way::Read | Way::Verified(_) => KEPT.saturating_mul(entries),
+    }
+}
+
+/// About how many bytes it takes to make the table of a pair with so many entries. The numbers are
+/// fitted to builds that were measured: its nodes, and the lists of the blocks that are at work,
+/// both longer where a player has three stones, who may jump.
+fn bytes_of_making<B: Geometry>(pair: Pair<B>, entries: u64, team: Option<Team>) -> u64 {
+    let (node, list) = if pair.lesser() == 3 {
+        (2 * u64::from(pair.greater()) - 2, 96)
+    } else {
+        (u64::from(pair.greater()) - 1, 16)
+    };
+    let nodes = entries.saturating_mul(node);
+    let Some(team) = team else {
+        return nodes;
+    };
+    let lists = entries
+        .saturating_mul(list)
+        .saturating_mul(team.workers as u64);
+    nodes.saturating_add(lists.checked_div(team.blocks as u64).unwrap_or(0))
+}

@@ -1,0 +1,11 @@
+//! Tests of what no run of the program shows of its commands: faults that words are refused before,
+//! and the comparison of pairs. All else of the program is shown by runs of it. No part of the
+//! product.
+#![tactic(auto)]
+
+#[cfg(test)]
+mod build_tests;
+#[cfg(test)]
+mod fault_tests;
+#[cfg(test)]
+mod pair_tests;

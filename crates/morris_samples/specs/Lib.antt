@@ -1,0 +1,2 @@
+-- What the graphs of this crate are.
+pub mod Samples

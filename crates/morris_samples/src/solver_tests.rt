@@ -1,0 +1,172 @@
+ghost use Rattle.std.specs.Prelude.{◌≡◌, ◌<◌, ◌≤◌};
+
+use crate::checks::{holds, same, same_codes};
+use crate::gates::{CountingGate, HoledGate, MeetingGate, PickyGate, ShutGate};
+use crate::lones::LoneGraph;
+use crate::meetings::{Meeting, MeetingGraph};
+use crate::pairs::PairGraph;
+use morris_wave::Graph;
+use morris_workers::{Gate, OpenGate, SolveFault, check_numbers, solve};
+use std::alloc::Global;
+use std::process::Abort;
+use std::sync::Wait;
+use std::thread::Threads;
+
+const PAIR: PairGraph = PairGraph {
+    level: 0,
+    refuses: false,
+};
+
+// The graph is solved, and has these codes.
+fn solves<G: Graph + Send + Sync, A: Gate, R: Abort + Threads + Wait + Sync>(
+    rt: &R,
+    alloc: Global,
+    graph: &G,
+    gate: &A,
+    workers: usize,
+    blocks: usize,
+    codes: &[u16],
+) {
+    match solve(rt, alloc, graph, gate, workers, blocks) {
+        Ok(found) => same_codes(rt, &found, codes, "codes"),
+        Err(fault) => panic!(rt; "{workers} workers, {blocks} blocks: {fault}"),
+    }
+}
+
+// The graph isn't solved, for this fault.
+fn refuses<G: Graph + Send + Sync, A: Gate, R: Abort + Threads + Wait + Sync>(
+    rt: &R,
+    alloc: Global,
+    graph: &G,
+    gate: &A,
+    workers: usize,
+    blocks: usize,
+    want: SolveFault,
+) {
+    let answer = solve(rt, alloc, graph, gate, workers, blocks);
+    holds(rt, matches!(&answer, Err(fault) if *fault == want), "fault");
+}
+
+#[test]
+fn a_pair_is_solved_by_any_number_of_workers_and_blocks(rt: HostRuntime) {
+    // Node 1 is won in 41 and node 0 lost in 42; waves 1 to 40 decide nothing.
+    let codes = [43, 42].as_slice();
+    solves(&rt, rt.alloc(), &PAIR, &OpenGate, 2, 2, codes);
+    solves(&rt, rt.alloc(), &PAIR, &OpenGate, 1, 1, codes);
+    solves(&rt, rt.alloc(), &PAIR, &OpenGate, 1, 5, codes);
+    solves(&rt, rt.alloc(), &PAIR, &OpenGate, 7, 3, codes);
+    solves(&rt, rt.alloc(), &PAIR, &OpenGate, 64, 2, codes);
+}
+
+#[test]
+fn exits_are_waited_for(rt: HostRuntime) {
+    // The only exit is lost in 0, and in 2,000.
+    let soon = LoneGraph { level: 2 };
+    solves(&rt, rt.alloc(), &soon, &OpenGate, 2, 1024, &[2]);
+    let late = LoneGraph { level: 2 * 2001 };
+    solves(&rt, rt.alloc(), &late, &OpenGate, 2, 2, &[2002]);
+}
+
+#[test]
+fn the_last_exit_that_is_waited_for_is_lost_in_65532(rt: HostRuntime) {
+    let last = LoneGraph { level: 2 * 65533 };
+    solves(&rt, rt.alloc(), &last, &OpenGate, 1, 1, &[65534]);
+}
+
+#[test]
+fn too_deep_graphs_are_not_solved(rt: HostRuntime) {
+    let deep = LoneGraph { level: 2 * 65534 };
+    refuses(&rt, rt.alloc(), &deep, &OpenGate, 1, 1, SolveFault::TooDeep);
+    let deeper = LoneGraph { level: 2 * 65535 };
+    refuses(
+        &rt,
+        rt.alloc(),
+        &deeper,
+        &OpenGate,
+        1,
+        1,
+        SolveFault::TooDeep,
+    );
+}
+
+// What is said of numbers of workers and blocks.
+fn is_refused(rt: &impl Abort, workers: usize, blocks: usize, want: SolveFault) {
+    let answer = check_numbers(workers, blocks);
+    holds(rt, matches!(answer, Err(fault) if fault == want), "fault");
+}
+
+#[test]
+fn numbers_out_of_range_are_refused_workers_first(rt: HostRuntime) {
+    is_refused(&rt, 0, 2, SolveFault::Workers);
+    is_refused(&rt, 65, 2, SolveFault::Workers);
+    is_refused(&rt, 0, 0, SolveFault::Workers);
+    is_refused(&rt, 2, 0, SolveFault::Blocks);
+    is_refused(&rt, 2, 1025, SolveFault::Blocks);
+    holds(&rt, check_numbers(64, 1024).is_ok(), "the greatest numbers");
+}
+
+#[test]
+fn block_that_is_not_sent_from_is_told(rt: HostRuntime) {
+    refuses(
+        &rt,
+        rt.alloc(),
+        &PAIR,
+        &ShutGate,
+        2,
+        2,
+        SolveFault::Missing(0),
+    );
+    let holed = HoledGate { number: 3 };
+    refuses(&rt, rt.alloc(), &PAIR, &holed, 2, 5, SolveFault::Missing(0));
+    // The other worker may have drawn all numbers, in each of the waves.
+    match solve(&rt, rt.alloc(), &PAIR, &PickyGate { worker: 1 }, 2, 5) {
+        Ok(codes) => same_codes(&rt, &codes, &[43, 42], "codes"),
+        Err(fault) => holds(&rt, fault == SolveFault::Missing(0), "fault"),
+    }
+}
+
+#[test]
+fn a_worker_that_is_told_to_leave_draws_no_more(rt: HostRuntime) {
+    let gate = CountingGate::new();
+    refuses(&rt, rt.alloc(), &PAIR, &gate, 1, 5, SolveFault::Missing(0));
+    same(&rt, gate.passes(), 1, "draws");
+}
+
+#[test]
+fn want_of_memory_comes_before_what_it_leaves_undone(rt: HostRuntime) {
+    // The graph refuses memory to the first who goes back, which is after wave 41.
+    let refusing = PairGraph {
+        level: 0,
+        refuses: true,
+    };
+    refuses(
+        &rt,
+        rt.alloc(),
+        &refusing,
+        &OpenGate,
+        2,
+        2,
+        SolveFault::Memory,
+    );
+}
+
+#[test]
+fn two_workers_make_blocks_side_by_side(rt: HostRuntime) {
+    let graph = MeetingGraph::new(Meeting::ReadExits);
+    solves(&rt, rt.alloc(), &graph, &OpenGate, 2, 2, &[1, 1]);
+    holds(&rt, graph.have_met(), "met");
+}
+
+#[test]
+fn two_workers_look_at_the_graph_side_by_side(rt: HostRuntime) {
+    let graph = MeetingGraph::new(Meeting::Back);
+    solves(&rt, rt.alloc(), &graph, &OpenGate, 2, 2, &[1, 1]);
+    holds(&rt, graph.have_met(), "met");
+}
+
+#[test]
+fn two_workers_meet_at_the_gate(rt: HostRuntime) {
+    let gate = MeetingGate::new();
+    solves(&rt, rt.alloc(), &PAIR, &gate, 2, 5, &[43, 42]);
+    holds(&rt, gate.have_met(), "met");
+}

@@ -1,0 +1,161 @@
+ghost use Rattle.std.specs.Prelude.{◌≡◌, ◌<◌, ◌≤◌};
+
+use crate::bares::BareGraph;
+use crate::checks::{holds, same, same_codes};
+use crate::gates::ShutGate;
+use crate::lones::LoneGraph;
+use crate::pairs::PairGraph;
+use crate::scribes::Scribe;
+use morris_wave::Graph;
+use morris_workers::{Gate, OpenGate, SolveFault, solve_watched};
+use std::alloc::Global;
+use std::process::Abort;
+use std::sync::Wait;
+use std::thread::Threads;
+
+const PAIR: PairGraph = PairGraph {
+    level: 0,
+    refuses: false,
+};
+
+// The waves that are told are 1, 2, .. up to this one, each once.
+fn are_waves_to(rt: &impl Abort, told: &[u16], last: u16) {
+    same(rt, told.len() as u64, u64::from(last), "waves");
+    let are_in_order = told
+        .iter()
+        .enumerate()
+        .all(|(place, wave)| *wave as usize == place + 1);
+    holds(rt, are_in_order, "order");
+}
+
+// Solves a graph, and looks at the waves that are told.
+fn tells<G: Graph + Send + Sync, A: Gate, R: Abort + Threads + Wait + Sync>(
+    rt: &R,
+    alloc: Global,
+    graph: &G,
+    gate: &A,
+    workers: usize,
+    blocks: usize,
+    last: u16,
+) -> Result<Vec<u16>, SolveFault> {
+    let mut told = Vec::new(alloc);
+    let mut scribe = Scribe { told: &mut told };
+    let answer = solve_watched(rt, alloc, graph, gate, workers, blocks, &mut scribe);
+    are_waves_to(rt, &told, last);
+    answer
+}
+
+// So many waves are told, and then the codes are these.
+fn ends<G: Graph + Send + Sync, R: Abort + Threads + Wait + Sync>(
+    rt: &R,
+    alloc: Global,
+    graph: &G,
+    workers: usize,
+    blocks: usize,
+    last: u16,
+    codes: &[u16],
+) {
+    match tells(rt, alloc, graph, &OpenGate, workers, blocks, last) {
+        Ok(found) => same_codes(rt, &found, codes, "codes"),
+        Err(fault) => panic!(rt; "{fault}"),
+    }
+}
+
+// So many waves are told, and then the graph is refused for this fault.
+fn breaks_off<G: Graph + Send + Sync, A: Gate, R: Abort + Threads + Wait + Sync>(
+    rt: &R,
+    alloc: Global,
+    graph: &G,
+    gate: &A,
+    workers: usize,
+    last: u16,
+    want: SolveFault,
+) {
+    let answer = tells(rt, alloc, graph, gate, workers, 2, last);
+    holds(rt, matches!(&answer, Err(fault) if *fault == want), "fault");
+}
+
+#[test]
+fn each_wave_is_told_once_in_order(rt: HostRuntime) {
+    // Node 0 is lost in 42, and wave 43 decides nothing more.
+    let codes = [43, 42].as_slice();
+    ends(&rt, rt.alloc(), &PAIR, 2, 2, 43, codes);
+    ends(&rt, rt.alloc(), &PAIR, 1, 5, 43, codes);
+    ends(&rt, rt.alloc(), &PAIR, 7, 3, 43, codes);
+}
+
+#[test]
+fn a_wave_that_decides_nothing_is_told_too(rt: HostRuntime) {
+    // Both nodes are lost before the first wave.
+    let bare = BareGraph { level: 2 };
+    ends(&rt, rt.alloc(), &bare, 2, 2, 1, &[1, 1]);
+    // The only exit of the only node is lost in 2, so that the node is won in 3.
+    let lone = LoneGraph { level: 2 * 3 };
+    ends(&rt, rt.alloc(), &lone, 2, 3, 4, &[4]);
+}
+
+// The graph is solved with no draw, and no wave is told.
+fn is_settled_at_once<G: Graph + Send + Sync, R: Abort + Threads + Wait + Sync>(
+    rt: &R,
+    alloc: Global,
+    graph: &G,
+    codes: &[u16],
+) {
+    match tells(rt, alloc, graph, &ShutGate, 2, 3, 0) {
+        Ok(found) => same_codes(rt, &found, codes, "codes"),
+        Err(fault) => panic!(rt; "{fault}"),
+    }
+}
+
+#[test]
+fn nothing_is_told_of_a_graph_that_is_settled_at_once(rt: HostRuntime) {
+    let none = BareGraph { level: 0 };
+    is_settled_at_once(&rt, rt.alloc(), &none, &[]);
+    // The only exit of the only node is drawn.
+    let drawn = LoneGraph { level: 0 };
+    is_settled_at_once(&rt, rt.alloc(), &drawn, &[0]);
+}
+
+#[test]
+fn nothing_is_told_where_no_wave_begins(rt: HostRuntime) {
+    breaks_off(&rt, rt.alloc(), &PAIR, &OpenGate, 0, 0, SolveFault::Workers);
+    breaks_off(
+        &rt,
+        rt.alloc(),
+        &PAIR,
+        &OpenGate,
+        65,
+        0,
+        SolveFault::Workers,
+    );
+    // The exit is lost in 65,534, so that it would come due after the last wave.
+    let deep = LoneGraph { level: 2 * 65535 };
+    breaks_off(&rt, rt.alloc(), &deep, &OpenGate, 1, 0, SolveFault::TooDeep);
+}
+
+#[test]
+fn a_wave_that_is_refused_is_the_last_that_is_told(rt: HostRuntime) {
+    breaks_off(
+        &rt,
+        rt.alloc(),
+        &PAIR,
+        &ShutGate,
+        2,
+        1,
+        SolveFault::Missing(0),
+    );
+    // Memory is refused to the first who goes back, which is from node 1, won in 41.
+    let refusing = PairGraph {
+        level: 0,
+        refuses: true,
+    };
+    breaks_off(
+        &rt,
+        rt.alloc(),
+        &refusing,
+        &OpenGate,
+        2,
+        42,
+        SolveFault::Memory,
+    );
+}

@@ -1,0 +1,137 @@
+// Builds that are watched.
+ghost use Rattle.std.specs.Prelude.{◌≤◌, vec_len};
+
+use crate::builds::Shut;
+use crate::making::{agree, pair, three_three};
+use morris_board::grid::Grid;
+use morris_table::building::build_watched;
+use morris_table::exact::Exact;
+use morris_table::layout::Layout;
+use morris_table::shelf::{Needs, Shelf};
+use morris_table::sweeping::BuildFault;
+use morris_workers::{OpenGate, Watch};
+use std::alloc::Global;
+use std::process::Abort;
+use std::sync::Wait;
+use std::thread::Threads;
+
+/// Writes down the waves that it is told.
+#[derive(Drop)]
+struct Scribe {
+    told: Vec<u16>,
+}
+
+impl Watch for Scribe {
+    ghost use Rattle.std.proofs.Common.{arith};
+
+    ghost becomes = { λ old new. vec_len old.told ≤ vec_len new.told };
+
+    fn wave(&mut self, wave: u16) {
+        // A wave for which memory is refused is missing in the list, which a test sees.
+        let _ = self.told.push(wave);
+    }
+
+    ghost stays = { λ watch. omega arith };
+
+    ghost joins = { λ first then last once again. omega (arith, once, again) };
+}
+
+/// The table of 3-3 in a layout, from a build that tells a watch.
+fn watched<R: Threads + Wait + Sync>(
+    rt: &R,
+    alloc: Global,
+    layout: Layout,
+    watch: &mut Scribe,
+    workers: usize,
+    blocks: usize,
+) -> Option<Exact<Grid>> {
+    let pair = pair(3, 3)?;
+    let shelf = &Shelf::new(alloc).ok()?;
+    build_watched(
+        rt, alloc, shelf, pair, layout, &OpenGate, watch, workers, blocks,
+    )
+    .ok()
+}
+
+/// The waves that a build of 3-3 tells, which gives the values of its sweep.
+fn waves<R: Threads + Wait + Sync>(
+    rt: &R,
+    alloc: Global,
+    layout: Layout,
+    workers: usize,
+    blocks: usize,
+) -> Option<Vec<u16>> {
+    let swept = three_three(alloc)?;
+    let told = Vec::new(alloc);
+    let mut scribe = Scribe { told };
+    let table = watched(rt, alloc, layout, &mut scribe, workers, blocks)?;
+    (table.layout() == layout && agree(&swept, &table)).then_some(scribe.told)
+}
+
+/// Whether a build of 3-3 tells four waves. No value of 3-3 is deeper than a win in 3, which wave 3
+/// decides; wave 4 decides nothing more.
+fn tells_four<R: Threads + Wait + Sync>(
+    rt: &R,
+    alloc: Global,
+    layout: Layout,
+    workers: usize,
+    blocks: usize,
+) -> bool {
+    match waves(rt, alloc, layout, workers, blocks) {
+        Some(told) => told.as_slice() == [1, 2, 3, 4].as_slice(),
+        None => false,
+    }
+}
+
+#[test]
+fn a_watch_is_told_the_waves_of_a_build(rt: HostRuntime) {
+    assert!(rt; tells_four(&rt, rt.alloc(), Layout::Full, 1, 1));
+    assert!(rt; tells_four(&rt, rt.alloc(), Layout::Full, 3, 64));
+    assert!(rt; tells_four(&rt, rt.alloc(), Layout::Classes, 1, 1));
+    assert!(rt; tells_four(&rt, rt.alloc(), Layout::Classes, 2, 5));
+}
+
+/// How many waves are told of a build over an empty shelf that is refused for this, and whose
+/// workers are all sent away.
+fn waves_before<R: Threads + Wait + Sync>(
+    rt: &R,
+    alloc: Global,
+    layout: Layout,
+    greater: u8,
+    workers: usize,
+    fault: BuildFault<Grid>,
+) -> Option<usize> {
+    let pair = pair(greater, 3)?;
+    let shelf = &Shelf::new(alloc).ok()?;
+    let told = Vec::new(alloc);
+    let mut scribe = Scribe { told };
+    let watch = &mut scribe;
+    let refused = build_watched(rt, alloc, shelf, pair, layout, &Shut, watch, workers, 5).err();
+    (refused == Some(fault)).then_some(scribe.told.len())
+}
+
+/// Whether a watch is told nothing of a build in a layout that is refused before its first wave.
+fn tells_nothing_before<R: Threads + Wait + Sync>(
+    rt: &R,
+    alloc: Global,
+    layout: Layout,
+) -> Option<bool> {
+    let needs = BuildFault::Needs(Needs(pair(3, 3)?));
+    let missing = waves_before(rt, alloc, layout, 4, 2, needs)?;
+    let idle = waves_before(rt, alloc, layout, 3, 0, BuildFault::Workers)?;
+    // The first wave begins, and every worker is sent away.
+    let shut = waves_before(rt, alloc, layout, 3, 2, BuildFault::Missing(0))?;
+    Some(missing == 0 && idle == 0 && shut == 1)
+}
+
+#[test]
+fn a_watch_is_told_nothing_of_a_build_that_is_refused_before(rt: HostRuntime) {
+    assert_eq!(rt;
+        tells_nothing_before(&rt, rt.alloc(), Layout::Full),
+        Some(true)
+    );
+    assert_eq!(rt;
+        tells_nothing_before(&rt, rt.alloc(), Layout::Classes),
+        Some(true)
+    );
+}

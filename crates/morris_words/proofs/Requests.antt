@@ -1,0 +1,377 @@
+-- Where `clap` finds no mistake in the words, they name a command of the program, with the values
+-- that its request wants.
+use Rattle.std.proofs.Common.{◌≡◌, ◌∙◌, ◌&&◌, ◌||◌, ◌⊎◌, Bool, true, false, not, refl, sym, ap, subst, inl, inr, List, [], ◌∷◌, Option, Some, None, is_some, codes}
+use Rattle.std.specs.Prelude.{find, fold, option_map, pos}
+use Rattle.std.specs.Option.{option_map_or}
+use Rattle.std.specs.Str.{bytes_eq}
+use Rattle.std.proofs.lemmas.Slice.Eq.{bytes_eq-Decides}
+use Rattle.clap.proofs.ValueTestLemmas.{accepts-Accepts}
+use Rattle.clap.specs.Faults.{built_fault, entered_fault, level_fault}
+use Rattle.clap.specs.Takes.{is_given}
+use Rattle.clap.specs.ValueTests.{accepts}
+use Rattle.clap.specs.Values.{bool_text}
+use Rattle.clap.specs.Walk.{Row, Rule, Text, answers_to, arg_by_id, finished, has_row, nothing_held, one_of, rows_after, settled, stop_after, walk, with_default}
+use Rattle.clap.specs.Simple.{App, Shape, argument_words, built, built_leaf, entered, filled, help_rule, inherited, label_of, marked_built, names_of, new_rule, new_shape, rows_at, with_index, with_leaf_noted, with_subcommand}
+use Rattle.clap.specs.declared.builder.action.ArgAction.TheVariants.{SetTrue}
+use Rattle.clap.specs.declared.builder.value_parser.ValueParser.TheVariants as parser
+use Rattle.morris_words.specs.Words.{HasBuildValues, HasLookValues, HasProbeValues, HasStatsValues, HasVerifyValues, NamesRequest, all_rule, blocks_rule, build_app, classes_rule, depth_rule, faults_of, look_app, morris_app, named_by, probe_app, program, progress_rule, required_rule, stats_app, verify_app, workers_rule}
+use Rattle.morris_words.proofs.Parsed.{Each, Each-find, HasValue, IsNotHelp, IsPlainRule, Passing, arguments_there, default_fills, default_keeps, given_value, level_passes, row_value, subcommand_there}
+
+-- ---- arguments that have a value where they are left out
+
+-- no default takes a row away
+defaults_keep : (id : Text) (rules : List Rule) (rows : List Row) → has_row id rows ≡ true → has_row id (fold with_default rows rules) ≡ true
+defaults_keep id [] rows has = has
+defaults_keep id (a ∷ rest) rows has = defaults_keep id rest (with_default rows a) (default_keeps id a rows has)
+
+-- so an argument with a default has a row, whichever arguments come after it
+default_stays : (a : Rule) (v : Text) (vs : List Text) (rest : List Rule) (rows : List Row) → a.defaults ≡ v ∷ vs
+    → has_row a.id (fold with_default rows (a ∷ rest)) ≡ true
+default_stays a v vs rest rows is = defaults_keep a.id rest (with_default rows a) (default_fills a v vs rows is)
+
+-- the flag of a name, as it is built
+abbrev flag : Text → Rule
+flag name = filled (record (new_rule name) { long = Some name; action = Some SetTrue })
+
+-- a text that passed the parser of a flag says true or false
+says_bool : (t : Text) → accepts false parser.Bool t ≡ true → (b : Bool) × (t ≡ bool_text b)
+says_bool t pass = go (bytes_eq t (codes "true")) refl
+  where
+    go : (b : Bool) → bytes_eq t (codes "true") ≡ b → (b : Bool) × (t ≡ bool_text b)
+    go true e = (true, (bytes_eq-Decides t (codes "true")).0 e)
+    go false e = (false, (bytes_eq-Decides t (codes "false")).0 (rw e at pass))
+
+-- the rows with the default of a flag say true or false of it
+flag_says : (c : List Rule) (name : Text) (rest : List Rule) (rows : List Row) → Passing c (fold with_default rows (flag name ∷ rest))
+    → arg_by_id c name ≡ Some (flag name) → (b : Bool) × (one_of name (fold with_default rows (flag name ∷ rest)) ≡ Some (bool_text b))
+flag_says c name rest rows passes known =
+    let all = fold with_default rows (flag name ∷ rest) in
+    let value : HasValue all (flag name) = row_value c all (flag name) passes (default_stays (flag name) (codes "false") [] rest rows refl) known in
+    let says = says_bool value.first value.passes in
+    (says.0, value.read ∙ ap (λ t. Some t) says.1)
+
+-- ---- `look`, as it is built
+
+abbrev board : Rule
+board = with_index 1 (filled (required_rule (codes "BOARD")))
+
+abbrev position : Rule
+position = with_index 2 (filled (required_rule (codes "TEXT")))
+
+abbrev depth : Rule
+depth = filled depth_rule
+
+abbrev help : Rule
+help = filled help_rule
+
+abbrev look_top : Shape
+look_top = record (new_shape (codes "look")) { rules = required_rule (codes "BOARD") ∷ required_rule (codes "TEXT") ∷ depth_rule ∷ [] }
+
+abbrev stats_top : Shape
+stats_top = record (new_shape (codes "stats")) { rules = required_rule (codes "BOARD") ∷ required_rule (codes "PAIR") ∷ progress_rule ∷ [] }
+
+abbrev build_top : Shape
+build_top = record (new_shape (codes "build")) {
+  rules = required_rule (codes "BOARD") ∷ required_rule (codes "PAIR") ∷ workers_rule ∷ blocks_rule ∷ all_rule ∷ classes_rule ∷ progress_rule ∷ [];
+}
+
+abbrev verify_top : Shape
+verify_top = record (new_shape (codes "verify")) { rules = required_rule (codes "BOARD") ∷ progress_rule ∷ [] }
+
+abbrev probe_top : Shape
+probe_top = record (new_shape (codes "probe")) { rules = required_rule (codes "BOARD") ∷ required_rule (codes "TEXT") ∷ progress_rule ∷ [] }
+
+abbrev whole : App
+whole = with_subcommand (with_subcommand (with_subcommand (with_subcommand (with_subcommand program look_top) stats_top) build_top) verify_top) probe_top
+
+abbrev look : Shape
+look = built_leaf (inherited (with_leaf_noted (marked_built whole.top)) look_top)
+
+look_plain : Each (IsPlainRule look.rules) look.rules
+look_plain = (
+  record { known = refl; kind = inl (refl, refl) },
+  (
+    record { known = refl; kind = inl (refl, refl) },
+    (
+      record { known = refl; kind = inl (refl, refl) },
+      (record { known = refl; kind = inr (inr refl) }, tt),
+    ),
+  ),
+)
+
+both_given : (p q : Bool) → (not p || (not q || false)) ≡ false → (p ≡ true) × (q ≡ true)
+both_given true true h = (refl, refl)
+both_given true false h = cc
+both_given false q h = cc
+
+look_fits : (words : List Text) → level_fault look [] nothing_held words false [] ≡ [] → HasLookValues (rows_after look.rules [] words)
+look_fits words none =
+    let level = level_passes look [] words false [] look_plain none in
+    let rows = rows_after look.rules [] words in
+    let start = (settled look.rules (walk look.rules [] nothing_held words).held).rows in
+    let missing : (not (is_given (codes "BOARD") rows) || (not (is_given (codes "TEXT") rows) || false)) ≡ false = arguments_there look rows false level.checked in
+    let given = both_given _ _ missing in
+    let has : has_row (codes "depth") rows ≡ true = default_stays depth (codes "2") [] (help ∷ []) (with_default (with_default start board) position) refl in
+    let first : HasValue rows board = given_value look.rules rows board level.rows given.0 refl in
+    let second : HasValue rows position = given_value look.rules rows position level.rows given.1 refl in
+    let third : HasValue rows depth = row_value look.rules rows depth level.rows has refl in
+    record {
+      board = ap is_some first.is_first;
+      text = ap is_some second.is_first;
+      depth = third.first;
+      read = third.read;
+      in_range = accepts-Accepts false (parser.Signed (pos 0) (pos 6)) third.first third.passes;
+    }
+
+-- ---- `stats`, as it is built
+
+abbrev pair : Rule
+pair = with_index 2 (filled (required_rule (codes "PAIR")))
+
+abbrev stats : Shape
+stats = built_leaf (inherited (with_leaf_noted (marked_built whole.top)) stats_top)
+
+stats_plain : Each (IsPlainRule stats.rules) stats.rules
+stats_plain = (
+  record { known = refl; kind = inl (refl, refl) },
+  (
+    record { known = refl; kind = inl (refl, refl) },
+    (
+      record { known = refl; kind = inr (inl (refl, refl)) },
+      (record { known = refl; kind = inr (inr refl) }, tt),
+    ),
+  ),
+)
+
+stats_fits : (words : List Text) → level_fault stats [] nothing_held words false [] ≡ [] → HasStatsValues (rows_after stats.rules [] words)
+stats_fits words none =
+    let level = level_passes stats [] words false [] stats_plain none in
+    let rows = rows_after stats.rules [] words in
+    let start = (settled stats.rules (walk stats.rules [] nothing_held words).held).rows in
+    let missing : (not (is_given (codes "BOARD") rows) || (not (is_given (codes "PAIR") rows) || false)) ≡ false = arguments_there stats rows false level.checked in
+    let given = both_given _ _ missing in
+    let first : HasValue rows board = given_value stats.rules rows board level.rows given.0 refl in
+    let second : HasValue rows pair = given_value stats.rules rows pair level.rows given.1 refl in
+    let progress = flag_says stats.rules (codes "progress") (help ∷ []) (with_default (with_default start board) pair) level.rows refl in
+    record {
+      board = ap is_some first.is_first;
+      pair = ap is_some second.is_first;
+      progress = progress.0;
+      progress_read = progress.1;
+    }
+
+-- ---- `build`, as it is built
+
+abbrev workers : Rule
+workers = filled workers_rule
+
+abbrev blocks : Rule
+blocks = filled blocks_rule
+
+abbrev build : Shape
+build = built_leaf (inherited (with_leaf_noted (marked_built whole.top)) build_top)
+
+build_plain : Each (IsPlainRule build.rules) build.rules
+build_plain = (
+  record { known = refl; kind = inl (refl, refl) },
+  (
+    record { known = refl; kind = inl (refl, refl) },
+    (
+      record { known = refl; kind = inl (refl, refl) },
+      (
+        record { known = refl; kind = inl (refl, refl) },
+        (
+          record { known = refl; kind = inr (inl (refl, refl)) },
+          (
+            record { known = refl; kind = inr (inl (refl, refl)) },
+            (
+              record { known = refl; kind = inr (inl (refl, refl)) },
+              (record { known = refl; kind = inr (inr refl) }, tt),
+            ),
+          ),
+        ),
+      ),
+    ),
+  ),
+)
+
+build_fits : (words : List Text) → level_fault build [] nothing_held words false [] ≡ [] → HasBuildValues (rows_after build.rules [] words)
+build_fits words none =
+    let level = level_passes build [] words false [] build_plain none in
+    let rows = rows_after build.rules [] words in
+    let start = (settled build.rules (walk build.rules [] nothing_held words).held).rows in
+    let missing : (not (is_given (codes "BOARD") rows) || (not (is_given (codes "PAIR") rows) || false)) ≡ false = arguments_there build rows false level.checked in
+    let given = both_given _ _ missing in
+    let two = with_default (with_default start board) pair in
+    let three = with_default two workers in
+    let four = with_default three blocks in
+    let five = with_default four (flag (codes "all")) in
+    let six = with_default five (flag (codes "classes")) in
+    let after_classes = flag (codes "progress") ∷ help ∷ [] in
+    let after_all = flag (codes "classes") ∷ after_classes in
+    let after_blocks = flag (codes "all") ∷ after_all in
+    let first : HasValue rows board = given_value build.rules rows board level.rows given.0 refl in
+    let second : HasValue rows pair = given_value build.rules rows pair level.rows given.1 refl in
+    let third : HasValue rows workers = row_value build.rules rows workers level.rows (default_stays workers (codes "2") [] (blocks ∷ after_blocks) two refl) refl in
+    let fourth : HasValue rows blocks = row_value build.rules rows blocks level.rows (default_stays blocks (codes "16") [] after_blocks three refl) refl in
+    let all = flag_says build.rules (codes "all") after_all four level.rows refl in
+    let classes = flag_says build.rules (codes "classes") after_classes five level.rows refl in
+    let progress = flag_says build.rules (codes "progress") (help ∷ []) six level.rows refl in
+    record {
+      board = ap is_some first.is_first;
+      pair = ap is_some second.is_first;
+      workers_text = third.first;
+      workers_read = third.read;
+      workers_in_range = accepts-Accepts false (parser.Signed (pos 1) (pos 64)) third.first third.passes;
+      blocks_text = fourth.first;
+      blocks_read = fourth.read;
+      blocks_in_range = accepts-Accepts false (parser.Signed (pos 1) (pos 1024)) fourth.first fourth.passes;
+      all = all.0;
+      all_read = all.1;
+      classes = classes.0;
+      classes_read = classes.1;
+      progress = progress.0;
+      progress_read = progress.1;
+    }
+
+-- ---- `verify`, as it is built
+
+abbrev verify : Shape
+verify = built_leaf (inherited (with_leaf_noted (marked_built whole.top)) verify_top)
+
+verify_plain : Each (IsPlainRule verify.rules) verify.rules
+verify_plain = (
+  record { known = refl; kind = inl (refl, refl) },
+  (
+    record { known = refl; kind = inr (inl (refl, refl)) },
+    (record { known = refl; kind = inr (inr refl) }, tt),
+  ),
+)
+
+one_given : (p : Bool) → (not p || false) ≡ false → p ≡ true
+one_given true h = refl
+one_given false h = cc
+
+verify_fits : (words : List Text) → level_fault verify [] nothing_held words false [] ≡ [] → HasVerifyValues (rows_after verify.rules [] words)
+verify_fits words none =
+    let level = level_passes verify [] words false [] verify_plain none in
+    let rows = rows_after verify.rules [] words in
+    let start = (settled verify.rules (walk verify.rules [] nothing_held words).held).rows in
+    let missing : (not (is_given (codes "BOARD") rows) || false) ≡ false = arguments_there verify rows false level.checked in
+    let first : HasValue rows board = given_value verify.rules rows board level.rows (one_given _ missing) refl in
+    let progress = flag_says verify.rules (codes "progress") (help ∷ []) (with_default start board) level.rows refl in
+    record { board = ap is_some first.is_first; progress = progress.0; progress_read = progress.1 }
+
+-- ---- `probe`, as it is built
+
+abbrev probe : Shape
+probe = built_leaf (inherited (with_leaf_noted (marked_built whole.top)) probe_top)
+
+probe_plain : Each (IsPlainRule probe.rules) probe.rules
+probe_plain = (
+  record { known = refl; kind = inl (refl, refl) },
+  (
+    record { known = refl; kind = inl (refl, refl) },
+    (
+      record { known = refl; kind = inr (inl (refl, refl)) },
+      (record { known = refl; kind = inr (inr refl) }, tt),
+    ),
+  ),
+)
+
+probe_fits : (words : List Text) → level_fault probe [] nothing_held words false [] ≡ [] → HasProbeValues (rows_after probe.rules [] words)
+probe_fits words none =
+    let level = level_passes probe [] words false [] probe_plain none in
+    let rows = rows_after probe.rules [] words in
+    let start = (settled probe.rules (walk probe.rules [] nothing_held words).held).rows in
+    let missing : (not (is_given (codes "BOARD") rows) || (not (is_given (codes "TEXT") rows) || false)) ≡ false = arguments_there probe rows false level.checked in
+    let given = both_given _ _ missing in
+    let first : HasValue rows board = given_value probe.rules rows board level.rows given.0 refl in
+    let second : HasValue rows position = given_value probe.rules rows position level.rows given.1 refl in
+    let progress = flag_says probe.rules (codes "progress") (help ∷ []) (with_default (with_default start board) position) level.rows refl in
+    record {
+      board = ap is_some first.is_first;
+      text = ap is_some second.is_first;
+      progress = progress.0;
+      progress_read = progress.1;
+    }
+
+-- ---- the program
+
+only_left : (b : Bool) → (b || false) ≡ true → b ≡ true
+only_left true h = refl
+only_left false h = h
+
+-- a command of the program: its words make a request, or it is `help`, whose words always ask for
+-- help
+abbrev Serves : Shape → Type 0
+Serves s = ((words : List Text) → level_fault s [] nothing_held words false [] ≡ [] → NamesRequest (Some (rows_at s words)))
+    ⊎ ((s.name ≡ codes "help") × (s.aliases ≡ []))
+
+all_serve : Each Serves (built whole).subs
+all_serve = (
+  inl (λ words none. inl (refl, look_fits words none)),
+  (
+    inl (λ words none. inr (inl (refl, stats_fits words none))),
+    (
+      inl (λ words none. inr (inr (inl (refl, build_fits words none)))),
+      (
+        inl (λ words none. inr (inr (inr (inl (refl, verify_fits words none))))),
+        (inl (λ words none. inr (inr (inr (inr (refl, probe_fits words none))))), (inr (refl, refl), tt)),
+      ),
+    ),
+  ),
+)
+
+program_plain : Each (IsPlainRule (built whole).top.rules) (built whole).top.rules
+program_plain = (
+  record { known = refl; kind = inr (inr refl) },
+  (record { known = refl; kind = inr (inr refl) }, tt),
+)
+
+not_named_help : (s : Shape) (name : Text) → s.name ≡ codes "help" → s.aliases ≡ [] → answers_to name (label_of s) ≡ true
+    → bytes_eq name (codes "help") ≡ false → ⊥
+not_named_help s name is alone answers other =
+    let here : (bytes_eq (codes "help") name || false) ≡ true = rw (is, alone) at answers in
+    let same : codes "help" ≡ name = (bytes_eq-Decides (codes "help") name).0 (only_left (bytes_eq (codes "help") name) here) in
+    let again : bytes_eq name (codes "help") ≡ true = (bytes_eq-Decides name (codes "help")).1 (sym same) in
+    let bad : true ≡ false = sym again ∙ other in
+    cc
+
+found_named : (p : Text × List Text) (o : Option Shape) → ((s : Shape) → o ≡ Some s → Serves s × (answers_to p.0 (label_of s) ≡ true))
+    → IsNotHelp (Some p) → option_map_or (λ s. level_fault s [] nothing_held p.1 false []) o [] ≡ []
+    → is_some (option_map (λ s. rows_at s p.1) o) ≡ true → NamesRequest (option_map (λ s. rows_at s p.1) o)
+found_named p None serves other none has = cc
+found_named p (Some s) serves other none has =
+    let at = serves s refl in
+    elim at.0 [
+      | inl fits ↦ fits p.1 none
+      | inr named ↦ absurd (not_named_help s p.0 named.0 named.1 at.1 other)
+    ]
+
+entered_named : (a : App) (stop : Option (Text × List Text)) → Each Serves a.subs → IsNotHelp stop → entered_fault a stop ≡ []
+    → is_some (entered a stop) ≡ true → NamesRequest (entered a stop)
+entered_named a None serves other none has = cc
+entered_named a (Some p) serves other none has =
+    found_named p (find (λ s. answers_to p.0 (label_of s)) a.subs)
+    (λ s e. Each-find Serves (λ x. answers_to p.0 (label_of x)) a.subs s serves e) other none has
+
+there : (b : Bool) → (not b && true) ≡ false → b ≡ true
+there true h = refl
+there false h = cc
+
+-- a program that wants a command, of which each serves
+program_named : (a : App) (words : List Text) → Each (IsPlainRule a.top.rules) a.top.rules → Each Serves a.subs → a.top.subcommand_required ≡ true
+    → a.top.disable_help_subcommand ≡ false → built_fault a nothing_held words ≡ []
+    → NamesRequest (entered a (stop_after a.top.rules (names_of a) words))
+program_named a words plain serves wants offers none =
+    let stop = stop_after a.top.rules (names_of a) words in
+    let has = is_some (entered a stop) in
+    let level = level_passes a.top (names_of a) words has (entered_fault a stop) plain none in
+    let rows = finished a.top.rules (walk a.top.rules (names_of a) nothing_held words).held in
+    let wanted : (not has && true) ≡ false = subst (λ (b : Bool). (not has && b) ≡ false) wants (subcommand_there a.top rows has level.checked) in
+    entered_named a stop serves (level.stopped offers) level.below_none (there has wanted)
+
+pub named : (words : List Text) → faults_of words ≡ [] → NamesRequest (named_by words)
+unfolding morris_app look_app stats_app build_app verify_app probe_app
+named words none = program_named (built whole) (argument_words whole words) program_plain all_serve refl refl none

@@ -1,0 +1,46 @@
+use Rattle.std.proofs.Common.{◌≡◌, ◌∙◌, inl, inr, map, subst, sym}
+use Rattle.clap.specs.Words.{HasKind, IsAmong, Kinds, kind_of}
+use Rattle.clap.specs.declared.error.Error.{Error}
+use Rattle.clap.specs.declared.error.kind.ErrorKind.{ErrorKind}
+use Rattle.clap.specs.declared.error.kind.ErrorKind.TheVariants.{DisplayHelp, DisplayVersion, OutOfMemory}
+use Rattle.morris_words.specs.Words.{AsksFor, IsAnswerTo, IsAnswerToOneOf, NamesRequest, faults_of}
+use Rattle.morris_words.specs.declared.words.Refusal.{Refusal}
+use Rattle.morris_words.specs.declared.words.Refusal.TheVariants.{Memory, Help, Version, Wrong}
+use Rattle.morris_words.proofs.Requests.{named}
+use Rattle.morris_words.proofs.words.read_words.Goals as goal
+
+answered : (kinds : Kinds) (e : Error) (r : Refusal) → HasKind kinds e → IsAnswerTo (kind_of e) r → IsAnswerToOneOf kinds r
+answered kinds e Memory has answers = tt
+answered kinds e (Help text) has answers = elim has [
+  | inl memory ↦
+      let bad : OutOfMemory ≡ DisplayHelp = sym memory ∙ answers in
+      cc
+  | inr among ↦ subst (λ (k : ErrorKind). IsAmong k kinds) answers among
+]
+answered kinds e (Version text) has answers = elim has [
+  | inl memory ↦
+      let bad : OutOfMemory ≡ DisplayVersion = sym memory ∙ answers in
+      cc
+  | inr among ↦ subst (λ (k : ErrorKind). IsAmong k kinds) answers among
+]
+answered kinds e (Wrong text) has answers = elim has [
+  | inl memory ↦ absurd (answers.2 memory)
+  | inr among ↦ (kind_of e, answers.0, answers.1, among)
+]
+
+pub request_of-requires : goal.request_of-requires
+request_of-requires g c =
+    let words = map g.S.AsStr.text c.args.words.now in
+    subst NamesRequest (sym c.in-Ok.ensures.matches) (named words c.in-Ok.ensures.kinds)
+
+pub returns-in-Ok : goal.returns-in-Ok
+returns-in-Ok g c = record {
+  taken = c.in-Ok.ensures.kinds;
+  request = subst (λ m. AsksFor m c.request_of.result) c.in-Ok.ensures.matches c.request_of.ensures.request;
+  depth = c.request_of.ensures.depth;
+  refused = tt;
+}
+
+pub returns-in-Err-clause-refused : goal.returns-in-Err-clause-refused
+returns-in-Err-clause-refused g c =
+    answered (faults_of (map g.S.AsStr.text c.args.words.now)) c.in-Err.error c.refusal_of.result c.in-Err.ensures.kinds c.refusal_of.ensures

@@ -1,0 +1,6 @@
+//! The words of the command line: what each command takes, the request that the words make, and
+//! the text of the help.
+#![tactic(auto)]
+
+mod help;
+pub mod words;
