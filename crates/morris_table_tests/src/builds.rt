@@ -3,7 +3,6 @@ use crate::making::{
     agree, built, file_of, pair, shelf_with, swept, three_by_classes, three_three,
 };
 use morris_board::grid::Grid;
-use morris_index::pair::Pair;
 use morris_table::building::{build, build_as};
 use morris_table::exact::Exact;
 use morris_table::layout::Layout;
@@ -59,69 +58,24 @@ fn is_built<A: Gate, R: Threads + Wait + Sync>(
     }
 }
 
-#[test]
-fn many_workers_build_a_table_time_and_again(rt: HostRuntime) {
-    for workers in [1, 2, 7] {
-        for blocks in [1, 5, 64] {
-            assert_eq!(rt;
-                is_built(&rt, rt.alloc(), &OpenGate, workers, blocks),
-                Some(true)
-            );
-        }
-    }
-    for _ in 0..20 {
-        assert_eq!(rt; is_built(&rt, rt.alloc(), &OpenGate, 64, 1_024), Some(true));
-    }
-    for _ in 0..100 {
-        assert_eq!(rt; is_built(&rt, rt.alloc(), &OpenGate, 64, 64), Some(true));
-    }
-}
-
-/// Puts the tables of a pair onto two shelves, swept onto the one and built by classes onto the
-/// other. Whether each position has the same value in both.
-fn puts_alike<R: Threads + Wait + Sync>(
+/// Whether each of so many builds by an open gate answers the right table.
+fn are_built<R: Threads + Wait + Sync>(
     rt: &R,
     alloc: Global,
-    plain: &mut Shelf<Grid>,
-    classes: &mut Shelf<Grid>,
-    pair: Pair<Grid>,
-) -> Option<bool> {
-    let swept = swept(alloc, plain, pair)?;
-    let built = built(rt, alloc, classes, pair, Layout::Classes)?;
-    let is_alike = agree(&built, &swept);
-    Some(plain.put(swept).is_ok() && classes.put(built).is_ok() && is_alike)
-}
-
-/// The first pair whose tables aren't alike, of a pair and those below it.
-fn first_unlike<R: Threads + Wait + Sync>(
-    rt: &R,
-    alloc: Global,
-    plain: &mut Shelf<Grid>,
-    classes: &mut Shelf<Grid>,
-    most: Pair<Grid>,
-) -> Option<Pair<Grid>> {
-    for pair in most.below() {
-        if puts_alike(rt, alloc, plain, classes, pair) != Some(true) {
-            return Some(pair);
-        }
-    }
-    None
+    workers: usize,
+    blocks: usize,
+    times: u32,
+) -> bool {
+    (0..times).all(|_| is_built(rt, alloc, &OpenGate, workers, blocks) == Some(true))
 }
 
 #[test]
-fn builds_by_classes_of_all_pairs_agree_with_sweeps(rt: HostRuntime) {
-    let mut plain = Shelf::new(rt.alloc()).expect(&rt, "a shelf");
-    let mut classes = Shelf::new(rt.alloc()).expect(&rt, "a shelf");
-    let most = pair(5, 4).expect(&rt, "5-4");
-    assert_eq!(rt;
-        first_unlike(&rt, rt.alloc(), &mut plain, &mut classes, most),
-        None
-    );
-    let most = pair(6, 3).expect(&rt, "6-3");
-    assert_eq!(rt;
-        first_unlike(&rt, rt.alloc(), &mut plain, &mut classes, most),
-        None
-    );
+fn few_and_many_workers_build_the_same_table(rt: HostRuntime) {
+    assert!(rt; are_built(&rt, rt.alloc(), 1, 1, 1));
+    assert!(rt; are_built(&rt, rt.alloc(), 2, 5, 1));
+    assert!(rt; are_built(&rt, rt.alloc(), 7, 64, 1));
+    assert!(rt; are_built(&rt, rt.alloc(), 64, 1_024, 20));
+    assert!(rt; are_built(&rt, rt.alloc(), 64, 64, 100));
 }
 
 /// Whether the build of 4-3 in a layout, over a table of 3-3, agrees with its sweep.
@@ -136,28 +90,23 @@ fn agrees_over<R: Threads + Wait + Sync>(
     Some(agree(&built, &swept(alloc, shelf, pair)?))
 }
 
+/// Whether the builds of 4-3 in both layouts, over a table of 3-3, agree with its sweep.
+fn both_agree_over<R: Threads + Wait + Sync>(rt: &R, alloc: Global, low: Exact<Grid>) -> bool {
+    match shelf_with(alloc, low) {
+        Some(shelf) => {
+            agrees_over(rt, alloc, &shelf, Layout::Full) == Some(true)
+                && agrees_over(rt, alloc, &shelf, Layout::Classes) == Some(true)
+        }
+        None => false,
+    }
+}
+
 #[test]
 fn builds_agree_over_tables_of_either_layout(rt: HostRuntime) {
     let low = three_three(rt.alloc()).expect(&rt, "a table");
-    let shelf = shelf_with(rt.alloc(), low).expect(&rt, "a shelf");
-    assert_eq!(rt;
-        agrees_over(&rt, rt.alloc(), &shelf, Layout::Full),
-        Some(true)
-    );
-    assert_eq!(rt;
-        agrees_over(&rt, rt.alloc(), &shelf, Layout::Classes),
-        Some(true)
-    );
+    assert!(rt; both_agree_over(&rt, rt.alloc(), low));
     let low = three_by_classes(&rt, rt.alloc()).expect(&rt, "a table by classes");
-    let shelf = shelf_with(rt.alloc(), low).expect(&rt, "a shelf");
-    assert_eq!(rt;
-        agrees_over(&rt, rt.alloc(), &shelf, Layout::Full),
-        Some(true)
-    );
-    assert_eq!(rt;
-        agrees_over(&rt, rt.alloc(), &shelf, Layout::Classes),
-        Some(true)
-    );
+    assert!(rt; both_agree_over(&rt, rt.alloc(), low));
 }
 
 /// What the build of a pair over an empty shelf is refused for whose workers are all sent away.
@@ -224,14 +173,8 @@ impl Gate for Hole {
 // No block is complete then, and the first one is told.
 #[test]
 fn a_number_that_is_left_out_leaves_every_block_incomplete(rt: HostRuntime) {
-    assert_eq!(rt;
-        is_built(&rt, rt.alloc(), &Hole { number: 3 }, 2, 5),
-        Some(false)
-    );
-    assert_eq!(rt;
-        is_built(&rt, rt.alloc(), &Hole { number: 5 }, 2, 5),
-        Some(true)
-    );
+    assert!(rt; is_built(&rt, rt.alloc(), &Hole { number: 3 }, 2, 5) == Some(false));
+    assert!(rt; is_built(&rt, rt.alloc(), &Hole { number: 5 }, 2, 5) == Some(true));
 }
 
 /// Sends a worker away by a rule that looks like chance, and notes that it did.
@@ -330,5 +273,5 @@ impl Gate for Meeting {
 fn two_workers_are_at_work_at_once(rt: HostRuntime) {
     let (first, second) = (AtomicBool::new(false), AtomicBool::new(false));
     let gate = Meeting { first, second };
-    assert_eq!(rt; is_built(&rt, rt.alloc(), &gate, 2, 5), Some(true));
+    assert!(rt; is_built(&rt, rt.alloc(), &gate, 2, 5) == Some(true));
 }

@@ -6,15 +6,12 @@ use morris_board::grid::Grid;
 use morris_board::streams::{Failed, FromRead, Sink};
 use morris_table::exact::Exact;
 use morris_table::file_faults::{ReadFault, Write};
-use morris_table::reading::{read_next, read_table};
+use morris_table::reading::read_table;
 use morris_table::writing::write_table;
 use std::alloc::Global;
 use std::io;
 use std::io::{ErrorKind, Read};
 use std::process::Abort;
-
-/// How long the file of the pair 3-3 is.
-const LENGTH: u64 = 3408;
 
 /// Gives a byte a call, and fails once it gave as many as it may.
 #[derive(Drop)]
@@ -88,75 +85,51 @@ impl Sink for Trickle {
     }
 }
 
-/// What reading is refused for where so many calls give a byte, and how many calls it makes.
-fn read_of(alloc: Global, file: &[u8], room: u64) -> (Option<ReadFault>, u64) {
+/// Whether reading the file of 3-3 ends at the call that fails after so many others.
+fn ends_reading(alloc: Global, file: &[u8], room: u64) -> bool {
     let mut source = Drip::new(file, room);
     let fault = read_table::<Grid, _>(alloc, &mut source).err();
-    (fault, source.into_inner().calls)
+    fault == Some(ReadFault::Read) && source.into_inner().calls == room.saturating_add(1)
 }
 
-/// The same of the next file of several.
-fn next_of(alloc: Global, file: &[u8], room: u64) -> (Option<ReadFault>, u64) {
-    let mut source = Drip::new(file, room);
-    let fault = read_next::<Grid, _>(alloc, &mut source).err();
-    (fault, source.into_inner().calls)
+/// Whether reading ends at a call that fails: the first one and the last of the header, of the codes
+/// and of the digest, and the one for a byte that mustn't follow.
+fn ends_each_reading(alloc: Global, file: &[u8]) -> bool {
+    ends_reading(alloc, file, 0)
+        && ends_reading(alloc, file, 15)
+        && ends_reading(alloc, file, 3375)
+        && ends_reading(alloc, file, 3407)
+        && ends_reading(alloc, file, 3408)
 }
 
-/// Whether reading ends at the call that fails after so many others. The next file of several is
-/// read without a call after its last byte.
-fn ends_reading(alloc: Global, file: &[u8], room: u64) -> bool {
-    let failed = (Some(ReadFault::Read), room.saturating_add(1));
-    let next = if room < LENGTH {
-        failed
-    } else {
-        (None, LENGTH)
-    };
-    read_of(alloc, file, room) == failed && next_of(alloc, file, room) == next
-}
-
-/// The same for each number of calls from one up to another.
-fn all_end_reading(alloc: Global, file: &[u8], first: u64, last: u64) -> bool {
-    (first..=last).all(|room| ends_reading(alloc, file, room))
-}
-
-// Among the first calls are those of the header, and among the last those of the digest.
 #[test]
 fn a_read_that_fails_ends_it(rt: HostRuntime) {
     let table = three_three(rt.alloc()).expect(&rt, "a table");
     let file = file_of(rt.alloc(), &table).expect(&rt, "its file");
-    assert!(rt; all_end_reading(rt.alloc(), file.as_slice(), 0, 50));
-    assert!(rt; all_end_reading(rt.alloc(), file.as_slice(), LENGTH - 50, LENGTH));
+    assert!(rt; ends_each_reading(rt.alloc(), file.as_slice()));
 }
 
-/// Whether writing ends at the call that fails after so many others, and the first bytes went out.
+/// Whether writing a table ends at the call that fails after so many others, and the bytes of those
+/// went out.
 fn ends_writing(alloc: Global, table: &Exact<Grid>, file: &[u8], room: u64) -> bool {
     let mut sink = Trickle::new(alloc, room);
-    let answer = write_table(&mut sink, table);
-    let wanted = if room < LENGTH {
-        Err(Write(room))
-    } else {
-        Ok(())
-    };
-    let calls = if room < LENGTH {
-        room.saturating_add(1)
-    } else {
-        LENGTH
-    };
-    answer == wanted
-        && sink.calls == calls
-        && sink.taken.len() as u64 == room
-        && file.starts_with(sink.taken.as_slice())
+    write_table(&mut sink, table) == Err(Write(room))
+        && sink.calls == room.saturating_add(1)
+        && Some(sink.taken.as_slice()) == file.get(..room as usize)
 }
 
-/// The same for each number of calls from one up to another.
-fn all_end_writing(alloc: Global, table: &Exact<Grid>, file: &[u8], first: u64, last: u64) -> bool {
-    (first..=last).all(|room| ends_writing(alloc, table, file, room))
+/// Whether writing ends at a call that fails: the first one and the last of the header, of the codes
+/// and of the digest.
+fn ends_each_writing(alloc: Global, table: &Exact<Grid>, file: &[u8]) -> bool {
+    ends_writing(alloc, table, file, 0)
+        && ends_writing(alloc, table, file, 15)
+        && ends_writing(alloc, table, file, 3375)
+        && ends_writing(alloc, table, file, 3407)
 }
 
 #[test]
 fn a_write_that_fails_ends_it(rt: HostRuntime) {
     let table = three_three(rt.alloc()).expect(&rt, "a table");
     let file = file_of(rt.alloc(), &table).expect(&rt, "its file");
-    assert!(rt; all_end_writing(rt.alloc(), &table, file.as_slice(), 0, 50));
-    assert!(rt; all_end_writing(rt.alloc(), &table, file.as_slice(), LENGTH - 50, LENGTH));
+    assert!(rt; ends_each_writing(rt.alloc(), &table, file.as_slice()));
 }

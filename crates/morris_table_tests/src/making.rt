@@ -2,14 +2,11 @@
 // where a call is refused.
 use morris_board::board::Board;
 use morris_board::grid::Grid;
-use morris_board::streams::{FromRead, IntoWrite};
+use morris_board::streams::IntoWrite;
 use morris_index::pair::Pair;
 use morris_table::building::build_as;
 use morris_table::exact::Exact;
-use morris_table::file_faults::ReadFault;
 use morris_table::layout::Layout;
-use morris_table::raw::Raw;
-use morris_table::reading::read_table;
 use morris_table::shelf::Shelf;
 use morris_table::sweeping::sweep_pair;
 use morris_table::writing::write_table;
@@ -73,16 +70,6 @@ pub(crate) fn file_of(alloc: Global, table: &Exact<Grid>) -> Option<Vec<u8>> {
     let mut sink = IntoWrite::new(Vec::new(alloc));
     write_table(&mut sink, table).ok()?;
     Some(sink.into_inner())
-}
-
-/// The table that a file states.
-pub(crate) fn read(alloc: Global, file: &[u8]) -> Option<Raw<Grid>> {
-    read_table(alloc, &mut FromRead::new(file)).ok()
-}
-
-/// What `read_table` refuses these bytes for.
-pub(crate) fn refusal(alloc: Global, file: &[u8]) -> Option<ReadFault> {
-    read_table::<Grid, _>(alloc, &mut FromRead::new(file)).err()
 }
 
 /// Whether two tables of one pair give each of its positions the same value.

@@ -4,15 +4,9 @@ use morris_board::board::Geometry;
 use morris_board::grid::Grid;
 use morris_board::position::Position;
 use morris_board::streams::IntoWrite;
-use morris_index::pair::Pair;
-use morris_probe::best::best;
-use morris_probe::fault::ProbeFault;
 use morris_probe::report::report;
-use morris_probe::value::value;
-use morris_table::shelf::{Needs, Shelf};
+use morris_table::shelf::Shelf;
 use std::alloc::Global;
-use std::io;
-use std::io::Write;
 use std::process::Abort;
 
 /// Whether this text is reported of the position that the first of its lines shows.
@@ -41,80 +35,4 @@ fn positions_of_three_and_three_are_reported(rt: HostRuntime) {
     assert!(rt; is_reported(rt.alloc(), &shelf, LOST));
     assert!(rt; is_reported(rt.alloc(), &shelf, WON));
     assert!(rt; is_reported(rt.alloc(), &shelf, STUCK));
-}
-
-/// Whether each way to ask an empty shelf of a position of 3-3 needs the table of 3-3, and nothing
-/// is written.
-fn needs_three(alloc: Global, shelf: &Shelf<Grid>, position: &Position<Grid>) -> Option<bool> {
-    let needs = Needs(Pair::new(3, 3).ok()?);
-    let mut output = IntoWrite::new(Vec::new(alloc));
-    let unreported = report(alloc, &mut output, shelf, position).err();
-    Some(
-        value(shelf, position) == Err(needs)
-            && best(alloc, shelf, position).err() == Some(ProbeFault::Needs(needs))
-            && unreported == Some(ProbeFault::Needs(needs))
-            && output.into_inner().is_empty(),
-    )
-}
-
-#[test]
-fn an_empty_shelf_needs_the_table_of_the_pair(rt: HostRuntime) {
-    let shelf = Shelf::new(rt.alloc()).expect(&rt, "a shelf");
-    let position = Position::read(b"XXXOOO...").expect(&rt, "a position");
-    assert_eq!(rt; needs_three(rt.alloc(), &shelf, &position), Some(true));
-    assert!(rt; is_reported(rt.alloc(), &shelf, STUCK));
-}
-
-/// A writer that keeps a few bytes a call, and fails once it has as many as it has room for.
-#[derive(Drop)]
-struct Narrow {
-    kept: Vec<u8>,
-    room: usize,
-    at_once: usize,
-    calls_after: u64,
-}
-
-impl Write for Narrow {
-    fn write(&mut self, bytes: &[u8]) -> io::Result<usize> {
-        let room = self.room.saturating_sub(self.kept.len()).min(self.at_once);
-        if room == 0 && !bytes.is_empty() {
-            self.calls_after = self.calls_after.saturating_add(1);
-            return Err(io::Error::from(io::ErrorKind::Other));
-        }
-        let taken = bytes.get(..room).unwrap_or(bytes);
-        self.kept.extend_from_slice(taken)?;
-        Ok(taken.len())
-    }
-
-    fn flush(&mut self) -> io::Result<()> {
-        Ok(())
-    }
-}
-
-/// Whether a report to a writer with this much room is refused at the write that fails, which isn't
-/// tried again, and the bytes before it went out.
-fn ends_reporting(alloc: Global, shelf: &Shelf<Grid>, room: usize, at_once: usize) -> bool {
-    let Ok(position) = Position::read(b"XX..OO.OX") else {
-        return false;
-    };
-    let mut output = IntoWrite::new(Narrow {
-        kept: Vec::new(alloc),
-        room,
-        at_once,
-        calls_after: 0,
-    });
-    let answer = report(alloc, &mut output, shelf, &position);
-    let narrow = output.into_inner();
-    answer == Err(ProbeFault::Write(room as u64))
-        && Some(narrow.kept.as_slice()) == WON.get(..room)
-        && narrow.calls_after == 1
-}
-
-#[test]
-fn a_failed_write_tells_what_went_out_and_is_not_tried_again(rt: HostRuntime) {
-    let shelf = shelf_of_three::<Grid>(rt.alloc()).expect(&rt, "a shelf");
-    for room in 0..WON.len() {
-        assert!(rt; ends_reporting(rt.alloc(), &shelf, room, 1), "after {room}");
-        assert!(rt; ends_reporting(rt.alloc(), &shelf, room, 4), "after {room}");
-    }
 }

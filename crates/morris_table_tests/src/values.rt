@@ -1,4 +1,4 @@
-// What swept tables of three stones each say, beside what is known from outside.
+// What the swept table of 3-3 says, beside what is known from outside.
 use crate::making::three_three;
 use morris_board::grid::Grid;
 use morris_board::position::Position;
@@ -27,14 +27,9 @@ fn has_known_values(table: &Exact<Grid>) -> bool {
 }
 
 #[test]
-fn values_at_positions(rt: HostRuntime) {
+fn three_stones_each_have_their_values(rt: HostRuntime) {
     let table = three_three(rt.alloc()).expect(&rt, "a table");
     assert!(rt; has_known_values(&table));
-}
-
-#[test]
-fn tallies_of_three_and_three(rt: HostRuntime) {
-    let table = three_three(rt.alloc()).expect(&rt, "a table");
     let tallies = table.tallies(rt.alloc()).expect(&rt, "memory");
     assert_eq!(rt; tallies.as_slice(), [600, 0, 936, 36, 108].as_slice());
 }

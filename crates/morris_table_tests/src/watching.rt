@@ -2,10 +2,9 @@
 ghost use Rattle.std.specs.Prelude.{◌≤◌, vec_len};
 
 use crate::builds::Shut;
-use crate::making::{agree, pair, three_three};
+use crate::making::pair;
 use morris_board::grid::Grid;
 use morris_table::building::build_watched;
-use morris_table::exact::Exact;
 use morris_table::layout::Layout;
 use morris_table::shelf::{Needs, Shelf};
 use morris_table::sweeping::BuildFault;
@@ -36,36 +35,25 @@ impl Watch for Scribe {
     ghost joins = { λ first then last once again. omega (arith, once, again) };
 }
 
-/// The table of 3-3 in a layout, from a build that tells a watch.
-fn watched<R: Threads + Wait + Sync>(
+/// Whether a build of 3-3 that tells a watch answers a table.
+fn is_built<R: Threads + Wait + Sync>(
     rt: &R,
     alloc: Global,
     layout: Layout,
     watch: &mut Scribe,
     workers: usize,
     blocks: usize,
-) -> Option<Exact<Grid>> {
-    let pair = pair(3, 3)?;
-    let shelf = &Shelf::new(alloc).ok()?;
-    build_watched(
-        rt, alloc, shelf, pair, layout, &OpenGate, watch, workers, blocks,
-    )
-    .ok()
-}
-
-/// The waves that a build of 3-3 tells, which gives the values of its sweep.
-fn waves<R: Threads + Wait + Sync>(
-    rt: &R,
-    alloc: Global,
-    layout: Layout,
-    workers: usize,
-    blocks: usize,
-) -> Option<Vec<u16>> {
-    let swept = three_three(alloc)?;
-    let told = Vec::new(alloc);
-    let mut scribe = Scribe { told };
-    let table = watched(rt, alloc, layout, &mut scribe, workers, blocks)?;
-    (table.layout() == layout && agree(&swept, &table)).then_some(scribe.told)
+) -> bool {
+    match (pair(3, 3), Shelf::new(alloc)) {
+        (Some(pair), Ok(shelf)) => {
+            let gate = &OpenGate;
+            build_watched(
+                rt, alloc, &shelf, pair, layout, gate, watch, workers, blocks,
+            )
+            .is_ok()
+        }
+        _ => false,
+    }
 }
 
 /// Whether a build of 3-3 tells four waves. No value of 3-3 is deeper than a win in 3, which wave 3
@@ -77,10 +65,10 @@ fn tells_four<R: Threads + Wait + Sync>(
     workers: usize,
     blocks: usize,
 ) -> bool {
-    match waves(rt, alloc, layout, workers, blocks) {
-        Some(told) => told.as_slice() == [1, 2, 3, 4].as_slice(),
-        None => false,
-    }
+    let told = Vec::new(alloc);
+    let mut scribe = Scribe { told };
+    is_built(rt, alloc, layout, &mut scribe, workers, blocks)
+        && scribe.told.as_slice() == [1, 2, 3, 4].as_slice()
 }
 
 #[test]
@@ -126,12 +114,6 @@ fn tells_nothing_before<R: Threads + Wait + Sync>(
 
 #[test]
 fn a_watch_is_told_nothing_of_a_build_that_is_refused_before(rt: HostRuntime) {
-    assert_eq!(rt;
-        tells_nothing_before(&rt, rt.alloc(), Layout::Full),
-        Some(true)
-    );
-    assert_eq!(rt;
-        tells_nothing_before(&rt, rt.alloc(), Layout::Classes),
-        Some(true)
-    );
+    assert!(rt; tells_nothing_before(&rt, rt.alloc(), Layout::Full) == Some(true));
+    assert!(rt; tells_nothing_before(&rt, rt.alloc(), Layout::Classes) == Some(true));
 }
