@@ -13,6 +13,7 @@ import subprocess
 import sys
 import tempfile
 import time
+from pathlib import Path
 
 ROOT = os.path.dirname(os.path.dirname(os.path.abspath(__file__)))
 # What the proof of a crate takes with one job, about, and each job more, in bytes.
@@ -39,6 +40,22 @@ def crates_below(name):
     for it in rows[name]:
         found += [low for low in [*crates_below(it), it] if low not in found]
     return found
+
+
+def lines_of(name):
+    """How many lines of code a crate has, by which the time of its check goes, about."""
+    files = Path(ROOT, "crates", name, "src").rglob("*.rt")
+    return sum(it.read_text(encoding="utf-8").count("\n") for it in files)
+
+
+def lines_behind(crates):
+    """For each of these crates, how many lines the longest row of them has that begins with it and
+    goes on from each to one above."""
+    behind = {}
+    for it in sorted(crates, key=lambda it: -len(crates_below(it))):
+        above = [other for other in crates if it in crates_below(other)]
+        behind[it] = lines_of(it) + max((behind[other] for other in above), default=0)
+    return behind
 
 
 def free_memory():
@@ -79,8 +96,8 @@ class Proofs:
             room = self.memory - sum(ONE_JOB + (it - 1) * MORE_JOBS for it in running)
             if running and (idle < 1 or room < ONE_JOB):
                 break
-            # The lowest gets what remains: the longest row of others waits for it.
-            jobs = min(MOST_JOBS, -(-idle // (len(ready) - place)))
+            # Each has a processor, where one is idle, and the first one those that remain.
+            jobs = min(MOST_JOBS, idle - (len(ready) - place - 1))
             jobs = max(1, min(jobs, 1 + (room - ONE_JOB) // MORE_JOBS))
             # A crate that is alone has as many jobs as rt itself chooses.
             alone = not running and len(ready) == 1
@@ -122,7 +139,9 @@ def started(crate, jobs):
 def prove(crates, tell, log=None):
     """Builds these crates, among which are all that they stand on, the lowest first. Tells which it
     is at, writes what rt says to a file, and gives whether all are built."""
-    order = sorted(crates, key=lambda it: len(crates_below(it)))
+    # First the one for which the longest row of others waits.
+    behind = lines_behind(crates)
+    order = sorted(crates, key=lambda it: -behind[it])
     proofs, number = Proofs(order), 0
     try:
         while proofs.left or proofs.running:
