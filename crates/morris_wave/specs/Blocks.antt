@@ -66,6 +66,14 @@ pub record BlockHolds (g : Net) (s : BlockState) (first : ℕ) (codes counters d
   pub count_is : length codes ≡ count_of s
   pub kept : StretchHolds g s.wave (in_applied s) first codes counters due last_due
 
+-- What every block keeps, whatever is done with it: it is one of a cut of its graph into at most
+-- 1,024 blocks, at one of the waves from 0 to 65,534.
+pub record IsBlock (g : Net) (s : BlockState) : Type 0 where
+  pub cut : IsCut s.cut
+  pub size : g.size ≡ s.cut.size
+  pub number : s.number < s.cut.blocks
+  pub wave : s.wave ≤ 65534
+
 -- before the first wave, where every source counts as applied
 abbrev pub first_wave : ℕ → Parts → ℕ → BlockState
 first_wave level cut number = record { level = level; cut = cut; number = number; wave = 0; applied = replicate cut.blocks true }

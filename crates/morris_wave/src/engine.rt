@@ -198,7 +198,7 @@ impl<N: Levels> Fresh<N> {
 }
 
 impl<N: Levels> Block<N> {
-    ghost use Rattle.morris_wave.specs.Blocks.{BlockState, first_of, first_wave, next_wave_of, is_complete, in_applied, IsIn, entries_of, IsLastDue, IsSettled};
+    ghost use Rattle.morris_wave.specs.Blocks.{BlockState, IsBlock, first_of, first_wave, next_wave_of, is_complete, in_applied, IsIn, count_of, entries_of, IsLastDue, IsSettled};
     ghost use Rattle.morris_wave.specs.Exits.{is_odd, is_won_code};
     ghost use Rattle.morris_wave.specs.Values.{IsTooDeep, HasCode};
     ghost use Rattle.morris_wave.specs.Answering.{answer_to, after_batch};
@@ -237,7 +237,9 @@ impl<N: Levels> Block<N> {
 
     /// The cut that the block is one of.
     pub fn cut(&self) -> &Cut
-        ensures { result.now ≡ self.now.cut }
+        ensures value { result.now ≡ self.now.cut }
+        // Whatever was done with the block, it is one of a cut of its graph, at one of the waves.
+        ensures place { IsBlock (N.net self.now.level) self.now }
     {
         &self.cut
     }
@@ -289,6 +291,8 @@ impl<N: Levels> Block<N> {
 
     /// How many entries are won, lost and still open.
     pub fn tallies(&self) -> Tallies
+        // Together these are all nodes of the block.
+        ensures all { result.won + result.lost + result.undecided ≡ count_of self.now }
         ensures won { result.won ≡ count_by is_won_code (entries_of (N.net self.now.level) self.now) }
         ensures lost { result.lost ≡ count_by is_odd (entries_of (N.net self.now.level) self.now) }
         ensures undecided { result.undecided ≡ count_by (λ c. c == 0) (entries_of (N.net self.now.level) self.now) }

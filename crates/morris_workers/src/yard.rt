@@ -1,6 +1,7 @@
 //! Blocks behind locks, one for each.
 ghost use Rattle.std.specs.Prelude.{◌≡◌, ℕ, ◌<◌, ◌≤◌, IfOk, IfSome, vec_len};
 ghost use Rattle.std.specs.Sync.Mutex.{mutex_guard_value};
+ghost use Rattle.morris_wave.specs.Blocks.{IsBlock};
 ghost use Rattle.morris_workers.specs.Exact.{IsExact};
 
 use morris_wave::{Block, Levels};
@@ -26,6 +27,16 @@ impl<N: Levels> Model for Yard<N> {
     ghost view = { λ y. vec_len y.locks };
 
     ghost invariant = { λ y. (vec_len y.home ≡ 0) × (vec_len y.locks ≤ vec_capacity y.home) };
+}
+
+// Looks at the block of a guard. Of what stands behind a lock nothing is known but what every block
+// keeps, and the block tells that to whoever asks for its cut.
+fn looked_at<N: Levels>(guard: MutexGuard<'_, Block<N>>) -> MutexGuard<'_, Block<N>>
+    ensures block { IsBlock (N.net (mutex_guard_value result).level) (mutex_guard_value result) }
+    ensures exact { IsExact (N.net (mutex_guard_value result).level) (mutex_guard_value result) }
+{
+    let _ = guard.cut();
+    guard
 }
 
 impl<N: Levels> Yard<N> {
@@ -57,24 +68,31 @@ impl<N: Levels> Yard<N> {
 
     /// Waits until block `k` is free, and locks it until the guard is dropped.
     ///
-    /// Whoever gets a guard, at whatever moment, finds a block whose entries are the codes of their
-    /// nodes wherever they aren't open, and whose tallies count the entries.
+    /// Whoever gets a guard, at whatever moment, finds one of the blocks into which the graph of
+    /// its level is cut, at one of the waves from 0 to 65,534. Of any such block [`Block::code`]
+    /// and [`Block::tallies`] answer what its wave and its applied sources say: an entry that is
+    /// there is the code of its node, and the tallies count the entries.
     pub fn lock<R: Wait>(&self, rt: &R, k: usize) -> MutexGuard<'_, Block<N>>
         requires { k < self.now }
-        ensures { IsExact (N.net (mutex_guard_value result).level) (mutex_guard_value result) }
+        // What is said of all blocks of a graph, at every wave and whatever is applied, holds of
+        // this one with no test but that of its level.
+        ensures block { IsBlock (N.net (mutex_guard_value result).level) (mutex_guard_value result) }
+        // And so do the words of the graph.
+        ensures exact { IsExact (N.net (mutex_guard_value result).level) (mutex_guard_value result) }
     {
-        self.locks[k].lock(rt)
+        looked_at(self.locks[k].lock(rt))
     }
 
     /// Locks block `k` if it is free, and waits for nobody.
     ///
     /// The block is then as `lock` finds it.
-    #[tactic(auto, using(crate::proofs::Exact::is_exact))]
     pub fn try_lock(&self, k: usize) -> Option<MutexGuard<'_, Block<N>>>
         requires { k < self.now }
-        ensures { IfSome result (λ guard. IsExact (N.net (mutex_guard_value guard).level) (mutex_guard_value guard)) }
+        ensures block { IfSome result (λ guard. IsBlock (N.net (mutex_guard_value guard).level) (mutex_guard_value guard)) }
+        ensures exact { IfSome result (λ guard. IsExact (N.net (mutex_guard_value guard).level) (mutex_guard_value guard)) }
     {
-        self.locks[k].try_lock()
+        let guard = self.locks[k].try_lock()?;
+        Some(looked_at(guard))
     }
 
     /// Gives the blocks back, in their order. It takes no memory and waits for nobody.

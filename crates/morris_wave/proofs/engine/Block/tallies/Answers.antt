@@ -1,7 +1,7 @@
 use Rattle.std.proofs.Common.{◌≡◌, ◌+◌, ◌-◌, ℕ, eqb, ap, subst, ◌∙◌, arith}
 use Rattle.std.specs.List.{count_by}
 use Rattle.morris_wave.specs.Exits.{is_odd, is_won_code}
-use Rattle.morris_wave.specs.Blocks.{BlockState, entries_of}
+use Rattle.morris_wave.specs.Blocks.{BlockState, count_of, entries_of}
 use Rattle.morris_wave.proofs.Settled.{codes_entries, three_kinds}
 use Rattle.morris_wave.proofs.engine.Block.tallies.Goals as goal
 
@@ -9,6 +9,17 @@ pub overflow_sub-result : goal.overflow_sub-result
 overflow_sub-result g c =
     let entries = c.self.inside.kept.entries.entries in
     omega (arith, entries.won_counted, entries.lost_counted, three_kinds entries.codes.items, entries.codes.ok.0, c.len.ensures)
+
+pub returns-clause-all : goal.returns-clause-all
+returns-clause-all g c =
+    let inside = c.self.inside in
+    let kept = inside.kept in
+    let codes = kept.entries.entries.codes in
+    let s : BlockState = record { level = inside.level; cut = inside.cut; number = inside.number; wave = kept.entries.wave; applied = inside.applied.items } in
+    let entries = kept.entries.entries in
+    let counted : entries.won + entries.lost + (c.len.result - (entries.won + entries.lost)) ≡ count_of s =
+    omega (arith, entries.won_counted, entries.lost_counted, three_kinds codes.items, codes.ok.0, c.len.ensures, c.self.invariant.count_is) in
+    subst (λ (t : BlockState). entries.won + entries.lost + (c.len.result - (entries.won + entries.lost)) ≡ count_of t) c.self.view_is counted
 
 pub returns-clause-won : goal.returns-clause-won
 returns-clause-won g c =
