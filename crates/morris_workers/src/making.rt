@@ -1,8 +1,7 @@
 //! The blocks of a graph, made side by side.
 ghost use Rattle.std.specs.Prelude.{◌≡◌, ℕ, ◌+◌, ◌<◌, ◌≤◌, IfOk, IfErr, vec_len, slice_index_or};
 ghost use Rattle.morris_wave.specs.Blocks.{first_of};
-ghost use Rattle.morris_workers.specs.Ranges.{Tells};
-ghost use Rattle.morris_workers.specs.Making.{IsShare};
+ghost use Rattle.morris_workers.specs.Making.{IsShare, IsFaultOfShares};
 
 use crate::fault::{LAST_WAVE, SolveFault};
 use morris_wave::{Block, Cut, Graph};
@@ -23,7 +22,7 @@ fn make_share<G: Graph>(
     requires size { cut.now.size ≡ (G.Name.net (G.level graph.now)).size }
     requires order { numbers.start ≤ numbers.end }
     requires within { numbers.end ≤ cut.now.blocks }
-    ensures { IsShare (G.Name.net (G.level graph.now)) cut.now.blocks numbers.start numbers.end result }
+    ensures { IsShare (G.Name.net (G.level graph.now)) numbers.start numbers.end result }
 {
     let mut made = Vec::with_capacity(alloc, (numbers.end - numbers.start) as usize)?;
     for number in (numbers.start..numbers.end).rev() {
@@ -45,9 +44,10 @@ fn joined<G: Graph>(
     made: Vec<Result<Vec<Block<G::Name>>, SolveFault>>,
 ) -> Result<Vec<Block<G::Name>>, SolveFault>
     requires count { (1 ≤ shares.now.blocks) × (vec_len made ≡ shares.now.blocks) }
-    requires shares { (k : ℕ) (d : _) → k < shares.now.blocks → IsShare (G.Name.net (G.level graph.now)) shares.now.size
-        (first_of shares.now k) (first_of shares.now (k + 1)) (slice_index_or made.items k d) }
-    ensures { IsShare (G.Name.net (G.level graph.now)) shares.now.size 0 shares.now.size result }
+    requires shares { (k : ℕ) (d : _) → k < shares.now.blocks → IsShare (G.Name.net (G.level graph.now)) (first_of shares.now k)
+        (first_of shares.now (k + 1)) (slice_index_or made.items k d) }
+    ensures blocks { IsShare (G.Name.net (G.level graph.now)) 0 shares.now.size result }
+    ensures fault { IfErr result (IsFaultOfShares made.items) }
 {
     let mut blocks = Vec::with_capacity(alloc, shares.size() as usize)?;
     for share in made {
@@ -60,7 +60,8 @@ fn joined<G: Graph>(
 ///
 /// # Errors
 ///
-/// `TooDeep` where an exit comes due after the last wave, `Memory` where memory is refused.
+/// `TooDeep` where an exit comes due after the last wave, `Memory` where memory is refused, and
+/// nothing else.
 pub(crate) fn make_blocks<G: Graph + Send + Sync, R: Threads + Sync>(
     rt: &R,
     alloc: Global,
@@ -70,7 +71,7 @@ pub(crate) fn make_blocks<G: Graph + Send + Sync, R: Threads + Sync>(
 ) -> Result<Vec<Block<G::Name>>, SolveFault>
     requires size { cut.now.size ≡ (G.Name.net (G.level graph.now)).size }
     requires shares { shares.now.size ≡ cut.now.blocks }
-    ensures { IsShare (G.Name.net (G.level graph.now)) cut.now.blocks 0 cut.now.blocks result }
+    ensures { IsShare (G.Name.net (G.level graph.now)) 0 cut.now.blocks result }
 {
     let made = thread::map_indices(
         rt,
@@ -78,7 +79,7 @@ pub(crate) fn make_blocks<G: Graph + Send + Sync, R: Threads + Sync>(
         shares.blocks() as usize,
         &|worker| -> Result<Vec<Block<G::Name>>, SolveFault>
             requires { (cut.now.size ≡ (G.Name.net (G.level graph.now)).size) × (shares.now.size ≡ cut.now.blocks) × (worker < shares.now.blocks) }
-            ensures { IsShare (G.Name.net (G.level graph.entry.now)) cut.entry.now.blocks (first_of shares.entry.now worker) (first_of shares.entry.now (worker + 1)) result }
+            ensures { IsShare (G.Name.net (G.level graph.entry.now)) (first_of shares.entry.now worker) (first_of shares.entry.now (worker + 1)) result }
         { make_share(alloc, graph, cut, shares.range(worker as u64)) },
     )?;
     joined(alloc, graph, shares, made)
