@@ -125,9 +125,9 @@ fn codes_of<N: Levels>(
 /// at a time, and none while it looks at the graph.
 ///
 /// The blocks take what [`Block`] says, each worker the fresh nodes and the batches of one block at
-/// a time, of 4 bytes for each node that leads to a fresh one, and room that it keeps for the next
-/// block's, at most 4 MB. At the end the answer takes 2 bytes a node, while the blocks are let go
-/// one after the other.
+/// a time, of 4 bytes for each node that leads to a fresh one, or 8 in a graph of more than 2^32
+/// nodes. A worker keeps lists that it sent for those of the next block. At the end the answer
+/// takes 2 bytes a node, while the blocks are let go one after the other.
 ///
 /// # Errors
 ///

@@ -14,7 +14,7 @@ use std::sync::Wait;
 use std::thread;
 use std::thread::Threads;
 
-// How many bytes of lists a worker keeps from one block to the next: 4 MB.
+// Lists that were sent are put aside until they have more bytes of room than this.
 const KEPT_ROOM: usize = 4194304;
 
 // 2^32: where no graph has more nodes, each is a number of 32 bits.
@@ -63,8 +63,8 @@ fn bring<N: Levels>(block: &mut Block<N>, wave: u16)
     }
 }
 
-// Puts the lists of batches that were sent aside for those of the next block, as long as they have
-// no more room together than a worker keeps.
+// Puts lists of batches that were sent aside for those of the next block. What goes past the room
+// to be kept is let go.
 fn keep_room<N: Levels, L: NodeList>(
     mut batches: Vec<Batch<N, L>>,
     spare: &mut Vec<L>,
