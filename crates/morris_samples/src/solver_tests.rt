@@ -5,8 +5,9 @@ use crate::gates::{CountingGate, HoledGate, MeetingGate, PickyGate, ShutGate};
 use crate::lones::LoneGraph;
 use crate::meetings::{Meeting, MeetingGraph};
 use crate::pairs::PairGraph;
+use crate::trios::TrioGraph;
 use morris_wave::Graph;
-use morris_workers::{Gate, OpenGate, SolveFault, check_numbers, solve};
+use morris_workers::{Gate, OpenGate, SolveFault, Unwatched, check_numbers, solve, solve_with};
 use std::alloc::Global;
 use std::process::Abort;
 use std::sync::Wait;
@@ -56,6 +57,29 @@ fn a_pair_is_solved_by_any_number_of_workers_and_blocks(rt: HostRuntime) {
     solves(&rt, rt.alloc(), &PAIR, &OpenGate, 1, 5, codes);
     solves(&rt, rt.alloc(), &PAIR, &OpenGate, 7, 3, codes);
     solves(&rt, rt.alloc(), &PAIR, &OpenGate, 64, 2, codes);
+}
+
+// The graph is solved with lists of 64 bits a node, since it has more than no nodes.
+fn solves_in_long_lists<G: Graph + Send + Sync, R: Abort + Threads + Wait + Sync>(
+    rt: &R,
+    alloc: Global,
+    graph: &G,
+    workers: usize,
+    blocks: usize,
+    codes: &[u16],
+) {
+    let watch = &mut Unwatched;
+    match solve_with(rt, alloc, graph, &OpenGate, workers, blocks, 0, watch) {
+        Ok(found) => same_codes(rt, &found, codes, "codes"),
+        Err(fault) => panic!(rt; "{workers} workers, {blocks} blocks: {fault}"),
+    }
+}
+
+#[test]
+fn two_workers_send_lists_of_64_bits(rt: HostRuntime) {
+    solves_in_long_lists(&rt, rt.alloc(), &PAIR, 2, 2, &[43, 42]);
+    // Node 1 is lost in 8, and node 2, which leads there, won in 9.
+    solves_in_long_lists(&rt, rt.alloc(), &TrioGraph, 2, 3, &[6, 9, 10]);
 }
 
 #[test]

@@ -1,5 +1,5 @@
 -- What callers say of tickets and of the seats that draw from them.
-use Rattle.std.specs.Prelude.{◌≡◌, ℕ, Bool, false, List, []}
+use Rattle.std.specs.Prelude.{◌≡◌, ◌⊎◌, ℕ, ◌<◌, Bool, true, false, List, [], length}
 use Rattle.std.specs.List.{flat_map}
 use Rattle.morris_workers.specs.declared.tickets.Tickets.{Tickets}
 use Rattle.morris_workers.specs.declared.tickets.TicketSeat.{TicketSeat}
@@ -34,3 +34,7 @@ pub record IsNewSeatOf (t : Tickets) (s : TicketSeat) : Type 0 where
   pub of : IsSeatOf t s
   pub numbers : numbers_of s ≡ []
   pub ready : has_ended s ≡ false
+
+-- the seat was drawn from: a draw of it found no number left, or gave it one
+abbrev pub HasDrawn : TicketSeat → Type 0
+HasDrawn s = (has_ended s ≡ true) ⊎ (0 < length (numbers_of s))

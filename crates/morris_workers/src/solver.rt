@@ -14,10 +14,13 @@ use crate::survey::survey;
 use crate::watch::{Unwatched, Watch};
 use crate::wave::run_wave;
 use crate::yard::Yard;
-use morris_wave::{Block, Cut, Graph, Levels, gather_from};
+use morris_wave::{Block, Cut, Graph, Levels, NodeList, gather_from};
 use std::alloc::Global;
 use std::sync::Wait;
 use std::thread::Threads;
+
+// 2^32: each node of a graph of no more nodes is a number of 32 bits.
+const SHORT: u64 = 4294967296;
 
 /// Whether there may be so many workers and blocks.
 ///
@@ -51,8 +54,14 @@ fn cut_into(size: u64, parts: u64) -> Cut
 }
 
 // Goes from wave to wave until all blocks are settled, and says at which wave they are. The watch
-// is told of each wave before it is run.
-fn run_waves<G: Graph + Send + Sync, A: Gate, R: Threads + Wait + Sync, W: Watch>(
+// is told of each wave before it is run. What is sent lies in lists of the kind `L`.
+fn run_waves<
+    L: NodeList + Send + Sync,
+    G: Graph + Send + Sync,
+    A: Gate,
+    R: Threads + Wait + Sync,
+    W: Watch,
+>(
     rt: &R,
     alloc: Global,
     graph: &G,
@@ -61,6 +70,7 @@ fn run_waves<G: Graph + Send + Sync, A: Gate, R: Threads + Wait + Sync, W: Watch
     shares: &Cut,
     watch: &mut W,
 ) -> Result<u16, SolveFault>
+    requires small { (G.Name.net (G.level graph.now)).size ≤ L.limit }
     requires shared { shares.now.size ≡ yard.now }
     requires blocks { (1 ≤ yard.now) × (yard.now ≤ 1024) }
     requires workers { (1 ≤ shares.now.blocks) × (shares.now.blocks ≤ 64) }
@@ -72,11 +82,37 @@ fn run_waves<G: Graph + Send + Sync, A: Gate, R: Threads + Wait + Sync, W: Watch
             return Ok(wave);
         }
         watch.wave(wave + 1);
-        run_wave(rt, alloc, graph, gate, yard, shares, wave + 1)?;
+        run_wave::<L, G, A, R>(rt, alloc, graph, gate, yard, shares, wave + 1)?;
     }
     // The survey of the last wave ends the waves. Of what stands behind locks no proof knows as
     // much.
     Err(SolveFault::Missing(0))
+}
+
+// Goes through all waves, with lists of 32 bits a node where the graph has at most `short` nodes,
+// and of 64 bits otherwise.
+fn run_all<G: Graph + Send + Sync, A: Gate, R: Threads + Wait + Sync, W: Watch>(
+    rt: &R,
+    alloc: Global,
+    graph: &G,
+    gate: &A,
+    yard: &Yard<G::Name>,
+    shares: &Cut,
+    short: u64,
+    watch: &mut W,
+) -> Result<u16, SolveFault>
+    requires short { short ≤ 2 ^ 32 }
+    requires shared { shares.now.size ≡ yard.now }
+    requires blocks { (1 ≤ yard.now) × (yard.now ≤ 1024) }
+    requires workers { (1 ≤ shares.now.blocks) × (shares.now.blocks ≤ 64) }
+    ensures told { IfErr result (Tells (G.Name.net (G.level graph.now)) yard.now) }
+    ensures watched { W.becomes watch.old watch.new }
+{
+    if graph.size() <= short {
+        run_waves::<Vec<u32>, G, A, R, W>(rt, alloc, graph, gate, yard, shares, watch)
+    } else {
+        run_waves::<Vec<u64>, G, A, R, W>(rt, alloc, graph, gate, yard, shares, watch)
+    }
 }
 
 // The first block that isn't settled, or doesn't have the number of its place.
@@ -169,7 +205,6 @@ pub fn solve<G: Graph + Send + Sync, A: Gate, R: Threads + Wait + Sync>(
 ///
 /// Those of [`solve`]. Where numbers are out of range, or the blocks aren't made, the watch is told
 /// nothing. A wave that was told may still be refused.
-#[tactic(auto, using(morris_wave::proofs::Plies::ply_rules, morris_wave::proofs::Plies::code_rules))]
 pub fn solve_watched<G: Graph + Send + Sync, A: Gate, R: Threads + Wait + Sync, W: Watch>(
     rt: &R,
     alloc: Global,
@@ -197,11 +232,51 @@ pub fn solve_watched<G: Graph + Send + Sync, A: Gate, R: Threads + Wait + Sync, 
     // The watch is as it may be after it was told, whatever the answer.
     ensures watched { W.becomes watch.old watch.new }
 {
+    solve_with(rt, alloc, graph, gate, workers, blocks, SHORT, watch)
+}
+
+/// [`solve_watched`], where what workers send lies in lists of 4 bytes a node as long as the graph
+/// has at most `short` nodes, and else of 8.
+///
+/// # Errors
+///
+/// Those of [`solve_watched`], of which the watch is told as much.
+#[tactic(auto, using(morris_wave::proofs::Plies::ply_rules, morris_wave::proofs::Plies::code_rules))]
+pub fn solve_with<G: Graph + Send + Sync, A: Gate, R: Threads + Wait + Sync, W: Watch>(
+    rt: &R,
+    alloc: Global,
+    graph: &G,
+    gate: &A,
+    workers: usize,
+    blocks: usize,
+    short: u64,
+    watch: &mut W,
+) -> Result<Vec<u16>, SolveFault>
+    // A node of a graph of so many nodes is a number of 32 bits.
+    requires short { short ≤ 2 ^ 32 }
+    // Numbers out of range are refused, workers first.
+    ensures refused { (fault : SolveFault) → range_fault workers blocks ≡ Some fault → result ≡ Err fault }
+    // And no others are.
+    ensures in_range { IfErr result (λ fault. is_range_fault fault ≡ true → range_fault workers blocks ≡ Some fault) }
+    ensures ok_range { OnOk result (range_fault workers blocks ≡ None) }
+    ensures len { IfOk result (λ v. vec_len v ≡ (G.Name.net (G.level graph.now)).size) }
+    ensures codes { IfOk result (λ v. (i : ℕ) → i < (G.Name.net (G.level graph.now)).size
+        → HasCode (G.Name.net (G.level graph.now)) i (slice_index v.items i)) }
+    ensures not_too_deep { OnOk result (¬ IsTooDeep (G.Name.net (G.level graph.now))) }
+    ensures too_deep { result ≡ Err SolveFault.TooDeep → IsTooDeep (G.Name.net (G.level graph.now)) }
+    ensures missing { IfErr result (λ fault. (number : ℕ) → fault ≡ SolveFault.Missing number → number < blocks) }
+    // A code is counted in plies as the rules of the game do.
+    ensures plies { PlyRules (G.Name.net (G.level graph.now)) }
+    // And it tells who wins: codes of lost nodes are odd, those of won nodes even.
+    ensures outcome { CodeRules (G.Name.net (G.level graph.now)) }
+    // The watch is as it may be after it was told, whatever the answer.
+    ensures watched { W.becomes watch.old watch.new }
+{
     check_numbers(workers, blocks)?;
     let cut = cut_into(graph.size(), blocks as u64);
     let shares = cut_into(blocks as u64, workers as u64);
     let made = make_blocks(rt, alloc, graph, &cut, &shares)?;
     let yard = Yard::new(alloc, made)?;
-    let wave = run_waves(rt, alloc, graph, gate, &yard, &shares, watch)?;
+    let wave = run_all(rt, alloc, graph, gate, &yard, &shares, short, watch)?;
     codes_of(alloc, graph.level(), wave, &cut, yard.into_blocks())
 }

@@ -2,7 +2,7 @@
 ghost use Rattle.std.specs.Prelude.{◌≡◌, ◌⊎◌, ℕ, ◌<◌, ◌≤◌, false, length, IfOk, IsOk, OnOk, IfSome, IfErr, vec_len};
 ghost use Rattle.std.specs.List.{All};
 ghost use Rattle.morris_wave.specs.Blocks.{next_wave_of};
-ghost use Rattle.morris_workers.specs.Tickets.{IsSeatOf, IsNewSeatOf, limit_of, has_ended};
+ghost use Rattle.morris_workers.specs.Tickets.{IsSeatOf, IsNewSeatOf, HasDrawn, limit_of, has_ended};
 
 use crate::gate::{Gate, Turn};
 use crate::tickets::{TicketSeat, Tickets};
@@ -16,9 +16,6 @@ use std::thread::Threads;
 
 // Lists that were sent are put aside until they have more bytes of room than this.
 const KEPT_ROOM: usize = 4194304;
-
-// 2^32: where no graph has more nodes, each is a number of 32 bits.
-const SHORT: u64 = 4294967296;
 
 // What one worker gets: its number, and a seat to draw from.
 #[derive(Drop)]
@@ -161,7 +158,8 @@ impl<'a, G: Graph, A: Gate, R: Wait> Site<'a, G, A, R> {
         requires limit { limit_of tickets.now ≡ self.now.yard.now }
         requires seat { IsSeatOf tickets.now seat.old }
         requires ready { has_ended seat.old ≡ false }
-        ensures { IsSeatOf tickets.now seat.new }
+        ensures seat { IsSeatOf tickets.now seat.new }
+        ensures drawn { OnOk result (HasDrawn seat.new) }
     {
         let mut spare: Vec<L> = Vec::new(self.alloc);
         // No worker draws more numbers than there are blocks, and then finds once that none is
@@ -179,20 +177,18 @@ impl<'a, G: Graph, A: Gate, R: Wait> Site<'a, G, A, R> {
     }
 
     // What one worker does in the wave. It gives back its seat, and says whether memory was
-    // refused.
-    fn work(&self, tickets: &Tickets, job: Job) -> (TicketSeat, Result<(), AllocError>)
+    // refused; where it wasn't, the seat was drawn from.
+    fn work<L: NodeList>(&self, tickets: &Tickets, job: Job) -> (TicketSeat, Result<(), AllocError>)
+        requires small { (G.Name.net (G.level self.now.graph.now)).size ≤ L.limit }
         requires worker { job.worker < self.now.shares.now.blocks }
         requires limit { limit_of tickets.now ≡ self.now.yard.now }
         requires seat { IsNewSeatOf tickets.now job.seat }
-        ensures { IsSeatOf tickets.now result.0 }
+        ensures seat { IsSeatOf tickets.now result.0 }
+        ensures drawn { OnOk result.1 (HasDrawn result.0) }
     {
         let Job { worker, mut seat } = job;
         self.advance(worker);
-        let sent = if self.graph.size() <= SHORT {
-            self.draw_all::<Vec<u32>>(tickets, worker, &mut seat)
-        } else {
-            self.draw_all::<Vec<u64>>(tickets, worker, &mut seat)
-        };
+        let sent = self.draw_all::<L>(tickets, worker, &mut seat);
         (seat, sent)
     }
 }
@@ -249,12 +245,17 @@ fn outcome_of(done: &[(TicketSeat, Result<(), AllocError>)]) -> Result<(), Alloc
 /// Each worker first takes the blocks of its share to the wave. Then it draws numbers of blocks and
 /// asks the gate after each draw. On `Go` it sends what the block found to every block; on `Leave`
 /// it ends, and nothing is sent from that block. A worker for which no thread can be started is run
-/// by another one.
+/// by another one. What is sent lies in lists of the kind `L`.
 ///
 /// # Errors
 ///
 /// `AllocError` where memory is refused anywhere.
-pub(crate) fn run_wave<G: Graph + Send + Sync, A: Gate, R: Threads + Wait + Sync>(
+pub(crate) fn run_wave<
+    L: NodeList + Send + Sync,
+    G: Graph + Send + Sync,
+    A: Gate,
+    R: Threads + Wait + Sync,
+>(
     rt: &R,
     alloc: Global,
     graph: &G,
@@ -263,6 +264,7 @@ pub(crate) fn run_wave<G: Graph + Send + Sync, A: Gate, R: Threads + Wait + Sync
     shares: &Cut,
     wave: u16,
 ) -> Result<(), AllocError>
+    requires small { (G.Name.net (G.level graph.now)).size ≤ L.limit }
     requires shared { shares.now.size ≡ yard.now }
     requires few { yard.now ≤ 1024 }
     requires workers { (1 ≤ shares.now.blocks) × (shares.now.blocks ≤ 64) }
@@ -284,9 +286,10 @@ pub(crate) fn run_wave<G: Graph + Send + Sync, A: Gate, R: Threads + Wait + Sync
         rt,
         jobs,
         &|job| -> (TicketSeat, Result<(), AllocError>)
-            requires { IsNewSeatOf shown.now job.seat × (job.worker < site.now.shares.now.blocks) × (limit_of shown.now ≡ site.now.yard.now) }
+            requires { IsNewSeatOf shown.now job.seat × (job.worker < site.now.shares.now.blocks) × (limit_of shown.now ≡ site.now.yard.now)
+                × ((G.Name.net (G.level site.now.graph.now)).size ≤ L.limit) }
             ensures { IsSeatOf shown.entry.now result.0 }
-        { site.work(shown, job) },
+        { site.work::<L>(shown, job) },
     )?;
     hand_back(alloc, tickets, done)
 }

@@ -1,6 +1,6 @@
 use Rattle.std.proofs.Common.{OnOk, subst}
 use Rattle.morris_wave.specs.Values.{IsTooDeep}
-use Rattle.morris_workers.proofs.solver.solve_watched.Goals as goal
+use Rattle.morris_workers.proofs.solver.solve_with.Goals as goal
 
 pub returns-clause-not_too_deep : goal.returns-clause-not_too_deep
 returns-clause-not_too_deep g c =
