@@ -158,7 +158,7 @@ unfolding header_of
 length-header_of board l c entries = refl
 
 -- the parts of a file, and what follows it
-file_parts : (board : Shape) (t : Table) (after : List ℕ)
+pub file_parts : (board : Shape) (t : Table) (after : List ℕ)
     → file_of board t ++ after ≡ header_of board t.layout t.pair (length t.codes) ++ (code_bytes t.codes ++ (sha256 (content_of board t) ++ after))
 unfolding file_of content_of
 file_parts board t after =

@@ -26,3 +26,4 @@ pub mod AgreementLaws
 pub mod FileLaws
 pub mod ReadingLaws
 pub mod PlaceLaws
+pub mod AcceptLaws

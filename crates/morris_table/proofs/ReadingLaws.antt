@@ -201,6 +201,10 @@ value_or : {A : Type 0} → A → Result A ReadFault → A
 value_or other (Ok x) = x
 value_or other (Err refusal) = other
 
+pub ok_same : {A : Type 0} (r : Result A ReadFault) (x y : A) → r ≡ Ok x → r ≡ Ok y → x ≡ y
+unfolding value_or
+ok_same r x y e h = ap (value_or x) (sym e ∙ h)
+
 -- what the steps of the next file, and of one alone, make of what reading a file gives
 abbrev as_next : Result (Table × List ℕ) ReadFault → Result (Option Table × List ℕ) ReadFault
 as_next read = and_then {B = Option Table × List ℕ} read (λ found. Ok (Some found.0, found.1))

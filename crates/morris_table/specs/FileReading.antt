@@ -137,6 +137,14 @@ Reads found (Some bytes) new (Err fault.Memory) = Unit {0}
 Reads found (Some bytes) new (Err fault.Read) = Unit {0}
 Reads found (Some bytes) new (Err refusal) = found bytes ≡ Err refusal
 
+-- What a call that reads answers of the file of x: x itself, but that room may be missing and a read
+-- may fail.
+abbrev pub Accepts : {A : Type 0} → A → Result A ReadFault → Type 0
+Accepts x (Ok y) = y ≡ x
+Accepts x (Err fault.Memory) = Unit {0}
+Accepts x (Err fault.Read) = Unit {0}
+Accepts x (Err refusal) = ⊥
+
 -- where bytes are known, none of the steps before room is first taken refuses them
 abbrev pub MayTakeRoom : Shape → Option (List ℕ) → Type 0
 MayTakeRoom board None = Unit {0}

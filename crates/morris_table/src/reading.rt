@@ -3,8 +3,10 @@ ghost use Rattle.std.specs.Prelude.{◌≡◌, ℕ, ◌+◌, ◌*◌, ◌-◌, �
 ghost use Rattle.std.specs.Io.KnownBytes.{Consumes, IsAtEnd};
 ghost use Rattle.sha2.specs.Hashers.{Holds256};
 ghost use Rattle.morris_board.specs.Streams.{CountsFailure};
+ghost use Rattle.morris_table.specs.Tables.{Table};
+ghost use Rattle.morris_table.specs.Raws.{IsRaw};
 ghost use Rattle.morris_table.specs.TableFiles.{code_bytes, file_of, next_file_of};
-ghost use Rattle.morris_table.specs.FileReading.{Reads, MayTakeRoom, StandsInFile, StandsWithin, body_length, bytes_past, CountsRead, EndsEarly, ContinuesFile, only_file_in, next_file_in, file_in, header_in, header_at, roomless_in};
+ghost use Rattle.morris_table.specs.FileReading.{Reads, Accepts, MayTakeRoom, StandsInFile, StandsWithin, body_length, bytes_past, CountsRead, EndsEarly, ContinuesFile, only_file_in, next_file_in, file_in, header_in, header_at, roomless_in};
 
 use crate::file_faults::ReadFault;
 use crate::header::{HEADER, Header};
@@ -46,6 +48,8 @@ pub fn read_table<B: Geometry, S: Source>(
     ensures memory { result ≡ Err ReadFault.Memory → MayTakeRoom B.shape (S.remaining source.old) }
     ensures place { StandsInFile B.shape (bytes_past result) (S.remaining source.old) (S.remaining source.new) }
     ensures counted { CountsRead (S.failures source.old) (S.failures source.new) result }
+    // The file of any table is accepted, in either layout.
+    ensures complete { (t : Table) → IsRaw B.shape t → S.remaining source.old ≡ Some (file_of B.shape t) → Accepts t result }
 {
     let Some(raw) = read_next(alloc, source)? else {
         return Err(ReadFault::Short);
@@ -75,6 +79,8 @@ pub fn read_next<B: Geometry, S: Source>(
     ensures memory { result ≡ Err ReadFault.Memory → MayTakeRoom B.shape (S.remaining source.old) }
     ensures place { StandsInFile B.shape 0 (S.remaining source.old) (S.remaining source.new) }
     ensures counted { CountsRead (S.failures source.old) (S.failures source.new) result }
+    // The file of any table is accepted, in either layout and whatever follows it.
+    ensures complete { (t : Table) (after : List ℕ) → IsRaw B.shape t → S.remaining source.old ≡ Some (file_of B.shape t ++ after) → Accepts (Some t) result }
 {
     let mut header = [0; HEADER];
     let count = fill(source, &mut header)?;

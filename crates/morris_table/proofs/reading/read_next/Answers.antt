@@ -1,5 +1,5 @@
 -- The header was read, or the source ended before.
-use Rattle.std.proofs.Common.{◌≡◌, ◌++◌, [], length, take, Some, Err, sym, ap, ◌∙◌, subst, arith, length-take}
+use Rattle.std.proofs.Common.{◌≡◌, ◌++◌, [], length, take, Some, None, Ok, Err, sym, ap, ◌∙◌, subst, arith, length-take}
 use Rattle.std.proofs.lemmas.Result.{err_from_is_err_and}
 use Rattle.std.proofs.lemmas.List.{take_all}
 use Rattle.std.specs.Io.KnownBytes.{Consumes}
@@ -8,6 +8,7 @@ use Rattle.morris_table.specs.FileReading.{file_in, next_file_in}
 use Rattle.morris_table.specs.declared.file_faults.ReadFault.TheVariants as fault
 use Rattle.morris_table.proofs.ReadingLaws.{reads_none, reads_end, reads_on_err, reads_on_ok, may_take, next_file_in-short, next_file_in-err, next_file_in-ok}
 use Rattle.morris_table.proofs.PlaceLaws.{stands-behind}
+use Rattle.morris_table.proofs.AcceptLaws.{accepts_next}
 use Rattle.morris_table.proofs.reading.read_next.Goals as goal
 
 pub returns-then-count-eq0-clause-outcome : goal.returns-then-count-eq0-clause-outcome
@@ -77,3 +78,28 @@ returns-clause-place g c =
     let read = subst (Consumes (g.S.Source.remaining c.args.source.now) (g.S.Source.remaining c.fill.new.source)) all c.in_ok-count.ensures.bytes in
     stands-behind g.B.Geometry.shape 0 header long (g.S.Source.remaining c.args.source.now) (g.S.Source.remaining c.fill.new.source)
     (g.S.Source.remaining c.read_after.new.source) read c.in_ok-read_after.ensures.place
+
+pub returns-in_err-count-clause-complete : goal.returns-in_err-count-clause-complete
+returns-in_err-count-clause-complete g c = λ t after raw known.
+    let failed = err_from_is_err_and c.from_residual.result c.from_residual.ensures.1 in
+    rw (failed.1, failed.2) tt
+
+pub returns-then-count-eq0-clause-complete : goal.returns-then-count-eq0-clause-complete
+returns-then-count-eq0-clause-complete g c =
+    accepts_next g.B.Geometry.shape (omega (arith, g.met.B.Geometry.few, g.met.B.Geometry.point_count)) g.met.B.Geometry.has_symmetries
+    (g.S.Source.remaining c.args.source.now) (g.S.Source.remaining c.fill.new.source) (Ok None) (returns-then-count-eq0-clause-outcome g c)
+
+pub returns-then-count-lt-HEADER-clause-complete : goal.returns-then-count-lt-HEADER-clause-complete
+returns-then-count-lt-HEADER-clause-complete g c =
+    accepts_next g.B.Geometry.shape (omega (arith, g.met.B.Geometry.few, g.met.B.Geometry.point_count)) g.met.B.Geometry.has_symmetries
+    (g.S.Source.remaining c.args.source.now) (g.S.Source.remaining c.fill.new.source) (Err fault.Short) (returns-then-count-lt-HEADER-clause-outcome g c)
+
+pub returns-in_err-read_after-clause-complete : goal.returns-in_err-read_after-clause-complete
+returns-in_err-read_after-clause-complete g c =
+    accepts_next g.B.Geometry.shape (omega (arith, g.met.B.Geometry.few, g.met.B.Geometry.point_count)) g.met.B.Geometry.has_symmetries
+    (g.S.Source.remaining c.args.source.now) (g.S.Source.remaining c.read_after.new.source) c.from_residual-in_err-read_after.result (returns-in_err-read_after-clause-outcome g c)
+
+pub returns-clause-complete : goal.returns-clause-complete
+returns-clause-complete g c =
+    accepts_next g.B.Geometry.shape (omega (arith, g.met.B.Geometry.few, g.met.B.Geometry.point_count)) g.met.B.Geometry.has_symmetries
+    (g.S.Source.remaining c.args.source.now) (g.S.Source.remaining c.read_after.new.source) (Ok (Some c.in_ok-read_after.field-0)) (returns-clause-outcome g c)

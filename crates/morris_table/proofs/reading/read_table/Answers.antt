@@ -1,10 +1,12 @@
 -- A file alone: what refuses the next file, and what follows it.
-use Rattle.std.proofs.Common.{◌≡◌, ◌-◌, [], length, take, Ok, ap, subst, arith, length-take}
+use Rattle.std.proofs.Common.{◌≡◌, ◌-◌, ◌≤◌, [], length, take, Ok, Err, ap, subst, arith, length-take}
 use Rattle.std.proofs.lemmas.Result.{err_from_is_err_and}
 use Rattle.std.specs.Io.KnownBytes.{Consumes}
 use Rattle.morris_table.specs.FileReading.{Reads, next_file_in}
+use Rattle.morris_table.specs.declared.file_faults.ReadFault.TheVariants as fault
 use Rattle.morris_table.proofs.ReadingLaws.{reads_only_err, reads_only_none, reads_only_trailing, reads_only_ok}
 use Rattle.morris_table.proofs.PlaceLaws.{stands-take, stands-past}
+use Rattle.morris_table.proofs.AcceptLaws.{accepts_only}
 use Rattle.morris_table.proofs.reading.read_table.Goals as goal
 
 pub returns-in_err-raw-clause-outcome : goal.returns-in_err-raw-clause-outcome
@@ -54,3 +56,28 @@ returns-then-branch-gt0-clause-place g c =
     (g.S.Source.remaining c.fill.new.source) (omega (arith, c.fill.auto.buffer)) c.read_next.ensures.place
     (stands-take (length c.fill.new.buffer) c.in_ok-fill.field-0 c.fill.new.buffer (g.S.Source.remaining c.read_next.new.source)
     (g.S.Source.remaining c.fill.new.source) c.in_ok-fill.ensures.within c.in_ok-fill.ensures.bytes)
+
+pub returns-in_err-raw-clause-complete : goal.returns-in_err-raw-clause-complete
+returns-in_err-raw-clause-complete g c =
+    accepts_only g.B.Geometry.shape (omega (arith, g.met.B.Geometry.few, g.met.B.Geometry.point_count)) g.met.B.Geometry.has_symmetries
+    (g.S.Source.remaining c.args.source.now) (g.S.Source.remaining c.read_next.new.source) c.from_residual.result (returns-in_err-raw-clause-outcome g c)
+
+pub returns-in_default-clause-complete : goal.returns-in_default-clause-complete
+returns-in_default-clause-complete g c =
+    accepts_only g.B.Geometry.shape (omega (arith, g.met.B.Geometry.few, g.met.B.Geometry.point_count)) g.met.B.Geometry.has_symmetries
+    (g.S.Source.remaining c.args.source.now) (g.S.Source.remaining c.read_next.new.source) (Err fault.Short) (returns-in_default-clause-outcome g c)
+
+pub returns-then-branch-gt0-clause-complete : goal.returns-then-branch-gt0-clause-complete
+returns-then-branch-gt0-clause-complete g c =
+    accepts_only g.B.Geometry.shape (omega (arith, g.met.B.Geometry.few, g.met.B.Geometry.point_count)) g.met.B.Geometry.has_symmetries
+    (g.S.Source.remaining c.args.source.now) (g.S.Source.remaining c.fill.new.source) (Err fault.Trailing) (returns-then-branch-gt0-clause-outcome g c)
+
+pub returns-clause-complete : goal.returns-clause-complete
+returns-clause-complete g c =
+    accepts_only g.B.Geometry.shape (omega (arith, g.met.B.Geometry.few, g.met.B.Geometry.point_count)) g.met.B.Geometry.has_symmetries
+    (g.S.Source.remaining c.args.source.now) (g.S.Source.remaining c.fill.new.source) (Ok c.in-Some.raw) (returns-clause-outcome g c)
+
+pub returns-in_err-fill-clause-complete : goal.returns-in_err-fill-clause-complete
+returns-in_err-fill-clause-complete g c = λ t raw known.
+    let failed = err_from_is_err_and c.from_residual-in_err-fill.result c.from_residual-in_err-fill.ensures.1 in
+    rw (failed.1, failed.2) tt
