@@ -120,7 +120,8 @@ fn read_after<B: Geometry, S: Source>(
     Ok(Raw::new(numbering, codes))
 }
 
-/// Reads this many codes, and feeds their bytes to the hasher.
+/// Reads this many codes, and feeds their bytes to the hasher. Room is taken for these codes and for
+/// no more.
 fn read_codes<S: Source>(
     alloc: Global,
     source: &mut S,
@@ -136,6 +137,7 @@ fn read_codes<S: Source>(
     ensures refused { IfErr result (EndsEarly (2 * count) (S.remaining source.old)) }
     ensures place { OnErr result (StandsWithin (2 * count) (S.remaining source.old) (S.remaining source.new)) }
     ensures counted { CountsRead (S.failures source.old) (S.failures source.new) result }
+    ensures room { IfOk result (λ codes. vec_capacity codes ≡ count) }
 {
     let mut codes = Vec::with_capacity(alloc, count)?;
     let mut buffer = [0; PIECE];

@@ -15,6 +15,7 @@ loop-buffer-init g c =
     record {
       within = omega (arith, c.in_ok-codes.ensures.len);
       room = c.in_ok-codes.ensures.capacity;
+      kept = refl;
       consumed = rw none (Consumes-nil (g.S.Source.remaining c.args.source.now));
       small = λ i. rw none (omega arith);
       hashed = λ before h. rw none (simp append-nil h);
