@@ -17,7 +17,7 @@ use Rattle.morris_index.proofs.RankLaws.{count-none, count-yes, count-no}
 
 -- ---- a test over a range
 
-all_range : (test : ℕ → Bool) (a n : ℕ) → ((k : ℕ) → k < a + n → test k ≡ true) → list_all test (range_with_len a n) ≡ true
+pub all_range : (test : ℕ → Bool) (a n : ℕ) → ((k : ℕ) → k < a + n → test k ≡ true) → list_all test (range_with_len a n) ≡ true
 all_range test a zero each = refl
 all_range test a (suc n) each = and_from _ _ (each a (omega arith)) (all_range test (a + 1) n (λ k low. each k (omega arith)))
 

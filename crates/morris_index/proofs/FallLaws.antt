@@ -23,7 +23,7 @@ use Rattle.morris_index.proofs.ClassMoveLaws.{entry-parts}
 -- ---- the results of a function at those numbers of a range that pass a test
 
 module _ {X : Type 0} (f : ℕ → X) (keep : ℕ → Bool) where
-  abbrev kept : ℕ → ℕ → List X
+  abbrev pub kept : ℕ → ℕ → List X
   kept a n = map f (filter keep (range_with_len a n))
 
   kept-yes : (a n : ℕ) → keep a ≡ true → kept a (suc n) ≡ f a ∷ kept (a + 1) n
@@ -32,7 +32,7 @@ module _ {X : Type 0} (f : ℕ → X) (keep : ℕ → Bool) where
   kept-no : (a n : ℕ) → keep a ≡ false → kept a (suc n) ≡ kept (a + 1) n
   kept-no a n h = rw h refl
 
-  kept-from : (a n : ℕ) (x : X) → Contains (kept a n) x → (s : ℕ) × (a ≤ s) × (s < a + n) × (keep s ≡ true) × (f s ≡ x)
+  pub kept-from : (a n : ℕ) (x : X) → Contains (kept a n) x → (s : ℕ) × (a ≤ s) × (s < a + n) × (keep s ≡ true) × (f s ≡ x)
   kept-from a zero x c = absurd (omega arith)
   kept-from a (suc n) x c = elim (cases_Bool (keep a)) [
     | inl h ↦ elim (Contains-append_cases (f a ∷ []) (kept (a + 1) n) x (subst (λ xs. Contains xs x) (kept-yes a n h) c)) [
@@ -45,7 +45,7 @@ module _ {X : Type 0} (f : ℕ → X) (keep : ℕ → Bool) where
     | inr h ↦ let r = kept-from (a + 1) n x (subst (λ xs. Contains xs x) (kept-no a n h) c) in (r.0, omega (arith, r.1), omega (arith, r.2), r.3, r.4)
   ]
 
-  kept-has : (a n s : ℕ) → a ≤ s → s < a + n → keep s ≡ true → Contains (kept a n) (f s)
+  pub kept-has : (a n s : ℕ) → a ≤ s → s < a + n → keep s ≡ true → Contains (kept a n) (f s)
   kept-has a zero s low high h = absurd (omega arith)
   kept-has a (suc n) s low high h = elim (cases_eq s a) [
     | inl e ↦
@@ -60,18 +60,19 @@ module _ {X : Type 0} (f : ℕ → X) (keep : ℕ → Bool) where
   ]
 
   -- where no two results are the same, none stands in the list twice
-  kept-once : ((s t : ℕ) → keep s ≡ true → keep t ≡ true → f s ≡ f t → s ≡ t) → (a n : ℕ) → AllPairs (λ x y. x ≢ y) (kept a n)
-  kept-once alone a zero = λ i j d less within. absurd (omega arith)
-  kept-once alone a (suc n) = elim (cases_Bool (keep a)) [
+  pub kept-once : (end : ℕ) → ((s t : ℕ) → s < end → t < end → keep s ≡ true → keep t ≡ true → f s ≡ f t → s ≡ t) → (a n : ℕ) → a + n ≤ end
+      → AllPairs (λ x y. x ≢ y) (kept a n)
+  kept-once end alone a zero fits = λ i j d less within. absurd (omega arith)
+  kept-once end alone a (suc n) fits = elim (cases_Bool (keep a)) [
     | inl h ↦
         subst (AllPairs (λ x y. x ≢ y)) (sym (kept-yes a n h))
         (AllPairs-cons (λ x y. x ≢ y) (f a) (kept (a + 1) n)
         (All-weaker (Contains (kept (a + 1) n)) (λ y. f a ≢ y) (λ y c e.
         let r = kept-from (a + 1) n y c in
-        let same : a ≡ r.0 = alone a r.0 h r.3 (e ∙ sym r.4) in
+        let same : a ≡ r.0 = alone a r.0 (omega arith) (omega (arith, r.2)) h r.3 (e ∙ sym r.4) in
         omega (arith, r.1)) (kept (a + 1) n) (All-contains_itself (kept (a + 1) n)))
-        (kept-once alone (a + 1) n))
-    | inr h ↦ subst (AllPairs (λ x y. x ≢ y)) (sym (kept-no a n h)) (kept-once alone (a + 1) n)
+        (kept-once end alone (a + 1) n (omega arith)))
+    | inr h ↦ subst (AllPairs (λ x y. x ≢ y)) (sym (kept-no a n h)) (kept-once end alone (a + 1) n (omega arith))
   ]
 
   kept-few : (a n : ℕ) → length (kept a n) ≤ n
@@ -208,8 +209,9 @@ pub falls-once : (board : Shape) (p : Sides) → AllPairs (λ s t. s ≢ t) (fal
 unfolding falls_from
 falls-once board p =
     kept-once (taken_from board p) (is_led_by board p)
-    (λ s t hs ht e. sym (eqb-true _ _ hs) ∙ ap (λ (x : Sides). symmetry_of board x.own) e ∙ eqb-true _ _ ht)
-    0 (board.symmetries - 0)
+    board.symmetries
+    (λ s t s_low t_low hs ht e. sym (eqb-true _ _ hs) ∙ ap (λ (x : Sides). symmetry_of board x.own) e ∙ eqb-true _ _ ht)
+    0 (board.symmetries - 0) (omega arith)
 
 pub falls-few : (board : Shape) (p : Sides) → length (falls_from board p 0) ≤ board.symmetries
 unfolding falls_from

@@ -19,3 +19,4 @@ pub mod ClassMoveLaws
 mod CarriedLaws
 pub mod ClassCounts
 pub mod FallLaws
+mod StepLaws

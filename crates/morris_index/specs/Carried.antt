@@ -1,16 +1,52 @@
 -- The entries of the positions before a position, where the positions of a pair are numbered by
 -- classes. Only a position with the player to move on a representative has an entry of its own, so
 -- the position before a move is carried to such a one, and the move with it.
-use Rattle.std.specs.Prelude.{◌≡◌, ℕ, ◌<◌, Bool, true, ◌&&◌, nat_eq, nat_lt, List, map, filter, length, slice_index}
-use Rattle.std.specs.List.{range_with_len}
+use Rattle.std.specs.Prelude.{◌≡◌, ◌≢◌, ℕ, ◌<◌, ◌↔◌, Bool, true, not, ◌&&◌, ◌||◌, nat_eq, nat_lt, List, ◌++◌, map, filter, length, slice_index}
+use Rattle.std.specs.List.{range_with_len, AllPairs, Contains}
 use Rattle.morris_board.specs.Boards.{Shape}
 use Rattle.morris_board.specs.Sets.{has}
 use Rattle.morris_board.specs.Positions.{Sides, IsPosition}
 use Rattle.morris_board.specs.Symmetries.{image_of, image_sides, inverse_of}
-use Rattle.morris_index.specs.Classes.{is_leading, symmetry_of}
-use Rattle.morris_index.specs.ClassPairs.{class_index_of}
-use Rattle.morris_index.specs.Moves.{InPair, taken_back}
+use Rattle.morris_index.specs.Classes.{is_leading, symmetry_of, representative_of}
+use Rattle.morris_index.specs.ClassPairs.{led, class_index_of}
+use Rattle.morris_index.specs.Moves.{InPair, taken_back, moved_on}
 use Rattle.morris_index.specs.Pairs.{Counts, is_of}
+
+-- a quiet move, with the position in which it is made
+pub record Step : Type 0 where
+  pub start : Sides
+  pub from : ℕ
+  pub to : ℕ
+
+abbrev pub step : Sides → ℕ → ℕ → Step
+step start from to = record { start = start; from = from; to = to }
+
+-- the position after it
+abbrev pub end_of : Step → Sides
+end_of x = moved_on x.start x.from x.to
+
+-- A step comes down to the quiet move to p from u to v: it is made in a position of the pair that
+-- has an entry of its own, by a stone of the player to move, to a vacant point; and the position
+-- after it falls on the entry of p, since the symmetry that leads that position leads it to p, and
+-- the two points of the move to u and v.
+pub record ComesDownTo (board : Shape) (n : ℕ) (c : Counts) (p : Sides) (u v : ℕ) (x : Step) : Type 0 where
+  pub lawful : IsPosition board x.start
+  pub counts : is_of c x.start ≡ true
+  pub own : representative_of board x.start.own ≡ x.start.own
+  pub stone : has x.start.own x.from ≡ true
+  pub inside : x.to < n
+  pub vacant : not (has x.start.own x.to || has x.start.other x.to) ≡ true
+  pub falls : led board (end_of x) ≡ p
+  pub leaves : board.image (symmetry_of board (end_of x).own) x.from ≡ u
+  pub arrives : board.image (symmetry_of board (end_of x).own) x.to ≡ v
+
+-- Numbers were added at the end of a list: for each step that comes down to the move, the entry of
+-- the position in which it is made, and no others.
+pub record AddsEntries (board : Shape) (n : ℕ) (c : Counts) (p : Sides) (u v : ℕ) (old new : List ℕ) : Type 0 where
+  pub steps : List Step
+  pub listed : (x : Step) → Contains steps x ↔ ComesDownTo board n c p u v x
+  pub once : AllPairs (λ x y. x ≢ y) steps
+  pub added : new ≡ old ++ map (λ (x : Step). class_index_of board n c x.start) steps
 
 -- Whether symmetry s carries a move to p, of a player with the stones `mover` before it, to a move
 -- from a position with an entry of its own to one that has the entry of p: it leads `mover` to the

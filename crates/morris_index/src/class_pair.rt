@@ -126,6 +126,7 @@ impl<B: Geometry> ClassPair<B> {
         ensures representative { result.1 ≡ representative_of B.shape own }
         ensures symmetries { AreLeading B.shape own result.2 }
         ensures few { result.0 ≤ 2 ^ 54 }
+        ensures lawful { IsPair B.POINTS self.now }
     {
         let greater = self.pair.greater();
         if own.count() == greater {

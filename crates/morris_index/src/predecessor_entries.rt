@@ -3,7 +3,7 @@ ghost use Rattle.std.specs.Prelude.{◌≡◌, ◌<◌, ◌||◌, ◌++◌, not,
 ghost use Rattle.morris_board.specs.Sets.{has};
 ghost use Rattle.morris_index.specs.Pairs.{is_of};
 ghost use Rattle.morris_index.specs.Moves.{in_pair};
-ghost use Rattle.morris_index.specs.Carried.{entries_before};
+ghost use Rattle.morris_index.specs.Carried.{entries_before, AddsEntries};
 
 use crate::class_pair::ClassPair;
 use crate::ranks::rank;
@@ -62,10 +62,11 @@ impl<'a, B: Geometry> PredecessorEntries<'a, B> {
         }
     }
 
-    /// Adds the entries from which the images of the quiet move from `from` to `to` lead to the
-    /// entry of the position, for each symmetry that carries the move to one from a position with
-    /// an entry of its own: mostly there is one. A stone of the opponent stands on `to`, and `from`
-    /// is vacant.
+    /// Adds the entries of the positions from which a quiet move leads to the entry of this one, and
+    /// comes down to the move from `from` to `to`: the symmetry that leads the position after it
+    /// leads that one to this, and takes the points of the move to `from` and `to`. There is an
+    /// entry for each such move, mostly one. A stone of the opponent stands on `to`, and `from` is
+    /// vacant.
     ///
     /// # Errors
     /// [`AllocError`] where memory runs out. Then some of the entries may have been added.
@@ -73,7 +74,9 @@ impl<'a, B: Geometry> PredecessorEntries<'a, B> {
         requires start { from < B.POINTS }
         requires vacant { not (has self.now.position.own from || has self.now.position.other from) ≡ true }
         requires end { has self.now.position.other to ≡ true }
-        ensures { OnOk result (out.new.items ≡ out.old.items ++ entries_before B.shape B.POINTS self.now.pair self.now.position from to) }
+        ensures added { OnOk result (AddsEntries B.shape B.POINTS self.now.pair self.now.position from to out.old.items out.new.items) }
+        // In which order: that of the symmetries.
+        ensures carried { OnOk result (out.new.items ≡ out.old.items ++ entries_before B.shape B.POINTS self.now.pair self.now.position from to) }
     {
         let own = self.position.own();
         let mover = self.position.other().without(to).with(from);

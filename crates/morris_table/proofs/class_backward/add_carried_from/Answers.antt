@@ -32,7 +32,7 @@ pub loop-from-preserved : goal.loop-from-preserved
 loop-from-preserved g c = record {
   points = next_points c.loop-from.yielded c.in-Some.from c.loop-from.from-iterator c.next.new.self (members c.args.points) c.loop-from.invariant.points
       c.in-Some.ensures.steps;
-  listed = c.in_ok-add.ensures
+  listed = c.in_ok-add.ensures.carried
       ∙ (ap (λ (xs : List ℕ). xs ++ entries_before g.B.Geometry.shape g.B.Geometry.POINTS c.args.entries.now.pair c.args.entries.now.position c.in-Some.from c.args.to)
       c.loop-from.invariant.listed
       ∙ (append_assoc c.args.out.now.items _ _

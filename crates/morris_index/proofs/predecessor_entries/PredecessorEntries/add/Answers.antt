@@ -1,5 +1,5 @@
 -- Each symmetry that carries the move gives one entry.
-use Rattle.std.proofs.Common.{◌≡◌, ◌||◌, ◌+◌, ◌++◌, not, true, map, refl, slice_index, slice_index_or, sym, ap, ◌∙◌, arith}
+use Rattle.std.proofs.Common.{◌≡◌, ◌||◌, ◌+◌, ◌++◌, not, true, map, refl, slice_index, slice_index_or, sym, ap, subst, ◌∙◌, arith}
 use Rattle.std.proofs.lemmas.Grind.{get_or_default_zero}
 use Rattle.std.proofs.lemmas.List.{append-nil}
 use Rattle.morris_board.specs.Sets.{has, members, with_point, without_point}
@@ -8,6 +8,9 @@ use Rattle.morris_index.specs.Classes.{AreLeading}
 use Rattle.morris_index.specs.ClassPairs.{class_index_of}
 use Rattle.morris_index.specs.Moves.{InPair, in_pair, taken_back}
 use Rattle.morris_index.specs.Carried.{entries_before}
+use Rattle.morris_index.specs.Pairs.{IsPair, is_of}
+use Rattle.morris_board.specs.Positions.{IsPosition}
+use Rattle.morris_index.proofs.StepLaws.{adds_entries}
 use Rattle.morris_index.proofs.MoveLaws.{other_lt}
 use Rattle.morris_index.proofs.CarriedLaws.{member_has, split_after, pushed, before_here, before_of, members_are, carrying_low, image_24, image_few, entry_few, entry_is}
 use Rattle.morris_index.proofs.predecessor_entries.PredecessorEntries.add.Goals as goal
@@ -132,9 +135,9 @@ loop-symmetry-preserved g c =
           (entry ∙ ap (λ (q : InPair). class_index_of g.B.Geometry.shape g.B.Geometry.POINTS q.pair (image_sides (g.B.Geometry.shape.image c.in-Some.symmetry) (taken_back q.position c.args.from c.args.to))) c.self.view_is);
     }
 
-pub returns : goal.returns
+pub returns-clause-carried : goal.returns-clause-carried
 unfolding entries_before
-returns g c =
+returns-clause-carried g c =
     let end : has c.self.inside.position.other c.args.to ≡ true = ap (λ (q : InPair). has q.position.other c.args.to) c.self.view_is ∙ c.requires.end in
     let vacant : not (has c.self.inside.position.own c.args.from || has c.self.inside.position.other c.args.from) ≡ true =
     ap (λ (q : InPair). not (has q.position.own c.args.from || has q.position.other c.args.from)) c.self.view_is ∙ c.requires.vacant in
@@ -147,3 +150,11 @@ returns g c =
     rw (← c.self.view_is) (rw (← c.self.view_is) at c.loop-symmetry.invariant.added
     ∙ ap (λ ts. c.args.out.now.items ++ map (λ s. class_index_of g.B.Geometry.shape g.B.Geometry.POINTS c.self.inside.pair.now (image_sides (g.B.Geometry.shape.image s) (taken_back c.self.inside.position c.args.from c.args.to))) ts)
     (all ∙ members_are g.B.Geometry.shape g.B.Geometry.POINTS (omega (arith, g.met.B.Geometry.few)) g.met.B.Geometry.point_count g.met.B.Geometry.has_symmetries (in_pair c.self.inside.pair.now c.self.inside.position) c.self.inside.images c.self.inside.returning c.self.invariant c.args.from c.args.to c.requires.start vacant end c.leads_of-start.result.2 c.common-carrying.result leads c.common-carrying.ensures (omega (arith, g.met.B.Geometry.symmetry_count, g.met.B.Geometry.few_symmetries))))
+
+pub returns-clause-added : goal.returns-clause-added
+returns-clause-added g c =
+    adds_entries g.B.Geometry.shape g.B.Geometry.POINTS (omega (arith, g.met.B.Geometry.few)) g.met.B.Geometry.point_count g.met.B.Geometry.has_symmetries
+    c.args.self.now.pair (subst (λ (q : InPair). IsPair g.B.Geometry.POINTS q.pair) c.self.view_is c.leads_of-start.ensures.lawful)
+    c.args.self.now.position (subst (λ (q : InPair). IsPosition g.B.Geometry.shape q.position) c.self.view_is c.self.invariant.lawful)
+    (subst (λ (q : InPair). is_of q.pair q.position ≡ true) c.self.view_is c.self.invariant.counts) c.args.from c.args.to c.requires.start c.requires.vacant
+    c.requires.end c.args.out.now.items c.loop-symmetry.out.items (returns-clause-carried g c)
