@@ -23,14 +23,14 @@ use Rattle.morris_wave.proofs.ExitTests.{depths_yes, depths_no, some_exit_lost, 
 use Rattle.morris_table.specs.Entries.{entry_count, entry_index, has_own_entry}
 use Rattle.morris_table.specs.EntryLaws.{IsLaid, laid}
 use Rattle.morris_table.specs.Codes.{IsCodeOf, code_to}
-use Rattle.morris_table.specs.PairNets.{is_quiet, is_capture, quiet_results, capture_codes, pair_net, level_of, net_at}
+use Rattle.morris_table.specs.PairNets.{is_quiet, is_capture, quiet_results, capture_codes, pair_net}
 use Rattle.morris_table.specs.Tables.{Table, IsTable}
 use Rattle.morris_table.specs.Raws.{IsRaw}
 use Rattle.morris_table.specs.Graphs.{HasGameValues}
 use Rattle.morris_wave.specs.Summaries.{added, least_with}
 use Rattle.morris_table.specs.Agreement.{code_above, code_from, stated_code, result_codes, quiet_codes, all_added, Agrees}
 use Rattle.morris_table.specs.FilterLaws.{list_any-map, all_parts, any_parts}
-use Rattle.morris_table.specs.NetLaws.{points_few, quiet-at, exits-at, index_in, quiet-stays, result-position, net_at-level_of}
+use Rattle.morris_table.specs.NetLaws.{points_few, quiet-at, exits-at, quiet-stays, result-position, net_at-level_of}
 use Rattle.morris_wave.proofs.Summaries.{exits_of-more}
 
 -- ---- depths of lost codes are even, and those of won codes odd

@@ -25,12 +25,16 @@ use Rattle.morris_wave.specs.Nets.{times}
 use Rattle.morris_table.specs.declared.layout.Layout.TheVariants.{Full}
 use Rattle.morris_table.specs.PairNets.{at_index, is_quiet, quiet_results, pair_net}
 use Rattle.morris_moves.specs.Backward.{before, has_come}
-use Rattle.morris_table.specs.Backward.{moves_into, moves_before, indices_before}
+use Rattle.morris_table.specs.Backward.{moves_into, moves_before}
 use Rattle.morris_table.specs.FilterLaws.{filter-contains, contained-filter, range_bounds}
 use Rattle.morris_table.proofs.BackLawsLists.{Contains-range, Ascends-range, Ascends-filter, Ascends-weaker, Ascends-from_AllPairs, counted, found, at_most_one, count_by-map, one_each}
 use Rattle.morris_moves.proofs.BackLaws.{moved_here, moved_gone, moved_back, vacant_parts, vacant_from, IsApart-before, count_of-before_own, count_of-before_other}
 use Rattle.morris_table.proofs.BackLawsMoves.{moved_same, before_mover, alike}
 use Rattle.morris_table.proofs.BackLawsNodes.{IsIndexed, at_index-indexed, indexed-at_index, indexed_same, none_or_one}
+
+-- the positions before these moves, by their indices in the pair, on n points
+unfoldable pub indices_before : ℕ → Counts → Sides → List Move → List ℕ
+indices_before n c s moves = map (λ m. index_of n c (before s m)) moves
 
 -- ---- the quiet moves that led to a position
 

@@ -1,53 +1,89 @@
--- The list of the positions before the quiet moves to a position, and the loops that make it.
-use Rattle.std.proofs.Common.{◌≡◌, ℕ, ◌*◌, ◌<◌, ◌≤◌, true, List, [], ◌∷◌, ◌++◌, length, map, refl, sym, ap, ◌∙◌, subst, arith, append_assoc}
+-- The list of the entries before the quiet moves to a position, and the loops that make it.
+use Rattle.std.proofs.Common.{◌≡◌, ℕ, ◌*◌, ◌<◌, ◌≤◌, true, List, [], ◌∷◌, ◌++◌, length, map, refl, sym, ap, ◌∙◌, subst, arith, append_assoc, None}
 use Rattle.std.proofs.lemmas.List.Elements.{Contains-append_right}
+use Rattle.std.proofs.lemmas.List.Concat.{flat_map_single}
+use Rattle.std.proofs.lemmas.Grind.{flat_map-append}
 use Rattle.std.proofs.lemmas.List.{append-nil, map-append, flat_map_more}
 use Rattle.std.specs.List.{All, Contains, flat_map}
 use Rattle.morris_board.specs.Sets.{has, members}
 use Rattle.morris_board.specs.Boards.{Shape}
 use Rattle.morris_board.specs.Positions.{Sides, IsPosition}
+use Rattle.morris_board.specs.Symmetries.{HasSymmetries}
+use Rattle.morris_moves.specs.declared.step.Move.{Move}
+use Rattle.morris_moves.specs.Rules.{moved, move}
+use Rattle.morris_moves.specs.Backward.{before}
 use Rattle.morris_moves.proofs.ListLaws.{Contains-head}
 use Rattle.morris_moves.proofs.SetLaws.{has-member}
-use Rattle.morris_index.specs.Pairs.{Counts, IsPair, is_of, size_of, index_of}
+use Rattle.morris_index.specs.Pairs.{Counts, IsPair, is_of, index_of}
+use Rattle.morris_index.specs.Moves.{taken_back}
 use Rattle.morris_wave.specs.Nets.{times}
-use Rattle.morris_table.specs.declared.layout.Layout.TheVariants.{Full}
+use Rattle.morris_table.specs.declared.layout.Layout.{Layout}
+use Rattle.morris_table.specs.declared.layout.Layout.TheVariants.{Full, Classes}
+use Rattle.morris_table.specs.Entries.{entry_count, entry_index, has_own_entry}
 use Rattle.morris_table.specs.PairNets.{pair_net}
-use Rattle.morris_moves.specs.Backward.{before}
-use Rattle.morris_table.specs.Backward.{moves_into, moves_before, indices_before}
-use Rattle.morris_table.proofs.BackLaws.{times_before, nodes_before, few_before}
+use Rattle.morris_table.specs.Backward.{moves_into, moves_before, leads_from, entries_leading}
+use Rattle.morris_table.proofs.BackLaws.{indices_before, times_before, nodes_before, few_before}
+use Rattle.morris_table.proofs.ClassBackLaws.{times_leads, nodes_leading, few_leading}
 
 -- ---- what the list of all of them is, with the number of points given apart
 
-pub record AreBefore (b : Shape) (n : ℕ) (c : Counts) (q : Sides) (xs : List ℕ) : Type 0 where
-  pub often : (j : ℕ) → times j xs ≡ times (index_of n c q) ((pair_net b Full c).quiet j)
-  pub nodes : All (λ j. j < size_of n c) xs
-  pub few : length xs ≤ 9 * 24
+pub record AreLeading (l : Layout) (b : Shape) (n : ℕ) (c : Counts) (p : Sides) (xs : List ℕ) : Type 0 where
+  pub often : (j : ℕ) → times j xs ≡ times (entry_index b n l c p) ((pair_net b l c).quiet j)
+  pub nodes : All (λ j. j < entry_count b n l c) xs
+  pub few : length xs ≤ 9 * 24 * b.symmetries
 
-are_before : (b : Shape) (n : ℕ) → b.points ≡ n → n ≤ 24 → (c : Counts) → IsPair n c → (q : Sides) → IsPosition b q → is_of c q ≡ true
-    → AreBefore b n c q (indices_before n c q (moves_before b q n (members q.other)))
-are_before b n e small c pair q h of =
-    let low : b.points ≤ 24 = omega arith in
+-- where each position has an entry, the entry before a move is that of the one position before it
+by_index : (b : Shape) (n : ℕ) (c : Counts) (p : Sides) (moves : List Move) → indices_before n c p moves ≡ entries_leading Full b n c p moves
+unfolding indices_before entries_leading before moved
+by_index b n c p moves = sym (flat_map_single (λ m. index_of n c (taken_back p m.from m.to)) moves)
+
+are_leading : (l : Layout) (b : Shape) (n : ℕ) → b.points ≡ n → n ≤ 24 → HasSymmetries b → (c : Counts) → IsPair n c → (p : Sides) → IsPosition b p → is_of c p ≡ true
+    → has_own_entry b l p ≡ true → AreLeading l b n c p (entries_leading l b n c p (moves_before b p n (members p.other)))
+are_leading Full b n e small y c pair p h of own =
+    let low : b.points ≤ 24 = omega (arith, e, small) in
     let same : IsPair b.points c = subst (λ k. IsPair k c) (sym e) pair in
-    subst (λ k. AreBefore b k c q (indices_before k c q (moves_before b q k (members q.other)))) e
+    subst (λ k. AreLeading Full b k c p (entries_leading Full b k c p (moves_before b p k (members p.other)))) e
+    (subst (AreLeading Full b b.points c p) (by_index b b.points c p (moves_before b p b.points (members p.other)))
     (record {
-      often = times_before b low c same q h of;
-      nodes = nodes_before b low c same q h of;
-      few = few_before b low c same q h of;
+      often = times_before b low c same p h of;
+      nodes = nodes_before b low c same p h of;
+      few = omega (arith, few_before b low c same p h of, y.some);
+    }))
+are_leading Classes b n e small y c pair p h of own =
+    let low : b.points ≤ 24 = omega (arith, e, small) in
+    let same : IsPair b.points c = subst (λ k. IsPair k c) (sym e) pair in
+    subst (λ k. AreLeading Classes b k c p (entries_leading Classes b k c p (moves_before b p k (members p.other)))) e
+    (record {
+      often = times_leads b low y c same p h of own;
+      nodes = nodes_leading b low y c same p h of own;
+      few = few_leading b low y c same p h of own;
     })
 
 -- ---- the loops over the points
 
-module _ (b : Shape) (n : ℕ) (c : Counts) (q : Sides) where
-  pub before_none : indices_before n c q (moves_before b q n []) ≡ []
-  unfolding indices_before moves_before
-  before_none = refl
+module _ (l : Layout) (b : Shape) (n : ℕ) (c : Counts) (p : Sides) where
+  pub leading_none : entries_leading l b n c p (moves_before b p n []) ≡ []
+  unfolding entries_leading moves_before
+  leading_none = refl
 
-  pub before_more : (vs : List ℕ) (v : ℕ) → indices_before n c q (moves_before b q n vs) ++ indices_before n c q (moves_into b q v n)
-      ≡ indices_before n c q (moves_before b q n (vs ++ v ∷ []))
-  unfolding indices_before moves_before
-  before_more vs v =
-      sym (map-append (λ m. index_of n c (before q m)) (flat_map (λ k. moves_into b q k n) vs) (moves_into b q v n))
-      ∙ ap (map (λ m. index_of n c (before q m))) (flat_map_more (λ k. moves_into b q k n) [] vs v)
+  pub leading_more : (vs : List ℕ) (v : ℕ) → entries_leading l b n c p (moves_before b p n vs) ++ entries_leading l b n c p (moves_into b p v n)
+      ≡ entries_leading l b n c p (moves_before b p n (vs ++ v ∷ []))
+  unfolding entries_leading moves_before
+  leading_more vs v =
+      sym (flat_map-append (λ (m : Move). leads_from l b n c p m.from m.to) (flat_map (λ k. moves_into b p k n) vs) (moves_into b p v n))
+      ∙ ap (flat_map (λ (m : Move). leads_from l b n c p m.from m.to)) (flat_map_more (λ k. moves_into b p k n) [] vs v)
+
+  pub leading_into_none : (v : ℕ) → entries_leading l b n c p (map (λ u. move u v None) []) ≡ []
+  unfolding entries_leading
+  leading_into_none v = refl
+
+  pub leading_into_more : (us : List ℕ) (u v : ℕ) → entries_leading l b n c p (map (λ u. move u v None) us) ++ leads_from l b n c p u v
+      ≡ entries_leading l b n c p (map (λ u. move u v None) (us ++ u ∷ []))
+  unfolding entries_leading
+  leading_into_more us u v =
+      sym (ap (flat_map (λ (m : Move). leads_from l b n c p m.from m.to)) (map-append (λ u. move u v None) us (u ∷ []))
+      ∙ flat_map-append (λ (m : Move). leads_from l b n c p m.from m.to) (map (λ u. move u v None) us) (move u v None ∷ [])
+      ∙ ap (λ xs. flat_map (λ (m : Move). leads_from l b n c p m.from m.to) (map (λ u. move u v None) us) ++ xs) (append-nil (leads_from l b n c p u v)))
 
 -- a step of the loop over the stones
 pub next_points : (ys : List ℕ) (v old new : ℕ) (xs : List ℕ) → ys ++ members old ≡ xs → members old ≡ v ∷ members new → (ys ++ v ∷ []) ++ members new ≡ xs
@@ -57,9 +93,10 @@ pub end_of : (s : ℕ) (ys : List ℕ) (v : ℕ) (zs : List ℕ) → ys ++ v ∷
 end_of s ys v zs e = has-member s v (subst (λ xs. Contains xs v) e (Contains-append_right ys (v ∷ zs) v (Contains-head v zs)))
 
 -- its end: no stone is left
-pub are_all : (b : Shape) (n : ℕ) → b.points ≡ n → n ≤ 24 → (c : Counts) → IsPair n c → (q : Sides) → IsPosition b q → is_of c q ≡ true
-    → (ys : List ℕ) (rest : ℕ) (xs : List ℕ) → ys ++ members rest ≡ members q.other → members rest ≡ []
-    → xs ≡ indices_before n c q (moves_before b q n ys) → AreBefore b n c q xs
-are_all b n e small c pair q h of ys rest xs points none is =
-    let each : ys ≡ members q.other = sym (append-nil ys) ∙ (ap (λ zs. ys ++ zs) (sym none) ∙ points) in
-    subst (AreBefore b n c q) (sym (is ∙ ap (λ zs. indices_before n c q (moves_before b q n zs)) each)) (are_before b n e small c pair q h of)
+pub all_leading : (l : Layout) (b : Shape) (n : ℕ) → b.points ≡ n → n ≤ 24 → HasSymmetries b → (c : Counts) → IsPair n c → (p : Sides) → IsPosition b p → is_of c p ≡ true
+    → has_own_entry b l p ≡ true
+    → (ys : List ℕ) (rest : ℕ) (xs : List ℕ) → ys ++ members rest ≡ members p.other → members rest ≡ []
+    → xs ≡ entries_leading l b n c p (moves_before b p n ys) → AreLeading l b n c p xs
+all_leading l b n e small y c pair p h of own ys rest xs points none is =
+    let each : ys ≡ members p.other = sym (append-nil ys) ∙ (ap (λ zs. ys ++ zs) (sym none) ∙ points) in
+    subst (AreLeading l b n c p) (sym (is ∙ ap (λ zs. entries_leading l b n c p (moves_before b p n zs)) each)) (are_leading l b n e small y c pair p h of own)

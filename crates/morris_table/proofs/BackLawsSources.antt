@@ -1,18 +1,15 @@
 -- The points from which a stone may have come to a point by a quiet move, as a set.
-use Rattle.std.proofs.Common.{◌≡◌, ℕ, zero, suc, ◌+◌, ◌<◌, ◌≤◌, Bool, true, false, ◌&&◌, ltb, List, [], ◌∷◌, ◌++◌, map, filter, refl, sym, ap, ◌∙◌, inl, inr, arith, None}
+use Rattle.std.proofs.Common.{◌≡◌, ℕ, zero, suc, ◌+◌, ◌<◌, ◌≤◌, Bool, true, false, ◌&&◌, ltb, List, [], ◌∷◌, map, filter, refl, sym, ap, ◌∙◌, inl, inr, arith, None}
 use Rattle.std.proofs.lemmas.Bool.{cases_Bool, cases_lt, lt-ltb, le-ltb, both_ways}
-use Rattle.std.proofs.lemmas.List.{map-append}
 use Rattle.std.specs.List.{range_with_len}
 use Rattle.morris_board.specs.Sets.{has, members}
 use Rattle.morris_board.specs.Boards.{Shape}
 use Rattle.morris_board.specs.Positions.{Sides}
-use Rattle.morris_moves.specs.Rules.{is_vacant, moved, move}
-use Rattle.morris_index.specs.Moves.{taken_back}
+use Rattle.morris_moves.specs.Rules.{is_vacant, move}
 use Rattle.morris_moves.proofs.SetLaws.{lt_from_points}
 use Rattle.morris_index.proofs.RankLaws.{members-passing}
-use Rattle.morris_index.specs.Pairs.{Counts, index_of}
-use Rattle.morris_moves.specs.Backward.{before, has_come}
-use Rattle.morris_table.specs.Backward.{moves_into, indices_before}
+use Rattle.morris_moves.specs.Backward.{has_come}
+use Rattle.morris_table.specs.Backward.{moves_into}
 
 -- ---- the moves from these points
 
@@ -54,19 +51,3 @@ module _ (b : Shape) (n : ℕ) (e : b.points ≡ n) (few : n ≤ 24) (q : Sides)
       ∙ ap (map (λ u. move u v None)) (filter_same (λ u. has_come b q (move u v None)) (has r) 0 n
       (λ u low high. sym (sources u ∙ ap (λ x. x && has_come b q (move u v None)) (lt-ltb u n (omega arith))))
       ∙ sym (members-passing r n (lt_from_points r n source_lt) (omega arith)))
-
-  -- the loop over these points
-  pub listed_none : (c : Counts) → indices_before n c q (map (λ u. move u v None) []) ≡ []
-  unfolding indices_before
-  listed_none c = refl
-
-  pub listed_more : (c : Counts) (us : List ℕ) (u : ℕ) → indices_before n c q (map (λ u. move u v None) us) ++ index_of n c (before q (move u v None)) ∷ []
-      ≡ indices_before n c q (map (λ u. move u v None) (us ++ u ∷ []))
-  unfolding indices_before
-  listed_more c us u =
-      sym (ap (map (λ m. index_of n c (before q m))) (map-append (λ u. move u v None) us (u ∷ [])) ∙ map-append (λ m. index_of n c (before q m)) (map (λ u. move u v None) us) (move u v None ∷ []))
-
--- the position that the index is asked for
-pub before_is : (q : Sides) (u v : ℕ) → taken_back q u v ≡ before q (move u v None)
-unfolding before moved
-before_is q u v = refl

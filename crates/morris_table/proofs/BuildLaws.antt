@@ -1,18 +1,12 @@
 -- A refusal of the build of a pair comes from the same refusal of the workers, or of the graph.
-use Rattle.std.proofs.Common.{◌≡◌, ℕ, Bool, true, false, cond, Result, Ok, Err, Option, Some, None, MatchResult, IfErr, refl, sym, ap, ◌∙◌, ◌<◌, ◌⊎◌, inl, inr}
+use Rattle.std.proofs.Common.{◌≡◌, ℕ, Bool, true, false, cond, Result, Ok, Err, Option, Some, None, MatchResult, refl, sym, ap, ◌∙◌, ◌⊎◌, inr}
 use Rattle.std.proofs.lemmas.Bool.{both_ways}
-use Rattle.std.proofs.lemmas.Option.{none-some}
 use Rattle.std.specs.Result.{IsErrAnd}
-use Rattle.morris_index.specs.Pairs.{Counts}
 use Rattle.morris_workers.specs.declared.fault.SolveFault.{SolveFault}
 use Rattle.morris_workers.specs.declared.fault.SolveFault.TheVariants as solve
 use Rattle.morris_workers.specs.Ranges.{range_fault, is_range_fault}
 use Rattle.morris_table.specs.declared.sweeping.BuildFault.{BuildFault}
-use Rattle.morris_table.specs.declared.sweeping.BuildFault.TheVariants.{Memory, Missing, TooDeep}
-use Rattle.morris_table.specs.declared.class_graph.ClassGraphFault.{ClassGraphFault}
-use Rattle.morris_table.specs.declared.class_graph.ClassGraphFault.TheVariants as graph
-use Rattle.morris_table.specs.ClassGraphs.{missing_for, unmade}
-use Rattle.morris_table.specs.Sweeping.{needed_by}
+use Rattle.morris_table.specs.declared.sweeping.BuildFault.TheVariants.{Memory, TooDeep}
 use Rattle.morris_table.specs.Building.{solved, out_of_range}
 
 pub refused_deep : {A B : Type 0} (r : Result A (BuildFault B)) (fault : SolveFault)
@@ -26,19 +20,6 @@ refused_deep (Ok x) solve.Workers h e = cc
 refused_deep (Ok x) solve.Blocks h e = cc
 refused_deep (Ok x) solve.Memory h e = cc
 refused_deep (Ok x) (solve.Missing number) h e = cc
-
--- the workers need no table of another pair
-none_needed : (B : Type 0) (fault : SolveFault) → needed_by {B = B} (solved fault) ≡ None
-none_needed B solve.Workers = refl
-none_needed B solve.Blocks = refl
-none_needed B solve.Memory = refl
-none_needed B (solve.Missing number) = refl
-none_needed B solve.TooDeep = refl
-
-pub nothing_needed : {A B : Type 0} (r : Result A (BuildFault B)) (fault : SolveFault) (missing : Option Counts)
-    → IsErrAnd r (λ e. e ≡ solved fault) → missing ≡ None → MatchResult r (λ _. missing ≡ None) (λ e. needed_by e ≡ missing)
-nothing_needed {B = B} (Err x) fault missing h none = ap needed_by h ∙ none_needed B fault ∙ sym none
-nothing_needed (Ok x) fault missing h none = none
 
 -- ---- the numbers of workers and blocks
 
@@ -73,36 +54,6 @@ pub refused_range : {A B : Type 0} (r : Result A (BuildFault B)) (fault : SolveF
 refused_range (Ok x) fault workers blocks h here same = absurd h
 refused_range {B = B} (Err x) fault workers blocks h here same =
     ap out_of_range h ∙ told_range (range_fault workers blocks) fault (of_range _ _) here same B
-
--- ---- the graph of a pair by classes
-
-needed_unmade : {B : Type 0} (fault : ClassGraphFault B) → needed_by (unmade fault) ≡ missing_for fault
-needed_unmade (graph.Needs needs) = refl
-needed_unmade graph.Memory = refl
-
-pub unmade_needed : {A B : Type 0} (r : Result A (BuildFault B)) (fault : ClassGraphFault B) (missing : Option Counts)
-    → IsErrAnd r (λ e. e ≡ unmade fault) → missing_for fault ≡ missing → MatchResult r (λ _. missing ≡ None) (λ e. needed_by e ≡ missing)
-unmade_needed (Err x) fault missing h same = ap needed_by h ∙ needed_unmade fault ∙ same
-unmade_needed (Ok x) fault missing h same = absurd h
-
--- where no table is missing, memory is refused
-pub unmade_range : {A B : Type 0} (r : Result A (BuildFault B)) (fault : ClassGraphFault B) (missing : Option Counts) (range : Option SolveFault)
-    → IsErrAnd r (λ e. e ≡ unmade fault) → missing_for fault ≡ missing → missing ≡ None
-    → MatchResult r (λ _. range ≡ None) (λ e. (e ≡ Memory) ⊎ (out_of_range e ≡ range))
-unmade_range (Err x) (graph.Needs needs) missing range h same none = absurd (none-some needs.0 (sym (same ∙ none)))
-unmade_range (Err x) graph.Memory missing range h same none = inl h
-unmade_range (Ok x) fault missing range h same none = absurd h
-
-pub unmade_number : {A B : Type 0} (r : Result A (BuildFault B)) (fault : ClassGraphFault B) (blocks : ℕ)
-    → IsErrAnd r (λ e. e ≡ unmade fault) → IfErr r (λ e. (number : ℕ) → e ≡ Missing number → number < blocks)
-unmade_number (Err x) (graph.Needs needs) blocks h = λ number e. cc
-unmade_number (Err x) graph.Memory blocks h = λ number e. cc
-unmade_number (Ok x) fault blocks h = absurd h
-
-pub unmade_deep : {A B : Type 0} (r : Result A (BuildFault B)) (fault : ClassGraphFault B) → IsErrAnd r (λ e. e ≡ unmade fault) → r ≡ Err TooDeep → ⊥
-unmade_deep (Err x) (graph.Needs needs) h e = cc
-unmade_deep (Err x) graph.Memory h e = cc
-unmade_deep (Ok x) fault h e = cc
 
 -- a number out of range that is told in any case
 pub told_after : {A B : Type 0} (r : Result A (BuildFault B)) (range : Option SolveFault)

@@ -1,21 +1,19 @@
 -- The graph of a pair by classes, looked at from an entry: the moves to the position of the entry,
 -- each carried by the symmetries that carry it, are the moves of the entries that lead there.
-use Rattle.std.proofs.Common.{◌≡◌, ℕ, ◌+◌, ◌*◌, ◌<◌, ◌≤◌, ◌^◌, Bool, true, false, ◌&&◌, eqb, leb, cond, List, [], ◌∷◌, ◌++◌, map, filter, length, refl, sym, ap, ap₂, subst, ◌∙◌, inl, inr, arith, Option, Some, None, append-nil}
+use Rattle.std.proofs.Common.{◌≡◌, ℕ, ◌*◌, ◌<◌, ◌≤◌, ◌^◌, Bool, true, ◌&&◌, eqb, leb, cond, List, [], ◌∷◌, filter, length, refl, sym, ap, subst, ◌∙◌, inl, inr, arith, None}
 use Rattle.std.specs.List.{All, Contains, range_with_len, count_by, sum_by, flat_map, list_all}
 use Rattle.std.specs.Option.{option_map}
 use Rattle.std.proofs.lemmas.Bool.{cases_Bool, cases_lt, both_ways, cond-true, cond-false, eq-eqb, eqb-true, and_parts, and_from, le-leb, leb-true}
 use Rattle.std.proofs.Math.Nat.{mul-le-mul_right}
-use Rattle.std.proofs.lemmas.Grind.{flat_map-append}
-use Rattle.std.proofs.lemmas.List.{length-map, map-append, flat_map_more}
+use Rattle.std.proofs.lemmas.List.{length-map}
 use Rattle.std.proofs.lemmas.List.FromFn.{length-range_with_len}
 use Rattle.morris_board.specs.Boards.{Shape}
-use Rattle.morris_board.specs.Positions.{Sides, IsApart, IsPosition}
-use Rattle.morris_board.specs.Symmetries.{image_of, image_sides, inverse_of, IsSymmetry, HasSymmetries}
+use Rattle.morris_board.specs.Positions.{Sides, IsPosition}
+use Rattle.morris_board.specs.Symmetries.{image_of, image_sides, inverse_of, HasSymmetries}
 use Rattle.morris_board.specs.SymmetryLaws.{below}
 use Rattle.morris_board.proofs.ImageLaws.{IsOneToOne, one_to_one, IsSymmetry-back, count_of-image, IsPosition-image, image_sides-undone, image_of-undone}
 use Rattle.morris_moves.specs.declared.step.Move.{Move}
-use Rattle.morris_moves.specs.Rules.{moves_of, result_of, moved, move}
-use Rattle.morris_board.specs.Sets.{members}
+use Rattle.morris_moves.specs.Rules.{moves_of, result_of, moved}
 use Rattle.morris_moves.specs.Backward.{before}
 use Rattle.morris_moves.proofs.LegalLaws.{IsLegalMove, listed_move}
 use Rattle.morris_moves.proofs.ListLaws.{contained_all, Ascends, Contains-head, Contains-map_cases, Contains-flat_map_cases, length-flat_map_le}
@@ -26,7 +24,7 @@ use Rattle.morris_index.specs.Classes.{is_leading, symmetry_of, representative_o
 use Rattle.morris_index.specs.ClassPairs.{led, class_size_of, class_index_of}
 use Rattle.morris_index.specs.Moves.{taken_back}
 use Rattle.morris_index.specs.Carried.{carries, entries_before}
-use Rattle.morris_index.proofs.IndexLaws.{IsPlaced, placed}
+use Rattle.morris_index.proofs.IndexLaws.{placed}
 use Rattle.morris_index.proofs.ResultLaws.{is_of-quiet}
 use Rattle.morris_index.proofs.ClassLaws.{symmetry_within, symmetry_first, image_twice, representative_twice}
 use Rattle.morris_index.proofs.ClassPairLaws.{led_alone, index-lt}
@@ -34,11 +32,11 @@ use Rattle.morris_wave.specs.Nets.{times}
 use Rattle.morris_table.specs.declared.layout.Layout.TheVariants.{Classes}
 use Rattle.morris_table.specs.Entries.{has_own_entry}
 use Rattle.morris_table.specs.EntryLaws.{laid-classes, led_none, index_there, IsLaid}
-use Rattle.morris_table.specs.Backward.{moves_into, moves_before, entries_leading}
+use Rattle.morris_table.specs.Backward.{entries_leading}
 use Rattle.morris_table.specs.FilterLaws.{filter-contains, contained-filter, range_bounds, length-filter_le, flat_map-one, All-from_contained}
 use Rattle.morris_table.specs.NetLaws.{at_index-is, at_index-position}
 use Rattle.morris_table.specs.PairNets.{at_index, is_quiet, quiet_results, pair_net}
-use Rattle.morris_table.proofs.BackLaws.{HasLed, all_before, led as led_by, led-listed, led-placed, led-of, led-moves, led-result, LeadsTo, leads-led, leads-before, leads-other, is_placed, is_position, quiet_taken, taken_quiet, moves_differ, moves_before_differ, few_moves}
+use Rattle.morris_table.proofs.BackLaws.{HasLed, all_before, led as led_by, led-listed, led-placed, led-of, led-moves, led-result, LeadsTo, leads-led, leads-before, leads-other, is_position, quiet_taken, taken_quiet, moves_differ, moves_before_differ, few_moves}
 use Rattle.morris_table.proofs.BackLawsLists.{Contains-range, Ascends-range, Ascends-filter, Ascends-weaker, counted, found, at_most_one, count_by-map, one_each}
 use Rattle.morris_table.proofs.BackLawsMoves.{moved_same, before_mover, alike}
 use Rattle.morris_table.proofs.Doubles.{sum_same, count_sum, count_by-filter, count_by-flat_map, exchange}
@@ -351,7 +349,7 @@ module _ (b : Shape) (low : b.points ≤ 24) (y : HasSymmetries b) (c : Counts) 
           count_by-map (λ z. eqb z (entry p)) (λ m. entry (result_of x m)) quiets
           ∙ count_sum (λ m. eqb (entry (result_of x m)) (entry p)) (λ m. count_by (to_entry x m) (all_symmetries b)) quiets by_one
 
-      count_before : times j (entries_leading b b.points c p (all_before b p)) ≡ sum_by (λ m. count_by (from_entry j m) (all_symmetries b)) (all_before b p)
+      count_before : times j (entries_leading Classes b b.points c p (all_before b p)) ≡ sum_by (λ m. count_by (from_entry j m) (all_symmetries b)) (all_before b p)
       unfolding entries_leading entries_before before moved
       count_before =
           count_by-flat_map (λ z. eqb z j) (λ m. entries_before b b.points c p m.from m.to) (all_before b p)
@@ -362,7 +360,7 @@ module _ (b : Shape) (low : b.points ≤ 24) (y : HasSymmetries b) (c : Counts) 
               count_by-map (λ z. eqb z j) (λ s. entry (image_sides (b.image s) (before p m))) (filter (carries b p (before p m).own) (all_symmetries b))
               ∙ count_by-filter (carries b p (before p m).own) (λ s. eqb (entry (image_sides (b.image s) (before p m))) j) (all_symmetries b)
 
-      times_leading : times j (entries_leading b b.points c p (all_before b p)) ≡ times (entry p) (quiet_results b Classes c x)
+      times_leading : times j (entries_leading Classes b b.points c p (all_before b p)) ≡ times (entry p) (quiet_results b Classes c x)
       times_leading =
           count_before
           ∙ exchange (from_entry j) (all_before b p) (all_symmetries b)
@@ -371,7 +369,7 @@ module _ (b : Shape) (low : b.points ≤ 24) (y : HasSymmetries b) (c : Counts) 
           ∙ sym count_after
 
     -- each that is listed is the entry of a position that has it for its own
-    listed_is : (z : ℕ) → Contains (entries_leading b b.points c p (all_before b p)) z
+    listed_is : (z : ℕ) → Contains (entries_leading Classes b b.points c p (all_before b p)) z
         → (x : Sides) × IsPosition b x × (is_of c x ≡ true) × (has_own_entry b Classes x ≡ true) × (entry x ≡ z)
     unfolding entries_leading entries_before before moved
     listed_is z at =
@@ -390,7 +388,7 @@ module _ (b : Shape) (low : b.points ≤ 24) (y : HasSymmetries b) (c : Counts) 
         )
 
     -- each entry is listed as often as it leads to that of p
-    pub times_leads : (j : ℕ) → times j (entries_leading b b.points c p (all_before b p)) ≡ times (entry p) ((pair_net b Classes c).quiet j)
+    pub times_leads : (j : ℕ) → times j (entries_leading Classes b b.points c p (all_before b p)) ≡ times (entry p) ((pair_net b Classes c).quiet j)
     unfolding pair_net
     times_leads j = from (at_index b Classes c j) refl
       where
@@ -398,17 +396,17 @@ module _ (b : Shape) (low : b.points ≤ 24) (y : HasSymmetries b) (c : Counts) 
         laid_here = laid-classes b low y c pair
 
         from : (xs : List Sides) → at_index b Classes c j ≡ xs
-            → times j (entries_leading b b.points c p (all_before b p)) ≡ times (entry p) (flat_map (quiet_results b Classes c) (at_index b Classes c j))
-        from [] none = elim (cases_lt 0 (times j (entries_leading b b.points c p (all_before b p)))) [
+            → times j (entries_leading Classes b b.points c p (all_before b p)) ≡ times (entry p) (flat_map (quiet_results b Classes c) (at_index b Classes c j))
+        from [] none = elim (cases_lt 0 (times j (entries_leading Classes b b.points c p (all_before b p)))) [
           | inl some ↦
-              let r = found (λ z. eqb z j) (entries_leading b b.points c p (all_before b p)) some in
+              let r = found (λ z. eqb z j) (entries_leading Classes b b.points c p (all_before b p)) some in
               let w = listed_is r.0 r.1 in
               let there : at_index b Classes c j ≡ w.0 ∷ [] =
               ap (at_index b Classes c) (sym (w.4 ∙ eqb-true _ _ r.2)) ∙ at_index-is b low Classes c laid_here w.0 w.1 w.2 w.3 in
               let one : 0 ≡ 1 = ap length (sym none ∙ there) in
               absurd (omega (arith, one))
           | inr less ↦
-              let zero_here : times j (entries_leading b b.points c p (all_before b p)) ≡ 0 = omega (arith, less) in
+              let zero_here : times j (entries_leading Classes b b.points c p (all_before b p)) ≡ 0 = omega (arith, less) in
               zero_here ∙ sym (ap (λ xs. times (entry p) (flat_map (quiet_results b Classes c) xs)) none)
         ]
         from (x ∷ xs) e =
@@ -418,12 +416,12 @@ module _ (b : Shape) (low : b.points ≤ 24) (y : HasSymmetries b) (c : Counts) 
             times_leading j x w.0 w.1 w.2 w.3
             ∙ ap (times (entry p)) (sym (flat_map-one (quiet_results b Classes c) x) ∙ ap (flat_map (quiet_results b Classes c)) (sym one))
 
-    pub nodes_leading : All (λ j. j < class_size_of b b.points c) (entries_leading b b.points c p (all_before b p))
+    pub nodes_leading : All (λ j. j < class_size_of b b.points c) (entries_leading Classes b b.points c p (all_before b p))
     nodes_leading = All-from_contained (λ j. j < class_size_of b b.points c) _ (λ z at.
         let w = listed_is z at in
         subst (λ k. k < class_size_of b b.points c) w.4 (index-lt b b.points low refl y c w.0 w.1 w.2))
 
-    pub few_leading : length (entries_leading b b.points c p (all_before b p)) ≤ 9 * 24 * b.symmetries
+    pub few_leading : length (entries_leading Classes b b.points c p (all_before b p)) ≤ 9 * 24 * b.symmetries
     unfolding entries_leading entries_before
     few_leading =
         let each : length (flat_map (λ m. entries_before b b.points c p m.from m.to) (all_before b p)) ≤ length (all_before b p) * b.symmetries =
@@ -437,57 +435,3 @@ module _ (b : Shape) (low : b.points ≤ 24) (y : HasSymmetries b) (c : Counts) 
           length-filter_le (carries b p (taken_back p m.from m.to).own) (all_symmetries b),
           length-range_with_len 0 b.symmetries,
         )
-
--- ---- what the list of all of them is, with the number of points given apart
-
-pub record AreLeading (b : Shape) (n : ℕ) (c : Counts) (p : Sides) (xs : List ℕ) : Type 0 where
-  pub often : (j : ℕ) → times j xs ≡ times (class_index_of b n c p) ((pair_net b Classes c).quiet j)
-  pub nodes : All (λ j. j < class_size_of b n c) xs
-  pub few : length xs ≤ 9 * 24 * b.symmetries
-
-are_leading : (b : Shape) (n : ℕ) → b.points ≡ n → n ≤ 24 → HasSymmetries b → (c : Counts) → IsPair n c → (p : Sides) → IsPosition b p → is_of c p ≡ true
-    → has_own_entry b Classes p ≡ true → AreLeading b n c p (entries_leading b n c p (moves_before b p n (members p.other)))
-are_leading b n e small y c pair p h of own =
-    let low : b.points ≤ 24 = omega (arith, e, small) in
-    let same : IsPair b.points c = subst (λ k. IsPair k c) (sym e) pair in
-    subst (λ k. AreLeading b k c p (entries_leading b k c p (moves_before b p k (members p.other)))) e
-    (record {
-      often = times_leads b low y c same p h of own;
-      nodes = nodes_leading b low y c same p h of own;
-      few = few_leading b low y c same p h of own;
-    })
-
--- ---- the loops over the points
-
-module _ (b : Shape) (n : ℕ) (c : Counts) (p : Sides) where
-  pub leading_none : entries_leading b n c p (moves_before b p n []) ≡ []
-  unfolding entries_leading moves_before
-  leading_none = refl
-
-  pub leading_more : (vs : List ℕ) (v : ℕ) → entries_leading b n c p (moves_before b p n vs) ++ entries_leading b n c p (moves_into b p v n)
-      ≡ entries_leading b n c p (moves_before b p n (vs ++ v ∷ []))
-  unfolding entries_leading moves_before
-  leading_more vs v =
-      sym (flat_map-append (λ (m : Move). entries_before b n c p m.from m.to) (flat_map (λ k. moves_into b p k n) vs) (moves_into b p v n))
-      ∙ ap (flat_map (λ (m : Move). entries_before b n c p m.from m.to)) (flat_map_more (λ k. moves_into b p k n) [] vs v)
-
-  pub leading_into_none : (v : ℕ) → entries_leading b n c p (map (λ u. move u v None) []) ≡ []
-  unfolding entries_leading
-  leading_into_none v = refl
-
-  pub leading_into_more : (us : List ℕ) (u v : ℕ) → entries_leading b n c p (map (λ u. move u v None) us) ++ entries_before b n c p u v
-      ≡ entries_leading b n c p (map (λ u. move u v None) (us ++ u ∷ []))
-  unfolding entries_leading
-  leading_into_more us u v =
-      sym (ap (flat_map (λ (m : Move). entries_before b n c p m.from m.to)) (map-append (λ u. move u v None) us (u ∷ []))
-      ∙ flat_map-append (λ (m : Move). entries_before b n c p m.from m.to) (map (λ u. move u v None) us) (move u v None ∷ [])
-      ∙ ap (λ xs. flat_map (λ (m : Move). entries_before b n c p m.from m.to) (map (λ u. move u v None) us) ++ xs) (append-nil (entries_before b n c p u v)))
-
--- its end: no stone is left
-pub all_leading : (b : Shape) (n : ℕ) → b.points ≡ n → n ≤ 24 → HasSymmetries b → (c : Counts) → IsPair n c → (p : Sides) → IsPosition b p → is_of c p ≡ true
-    → has_own_entry b Classes p ≡ true
-    → (ys : List ℕ) (rest : ℕ) (xs : List ℕ) → ys ++ members rest ≡ members p.other → members rest ≡ []
-    → xs ≡ entries_leading b n c p (moves_before b p n ys) → AreLeading b n c p xs
-all_leading b n e small y c pair p h of own ys rest xs points none is =
-    let each : ys ≡ members p.other = sym (append-nil ys) ∙ (ap (λ zs. ys ++ zs) (sym none) ∙ points) in
-    subst (AreLeading b n c p) (sym (is ∙ ap (λ zs. entries_leading b n c p (moves_before b p n zs)) each)) (are_leading b n e small y c pair p h of own)

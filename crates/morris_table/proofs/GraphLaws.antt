@@ -12,16 +12,14 @@ use Rattle.morris_board.specs.Positions.{Sides, IsPosition}
 use Rattle.morris_board.specs.Symmetries.{HasSymmetries}
 use Rattle.morris_moves.specs.declared.step.Move.{Move}
 use Rattle.morris_moves.specs.Rules.{moves_of, result_of}
-use Rattle.morris_index.specs.Pairs.{Counts, counts, IsPair, pair_of, ordered, is_of, size_of, index_of, needed, less_lesser, less_greater}
-use Rattle.morris_index.proofs.IndexLaws.{placed, index-lt}
+use Rattle.morris_index.specs.Pairs.{Counts, counts, IsPair, pair_of, ordered, is_of, needed, less_lesser, less_greater}
 use Rattle.morris_index.proofs.ResultLaws.{pair_of-is_of}
 use Rattle.morris_wave.specs.Nets.{Net, times}
 use Rattle.morris_wave.specs.Exits.{exits_of}
 use Rattle.morris_wave.specs.Values.{HasCode, IsTooDeep}
 use Rattle.morris_table.specs.declared.layout.Layout.{Layout}
-use Rattle.morris_table.specs.declared.layout.Layout.TheVariants.{Full}
 use Rattle.morris_table.specs.Entries.{entry_count, entry_index, has_own_entry}
-use Rattle.morris_table.specs.EntryLaws.{IsLaid, laid, laid-full}
+use Rattle.morris_table.specs.EntryLaws.{IsLaid, laid}
 use Rattle.morris_table.specs.Codes.{IsCodeOf, code_to}
 use Rattle.morris_table.specs.PairNets.{is_capture, is_quiet, quiet_results, capture_codes, pair_net, level_of, net_at}
 use Rattle.morris_table.specs.Tables.{Table}

@@ -16,13 +16,13 @@ use Rattle.morris_wave.specs.Values.{is_lost, is_won, is_decided, some_lost, all
 use Rattle.morris_wave.proofs.Depths.{decided_by_then, none_decided}
 use Rattle.morris_table.specs.Codes.{IsCodeOf, code_to}
 use Rattle.morris_table.specs.declared.layout.Layout.{Layout}
-use Rattle.morris_table.specs.Entries.{entry_count, entry_index, has_own_entry}
+use Rattle.morris_table.specs.Entries.{entry_index, has_own_entry}
 use Rattle.morris_table.specs.EntryLaws.{StandsFor, IsLaid}
 use Rattle.morris_table.specs.PairNets.{is_quiet, is_capture, quiet_results, capture_codes, pair_net}
 use Rattle.morris_table.specs.Known.{IsTabled, IsKnown}
 use Rattle.morris_table.specs.FilterLaws.{list_any-map, all_parts, any_parts}
 use Rattle.morris_table.proofs.CodeLaws.{code_cases, code_of_draw, code_of_lost, code_of_won, code_of_stuck, decided_not, code_to-open, code_to-is}
-use Rattle.morris_table.specs.NetLaws.{index_in, quiet-at, exits-at, result-position, quiet-stays, capture-leads}
+use Rattle.morris_table.specs.NetLaws.{quiet-at, exits-at, result-position, quiet-stays, capture-leads}
 
 -- ---- a pair is known where the pairs that it needs are tabled
 

@@ -1,6 +1,6 @@
 -- Laws of the graph of a pair in a layout: its nodes are positions of the pair, and it is a graph.
 use Rattle.std.proofs.Common.{◌≡◌, ℕ, ◌+◌, ◌-◌, ◌*◌, ◌/◌, ◌%◌, ◌^◌, ◌<◌, ◌≤◌, Bool, true, false, not, ◌&&◌, eqb, leb, ltb, List, [], ◌∷◌, map, filter, length, Option, Some, None, is_none, refl, sym, ap, ap₂, subst, ◌∙◌, inl, inr, ◌⊎◌, arith, zero, suc, cond}
-use Rattle.std.proofs.lemmas.Bool.{cases_Bool, cases_eq, both_ways, and_parts, and_from, eqb-true, eq-eqb, leb-true, le-leb, lt-ltb, le-ltb, ltb-true, not-true, not_from_false, false_from_ne_true}
+use Rattle.std.proofs.lemmas.Bool.{cases_Bool, both_ways, and_parts, and_from, eqb-true, eq-eqb, leb-true, le-leb, lt-ltb, le-ltb, ltb-true, not-true, not_from_false, false_from_ne_true}
 use Rattle.std.proofs.lemmas.List.{length-map}
 use Rattle.std.specs.List.{All, Contains, flat_map, list_all, range_with_len}
 use Rattle.std.proofs.lemmas.List.Elements.{All-contains}

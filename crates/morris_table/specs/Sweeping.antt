@@ -24,6 +24,15 @@ is_of_sweep Memory = true
 is_of_sweep (Missing number) = false
 is_of_sweep TooDeep = true
 
+-- whether it is a reason for a graph, which wants the tables and, for classes, memory
+abbrev pub is_of_graph : {B : Type 0} → BuildFault B → Bool
+is_of_graph (Needs needs) = true
+is_of_graph Workers = false
+is_of_graph Blocks = false
+is_of_graph Memory = true
+is_of_graph (Missing number) = false
+is_of_graph TooDeep = false
+
 -- what a refusal of the sweep is here
 abbrev pub swept : {B : Type 0} → SweepFault → BuildFault B
 swept sweep.TooDeep = TooDeep

@@ -156,7 +156,7 @@ pub fn build_watched<B: Board, A: Gate, V: Watch, R: Threads + Wait + Sync>(
         Layout::Full => {
             let graph = PairGraph::new(shelf, pair)?;
             let codes = solve_watched(rt, alloc, &graph, gate, workers, blocks, watch)?;
-            Ok(graph.table(codes))
+            Ok(graph.into_table(codes))
         }
         Layout::Classes => {
             let graph = ClassGraph::new(alloc, shelf, pair)?;

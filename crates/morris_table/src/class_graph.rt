@@ -1,75 +1,29 @@
 //! The graph of a pair by classes.
-ghost use Rattle.std.specs.Prelude.{◌≡◌, ℕ, ◌↔◌, None, IfOk, OnOk, MatchResult, vec_len, slice_index, ◌<◌};
+ghost use Rattle.std.specs.Prelude.{◌≡◌, ℕ, ◌↔◌, None, true, IfErr, IfOk, OnOk, MatchResult, vec_len, slice_index, ◌<◌};
 ghost use Rattle.morris_wave.specs.Blocks.{BlockState};
 ghost use Rattle.morris_wave.specs.Values.{HasCode, IsTooDeep};
-ghost use Rattle.morris_table.specs.ClassGraphs.{missing_for};
 ghost use Rattle.morris_table.specs.Graphs.{HasGameValues};
 ghost use Rattle.morris_table.specs.Headline.{IsBlockOf, TellsTheGame};
 ghost use Rattle.morris_table.specs.Known.{IsBeyondCodes};
 ghost use Rattle.morris_table.specs.PairNets.{level_of, net_at};
 ghost use Rattle.morris_table.specs.Shelves.{first_missing};
+ghost use Rattle.morris_table.specs.Sweeping.{needed_by, is_of_graph};
 ghost use Rattle.morris_table.specs.Tables.{table};
 
-use crate::class_backward::list_entries_before;
+use crate::backward::list_entries_before;
 use crate::exact::Exact;
 use crate::graph::PairGraph;
 use crate::layout::Layout;
 use crate::levels::PairLevels;
 use crate::numbering::Numbering;
 use crate::rows::{Row, read_counts};
-use crate::shelf::{Needs, Shelf};
+use crate::shelf::Shelf;
 use crate::sweeping::BuildFault;
 use morris_board::board::{Board, Geometry};
 use morris_index::pair::Pair;
 use morris_wave::{Exits, Graph};
 use std::alloc::{AllocError, Global};
 use std::marker::Model;
-use thiserror::Error;
-
-/// Why the graph of a pair by classes wasn't made.
-#[derive(Drop, Error)]
-#[derive_where(Clone, Copy, Debug, PartialEq, Eq)]
-pub enum ClassGraphFault<B: Geometry> {
-    /// The table of a pair that is needed isn't on the shelf.
-    #[error("{0}")]
-    Needs(Needs<B>),
-    /// Want of memory.
-    #[error("out of memory")]
-    Memory,
-}
-
-impl<B: Geometry> From<Needs<B>> for ClassGraphFault<B> {
-    ghost use Rattle.morris_table.specs.declared.class_graph.ClassGraphFault.TheVariants.{Needs};
-
-    ghost from_gives = { λ needs fault. fault ≡ Needs needs };
-
-    fn from(needs: Needs<B>) -> ClassGraphFault<B> {
-        ClassGraphFault::Needs(needs)
-    }
-}
-
-impl<B: Geometry> From<AllocError> for ClassGraphFault<B> {
-    ghost use Rattle.morris_table.specs.declared.class_graph.ClassGraphFault.TheVariants.{Memory};
-
-    ghost from_gives = { λ refusal fault. fault ≡ Memory };
-
-    fn from(_: AllocError) -> ClassGraphFault<B> {
-        ClassGraphFault::Memory
-    }
-}
-
-impl<B: Geometry> From<ClassGraphFault<B>> for BuildFault<B> {
-    ghost use Rattle.morris_table.specs.ClassGraphs.{unmade};
-
-    ghost from_gives = { λ fault result. result ≡ unmade fault };
-
-    fn from(fault: ClassGraphFault<B>) -> BuildFault<B> {
-        match fault {
-            ClassGraphFault::Needs(needs) => BuildFault::Needs(needs),
-            ClassGraphFault::Memory => BuildFault::Memory,
-        }
-    }
-}
 
 /// The graph of a pair by classes, over the tables of the pairs that it needs. Its nodes are the
 /// entries of classes, each for the position that has it for its own. A quiet move leads to the
@@ -105,8 +59,10 @@ impl<'a, B: Geometry> ClassGraph<'a, B> {
         alloc: Global,
         shelf: &'a Shelf<B>,
         pair: Pair<B>,
-    ) -> Result<ClassGraph<'a, B>, ClassGraphFault<B>>
-        ensures needs { MatchResult result (λ _. first_missing shelf.now pair ≡ None) (λ fault. missing_for fault ≡ first_missing shelf.now pair) }
+    ) -> Result<ClassGraph<'a, B>, BuildFault<B>>
+        ensures needs { MatchResult result (λ _. first_missing shelf.now pair ≡ None) (λ fault. needed_by fault ≡ first_missing shelf.now pair) }
+        // Nothing but a table or memory can be wanting.
+        ensures alone { IfErr result (λ fault. is_of_graph fault ≡ true) }
         ensures pair { IfOk result (λ graph. graph ≡ pair) }
         ensures values { OnOk result (HasGameValues B.shape Layout.Classes pair) }
         ensures deep { OnOk result (IsTooDeep (net_at B.shape (level_of Layout.Classes pair)) ↔ IsBeyondCodes B.shape pair) }
@@ -167,10 +123,6 @@ impl<'a, B: Board> Graph for ClassGraph<'a, B> {
     }
 
     fn back(&self, i: u64, out: &mut Vec<u64>) -> Result<(), AllocError> {
-        let position = self.numbering.position(i);
-        match &self.numbering {
-            Numbering::Full(_) => unreachable!(),
-            Numbering::Classes(classes) => list_entries_before(classes, &position, out),
-        }
+        list_entries_before(&self.numbering, &self.numbering.position(i), out)
     }
 }

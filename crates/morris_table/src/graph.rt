@@ -22,7 +22,7 @@ ghost use Rattle.morris_table.specs.Shelves.{table_on, first_missing};
 ghost use Rattle.morris_table.specs.Headline.{IsBlockOf, TellsTheGame};
 ghost use Rattle.morris_table.specs.Graphs.{IsTableOf, IsNeeded, IsLedTo, exits_by, HasGameValues};
 
-use crate::backward::list_predecessors;
+use crate::backward::list_entries_before;
 use crate::exact::Exact;
 use crate::layout::Layout;
 use crate::levels::PairLevels;
@@ -117,11 +117,11 @@ impl<'a, B: Geometry> PairGraph<'a, B> {
         })
     }
 
-    /// The table of the pair, of the codes of all nodes in order.
-    pub(crate) fn table(&self, codes: Vec<u16>) -> Exact<B>
-        requires len { vec_len codes ≡ (net_at B.shape (level_of Layout.Full self.now)).size }
-        requires codes { (i : ℕ) → i < (net_at B.shape (level_of Layout.Full self.now)).size → HasCode (net_at B.shape (level_of Layout.Full self.now)) i (slice_index codes.items i) }
-        ensures { result ≡ table Layout.Full self.now codes.items }
+    /// The table of the pair in layout `Full`, of the codes of all nodes in order.
+    pub(crate) fn into_table(self, codes: Vec<u16>) -> Exact<B>
+        requires len { vec_len codes ≡ (net_at B.shape (level_of Layout.Full self)).size }
+        requires codes { (i : ℕ) → i < (net_at B.shape (level_of Layout.Full self)).size → HasCode (net_at B.shape (level_of Layout.Full self)) i (slice_index codes.items i) }
+        ensures { result ≡ table Layout.Full self.entry codes.items }
     {
         self.table_by(Numbering::Full(self.pair), codes)
     }
@@ -322,6 +322,6 @@ impl<'a, B: Board> Graph for PairGraph<'a, B> {
     }
 
     fn back(&self, i: u64, out: &mut Vec<u64>) -> Result<(), AllocError> {
-        list_predecessors(&self.pair, &self.pair.position(i), out)
+        list_entries_before(&Numbering::Full(self.pair), &self.pair.position(i), out)
     }
 }

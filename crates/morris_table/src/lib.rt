@@ -4,7 +4,6 @@
 mod agreeing;
 mod backward;
 pub mod building;
-mod class_backward;
 pub mod class_graph;
 pub mod exact;
 pub mod file_faults;

@@ -1,17 +1,20 @@
 //! The entries of a table: how many there are, and which positions they are of.
-ghost use Rattle.std.specs.Prelude.{◌≡◌, ◌+◌, ◌<◌, ◌≤◌, ◌^◌, ◌||◌, not, true, IfOk, IsOk};
+ghost use Rattle.std.specs.Prelude.{◌≡◌, ◌+◌, ◌<◌, ◌≤◌, ◌^◌, ◌||◌, ◌++◌, not, true, IfOk, OnOk, IsOk};
 ghost use Rattle.morris_board.specs.Sets.{has};
 ghost use Rattle.morris_board.specs.Positions.{IsPosition};
 ghost use Rattle.morris_index.specs.Pairs.{IsPair, is_of};
 ghost use Rattle.morris_index.specs.Moves.{in_pair, moved_on};
 ghost use Rattle.morris_table.specs.Entries.{entry_count, entry_index, has_own_entry};
-ghost use Rattle.morris_table.specs.Numberings.{layout_of, pair_of, layout_after, position_before};
+ghost use Rattle.morris_table.specs.Numberings.{layout_of, pair_of, layout_after, position_before, layout_before, position_after};
+ghost use Rattle.morris_table.specs.Backward.{leads_from};
 
 use crate::layout::Layout;
 use morris_board::board::Geometry;
 use morris_board::position::Position;
 use morris_index::class_pair::ClassPair;
 use morris_index::pair::Pair;
+use morris_index::predecessor_entries::PredecessorEntries;
+use morris_index::predecessors::PredecessorIndices;
 use morris_index::successor_entries::SuccessorEntries;
 use morris_index::successors::SuccessorIndices;
 use std::alloc::{AllocError, Global};
@@ -161,5 +164,50 @@ impl<B: Geometry> Successors<B> {
             Successors::Full(indices) => indices.index(from, to),
             Successors::Classes(entries) => entries.entry(from, to),
         }
+    }
+}
+
+/// What is kept of a position, so that the entries before a quiet move to it are found in constant
+/// time.
+#[derive(Drop)]
+pub(crate) enum Predecessors<'a, B: Geometry> {
+    /// Among the entries of all positions.
+    Full(PredecessorIndices<B>),
+    /// Among those of classes.
+    Classes(PredecessorEntries<'a, B>),
+}
+
+impl<'a, B: Geometry> Predecessors<'a, B> {
+    /// What is to be kept of a position of the pair.
+    pub(crate) fn of(numbering: &'a Numbering<B>, position: &Position<B>) -> Predecessors<'a, B>
+        requires { is_of (pair_of numbering.now) position.now ≡ true }
+        ensures layout { layout_before result ≡ layout_of numbering.now }
+        ensures position { position_after result ≡ in_pair (pair_of numbering.now) position.now }
+    {
+        match numbering {
+            Numbering::Full(pair) => Predecessors::Full(PredecessorIndices::of(pair, position)),
+            Numbering::Classes(classes) => {
+                Predecessors::Classes(PredecessorEntries::of(classes, position))
+            }
+        }
+    }
+
+    /// Adds the entries from which the quiet move from `from` to `to` led to the position's entry: a
+    /// stone of the opponent stands on `to`, and `from` is vacant.
+    ///
+    /// # Errors
+    /// [`AllocError`] where memory runs out. Then some of the entries may have been added.
+    pub(crate) fn add(&self, from: u8, to: u8, out: &mut Vec<u64>) -> Result<(), AllocError>
+        requires start { from < B.POINTS }
+        requires vacant { not (has (position_after self.now).position.own from || has (position_after self.now).position.other from) ≡ true }
+        requires end { has (position_after self.now).position.other to ≡ true }
+        ensures { OnOk result (out.new.items ≡ out.old.items
+            ++ leads_from (layout_before self.now) B.shape B.POINTS (position_after self.now).pair (position_after self.now).position from to) }
+    {
+        match self {
+            Predecessors::Full(indices) => out.push(indices.index(from, to))?,
+            Predecessors::Classes(entries) => entries.add(from, to, out)?,
+        }
+        Ok(())
     }
 }

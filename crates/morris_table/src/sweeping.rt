@@ -14,7 +14,7 @@ use crate::shelf::{Needs, Shelf};
 use morris_board::board::{Board, Geometry};
 use morris_index::pair::Pair;
 use morris_wave::{SweepFault, sweep};
-use std::alloc::Global;
+use std::alloc::{AllocError, Global};
 use thiserror::Error;
 
 /// Why a table wasn't made.
@@ -48,6 +48,16 @@ impl<B: Geometry> From<Needs<B>> for BuildFault<B> {
 
     fn from(needs: Needs<B>) -> BuildFault<B> {
         BuildFault::Needs(needs)
+    }
+}
+
+impl<B: Geometry> From<AllocError> for BuildFault<B> {
+    ghost use Rattle.morris_table.specs.declared.sweeping.BuildFault.TheVariants.{Memory};
+
+    ghost from_gives = { λ refusal fault. fault ≡ Memory };
+
+    fn from(_: AllocError) -> BuildFault<B> {
+        BuildFault::Memory
     }
 }
 
@@ -89,5 +99,5 @@ pub fn sweep_pair<B: Board>(
 {
     let graph = PairGraph::new(shelf, pair)?;
     let codes = sweep(alloc, &graph)?;
-    Ok(graph.table(codes))
+    Ok(graph.into_table(codes))
 }

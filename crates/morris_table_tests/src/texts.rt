@@ -3,7 +3,6 @@ use morris_board::grid::Grid;
 use morris_board::nine::Nine;
 use morris_index::pair::Pair;
 use morris_probe::fault::ProbeFault;
-use morris_table::class_graph::ClassGraphFault;
 use morris_table::file_faults::{ReadFault, Write};
 use morris_table::raw::Count;
 use morris_table::shelf::Needs;
@@ -54,7 +53,6 @@ fn faults_of_builds_have_texts(alloc: Global) -> bool {
             BuildFault::<Grid>::Missing(7),
             "block 7 is not complete",
         )
-        && says(alloc, ClassGraphFault::<Grid>::Memory, "out of memory")
 }
 
 fn other_faults_have_texts(alloc: Global) -> bool {
@@ -72,7 +70,6 @@ fn other_faults_have_texts(alloc: Global) -> bool {
 fn needs_have_text(alloc: Global, pair: Pair<Nine>, text: &str) -> bool {
     says(alloc, Needs(pair), text)
         && says(alloc, BuildFault::Needs(Needs(pair)), text)
-        && says(alloc, ClassGraphFault::Needs(Needs(pair)), text)
         && says(alloc, VerifyFault::Needs(Needs(pair)), text)
         && says(alloc, ProbeFault::Needs(Needs(pair)), text)
 }

@@ -1,33 +1,28 @@
 use Rattle.morris_table.specs.declared.layout.Layout.TheVariants.{Classes}
-use Rattle.std.proofs.Common.{◌≡◌, sym, subst}
+use Rattle.std.proofs.Common.{sym, subst}
 use Rattle.std.proofs.lemmas.Result.{on_ok_weaker}
 use Rattle.morris_index.specs.Pairs.{IsPair}
 use Rattle.morris_table.proofs.GraphLaws.{is_node, times_at, nodes_at}
 use Rattle.morris_table.proofs.class_graph.ClassGraphGraph.back.Goals as goal
 
-pub position-position-requires : goal.position-position-requires
-position-position-requires g c =
+pub position-requires : goal.position-requires
+position-requires g c =
     rw (c.self.invariant.classes, c.self.invariant.pair)
     (is_node g.B.Geometry.shape g.met.B.Geometry.is_lawful g.met.B.Geometry.has_symmetries g.B.Geometry.POINTS g.met.B.Geometry.point_count Classes c.self.inside.graph
     (subst (λ n. IsPair n c.self.inside.graph) (sym g.met.B.Geometry.point_count) c.self.invariant.lawful) c.args.i (rw (← c.self.view_is) at c.requires))
 
-pub list_entries_before-requires-clause-own : goal.list_entries_before-requires-clause-own
-list_entries_before-requires-clause-own g c = rw c.self.invariant.classes at c.position-position.ensures.own
-
 pub returns-clause-times : goal.returns-clause-times
 returns-clause-times g c =
-    let same : c.in-Classes.classes ≡ c.self.inside.graph = rw c.in-Classes.is at c.self.invariant.pair in
     rw (← c.self.view_is) (on_ok_weaker c.list_entries_before.result
     (times_at g.B.Geometry.shape g.met.B.Geometry.is_lawful g.met.B.Geometry.has_symmetries g.B.Geometry.POINTS g.met.B.Geometry.point_count Classes c.self.inside.graph
     (subst (λ n. IsPair n c.self.inside.graph) (sym g.met.B.Geometry.point_count) c.self.invariant.lawful)
-    c.position-position.result c.list_entries_before.new.out.items c.args.i (rw (c.self.invariant.classes, c.self.invariant.pair) at c.position-position.ensures.entry))
-    (rw same at c.list_entries_before.ensures.times))
+    c.position.result c.list_entries_before.new.out.items c.args.i (rw (c.self.invariant.classes, c.self.invariant.pair) at c.position.ensures.entry))
+    (rw (c.self.invariant.classes, c.self.invariant.pair) at c.list_entries_before.ensures.times))
 
 pub returns-clause-nodes : goal.returns-clause-nodes
 returns-clause-nodes g c =
-    let same : c.in-Classes.classes ≡ c.self.inside.graph = rw c.in-Classes.is at c.self.invariant.pair in
     rw (← c.self.view_is) (on_ok_weaker c.list_entries_before.result
     (nodes_at g.B.Geometry.shape g.met.B.Geometry.is_lawful g.met.B.Geometry.has_symmetries g.B.Geometry.POINTS g.met.B.Geometry.point_count Classes c.self.inside.graph
     (subst (λ n. IsPair n c.self.inside.graph) (sym g.met.B.Geometry.point_count) c.self.invariant.lawful)
     c.list_entries_before.new.out.items)
-    (rw same at c.list_entries_before.ensures.nodes))
+    (rw (c.self.invariant.classes, c.self.invariant.pair) at c.list_entries_before.ensures.nodes))

@@ -2,7 +2,7 @@ use Rattle.std.proofs.Common.{◌≡◌, ◌+◌, sym, ap, subst, ◌∙◌, ari
 use Rattle.std.proofs.lemmas.List.{length-set}
 use Rattle.morris_index.specs.Pairs.{IsPair, is_of}
 use Rattle.morris_wave.specs.Exits.{exits_of}
-use Rattle.morris_table.specs.Entries.{entry_index, has_own_entry}
+use Rattle.morris_table.specs.Entries.{entry_index}
 use Rattle.morris_table.specs.Numberings.{layout_of, pair_of}
 use Rattle.morris_table.specs.PairNets.{level_of, net_at}
 use Rattle.morris_table.proofs.RowLaws.{exits_more}

@@ -1,5 +1,5 @@
 use Rattle.morris_table.proofs.BackLawsSources.{moves_into-sources}
-use Rattle.morris_table.proofs.backward.add_predecessors.Goals as goal
+use Rattle.morris_table.proofs.backward.add_leading.Goals as goal
 
 pub add_from-requires-clause-end : goal.add_from-requires-clause-end
 add_from-requires-clause-end g c = rw c.requires.position c.requires.end
