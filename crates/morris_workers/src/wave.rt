@@ -209,7 +209,7 @@ fn jobs_of(alloc: Global, tickets: &Tickets, seats: Vec<TicketSeat>) -> Result<V
 }
 
 // What is left to do once all workers are back: the tickets are closed, and if memory was refused
-// anywhere that is the answer.
+// anywhere that is the answer. Otherwise each of them has drawn.
 fn hand_back(
     alloc: Global,
     tickets: Tickets,
@@ -217,7 +217,9 @@ fn hand_back(
 ) -> Result<(), AllocError>
     requires some { 1 ≤ vec_len done }
     requires seats { All (λ back. IsSeatOf tickets back.0) done.items }
-    ensures { OnOk result (All (λ back. IsOk back.1) done.items) }
+    requires drawn { All (λ back. OnOk back.1 (HasDrawn back.0)) done.items }
+    ensures all { OnOk result (All (λ back. IsOk back.1) done.items) }
+    ensures drawn { OnOk result (All (λ back. HasDrawn back.0) done.items) }
 {
     let outcome = outcome_of(&done);
     let mut seats = Vec::with_capacity(alloc, done.len())?;
@@ -288,7 +290,7 @@ pub(crate) fn run_wave<
         &|job| -> (TicketSeat, Result<(), AllocError>)
             requires { IsNewSeatOf shown.now job.seat × (job.worker < site.now.shares.now.blocks) × (limit_of shown.now ≡ site.now.yard.now)
                 × ((G.Name.net (G.level site.now.graph.now)).size ≤ L.limit) }
-            ensures { IsSeatOf shown.entry.now result.0 }
+            ensures { IsSeatOf shown.entry.now result.0 × OnOk result.1 (HasDrawn result.0) }
         { site.work::<L>(shown, job) },
     )?;
     hand_back(alloc, tickets, done)
