@@ -1,5 +1,6 @@
 //! The header of a table file: what stands before the codes.
 ghost use Rattle.std.specs.Prelude.{◌≡◌, ◌≤◌, ◌^◌, Ok, length, IfOk, IfErr};
+ghost use Rattle.sha2.specs.Hashers.{Holds256};
 ghost use Rattle.morris_table.specs.Numberings.{layout_of, pair_of};
 ghost use Rattle.morris_table.specs.Tables.{IsTable};
 ghost use Rattle.morris_table.specs.TableFiles.{header_of, version_of};
@@ -13,6 +14,7 @@ use crate::numbering::Numbering;
 use morris_board::board::Geometry;
 use morris_index::faults::PairFault;
 use morris_index::pair::Pair;
+use sha2::{Digest, Sha256};
 use std::alloc::Global;
 
 /// How many bytes a header has.
@@ -140,4 +142,13 @@ fn version_of(layout: Layout) -> u8
         Layout::Full => 1,
         Layout::Classes => 2,
     }
+}
+
+/// The hasher that reckons the digest of a file, once it was fed the bytes of the header.
+pub(crate) fn hasher_after(header: &[u8; HEADER]) -> Sha256
+    ensures { Holds256 result header.now }
+{
+    let mut hasher = Sha256::new();
+    hasher.update(header);
+    hasher
 }

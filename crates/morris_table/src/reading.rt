@@ -9,7 +9,7 @@ ghost use Rattle.morris_table.specs.TableFiles.{code_bytes, file_of, next_file_o
 ghost use Rattle.morris_table.specs.FileReading.{Reads, Accepts, MayTakeRoom, StandsInFile, StandsWithin, body_length, bytes_past, CountsRead, EndsEarly, ContinuesFile, only_file_in, next_file_in, file_in, header_in, header_at, roomless_in};
 
 use crate::file_faults::ReadFault;
-use crate::header::{HEADER, Header};
+use crate::header::{HEADER, Header, hasher_after};
 use crate::raw::Raw;
 use morris_board::board::Geometry;
 use morris_board::streams::{Failed, Source};
@@ -107,8 +107,7 @@ fn read_after<B: Geometry, S: Source>(
     ensures counted { CountsRead (S.failures source.old) (S.failures source.new) result }
 {
     let numbering = Header::from_bytes(header).numbering(alloc)?;
-    let mut hasher = Sha256::new();
-    hasher.update(header);
+    let mut hasher = hasher_after(header);
     let codes = read_codes(alloc, source, numbering.count() as usize, &mut hasher)?;
     let mut digest = [0; DIGEST];
     if fill(source, &mut digest)? < DIGEST {

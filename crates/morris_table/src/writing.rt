@@ -10,7 +10,7 @@ ghost use Rattle.morris_table.specs.FileReading.{file_in};
 
 use crate::exact::Exact;
 use crate::file_faults::Write;
-use crate::header::Header;
+use crate::header::{Header, hasher_after};
 use morris_board::board::Geometry;
 use morris_board::streams::{Sink, put};
 use sha2::{Digest, Sha256};
@@ -53,8 +53,7 @@ fn put_file<B: Geometry, S: Sink>(sink: &mut S, table: &Exact<B>) -> Result<u64,
     ensures few { length table.now.codes < 2 ^ 64 }
 {
     let header = Header::of(table).to_bytes();
-    let mut hasher = Sha256::new();
-    hasher.update(&header);
+    let mut hasher = hasher_after(&header);
     let sent = put(sink, 0, &header)?;
     let sent = put_codes(sink, sent, table, &mut hasher)?;
     put(sink, sent, &hasher.finalize())

@@ -112,7 +112,7 @@ returns-then-ne-clause-outcome g c =
     let all : take c.in_ok-fill.field-0 digest ≡ digest = take_all c.in_ok-fill.field-0 digest (omega arith) in
     let read = subst (Consumes (g.S.Source.remaining c.read_codes.new.source) (g.S.Source.remaining c.fill.new.source)) all c.in_ok-fill.ensures.bytes in
     let right : c.finalize.result ≡ sha256 (header ++ stated) =
-    c.finalize.ensures (header ++ stated) (c.in_ok-codes.ensures.hashed header (c.update.ensures [] c.new-hasher.ensures)) in
+    c.finalize.ensures (header ++ stated) (c.in_ok-codes.ensures.hashed header c.hasher_after-hasher.ensures) in
     let differs : bytes_eq digest (sha256 (header ++ stated)) ≡ false =
     ap (bytes_eq digest) (sym right) ∙ not_true (bytes_eq digest c.finalize.result) (sym c.ne.ensures ∙ c.if-ne.true) in
     reads_err {A = Table} (λ bytes. file_in board (header ++ bytes)) (g.S.Source.remaining c.args.source.now) (g.S.Source.remaining c.fill.new.source)
@@ -138,7 +138,7 @@ returns-clause-outcome g c =
     let all : take c.in_ok-fill.field-0 digest ≡ digest = take_all c.in_ok-fill.field-0 digest (omega arith) in
     let read = subst (Consumes (g.S.Source.remaining c.read_codes.new.source) (g.S.Source.remaining c.fill.new.source)) all c.in_ok-fill.ensures.bytes in
     let right : c.finalize.result ≡ sha256 (header ++ stated) =
-    c.finalize.ensures (header ++ stated) (c.in_ok-codes.ensures.hashed header (c.update.ensures [] c.new-hasher.ensures)) in
+    c.finalize.ensures (header ++ stated) (c.in_ok-codes.ensures.hashed header c.hasher_after-hasher.ensures) in
     let same : bytes_eq digest (sha256 (header ++ stated)) ≡ true =
     ap (bytes_eq digest) (sym right) ∙ not_false (bytes_eq digest c.finalize.result) (sym c.ne.ensures ∙ c.if-ne.false) in
     rw c.new.ensures
@@ -163,7 +163,7 @@ returns-clause-file g c =
     let all : take c.in_ok-fill.field-0 digest ≡ digest = take_all c.in_ok-fill.field-0 digest (omega (arith, c.fill.auto.buffer)) in
     let read = subst (Consumes (g.S.Source.remaining c.read_codes.new.source) (g.S.Source.remaining c.fill.new.source)) all c.in_ok-fill.ensures.bytes in
     let right : c.finalize.result ≡ sha256 (header ++ stated) =
-    c.finalize.ensures (header ++ stated) (c.in_ok-codes.ensures.hashed header (c.update.ensures [] c.new-hasher.ensures)) in
+    c.finalize.ensures (header ++ stated) (c.in_ok-codes.ensures.hashed header c.hasher_after-hasher.ensures) in
     let same : digest ≡ c.finalize.result =
     (bytes_eq-Decides digest c.finalize.result).0 (not_false (bytes_eq digest c.finalize.result) (sym c.ne.ensures ∙ c.if-ne.false)) in (
       stated ++ digest,

@@ -14,7 +14,7 @@ loop-buffer-init g c =
     let none : c.in_ok-codes.codes.items ≡ [] = c.in_ok-codes.ensures.items in
     record {
       within = omega (arith, c.in_ok-codes.ensures.len);
-      room = c.in_ok-codes.ensures.capacity;
+      room = omega (arith, c.in_ok-codes.ensures.capacity);
       kept = refl;
       consumed = rw none (Consumes-nil (g.S.Source.remaining c.args.source.now));
       small = λ i. rw none (omega arith);

@@ -52,7 +52,7 @@ put-requires-2-clause-room g c =
     let header = c.to_bytes-header.result in
     let same = c.to_bytes-header.ensures ∙ c.of.ensures.value in
     let digest : c.finalize.result ≡ sha256 (header ++ code_bytes t.codes) =
-    c.finalize.ensures (header ++ code_bytes t.codes) (c.in_ok-sent-2.ensures.hashed header (c.update.ensures [] c.new-hasher.ensures)) in
+    c.finalize.ensures (header ++ code_bytes t.codes) (c.in_ok-sent-2.ensures.hashed header c.hasher_after-hasher.ensures) in
     let few : length t.codes ≤ 2 ^ 40 = c.of.ensures.few in
     omega (
       arith,
@@ -72,7 +72,7 @@ returns-clause-sent g c =
     let front = header ++ code_bytes t.codes in
     let same = c.to_bytes-header.ensures ∙ c.of.ensures.value in
     let digest : c.finalize.result ≡ sha256 (content_of g.B.Geometry.shape t) =
-    c.finalize.ensures front (c.in_ok-sent-2.ensures.hashed header (c.update.ensures [] c.new-hasher.ensures)) ∙ ap sha256 (content_is g t header same) in
+    c.finalize.ensures front (c.in_ok-sent-2.ensures.hashed header c.hasher_after-hasher.ensures) ∙ ap sha256 (content_is g t header same) in
     let whole : front ++ c.finalize.result ≡ file_of g.B.Geometry.shape t = ap (λ d. front ++ d) digest ∙ sym (split_file g t header same) in
     subst (λ text. HasSent (g.S.Sink.contents c.args.sink.now) (g.S.Sink.contents c.put-2.new.sink) 0 text c.put-2.result) whole
     (HasSent-append (g.S.Sink.contents c.args.sink.now) (g.S.Sink.contents c.put_codes.new.sink) (g.S.Sink.contents c.put-2.new.sink)
