@@ -1,6 +1,6 @@
 -- The files of all tables are accepted: their steps find the table, and so an answer to them is the
 -- table.
-use Rattle.std.proofs.Common.{◌≡◌, ℕ, ◌+◌, ◌^◌, ◌<◌, ◌≤◌, List, [], ◌∷◌, ◌++◌, length, Option, Some, None, Result, Ok, Err, refl, sym, ap, subst, ◌∙◌, inl, inr, arith, append-nil}
+use Rattle.std.proofs.Common.{◌≡◌, ℕ, ◌^◌, ◌<◌, ◌≤◌, List, [], ◌++◌, length, Option, Some, Result, Ok, Err, refl, sym, ap, subst, ◌∙◌, inl, inr, arith, append-nil}
 use Rattle.std.proofs.lemmas.Bool.{cases_eq}
 use Rattle.sha2.specs.Sha256.{sha256}
 use Rattle.morris_board.specs.Boards.{Shape}
@@ -15,7 +15,7 @@ use Rattle.morris_table.specs.Entries.{entry_count}
 use Rattle.morris_table.specs.Tables.{Table}
 use Rattle.morris_table.specs.Raws.{IsRaw}
 use Rattle.morris_table.specs.TableFiles.{header_of, code_bytes, content_of, file_of}
-use Rattle.morris_table.specs.FileReading.{unless, and_then, is_end, file_in, only_file_in, next_file_in, Reads, Accepts}
+use Rattle.morris_table.specs.FileReading.{file_in, only_file_in, next_file_in, Reads, Accepts}
 use Rattle.morris_table.proofs.FileLaws.{length-header_of, file_parts, file_in-file_of}
 use Rattle.morris_table.proofs.ReadingLaws.{ok_same, next_file_in-ok}
 use Rattle.morris_table.specs.declared.file_faults.ReadFault.{ReadFault}

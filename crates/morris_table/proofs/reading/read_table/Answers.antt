@@ -1,5 +1,5 @@
 -- A file alone: what refuses the next file, and what follows it.
-use Rattle.std.proofs.Common.{◌≡◌, ◌-◌, ◌≤◌, [], length, take, Ok, Err, ap, subst, arith, length-take}
+use Rattle.std.proofs.Common.{◌≡◌, ◌-◌, [], length, take, Ok, Err, ap, subst, arith, length-take}
 use Rattle.std.proofs.lemmas.Result.{err_from_is_err_and}
 use Rattle.std.specs.Io.KnownBytes.{Consumes}
 use Rattle.morris_table.specs.FileReading.{Reads, next_file_in}
