@@ -5,6 +5,7 @@ pub mod below;
 mod binomials;
 mod class_halves;
 pub mod class_pair;
+pub mod class_sizes;
 pub mod classes;
 pub mod falls;
 pub mod faults;

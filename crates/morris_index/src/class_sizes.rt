@@ -1,0 +1,64 @@
+//! How many entries pairs have by classes, counted without memory.
+ghost use Rattle.std.specs.Prelude.{◌≡◌, ◌<◌, ◌≤◌, ◌^◌};
+ghost use Rattle.morris_index.specs.Binomials.{choose};
+ghost use Rattle.morris_index.specs.Classes.{class_count, is_representative};
+ghost use Rattle.morris_index.specs.ClassPairs.{class_half_size, class_size_of};
+ghost use Rattle.morris_index.specs.Pairs.{IsHalf};
+
+use crate::binomials::binomial;
+use crate::pair::Pair;
+use morris_board::board::Geometry;
+use morris_board::points::Points;
+
+/// How many entries a pair has by classes: what [`size`](crate::class_pair::ClassPair::size)
+/// answers, without the memory that the classes take. It looks at every set of points of the board.
+pub fn class_size<B: Geometry>(pair: Pair<B>) -> u64
+    ensures { result ≡ class_size_of B.shape B.POINTS pair }
+{
+    let (greater, lesser) = (pair.greater(), pair.lesser());
+    let first = class_half_size::<B>(greater, lesser);
+    if greater == lesser {
+        first
+    } else {
+        first + class_half_size::<B>(lesser, greater)
+    }
+}
+
+/// How many entries there are for `own` stones of the player to move and `other` of the opponent.
+fn class_half_size<B: Geometry>(own: u8, other: u8) -> u64
+    requires { IsHalf B.POINTS own other }
+    ensures value { result ≡ class_half_size B.shape B.POINTS own other }
+    ensures few { result ≤ 2 ^ 39 }
+{
+    u64::from(class_count::<B>(own)) * binomial(B::POINTS - own, other)
+}
+
+/// How many classes of sets of `count` points there are.
+fn class_count<B: Geometry>(count: u8) -> u32
+    ensures value { result ≡ class_count B.shape count }
+    ensures few { result ≤ choose B.POINTS count }
+{
+    let mut classes = 0;
+    for mask in 0..1 << B::POINTS {
+        if is_representative::<B>(count, Points::from_mask(mask)) {
+            classes += 1;
+        }
+    }
+    classes
+}
+
+/// Whether a set has `count` points and no image with a lesser mask.
+fn is_representative<B: Geometry>(count: u8, set: Points) -> bool
+    requires { set < 2 ^ B.POINTS }
+    ensures { result ≡ is_representative B.shape count set }
+{
+    if set.count() != count {
+        return false;
+    }
+    for symmetry in 1..B::SYMMETRIES {
+        if B::image_of(symmetry, set).mask() < set.mask() {
+            return false;
+        }
+    }
+    true
+}
