@@ -9,7 +9,7 @@ use Rattle.clap.specs.declared.error.kind.ErrorKind.TheVariants as kind
 use Rattle.morris_commands.specs.declared.fault.Fault.{Fault}
 use Rattle.morris_commands.specs.declared.fault.Fault.TheVariants as fault
 use Rattle.morris_commands.specs.Faults.{Prints}
-use Rattle.morris_commands.specs.Progress.{Tells}
+use Rattle.morris_commands.specs.Progress.{TellsInOrder}
 use Rattle.morris_words.specs.Words.{AsksFor, faults_of, named_by}
 use Rattle.morris_words.specs.declared.words.Request.{Request}
 use Rattle.morris_words.specs.declared.words.Request.TheVariants.{Look, Stats, Build, Verify, Probe}
@@ -52,10 +52,11 @@ asks_progress (Build board pair workers blocks all classes progress) = progress
 asks_progress (Verify board progress) = progress
 asks_progress (Probe board text progress) = progress
 
--- what was told of how far the command is: nothing; or, where the words ask for it, some lines
+-- what was told of how far the command is: nothing; or, where the words ask for it, some lines, of
+-- which the first says how much there is to do
 abbrev pub TellsProgress : {E : Type 0} → (E → Option (List ℕ)) → (E → ℕ) → List Text → E → E → Type 0
 TellsProgress contents failures words old new =
-    (new ≡ old) ⊎ ((request : Request) × AsksFor (named_by words) request × (asks_progress request ≡ true) × Tells contents failures old new)
+    (new ≡ old) ⊎ ((request : Request) × AsksFor (named_by words) request × (asks_progress request ≡ true) × TellsInOrder contents failures old new)
 
 -- the command that was named reads its input
 abbrev pub AsksToRead : Option (Text × List Row) → Type 0

@@ -4,7 +4,7 @@ ghost use Rattle.morris_board.specs.Streams.{CountsFailure};
 ghost use Rattle.morris_probe.specs.Reports.{WentOut};
 ghost use Rattle.morris_commands.specs.Faults.{CountsWrites, Prints, Reports, ReportsFault, ReportsText, fault_line};
 ghost use Rattle.morris_commands.specs.declared.fault.Fault.TheVariants as fault;
-ghost use Rattle.morris_commands.specs.Progress.{Becomes, Tells};
+ghost use Rattle.morris_commands.specs.Progress.{Becomes, TellsInOrder};
 ghost use Rattle.morris_words.specs.Words.{IsInRange, faults_of, named_by};
 ghost use Rattle.morris_commands.specs.Verify.{input_of};
 ghost use Rattle.morris.specs.Command.{Answers, AsksToRead, Ends, HasMistake, TellsProgress, asks_progress, not_text, status_of, takes_input};
@@ -38,8 +38,8 @@ use std::time::Clock;
 /// fault while `errors` is written is ignored. Only `verify` and `probe` read `input`.
 ///
 /// Where the words ask for it, lines that begin with `progress: ` go to `errors` before all else
-/// there, with the seconds by the clock of `rt`, until one of them can't be written. Nothing else
-/// changes by it.
+/// there, first one that says how much there is to do, with the seconds by the clock of `rt`, until
+/// one of them can't be written. Nothing else changes by it: it takes no memory of its own.
 pub fn command<R: Threads + Wait + Clock + Sync, W: AsStr, I: Source, O: Sink, E: Sink>(
     rt: &R,
     alloc: Global,
@@ -110,7 +110,7 @@ fn run_told<R: Threads + Wait + Clock + Sync, I: Source, O: Sink, E: Sink>(
     ensures answer { Answers (input_of (I.remaining input.old) (I.failures input.old)) (input_of (I.remaining input.new) (I.failures input.new))
         (O.contents output.old) (O.contents output.new) request.entry result }
     ensures unread { takes_input request.entry ≡ false → input.new ≡ input.old }
-    ensures told { Tells E.contents E.failures errors.old errors.new }
+    ensures told { TellsInOrder E.contents E.failures errors.old errors.new }
     ensures silent { asks_progress request.entry ≡ false → errors.new ≡ errors.old }
 {
     let mut progress = Progress::new(rt, asks_progress(&request), errors);

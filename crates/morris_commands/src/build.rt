@@ -16,7 +16,7 @@ ghost use Rattle.morris_commands.specs.Build.{AnswersBuild, AnswersBuildOn, Answ
 use crate::boards::{NamedBoard, read_board};
 use crate::fault::Fault;
 use crate::pairs::read_pair;
-use crate::progress::{Nowhere, Progress, announce};
+use crate::progress::{Nowhere, Progress};
 use crate::size::{Team, Way};
 use morris_board::board::{Board, Geometry};
 use morris_board::grid::Grid;
@@ -201,7 +201,7 @@ fn build_below<B: Board, R: Threads + Wait + Sync, C: Clock, E: Sink>(
     ensures told { Becomes E.contents E.failures progress.old progress.new }
 {
     let mut shelf = Shelf::new(alloc)?;
-    announce(alloc, pair, layout, Way::Built(team), progress);
+    progress.announce(pair, layout, Way::Built(team));
     for below in pair.below() {
         build_onto(rt, alloc, &mut shelf, layout, below, team, progress)?;
     }
@@ -233,7 +233,7 @@ fn build_onto<B: Board, R: Threads + Wait + Sync, C: Clock, E: Sink>(
     let table = build_watched(
         rt, alloc, shelf, pair, layout, gate, progress, workers, blocks,
     )?;
-    progress.end_pair(pair, table.len());
+    progress.end_pair(&table);
     match shelf.put(table) {
         Ok(()) => Ok(()),
         Err(_) => unreachable!(),

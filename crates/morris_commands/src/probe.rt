@@ -10,7 +10,7 @@ ghost use Rattle.morris_commands.specs.Verify.{input_of};
 
 use crate::boards::{NamedBoard, read_board};
 use crate::fault::Fault;
-use crate::progress::{Nowhere, Progress, announce};
+use crate::progress::{Nowhere, Progress};
 use crate::size::Way;
 use morris_board::board::Board;
 use morris_board::grid::Grid;
@@ -144,7 +144,7 @@ fn load_bundle<B: Board, I: Source, C: Clock, E: Sink>(
     let mut shelf = Shelf::new(alloc)?;
     for _ in 0..MOST_FILES {
         match read_next::<B, I>(alloc, input)? {
-            Some(raw) => put_verified(alloc, &mut shelf, raw, asked, progress)?,
+            Some(raw) => put_verified(&mut shelf, raw, asked, progress)?,
             None => return Ok(shelf),
         }
     }
@@ -154,10 +154,10 @@ fn load_bundle<B: Board, I: Source, C: Clock, E: Sink>(
     }
 }
 
-/// Puts a table on the shelf once each of its entries is known to be right.
+/// Puts a table on the shelf once each of its entries is known to be right. What is told first goes
+/// by the pair `asked`, or where the position is of none by that of the first file.
 #[tactic(auto, using(crate::specs::ProgressLaws::told_laws))]
 fn put_verified<B: Board, C: Clock, E: Sink>(
-    alloc: Global,
     shelf: &mut Shelf<B>,
     raw: Raw<B>,
     asked: Option<&Pair<B>>,
@@ -168,12 +168,14 @@ fn put_verified<B: Board, C: Clock, E: Sink>(
     ensures unwritten { IfErr result (λ refused. is_write refused ≡ false) }
     ensures told { Becomes E.contents E.failures progress.old progress.new }
 {
-    if let Some(pair) = asked {
-        // The other files are taken to be in the layout of the first.
-        announce(alloc, *pair, raw.layout(), Way::Read, progress);
-    }
+    let pair = match asked {
+        Some(pair) => *pair,
+        None => raw.pair(),
+    };
+    // The other files are taken to be in the layout of the first.
+    progress.announce(pair, raw.layout(), Way::Read);
     let exact = verify_over(shelf, raw)?;
-    progress.end_pair(exact.pair(), exact.len());
+    progress.end_pair(&exact);
     match shelf.put(exact) {
         Ok(()) => Ok(()),
         Err(_) => unreachable!(),

@@ -1,8 +1,9 @@
 //! How far a command is, told line by line.
-ghost use Rattle.std.specs.Prelude.{◌≡◌, ◌-◌, ◌^◌, ◌<◌, ◌≤◌, false};
+ghost use Rattle.std.specs.Prelude.{◌≡◌, ℕ, ◌-◌, ◌^◌, ◌<◌, true, false, length, max};
 ghost use Rattle.morris_board.specs.Streams.{CountsFailure};
 ghost use Rattle.morris_probe.specs.Reports.{WentOut};
-ghost use Rattle.morris_commands.specs.Progress.{Becomes, lent_of, news_line, sink_of, tells_of};
+ghost use Rattle.morris_commands.specs.Progress.{Becomes, CountsMore, Speaks, TellsLine, done_of, has_begun_of, lent_of, news_line, sink_of, tells_of, whole_of};
+ghost use Rattle.morris_commands.specs.Sizes.{entries_below};
 
 use crate::print_progress::put_news_line;
 use crate::size::{Size, Way};
@@ -10,9 +11,9 @@ use morris_board::board::Geometry;
 use morris_board::streams::buffered::Buffered;
 use morris_board::streams::{Failed, Sink};
 use morris_index::pair::Pair;
+use morris_table::exact::Exact;
 use morris_table::layout::Layout;
 use morris_workers::Watch;
-use std::alloc::Global;
 use std::io;
 use std::time::{Clock, Duration, Instant};
 
@@ -79,6 +80,7 @@ impl<'a, R: Clock, E: Sink> Progress<'a, R, E> {
         ensures lent { lent_of result ≡ errors.entry.ghost_name }
         ensures sink { sink_of result ≡ errors.old }
         ensures tells { tells_of result ≡ wanted }
+        ensures new { has_begun_of result ≡ false }
     {
         Progress {
             clock,
@@ -94,12 +96,19 @@ impl<'a, R: Clock, E: Sink> Progress<'a, R, E> {
         }
     }
 
-    /// Tells how many entries there are in all, and about how much memory they take.
-    #[tactic(auto, using(crate::specs::ProgressLaws::told_laws))]
-    pub fn begin(&mut self, size: Size)
-        ensures { Becomes E.contents E.failures self.old self.new }
+    /// Tells how much there is to do where the tables of all pairs below a pair come about in this
+    /// way, unless it was told before. Nothing is told before this, and it takes no memory.
+    pub fn announce<B: Geometry>(&mut self, pair: Pair<B>, layout: Layout, way: Way)
+        ensures told { Becomes E.contents E.failures self.old self.new }
+        // As far as 64 bits hold the number of entries.
+        ensures first { has_begun_of self.old ≡ false → entries_below B.shape B.POINTS layout pair way < 2 ^ 64
+            → (megabytes : ℕ) × TellsLine E.contents E.failures self.old self.new (News.Whole (entries_below B.shape B.POINTS layout pair way) megabytes) }
+        ensures again { has_begun_of self.old ≡ true → self.new ≡ self.old }
     {
-        let Size { entries, bytes } = size;
+        if !self.tells || self.has_begun {
+            return;
+        }
+        let Size { entries, bytes } = Size::of(pair, layout, way);
         self.has_begun = true;
         self.whole = entries;
         let megabytes = bytes.div_ceil(1_000_000);
@@ -107,7 +116,6 @@ impl<'a, R: Clock, E: Sink> Progress<'a, R, E> {
     }
 
     /// A pair begins.
-    #[tactic(auto, using(crate::specs::ProgressLaws::told_laws))]
     pub fn begin_pair<B: Geometry>(&mut self, pair: Pair<B>)
         ensures { Becomes E.contents E.failures self.old self.new }
     {
@@ -115,12 +123,14 @@ impl<'a, R: Clock, E: Sink> Progress<'a, R, E> {
         self.lesser = pair.lesser();
     }
 
-    /// Tells that a pair is done, which has so many entries.
-    #[tactic(auto, using(crate::specs::ProgressLaws::told_laws))]
-    pub fn end_pair<B: Geometry>(&mut self, pair: Pair<B>, entries: u64)
-        ensures { Becomes E.contents E.failures self.old self.new }
+    /// Tells that the pair of an exact table is done, with all entries of the table.
+    pub fn end_pair<B: Geometry>(&mut self, table: &Exact<B>)
+        ensures told { Becomes E.contents E.failures self.old self.new }
+        ensures line { has_begun_of self.old ≡ true → (so_far : SoFar) × CountsMore self.old (length table.now.codes) so_far
+            × TellsLine E.contents E.failures self.old self.new (News.Done table.now.pair.greater table.now.pair.lesser so_far) }
     {
-        self.done = self.done.saturating_add(entries);
+        let pair = table.pair();
+        self.done = self.done.saturating_add(table.len());
         let so_far = self.so_far();
         self.last_second = so_far.seconds;
         self.tell(News::Done {
@@ -130,7 +140,10 @@ impl<'a, R: Clock, E: Sink> Progress<'a, R, E> {
         });
     }
 
-    fn so_far(&self) -> SoFar {
+    fn so_far(&self) -> SoFar
+        ensures done { result.done ≡ done_of self.now }
+        ensures whole { result.whole ≡ max (whole_of self.now) (done_of self.now) }
+    {
         SoFar {
             done: self.done,
             whole: self.whole.max(self.done),
@@ -148,13 +161,17 @@ impl<'a, R: Clock, E: Sink> Progress<'a, R, E> {
         }
     }
 
-    /// Tells one of the news, and nothing more after a write that failed.
-    #[tactic(auto, using(crate::specs::ProgressLaws::told_laws))]
+    /// Tells one of the news, and nothing more after a write that failed. Nothing is told before it
+    /// is known how much there is to do.
     fn tell(&mut self, news: News)
-        ensures { Becomes E.contents E.failures self.old self.new }
+        ensures { Speaks E.contents E.failures self.old self.new news }
     {
+        if !self.tells || !self.has_begun {
+            return;
+        }
         // The caller has to have room for a failure of its own.
-        if !self.tells || self.errors.failures() >= u64::MAX - 2 {
+        if self.errors.failures() >= u64::MAX - 2 {
+            self.tells = false;
             return;
         }
         self.tells = send_news(self.errors, news).is_ok();
@@ -186,27 +203,6 @@ impl<'a, R: Clock, E: Sink> Watch for Progress<'a, R, E> {
     ghost stays = { λ told. Becomes-stays E.contents E.failures told };
 
     ghost joins = { λ first midway last once again. Becomes-joins E.contents E.failures first midway last once again };
-}
-
-/// Tells how much there is to do where the tables of all pairs below a pair come about in this way,
-/// unless it was told before. Where memory to count them runs out it isn't told; the command then
-/// asks for memory itself.
-#[tactic(auto, using(crate::specs::ProgressLaws::told_laws))]
-pub fn announce<B: Geometry, R: Clock, E: Sink>(
-    alloc: Global,
-    pair: Pair<B>,
-    layout: Layout,
-    way: Way,
-    progress: &mut Progress<'_, R, E>,
-)
-    ensures { Becomes E.contents E.failures progress.old progress.new }
-{
-    if !progress.tells || progress.has_begun {
-        return;
-    }
-    if let Ok(size) = Size::of(alloc, pair, layout, way) {
-        progress.begin(size);
-    }
 }
 
 /// Sends the line of one of the news: the whole, or as many bytes of it as went out.

@@ -1,12 +1,11 @@
 //! How much a command has to do: how many entries there are, and about how much memory it takes.
-ghost use Rattle.std.specs.Prelude.{◌≡◌, ◌+◌, ◌^◌, ◌<◌, IfOk};
+ghost use Rattle.std.specs.Prelude.{◌≡◌, ◌+◌, ◌^◌, ◌<◌};
 ghost use Rattle.morris_commands.specs.Sizes.{entries_below, entries_of, is_same};
 
 use morris_board::board::Geometry;
-use morris_index::class_pair::ClassPair;
+use morris_index::class_sizes::class_size;
 use morris_index::pair::Pair;
 use morris_table::layout::Layout;
-use std::alloc::{AllocError, Global};
 
 /// What the program takes beside tables, in bytes: above all the lists that the workers keep.
 const BASE: u64 = 9_000_000;
@@ -64,27 +63,19 @@ impl Size {
         }
     }
 
-    /// Of the tables of all pairs below a pair in a layout, its own among them.
-    ///
-    /// # Errors
-    /// [`AllocError`] where memory runs out, which isn't asked for in layout `Full`.
-    pub fn of<B: Geometry>(
-        alloc: Global,
-        pair: Pair<B>,
-        layout: Layout,
-        way: Way,
-    ) -> Result<Size, AllocError>
+    /// Of the tables of all pairs below a pair in a layout, its own among them. It takes no memory.
+    pub fn of<B: Geometry>(pair: Pair<B>, layout: Layout, way: Way) -> Size
         // As far as 64 bits hold the number, of which no board needs more than 45.
         ensures { entries_below B.shape B.POINTS layout pair way < 2 ^ 64
-            → IfOk result (λ size. size.entries ≡ entries_below B.shape B.POINTS layout pair way) }
+            → result.entries ≡ entries_below B.shape B.POINTS layout pair way }
     {
         let mut size = Size::NONE;
         for below in pair.below() {
-            let entries = count_entries(alloc, below, pair, layout, way)?;
+            let entries = count_entries(below, pair, layout, way);
             let bytes = bytes_of(below, pair, entries, way);
             size = size.with(entries, bytes);
         }
-        Ok(size)
+        size
     }
 }
 
@@ -96,23 +87,17 @@ fn is_same<B: Geometry>(a: Pair<B>, b: Pair<B>) -> bool
 }
 
 /// How many entries the table of a pair has in a layout, where it is one of those below `last`.
-fn count_entries<B: Geometry>(
-    alloc: Global,
-    pair: Pair<B>,
-    last: Pair<B>,
-    layout: Layout,
-    way: Way,
-) -> Result<u64, AllocError>
-    ensures { IfOk result (λ count. count ≡ entries_of B.shape B.POINTS layout last way pair) }
+fn count_entries<B: Geometry>(pair: Pair<B>, last: Pair<B>, layout: Layout, way: Way) -> u64
+    ensures { result ≡ entries_of B.shape B.POINTS layout last way pair }
 {
     if let Way::Verified(entries) = way {
         if is_same(pair, last) {
-            return Ok(entries);
+            return entries;
         }
     }
     match layout {
-        Layout::Full => Ok(pair.size()),
-        Layout::Classes => Ok(ClassPair::make(alloc, pair)?.size()),
+        Layout::Full => pair.size(),
+        Layout::Classes => class_size(pair),
     }
 }
 

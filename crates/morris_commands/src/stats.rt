@@ -13,7 +13,7 @@ use crate::boards::{NamedBoard, read_board};
 use crate::fault::Fault;
 use crate::pairs::read_pair;
 use crate::print_stats::put_stats;
-use crate::progress::{Nowhere, Progress, announce};
+use crate::progress::{Nowhere, Progress};
 use crate::size::Way;
 use morris_board::board::{Board, Geometry};
 use morris_board::grid::Grid;
@@ -138,7 +138,7 @@ fn sweep_below<B: Board, C: Clock, E: Sink>(
     ensures told { Becomes E.contents E.failures progress.old progress.new }
 {
     let mut shelf = Shelf::new(alloc)?;
-    announce(alloc, pair, Layout::Full, Way::Swept, progress);
+    progress.announce(pair, Layout::Full, Way::Swept);
     for smaller in pair.below() {
         sweep_onto(alloc, &mut shelf, smaller, progress)?;
     }
@@ -184,7 +184,7 @@ fn sweep_onto<B: Board, C: Clock, E: Sink>(
     ensures told { Becomes E.contents E.failures progress.old progress.new }
 {
     let table = sweep_pair(alloc, shelf, pair)?;
-    progress.end_pair(pair, table.len());
+    progress.end_pair(&table);
     match shelf.put(table) {
         Ok(()) => Ok(()),
         Err(_) => unreachable!(),

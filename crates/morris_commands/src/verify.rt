@@ -9,7 +9,7 @@ ghost use Rattle.morris_commands.specs.Verify.{AnswersInput, AnswersVerify, Inpu
 use crate::boards::{NamedBoard, read_board};
 use crate::fault::Fault;
 use crate::print_verified::put_verified;
-use crate::progress::{Nowhere, Progress, announce};
+use crate::progress::{Nowhere, Progress};
 use crate::size::Way;
 use crate::stats::sweep_before;
 use morris_board::board::{Board, Geometry};
@@ -126,12 +126,11 @@ fn believe<B: Board, C: Clock, E: Sink>(
     ensures refused { IfErr result (IsUnverified B.shape raw) }
     ensures told { Becomes E.contents E.failures progress.old progress.new }
 {
-    let way = Way::Verified(raw.len());
-    announce(alloc, raw.pair(), Layout::Full, way, progress);
+    progress.announce(raw.pair(), Layout::Full, Way::Verified(raw.len()));
     let shelf = sweep_before(alloc, raw.pair(), progress)?;
     match raw.verify(&shelf) {
         Ok(exact) => {
-            progress.end_pair(exact.pair(), exact.len());
+            progress.end_pair(&exact);
             Ok(exact)
         }
         Err((_, VerifyFault::Differs(index))) => Err(Fault::Differs(index)),

@@ -68,4 +68,4 @@ returns-in-Ok-clause-answer g c = λ other. (
 
 -- There is room for a failure more.
 pub finish-requires : goal.finish-requires
-finish-requires g c = c.run_told-done.ensures.told.room c.requires.errors
+finish-requires g c = c.run_told-done.ensures.told.0.room c.requires.errors

@@ -1,11 +1,11 @@
-use Rattle.std.proofs.Common.{◌≡◌, ◌∷◌, [], ◌++◌, sym, ap, subst, ◌∙◌, append_assoc}
+use Rattle.std.proofs.Common.{rules, arith, ◌≡◌, ◌∷◌, [], ◌++◌, sym, ap, subst, ◌∙◌, append_assoc}
 use Rattle.std.specs.List.{Contains}
 use Rattle.std.proofs.lemmas.List.{append-nil}
 use Rattle.morris_index.specs.Pairs.{below_of}
 use Rattle.morris_commands.specs.Build.{HasExact}
 use Rattle.morris_commands.proofs.BuildLaws.{has_tables, one_exact_more}
 use Rattle.morris_commands.proofs.ShelfLaws.{none_missing, one_within_more}
-use Rattle.morris_commands.specs.ProgressLaws.{Becomes-joins}
+use Rattle.morris_commands.specs.ProgressLaws.{Becomes-joins, Becomes-stays}
 use Rattle.morris_commands.proofs.build.build_below.Goals as goal
 
 pub build_onto-requires-clause-ready : goal.build_onto-requires-clause-ready
@@ -26,7 +26,7 @@ loop-below-preserved g c = record {
   within =
       one_within_more g.B.Geometry.shape c.loop-below.yielded c.in-Some.below c.loop-below.invariant.within c.in_ok-build_onto.ensures.within;
   told =
-      Becomes-joins g.E.Sink.contents g.E.Sink.failures c.announce.new.progress c.loop-below.progress c.build_onto.new.progress
+      Becomes-joins g.E.Sink.contents g.E.Sink.failures c.announce.new.self c.loop-below.progress c.build_onto.new.progress
       c.loop-below.invariant.told c.build_onto.ensures.told;
 }
 
@@ -41,6 +41,18 @@ returns g c =
       refused = tt;
       unwritten = tt;
       told =
-          Becomes-joins g.E.Sink.contents g.E.Sink.failures c.args.progress.now c.announce.new.progress c.loop-below.progress
-          c.announce.ensures c.loop-below.invariant.told;
+          Becomes-joins g.E.Sink.contents g.E.Sink.failures c.args.progress.now c.announce.new.self c.loop-below.progress
+          c.announce.ensures.told c.loop-below.invariant.told;
     }
+
+pub loop-below-init : goal.loop-below-init
+loop-below-init g c = record {
+  split = search rules;
+  exact = λ other m. absurd (omega (arith, m.1));
+  within = λ other m. absurd (omega (arith, m.1));
+  told = Becomes-stays g.E.Sink.contents g.E.Sink.failures c.announce.new.self;
+}
+
+pub returns-in_err-build_onto-clause-told : goal.returns-in_err-build_onto-clause-told
+returns-in_err-build_onto-clause-told g c =
+    Becomes-joins _ _ _ _ _ (Becomes-joins _ _ _ _ _ c.announce.ensures.told c.loop-below.invariant.told) c.build_onto.ensures.told

@@ -41,3 +41,6 @@ returns-then-eq-clause-ready g c =
     (ap (λ rest. c.loop-below.yielded ++ rest) (sym c.in-Some.ensures.steps) ∙ c.loop-below.invariant.split) c.loop-below.invariant.there in
     let same : c.in-Some.below ≡ c.args.pair = search rules in
     subst (λ p. first_missing c.loop-below.shelf p ≡ None) same found
+
+pub returns-in_err-sweep_onto-clause-told : goal.returns-in_err-sweep_onto-clause-told
+returns-in_err-sweep_onto-clause-told g c = Becomes-joins _ _ _ _ _ c.loop-below.invariant.told c.sweep_onto.ensures.told

@@ -1,4 +1,4 @@
-use Rattle.std.proofs.Common.{◌≡◌, ◌∷◌, [], ◌++◌, sym, ap, subst, ◌∙◌, append_assoc}
+use Rattle.std.proofs.Common.{rules, arith, ◌≡◌, ◌∷◌, [], ◌++◌, sym, ap, subst, ◌∙◌, append_assoc}
 use Rattle.std.specs.List.{Contains}
 use Rattle.std.proofs.lemmas.List.{append-nil}
 use Rattle.std.proofs.lemmas.List.Elements.{Contains-push}
@@ -6,7 +6,7 @@ use Rattle.morris_table.specs.declared.layout.Layout.TheVariants.{Full}
 use Rattle.morris_index.specs.Pairs.{below_of}
 use Rattle.morris_commands.proofs.BuildLaws.{has_tables, one_exact_more}
 use Rattle.morris_commands.proofs.ShelfLaws.{none_missing, one_within_more}
-use Rattle.morris_commands.specs.ProgressLaws.{Becomes-joins}
+use Rattle.morris_commands.specs.ProgressLaws.{Becomes-joins, Becomes-stays}
 use Rattle.morris_commands.proofs.stats.sweep_below.Goals as goal
 
 pub sweep_onto-requires-after_bounds : goal.sweep_onto-requires-after_bounds
@@ -27,7 +27,7 @@ loop-smaller-preserved g c = record {
   within =
       one_within_more g.B.Geometry.shape c.loop-smaller.yielded c.in-Some.smaller c.loop-smaller.invariant.within c.in_ok-sweep_onto.ensures.within;
   told =
-      Becomes-joins g.E.Sink.contents g.E.Sink.failures c.announce.new.progress c.loop-smaller.progress c.sweep_onto.new.progress
+      Becomes-joins g.E.Sink.contents g.E.Sink.failures c.announce.new.self c.loop-smaller.progress c.sweep_onto.new.progress
       c.loop-smaller.invariant.told c.sweep_onto.ensures.told;
 }
 
@@ -44,3 +44,18 @@ returns-clause-within g c = λ deep.
     let all : c.loop-smaller.yielded ≡ below_of c.args.pair =
     sym (append-nil c.loop-smaller.yielded) ∙ (ap (λ rest. c.loop-smaller.yielded ++ rest) (sym c.in-None.ensures.steps.0) ∙ c.loop-smaller.invariant.split) in
     c.loop-smaller.invariant.within deep.0 (subst (λ cs. Contains cs deep.0) (sym all) deep.1) deep.2
+
+pub loop-smaller-init : goal.loop-smaller-init
+loop-smaller-init g c = record {
+  split = search rules;
+  exact = λ other m. absurd (omega (arith, m.1));
+  within = λ other m. absurd (omega (arith, m.1));
+  told = Becomes-stays g.E.Sink.contents g.E.Sink.failures c.announce.new.self;
+}
+
+pub returns-in_err-sweep_onto-clause-told : goal.returns-in_err-sweep_onto-clause-told
+returns-in_err-sweep_onto-clause-told g c =
+    Becomes-joins _ _ _ _ _ (Becomes-joins _ _ _ _ _ c.announce.ensures.told c.loop-smaller.invariant.told) c.sweep_onto.ensures.told
+
+pub returns-clause-told : goal.returns-clause-told
+returns-clause-told g c = Becomes-joins _ _ _ _ _ c.announce.ensures.told c.loop-smaller.invariant.told

@@ -1,9 +1,19 @@
--- One line was told, whole or in part.
+-- One line is told, whole or in part, where it is time for it and the sink has room.
 use Rattle.std.proofs.Common.{◌≡◌, ◌∙◌, true, false, refl, rules, sym, arith}
-use Rattle.morris_commands.specs.ProgressLaws.{Becomes-line}
 use Rattle.morris_commands.proofs.progress.Progress.tell.Goals as goal
 
 pub returns : goal.returns
-returns g c =
-    Becomes-line g.E.Sink.contents g.E.Sink.failures c.args.self.now _ c.args.news c.send_news.result refl (search rules)
-    (omega (arith, c.if-failures.false, c.failures.ensures)) c.send_news.ensures.sent c.send_news.ensures.counted c.is_ok-self.ensures.value
+returns g c = record {
+  same = refl;
+  begun = refl;
+  whole = refl;
+  done = refl;
+  silent = λ e.
+      let bad : true ≡ false = sym c.if-not-self.false ∙ e in
+      cc;
+  early = λ e.
+      let bad : true ≡ false = sym c.if-not-self-2.false ∙ e in
+      cc;
+  cramped = λ e b full. absurd (omega (arith, full, c.if-failures.false, c.failures.ensures));
+  said = λ e b room. (c.send_news.result, c.send_news.ensures.sent, c.send_news.ensures.counted, c.is_ok-self.ensures.value);
+}
