@@ -54,13 +54,13 @@ module _ (board : Shape) (lawful : is_board board ≡ true) (y : HasSymmetries b
       let g : Net = net_at board s.level in
       let i : ℕ = entry_index board board.points l c p in
       small_code board (points_few board lawful) l c (laid board (points_few board lawful) y l c pair) p position of (entry_of board l c s p) decided
-      (omega (arith, h.wave, entry_small g s.wave (in_applied s) i))
+      (omega (arith, h.block.wave, entry_small g s.wave (in_applied s) i))
       (subst (λ (net : Net). HasCode net i (entry_of board l c s p)) same_net (entry_code g s.wave (in_applied s) i decided))
 
   nodes_inside : (i : ℕ) → first_node s ≤ i → i < first_node s + count_of s → i < entry_count board board.points l c
   nodes_inside i low high =
-      let last : first_of s.cut (s.number + 1) ≤ s.cut.size = first_of-le s.cut h.cut (s.number + 1) (omega (arith, h.number)) in
-      let size : s.cut.size ≡ entry_count board board.points l c = sym h.size ∙ ap (λ (g : Net). g.size) same_net ∙ size-pair_net board l c in
+      let last : first_of s.cut (s.number + 1) ≤ s.cut.size = first_of-le s.cut h.block.cut (s.number + 1) (omega (arith, h.block.number)) in
+      let size : s.cut.size ≡ entry_count board board.points l c = sym h.block.size ∙ ap (λ (g : Net). g.size) same_net ∙ size-pair_net board l c in
       omega (arith, last, size, low, high)
 
   listed_here : entries_of (net_at board s.level) s ≡ map (entry_of board l c s) (positions_in board l c s)

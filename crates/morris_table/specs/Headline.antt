@@ -8,7 +8,7 @@ use Rattle.std.specs.List.{count_by, flat_map, range_with_len}
 use Rattle.morris_board.specs.Boards.{Shape}
 use Rattle.morris_board.specs.Positions.{Sides, IsPosition}
 use Rattle.morris_index.specs.Pairs.{Counts, is_of}
-use Rattle.morris_wave.specs.Blocks.{BlockState, IsCut, IsIn, in_applied, first_node, count_of, entries_of}
+use Rattle.morris_wave.specs.Blocks.{BlockState, IsBlock, IsIn, in_applied, first_node, count_of, entries_of}
 use Rattle.morris_wave.specs.Exits.{is_odd, is_won_code}
 use Rattle.morris_wave.specs.Waves.{entry_at}
 use Rattle.morris_table.specs.declared.layout.Layout.{Layout}
@@ -16,13 +16,11 @@ use Rattle.morris_table.specs.Entries.{entry_index}
 use Rattle.morris_table.specs.Codes.{IsCodeOf}
 use Rattle.morris_table.specs.PairNets.{at_index, level_of, net_at}
 
--- a block of the graph of a pair, of some cut of that graph, at one of the waves from 0 to 65,534
+-- A block of the graph of a pair: it is of the level of that graph, as the block itself tells, and
+-- what every block keeps. The second is what a lock says of the block that it guards.
 pub record IsBlockOf (board : Shape) (l : Layout) (c : Counts) (s : BlockState) : Type 0 where
   pub level : s.level ≡ level_of l c
-  pub cut : IsCut s.cut
-  pub size : (net_at board s.level).size ≡ s.cut.size
-  pub number : s.number < s.cut.blocks
-  pub wave : s.wave ≤ 65534
+  pub block : IsBlock (net_at board s.level) s
 
 -- the positions that have the block's entries for their own, in the order of these
 abbrev pub positions_in : Shape → Layout → Counts → BlockState → List Sides
