@@ -62,7 +62,7 @@ impl<'a, B: Geometry> PredecessorEntries<'a, B> {
         }
     }
 
-    /// Adds the entries of the positions from which a quiet move leads to the entry of this one, and
+    /// Adds the entries of the positions from which a quiet move leads to the entry of this one and
     /// comes down to the move from `from` to `to`: the symmetry that leads the position after it
     /// leads that one to this, and takes the points of the move to `from` and `to`. There is an
     /// entry for each such move, mostly one. A stone of the opponent stands on `to`, and `from` is

@@ -137,8 +137,8 @@ Reads found (Some bytes) new (Err fault.Memory) = Unit {0}
 Reads found (Some bytes) new (Err fault.Read) = Unit {0}
 Reads found (Some bytes) new (Err refusal) = found bytes ≡ Err refusal
 
--- What a call that reads answers of the file of x: x itself, but that room may be missing and a read
--- may fail.
+-- What a call that reads answers of the file of x: x itself, but that room may be missing and a
+-- read may fail.
 abbrev pub Accepts : {A : Type 0} → A → Result A ReadFault → Type 0
 Accepts x (Ok y) = y ≡ x
 Accepts x (Err fault.Memory) = Unit {0}

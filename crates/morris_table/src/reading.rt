@@ -119,8 +119,8 @@ fn read_after<B: Geometry, S: Source>(
     Ok(Raw::new(numbering, codes))
 }
 
-/// Reads this many codes, and feeds their bytes to the hasher. Room is taken for these codes and for
-/// no more.
+/// Reads this many codes, and feeds their bytes to the hasher. Room is taken for these codes and
+/// for no more.
 fn read_codes<S: Source>(
     alloc: Global,
     source: &mut S,
