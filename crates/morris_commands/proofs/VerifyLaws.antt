@@ -6,11 +6,11 @@ use Rattle.morris_table.specs.Tables.{IsTable, Table}
 use Rattle.morris_commands.specs.declared.fault.Fault.{Fault}
 use Rattle.morris_commands.specs.declared.fault.Fault.TheVariants as fault
 use Rattle.morris_commands.specs.Faults.{Prints}
-use Rattle.morris_commands.specs.Stats.{IsRefusedFor}
+use Rattle.morris_commands.specs.Stats.{IsRefusedBefore, RestsOnTooDeep}
 use Rattle.morris_commands.specs.Verify.{AnswersTable, IsUnverified, verified_text}
 
 -- the pairs below can't be swept
-pub unverified : (board : Shape) (t : Table) (f : Fault) → IsRefusedFor board t.pair f → IsUnverified board t f
+pub unverified : (board : Shape) (t : Table) (f : Fault) → IsRefusedBefore board t.pair f → IsUnverified board t f
 unverified board t fault.Length h = absurd h
 unverified board t (fault.Character place) h = absurd h
 unverified board t fault.Stones h = absurd h
@@ -45,7 +45,7 @@ refused board t old fault.Counts h = absurd h
 refused board t old fault.Crowded h = absurd h
 refused board t old fault.TooDeep h = (h, Keeps-refl old)
 refused board t old fault.Memory h = Keeps-refl old
-refused board t old (fault.Differs index) h = (h, Keeps-refl old)
+refused board t old (fault.Differs index) h = (h.0, h.1, Keeps-refl old)
 refused board t old fault.Short h = absurd h
 refused board t old fault.Magic h = absurd h
 refused board t old fault.Version h = absurd h
@@ -64,30 +64,30 @@ refused board t old (fault.Needs greater lesser) h = absurd h
 refused board t old fault.TooMany h = absurd h
 
 -- the text of one that is exact is printed
-pub shown : (board : Shape) (t : Table) (old new : Option (List ℕ)) (r : Result (Unit {0}) Fault) → IsTable board t
+pub shown : (board : Shape) (t : Table) (old new : Option (List ℕ)) (r : Result (Unit {0}) Fault) → ¬ RestsOnTooDeep board t.pair → IsTable board t
     → Prints old new (verified_text t.pair (length t.codes)) r → AnswersTable board t old new r
-shown board t old new (Ok done) exact h = (exact, h)
-shown board t old new (Err fault.Length) exact h = absurd h
-shown board t old new (Err (fault.Character place)) exact h = absurd h
-shown board t old new (Err fault.Stones) exact h = absurd h
-shown board t old new (Err fault.Counts) exact h = absurd h
-shown board t old new (Err fault.Crowded) exact h = absurd h
-shown board t old new (Err fault.TooDeep) exact h = absurd h
-shown board t old new (Err fault.Memory) exact h = absurd h
-shown board t old new (Err (fault.Differs index)) exact h = absurd h
-shown board t old new (Err fault.Short) exact h = absurd h
-shown board t old new (Err fault.Magic) exact h = absurd h
-shown board t old new (Err fault.Version) exact h = absurd h
-shown board t old new (Err fault.BoardId) exact h = absurd h
-shown board t old new (Err fault.Count) exact h = absurd h
-shown board t old new (Err fault.Digest) exact h = absurd h
-shown board t old new (Err fault.Trailing) exact h = absurd h
-shown board t old new (Err fault.Read) exact h = absurd h
-shown board t old new (Err (fault.Write sent)) exact h = (exact, h)
-shown board t old new (Err fault.Board) exact h = absurd h
-shown board t old new (Err fault.PairText) exact h = absurd h
-shown board t old new (Err fault.Blocks) exact h = absurd h
-shown board t old new (Err (fault.Missing number)) exact h = absurd h
-shown board t old new (Err fault.Workers) exact h = absurd h
-shown board t old new (Err (fault.Needs greater lesser)) exact h = absurd h
-shown board t old new (Err fault.TooMany) exact h = absurd h
+shown board t old new (Ok done) within exact h = (within, exact, h)
+shown board t old new (Err fault.Length) within exact h = absurd h
+shown board t old new (Err (fault.Character place)) within exact h = absurd h
+shown board t old new (Err fault.Stones) within exact h = absurd h
+shown board t old new (Err fault.Counts) within exact h = absurd h
+shown board t old new (Err fault.Crowded) within exact h = absurd h
+shown board t old new (Err fault.TooDeep) within exact h = absurd h
+shown board t old new (Err fault.Memory) within exact h = absurd h
+shown board t old new (Err (fault.Differs index)) within exact h = absurd h
+shown board t old new (Err fault.Short) within exact h = absurd h
+shown board t old new (Err fault.Magic) within exact h = absurd h
+shown board t old new (Err fault.Version) within exact h = absurd h
+shown board t old new (Err fault.BoardId) within exact h = absurd h
+shown board t old new (Err fault.Count) within exact h = absurd h
+shown board t old new (Err fault.Digest) within exact h = absurd h
+shown board t old new (Err fault.Trailing) within exact h = absurd h
+shown board t old new (Err fault.Read) within exact h = absurd h
+shown board t old new (Err (fault.Write sent)) within exact h = (within, exact, h)
+shown board t old new (Err fault.Board) within exact h = absurd h
+shown board t old new (Err fault.PairText) within exact h = absurd h
+shown board t old new (Err fault.Blocks) within exact h = absurd h
+shown board t old new (Err (fault.Missing number)) within exact h = absurd h
+shown board t old new (Err fault.Workers) within exact h = absurd h
+shown board t old new (Err (fault.Needs greater lesser)) within exact h = absurd h
+shown board t old new (Err fault.TooMany) within exact h = absurd h

@@ -7,10 +7,11 @@ use Rattle.morris_board.specs.Positions.{Sides, read_of}
 use Rattle.morris_board.specs.declared.faults.TextFault.{TextFault}
 use Rattle.morris_index.specs.Pairs.{Counts, counts}
 use Rattle.morris_table.specs.Agreement.{IsFirstToDiffer}
-use Rattle.morris_table.specs.FileReading.{CountsRead, Reads, StandsInFile, next_file_in}
+use Rattle.morris_table.specs.FileReading.{CountsRead, MayTakeRoom, Reads, StandsInFile, next_file_in}
 use Rattle.morris_table.specs.Shelves.{Stored, first_missing, table_on}
 use Rattle.morris_table.specs.Tables.{IsTable, Table}
 use Rattle.morris_table.specs.declared.file_faults.ReadFault.{ReadFault}
+use Rattle.morris_table.specs.declared.file_faults.ReadFault.TheVariants as read
 use Rattle.morris_probe.specs.Probing.{missing_table}
 use Rattle.morris_probe.specs.Reports.{IsReport}
 use Rattle.morris_commands.specs.declared.fault.Fault.{Fault}
@@ -48,10 +49,12 @@ Follows shelf loaded after taken (Err refused) = loaded ≡ (Err (read_fault ref
 Follows shelf loaded after taken (Ok None) = loaded ≡ (Ok shelf, after)
 Follows shelf loaded after taken (Ok (Some t)) = taken t
 
--- what the next file leads to, where it is said what becomes of its table
+-- What the next file leads to, where it is said what becomes of its table. Room is wanting in it
+-- only where no step before room is first taken refuses it.
 pub record Reading (board : Shape) (shelf : Stored) (before : Input) (loaded : Loaded) (taken : Input → Table → Type 0) : Type 0 where
   pub found : Result (Option Table) ReadFault
   pub after : Input
+  pub room : found ≡ Err read.Memory → MayTakeRoom board before.bytes
   pub read : Reads (next_file_in board) before.bytes after.bytes found
   pub counted : CountsRead before.failures after.failures found
   pub place : StandsInFile board 0 before.bytes after.bytes

@@ -6,7 +6,7 @@ use Rattle.morris_commands.specs.declared.progress.News.TheVariants as news
 use Rattle.morris_commands.specs.declared.progress.Progress.{Progress}
 use Rattle.morris_board.specs.Streams.{CountsFailure}
 use Rattle.morris_probe.specs.Reports.{WentOut}
-use Rattle.morris_commands.specs.Progress.{Becomes, BeginsWithWhole, IsWholeFirst, SaysLine, Speaks, Tells, TellsInOrder, TellsLine, TellsWholeFirst, Told, done_of, has_begun_of, lent_of, news_line, sink_of, tells_of, whole_of}
+use Rattle.morris_commands.specs.Progress.{Becomes, BeginsWithWhole, IsWholeFirst, SaysLine, Speaks, Tells, TellsInOrder, TellsLine, TellsWholeFirst, Told, has_begun_of, lent_of, news_line, sink_of, tells_of, whole_of}
 
 module _ {E : Type 0} (contents : E → Option (List ℕ)) (failures : E → ℕ) where
   pub Told-append : (a b c : E) (first second : List News) → Told contents failures a b first → Told contents failures b c second

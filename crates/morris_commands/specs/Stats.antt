@@ -1,5 +1,5 @@
 -- What `stats` prints of a pair.
-use Rattle.std.specs.Prelude.{◌≡◌, ⊤, ℕ, ◌%◌, List, [], ◌++◌, nat_eq, length, drop, slice_index, codes, Option, Some, None, Result, Ok, Err, if◌then◌else◌}
+use Rattle.std.specs.Prelude.{◌≡◌, ◌≢◌, ⊤, ℕ, ◌%◌, List, [], ◌++◌, nat_eq, length, drop, slice_index, codes, Option, Some, None, Result, Ok, Err, if◌then◌else◌}
 use Rattle.std.specs.List.{Contains, flat_map, range_with_len}
 use Rattle.std.specs.Fmt.{decimal}
 use Rattle.std.specs.Io.KnownBytes.{Keeps}
@@ -54,12 +54,21 @@ PrintsStats board pair old new result =
 abbrev pub HasTooDeep : Shape → Counts → Type 0
 HasTooDeep board pair = (below : Counts) × Contains (below_of pair) below × IsBeyondCodes board below
 
--- why a pair isn't swept, where those that it needs are there; and why a pair isn't swept after
--- those below it
+-- the same of one below it alone, the pair itself left out
+abbrev pub RestsOnTooDeep : Shape → Counts → Type 0
+RestsOnTooDeep board pair = (below : Counts) × Contains (below_of pair) below × (below ≢ pair) × IsBeyondCodes board below
+
+-- why a pair isn't swept, where those that it needs are there; why those below it aren't, the pair
+-- itself left out; and why it isn't swept after those
 abbrev pub IsRefusedAt : Shape → Counts → Fault → Type 0
 IsRefusedAt board pair fault.Memory = ⊤
 IsRefusedAt board pair fault.TooDeep = IsBeyondCodes board pair
 IsRefusedAt board pair _ = ⊥
+
+abbrev pub IsRefusedBefore : Shape → Counts → Fault → Type 0
+IsRefusedBefore board pair fault.Memory = ⊤
+IsRefusedBefore board pair fault.TooDeep = RestsOnTooDeep board pair
+IsRefusedBefore board pair _ = ⊥
 
 abbrev pub IsRefusedFor : Shape → Counts → Fault → Type 0
 IsRefusedFor board pair fault.Memory = ⊤

@@ -6,13 +6,13 @@ use Rattle.morris_board.specs.Boards.{Shape}
 use Rattle.morris_index.specs.Pairs.{Counts, pair_text}
 use Rattle.morris_table.specs.Tables.{IsTable, Table}
 use Rattle.morris_table.specs.Agreement.{IsFirstToDiffer}
-use Rattle.morris_table.specs.FileReading.{CountsRead, Reads, StandsInFile, bytes_past, only_file_in}
+use Rattle.morris_table.specs.FileReading.{CountsRead, MayTakeRoom, Reads, StandsInFile, bytes_past, only_file_in}
 use Rattle.morris_table.specs.declared.file_faults.ReadFault.{ReadFault}
 use Rattle.morris_table.specs.declared.file_faults.ReadFault.TheVariants as read
 use Rattle.morris_commands.specs.declared.fault.Fault.{Fault}
 use Rattle.morris_commands.specs.declared.fault.Fault.TheVariants as fault
 use Rattle.morris_commands.specs.Faults.{Prints}
-use Rattle.morris_commands.specs.Stats.{HasTooDeep}
+use Rattle.morris_commands.specs.Stats.{RestsOnTooDeep}
 
 -- `verified a-b: S entries`, where S is how many entries the file has
 unfoldable pub verified_text : Counts → ℕ → List ℕ
@@ -32,22 +32,24 @@ read_fault read.Trailing = fault.Trailing
 read_fault read.Read = fault.Read
 read_fault read.Memory = fault.Memory
 
--- Why a table that was read isn't believed: want of memory; depths that codes can't hold, in its
--- pair or in one that it rests on; or the first entry that isn't what the rules give from those of
--- its results.
+-- Why a table that was read isn't believed: want of memory; depths that codes can't hold, in a pair
+-- on which its own rests; or, where there are none, the first entry that isn't what the rules give
+-- from those of its results.
 abbrev pub IsUnverified : Shape → Table → Fault → Type 0
 IsUnverified board t fault.Memory = ⊤
-IsUnverified board t fault.TooDeep = HasTooDeep board t.pair
-IsUnverified board t (fault.Differs index) = IsFirstToDiffer board t index
+IsUnverified board t fault.TooDeep = RestsOnTooDeep board t.pair
+IsUnverified board t (fault.Differs index) = ¬ RestsOnTooDeep board t.pair × IsFirstToDiffer board t index
 IsUnverified board t _ = ⊥
 
 -- What `verify` answers of a table that was read: such a refusal, with nothing printed; otherwise
--- the codes are the game's, and the text is printed.
+-- codes suffice for all depths in the pairs on which its own rests, the codes of the table are the
+-- game's, and the text is printed.
 abbrev pub AnswersTable : {T : Type 0} → Shape → Table → Option (List ℕ) → Option (List ℕ) → Result T Fault → Type 0
 AnswersTable board t old new (Err fault.Memory) = Keeps old new
-AnswersTable board t old new (Err fault.TooDeep) = HasTooDeep board t.pair × Keeps old new
-AnswersTable board t old new (Err (fault.Differs index)) = IsFirstToDiffer board t index × Keeps old new
-AnswersTable board t old new result = IsTable board t × Prints old new (verified_text t.pair (length t.codes)) result
+AnswersTable board t old new (Err fault.TooDeep) = RestsOnTooDeep board t.pair × Keeps old new
+AnswersTable board t old new (Err (fault.Differs index)) = ¬ RestsOnTooDeep board t.pair × IsFirstToDiffer board t index × Keeps old new
+AnswersTable board t old new result =
+    ¬ RestsOnTooDeep board t.pair × IsTable board t × Prints old new (verified_text t.pair (length t.codes)) result
 
 -- What it answers of what was read: the fault of a file that is refused, with nothing printed;
 -- otherwise what it answers of the table.
@@ -65,11 +67,13 @@ abbrev pub input_of : Option (List ℕ) → ℕ → Input
 input_of bytes failures = record { bytes = bytes; failures = failures }
 
 -- What it answers on a board: what was read of the whole input, in the steps of a table's file, and
--- the answer to that. The input stands in that file, or one byte past it where one more byte is why
--- it is refused.
+-- the answer to that. Room is wanting in the file only where no step before room is first taken
+-- refuses it. The input stands in that file, or one byte past it where one more byte is why it is
+-- refused.
 abbrev pub AnswersInput : {T : Type 0} → Shape → Input → Input → Option (List ℕ) → Option (List ℕ) → Result T Fault → Type 0
 AnswersInput board before after old new result =
     (found : Result Table ReadFault) × Reads (only_file_in board) before.bytes after.bytes found × CountsRead before.failures after.failures found
+    × (found ≡ Err read.Memory → MayTakeRoom board before.bytes)
     × StandsInFile board (bytes_past found) before.bytes after.bytes × AnswersFile board old new result found
 
 -- What `verify` answers: the fault of a board that isn't there, with nothing printed and nothing

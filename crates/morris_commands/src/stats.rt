@@ -7,7 +7,7 @@ ghost use Rattle.morris_commands.specs.Build.{HasExactAt};
 ghost use Rattle.morris_commands.specs.Faults.{CountsWrites, Prints};
 ghost use Rattle.morris_commands.specs.Look.{board_of};
 ghost use Rattle.morris_commands.specs.Progress.{Becomes};
-ghost use Rattle.morris_commands.specs.Stats.{AnswersOn, AnswersStats, HasTallies, HasTooDeep, IsRefusedAt, IsRefusedFor, stats_text};
+ghost use Rattle.morris_commands.specs.Stats.{AnswersOn, AnswersStats, HasTallies, HasTooDeep, IsRefusedAt, IsRefusedBefore, IsRefusedFor, RestsOnTooDeep, stats_text};
 
 use crate::boards::{NamedBoard, read_board};
 use crate::fault::Fault;
@@ -154,15 +154,15 @@ pub fn sweep_before<B: Board, C: Clock, E: Sink>(
 ) -> Result<Shelf<B>, Fault>
     ensures ready { IfOk result (λ shelf. first_missing shelf pair ≡ None) }
     ensures last { OnOk result (EndsIn (below_of pair) pair) }
-    ensures refused { IfErr result (IsRefusedFor B.shape pair) }
+    ensures within { OnOk result (¬ RestsOnTooDeep B.shape pair) }
+    ensures refused { IfErr result (IsRefusedBefore B.shape pair) }
     ensures told { Becomes E.contents E.failures progress.old progress.new }
 {
     let mut shelf = Shelf::new(alloc)?;
     for below in pair.below() {
-        if below == pair {
-            return Ok(shelf);
+        if below != pair {
+            sweep_onto(alloc, &mut shelf, below, progress)?;
         }
-        sweep_onto(alloc, &mut shelf, below, progress)?;
     }
     Ok(shelf)
 }

@@ -1,9 +1,10 @@
 //! The command `verify`.
-ghost use Rattle.std.specs.Prelude.{◌≡◌, ◌-◌, ◌^◌, ◌<◌, None, IfErr, IfOk};
+ghost use Rattle.std.specs.Prelude.{◌≡◌, ◌-◌, ◌^◌, ◌<◌, None, IfErr, IfOk, OnOk};
 ghost use Rattle.morris_table.specs.Tables.{IsTable};
 ghost use Rattle.morris_commands.specs.Faults.{CountsWrites, Prints};
 ghost use Rattle.morris_commands.specs.Look.{board_of};
 ghost use Rattle.morris_commands.specs.Progress.{Becomes};
+ghost use Rattle.morris_commands.specs.Stats.{RestsOnTooDeep};
 ghost use Rattle.morris_commands.specs.Verify.{AnswersInput, AnswersVerify, Input, IsUnverified, input_of, verified_text};
 
 use crate::boards::{NamedBoard, read_board};
@@ -34,7 +35,7 @@ use std::time::Clock;
 /// [`Fault::Board`] where there is no such board, before anything is read; else the fault of the
 /// file, as `read_table` of `morris_table` has it; else [`Fault::Memory`] where memory is refused,
 /// or [`Fault::TooDeep`] where depths in a pair that the file's rests on go past what a table can
-/// hold; else [`Fault::Differs`] with the index of the first entry that isn't what the rules give
+/// hold, of which those of the file's own pair are none; else [`Fault::Differs`] with the index of the first entry that isn't what the rules give
 /// from the entries of its results. Nothing is then written. Else [`Fault::Write`], with the bytes
 /// that went out, at the first write that fails.
 pub fn verify_in<I: Source, O: Sink>(
@@ -123,6 +124,7 @@ fn believe<B: Board, C: Clock, E: Sink>(
 ) -> Result<Exact<B>, Fault>
     ensures exact { IfOk result (λ exact. IsTable B.shape raw) }
     ensures value { IfOk result (λ exact. exact ≡ raw) }
+    ensures within { OnOk result (¬ RestsOnTooDeep B.shape raw.pair) }
     ensures refused { IfErr result (IsUnverified B.shape raw) }
     ensures told { Becomes E.contents E.failures progress.old progress.new }
 {

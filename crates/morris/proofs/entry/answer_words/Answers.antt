@@ -1,10 +1,9 @@
 -- The words are those that the system gave, and the exit status is that of the command.
-use Rattle.std.proofs.Common.{ℕ, Option, ◌≡◌, ◌≢◌, ◌∙◌, ap, inl, inr, List, map, refl, subst, sym, Result, Ok, Err, string_bytes}
-use Rattle.std.specs.Prelude.{IfOk, String}
+use Rattle.std.proofs.Common.{ℕ, Option, ◌≡◌, ◌∙◌, ap, inl, inr, List, map, refl, subst, sym, Result, Ok, Err, string_bytes}
+use Rattle.std.specs.Prelude.{IfOk}
 use Rattle.std.proofs.KnownBytes.{Keeps-refl}
 use Rattle.clap.specs.Words.{Text}
-use Rattle.morris.specs.Command.{AsksToRead, Ends, HasMistake, TellsProgress, status_of, texts_of}
-use Rattle.morris_commands.specs.Faults.{Reports}
+use Rattle.morris.specs.Command.{AsksToRead, Ends, HasMistake, TellsProgress, texts_of}
 use Rattle.morris_commands.specs.Verify.{Input, input_of}
 use Rattle.morris_words.specs.Words.{faults_of, named_by}
 use Rattle.morris_commands.specs.declared.fault.Fault.{Fault}

@@ -4,7 +4,7 @@ use Rattle.std.proofs.lemmas.Result.{err_from_is_err_and}
 use Rattle.morris_commands.specs.declared.fault.Fault.TheVariants as fault
 use Rattle.morris_commands.specs.Probe.{Loads}
 use Rattle.morris_commands.specs.Verify.{input_of}
-use Rattle.morris_commands.proofs.BundleLaws.{at_end, leads_on, leads_to_unfit, one_too_many, read_unwritten, refused_file}
+use Rattle.morris_commands.proofs.BundleLaws.{at_end, leads_on, leads_to_unfit, no_room_wanting, one_too_many, read_unwritten, refused_file}
 use Rattle.morris_commands.specs.ProgressLaws.{Becomes-joins, Becomes-stays}
 use Rattle.morris_commands.proofs.probe.load_bundle.Goals as goal
 
@@ -32,7 +32,7 @@ returns-in_err-raw g c =
             c.in_ok-shelf.shelf,
             c.in_ok-shelf.ensures,
             c.loop.invariant.leads _ (refused_file g.B.Geometry.shape (64 - c.loop.counter) c.loop.shelf _ after c.in_err-raw.field-0.0
-                (record { read = c.in_err-raw.ensures.outcome; counted = c.in_err-raw.ensures.counted; place = c.in_err-raw.ensures.place })),
+                (record { read = c.in_err-raw.ensures.outcome; counted = c.in_err-raw.ensures.counted; room = c.in_err-raw.ensures.memory; place = c.in_err-raw.ensures.place })),
           ));
       unwritten = rw (failed.1, failed.2) (read_unwritten c.in_err-raw.field-0.0);
       told = c.loop.invariant.told;
@@ -50,7 +50,7 @@ returns-in_err-put_verified-in-Some g c =
             c.in_ok-shelf.ensures,
             leads_to_unfit g.B.Geometry.shape c.in_ok-shelf.shelf c.loop.shelf _ _ after c.in-Some.raw c.in_err-put_verified-in-Some.field-0.0 c.loop.counter
                 c.loop-test.true c.loop.invariant.leads
-                (record { read = rw c.in-Some.is at c.in_ok-raw.ensures.outcome; counted = c.in_ok-raw.ensures.counted; place = c.in_ok-raw.ensures.place })
+                (record { read = rw c.in-Some.is at c.in_ok-raw.ensures.outcome; counted = c.in_ok-raw.ensures.counted; room = no_room_wanting _; place = c.in_ok-raw.ensures.place })
                 c.in_err-put_verified-in-Some.ensures.refused,
           ));
       unwritten = rw (failed.1, failed.2) c.in_err-put_verified-in-Some.ensures.unwritten;
@@ -68,7 +68,7 @@ returns-in-None g c =
             c.in_ok-shelf.shelf,
             c.in_ok-shelf.ensures,
             c.loop.invariant.leads _ (at_end g.B.Geometry.shape (64 - c.loop.counter) c.loop.shelf _ after
-                (record { read = rw c.in-None.is at c.in_ok-raw.ensures.outcome; counted = c.in_ok-raw.ensures.counted; place = c.in_ok-raw.ensures.place })),
+                (record { read = rw c.in-None.is at c.in_ok-raw.ensures.outcome; counted = c.in_ok-raw.ensures.counted; room = no_room_wanting _; place = c.in_ok-raw.ensures.place })),
           );
       unwritten = tt;
       told = c.loop.invariant.told;
@@ -81,7 +81,7 @@ loop-preserved g c =
       leads =
           leads_on g.B.Geometry.shape c.in_ok-shelf.shelf c.loop.shelf c.put_verified.new.shelf _ _ after c.in-Some.raw c.loop.counter c.loop-test.true
           c.loop.invariant.leads
-          (record { read = rw c.in-Some.is at c.in_ok-raw.ensures.outcome; counted = c.in_ok-raw.ensures.counted; place = c.in_ok-raw.ensures.place })
+          (record { read = rw c.in-Some.is at c.in_ok-raw.ensures.outcome; counted = c.in_ok-raw.ensures.counted; room = no_room_wanting _; place = c.in_ok-raw.ensures.place })
           c.in_ok-put_verified-in-Some.ensures.joined;
       unfailed = c.in_ok-raw.ensures.counted ∙ c.loop.invariant.unfailed;
       told =
@@ -100,7 +100,7 @@ returns-in_err-read_next g c =
             c.in_ok-shelf.shelf,
             c.in_ok-shelf.ensures,
             c.loop.invariant.leads _ (refused_file g.B.Geometry.shape (64 - c.loop.counter) c.loop.shelf _ after c.in_err-read_next.field-0.0
-                (record { read = c.in_err-read_next.ensures.outcome; counted = c.in_err-read_next.ensures.counted; place = c.in_err-read_next.ensures.place })),
+                (record { read = c.in_err-read_next.ensures.outcome; counted = c.in_err-read_next.ensures.counted; room = c.in_err-read_next.ensures.memory; place = c.in_err-read_next.ensures.place })),
           ));
       unwritten = rw (failed.1, failed.2) (read_unwritten c.in_err-read_next.field-0.0);
       told = c.loop.invariant.told;
@@ -118,7 +118,7 @@ returns-in-Some-2 g c =
             c.in_ok-shelf.ensures,
             c.loop.invariant.leads _ (subst (λ n. Loads g.B.Geometry.shape n c.loop.shelf here (Err fault.TooMany, after)) none
                 (one_too_many g.B.Geometry.shape c.loop.shelf here after c.in-Some-2.field-0
-                (record { read = rw c.in-Some-2.is at c.in_ok-read_next.ensures.outcome; counted = c.in_ok-read_next.ensures.counted; place = c.in_ok-read_next.ensures.place }))),
+                (record { read = rw c.in-Some-2.is at c.in_ok-read_next.ensures.outcome; counted = c.in_ok-read_next.ensures.counted; room = no_room_wanting _; place = c.in_ok-read_next.ensures.place }))),
           );
       unwritten = refl;
       told = c.loop.invariant.told;
@@ -133,7 +133,7 @@ returns-in-None-2 g c =
             c.in_ok-shelf.shelf,
             c.in_ok-shelf.ensures,
             c.loop.invariant.leads _ (at_end g.B.Geometry.shape (64 - c.loop.counter) c.loop.shelf _ after
-                (record { read = rw c.in-None-2.is at c.in_ok-read_next.ensures.outcome; counted = c.in_ok-read_next.ensures.counted; place = c.in_ok-read_next.ensures.place })),
+                (record { read = rw c.in-None-2.is at c.in_ok-read_next.ensures.outcome; counted = c.in_ok-read_next.ensures.counted; room = no_room_wanting _; place = c.in_ok-read_next.ensures.place })),
           );
       unwritten = tt;
       told = c.loop.invariant.told;

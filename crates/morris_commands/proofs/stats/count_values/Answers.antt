@@ -1,4 +1,4 @@
-use Rattle.std.proofs.Common.{◌≡◌, Some, Option, sym, ap, subst, ◌∙◌}
+use Rattle.std.proofs.Common.{◌≡◌, Some, Option, ap, subst, ◌∙◌}
 use Rattle.morris_table.specs.declared.layout.Layout.TheVariants.{Full}
 use Rattle.morris_table.specs.Tables.{IsTable, Table, table}
 use Rattle.morris_commands.proofs.TallyLaws.{length-tallies_of}

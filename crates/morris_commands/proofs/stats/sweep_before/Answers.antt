@@ -1,46 +1,56 @@
-use Rattle.std.proofs.Common.{rules, ◌≡◌, ◌∷◌, [], ◌++◌, None, is_some, sym, ap, subst, ◌∙◌, append_assoc}
+use Rattle.std.proofs.Common.{◌≡◌, ◌∷◌, [], ◌++◌, is_some, sym, ap, subst, ◌∙◌, append_assoc}
+use Rattle.std.specs.List.{Contains}
 use Rattle.std.proofs.lemmas.List.{append-nil}
-use Rattle.morris_index.specs.Pairs.{below_of}
-use Rattle.morris_table.specs.Shelves.{first_missing}
-use Rattle.morris_commands.specs.Build.{HasTables}
-use Rattle.morris_commands.proofs.ShelfLaws.{before_last, none_missing, one_table_more}
+use Rattle.std.proofs.Math.Path.{ap₂}
+use Rattle.std.proofs.lemmas.Bool.{and_parts, eqb-true, not-false}
+use Rattle.std.proofs.lemmas.List.Elements.{Contains-append_left}
+use Rattle.morris_index.specs.Pairs.{below_of, counts}
+use Rattle.morris_commands.proofs.ShelfLaws.{none_swept_more, one_swept_more, swept_needs}
 use Rattle.morris_commands.specs.ProgressLaws.{Becomes-joins}
 use Rattle.morris_commands.proofs.stats.sweep_before.Goals as goal
 
 pub sweep_onto-requires-after_bounds : goal.sweep_onto-requires-after_bounds
 sweep_onto-requires-after_bounds g c = λ κs within.
-    none_missing c.loop-below.shelf c.loop-below.yielded c.next.new.self (below_of c.args.pair) c.in-Some.below
+    swept_needs g.B.Geometry.shape c.loop-below.shelf c.args.pair c.loop-below.yielded c.next.new.self c.in-Some.below
     c.below-below-items.ensures.needs_first
-    (ap (λ rest. c.loop-below.yielded ++ rest) (sym c.in-Some.ensures.steps) ∙ c.loop-below.invariant.split) c.loop-below.invariant.there
+    (ap (λ rest. c.loop-below.yielded ++ rest) (sym c.in-Some.ensures.steps) ∙ c.loop-below.invariant.split) c.loop-below.invariant.swept
 
 pub loop-below-preserved : goal.loop-below-preserved
-loop-below-preserved g c = record {
+loop-below-preserved g c =
+    let both = and_parts _ _ (not-false _ (sym c.ne.ensures ∙ c.if-ne.false)) in
+    let itself : c.in-Some.below ≡ c.args.pair = ap₂ counts (eqb-true _ _ both.0) (eqb-true _ _ both.1) in
+    record {
+      split =
+          append_assoc c.loop-below.yielded (c.in-Some.below ∷ []) c.next.new.self
+          ∙ (ap (λ rest. c.loop-below.yielded ++ rest) (sym c.in-Some.ensures.steps) ∙ c.loop-below.invariant.split);
+      swept = none_swept_more g.B.Geometry.shape c.loop-below.shelf c.args.pair c.in-Some.below c.loop-below.yielded c.loop-below.invariant.swept itself;
+      told = c.loop-below.invariant.told;
+    }
+
+pub loop-below-preserved-in-Continue-branch-2 : goal.loop-below-preserved-in-Continue-branch-2
+loop-below-preserved-in-Continue-branch-2 g c = record {
   split =
       append_assoc c.loop-below.yielded (c.in-Some.below ∷ []) c.next.new.self
       ∙ (ap (λ rest. c.loop-below.yielded ++ rest) (sym c.in-Some.ensures.steps) ∙ c.loop-below.invariant.split);
-  there =
-      one_table_more c.loop-below.shelf c.sweep_onto.new.shelf c.loop-below.yielded c.in-Some.below c.loop-below.invariant.there
-      (ap is_some c.in_ok-sweep_onto.ensures.exact.1) c.in_ok-sweep_onto.ensures.others;
-  told =
-      Becomes-joins g.E.Sink.contents g.E.Sink.failures c.args.progress.now c.loop-below.progress c.sweep_onto.new.progress
-      c.loop-below.invariant.told c.sweep_onto.ensures.told;
+  swept =
+      one_swept_more g.B.Geometry.shape c.loop-below.shelf c.sweep_onto.new.shelf c.args.pair c.loop-below.yielded c.in-Some.below
+      c.loop-below.invariant.swept (ap is_some c.in_ok-sweep_onto.ensures.exact.1) c.in_ok-sweep_onto.ensures.within c.in_ok-sweep_onto.ensures.others;
+  told = Becomes-joins _ _ _ _ _ c.loop-below.invariant.told c.sweep_onto.ensures.told;
 }
 
 pub returns-clause-ready : goal.returns-clause-ready
 returns-clause-ready g c =
     let all : c.loop-below.yielded ≡ below_of c.args.pair =
     sym (append-nil c.loop-below.yielded) ∙ (ap (λ rest. c.loop-below.yielded ++ rest) (sym c.in-None.ensures.steps.0) ∙ c.loop-below.invariant.split) in
-    before_last c.loop-below.shelf (below_of c.args.pair) c.args.pair c.below-below-items.ensures.needs_first
-    (subst (HasTables c.loop-below.shelf) all c.loop-below.invariant.there) c.below-below-items.ensures.last
+    let last = c.below-below-items.ensures.last in
+    swept_needs g.B.Geometry.shape c.loop-below.shelf c.args.pair last.0 [] c.args.pair c.below-below-items.ensures.needs_first (sym last.1)
+    (λ d m other. c.loop-below.invariant.swept d (subst (λ cs. Contains cs d) (sym (all ∙ last.1)) (Contains-append_left last.0 (c.args.pair ∷ []) d m)) other)
 
-pub returns-then-eq-clause-ready : goal.returns-then-eq-clause-ready
-returns-then-eq-clause-ready g c =
-    let found : first_missing c.loop-below.shelf c.in-Some.below ≡ None =
-    none_missing c.loop-below.shelf c.loop-below.yielded c.next.new.self (below_of c.args.pair) c.in-Some.below
-    c.below-below-items.ensures.needs_first
-    (ap (λ rest. c.loop-below.yielded ++ rest) (sym c.in-Some.ensures.steps) ∙ c.loop-below.invariant.split) c.loop-below.invariant.there in
-    let same : c.in-Some.below ≡ c.args.pair = search rules in
-    subst (λ p. first_missing c.loop-below.shelf p ≡ None) same found
+pub returns-clause-within : goal.returns-clause-within
+returns-clause-within g c = λ deep.
+    let all : c.loop-below.yielded ≡ below_of c.args.pair =
+    sym (append-nil c.loop-below.yielded) ∙ (ap (λ rest. c.loop-below.yielded ++ rest) (sym c.in-None.ensures.steps.0) ∙ c.loop-below.invariant.split) in
+    (c.loop-below.invariant.swept deep.0 (subst (λ cs. Contains cs deep.0) (sym all) deep.1) deep.2).1 deep.3
 
 pub returns-in_err-sweep_onto-clause-told : goal.returns-in_err-sweep_onto-clause-told
 returns-in_err-sweep_onto-clause-told g c = Becomes-joins _ _ _ _ _ c.loop-below.invariant.told c.sweep_onto.ensures.told

@@ -1,8 +1,6 @@
 -- How much there is to do is told once that is known, and nothing where it is told no more or again.
-use Rattle.std.proofs.Common.{◌≡◌, ◌∙◌, true, false, refl, sym, ap}
-use Rattle.morris_commands.specs.Progress.{TellsLine}
-use Rattle.morris_commands.specs.declared.progress.News.TheVariants as news
-use Rattle.morris_commands.specs.ProgressLaws.{Becomes-begins, Becomes-stays, TellsLine-speaks}
+use Rattle.std.proofs.Common.{refl}
+use Rattle.morris_commands.specs.ProgressLaws.{Becomes-begins, Becomes-stays}
 use Rattle.morris_commands.proofs.progress.Progress.announce.Goals as goal
 
 pub returns-then-not-self-clause-told : goal.returns-then-not-self-clause-told

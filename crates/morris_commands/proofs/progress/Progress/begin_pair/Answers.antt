@@ -1,5 +1,5 @@
 -- The pair at work is no part of what was told.
-use Rattle.std.proofs.Common.{◌≡◌, refl}
+use Rattle.std.proofs.Common.{refl}
 use Rattle.morris_commands.specs.ProgressLaws.{Becomes-same}
 use Rattle.morris_commands.proofs.progress.Progress.begin_pair.Goals as goal
 

@@ -1,5 +1,5 @@
-use Rattle.std.proofs.Common.{◌≡◌, ◌∙◌, refl}
-use Rattle.morris_commands.specs.ProgressLaws.{Becomes-speaks, TellsLine-speaks}
+use Rattle.std.proofs.Common.{refl}
+use Rattle.morris_commands.specs.ProgressLaws.{Becomes-speaks}
 use Rattle.morris_commands.proofs.progress.Progress.end_pair.Goals as goal
 
 pub returns-clause-told : goal.returns-clause-told

@@ -1,5 +1,5 @@
 -- One line is told, whole or in part, where it is time for it and the sink has room.
-use Rattle.std.proofs.Common.{◌≡◌, ◌∙◌, true, false, refl, rules, sym, arith}
+use Rattle.std.proofs.Common.{◌≡◌, ◌∙◌, true, false, refl, sym, arith}
 use Rattle.morris_commands.proofs.progress.Progress.tell.Goals as goal
 
 pub returns : goal.returns

@@ -1,4 +1,4 @@
-use Rattle.std.proofs.Common.{◌≡◌, ◌∙◌, refl}
+use Rattle.std.proofs.Common.{refl}
 use Rattle.morris_commands.specs.ProgressLaws.{Becomes-speaks}
 use Rattle.morris_commands.proofs.progress.ProgressWatch.wave.Goals as goal
 
