@@ -1,7 +1,5 @@
 pub mod ShelfLaws
 pub mod StatsLaws
 pub mod TallyLaws
-pub mod VerifyLaws
 mod BundleLaws
 pub mod BuildLaws
-pub mod UnbuiltLaws

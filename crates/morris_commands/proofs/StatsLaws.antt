@@ -42,32 +42,3 @@ module _ (f : ℕ → List ℕ) where
       let none : (d + 1) - (d + 1) ≡ 0 = omega arith in
       let nothing : flat_map f (range_with_len (d + 1) ((d + 1) - (d + 1))) ≡ [] = ap (λ n. flat_map f (range_with_len (d + 1) n)) none in
       split_at d (d + 1) (omega arith) ∙ (ap (λ xs. flat_map f (range_with_len 0 d) ++ f d ++ xs) nothing ∙ append-nil _)
-
--- what is printed of the tallies is what `stats` answers of the pair
-pub answered : (board : Shape) (pair : Counts) (old new : Option (List ℕ)) (tallies : List ℕ) (r : Result (Unit {0}) Fault) → ¬ HasTooDeep board pair
-    → HasTallies board pair tallies → Prints old new (stats_text board.points pair tallies) r → AnswersPair board pair old new r
-answered board pair old new tallies (Ok done) within counted h = (within, (tallies, counted, h))
-answered board pair old new tallies (Err fault.Length) within counted h = absurd h
-answered board pair old new tallies (Err (fault.Character place)) within counted h = absurd h
-answered board pair old new tallies (Err fault.Stones) within counted h = absurd h
-answered board pair old new tallies (Err fault.Counts) within counted h = absurd h
-answered board pair old new tallies (Err fault.Crowded) within counted h = absurd h
-answered board pair old new tallies (Err fault.Blocks) within counted h = absurd h
-answered board pair old new tallies (Err (fault.Missing number)) within counted h = absurd h
-answered board pair old new tallies (Err fault.TooDeep) within counted h = absurd h
-answered board pair old new tallies (Err fault.Workers) within counted h = absurd h
-answered board pair old new tallies (Err fault.Memory) within counted h = absurd h
-answered board pair old new tallies (Err (fault.Needs greater lesser)) within counted h = absurd h
-answered board pair old new tallies (Err (fault.Differs index)) within counted h = absurd h
-answered board pair old new tallies (Err fault.Short) within counted h = absurd h
-answered board pair old new tallies (Err fault.Magic) within counted h = absurd h
-answered board pair old new tallies (Err fault.Version) within counted h = absurd h
-answered board pair old new tallies (Err fault.BoardId) within counted h = absurd h
-answered board pair old new tallies (Err fault.Count) within counted h = absurd h
-answered board pair old new tallies (Err fault.Digest) within counted h = absurd h
-answered board pair old new tallies (Err fault.Trailing) within counted h = absurd h
-answered board pair old new tallies (Err fault.Read) within counted h = absurd h
-answered board pair old new tallies (Err (fault.Write sent)) within counted h = (within, (tallies, counted, h))
-answered board pair old new tallies (Err fault.Board) within counted h = absurd h
-answered board pair old new tallies (Err fault.PairText) within counted h = absurd h
-answered board pair old new tallies (Err fault.TooMany) within counted h = absurd h

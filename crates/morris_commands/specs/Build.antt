@@ -1,5 +1,5 @@
 -- What `build` writes.
-use Rattle.std.specs.Prelude.{◌≡◌, ⊤, ℕ, ◌<◌, Bool, true, List, [], ◌∷◌, map, Option, Some, None, is_some, Result, Ok, Err, if◌then◌else◌}
+use Rattle.std.specs.Prelude.{◌≡◌, ◌⊎◌, ⊤, ℕ, ◌<◌, Bool, true, List, [], ◌∷◌, map, Option, Some, None, is_some, Result, Ok, Err, if◌then◌else◌}
 use Rattle.std.specs.List.{All, Contains, flat_map}
 use Rattle.std.specs.Io.KnownBytes.{Keeps}
 use Rattle.morris_board.specs.Boards.{Shape}
@@ -81,10 +81,9 @@ IsUnbuiltFor board pair blocks _ = ⊥
 -- otherwise codes suffice for all depths, and the files are written, or the first bytes of them up
 -- to the write that failed.
 abbrev pub AnswersBuilt : {T : Type 0} → Shape → Layout → Counts → ℕ → Bool → Option (List ℕ) → Option (List ℕ) → Result T Fault → Type 0
-AnswersBuilt board l pair blocks all old new (Ok done) = ¬ HasTooDeep board pair × AnswersFiles board l (pairs_written all pair) old new (Ok done)
-AnswersBuilt board l pair blocks all old new (Err (fault.Write sent)) =
-    ¬ HasTooDeep board pair × AnswersFiles {T = Unit {0}} board l (pairs_written all pair) old new (Err (fault.Write sent))
-AnswersBuilt board l pair blocks all old new (Err refused) = IsUnbuiltFor board pair blocks refused × Keeps old new
+AnswersBuilt board l pair blocks all old new result =
+    ((refused : Fault) × (result ≡ Err refused) × IsUnbuiltFor board pair blocks refused × Keeps old new)
+    ⊎ (¬ HasTooDeep board pair × AnswersFiles board l (pairs_written all pair) old new result)
 
 -- What it answers with so many workers and blocks: where there may not be so many, the fault that
 -- says so, with nothing written and before anything is built; otherwise what it answers of the

@@ -1,5 +1,5 @@
 -- What `stats` prints of a pair.
-use Rattle.std.specs.Prelude.{◌≡◌, ◌≢◌, ⊤, ℕ, ◌%◌, List, [], ◌++◌, nat_eq, length, drop, slice_index, codes, Option, Some, None, Result, Ok, Err, if◌then◌else◌}
+use Rattle.std.specs.Prelude.{◌≡◌, ◌≢◌, ◌⊎◌, ⊤, ℕ, ◌%◌, List, [], ◌++◌, nat_eq, length, drop, slice_index, codes, Option, Some, None, Result, Ok, Err, if◌then◌else◌}
 use Rattle.std.specs.List.{Contains, flat_map, range_with_len}
 use Rattle.std.specs.Fmt.{decimal}
 use Rattle.std.specs.Io.KnownBytes.{Keeps}
@@ -78,9 +78,9 @@ IsRefusedFor board pair _ = ⊥
 -- What `stats` answers of a pair: a refusal of memory, or of a depth that is too great, with
 -- nothing printed; otherwise codes suffice for all depths, and the pair's text is printed.
 abbrev pub AnswersPair : {T : Type 0} → Shape → Counts → Option (List ℕ) → Option (List ℕ) → Result T Fault → Type 0
-AnswersPair board pair old new (Err fault.Memory) = Keeps old new
-AnswersPair board pair old new (Err fault.TooDeep) = HasTooDeep board pair × Keeps old new
-AnswersPair board pair old new result = ¬ HasTooDeep board pair × PrintsStats board pair old new result
+AnswersPair board pair old new result =
+    ((refused : Fault) × (result ≡ Err refused) × IsRefusedFor board pair refused × Keeps old new)
+    ⊎ (¬ HasTooDeep board pair × PrintsStats board pair old new result)
 
 -- What it answers on a board: the fault of a text that names no pair, with nothing printed;
 -- otherwise what it answers of the pair.

@@ -1,5 +1,5 @@
 -- What `verify` answers of the bytes of its input, and what it prints.
-use Rattle.std.specs.Prelude.{◌≡◌, ⊤, ℕ, List, ◌++◌, length, codes, Option, Some, None, Result, Ok, Err}
+use Rattle.std.specs.Prelude.{◌≡◌, ◌⊎◌, ⊤, ℕ, List, ◌++◌, length, codes, Option, Some, None, Result, Ok, Err}
 use Rattle.std.specs.Fmt.{decimal}
 use Rattle.std.specs.Io.KnownBytes.{Keeps}
 use Rattle.morris_board.specs.Boards.{Shape}
@@ -45,11 +45,9 @@ IsUnverified board t _ = ⊥
 -- codes suffice for all depths in the pairs on which its own rests, the codes of the table are the
 -- game's, and the text is printed.
 abbrev pub AnswersTable : {T : Type 0} → Shape → Table → Option (List ℕ) → Option (List ℕ) → Result T Fault → Type 0
-AnswersTable board t old new (Err fault.Memory) = Keeps old new
-AnswersTable board t old new (Err fault.TooDeep) = RestsOnTooDeep board t.pair × Keeps old new
-AnswersTable board t old new (Err (fault.Differs index)) = ¬ RestsOnTooDeep board t.pair × IsFirstToDiffer board t index × Keeps old new
 AnswersTable board t old new result =
-    ¬ RestsOnTooDeep board t.pair × IsTable board t × Prints old new (verified_text t.pair (length t.codes)) result
+    ((refused : Fault) × (result ≡ Err refused) × IsUnverified board t refused × Keeps old new)
+    ⊎ (¬ RestsOnTooDeep board t.pair × IsTable board t × Prints old new (verified_text t.pair (length t.codes)) result)
 
 -- What it answers of what was read: the fault of a file that is refused, with nothing printed;
 -- otherwise what it answers of the table.

@@ -94,8 +94,6 @@ fn show_tallies<B: Geometry, S: Sink>(
     requires failures { S.failures output.old < 2 ^ 64 - 1 }
     requires few { length tallies.now ≤ 2 ^ 16 }
     ensures shown { Prints (S.contents output.old) (S.contents output.new) (stats_text B.POINTS pair tallies.now) result }
-    // The caller's proof learns here that the board has as many points as its shape says.
-    ensures points { B.shape.points ≡ B.POINTS }
     ensures counted { CountsWrites (S.failures output.old) (S.failures output.new) result }
 {
     let mut out = Buffered::new(output);
@@ -112,6 +110,8 @@ fn count_values<B: Board, C: Clock, E: Sink>(
     pair: Pair<B>,
     progress: &mut Progress<'_, C, E>,
 ) -> Result<Vec<u64>, Fault>
+    // The caller's proof learns here that the board has as many points as its shape says.
+    ensures points { B.shape.points ≡ B.POINTS }
     ensures counts { IfOk result (λ v. HasTallies B.shape pair v.items) }
     ensures few { IfOk result (λ v. length v.items ≤ 2 ^ 16) }
     ensures within { OnOk result (¬ HasTooDeep B.shape pair) }

@@ -1,15 +1,16 @@
 -- What is printed of the tallies of the pair that the text names.
-use Rattle.std.proofs.Common.{◌≡◌, Ok, sym, ap, subst, ◌∙◌}
+use Rattle.std.proofs.Common.{◌≡◌, Ok, Err, sym, ap, subst, ◌∙◌, inl, inr}
+use Rattle.std.proofs.KnownBytes.{Keeps-refl}
+use Rattle.std.proofs.lemmas.Result.{err_from_is_err_and}
 use Rattle.morris_commands.specs.Faults.{Prints}
 use Rattle.morris_commands.specs.PairText.{read_pair_of}
 use Rattle.morris_commands.specs.Stats.{AnswersRead, stats_text}
-use Rattle.morris_commands.proofs.StatsLaws.{answered}
 use Rattle.morris_commands.proofs.stats.stats_on.Goals as goal
 
 pub returns-clause-answer : goal.returns-clause-answer
 returns-clause-answer g c =
     let board = g.B.Geometry.shape in
-    let points : board.points ≡ g.B.Geometry.POINTS = c.show_tallies.ensures.points in
+    let points : board.points ≡ g.B.Geometry.POINTS = c.in_ok-tallies.ensures.points in
     let pair = c.in_ok-pair.pair in
     let old = g.S.Sink.contents c.args.output.now in
     let new = g.S.Sink.contents c.show_tallies.new.output in
@@ -18,5 +19,22 @@ returns-clause-answer g c =
     let shown : Prints old new (stats_text g.B.Geometry.POINTS pair c.in_ok-tallies.tallies.items) c.show_tallies.result =
     subst (λ tallies. Prints old new (stats_text g.B.Geometry.POINTS pair tallies) c.show_tallies.result) c.as_slice.ensures.value c.show_tallies.ensures.shown in
     subst (λ found. AnswersRead board old new c.show_tallies.result found) (sym read)
-    (answered board pair old new c.in_ok-tallies.tallies.items c.show_tallies.result c.in_ok-tallies.ensures.within c.in_ok-tallies.ensures.counts
-    (subst (λ n. Prints old new (stats_text n pair c.in_ok-tallies.tallies.items) c.show_tallies.result) (sym points) shown))
+    (inr (
+      c.in_ok-tallies.ensures.within,
+      (
+        c.in_ok-tallies.tallies.items,
+        c.in_ok-tallies.ensures.counts,
+        subst (λ n. Prints old new (stats_text n pair c.in_ok-tallies.tallies.items) c.show_tallies.result) (sym points) shown,
+      ),
+    ))
+
+-- nothing is printed where a pair isn't swept
+pub returns-in_err-tallies-clause-answer : goal.returns-in_err-tallies-clause-answer
+returns-in_err-tallies-clause-answer g c =
+    let board = g.B.Geometry.shape in
+    let old = g.S.Sink.contents c.args.output.now in
+    let failed = err_from_is_err_and c.from_residual-in_err-tallies.result c.from_residual-in_err-tallies.ensures.1 in
+    let read : read_pair_of board.points c.args.text.now ≡ Ok c.in_ok-pair.pair =
+    ap (λ n. read_pair_of n c.args.text.now) c.in_err-tallies.ensures.points ∙ sym c.in_ok-pair.ensures in
+    subst (λ found. AnswersRead board old old c.from_residual-in_err-tallies.result found) (sym read)
+    (inl (_, failed.1 ∙ ap Err failed.2, c.in_err-tallies.ensures.refused, Keeps-refl old))

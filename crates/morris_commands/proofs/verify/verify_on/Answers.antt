@@ -1,10 +1,10 @@
 -- A table that isn't believed is refused, with nothing printed.
-use Rattle.std.proofs.Common.{◌≡◌, Ok, Err, length, refl, subst}
+use Rattle.std.proofs.Common.{◌≡◌, Ok, Err, length, refl, ap, subst, ◌∙◌, inl, inr}
+use Rattle.std.proofs.KnownBytes.{Keeps-refl}
 use Rattle.std.proofs.lemmas.Result.{err_from_is_err_and}
 use Rattle.morris_table.specs.declared.file_faults.ReadFault.TheVariants as read
 use Rattle.morris_commands.specs.Faults.{Prints}
 use Rattle.morris_commands.specs.Verify.{verified_text}
-use Rattle.morris_commands.proofs.VerifyLaws.{refused, shown}
 use Rattle.morris_commands.proofs.verify.verify_on.Goals as goal
 
 pub returns-in_err-exact-clause-answer : goal.returns-in_err-exact-clause-answer
@@ -17,7 +17,7 @@ returns-in_err-exact-clause-answer g c =
           let bad : Ok c.in_ok-raw.raw ≡ Err read.Memory = e in
           cc,
       c.in_ok-raw.ensures.place,
-      rw (failed.1, failed.2) (refused g.B.Geometry.shape c.in_ok-raw.raw (g.O.Sink.contents c.args.output.now) _ c.in_err-exact.ensures.refused),
+      inl (_, failed.1 ∙ ap Err failed.2, c.in_err-exact.ensures.refused, Keeps-refl (g.O.Sink.contents c.args.output.now)),
     )
 
 -- the text of one that is exact is printed
@@ -33,8 +33,10 @@ returns-clause-answer g c =
           let bad : Ok c.in_ok-raw.raw ≡ Err read.Memory = e in
           cc,
       c.in_ok-raw.ensures.place,
-      shown g.B.Geometry.shape t (g.O.Sink.contents c.args.output.now) (g.O.Sink.contents c.show_verified.new.output) c.show_verified.result
-          c.in_ok-exact.ensures.within c.in_ok-exact.ensures.exact
-          (subst (λ s. Prints (g.O.Sink.contents c.args.output.now) (g.O.Sink.contents c.show_verified.new.output) s c.show_verified.result) text
-          c.show_verified.ensures.shown),
+      inr (
+        c.in_ok-exact.ensures.within,
+        c.in_ok-exact.ensures.exact,
+        subst (λ s. Prints (g.O.Sink.contents c.args.output.now) (g.O.Sink.contents c.show_verified.new.output) s c.show_verified.result) text
+            c.show_verified.ensures.shown,
+      ),
     )
