@@ -1,13 +1,7 @@
 -- The lines of the depths so far, of the next depth, and of the others make up those of all depths.
-use Rattle.std.proofs.Common.{◌≡◌, ℕ, zero, suc, ◌+◌, ◌-◌, ◌<◌, List, [], ◌∷◌, ◌++◌, Option, Result, Ok, Err, refl, sym, ap, ◌∙◌, arith, append_assoc, append-nil}
+use Rattle.std.proofs.Common.{◌≡◌, ℕ, zero, suc, ◌+◌, ◌-◌, ◌<◌, List, [], ◌∷◌, ◌++◌, refl, sym, ap, ◌∙◌, arith, append_assoc, append-nil}
 use Rattle.std.specs.List.{flat_map, range_with_len}
 use Rattle.std.proofs.lemmas.Grind.{flat_map-append}
-use Rattle.morris_board.specs.Boards.{Shape}
-use Rattle.morris_index.specs.Pairs.{Counts}
-use Rattle.morris_commands.specs.declared.fault.Fault.{Fault}
-use Rattle.morris_commands.specs.declared.fault.Fault.TheVariants as fault
-use Rattle.morris_commands.specs.Faults.{Prints}
-use Rattle.morris_commands.specs.Stats.{AnswersPair, HasTallies, HasTooDeep, stats_text}
 
 -- the numbers from a on: the first d of them, and the n others
 range_split : (a d n : ℕ) → range_with_len a (d + n) ≡ range_with_len a d ++ range_with_len (a + d) n

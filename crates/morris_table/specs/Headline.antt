@@ -3,7 +3,7 @@
 --
 -- A lock keeps its block in the state that the block's wave and its applied sources say. Here
 -- stands what such a state says in the words of the game, at any wave and whatever is applied.
-use Rattle.std.specs.Prelude.{◌≡◌, ℕ, ◌+◌, ◌<◌, ◌≤◌, Bool, true, ◌==◌, List, length, map}
+use Rattle.std.specs.Prelude.{◌≡◌, ℕ, ◌+◌, ◌<◌, Bool, true, ◌==◌, List, length, map}
 use Rattle.std.specs.List.{count_by, flat_map, range_with_len}
 use Rattle.morris_board.specs.Boards.{Shape}
 use Rattle.morris_board.specs.Positions.{Sides, IsPosition}

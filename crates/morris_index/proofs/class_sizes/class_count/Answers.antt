@@ -1,5 +1,5 @@
 -- A mask more, and its class where it is a representative.
-use Rattle.std.proofs.Common.{◌≡◌, ◌^◌, ◌%◌, ◌*◌, ◌+◌, ◌<◌, suc, true, false, sym, ap, subst, ◌∙◌, arith}
+use Rattle.std.proofs.Common.{◌≡◌, ◌^◌, ◌%◌, ◌*◌, ◌+◌, ◌<◌, suc, true, false, sym, ap, ◌∙◌, arith}
 use Rattle.morris_index.specs.Classes.{class_count, classes_below, is_representative}
 use Rattle.std.proofs.Math.Nat.{mod-eq_of_lt}
 use Rattle.std.proofs.Math.Pow.{pow-lt}

@@ -1,7 +1,6 @@
 -- A set with no lesser image is led to itself; one with a lesser image isn't.
-use Rattle.std.proofs.Common.{◌≡◌, ◌<◌, ◌≤◌, ◌^◌, ℕ, true, sym, ap, subst, ◌∙◌, inl, inr, arith}
+use Rattle.std.proofs.Common.{◌≡◌, ◌<◌, ◌≤◌, ◌^◌, ℕ, sym, ap, subst, ◌∙◌, inl, inr, arith}
 use Rattle.std.proofs.lemmas.Bool.{cases_eq}
-use Rattle.morris_board.specs.Sets.{count_of}
 use Rattle.morris_board.specs.Symmetries.{image_of}
 use Rattle.morris_index.specs.Classes.{representative_of, symmetry_of}
 use Rattle.morris_index.proofs.ClassLaws.{image_none, own_symmetry, symmetry_first, test_count, test_from, test_other}

@@ -1,6 +1,5 @@
 -- No image so far has a lesser mask.
-use Rattle.std.proofs.Common.{◌≡◌, ◌<◌, ◌≤◌, ℕ}
-use Rattle.morris_board.specs.Sets.{count_of}
+use Rattle.std.proofs.Common.{◌<◌, ◌≤◌, ℕ}
 use Rattle.morris_board.specs.Symmetries.{image_of}
 use Rattle.morris_index.proofs.class_sizes.is_representative.Given as goal
 
