@@ -34,10 +34,10 @@ use std::time::Clock;
 /// # Errors
 /// [`Fault::Board`] where there is no such board, before anything is read; else the fault of the
 /// file, as `read_table` of `morris_table` has it; else [`Fault::Memory`] where memory is refused,
-/// or [`Fault::TooDeep`] where depths in a pair that the file's rests on go past what a table can
-/// hold, of which those of the file's own pair are none; else [`Fault::Differs`] with the index of the first entry that isn't what the rules give
-/// from the entries of its results. Nothing is then written. Else [`Fault::Write`], with the bytes
-/// that went out, at the first write that fails.
+/// or [`Fault::TooDeep`] where depths in another pair, on which the file's rests, go past what a
+/// table can hold; else [`Fault::Differs`] with the index of the first entry that isn't what the
+/// rules give from the entries of its results. Nothing is then written. Else [`Fault::Write`], with
+/// the bytes that went out, at the first write that fails.
 pub fn verify_in<I: Source, O: Sink>(
     alloc: Global,
     board: &str,

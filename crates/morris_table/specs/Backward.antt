@@ -20,8 +20,8 @@ moves_into board s v n = filter (has_come board s) (map (λ u. move u v None) (r
 unfoldable pub moves_before : Shape → Sides → ℕ → List ℕ → List Move
 moves_before board s n points = flat_map (λ v. moves_into board s v n) points
 
--- The entries from which the quiet move to s from u to v leads to the entry of s, on n points. Full:
--- that of the position before it. Classes: one for each symmetry that carries the move along.
+-- The entries from which the quiet move to s from u to v leads to the entry of s, on n points.
+-- Full: that of the position before it. Classes: one for each symmetry that carries the move along.
 abbrev pub leads_from : Layout → Shape → ℕ → Counts → Sides → ℕ → ℕ → List ℕ
 leads_from Full board n c s u v = index_of n c (taken_back s u v) ∷ []
 leads_from Classes board n c s u v = entries_before board n c s u v

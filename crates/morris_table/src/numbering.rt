@@ -192,8 +192,8 @@ impl<'a, B: Geometry> Predecessors<'a, B> {
         }
     }
 
-    /// Adds the entries from which the quiet move from `from` to `to` led to the position's entry: a
-    /// stone of the opponent stands on `to`, and `from` is vacant.
+    /// Adds the entries from which the quiet move from `from` to `to` led to the position's entry:
+    /// a stone of the opponent stands on `to`, and `from` is vacant.
     ///
     /// # Errors
     /// [`AllocError`] where memory runs out. Then some of the entries may have been added.

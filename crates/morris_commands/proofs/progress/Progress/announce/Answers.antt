@@ -1,4 +1,5 @@
--- How much there is to do is told once that is known, and nothing where it is told no more or again.
+-- How much there is to do is told once that is known, and nothing where it is told no more or
+-- again.
 use Rattle.std.proofs.Common.{refl}
 use Rattle.morris_commands.specs.ProgressLaws.{Becomes-begins, Becomes-stays}
 use Rattle.morris_commands.proofs.progress.Progress.announce.Goals as goal
