@@ -16,7 +16,7 @@ use Rattle.morris_index.specs.ClassPairs.{led, class_half_size, class_half_index
 use Rattle.morris_index.specs.ClassMoves.{class_half_start}
 use Rattle.morris_index.proofs.IndexLaws.{IsPlaced, placed, other_apart, other_rank-lt, rank_outside-same, parts_lt, parts_same, number_outside-count, half_size-few}
 use Rattle.morris_index.proofs.ClassLaws.{symmetry_within, image_none, representative_within, representative_count, representative_twice, representative_symmetry, test_from, class_alone, class_lt}
-use Rattle.morris_index.specs.Numbering.{half_size}
+use Rattle.morris_index.specs.Numbering.{half_size, half_index}
 use Rattle.morris_index.specs.Pairs.{IsHalf}
 use Rattle.std.proofs.Math.Path.{ap₂}
 use Rattle.morris_index.proofs.BinomialTable.{choose_small}
@@ -246,4 +246,38 @@ module _ (board : Shape) (n : ℕ) (few : n ≤ 24) (points : board.points ≡ n
                 let t_own : count_of t.own ≢ c.greater = λ e. b.0 (sym e ∙ b.1) in
                 led_same s t h k (a.1 ∙ sym b.1) (a.2 ∙ sym b.2) (omega (arith, same, index-second s s_own, index-second t t_own))
           ]
+    ]
+
+  -- where the opponent's points are followed beside a representative, the entry is the next one
+  module _ (s t : Sides) (h : IsPosition board s) (k : IsPosition board t) (least : representative_of board s.own ≡ s.own) (own : t.own ≡ s.own)
+      (other : count_of t.other ≡ count_of s.other) (next : half_index n t ≡ half_index n s + 1) where
+    within_n : (u : Sides) → IsPosition board u → (u.own < 2 ^ n) × (u.other < 2 ^ n)
+    within_n u l = (subst (λ m. u.own < 2 ^ m) points l.stones.own_within, subst (λ m. u.other < 2 ^ m) points l.stones.other_within)
+
+    pub next_led : led board t ≡ t
+    next_led = led_itself t.own t.other (within_n t k).0 (within_n t k).1 (rw own least)
+
+    rank_next : rank_of (map (number_outside t.own) (members t.other)) ≡ rank_of (map (number_outside s.own) (members s.other)) + 1
+    unfolding half_index
+    rank_next =
+        let same : rank_of (members t.own) * choose (n - count_of t.own) (count_of t.other) ≡ rank_of (members s.own) * choose (n - count_of s.own) (count_of s.other) =
+        rw (own, other) refl in
+        omega (arith, next, same)
+
+    next_half : class_half_index board n t ≡ class_half_index board n s + 1
+    unfolding class_half_index
+    next_half =
+        let same : class_of board t.own * choose (n - count_of t.own) (count_of t.other) ≡ class_of board s.own * choose (n - count_of s.own) (count_of s.other) =
+        rw (own, other) refl in
+        let itself : led board s ≡ s = led_itself s.own s.other (within_n s h).0 (within_n s h).1 least in
+        let before : rank_of (map (number_outside (led board s).own) (members (led board s).other)) ≡ rank_of (map (number_outside s.own) (members s.other)) =
+        ap (λ u. rank_of (map (number_outside u.own) (members u.other))) itself in
+        let after : rank_of (map (number_outside (led board t).own) (members (led board t).other)) ≡ rank_of (map (number_outside t.own) (members t.other)) =
+        ap (λ u. rank_of (map (number_outside u.own) (members u.other))) next_led in
+        omega (arith, same, before, after, rank_next)
+
+    pub next_entry : (c : Counts) → class_index_of board n c t ≡ class_index_of board n c s + 1
+    next_entry c = elim (cases_eq (count_of s.own) c.greater) [
+      | inl y ↦ omega (arith, next_half, index-first c s y, index-first c t (ap count_of own ∙ y))
+      | inr d ↦ omega (arith, next_half, index-second c s d, index-second c t (λ z. d (sym (ap count_of own) ∙ z)))
     ]

@@ -1,5 +1,5 @@
 //! Pairs of numbers of stones, with their positions numbered by classes.
-ghost use Rattle.std.specs.Prelude.{◌≡◌, ◌≢◌, ◌↔◌, ◌<◌, ◌≤◌, ◌^◌, length, true, IfOk};
+ghost use Rattle.std.specs.Prelude.{◌≡◌, ◌≢◌, ◌↔◌, ◌+◌, ◌<◌, ◌≤◌, ◌^◌, length, true, IfOk};
 ghost use Rattle.std.specs.List.{AllPairs, Contains};
 ghost use Rattle.morris_board.specs.Sets.{count_of};
 ghost use Rattle.morris_board.specs.Positions.{Sides, sides, IsPosition};
@@ -14,6 +14,7 @@ use crate::class_halves::{
 };
 use crate::classes::Classes;
 use crate::falls::FallsOn;
+use crate::halves::next_of_own;
 use crate::pair::Pair;
 use morris_board::board::Geometry;
 use morris_board::points::Points;
@@ -157,6 +158,26 @@ impl<B: Geometry> ClassPair<B> {
             class_half_position(&self.greater, greater, lesser, index)
         } else {
             class_half_position(&self.lesser, lesser, greater, index - first)
+        }
+    }
+
+    /// [`ClassPair::position`], where the position of the entry before is at hand. It is found from
+    /// that one while the player to move stands on the same representative.
+    pub fn following(&self, before: &Position<B>, index: u64) -> Position<B>
+        requires counts { is_of self.now before.now ≡ true }
+        requires own { representative_of B.shape before.now.own ≡ before.now.own }
+        requires before { class_index_of B.shape B.POINTS self.now before.now + 1 ≡ index }
+        requires inside { index < class_size_of B.shape B.POINTS self.now }
+        ensures index { class_index_of B.shape B.POINTS self.now result ≡ index }
+        ensures counts { is_of self.now result ≡ true }
+        ensures lawful { IsPosition B.shape result }
+        ensures led { (s : Sides) → IsPosition B.shape s → is_of self.now s ≡ true → class_index_of B.shape B.POINTS self.now s ≡ index → result ≡ led B.shape s }
+    {
+        // The proof learns the rules of a position where its stones are read.
+        let _ = before.own();
+        match next_of_own(before) {
+            Some(next) => next,
+            None => self.position(index),
         }
     }
 

@@ -113,6 +113,7 @@ impl<B: Geometry> Numbering<B> {
     /// [`Numbering::position`], where the position of the entry before is at hand.
     pub(crate) fn following(&self, before: &Position<B>, index: u64) -> Position<B>
         requires counts { is_of (pair_of self.now) before.now ≡ true }
+        requires own { has_own_entry B.shape (layout_of self.now) before.now ≡ true }
         requires before { entry_index B.shape B.POINTS (layout_of self.now) (pair_of self.now) before.now + 1 ≡ index }
         requires inside { index < entry_count B.shape B.POINTS (layout_of self.now) (pair_of self.now) }
         ensures entry { entry_index B.shape B.POINTS (layout_of self.now) (pair_of self.now) result ≡ index }
@@ -122,7 +123,7 @@ impl<B: Geometry> Numbering<B> {
     {
         match self {
             Numbering::Full(pair) => pair.following(before, index),
-            Numbering::Classes(_) => self.position(index),
+            Numbering::Classes(classes) => classes.following(before, index),
         }
     }
 }

@@ -150,6 +150,7 @@ pub(crate) fn advance<B: Geometry>(
     index: u64,
 )
     requires counts { is_of (pair_of numbering.now) position.old ≡ true }
+    requires own { has_own_entry B.shape (layout_of numbering.now) position.old ≡ true }
     requires before { entry_index B.shape B.POINTS (layout_of numbering.now) (pair_of numbering.now) position.old + 1 ≡ index }
     requires inside { index < entry_count B.shape B.POINTS (layout_of numbering.now) (pair_of numbering.now) }
     requires row { IsRow B.shape B.POINTS row.old }
