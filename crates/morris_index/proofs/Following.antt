@@ -1,8 +1,9 @@
 -- The next set of as many points in the order of ranks.
-use Rattle.std.proofs.Common.{◌≡◌, ℕ, zero, suc, ◌+◌, ◌-◌, ◌^◌, ◌<◌, ◌≤◌, Bool, true, false, not, ◌&&◌, ◌||◌, ltb, eqb, List, [], ◌∷◌, ◌++◌, map, length, refl, sym, ◌∙◌, ap, subst, inl, inr, ◌⊎◌, arith, zero-add}
-use Rattle.std.proofs.lemmas.Bool.{cases_Bool, cases_eq, cases_lt, both_ways, eq-eqb, ne_eqb, lt-ltb, le-ltb, eqb-true}
+use Rattle.std.proofs.Common.{◌≡◌, ℕ, zero, suc, ◌+◌, ◌-◌, ◌^◌, ◌<◌, ◌≤◌, Bool, true, false, not, ◌&&◌, ◌||◌, ltb, eqb, List, [], ◌∷◌, ◌++◌, map, length, filter, get_or, refl, sym, ◌∙◌, ap, subst, inl, inr, ◌⊎◌, arith, zero-add}
+use Rattle.std.proofs.lemmas.Bool.{cases_Bool, cases_eq, cases_lt, both_ways, eq-eqb, ne_eqb, lt-ltb, le-ltb, eqb-true, ltb-true, and_parts}
+use Rattle.std.specs.List.{range_with_len, list_all}
 use Rattle.morris_board.specs.Sets.{has, members, count_of, with_point, set_where}
-use Rattle.morris_board.proofs.PointsLaws.{has-none, has-with, has-above, same_points, has-set_where, set_where-lt}
+use Rattle.morris_board.proofs.PointsLaws.{members_all, has-none, has-with, has-above, same_points, has-set_where, set_where-lt}
 use Rattle.morris_index.specs.Binomials.{choose}
 use Rattle.morris_board.specs.Positions.{Sides, sides}
 use Rattle.morris_index.specs.Numbering.{rank_of, number_outside, half_index, IsRanked}
@@ -320,6 +321,98 @@ module _ (outside set : ℕ) where
       → suc (rank_of (map (number_outside outside) (members set))) ≡ choose (number_outside outside n) (count_of set)
   last-end n low within s =
       ap suc (rank_set n outside low set within) ∙ (s.ranked ∙ ap (choose (number_outside outside n)) (sym (count_of-below set n within low)))
+
+-- ---- the first point past the run that begins with the set's first
+
+filter_first : (f : ℕ → Bool) (a n p : ℕ) (rest : List ℕ) → filter f (range_with_len a n) ≡ p ∷ rest → (k : ℕ) → a ≤ k → k < p → f k ≡ false
+filter_first f a zero p rest e k low high = let long = ap length e in absurd (omega (arith, long))
+filter_first f a (suc n) p rest e k low high = elim (cases_Bool (f a)) [
+  | inl y ↦ let head : a ≡ p = ap (λ (xs : List ℕ). get_or xs 0 0) (rw y at e) in absurd (omega (arith, head))
+  | inr y ↦ elim (cases_eq k a) [
+    | inl same ↦ rw same y
+    | inr d ↦ filter_first f (a + 1) n p rest (rw y at e) k (omega arith) high
+  ]
+]
+
+-- no point of a set is below its first, and one without members has no point
+pub none_before : (s p : ℕ) (rest : List ℕ) → members s ≡ p ∷ rest → (k : ℕ) → k < p → has s k ≡ false
+unfolding members
+none_before s p rest e k h = filter_first (has s) 0 32 p rest e k (omega arith) h
+
+pub none_at_all : (s : ℕ) → members s ≡ [] → (k : ℕ) → k < 32 → has s k ≡ false
+none_at_all s e k h = elim (cases_Bool (has s k)) [
+  | inl y ↦ absurd (both_ways false refl (members_all s (λ (_ : ℕ). false) (ap (list_all (λ (_ : ℕ). false)) e) k h y))
+  | inr y ↦ y
+]
+
+count-zero : (f : ℕ → Bool) (n : ℕ) → ((k : ℕ) → k < n → f k ≡ false) → count_below f n ≡ 0
+count-zero f zero none = count-none f
+count-zero f (suc n) none = count-no f n (none n (omega arith)) ∙ count-zero f n (λ k h. none k (omega arith))
+
+count-some : (f : ℕ → Bool) (p : ℕ) → f p ≡ true → (n : ℕ) → p < n → 0 < count_below f n
+count-some f p y zero h = absurd (omega arith)
+count-some f p y (suc n) h = elim (cases_Bool (f n)) [
+  | inl z ↦ omega (arith, count-yes f n z)
+  | inr z ↦ elim (cases_eq p n) [
+    | inl e ↦ absurd (both_ways (f n) z (rw e at y))
+    | inr d ↦ omega (arith, count-no f n z, count-some f p y n (omega arith))
+  ]
+]
+
+module _ (outside set : ℕ) (apart : (p : ℕ) → has set p ≡ true → has outside p ≡ false) where
+  -- below a point under which each free point lies below the whole set
+  all_last : (k : ℕ) → ((p : ℕ) → p < k → has set p ≡ false → has outside p ≡ false → count_below (has set) p ≡ 0) → IsLast outside set k
+  all_last zero none = last-start outside set
+  all_last (suc k) none =
+      let s : IsLast outside set k = all_last k (λ p h. none p (omega arith)) in
+      elim (cases_Bool (has set k)) [
+        | inl y ↦ last-has outside set k s y (apart k y)
+        | inr y ↦ elim (cases_Bool (has outside k)) [
+          | inl z ↦ last-inside outside set k s y z
+          | inr z ↦ last-free outside set k s y z (none k (omega arith) y z)
+        ]
+      ]
+
+  module _ (points first open_ : ℕ) (here : has set first ≡ true) (before : (k : ℕ) → k < first → has set k ≡ false)
+      (is : (p : ℕ) → has open_ p ≡ (((ltb p points && not (ltb p first)) && not (has set p)) && not (has outside p))) where
+    open_at : (p : ℕ) → p < points → first ≤ p → has set p ≡ false → has outside p ≡ false → has open_ p ≡ true
+    open_at p low high no_ free = is p ∙ rw (lt-ltb p points low, le-ltb p first high, no_, free) refl
+
+    pub last_below : (k : ℕ) → k ≤ points → ((p : ℕ) → p < k → has open_ p ≡ false) → IsLast outside set k
+    last_below k within none = all_last k (λ p h no_ free. elim (cases_lt p first) [
+      | inl l ↦ count-zero (has set) p (λ q low. before q (omega arith))
+      | inr g ↦ absurd (both_ways (has open_ p) (none p h) (open_at p (omega arith) g no_ free))
+    ])
+
+    -- a point of them
+    pub record IsOpen (k : ℕ) : Type 0 where
+      pub inside : k < points
+      pub no_ : has set k ≡ false
+      pub free : has outside k ≡ false
+      pub some : 0 < count_below (has set) k
+
+    pub open_is : (k : ℕ) → has open_ k ≡ true → IsOpen k
+    open_is k h =
+        let a = and_parts _ _ (sym (is k) ∙ h) in
+        let b = and_parts _ _ a.0 in
+        let d = and_parts _ _ b.0 in
+        let no_ : has set k ≡ false = not_true (has set k) b.1 in
+        record {
+          inside = ltb-true k points d.0;
+          no_ = no_;
+          free = not_true (has outside k) a.1;
+          some = count-some (has set) first here k (elim (cases_lt first k) [
+            | inl l ↦ l
+            | inr g ↦ elim (cases_eq first k) [
+              | inl e ↦ absurd (both_ways (has set k) no_ (rw e at here))
+              | inr n ↦ absurd (both_ways (ltb k first) (not_true (ltb k first) d.1) (lt-ltb k first (omega arith)))
+            ]
+          ]);
+        }
+      where
+        not_true : (b : Bool) → not b ≡ true → b ≡ false
+        not_true true h = sym h
+        not_true false h = refl
 
 -- where the other's points are followed, the index grows by one
 pub next_index : (n own other next : ℕ) → IsRanked n own (count_of other) (suc (rank_of (map (number_outside own) (members other)))) next

@@ -88,14 +88,13 @@ pub(crate) fn following(points: u8, outside: Points, set: Points) -> Option<Poin
         (suc (rank_of (map (number_outside outside) (members set))) ≡ choose (number_outside outside points) (count_of set))
         (λ next. IsRanked points outside (count_of set) (suc (rank_of (map (number_outside outside) (members set)))) next) }
 {
-    let mut passed = 0;
-    for point in 0..points {
-        if set.has(point) {
-            passed += 1;
-        } else if !outside.has(point) && passed > 0 {
-            let least = least(point, outside, passed - 1);
-            return Some(set.less(Points::below(point)).with(point).joined(least));
-        }
-    }
-    None
+    let first = set.first()?;
+    // The free points above the set's first one.
+    let free = Points::below(points)
+        .less(Points::below(first))
+        .less(set)
+        .less(outside);
+    let point = free.first()?;
+    let least = least(point, outside, set.count_below(point) - 1);
+    Some(set.less(Points::below(point)).with(point).joined(least))
 }
