@@ -1,5 +1,5 @@
 -- The moves that a move is carried to: the entries from which they lead, symmetry by symmetry.
-use Rattle.std.proofs.Common.{◌≡◌, ◌≢◌, ℕ, zero, suc, ◌+◌, ◌-◌, ◌^◌, ◌<◌, ◌≤◌, Bool, true, false, not, ◌&&◌, ◌||◌, eqb, ltb, List, [], ◌∷◌, ◌++◌, map, filter, slice_index, refl, sym, ◌∙◌, ap, ap₂, subst, inl, inr, arith, append_assoc}
+use Rattle.std.proofs.Common.{◌≡◌, ◌≢◌, ℕ, zero, suc, ◌+◌, ◌-◌, ◌^◌, ◌<◌, ◌≤◌, Bool, true, false, not, ◌&&◌, ◌||◌, eqb, ltb, List, [], ◌∷◌, ◌++◌, map, filter, refl, sym, ◌∙◌, ap, ap₂, subst, inl, inr, arith, append_assoc}
 use Rattle.std.specs.List.{range_with_len, list_all}
 use Rattle.std.proofs.lemmas.Bool.{cases_Bool, cases_eq, cases_lt, eq-eqb, ne_eqb, lt-ltb, le-ltb, ltb-true, and_parts, and_from, and_right}
 use Rattle.std.proofs.lemmas.List.{map-append}
@@ -168,7 +168,7 @@ module _ (board : Shape) (n : ℕ) (few : n ≤ 24) (points : board.points ≡ n
 
   -- ---- the position before a quiet move
 
-  module _ (q : InPair) (images : List ℕ) (returning : ℕ) (k : IsCarriedBack board q images returning) (u v : ℕ) (u_in : u < n)
+  module _ (q : InPair) (returning : ℕ) (k : IsCarriedBack board q returning) (u v : ℕ) (u_in : u < n)
       (vacant : not (has q.position.own u || has q.position.other u) ≡ true) (here : has q.position.other v ≡ true) where
     abbrev s : Sides
     s = q.position
@@ -219,20 +219,17 @@ module _ (board : Shape) (n : ℕ) (few : n ≤ 24) (points : board.points ≡ n
         leading_too : is_leading board before.own t ≡ true
         leading_too = (and_parts _ _ both.1).0
 
-        image_is : slice_index images t ≡ image_of (board.image t) s.own
-        image_is = k.image_at t carrying_low
+        pub image_24 : image_of (board.image t) s.own < 2 ^ 24
+        image_24 = within_24 _ n (carried_placed before before_here t carrying_low leading_too).other_within few
 
-        pub image_24 : slice_index images t < 2 ^ 24
-        image_24 = rw image_is (within_24 _ n (carried_placed before before_here t carrying_low leading_too).other_within few)
-
-        pub image_few : count_of (slice_index images t) ≤ 9
-        image_few = rw image_is (omega (arith, other_same before before_here t carrying_low leading_too, own_most))
+        pub image_few : count_of (image_of (board.image t) s.own) ≤ 9
+        image_few = omega (arith, other_same before before_here t carrying_low leading_too, own_most)
 
         abbrev pub entry_rank : ℕ
-        entry_rank = rank_of (map (number_outside (representative_of board before.own)) (members (slice_index images t)))
+        entry_rank = rank_of (map (number_outside (representative_of board before.own)) (members (image_of (board.image t) s.own)))
 
         pub entry_few : entry_rank ≤ 1307504
-        entry_few = rw image_is (carried_few before before_here t carrying_low leading_too own_most)
+        entry_few = carried_few before before_here t carrying_low leading_too own_most
 
         pub entry_is : class_start_of board n q.pair before.own (count_of s.own) + entry_rank ≡ class_index_of board n q.pair (image_sides (board.image t) before)
-        entry_is = rw image_is (carried_entry before before_here t carrying_low leading_too q.pair)
+        entry_is = carried_entry before before_here t carrying_low leading_too q.pair

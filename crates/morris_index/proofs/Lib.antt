@@ -17,6 +17,7 @@ pub mod KeepLaws
 pub mod ClassPairLaws
 pub mod ClassMoveLaws
 mod CarriedLaws
+pub mod ReturningLaws
 pub mod ClassCounts
 pub mod FallLaws
 mod StepLaws

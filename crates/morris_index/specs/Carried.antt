@@ -1,13 +1,13 @@
 -- The entries of the positions before a position, where the positions of a pair are numbered by
 -- classes. Only a position with the player to move on a representative has an entry of its own, so
 -- the position before a move is carried to such a one, and the move with it.
-use Rattle.std.specs.Prelude.{◌≡◌, ◌≢◌, ℕ, ◌<◌, ◌↔◌, Bool, true, not, ◌&&◌, ◌||◌, nat_eq, nat_lt, List, ◌++◌, map, filter, length, slice_index}
+use Rattle.std.specs.Prelude.{◌≡◌, ◌≢◌, ℕ, ◌<◌, ◌^◌, ◌↔◌, Bool, true, not, ◌&&◌, ◌||◌, nat_eq, nat_lt, List, ◌++◌, map, filter, length, slice_index}
 use Rattle.std.specs.List.{range_with_len, AllPairs, Contains}
 use Rattle.morris_board.specs.Boards.{Shape}
-use Rattle.morris_board.specs.Sets.{has}
+use Rattle.morris_board.specs.Sets.{has, count_of}
 use Rattle.morris_board.specs.Positions.{Sides, IsPosition}
 use Rattle.morris_board.specs.Symmetries.{image_of, image_sides, inverse_of}
-use Rattle.morris_index.specs.Classes.{is_leading, symmetry_of, representative_of}
+use Rattle.morris_index.specs.Classes.{is_leading, symmetry_of, representative_of, class_of}
 use Rattle.morris_index.specs.ClassPairs.{led, class_index_of}
 use Rattle.morris_index.specs.Moves.{InPair, taken_back, moved_on}
 use Rattle.morris_index.specs.Pairs.{Counts, is_of}
@@ -62,12 +62,22 @@ entries_before board n c p u v =
     map (λ s. class_index_of board n c (image_sides (board.image s) (taken_back p u v)))
     (filter (carries board p (taken_back p u v).own) (range_with_len 0 board.symmetries))
 
--- What is kept of a position for the entries of those before it: the images of the stones of the
--- player to move under each symmetry, and the symmetries whose inverse leads such an image.
-pub record IsCarriedBack (board : Shape) (q : InPair) (images : List ℕ) (returning : ℕ) : Type 0 where
+-- x has the symmetries whose inverse is the one that leads the image of a set under them, and no
+-- other numbers
+abbrev pub AreReturning : Shape → ℕ → ℕ → Type 0
+AreReturning board set x = (s : ℕ)
+    → has x s ≡ (nat_lt s board.symmetries && nat_eq (symmetry_of board (image_of (board.image s) set)) (inverse_of s))
+
+-- What is kept of the classes of sets of `count` points, on n points, that are numbered below `to`:
+-- for each, those symmetries of its representative.
+pub record IsReturningKept (board : Shape) (n count to : ℕ) (returning : List ℕ) : Type 0 where
+  pub len : length returning ≡ to
+  pub each : (set : ℕ) → set < 2 ^ n → count_of set ≡ count → representative_of board set ≡ set → class_of board set < to
+      → AreReturning board set (slice_index returning (class_of board set))
+
+-- What is kept of a position for the entries of those before it: the symmetries whose inverse leads
+-- the image of the stones of the player to move.
+pub record IsCarriedBack (board : Shape) (q : InPair) (returning : ℕ) : Type 0 where
   pub counts : is_of q.pair q.position ≡ true
   pub lawful : IsPosition board q.position
-  pub images_len : length images ≡ 16
-  pub image_at : (s : ℕ) → s < board.symmetries → slice_index images s ≡ image_of (board.image s) q.position.own
-  pub returns : (s : ℕ)
-      → has returning s ≡ (nat_lt s board.symmetries && nat_eq (symmetry_of board (image_of (board.image s) q.position.own)) (inverse_of s))
+  pub returns : AreReturning board q.position.own returning

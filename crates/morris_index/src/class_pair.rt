@@ -8,6 +8,7 @@ ghost use Rattle.morris_index.specs.Classes.{symmetry_of, representative_of, Are
 ghost use Rattle.morris_index.specs.ClassPairs.{led, class_size_of, class_index_of};
 ghost use Rattle.morris_index.specs.ClassMoves.{class_start_of};
 ghost use Rattle.morris_index.specs.Falls.{HasEntry};
+ghost use Rattle.morris_index.specs.Carried.{AreReturning};
 
 use crate::class_halves::{
     class_half_index, class_half_leads, class_half_position, class_half_size, class_half_start,
@@ -16,6 +17,7 @@ use crate::classes::Classes;
 use crate::falls::FallsOn;
 use crate::halves::next_of_own;
 use crate::pair::Pair;
+use crate::returning::{keep_returning, returning_of};
 use morris_board::board::Geometry;
 use morris_board::points::Points;
 use morris_board::position::Position;
@@ -29,17 +31,26 @@ pub struct ClassPair<B: Geometry> {
     pair: Pair<B>,
     greater: Classes<B>,
     lesser: Classes<B>,
+    /// For each class of the greater number, the symmetries that return from its representative:
+    /// their inverse is the one that leads the image under them.
+    greater_returning: Vec<u32>,
+    /// The same for each class of the lesser number.
+    lesser_returning: Vec<u32>,
 }
 
 impl<B: Geometry> Model for ClassPair<B> {
     ghost use Rattle.std.specs.Prelude.{◌≡◌};
     ghost use Rattle.morris_index.specs.Pairs.{Counts};
+    ghost use Rattle.morris_index.specs.Classes.{class_count};
+    ghost use Rattle.morris_index.specs.Carried.{IsReturningKept};
 
     ghost Value = { Counts };
 
     ghost view = { λ pair. pair.pair };
 
-    ghost invariant = { λ pair. (pair.greater ≡ pair.pair.greater) × (pair.lesser ≡ pair.pair.lesser) };
+    ghost invariant = { λ pair. (pair.greater ≡ pair.pair.greater) × (pair.lesser ≡ pair.pair.lesser)
+        × IsReturningKept B.shape B.POINTS pair.pair.greater (class_count B.shape pair.pair.greater) pair.greater_returning.items
+        × IsReturningKept B.shape B.POINTS pair.pair.lesser (class_count B.shape pair.pair.lesser) pair.lesser_returning.items };
 }
 
 impl<B: Geometry> ClassPair<B> {
@@ -50,10 +61,16 @@ impl<B: Geometry> ClassPair<B> {
     pub fn make(alloc: Global, pair: Pair<B>) -> Result<ClassPair<B>, AllocError>
         ensures { IfOk result (λ made. made ≡ pair) }
     {
+        let greater = Classes::make(alloc, pair.greater())?;
+        let lesser = Classes::make(alloc, pair.lesser())?;
+        let greater_returning = keep_returning(alloc, &greater)?;
+        let lesser_returning = keep_returning(alloc, &lesser)?;
         Ok(ClassPair {
             pair,
-            greater: Classes::make(alloc, pair.greater())?,
-            lesser: Classes::make(alloc, pair.lesser())?,
+            greater,
+            lesser,
+            greater_returning,
+            lesser_returning,
         })
     }
 
@@ -140,6 +157,19 @@ impl<B: Geometry> ClassPair<B> {
                 other.count(),
             );
             (first + start, representative, symmetries)
+        }
+    }
+
+    /// The symmetries whose inverse is the one that leads the image of `own` under them.
+    pub(crate) fn returning_of(&self, own: Points, other: Points) -> Points
+        requires within { own < 2 ^ B.POINTS }
+        requires counts { is_of self.now (sides own other) ≡ true }
+        ensures { AreReturning B.shape own result }
+    {
+        if own.count() == self.pair.greater() {
+            returning_of(&self.greater, &self.greater_returning, own)
+        } else {
+            returning_of(&self.lesser, &self.lesser_returning, own)
         }
     }
 

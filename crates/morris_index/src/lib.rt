@@ -14,6 +14,7 @@ pub mod pair;
 pub mod predecessor_entries;
 pub mod predecessors;
 mod ranks;
+mod returning;
 pub mod successor_entries;
 pub mod successors;
 mod sums;

@@ -21,9 +21,8 @@ pub struct PredecessorEntries<'a, B: Geometry> {
     pair: &'a ClassPair<B>,
     /// The position.
     position: Position<B>,
-    /// The images of the stones of the player to move under each symmetry.
-    images: [Points; 16],
-    /// The symmetries whose inverse is the one that leads the image under them.
+    /// The symmetries whose inverse is the one that leads the image of the stones of the player to
+    /// move under them.
     returning: Points,
 }
 
@@ -35,7 +34,7 @@ impl<'a, B: Geometry> Model for PredecessorEntries<'a, B> {
 
     ghost view = { λ entries. in_pair entries.pair.now entries.position };
 
-    ghost invariant = { λ entries. IsCarriedBack B.shape (in_pair entries.pair.now entries.position) entries.images entries.returning };
+    ghost invariant = { λ entries. IsCarriedBack B.shape (in_pair entries.pair.now entries.position) entries.returning };
 }
 
 impl<'a, B: Geometry> PredecessorEntries<'a, B> {
@@ -44,20 +43,10 @@ impl<'a, B: Geometry> PredecessorEntries<'a, B> {
         requires { is_of pair.now position.now ≡ true }
         ensures { result ≡ in_pair pair.now position.now }
     {
-        let own = position.own();
-        let mut images = [Points::EMPTY; 16];
-        let mut returning = Points::EMPTY;
-        for symmetry in 0..B::SYMMETRIES {
-            let image = B::image_of(symmetry, own);
-            images[symmetry as usize] = image;
-            if pair.start_of(image, position.other()).1 == B::inverse(symmetry) {
-                returning = returning.with(symmetry);
-            }
-        }
+        let returning = pair.returning_of(position.own(), position.other());
         PredecessorEntries {
             pair,
             position: *position,
-            images,
             returning,
         }
     }
@@ -82,9 +71,8 @@ impl<'a, B: Geometry> PredecessorEntries<'a, B> {
         let mover = self.position.other().without(to).with(from);
         let (start, representative, leading) = self.pair.leads_of(mover, own);
         let carrying = leading.common(self.returning);
-        let images = &self.images;
         for symmetry in carrying.iter() {
-            let image = images[symmetry as usize];
+            let image = B::image_of(symmetry, own);
             out.push(start + rank(image, representative))?;
         }
         Ok(())

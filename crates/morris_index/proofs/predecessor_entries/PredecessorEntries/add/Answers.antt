@@ -1,9 +1,8 @@
 -- Each symmetry that carries the move gives one entry.
-use Rattle.std.proofs.Common.{◌≡◌, ◌||◌, ◌+◌, ◌++◌, not, true, map, refl, slice_index, slice_index_or, sym, ap, subst, ◌∙◌, arith}
-use Rattle.std.proofs.lemmas.Grind.{get_or_default_zero}
+use Rattle.std.proofs.Common.{◌≡◌, ◌||◌, ◌+◌, ◌++◌, not, true, map, refl, sym, ap, subst, ◌∙◌, arith}
 use Rattle.std.proofs.lemmas.List.{append-nil}
 use Rattle.morris_board.specs.Sets.{has, members, with_point, without_point}
-use Rattle.morris_board.specs.Symmetries.{image_sides}
+use Rattle.morris_board.specs.Symmetries.{image_of, image_sides}
 use Rattle.morris_index.specs.Classes.{AreLeading}
 use Rattle.morris_index.specs.ClassPairs.{class_index_of}
 use Rattle.morris_index.specs.Moves.{InPair, in_pair, taken_back}
@@ -27,7 +26,7 @@ leads_of-start-requires-clause-within g c =
     ap (λ (q : InPair). not (has q.position.own c.args.from || has q.position.other c.args.from)) c.self.view_is ∙ c.requires.vacant in
     let mover : c.with-mover.result ≡ (taken_back c.self.inside.position c.args.from c.args.to).own =
     c.with-mover.ensures ∙ ap (λ x. with_point x c.args.from) (c.without.ensures ∙ ap (λ x. without_point x c.args.to) c.other.ensures.points) in
-    rw mover (before_here g.B.Geometry.shape g.B.Geometry.POINTS (omega (arith, g.met.B.Geometry.few)) g.met.B.Geometry.point_count g.met.B.Geometry.has_symmetries (in_pair c.self.inside.pair.now c.self.inside.position) c.self.inside.images c.self.inside.returning c.self.invariant c.args.from c.args.to c.requires.start vacant end).own_within
+    rw mover (before_here g.B.Geometry.shape g.B.Geometry.POINTS (omega (arith, g.met.B.Geometry.few)) g.met.B.Geometry.point_count g.met.B.Geometry.has_symmetries (in_pair c.self.inside.pair.now c.self.inside.position) c.self.inside.returning c.self.invariant c.args.from c.args.to c.requires.start vacant end).own_within
 
 pub leads_of-start-requires-clause-counts : goal.leads_of-start-requires-clause-counts
 leads_of-start-requires-clause-counts g c =
@@ -36,13 +35,13 @@ leads_of-start-requires-clause-counts g c =
     ap (λ (q : InPair). not (has q.position.own c.args.from || has q.position.other c.args.from)) c.self.view_is ∙ c.requires.vacant in
     let mover : c.with-mover.result ≡ (taken_back c.self.inside.position c.args.from c.args.to).own =
     c.with-mover.ensures ∙ ap (λ x. with_point x c.args.from) (c.without.ensures ∙ ap (λ x. without_point x c.args.to) c.other.ensures.points) in
-    rw (mover, c.own-own.ensures.points) (before_of g.B.Geometry.shape g.B.Geometry.POINTS (omega (arith, g.met.B.Geometry.few)) g.met.B.Geometry.point_count g.met.B.Geometry.has_symmetries (in_pair c.self.inside.pair.now c.self.inside.position) c.self.inside.images c.self.inside.returning c.self.invariant c.args.from c.args.to c.requires.start vacant end)
+    rw (mover, c.own-own.ensures.points) (before_of g.B.Geometry.shape g.B.Geometry.POINTS (omega (arith, g.met.B.Geometry.few)) g.met.B.Geometry.point_count g.met.B.Geometry.has_symmetries (in_pair c.self.inside.pair.now c.self.inside.position) c.self.inside.returning c.self.invariant c.args.from c.args.to c.requires.start vacant end)
 
 pub loop-symmetry-init : goal.loop-symmetry-init
 loop-symmetry-init g c = record { split = refl; added = sym (append-nil _) }
 
-pub listed : goal.listed
-listed g c =
+pub image_of-image-requires-clause-symmetry : goal.image_of-image-requires-clause-symmetry
+image_of-image-requires-clause-symmetry g c =
     let end : has c.self.inside.position.other c.args.to ≡ true = ap (λ (q : InPair). has q.position.other c.args.to) c.self.view_is ∙ c.requires.end in
     let vacant : not (has c.self.inside.position.own c.args.from || has c.self.inside.position.other c.args.from) ≡ true =
     ap (λ (q : InPair). not (has q.position.own c.args.from || has q.position.other c.args.from)) c.self.view_is ∙ c.requires.vacant in
@@ -52,20 +51,7 @@ listed g c =
     let items : c.into_iter-symmetry-iterator.result ≡ c.common-carrying.result = c.into_iter-symmetry-iterator.ensures.into_iter_gives ∙ c.iter-symmetry-items.ensures.points in
     let inside : has c.common-carrying.result c.in-Some.symmetry ≡ true =
     member_has c.common-carrying.result c.in-Some.symmetry c.loop-symmetry.yielded _ _ (c.loop-symmetry.invariant.split ∙ ap members items) c.in-Some.ensures.steps in
-    omega (arith, carrying_low g.B.Geometry.shape g.B.Geometry.POINTS (omega (arith, g.met.B.Geometry.few)) g.met.B.Geometry.point_count g.met.B.Geometry.has_symmetries (in_pair c.self.inside.pair.now c.self.inside.position) c.self.inside.images c.self.inside.returning c.self.invariant c.args.from c.args.to c.requires.start vacant end c.leads_of-start.result.2 c.common-carrying.result leads c.common-carrying.ensures c.in-Some.symmetry inside, g.met.B.Geometry.symmetry_count, g.met.B.Geometry.few_symmetries, c.self.invariant.images_len)
-
-pub bounds-images-symmetry : goal.bounds-images-symmetry
-bounds-images-symmetry g c =
-    let end : has c.self.inside.position.other c.args.to ≡ true = ap (λ (q : InPair). has q.position.other c.args.to) c.self.view_is ∙ c.requires.end in
-    let vacant : not (has c.self.inside.position.own c.args.from || has c.self.inside.position.other c.args.from) ≡ true =
-    ap (λ (q : InPair). not (has q.position.own c.args.from || has q.position.other c.args.from)) c.self.view_is ∙ c.requires.vacant in
-    let mover : c.with-mover.result ≡ (taken_back c.self.inside.position c.args.from c.args.to).own =
-    c.with-mover.ensures ∙ ap (λ x. with_point x c.args.from) (c.without.ensures ∙ ap (λ x. without_point x c.args.to) c.other.ensures.points) in
-    let leads : AreLeading g.B.Geometry.shape (taken_back c.self.inside.position c.args.from c.args.to).own c.leads_of-start.result.2 = rw mover at c.leads_of-start.ensures.symmetries in
-    let items : c.into_iter-symmetry-iterator.result ≡ c.common-carrying.result = c.into_iter-symmetry-iterator.ensures.into_iter_gives ∙ c.iter-symmetry-items.ensures.points in
-    let inside : has c.common-carrying.result c.in-Some.symmetry ≡ true =
-    member_has c.common-carrying.result c.in-Some.symmetry c.loop-symmetry.yielded _ _ (c.loop-symmetry.invariant.split ∙ ap members items) c.in-Some.ensures.steps in
-    omega (arith, carrying_low g.B.Geometry.shape g.B.Geometry.POINTS (omega (arith, g.met.B.Geometry.few)) g.met.B.Geometry.point_count g.met.B.Geometry.has_symmetries (in_pair c.self.inside.pair.now c.self.inside.position) c.self.inside.images c.self.inside.returning c.self.invariant c.args.from c.args.to c.requires.start vacant end c.leads_of-start.result.2 c.common-carrying.result leads c.common-carrying.ensures c.in-Some.symmetry inside, g.met.B.Geometry.symmetry_count, g.met.B.Geometry.few_symmetries)
+    omega (arith, carrying_low g.B.Geometry.shape g.B.Geometry.POINTS (omega (arith, g.met.B.Geometry.few)) g.met.B.Geometry.point_count g.met.B.Geometry.has_symmetries (in_pair c.self.inside.pair.now c.self.inside.position) c.self.inside.returning c.self.invariant c.args.from c.args.to c.requires.start vacant end c.leads_of-start.result.2 c.common-carrying.result leads c.common-carrying.ensures c.in-Some.symmetry inside, g.met.B.Geometry.symmetry_count, g.met.B.Geometry.few_symmetries)
 
 pub rank-requires-clause-board : goal.rank-requires-clause-board
 rank-requires-clause-board g c =
@@ -78,9 +64,9 @@ rank-requires-clause-board g c =
     let items : c.into_iter-symmetry-iterator.result ≡ c.common-carrying.result = c.into_iter-symmetry-iterator.ensures.into_iter_gives ∙ c.iter-symmetry-items.ensures.points in
     let inside : has c.common-carrying.result c.in-Some.symmetry ≡ true =
     member_has c.common-carrying.result c.in-Some.symmetry c.loop-symmetry.yielded _ _ (c.loop-symmetry.invariant.split ∙ ap members items) c.in-Some.ensures.steps in
-    let at : slice_index_or c.self.inside.images c.in-Some.symmetry c.index-images-symmetry.result ≡ slice_index c.self.inside.images c.in-Some.symmetry =
-    get_or_default_zero c.self.inside.images c.in-Some.symmetry _ (omega (arith, carrying_low g.B.Geometry.shape g.B.Geometry.POINTS (omega (arith, g.met.B.Geometry.few)) g.met.B.Geometry.point_count g.met.B.Geometry.has_symmetries (in_pair c.self.inside.pair.now c.self.inside.position) c.self.inside.images c.self.inside.returning c.self.invariant c.args.from c.args.to c.requires.start vacant end c.leads_of-start.result.2 c.common-carrying.result leads c.common-carrying.ensures c.in-Some.symmetry inside, g.met.B.Geometry.symmetry_count, g.met.B.Geometry.few_symmetries, c.self.invariant.images_len)) in
-    rw at (image_24 g.B.Geometry.shape g.B.Geometry.POINTS (omega (arith, g.met.B.Geometry.few)) g.met.B.Geometry.point_count g.met.B.Geometry.has_symmetries (in_pair c.self.inside.pair.now c.self.inside.position) c.self.inside.images c.self.inside.returning c.self.invariant c.args.from c.args.to c.requires.start vacant end c.leads_of-start.result.2 c.common-carrying.result leads c.common-carrying.ensures c.in-Some.symmetry inside)
+    let at : c.image_of-image.result ≡ image_of (g.B.Geometry.shape.image c.in-Some.symmetry) c.self.inside.position.own =
+    c.image_of-image.ensures ∙ ap (image_of (g.B.Geometry.shape.image c.in-Some.symmetry)) c.own-own.ensures.points in
+    rw at (image_24 g.B.Geometry.shape g.B.Geometry.POINTS (omega (arith, g.met.B.Geometry.few)) g.met.B.Geometry.point_count g.met.B.Geometry.has_symmetries (in_pair c.self.inside.pair.now c.self.inside.position) c.self.inside.returning c.self.invariant c.args.from c.args.to c.requires.start vacant end c.leads_of-start.result.2 c.common-carrying.result leads c.common-carrying.ensures c.in-Some.symmetry inside)
 
 pub rank-requires-clause-few : goal.rank-requires-clause-few
 rank-requires-clause-few g c =
@@ -93,9 +79,9 @@ rank-requires-clause-few g c =
     let items : c.into_iter-symmetry-iterator.result ≡ c.common-carrying.result = c.into_iter-symmetry-iterator.ensures.into_iter_gives ∙ c.iter-symmetry-items.ensures.points in
     let inside : has c.common-carrying.result c.in-Some.symmetry ≡ true =
     member_has c.common-carrying.result c.in-Some.symmetry c.loop-symmetry.yielded _ _ (c.loop-symmetry.invariant.split ∙ ap members items) c.in-Some.ensures.steps in
-    let at : slice_index_or c.self.inside.images c.in-Some.symmetry c.index-images-symmetry.result ≡ slice_index c.self.inside.images c.in-Some.symmetry =
-    get_or_default_zero c.self.inside.images c.in-Some.symmetry _ (omega (arith, carrying_low g.B.Geometry.shape g.B.Geometry.POINTS (omega (arith, g.met.B.Geometry.few)) g.met.B.Geometry.point_count g.met.B.Geometry.has_symmetries (in_pair c.self.inside.pair.now c.self.inside.position) c.self.inside.images c.self.inside.returning c.self.invariant c.args.from c.args.to c.requires.start vacant end c.leads_of-start.result.2 c.common-carrying.result leads c.common-carrying.ensures c.in-Some.symmetry inside, g.met.B.Geometry.symmetry_count, g.met.B.Geometry.few_symmetries, c.self.invariant.images_len)) in
-    rw at (image_few g.B.Geometry.shape g.B.Geometry.POINTS (omega (arith, g.met.B.Geometry.few)) g.met.B.Geometry.point_count g.met.B.Geometry.has_symmetries (in_pair c.self.inside.pair.now c.self.inside.position) c.self.inside.images c.self.inside.returning c.self.invariant c.args.from c.args.to c.requires.start vacant end c.leads_of-start.result.2 c.common-carrying.result leads c.common-carrying.ensures c.in-Some.symmetry inside)
+    let at : c.image_of-image.result ≡ image_of (g.B.Geometry.shape.image c.in-Some.symmetry) c.self.inside.position.own =
+    c.image_of-image.ensures ∙ ap (image_of (g.B.Geometry.shape.image c.in-Some.symmetry)) c.own-own.ensures.points in
+    rw at (image_few g.B.Geometry.shape g.B.Geometry.POINTS (omega (arith, g.met.B.Geometry.few)) g.met.B.Geometry.point_count g.met.B.Geometry.has_symmetries (in_pair c.self.inside.pair.now c.self.inside.position) c.self.inside.returning c.self.invariant c.args.from c.args.to c.requires.start vacant end c.leads_of-start.result.2 c.common-carrying.result leads c.common-carrying.ensures c.in-Some.symmetry inside)
 
 pub overflow_add-start : goal.overflow_add-start
 overflow_add-start g c =
@@ -108,10 +94,10 @@ overflow_add-start g c =
     let items : c.into_iter-symmetry-iterator.result ≡ c.common-carrying.result = c.into_iter-symmetry-iterator.ensures.into_iter_gives ∙ c.iter-symmetry-items.ensures.points in
     let inside : has c.common-carrying.result c.in-Some.symmetry ≡ true =
     member_has c.common-carrying.result c.in-Some.symmetry c.loop-symmetry.yielded _ _ (c.loop-symmetry.invariant.split ∙ ap members items) c.in-Some.ensures.steps in
-    let at : slice_index_or c.self.inside.images c.in-Some.symmetry c.index-images-symmetry.result ≡ slice_index c.self.inside.images c.in-Some.symmetry =
-    get_or_default_zero c.self.inside.images c.in-Some.symmetry _ (omega (arith, carrying_low g.B.Geometry.shape g.B.Geometry.POINTS (omega (arith, g.met.B.Geometry.few)) g.met.B.Geometry.point_count g.met.B.Geometry.has_symmetries (in_pair c.self.inside.pair.now c.self.inside.position) c.self.inside.images c.self.inside.returning c.self.invariant c.args.from c.args.to c.requires.start vacant end c.leads_of-start.result.2 c.common-carrying.result leads c.common-carrying.ensures c.in-Some.symmetry inside, g.met.B.Geometry.symmetry_count, g.met.B.Geometry.few_symmetries, c.self.invariant.images_len)) in
+    let at : c.image_of-image.result ≡ image_of (g.B.Geometry.shape.image c.in-Some.symmetry) c.self.inside.position.own =
+    c.image_of-image.ensures ∙ ap (image_of (g.B.Geometry.shape.image c.in-Some.symmetry)) c.own-own.ensures.points in
     rw (c.rank.ensures, at, c.leads_of-start.ensures.representative, mover)
-    (omega (arith, c.leads_of-start.ensures.few, entry_few g.B.Geometry.shape g.B.Geometry.POINTS (omega (arith, g.met.B.Geometry.few)) g.met.B.Geometry.point_count g.met.B.Geometry.has_symmetries (in_pair c.self.inside.pair.now c.self.inside.position) c.self.inside.images c.self.inside.returning c.self.invariant c.args.from c.args.to c.requires.start vacant end c.leads_of-start.result.2 c.common-carrying.result leads c.common-carrying.ensures c.in-Some.symmetry inside))
+    (omega (arith, c.leads_of-start.ensures.few, entry_few g.B.Geometry.shape g.B.Geometry.POINTS (omega (arith, g.met.B.Geometry.few)) g.met.B.Geometry.point_count g.met.B.Geometry.has_symmetries (in_pair c.self.inside.pair.now c.self.inside.position) c.self.inside.returning c.self.invariant c.args.from c.args.to c.requires.start vacant end c.leads_of-start.result.2 c.common-carrying.result leads c.common-carrying.ensures c.in-Some.symmetry inside))
 
 pub loop-symmetry-preserved : goal.loop-symmetry-preserved
 loop-symmetry-preserved g c =
@@ -124,11 +110,11 @@ loop-symmetry-preserved g c =
     let items : c.into_iter-symmetry-iterator.result ≡ c.common-carrying.result = c.into_iter-symmetry-iterator.ensures.into_iter_gives ∙ c.iter-symmetry-items.ensures.points in
     let inside : has c.common-carrying.result c.in-Some.symmetry ≡ true =
     member_has c.common-carrying.result c.in-Some.symmetry c.loop-symmetry.yielded _ _ (c.loop-symmetry.invariant.split ∙ ap members items) c.in-Some.ensures.steps in
-    let at : slice_index_or c.self.inside.images c.in-Some.symmetry c.index-images-symmetry.result ≡ slice_index c.self.inside.images c.in-Some.symmetry =
-    get_or_default_zero c.self.inside.images c.in-Some.symmetry _ (omega (arith, carrying_low g.B.Geometry.shape g.B.Geometry.POINTS (omega (arith, g.met.B.Geometry.few)) g.met.B.Geometry.point_count g.met.B.Geometry.has_symmetries (in_pair c.self.inside.pair.now c.self.inside.position) c.self.inside.images c.self.inside.returning c.self.invariant c.args.from c.args.to c.requires.start vacant end c.leads_of-start.result.2 c.common-carrying.result leads c.common-carrying.ensures c.in-Some.symmetry inside, g.met.B.Geometry.symmetry_count, g.met.B.Geometry.few_symmetries, c.self.invariant.images_len)) in
+    let at : c.image_of-image.result ≡ image_of (g.B.Geometry.shape.image c.in-Some.symmetry) c.self.inside.position.own =
+    c.image_of-image.ensures ∙ ap (image_of (g.B.Geometry.shape.image c.in-Some.symmetry)) c.own-own.ensures.points in
     let entry : c.leads_of-start.result.0 + c.rank.result ≡ class_index_of g.B.Geometry.shape g.B.Geometry.POINTS c.self.inside.pair.now (image_sides (g.B.Geometry.shape.image c.in-Some.symmetry) (taken_back c.self.inside.position c.args.from c.args.to)) =
     rw (c.rank.ensures, at, c.leads_of-start.ensures.start, c.leads_of-start.ensures.representative, c.own-own.ensures.points, mover)
-    (entry_is g.B.Geometry.shape g.B.Geometry.POINTS (omega (arith, g.met.B.Geometry.few)) g.met.B.Geometry.point_count g.met.B.Geometry.has_symmetries (in_pair c.self.inside.pair.now c.self.inside.position) c.self.inside.images c.self.inside.returning c.self.invariant c.args.from c.args.to c.requires.start vacant end c.leads_of-start.result.2 c.common-carrying.result leads c.common-carrying.ensures c.in-Some.symmetry inside) in
+    (entry_is g.B.Geometry.shape g.B.Geometry.POINTS (omega (arith, g.met.B.Geometry.few)) g.met.B.Geometry.point_count g.met.B.Geometry.has_symmetries (in_pair c.self.inside.pair.now c.self.inside.position) c.self.inside.returning c.self.invariant c.args.from c.args.to c.requires.start vacant end c.leads_of-start.result.2 c.common-carrying.result leads c.common-carrying.ensures c.in-Some.symmetry inside) in
     record {
       split = split_after c.loop-symmetry.yielded _ c.in-Some.symmetry _ _ c.in-Some.ensures.steps c.loop-symmetry.invariant.split;
       added = c.in_ok-push.ensures.items ∙ pushed _ c.args.out.now.items c.loop-symmetry.yielded c.loop-symmetry.out.items c.in-Some.symmetry _ c.loop-symmetry.invariant.added
@@ -149,7 +135,7 @@ returns-clause-carried g c =
     sym (append-nil c.loop-symmetry.yielded) ∙ ap (λ t. c.loop-symmetry.yielded ++ t) (sym c.in-None.ensures.steps.0) ∙ c.loop-symmetry.invariant.split ∙ ap members items in
     rw (← c.self.view_is) (rw (← c.self.view_is) at c.loop-symmetry.invariant.added
     ∙ ap (λ ts. c.args.out.now.items ++ map (λ s. class_index_of g.B.Geometry.shape g.B.Geometry.POINTS c.self.inside.pair.now (image_sides (g.B.Geometry.shape.image s) (taken_back c.self.inside.position c.args.from c.args.to))) ts)
-    (all ∙ members_are g.B.Geometry.shape g.B.Geometry.POINTS (omega (arith, g.met.B.Geometry.few)) g.met.B.Geometry.point_count g.met.B.Geometry.has_symmetries (in_pair c.self.inside.pair.now c.self.inside.position) c.self.inside.images c.self.inside.returning c.self.invariant c.args.from c.args.to c.requires.start vacant end c.leads_of-start.result.2 c.common-carrying.result leads c.common-carrying.ensures (omega (arith, g.met.B.Geometry.symmetry_count, g.met.B.Geometry.few_symmetries))))
+    (all ∙ members_are g.B.Geometry.shape g.B.Geometry.POINTS (omega (arith, g.met.B.Geometry.few)) g.met.B.Geometry.point_count g.met.B.Geometry.has_symmetries (in_pair c.self.inside.pair.now c.self.inside.position) c.self.inside.returning c.self.invariant c.args.from c.args.to c.requires.start vacant end c.leads_of-start.result.2 c.common-carrying.result leads c.common-carrying.ensures (omega (arith, g.met.B.Geometry.symmetry_count, g.met.B.Geometry.few_symmetries))))
 
 pub returns-clause-added : goal.returns-clause-added
 returns-clause-added g c =

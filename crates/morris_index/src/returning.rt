@@ -1,0 +1,61 @@
+//! The symmetries that return from the images of a set: their inverse is the one that leads the
+//! image under them.
+ghost use Rattle.std.specs.Prelude.{◌≡◌, ◌<◌, ◌^◌, IfOk};
+ghost use Rattle.morris_board.specs.Sets.{count_of};
+ghost use Rattle.morris_index.specs.Classes.{class_count};
+ghost use Rattle.morris_index.specs.Carried.{AreReturning, IsReturningKept};
+
+use crate::classes::Classes;
+use morris_board::board::Geometry;
+use morris_board::points::Points;
+use std::alloc::{AllocError, Global};
+
+/// The symmetries that return from the images of `own`.
+fn returning_from<B: Geometry>(classes: &Classes<B>, own: Points) -> Points
+    requires within { own < 2 ^ B.POINTS }
+    requires count { count_of own ≡ classes.now }
+    ensures { AreReturning B.shape own result }
+{
+    let mut returning = Points::EMPTY;
+    for symmetry in 0..B::SYMMETRIES {
+        let image = B::image_of(symmetry, own);
+        if classes.class_of(image).1 == B::inverse(symmetry) {
+            returning = returning.with(symmetry);
+        }
+    }
+    returning
+}
+
+/// For each class, the mask of the symmetries that return from its representative.
+///
+/// # Errors
+/// [`AllocError`] where memory runs out.
+pub(crate) fn keep_returning<B: Geometry>(
+    alloc: Global,
+    classes: &Classes<B>,
+) -> Result<Vec<u32>, AllocError>
+    ensures { IfOk result (λ kept. IsReturningKept B.shape B.POINTS classes.now (class_count B.shape classes.now) kept.items) }
+{
+    let count = classes.count();
+    let mut kept = Vec::with_capacity(alloc, count as usize)?;
+    for class in 0..count {
+        kept.push(returning_from(classes, classes.representative(class)).mask())?;
+    }
+    Ok(kept)
+}
+
+/// The symmetries that return from the images of `own`: those that are kept where it is a
+/// representative.
+pub(crate) fn returning_of<B: Geometry>(classes: &Classes<B>, kept: &[u32], own: Points) -> Points
+    requires within { own < 2 ^ B.POINTS }
+    requires count { count_of own ≡ classes.now }
+    requires kept { IsReturningKept B.shape B.POINTS classes.now (class_count B.shape classes.now) kept.now }
+    ensures { AreReturning B.shape own result }
+{
+    let (class, _) = classes.class_of(own);
+    if classes.representative(class) == own {
+        Points::from_mask(kept[class as usize])
+    } else {
+        returning_from(classes, own)
+    }
+}
