@@ -10,8 +10,8 @@ use Rattle.morris_index.specs.declared.faults.PairFault.TheVariants as pair
 use Rattle.morris_index.specs.Pairs.{Counts}
 use Rattle.morris_workers.specs.declared.fault.SolveFault.{SolveFault}
 use Rattle.morris_workers.specs.declared.fault.SolveFault.TheVariants as solve
-use Rattle.morris_table.specs.declared.sweeping.BuildFault.{BuildFault}
-use Rattle.morris_table.specs.declared.sweeping.BuildFault.TheVariants as build
+use Rattle.morris_table.specs.declared.build_fault.BuildFault.{BuildFault}
+use Rattle.morris_table.specs.declared.build_fault.BuildFault.TheVariants as build
 use Rattle.morris_table.specs.declared.verify.VerifyFault.{VerifyFault}
 use Rattle.morris_table.specs.declared.verify.VerifyFault.TheVariants as verify
 use Rattle.morris_probe.specs.Reports.{WentOut}

@@ -7,7 +7,7 @@ use crate::lones::LoneGraph;
 use crate::pairs::PairGraph;
 use crate::scribes::Scribe;
 use morris_wave::Graph;
-use morris_workers::{Gate, OpenGate, SolveFault, solve_watched};
+use morris_workers::{Gate, OpenGate, SHORT_NODES, SolveFault, solve_with};
 use std::alloc::Global;
 use std::process::Abort;
 use std::sync::Wait;
@@ -40,7 +40,8 @@ fn tells<G: Graph + Send + Sync, A: Gate, R: Abort + Threads + Wait + Sync>(
 ) -> Result<Vec<u16>, SolveFault> {
     let mut told = Vec::new(alloc);
     let mut scribe = Scribe { told: &mut told };
-    let answer = solve_watched(rt, alloc, graph, gate, workers, blocks, &mut scribe);
+    let watch = &mut scribe;
+    let answer = solve_with(rt, alloc, graph, gate, workers, blocks, SHORT_NODES, watch);
     are_waves_to(rt, &told, last);
     answer
 }

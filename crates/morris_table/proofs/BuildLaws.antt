@@ -1,62 +1,54 @@
--- A refusal of the build of a pair comes from the same refusal of the workers, or of the graph.
-use Rattle.std.proofs.Common.{◌≡◌, ℕ, Bool, true, false, cond, Result, Ok, Err, Option, Some, None, MatchResult, refl, sym, ap, ◌∙◌, ◌⊎◌, inr}
-use Rattle.std.proofs.lemmas.Bool.{both_ways}
+-- A refusal of a build, or of a sweep, is that of the workers, of the sweep or of the pair's graph.
+use Rattle.std.proofs.Common.{◌≡◌, ℕ, true, Result, Ok, Err, Option, None, IfErr, refl, sym, subst}
 use Rattle.std.specs.Result.{IsErrAnd}
+use Rattle.morris_board.specs.Boards.{Shape}
+use Rattle.morris_index.specs.Pairs.{Counts}
+use Rattle.morris_wave.specs.Values.{IsTooDeep}
+use Rattle.morris_wave.specs.declared.solver.SweepFault.{SweepFault}
+use Rattle.morris_wave.specs.declared.solver.SweepFault.TheVariants as sweep
+use Rattle.morris_workers.specs.Ranges.{range_fault}
+use Rattle.morris_workers.specs.Solving.{IsRefusal}
 use Rattle.morris_workers.specs.declared.fault.SolveFault.{SolveFault}
 use Rattle.morris_workers.specs.declared.fault.SolveFault.TheVariants as solve
-use Rattle.morris_workers.specs.Ranges.{range_fault, is_range_fault}
-use Rattle.morris_table.specs.declared.sweeping.BuildFault.{BuildFault}
-use Rattle.morris_table.specs.declared.sweeping.BuildFault.TheVariants.{Memory, TooDeep}
-use Rattle.morris_table.specs.Building.{solved, out_of_range}
+use Rattle.morris_table.specs.declared.layout.Layout.{Layout}
+use Rattle.morris_table.specs.declared.layout.Layout.TheVariants.{Full, Classes}
+use Rattle.morris_table.specs.declared.build_fault.BuildFault.{BuildFault}
+use Rattle.morris_table.specs.declared.build_fault.BuildFault.TheVariants.{Needs, Workers, Blocks, Memory, Missing, TooDeep}
+use Rattle.morris_table.specs.Building.{IsUnbuilt, IsUnswept, MayWantMemory, solved, swept}
+use Rattle.morris_table.specs.Known.{IsBeyondCodes}
+use Rattle.morris_table.specs.PairNets.{level_of, net_at}
+use Rattle.morris_table.specs.Shelves.{Stored, first_missing}
+use Rattle.morris_table.specs.Sweeping.{is_of_graph, needed_by}
 
-pub refused_deep : {A B : Type 0} (r : Result A (BuildFault B)) (fault : SolveFault)
-    → IsErrAnd r (λ e. e ≡ solved fault) → r ≡ Err TooDeep → fault ≡ solve.TooDeep
-refused_deep r solve.TooDeep h e = refl
-refused_deep (Err x) solve.Workers h e = cc
-refused_deep (Err x) solve.Blocks h e = cc
-refused_deep (Err x) solve.Memory h e = cc
-refused_deep (Err x) (solve.Missing number) h e = cc
-refused_deep (Ok x) solve.Workers h e = cc
-refused_deep (Ok x) solve.Blocks h e = cc
-refused_deep (Ok x) solve.Memory h e = cc
-refused_deep (Ok x) (solve.Missing number) h e = cc
+-- what is so of an error that is known is so of the error of an answer
+pub err_of : {A E : Type 0} (answer : Result A E) (P : E → Type 0) (e : E) → IsErrAnd answer (λ x. x ≡ e) → P e → IfErr answer P
+err_of (Ok x) P e h p = absurd h
+err_of (Err y) P e h p = subst P (sym h) p
 
--- ---- the numbers of workers and blocks
+-- memory may be wanting in either layout once the numbers are in range
+late_memory : (l : Layout) (range : Option SolveFault) → range ≡ None → MayWantMemory l range
+late_memory Full range late = late
+late_memory Classes range late = tt
 
--- whether it is no fault, or one of these numbers
-abbrev is_of_range : Option SolveFault → Bool
-is_of_range None = true
-is_of_range (Some fault) = is_range_fault fault
+module _ (B : Type 0) (board : Shape) (shelf : Stored) (c : Counts) where
+  pub refused_by_workers : (l : Layout) (workers blocks : ℕ) (fault : SolveFault) → first_missing shelf c ≡ None → (IsTooDeep (net_at board (level_of l c)) → IsBeyondCodes board c)
+      → IsRefusal (net_at board (level_of l c)) workers blocks fault → IsUnbuilt {B = B} board shelf l c workers blocks (solved fault)
+  refused_by_workers l workers blocks solve.Workers ready deep h = (ready, h)
+  refused_by_workers l workers blocks solve.Blocks ready deep h = (ready, h)
+  refused_by_workers l workers blocks solve.Memory ready deep h = (ready, late_memory l (range_fault workers blocks) h)
+  refused_by_workers l workers blocks (solve.Missing number) ready deep h = (ready, h.0, h.1)
+  refused_by_workers l workers blocks solve.TooDeep ready deep h = (ready, h.0, record { too_deep = h.1; beyond = deep h.1 })
 
-of_range : (x y : Bool) → is_of_range (cond x (Some solve.Workers) (cond y (Some solve.Blocks) None)) ≡ true
-of_range true y = refl
-of_range false true = refl
-of_range false false = refl
+  pub refused_by_graph : (workers blocks : ℕ) (fault : BuildFault B) → needed_by fault ≡ first_missing shelf c → is_of_graph fault ≡ true
+      → IsUnbuilt board shelf Classes c workers blocks fault
+  refused_by_graph workers blocks (Needs needs) named alone = sym named
+  refused_by_graph workers blocks Workers named alone = cc
+  refused_by_graph workers blocks Blocks named alone = cc
+  refused_by_graph workers blocks Memory named alone = (sym named, tt)
+  refused_by_graph workers blocks (Missing number) named alone = cc
+  refused_by_graph workers blocks TooDeep named alone = cc
 
--- where the fault isn't of these numbers, nothing is wrong with them
-none_wrong : (o : Option SolveFault) (fault : SolveFault) → is_of_range o ≡ true → is_range_fault fault ≡ false
-    → ((other : SolveFault) → o ≡ Some other → Some fault ≡ Some other) → None ≡ o
-none_wrong None fault known apart same = refl
-none_wrong (Some other) fault known apart same = absurd (both_ways (is_range_fault fault) apart (ap is_of_range (same other refl) ∙ known))
-
-told_range : (o : Option SolveFault) (fault : SolveFault) → is_of_range o ≡ true → (is_range_fault fault ≡ true → o ≡ Some fault)
-    → ((other : SolveFault) → o ≡ Some other → Some fault ≡ Some other) → (B : Type 0) → out_of_range {B = B} (solved fault) ≡ o
-told_range o solve.Workers known here same B = sym (here refl)
-told_range o solve.Blocks known here same B = sym (here refl)
-told_range o solve.Memory known here same B = none_wrong o solve.Memory known refl same
-told_range o (solve.Missing number) known here same B = none_wrong o (solve.Missing number) known refl same
-told_range o solve.TooDeep known here same B = none_wrong o solve.TooDeep known refl same
-
-pub refused_range : {A B : Type 0} (r : Result A (BuildFault B)) (fault : SolveFault) (workers blocks : ℕ) → IsErrAnd r (λ e. e ≡ solved fault)
-    → (is_range_fault fault ≡ true → range_fault workers blocks ≡ Some fault)
-    → ((other : SolveFault) → range_fault workers blocks ≡ Some other → Some fault ≡ Some other)
-    → MatchResult r (λ _. range_fault workers blocks ≡ None) (λ e. out_of_range e ≡ range_fault workers blocks)
-refused_range (Ok x) fault workers blocks h here same = absurd h
-refused_range {B = B} (Err x) fault workers blocks h here same =
-    ap out_of_range h ∙ told_range (range_fault workers blocks) fault (of_range _ _) here same B
-
--- a number out of range that is told in any case
-pub told_after : {A B : Type 0} (r : Result A (BuildFault B)) (range : Option SolveFault)
-    → MatchResult r (λ _. range ≡ None) (λ e. out_of_range e ≡ range) → MatchResult r (λ _. range ≡ None) (λ e. (e ≡ Memory) ⊎ (out_of_range e ≡ range))
-told_after (Ok x) range h = h
-told_after (Err x) range h = inr h
+  pub refused_by_sweep : (fault : SweepFault) → first_missing shelf c ≡ None → (IsTooDeep (net_at board (level_of Full c)) → IsBeyondCodes board c)
+      → (fault ≡ sweep.TooDeep → IsTooDeep (net_at board (level_of Full c))) → IsUnswept {B = B} board shelf c (swept fault)
+  refused_by_sweep sweep.TooDeep ready deep h = (ready, record { too_deep = h refl; beyond = deep (h refl) })
+  refused_by_sweep sweep.Memory ready deep h = ready

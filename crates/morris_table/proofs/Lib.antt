@@ -20,7 +20,6 @@ pub mod QuietLaws
 pub mod RowLaws
 pub mod GraphLaws
 pub mod CaptureLaws
-pub mod SweepLaws
 pub mod BuildLaws
 pub mod AgreementLaws
 pub mod FileLaws

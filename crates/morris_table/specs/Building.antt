@@ -1,11 +1,63 @@
--- Why a table of a pair wasn't built by workers.
-use Rattle.std.specs.Prelude.{◌≡◌, ◌⊎◌, Option, Some, None}
+-- What a build of the table of a pair answers.
+use Rattle.std.specs.Prelude.{◌≡◌, ℕ, ◌<◌, Option, Some, None}
+use Rattle.morris_board.specs.Boards.{Shape}
+use Rattle.morris_index.specs.Pairs.{Counts}
+use Rattle.morris_wave.specs.Values.{IsTooDeep}
+use Rattle.morris_wave.specs.declared.solver.SweepFault.{SweepFault}
+use Rattle.morris_wave.specs.declared.solver.SweepFault.TheVariants as sweep
+use Rattle.morris_workers.specs.Ranges.{range_fault}
 use Rattle.morris_workers.specs.declared.fault.SolveFault.{SolveFault}
 use Rattle.morris_workers.specs.declared.fault.SolveFault.TheVariants as solve
 use Rattle.morris_table.specs.declared.layout.Layout.{Layout}
 use Rattle.morris_table.specs.declared.layout.Layout.TheVariants.{Full, Classes}
-use Rattle.morris_table.specs.declared.sweeping.BuildFault.{BuildFault}
-use Rattle.morris_table.specs.declared.sweeping.BuildFault.TheVariants.{Needs, Workers, Blocks, Memory, Missing, TooDeep}
+use Rattle.morris_table.specs.declared.build_fault.BuildFault.{BuildFault}
+use Rattle.morris_table.specs.declared.build_fault.BuildFault.TheVariants.{Needs, Workers, Blocks, Memory, Missing, TooDeep}
+use Rattle.morris_table.specs.Known.{IsBeyondCodes}
+use Rattle.morris_table.specs.PairNets.{level_of, net_at}
+use Rattle.morris_table.specs.Shelves.{Stored, first_missing}
+use Rattle.morris_table.specs.Tables.{Table, IsTable}
+
+-- What is built: the exact table of the pair in the layout. Codes of 16 bits suffice for the pair,
+-- as its graph counts and in the words of the game.
+pub record IsBuilt (board : Shape) (l : Layout) (c : Counts) (t : Table) : Type 0 where
+  pub pair : t.pair ≡ c
+  pub layout : t.layout ≡ l
+  pub exact : IsTable board t
+  pub not_too_deep : ¬ IsTooDeep (net_at board (level_of l c))
+  pub within : ¬ IsBeyondCodes board c
+
+-- codes of 16 bits don't suffice for it
+pub record IsPastCodes (board : Shape) (l : Layout) (c : Counts) : Type 0 where
+  pub too_deep : IsTooDeep (net_at board (level_of l c))
+  pub beyond : IsBeyondCodes board c
+
+-- when memory may be wanting: once the numbers of workers and blocks are in range; in layout
+-- Classes it is asked for the classes before that
+abbrev pub MayWantMemory : Layout → Option SolveFault → Type 0
+MayWantMemory Full range = range ≡ None
+MayWantMemory Classes range = Unit {0}
+
+-- Why workers don't build it, and what is so then. A pair that is needed and isn't on the shelf is
+-- named before all else, the first one. Then come numbers out of range, workers before blocks, and
+-- then what the work itself refuses.
+abbrev pub IsUnbuilt : {B : Type 0} → Shape → Stored → Layout → Counts → ℕ → ℕ → BuildFault B → Type 0
+IsUnbuilt board shelf l c workers blocks (Needs needs) = first_missing shelf c ≡ Some needs.0
+IsUnbuilt board shelf l c workers blocks Workers = (first_missing shelf c ≡ None) × (range_fault workers blocks ≡ Some solve.Workers)
+IsUnbuilt board shelf l c workers blocks Blocks = (first_missing shelf c ≡ None) × (range_fault workers blocks ≡ Some solve.Blocks)
+IsUnbuilt board shelf l c workers blocks Memory = (first_missing shelf c ≡ None) × MayWantMemory l (range_fault workers blocks)
+IsUnbuilt board shelf l c workers blocks (Missing number) = (first_missing shelf c ≡ None) × (range_fault workers blocks ≡ None) × (number < blocks)
+IsUnbuilt board shelf l c workers blocks TooDeep = (first_missing shelf c ≡ None) × (range_fault workers blocks ≡ None) × IsPastCodes board l c
+
+-- Why a sweep doesn't make it, which has neither workers nor blocks.
+abbrev pub IsUnswept : {B : Type 0} → Shape → Stored → Counts → BuildFault B → Type 0
+IsUnswept board shelf c (Needs needs) = first_missing shelf c ≡ Some needs.0
+IsUnswept board shelf c Workers = ⊥
+IsUnswept board shelf c Blocks = ⊥
+IsUnswept board shelf c Memory = first_missing shelf c ≡ None
+IsUnswept board shelf c (Missing number) = ⊥
+IsUnswept board shelf c TooDeep = (first_missing shelf c ≡ None) × IsPastCodes board Full c
+
+-- ---- faults
 
 -- what a refusal of the workers is here
 abbrev pub solved : {B : Type 0} → SolveFault → BuildFault B
@@ -15,17 +67,7 @@ solved solve.Memory = Memory
 solved (solve.Missing number) = Missing number
 solved solve.TooDeep = TooDeep
 
--- the number that is out of range, if that is the reason
-abbrev pub out_of_range : {B : Type 0} → BuildFault B → Option SolveFault
-out_of_range (Needs needs) = None
-out_of_range Workers = Some solve.Workers
-out_of_range Blocks = Some solve.Blocks
-out_of_range Memory = None
-out_of_range (Missing number) = None
-out_of_range TooDeep = None
-
--- A number out of range is told where all tables are there; in layout Classes want of memory for
--- the classes comes before it.
-abbrev pub TellsRange : {B : Type 0} → Layout → BuildFault B → Option SolveFault → Type 0
-TellsRange Full fault range = out_of_range fault ≡ range
-TellsRange Classes fault range = (fault ≡ Memory) ⊎ (out_of_range fault ≡ range)
+-- what a refusal of the sweep is here
+abbrev pub swept : {B : Type 0} → SweepFault → BuildFault B
+swept sweep.TooDeep = TooDeep
+swept sweep.Memory = Memory

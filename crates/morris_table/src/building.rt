@@ -1,44 +1,23 @@
 //! Tables made by several workers.
-ghost use Rattle.std.specs.Prelude.{◌≡◌, ℕ, ◌<◌, None, IfOk, IfErr, OnOk, MatchResult};
+ghost use Rattle.std.specs.Prelude.{◌≡◌, None, IfOk, IfErr, OnOk};
 ghost use Rattle.morris_wave.specs.Blocks.{BlockState};
-ghost use Rattle.morris_wave.specs.Values.{IsTooDeep};
 ghost use Rattle.morris_workers.specs.Ranges.{range_fault};
-ghost use Rattle.morris_table.specs.PairNets.{level_of, net_at};
-ghost use Rattle.morris_table.specs.Known.{IsBeyondCodes};
-ghost use Rattle.morris_table.specs.Tables.{IsTable};
 ghost use Rattle.morris_table.specs.Shelves.{first_missing};
-ghost use Rattle.morris_table.specs.Sweeping.{needed_by};
-ghost use Rattle.morris_table.specs.Building.{out_of_range, TellsRange};
+ghost use Rattle.morris_table.specs.Building.{IsBuilt, IsUnbuilt};
 ghost use Rattle.morris_table.specs.Headline.{IsBlockOf, TellsTheGame};
 
+use crate::build_fault::BuildFault;
 use crate::class_graph::ClassGraph;
 use crate::exact::Exact;
 use crate::graph::PairGraph;
 use crate::layout::Layout;
 use crate::shelf::Shelf;
-use crate::sweeping::BuildFault;
-use morris_board::board::{Board, Geometry};
+use morris_board::board::Board;
 use morris_index::pair::Pair;
-use morris_workers::{Gate, SolveFault, Unwatched, Watch, solve_watched};
+use morris_workers::{Gate, SHORT_NODES, Unwatched, Watch, solve_with};
 use std::alloc::Global;
 use std::sync::Wait;
 use std::thread::Threads;
-
-impl<B: Geometry> From<SolveFault> for BuildFault<B> {
-    ghost use Rattle.morris_table.specs.Building.{solved};
-
-    ghost from_gives = { λ fault result. result ≡ solved fault };
-
-    fn from(fault: SolveFault) -> BuildFault<B> {
-        match fault {
-            SolveFault::Workers => BuildFault::Workers,
-            SolveFault::Blocks => BuildFault::Blocks,
-            SolveFault::Memory => BuildFault::Memory,
-            SolveFault::Missing(number) => BuildFault::Missing(number),
-            SolveFault::TooDeep => BuildFault::TooDeep,
-        }
-    }
-}
 
 /// The exact table of a pair, over the tables of the pairs that it needs. So many workers build it
 /// from the pair's graph, cut into so many blocks, and ask the gate before each piece of work.
@@ -62,18 +41,10 @@ pub fn build<B: Board, A: Gate, R: Threads + Wait + Sync>(
     workers: usize,
     blocks: usize,
 ) -> Result<Exact<B>, BuildFault<B>>
-    ensures needs { MatchResult result (λ _. first_missing shelf.now pair ≡ None) (λ fault. needed_by fault ≡ first_missing shelf.now pair) }
-    ensures range { first_missing shelf.now pair ≡ None
-        → MatchResult result (λ _. range_fault workers blocks ≡ None) (λ fault. out_of_range fault ≡ range_fault workers blocks) }
-    ensures missing { IfErr result (λ fault. (number : ℕ) → fault ≡ BuildFault.Missing number → number < blocks) }
-    ensures pair { IfOk result (λ t. t.pair ≡ pair) }
-    ensures layout { IfOk result (λ t. t.layout ≡ Layout.Full) }
-    ensures exact { IfOk result (IsTable B.shape) }
-    ensures too_deep { result ≡ Err BuildFault.TooDeep → IsTooDeep (net_at B.shape (level_of Layout.Full pair)) }
-    ensures not_too_deep { OnOk result (¬ IsTooDeep (net_at B.shape (level_of Layout.Full pair))) }
-    // The same in the words of the game.
-    ensures beyond { result ≡ Err BuildFault.TooDeep → IsBeyondCodes B.shape pair }
-    ensures within { OnOk result (¬ IsBeyondCodes B.shape pair) }
+    ensures ready { OnOk result (first_missing shelf.now pair ≡ None) }
+    ensures range { OnOk result (range_fault workers blocks ≡ None) }
+    ensures exact { IfOk result (IsBuilt B.shape Layout.Full pair) }
+    ensures refused { IfErr result (IsUnbuilt B.shape shelf.now Layout.Full pair workers blocks) }
     // Whenever a block's lock is free, each decided entry is the game's value and exact depth at
     // its position and the tallies count the entries.
     ensures whenever { (s : BlockState) → IsBlockOf B.shape Layout.Full pair s → TellsTheGame B.shape Layout.Full pair s }
@@ -98,18 +69,10 @@ pub fn build_as<B: Board, A: Gate, R: Threads + Wait + Sync>(
     workers: usize,
     blocks: usize,
 ) -> Result<Exact<B>, BuildFault<B>>
-    ensures needs { MatchResult result (λ _. first_missing shelf.now pair ≡ None) (λ fault. needed_by fault ≡ first_missing shelf.now pair) }
-    ensures range { first_missing shelf.now pair ≡ None
-        → MatchResult result (λ _. range_fault workers blocks ≡ None) (λ fault. TellsRange layout fault (range_fault workers blocks)) }
-    ensures missing { IfErr result (λ fault. (number : ℕ) → fault ≡ BuildFault.Missing number → number < blocks) }
-    ensures pair { IfOk result (λ t. t.pair ≡ pair) }
-    ensures layout { IfOk result (λ t. t.layout ≡ layout) }
-    ensures exact { IfOk result (IsTable B.shape) }
-    ensures too_deep { result ≡ Err BuildFault.TooDeep → IsTooDeep (net_at B.shape (level_of layout pair)) }
-    ensures not_too_deep { OnOk result (¬ IsTooDeep (net_at B.shape (level_of layout pair))) }
-    // The same in the words of the game.
-    ensures beyond { result ≡ Err BuildFault.TooDeep → IsBeyondCodes B.shape pair }
-    ensures within { OnOk result (¬ IsBeyondCodes B.shape pair) }
+    ensures ready { OnOk result (first_missing shelf.now pair ≡ None) }
+    ensures range { OnOk result (range_fault workers blocks ≡ None) }
+    ensures exact { IfOk result (IsBuilt B.shape layout pair) }
+    ensures refused { IfErr result (IsUnbuilt B.shape shelf.now layout pair workers blocks) }
     // Whenever a block's lock is free, each decided entry is the game's value and exact depth at
     // its position and the tallies count the entries.
     ensures whenever { (s : BlockState) → IsBlockOf B.shape layout pair s → TellsTheGame B.shape layout pair s }
@@ -134,18 +97,10 @@ pub fn build_watched<B: Board, A: Gate, V: Watch, R: Threads + Wait + Sync>(
     workers: usize,
     blocks: usize,
 ) -> Result<Exact<B>, BuildFault<B>>
-    ensures needs { MatchResult result (λ _. first_missing shelf.now pair ≡ None) (λ fault. needed_by fault ≡ first_missing shelf.now pair) }
-    ensures range { first_missing shelf.now pair ≡ None
-        → MatchResult result (λ _. range_fault workers blocks ≡ None) (λ fault. TellsRange layout fault (range_fault workers blocks)) }
-    ensures missing { IfErr result (λ fault. (number : ℕ) → fault ≡ BuildFault.Missing number → number < blocks) }
-    ensures pair { IfOk result (λ t. t.pair ≡ pair) }
-    ensures layout { IfOk result (λ t. t.layout ≡ layout) }
-    ensures exact { IfOk result (IsTable B.shape) }
-    ensures too_deep { result ≡ Err BuildFault.TooDeep → IsTooDeep (net_at B.shape (level_of layout pair)) }
-    ensures not_too_deep { OnOk result (¬ IsTooDeep (net_at B.shape (level_of layout pair))) }
-    // The same in the words of the game.
-    ensures beyond { result ≡ Err BuildFault.TooDeep → IsBeyondCodes B.shape pair }
-    ensures within { OnOk result (¬ IsBeyondCodes B.shape pair) }
+    ensures ready { OnOk result (first_missing shelf.now pair ≡ None) }
+    ensures range { OnOk result (range_fault workers blocks ≡ None) }
+    ensures exact { IfOk result (IsBuilt B.shape layout pair) }
+    ensures refused { IfErr result (IsUnbuilt B.shape shelf.now layout pair workers blocks) }
     // Whenever a block's lock is free, each decided entry is the game's value and exact depth at
     // its position and the tallies count the entries.
     ensures whenever { (s : BlockState) → IsBlockOf B.shape layout pair s → TellsTheGame B.shape layout pair s }
@@ -155,12 +110,21 @@ pub fn build_watched<B: Board, A: Gate, V: Watch, R: Threads + Wait + Sync>(
     match layout {
         Layout::Full => {
             let graph = PairGraph::new(shelf, pair)?;
-            let codes = solve_watched(rt, alloc, &graph, gate, workers, blocks, watch)?;
+            let codes = solve_with(rt, alloc, &graph, gate, workers, blocks, SHORT_NODES, watch)?;
             Ok(graph.into_table(codes))
         }
         Layout::Classes => {
             let graph = ClassGraph::new(alloc, shelf, pair)?;
-            let entry_codes = solve_watched(rt, alloc, &graph, gate, workers, blocks, watch)?;
+            let entry_codes = solve_with(
+                rt,
+                alloc,
+                &graph,
+                gate,
+                workers,
+                blocks,
+                SHORT_NODES,
+                watch,
+            )?;
             Ok(graph.into_table(entry_codes))
         }
     }

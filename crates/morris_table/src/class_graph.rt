@@ -11,6 +11,7 @@ ghost use Rattle.morris_table.specs.Sweeping.{needed_by, is_of_graph};
 ghost use Rattle.morris_table.specs.Tables.{table};
 
 use crate::backward::list_entries_before;
+use crate::build_fault::BuildFault;
 use crate::exact::Exact;
 use crate::graph::PairGraph;
 use crate::layout::Layout;
@@ -18,7 +19,6 @@ use crate::levels::PairLevels;
 use crate::numbering::Numbering;
 use crate::rows::{Row, read_counts};
 use crate::shelf::Shelf;
-use crate::sweeping::BuildFault;
 use morris_board::board::{Board, Geometry};
 use morris_index::pair::Pair;
 use morris_wave::{Exits, Graph};

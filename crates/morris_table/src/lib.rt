@@ -3,6 +3,7 @@
 
 mod agreeing;
 mod backward;
+pub mod build_fault;
 pub mod building;
 pub mod class_graph;
 pub mod exact;

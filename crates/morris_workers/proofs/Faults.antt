@@ -1,5 +1,6 @@
--- Where blocks aren't gathered, the block that counts as missing is one of them.
-use Rattle.std.proofs.Common.{◌≡◌, ℕ, ◌+◌, ◌<◌, ◌≤◌, Bool, true, false, ◌&&◌, cond, eqb, List, [], ◌∷◌, ◌++◌, Option, Some, None, length, refl, sym, subst, arith, length-append}
+-- What the faults of a solver tell: where blocks aren't gathered, the block that counts as missing
+-- is one of them.
+use Rattle.std.proofs.Common.{Result, Ok, Err, IfErr, ◌≡◌, ℕ, ◌+◌, ◌<◌, ◌≤◌, Bool, true, false, ◌&&◌, cond, eqb, List, [], ◌∷◌, ◌++◌, Option, Some, None, length, refl, sym, subst, arith, length-append}
 use Rattle.std.specs.List.{All}
 use Rattle.std.proofs.lemmas.List.Elements.{All-head, All-tail}
 use Rattle.morris_wave.specs.Nets.{Net}
@@ -8,7 +9,10 @@ use Rattle.morris_wave.specs.Answering.{is_same_cut}
 use Rattle.morris_wave.specs.Gathering.{has_number, complaint, first_fault, first_complaint, IsLateFault, IsFaultAfter, IsGatherFault}
 use Rattle.morris_wave.specs.declared.gathering.GatherFault.{GatherFault}
 use Rattle.morris_wave.specs.declared.gathering.GatherFault.TheVariants.{Foreign, Double, Missing, Memory}
-use Rattle.morris_workers.specs.Ranges.{Tells, solve_fault_of}
+use Rattle.morris_workers.specs.Ranges.{Tells, range_fault, solve_fault_of}
+use Rattle.morris_workers.specs.Solving.{IsRefusal}
+use Rattle.morris_workers.specs.declared.fault.SolveFault.{SolveFault}
+use Rattle.morris_workers.specs.declared.fault.SolveFault.TheVariants as solve
 
 module _ (g : Net) (n : ℕ) where
   same_fault : (found f : GatherFault) → Some found ≡ Some f → Tells g n (solve_fault_of found) → Tells g n (solve_fault_of f)
@@ -55,3 +59,13 @@ gather_tells g level wave cut blocks f count numbers h =
     subst (λ (n : ℕ). Tells g n (solve_fault_of f)) count
     (either_way g (length blocks) (first_complaint level wave cut [] blocks) cut blocks f (sym count)
     (walked g (length blocks) level wave cut [] blocks (omega arith) numbers) h)
+
+-- what a fault tells once the numbers are in range is why a solver refuses
+pub late_refusal : {A : Type 0} (g : Net) (workers blocks : ℕ) (answer : Result A SolveFault) → range_fault workers blocks ≡ None
+    → IfErr answer (Tells g blocks) → IfErr answer (IsRefusal g workers blocks)
+late_refusal g workers blocks (Ok x) range h = tt
+late_refusal g workers blocks (Err solve.Workers) range h = absurd h
+late_refusal g workers blocks (Err solve.Blocks) range h = absurd h
+late_refusal g workers blocks (Err solve.Memory) range h = range
+late_refusal g workers blocks (Err (solve.Missing number)) range h = (range, h)
+late_refusal g workers blocks (Err solve.TooDeep) range h = (range, h)

@@ -1,5 +1,5 @@
 -- How many workers and blocks there may be, and what a fault tells.
-use Rattle.std.specs.Prelude.{ℕ, ◌<◌, Bool, true, false, ◌||◌, ◌==◌, nat_lt, Option, Some, None, if◌then◌else◌}
+use Rattle.std.specs.Prelude.{ℕ, ◌<◌, ◌||◌, ◌==◌, nat_lt, Option, Some, None, if◌then◌else◌}
 use Rattle.morris_wave.specs.Nets.{Net}
 use Rattle.morris_wave.specs.Values.{IsTooDeep}
 use Rattle.morris_wave.specs.declared.gathering.GatherFault.{GatherFault}
@@ -13,14 +13,6 @@ range_fault workers blocks =
     if (workers == 0) || nat_lt 64 workers
     then Some Workers
     else (if (blocks == 0) || nat_lt 1024 blocks then Some Blocks else None)
-
--- whether a fault is about these numbers
-abbrev pub is_range_fault : SolveFault → Bool
-is_range_fault Workers = true
-is_range_fault Blocks = true
-is_range_fault Memory = false
-is_range_fault (Missing number) = false
-is_range_fault TooDeep = false
 
 -- What a fault tells that comes once the numbers are in range: the block that is missing is one of
 -- the blocks, and where it says that the graph is too deep, it is.

@@ -18,7 +18,7 @@ mod yard;
 
 pub use fault::SolveFault;
 pub use gate::{Gate, OpenGate, Turn};
-pub use solver::{check_numbers, solve, solve_watched, solve_with};
+pub use solver::{SHORT_NODES, check_numbers, solve, solve_with};
 pub use tickets::{Drawn, TicketSeat, Tickets};
 pub use watch::{Unwatched, Watch};
 pub use yard::Yard;

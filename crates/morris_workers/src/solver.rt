@@ -1,11 +1,10 @@
 //! The codes of all nodes of a graph, by several workers.
-ghost use Rattle.std.specs.Prelude.{◌≡◌, ℕ, ◌+◌, ◌<◌, ◌≤◌, ◌^◌, Bool, true, None, Some, length, slice_index, OnOk, IfOk, IfErr, IfSome, IfNone, MatchResult, vec_len};
+ghost use Rattle.std.specs.Prelude.{◌≡◌, ℕ, ◌+◌, ◌<◌, ◌≤◌, ◌^◌, None, Some, length, OnOk, IfOk, IfErr, IfSome, IfNone, MatchResult, vec_len};
 ghost use Rattle.std.specs.List.{All};
-ghost use Rattle.morris_wave.specs.Values.{HasCode, IsTooDeep, PlyRules, CodeRules};
+ghost use Rattle.morris_wave.specs.Values.{PlyRules, CodeRules};
 ghost use Rattle.morris_wave.specs.Blocks.{IsSettled};
-ghost use Rattle.morris_workers.specs.Ranges.{range_fault, is_range_fault, Tells};
-ghost use Rattle.morris_workers.specs.declared.fault.SolveFault.{SolveFault};
-ghost use Rattle.morris_workers.specs.declared.fault.SolveFault.TheVariants as fault;
+ghost use Rattle.morris_workers.specs.Ranges.{range_fault, Tells};
+ghost use Rattle.morris_workers.specs.Solving.{AreCodes, IsRefusal};
 
 use crate::fault::{LAST_WAVE, SolveFault};
 use crate::gate::Gate;
@@ -19,8 +18,8 @@ use std::alloc::Global;
 use std::sync::Wait;
 use std::thread::Threads;
 
-// 2^32: each node of a graph of no more nodes is a number of 32 bits.
-const SHORT: u64 = 4294967296;
+/// In a graph of at most so many nodes, 2^32, each node is a number of 32 bits.
+pub const SHORT_NODES: u64 = 4294967296;
 
 /// Whether there may be so many workers and blocks.
 ///
@@ -137,10 +136,9 @@ fn codes_of<N: Levels>(
     cut: &Cut,
     blocks: Vec<Block<N>>,
 ) -> Result<Vec<u16>, SolveFault>
-    requires { vec_len blocks ≡ cut.now.blocks }
-    ensures len { IfOk result (λ v. vec_len v ≡ cut.now.size) }
-    ensures codes { IfOk result (λ v. (i : ℕ) → i < cut.now.size → HasCode (N.net level) i (slice_index v.items i)) }
-    ensures not_too_deep { OnOk result (¬ IsTooDeep (N.net level)) }
+    requires blocks { vec_len blocks ≡ cut.now.blocks }
+    requires size { cut.now.size ≡ (N.net level).size }
+    ensures codes { IfOk result (AreCodes (N.net level)) }
     ensures fault { IfErr result (Tells (N.net level) cut.now.blocks) }
 {
     if let Some(place) = first_unsettled(&blocks) {
@@ -161,9 +159,9 @@ fn codes_of<N: Levels>(
 /// at a time, and none while it looks at the graph.
 ///
 /// The blocks take what [`Block`] says, each worker the fresh nodes and the batches of one block at
-/// a time, of 4 bytes for each node that leads to a fresh one, or 8 in a graph of more than 2^32
-/// nodes. A worker keeps lists that it sent for those of the next block. At the end the answer
-/// takes 2 bytes a node, while the blocks are let go one after the other.
+/// a time, of 4 bytes for each node that leads to a fresh one, or 8 in a graph of more than
+/// [`SHORT_NODES`]. A worker keeps lists that it sent for those of the next block. At the end the
+/// answer takes 2 bytes a node, while the blocks are let go one after the other.
 ///
 /// # Errors
 ///
@@ -179,68 +177,26 @@ pub fn solve<G: Graph + Send + Sync, A: Gate, R: Threads + Wait + Sync>(
     workers: usize,
     blocks: usize,
 ) -> Result<Vec<u16>, SolveFault>
-    // Numbers out of range are refused, workers first.
-    ensures refused { (fault : SolveFault) → range_fault workers blocks ≡ Some fault → result ≡ Err fault }
-    // And no others are.
-    ensures in_range { IfErr result (λ fault. is_range_fault fault ≡ true → range_fault workers blocks ≡ Some fault) }
-    ensures ok_range { OnOk result (range_fault workers blocks ≡ None) }
-    ensures len { IfOk result (λ v. vec_len v ≡ (G.Name.net (G.level graph.now)).size) }
-    ensures codes { IfOk result (λ v. (i : ℕ) → i < (G.Name.net (G.level graph.now)).size
-        → HasCode (G.Name.net (G.level graph.now)) i (slice_index v.items i)) }
-    ensures not_too_deep { OnOk result (¬ IsTooDeep (G.Name.net (G.level graph.now))) }
-    ensures too_deep { result ≡ Err SolveFault.TooDeep → IsTooDeep (G.Name.net (G.level graph.now)) }
-    ensures missing { IfErr result (λ fault. (number : ℕ) → fault ≡ SolveFault.Missing number → number < blocks) }
+    ensures range { OnOk result (range_fault workers blocks ≡ None) }
+    ensures codes { IfOk result (AreCodes (G.Name.net (G.level graph.now))) }
+    ensures refused { IfErr result (IsRefusal (G.Name.net (G.level graph.now)) workers blocks) }
     // A code is counted in plies as the rules of the game do.
     ensures plies { PlyRules (G.Name.net (G.level graph.now)) }
     // And it tells who wins: codes of lost nodes are odd, those of won nodes even.
     ensures outcome { CodeRules (G.Name.net (G.level graph.now)) }
 {
-    solve_watched(rt, alloc, graph, gate, workers, blocks, &mut Unwatched)
+    let watch = &mut Unwatched;
+    solve_with(rt, alloc, graph, gate, workers, blocks, SHORT_NODES, watch)
 }
 
-/// [`solve`], and tells `watch` of each wave before it begins (see [`Watch`]): of waves 1, 2, ..
-/// and of no wave where the blocks are settled before the first one.
+/// [`solve`], with lists of 4 bytes a node where the graph has at most `short` nodes, up to
+/// [`SHORT_NODES`], and of 8 otherwise. It tells `watch` of each wave before it begins (see [`Watch`]):
+/// of waves 1, 2, .. and of no wave where the blocks are settled before the first one.
 ///
 /// # Errors
 ///
 /// Those of [`solve`]. Where numbers are out of range, or the blocks aren't made, the watch is told
 /// nothing. A wave that was told may still be refused.
-pub fn solve_watched<G: Graph + Send + Sync, A: Gate, R: Threads + Wait + Sync, W: Watch>(
-    rt: &R,
-    alloc: Global,
-    graph: &G,
-    gate: &A,
-    workers: usize,
-    blocks: usize,
-    watch: &mut W,
-) -> Result<Vec<u16>, SolveFault>
-    // Numbers out of range are refused, workers first.
-    ensures refused { (fault : SolveFault) → range_fault workers blocks ≡ Some fault → result ≡ Err fault }
-    // And no others are.
-    ensures in_range { IfErr result (λ fault. is_range_fault fault ≡ true → range_fault workers blocks ≡ Some fault) }
-    ensures ok_range { OnOk result (range_fault workers blocks ≡ None) }
-    ensures len { IfOk result (λ v. vec_len v ≡ (G.Name.net (G.level graph.now)).size) }
-    ensures codes { IfOk result (λ v. (i : ℕ) → i < (G.Name.net (G.level graph.now)).size
-        → HasCode (G.Name.net (G.level graph.now)) i (slice_index v.items i)) }
-    ensures not_too_deep { OnOk result (¬ IsTooDeep (G.Name.net (G.level graph.now))) }
-    ensures too_deep { result ≡ Err SolveFault.TooDeep → IsTooDeep (G.Name.net (G.level graph.now)) }
-    ensures missing { IfErr result (λ fault. (number : ℕ) → fault ≡ SolveFault.Missing number → number < blocks) }
-    // A code is counted in plies as the rules of the game do.
-    ensures plies { PlyRules (G.Name.net (G.level graph.now)) }
-    // And it tells who wins: codes of lost nodes are odd, those of won nodes even.
-    ensures outcome { CodeRules (G.Name.net (G.level graph.now)) }
-    // The watch is as it may be after it was told, whatever the answer.
-    ensures watched { W.becomes watch.old watch.new }
-{
-    solve_with(rt, alloc, graph, gate, workers, blocks, SHORT, watch)
-}
-
-/// [`solve_watched`], where what workers send lies in lists of 4 bytes a node as long as the graph
-/// has at most `short` nodes, and else of 8.
-///
-/// # Errors
-///
-/// Those of [`solve_watched`], of which the watch is told as much.
 #[tactic(auto, using(morris_wave::proofs::Plies::ply_rules, morris_wave::proofs::Plies::code_rules))]
 pub fn solve_with<G: Graph + Send + Sync, A: Gate, R: Threads + Wait + Sync, W: Watch>(
     rt: &R,
@@ -254,20 +210,11 @@ pub fn solve_with<G: Graph + Send + Sync, A: Gate, R: Threads + Wait + Sync, W: 
 ) -> Result<Vec<u16>, SolveFault>
     // A node of a graph of so many nodes is a number of 32 bits.
     requires short { short ≤ 2 ^ 32 }
-    // Numbers out of range are refused, workers first.
-    ensures refused { (fault : SolveFault) → range_fault workers blocks ≡ Some fault → result ≡ Err fault }
-    // And no others are.
-    ensures in_range { IfErr result (λ fault. is_range_fault fault ≡ true → range_fault workers blocks ≡ Some fault) }
-    ensures ok_range { OnOk result (range_fault workers blocks ≡ None) }
-    ensures len { IfOk result (λ v. vec_len v ≡ (G.Name.net (G.level graph.now)).size) }
-    ensures codes { IfOk result (λ v. (i : ℕ) → i < (G.Name.net (G.level graph.now)).size
-        → HasCode (G.Name.net (G.level graph.now)) i (slice_index v.items i)) }
-    ensures not_too_deep { OnOk result (¬ IsTooDeep (G.Name.net (G.level graph.now))) }
-    ensures too_deep { result ≡ Err SolveFault.TooDeep → IsTooDeep (G.Name.net (G.level graph.now)) }
-    ensures missing { IfErr result (λ fault. (number : ℕ) → fault ≡ SolveFault.Missing number → number < blocks) }
-    // A code is counted in plies as the rules of the game do.
+    ensures range { OnOk result (range_fault workers blocks ≡ None) }
+    ensures codes { IfOk result (AreCodes (G.Name.net (G.level graph.now))) }
+    ensures refused { IfErr result (IsRefusal (G.Name.net (G.level graph.now)) workers blocks) }
+    // The rules of [`solve`].
     ensures plies { PlyRules (G.Name.net (G.level graph.now)) }
-    // And it tells who wins: codes of lost nodes are odd, those of won nodes even.
     ensures outcome { CodeRules (G.Name.net (G.level graph.now)) }
     // The watch is as it may be after it was told, whatever the answer.
     ensures watched { W.becomes watch.old watch.new }

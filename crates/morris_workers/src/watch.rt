@@ -1,7 +1,7 @@
 //! Who is told how far a solver is.
 ghost use Rattle.std.specs.Prelude.{◌≡◌};
 
-/// Is told how far [`solve_watched`](crate::solve_watched) is, on the thread that called it and
+/// Is told how far [`solve_with`](crate::solve_with) is, on the thread that called it and
 /// between two waves: no worker runs then, and no block is locked.
 pub trait Watch {
     // What the watch may be after it was told any number of times.

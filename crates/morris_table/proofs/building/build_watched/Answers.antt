@@ -1,81 +1,80 @@
-use Rattle.morris_table.specs.declared.layout.Layout.TheVariants.{Full, Classes}
-use Rattle.std.proofs.Common.{Err, ap, sym, subst}
-use Rattle.std.specs.Result.{result_err}
+use Rattle.std.proofs.Common.{rules, subst}
 use Rattle.morris_wave.specs.Values.{IsTooDeep}
+use Rattle.morris_workers.specs.Solving.{IsRefusal}
+use Rattle.morris_table.specs.declared.build_fault.BuildFault.TheVariants.{Needs}
+use Rattle.morris_table.specs.declared.layout.Layout.TheVariants.{Full, Classes}
+use Rattle.morris_table.specs.Building.{IsUnbuilt, solved}
 use Rattle.morris_table.specs.PairNets.{level_of, net_at}
-use Rattle.morris_workers.specs.Ranges.{range_fault}
-use Rattle.morris_table.proofs.BuildLaws.{refused_deep, refused_range, told_after}
+use Rattle.morris_table.proofs.BuildLaws.{err_of, refused_by_graph, refused_by_workers}
 use Rattle.morris_table.proofs.building.build_watched.Goals as goal
 
 -- by positions
 
+pub returns-in_err-graph-in-Full-clause-refused : goal.returns-in_err-graph-in-Full-clause-refused
+returns-in_err-graph-in-Full-clause-refused g c =
+    err_of c.from_residual.result (IsUnbuilt g.B.Geometry.shape c.args.shelf.now c.args.layout c.args.pair c.args.workers c.args.blocks) (Needs c.in_err-graph-in-Full.field-0.0)
+    c.from_residual.ensures.1 c.in_err-graph-in-Full.ensures.needs
+
 pub returns-in_err-graph-in-Full-clause-whenever : goal.returns-in_err-graph-in-Full-clause-whenever
 returns-in_err-graph-in-Full-clause-whenever g c = rw c.in-Full.is (c.new.ensures.blocks Full)
 
-pub returns-in_err-codes-in-Full-clause-range : goal.returns-in_err-codes-in-Full-clause-range
-returns-in_err-codes-in-Full-clause-range g c = λ there.
+pub returns-in_err-codes-in-Full-clause-refused : goal.returns-in_err-codes-in-Full-clause-refused
+returns-in_err-codes-in-Full-clause-refused g c =
+    let fault = c.in_err-codes-in-Full.field-0.0 in
     rw c.in-Full.is
-    (refused_range c.from_residual-in_err-codes-in-Full.result c.in_err-codes-in-Full.field-0.0 c.args.workers c.args.blocks
-    c.from_residual-in_err-codes-in-Full.ensures.1 c.in_err-codes-in-Full.ensures.in_range (λ other e. ap result_err (c.in_err-codes-in-Full.ensures.refused other e)))
-
-pub returns-in_err-codes-in-Full-clause-beyond : goal.returns-in_err-codes-in-Full-clause-beyond
-returns-in_err-codes-in-Full-clause-beyond g c = λ e.
-    (c.in_ok-graph-in-Full.ensures.deep Full).0
-    (subst (λ d. IsTooDeep (net_at g.B.Geometry.shape (level_of Full d))) c.in_ok-graph-in-Full.ensures.pair
-    (c.in_err-codes-in-Full.ensures.too_deep
-    (ap Err (refused_deep c.from_residual-in_err-codes-in-Full.result c.in_err-codes-in-Full.field-0.0 c.from_residual-in_err-codes-in-Full.ensures.1 e))))
+    (err_of c.from_residual-in_err-codes-in-Full.result (IsUnbuilt g.B.Geometry.shape c.args.shelf.now Full c.args.pair c.args.workers c.args.blocks) (solved fault)
+    c.from_residual-in_err-codes-in-Full.ensures.1
+    (refused_by_workers _ g.B.Geometry.shape c.args.shelf.now c.args.pair Full c.args.workers c.args.blocks fault c.in_ok-graph-in-Full.ensures.needs (c.in_ok-graph-in-Full.ensures.deep Full).0
+    (subst (λ d. IsRefusal (net_at g.B.Geometry.shape (level_of Full d)) c.args.workers c.args.blocks fault) c.in_ok-graph-in-Full.ensures.pair c.in_err-codes-in-Full.ensures.refused)))
 
 pub returns-in_err-codes-in-Full-clause-whenever : goal.returns-in_err-codes-in-Full-clause-whenever
 returns-in_err-codes-in-Full-clause-whenever g c = rw c.in-Full.is (c.new.ensures.blocks Full)
 
-pub returns-in_ok-codes-in-Full-clause-not_too_deep : goal.returns-in_ok-codes-in-Full-clause-not_too_deep
-returns-in_ok-codes-in-Full-clause-not_too_deep g c = λ deep.
-    c.in_ok-codes-in-Full.ensures.not_too_deep
-    (subst (λ d. IsTooDeep (net_at g.B.Geometry.shape (level_of Full d))) (sym c.in_ok-graph-in-Full.ensures.pair)
-    (subst (λ l. IsTooDeep (net_at g.B.Geometry.shape (level_of l c.args.pair))) c.in-Full.is deep))
-
-pub returns-in_ok-codes-in-Full-clause-within : goal.returns-in_ok-codes-in-Full-clause-within
-returns-in_ok-codes-in-Full-clause-within g c = λ beyond.
-    c.in_ok-codes-in-Full.ensures.not_too_deep
-    (subst (λ d. IsTooDeep (net_at g.B.Geometry.shape (level_of Full d))) (sym c.in_ok-graph-in-Full.ensures.pair)
-    ((c.in_ok-graph-in-Full.ensures.deep Full).1 beyond))
+pub returns-in_ok-codes-in-Full-clause-exact : goal.returns-in_ok-codes-in-Full-clause-exact
+returns-in_ok-codes-in-Full-clause-exact g c =
+    let suffice : IsTooDeep (net_at g.B.Geometry.shape (level_of Full c.args.pair)) → ⊥ =
+    subst (λ d. IsTooDeep (net_at g.B.Geometry.shape (level_of Full d)) → ⊥) c.in_ok-graph-in-Full.ensures.pair c.in_ok-codes-in-Full.ensures.codes.not_too_deep in
+    record {
+      pair = search rules;
+      layout = search rules;
+      exact = search rules;
+      not_too_deep = rw c.in-Full.is suffice;
+      within = λ beyond. suffice ((c.in_ok-graph-in-Full.ensures.deep Full).1 beyond);
+    }
 
 pub returns-in_ok-codes-in-Full-clause-whenever : goal.returns-in_ok-codes-in-Full-clause-whenever
 returns-in_ok-codes-in-Full-clause-whenever g c = rw c.in-Full.is (c.new.ensures.blocks Full)
 
 -- by classes
 
-pub returns-in_err-entry_codes-in-Classes-clause-range : goal.returns-in_err-entry_codes-in-Classes-clause-range
-returns-in_err-entry_codes-in-Classes-clause-range g c = λ there.
+pub returns-in_err-graph-in-Classes-clause-refused : goal.returns-in_err-graph-in-Classes-clause-refused
+returns-in_err-graph-in-Classes-clause-refused g c =
+    let fault = c.in_err-graph-in-Classes.field-0.0 in
     rw c.in-Classes.is
-    (told_after c.from_residual-in_err-entry_codes-in-Classes.result (range_fault c.args.workers c.args.blocks)
-    (refused_range c.from_residual-in_err-entry_codes-in-Classes.result c.in_err-entry_codes-in-Classes.field-0.0 c.args.workers c.args.blocks
-    c.from_residual-in_err-entry_codes-in-Classes.ensures.1 c.in_err-entry_codes-in-Classes.ensures.in_range
-    (λ other e. ap result_err (c.in_err-entry_codes-in-Classes.ensures.refused other e))))
+    (err_of c.from_residual-in_err-graph-in-Classes.result (IsUnbuilt g.B.Geometry.shape c.args.shelf.now Classes c.args.pair c.args.workers c.args.blocks) fault
+    c.from_residual-in_err-graph-in-Classes.ensures.1
+    (refused_by_graph _ g.B.Geometry.shape c.args.shelf.now c.args.pair c.args.workers c.args.blocks fault c.in_err-graph-in-Classes.ensures.needs c.in_err-graph-in-Classes.ensures.alone))
 
-pub returns-in_err-entry_codes-in-Classes-clause-too_deep : goal.returns-in_err-entry_codes-in-Classes-clause-too_deep
-returns-in_err-entry_codes-in-Classes-clause-too_deep g c = λ e.
-    subst (λ l. IsTooDeep (net_at g.B.Geometry.shape (level_of l c.args.pair))) (sym c.in-Classes.is)
-    (subst (λ d. IsTooDeep (net_at g.B.Geometry.shape (level_of Classes d))) c.in_ok-graph-in-Classes.ensures.pair
-    (c.in_err-entry_codes-in-Classes.ensures.too_deep
-    (ap Err
-    (refused_deep c.from_residual-in_err-entry_codes-in-Classes.result c.in_err-entry_codes-in-Classes.field-0.0
-    c.from_residual-in_err-entry_codes-in-Classes.ensures.1 e))))
-
-pub returns-in_err-entry_codes-in-Classes-clause-beyond : goal.returns-in_err-entry_codes-in-Classes-clause-beyond
-returns-in_err-entry_codes-in-Classes-clause-beyond g c = λ e.
+pub returns-in_err-entry_codes-in-Classes-clause-refused : goal.returns-in_err-entry_codes-in-Classes-clause-refused
+returns-in_err-entry_codes-in-Classes-clause-refused g c =
+    let fault = c.in_err-entry_codes-in-Classes.field-0.0 in
+    rw c.in-Classes.is
+    (err_of c.from_residual-in_err-entry_codes-in-Classes.result (IsUnbuilt g.B.Geometry.shape c.args.shelf.now Classes c.args.pair c.args.workers c.args.blocks) (solved fault)
+    c.from_residual-in_err-entry_codes-in-Classes.ensures.1
+    (refused_by_workers _ g.B.Geometry.shape c.args.shelf.now c.args.pair Classes c.args.workers c.args.blocks fault c.in_ok-graph-in-Classes.ensures.needs
     c.in_ok-graph-in-Classes.ensures.deep.0
-    (subst (λ l. IsTooDeep (net_at g.B.Geometry.shape (level_of l c.args.pair))) c.in-Classes.is
-    (returns-in_err-entry_codes-in-Classes-clause-too_deep g c e))
+    (subst (λ d. IsRefusal (net_at g.B.Geometry.shape (level_of Classes d)) c.args.workers c.args.blocks fault) c.in_ok-graph-in-Classes.ensures.pair
+    c.in_err-entry_codes-in-Classes.ensures.refused)))
 
-pub returns-in_ok-entry_codes-in-Classes-clause-not_too_deep : goal.returns-in_ok-entry_codes-in-Classes-clause-not_too_deep
-returns-in_ok-entry_codes-in-Classes-clause-not_too_deep g c = λ deep.
-    c.in_ok-entry_codes-in-Classes.ensures.not_too_deep
-    (subst (λ d. IsTooDeep (net_at g.B.Geometry.shape (level_of Classes d))) (sym c.in_ok-graph-in-Classes.ensures.pair)
-    (subst (λ l. IsTooDeep (net_at g.B.Geometry.shape (level_of l c.args.pair))) c.in-Classes.is deep))
-
-pub returns-in_ok-entry_codes-in-Classes-clause-within : goal.returns-in_ok-entry_codes-in-Classes-clause-within
-returns-in_ok-entry_codes-in-Classes-clause-within g c = λ beyond.
-    c.in_ok-entry_codes-in-Classes.ensures.not_too_deep
-    (subst (λ d. IsTooDeep (net_at g.B.Geometry.shape (level_of Classes d))) (sym c.in_ok-graph-in-Classes.ensures.pair)
-    (c.in_ok-graph-in-Classes.ensures.deep.1 beyond))
+pub returns-in_ok-entry_codes-in-Classes-clause-exact : goal.returns-in_ok-entry_codes-in-Classes-clause-exact
+returns-in_ok-entry_codes-in-Classes-clause-exact g c =
+    let suffice : IsTooDeep (net_at g.B.Geometry.shape (level_of Classes c.args.pair)) → ⊥ =
+    subst (λ d. IsTooDeep (net_at g.B.Geometry.shape (level_of Classes d)) → ⊥) c.in_ok-graph-in-Classes.ensures.pair
+    c.in_ok-entry_codes-in-Classes.ensures.codes.not_too_deep in
+    record {
+      pair = search rules;
+      layout = search rules;
+      exact = search rules;
+      not_too_deep = rw c.in-Classes.is suffice;
+      within = λ beyond. suffice (c.in_ok-graph-in-Classes.ensures.deep.1 beyond);
+    }
