@@ -6,10 +6,11 @@ use Rattle.std.proofs.lemmas.Bool.{and_parts, or_right, eqb-true, eq-eqb, ne_eqb
 use Rattle.std.proofs.lemmas.List.{get_or-replicate, get_or_past, get_or_default, same_lists, drop_all, length-replicate}
 use Rattle.std.proofs.lemmas.List.Sums.{AllPass-from_list_all}
 use Rattle.morris_wave.specs.Nets.{Net, IsNet, times}
+use Rattle.morris_wave.specs.Lists.{list_at}
 use Rattle.morris_wave.specs.Exits.{is_odd}
 use Rattle.morris_wave.specs.Waves.{is_fresh}
 use Rattle.morris_wave.specs.Solving.{every, none}
-use Rattle.morris_wave.specs.Keeping.{StretchHolds, Takes, ComesDue, UsedUpTo, left_of}
+use Rattle.morris_wave.specs.Keeping.{StretchHolds, Takes, left_of}
 use Rattle.morris_wave.specs.Blocks.{Parts, IsCut, first_of, block_of, IsIn, BlockState, BlockHolds, is_complete, in_applied, count_of, first_wave, next_wave_of}
 use Rattle.morris_wave.specs.Batches.{BatchState, BatchHolds}
 use Rattle.morris_wave.proofs.Parts.{known_won_cong, known_lost_cong}
@@ -33,7 +34,7 @@ first_of-le c law k l =
     omega (arith, below)
 
 -- before the first wave
-pub make_holds : (g : Net) (law : IsNet g) (level number first : ℕ) (cut : Parts) (codes counters due : List ℕ) (last_due : ℕ) → IsCut cut → g.size ≡ cut.size → number < cut.blocks
+pub make_holds : (g : Net) (law : IsNet g) (level number first : ℕ) (cut : Parts) (codes counters : List ℕ) (due : List (List ℕ)) (last_due : ℕ) → IsCut cut → g.size ≡ cut.size → number < cut.blocks
     → first ≡ first_of cut number → length codes ≡ count_of (first_wave level cut number) → StretchHolds g 0 every first codes counters due last_due
     → BlockHolds g (first_wave level cut number) first codes counters due last_due
 make_holds g law level number first cut codes counters due last_due is_cut size inside first_is count_is kept = record {
@@ -47,7 +48,7 @@ make_holds g law level number first cut codes counters due last_due is_cut size 
   kept = first_holds g law every (in_applied (first_wave level cut number)) first codes counters due last_due kept;
 }
 
-module _ (g : Net) (law : IsNet g) (s : BlockState) (first : ℕ) (codes counters due : List ℕ) (last_due : ℕ) (h : BlockHolds g s first codes counters due last_due) where
+module _ (g : Net) (law : IsNet g) (s : BlockState) (first : ℕ) (codes counters : List ℕ) (due : List (List ℕ)) (last_due : ℕ) (h : BlockHolds g s first codes counters due last_due) where
   -- the nodes of the block are those of the stretch
   pub inside_low : (i : ℕ) → IsIn s.cut s.number i → first ≤ i
   inside_low i inside = omega (arith, inside.0, h.first_is)
@@ -123,10 +124,10 @@ module _ (g : Net) (law : IsNet g) (s : BlockState) (first : ℕ) (codes counter
         (λ l. sym (get_or_past (replicate s.cut.blocks false) (block_of s.cut j) false (omega (arith, length-replicate s.cut.blocks false, l))))
         (cases_lt (block_of s.cut j) s.cut.blocks)
 
-    pub advance_holds : s.wave < 65534 → (used : ℕ) → UsedUpTo (s.wave + 1) due used → (codes' counters' : List ℕ) → length codes' ≡ length codes → length counters' ≡ length counters
-        → ((k : ℕ) → k < length counters' → get_or counters' k 0 < 65536) → ComesDue (s.wave + 1) due codes codes' counters counters' used
+    pub advance_holds : s.wave < 65534 → (codes' counters' : List ℕ) → length codes' ≡ length codes → length counters' ≡ length counters
+        → ((k : ℕ) → k < length counters' → get_or counters' k 0 < 65536) → Takes (s.wave + 1) first (list_at due (s.wave + 1)) codes codes' counters counters'
         → BlockHolds g (next_wave_of s) first codes' counters' due last_due
-    advance_holds last used next codes' counters' codes_len counters_len small comes = record {
+    advance_holds last codes' counters' codes_len counters_len small comes = record {
       cut = h.cut;
       size = h.size;
       number = h.number;
@@ -135,7 +136,7 @@ module _ (g : Net) (law : IsNet g) (s : BlockState) (first : ℕ) (codes counter
       first_is = h.first_is;
       count_is = codes_len ∙ h.count_is;
       kept = holds_same g law (s.wave + 1) none first codes' counters' due last_due
-          (next_holds g law s.wave first codes counters due last_due complete_holds (omega (arith, law.small, h.kept.in_graph)) last used next codes' counters' codes_len counters_len small comes)
+          (next_holds g law s.wave first codes counters due last_due complete_holds last codes' counters' codes_len counters_len small comes)
           (in_applied (next_wave_of s))
           (λ j l. known_won_cong g (s.wave + 1) none (in_applied (next_wave_of s)) j (none_applied j)) (λ j l. known_lost_cong g (s.wave + 1) none (in_applied (next_wave_of s)) j (none_applied j));
     }

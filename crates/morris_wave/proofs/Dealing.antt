@@ -1,14 +1,14 @@
 -- Nodes dealt into one list for each block.
-use Rattle.std.proofs.Common.{◌≡◌, ℕ, zero, suc, ◌+◌, ◌<◌, cond, eqb, List, [], ◌∷◌, ◌++◌, length, get_or, set, take, refl, sym, ap, ◌∙◌, subst, ⊎_elim, arith, Vec, get_or-set_same, get_or-set_other, length-set}
+use Rattle.std.proofs.Common.{◌≡◌, ℕ, zero, suc, ◌+◌, ◌<◌, cond, eqb, List, [], ◌∷◌, ◌++◌, length, get_or, set, take, refl, sym, ap, ◌∙◌, subst, ⊎_elim, arith, get_or-set_same, get_or-set_other, length-set}
 use Rattle.std.specs.List.{All}
 use Rattle.std.proofs.lemmas.Bool.{cases_eq, cond-false, ne_eqb}
 use Rattle.std.proofs.lemmas.List.Sums.{sum_by_push}
 use Rattle.std.proofs.lemmas.List.Elements.{All-push, All-nil}
 use Rattle.morris_wave.specs.Nets.{times}
 use Rattle.morris_wave.specs.Blocks.{Parts, IsIn, block_of}
-use Rattle.std.specs.declared.alloc.Global.{Global}
 use Rattle.std.proofs.lemmas.List.{map-set, get_or-map}
-use Rattle.morris_wave.specs.Delivery.{contents, list_at, AreSorted, Deals}
+use Rattle.morris_wave.specs.Lists.{contents, list_at}
+use Rattle.morris_wave.specs.Delivery.{AreSorted, Deals}
 use Rattle.morris_wave.proofs.Marking.{times_more}
 
 times_push : (i node : ℕ) (xs : List ℕ) → times i (xs ++ node ∷ []) ≡ times i xs + cond {A = ℕ} (eqb node i) 1 0

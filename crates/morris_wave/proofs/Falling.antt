@@ -89,3 +89,15 @@ node_place first node from k =
 -- nothing fell yet
 pub lowers_none : (e : ℕ → ℕ) (old : List ℕ) (xs : List ℕ) → ((k : ℕ) → k < length old → get_or old k 0 < 65536) → ((k : ℕ) → k < length old → times (e k) xs ≡ 0) → LowersBy e old old xs
 lowers_none e old xs small zeros k l = omega (arith, small k l, zeros k l)
+
+-- one node more that is marked whatever its counter
+pub marked_more : (nodes : List ℕ) (i node : ℕ) → i < length nodes → node ≡ get_or nodes i 0 → (first place : ℕ) → ((k : ℕ) → eqb place k ≡ eqb node (first + k))
+    → (codes mid new : List ℕ) (code : ℕ) → 0 < code → length mid ≡ length codes
+    → Marks codes mid (λ k. among (take i nodes) (first + k)) code → Marks mid new (λ k. eqb place k && true) code → Marks codes new (λ k. among (take (i + 1) nodes) (first + k)) code
+marked_more nodes i node inside is first place at_place codes mid new code pos len a b =
+    marks_twice codes mid new (λ k. among (take i nodes) (first + k)) (λ k. eqb place k && true) (λ k. among (take (i + 1) nodes) (first + k)) code pos len
+    (λ k l. among_more nodes i node inside is (first + k) ∙ ap (λ t. among (take i nodes) (first + k) || t) (sym (at_place k) ∙ and_true (eqb place k))) a b
+  where
+    and_true : (t : Bool) → t ≡ (t && true)
+    and_true true = refl
+    and_true false = refl

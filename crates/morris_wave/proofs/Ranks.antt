@@ -2,7 +2,7 @@
 use Rattle.std.proofs.Common.{◌≡◌, ◌≢◌, ℕ, zero, suc, ◌+◌, ◌-◌, ◌<◌, ◌≤◌, Bool, true, false, not, ◌&&◌, cond, eqb, ltb, List, [], ◌∷◌, ◌++◌, length, get_or, set, take, drop, refl, sym, ap, ap₂, ◌∙◌, subst, ⊎_elim, arith, ◌↔◌, replicate, zero-add, length-take, length-drop, length-append, length-set, get_or-set_same, get_or-set_other}
 use Rattle.std.specs.List.{All, count_by, list_any}
 use Rattle.std.proofs.lemmas.Bool.{cases_eq, cases_lt, cases_Bool, cond-true, cond-false, eq-eqb, ne_eqb, eqb-true, lt-ltb, le-ltb, false_from_ne_true, both_ways, and_parts, and_from, ltb-true, false≢true, or_cases}
-use Rattle.std.proofs.lemmas.List.{get_or_append_left, get_or_push, get_or_default, get_or-take, get_or-drop, drop-take, get_or-replicate, length-replicate}
+use Rattle.std.proofs.lemmas.List.{take_more, get_or_append_left, get_or_push, get_or_default, get_or-take, get_or-drop, drop-take, get_or-replicate, length-replicate}
 use Rattle.std.proofs.lemmas.List.Sums.{get_or-le-sum_by, sum_by-take-drop}
 use Rattle.std.proofs.lemmas.List.Folds.{list_any_at}
 use Rattle.std.proofs.lemmas.List.Sorted.{IsNonDecreasingBy-push}
@@ -276,3 +276,17 @@ room_left codes place inside open_yet =
             at : (t : Bool) → cond {A = ℕ} (not t && true) 1 0 + cond {A = ℕ} t 1 0 + 0 ≡ 1
             at true = refl
             at false = refl
+
+-- the stretch of a wave, node after node
+pub stretch_none : (before : ℕ) (decided : List ℕ) → [] ≡ take (before - before) (drop before decided)
+stretch_none before decided = let z : 0 ≡ before - before = omega arith in ap (λ n. take n (drop before decided)) z
+
+pub stretch_more : (before place : ℕ) (decided nodes : List ℕ) (node : ℕ) → before ≤ place → place < length decided → nodes ≡ take (place - before) (drop before decided) → node ≡ get_or decided place 0
+    → nodes ++ node ∷ [] ≡ take (place + 1 - before) (drop before decided)
+stretch_more before place decided nodes node low high so_far is =
+    let there : before + (place - before) ≡ place = omega (arith, low) in
+    let next : place - before + 1 ≡ place + 1 - before = omega (arith, low) in
+    let at : node ≡ get_or (drop before decided) (place - before) 0 = is ∙ (ap (λ p. get_or decided p 0) (sym there) ∙ sym (get_or-drop before decided (place - before) 0)) in
+    ap₂ (λ xs x. xs ++ x ∷ []) so_far at
+    ∙ (sym (take_more (drop before decided) (place - before) 0 (omega (arith, low, high, length-drop before decided)))
+    ∙ ap (λ n. take n (drop before decided)) next)

@@ -1,12 +1,13 @@
 -- What is read of the exits of a stretch, node after node.
-use Rattle.std.proofs.Common.{◌≡◌, ℕ, ◌+◌, ◌%◌, ◌<◌, ◌≤◌, max, false, ◌&&◌, ◌||◌, cond, eqb, List, Option, Some, None, length, get_or, set, refl, sym, ap, ap₂, ◌∙◌, subst, ⊎_elim, arith, get_or-set_other, get_or-set_same}
+use Rattle.std.proofs.Common.{◌≡◌, ℕ, ◌+◌, ◌%◌, ◌<◌, ◌≤◌, max, Bool, true, false, ◌&&◌, ◌||◌, cond, eqb, ltb, List, Option, Some, None, length, get_or, set, refl, sym, ap, ap₂, ◌∙◌, subst, ⊎_elim, arith, get_or-set_other, get_or-set_same}
 use Rattle.std.proofs.lemmas.Bool.{cases_eq, cases_lt, eq-eqb, ne_eqb, le-ltb}
 use Rattle.morris_wave.specs.declared.network.Exits.{Exits}
 use Rattle.morris_wave.specs.Nets.{Net, times}
+use Rattle.morris_wave.specs.Lists.{list_at}
 use Rattle.morris_wave.specs.Exits.{exits_of, exits_won, some_below, last_due_of}
 use Rattle.morris_wave.specs.Waves.{entry_at, marked, settles}
 use Rattle.morris_wave.specs.Solving.{Marks, every}
-use Rattle.morris_wave.specs.Keeping.{HasRead, HoldsDue, UsedUpTo, ListsDue, StretchHolds, due_wave, due_within, due_word, place_of, pending_at, waits}
+use Rattle.morris_wave.specs.Keeping.{HasRead, ListsDue, StretchHolds, due_wave, due_within, pending_at, waits}
 use Rattle.morris_wave.proofs.Advancing.{entry_first}
 use Rattle.morris_wave.proofs.Steps.{pending_first}
 use Rattle.morris_wave.proofs.Marking.{marked_none}
@@ -82,34 +83,31 @@ module _ (g : Net) (first place : ℕ) (codes counters waves : List ℕ) (last :
   }
 
 -- equal waves are listed alike
-lists_alike : (f h : ℕ → ℕ) (count : ℕ) (due : List ℕ) → ((k : ℕ) → k < count → f k ≡ h k) → ListsDue f count due → ListsDue h count due
-lists_alike f h count due same l = record {
-  holds = record {
-    inside = λ p d q. let w = l.holds.inside p d q in (w.0, (w.1.0, sym (same (place_of (get_or due p d)) w.0) ∙ w.1.1));
-    once = λ k q. subst (λ x. times (due_word x k) due ≡ cond {A = ℕ} (eqb x 0) 0 1) (same k q) (l.holds.once k q);
-  };
-  order = l.order;
+lists_alike : (f h : ℕ → ℕ) (first count : ℕ) (due : List (List ℕ)) → ((k : ℕ) → k < count → f k ≡ h k) → ListsDue f first count due → ListsDue h first count due
+lists_alike f h first count due same l = record {
+  inside = l.inside;
+  once = λ n k q. subst (λ x. times (first + k) (list_at due n) ≡ cond {A = ℕ} (ltb 0 n && eqb x n) 1 0) (same k q) (l.once n k q);
 }
 
 -- what was read of every node
-pub read_all : (g : Net) (first : ℕ) (codes counters waves due : List ℕ) (last : ℕ) → HasRead g first (length codes) codes counters waves last
-    → first + length codes ≤ g.size → length counters ≡ length codes → length waves ≡ length codes → ListsDue (λ k. get_or waves k 0) (length waves) due
+pub read_all : (g : Net) (first : ℕ) (codes counters waves : List ℕ) (due : List (List ℕ)) (last : ℕ) → HasRead g first (length codes) codes counters waves last
+    → first + length codes ≤ g.size → length counters ≡ length codes → length waves ≡ length codes → ListsDue (λ k. get_or waves k 0) first (length waves) due
     → StretchHolds g 0 every first codes counters due last
 read_all g first codes counters waves due last h in_graph counters_len waves_len listed = record {
   in_graph = in_graph;
   counters_len = counters_len;
   codes_are = h.codes_are;
   counters_are = h.counters_are;
-  due_are = lists_alike (λ k. get_or waves k 0) (λ k. due_within (due_wave (exits_of (g.exits (first + k))))) (length codes) due h.waves_are
-      (subst (λ n. ListsDue (λ k. get_or waves k 0) n due) waves_len listed);
+  due_are = lists_alike (λ k. get_or waves k 0) (λ k. due_within (due_wave (exits_of (g.exits (first + k))))) first (length codes) due h.waves_are
+      (subst (λ n. ListsDue (λ k. get_or waves k 0) first n due) waves_len listed);
   bound = h.bound;
   reached = h.reached;
 }
 
--- before the first wave nothing came due
-pub nothing_used : (f : ℕ → ℕ) (count : ℕ) (due : List ℕ) → HoldsDue f count due → UsedUpTo 0 due 0
-nothing_used f count due h = record {
-  within = omega arith;
-  past = λ p l. absurd (omega (arith, l));
-  ahead = λ p a l. (h.inside p 0 l).1.0;
-}
+-- a node comes due once at most
+pub due_once : (f : ℕ → ℕ) (first count : ℕ) (due : List (List ℕ)) → ListsDue f first count due → (n k : ℕ) → k < count → times (first + k) (list_at due n) ≤ 1
+due_once f first count due h n k l = omega (arith, h.once n k l, at_most (ltb 0 n && eqb (f k) n))
+  where
+    at_most : (t : Bool) → cond {A = ℕ} t 1 0 ≤ 1
+    at_most true = omega arith
+    at_most false = omega arith

@@ -1,15 +1,15 @@
 -- The batches of one block's fresh nodes.
-use Rattle.std.proofs.Common.{◌≡◌, ℕ, suc, ◌+◌, ◌<◌, ◌&&◌, cond, eqb, List, [], ◌∷◌, ◌++◌, Vec, length, get_or, take, refl, sym, ap, ap₂, ◌∙◌, subst, ⊎_elim, arith}
+use Rattle.std.proofs.Common.{◌≡◌, ℕ, suc, ◌+◌, ◌<◌, ◌&&◌, cond, eqb, List, [], ◌∷◌, ◌++◌, length, get_or, take, refl, sym, ap, ap₂, ◌∙◌, subst, ⊎_elim, arith}
 use Rattle.std.specs.List.{All, count_by, sum_by}
 use Rattle.std.proofs.lemmas.Bool.{cases_eq, cases_lt, cond-false, eq-eqb, ne_eqb, and_left}
-use Rattle.std.specs.declared.alloc.Global.{Global}
 use Rattle.std.proofs.lemmas.List.{length-map, length-append, map-append, get_or_at, get_or_append_left, get_or_push, length_push}
 use Rattle.std.proofs.lemmas.List.Sums.{sum_by-cons, sum_by_more}
 use Rattle.morris_wave.specs.Nets.{Net, IsNet, times}
 use Rattle.morris_wave.specs.Waves.{is_fresh}
 use Rattle.morris_wave.specs.Blocks.{Parts, IsIn, block_of}
 use Rattle.morris_wave.specs.Batches.{FreshState, FreshHolds, BatchState, BatchHolds}
-use Rattle.morris_wave.specs.Delivery.{contents, list_at, AreSorted, Deals, LeadTo, batch_of, IsBatchOf}
+use Rattle.morris_wave.specs.Lists.{contents, list_at}
+use Rattle.morris_wave.specs.Delivery.{AreSorted, Deals, LeadTo, batch_of, IsBatchOf}
 use Rattle.morris_wave.proofs.Tests.{count-cons}
 use Rattle.morris_wave.proofs.Blocking.{first_of-le}
 use Rattle.morris_wave.proofs.Cutting.{block_is, is_in_block}

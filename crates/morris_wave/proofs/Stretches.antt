@@ -1,16 +1,17 @@
 -- A stretch of nodes goes from wave to wave.
-use Rattle.std.proofs.Common.{◌≡◌, ℕ, suc, ◌+◌, ◌-◌, ◌%◌, ◌<◌, ◌≤◌, ◌↔◌, Bool, true, false, not, ◌&&◌, ◌||◌, cond, eqb, ltb, List, [], ◌∷◌, length, get_or, take, refl, sym, ap, ap₂, ◌∙◌, subst, ⊎_elim, inl, ◌⊎◌, arith}
+use Rattle.std.proofs.Common.{◌≡◌, ℕ, suc, ◌+◌, ◌-◌, ◌%◌, ◌<◌, ◌≤◌, ◌↔◌, Bool, true, false, not, ◌&&◌, ◌||◌, cond, eqb, ltb, List, [], ◌∷◌, length, get_or, refl, sym, ap, ap₂, ◌∙◌, subst, ⊎_elim, inl, ◌⊎◌, arith}
 use Rattle.std.specs.List.{count_by, list_any}
 use Rattle.std.specs.List.Sorted.{IsNonDecreasingBy}
 use Rattle.std.proofs.lemmas.Bool.{false≢true, and_parts, and_from, both_ways, or_cases, not-true, not_from_false, cases_Bool, cases_lt, cond-true, cond-false, ne_eqb, lt-ltb, le-ltb, ltb-true}
 use Rattle.std.proofs.lemmas.List.Folds.{list_any_at}
 use Rattle.std.proofs.lemmas.List.Sums.{count_by-le-length}
 use Rattle.morris_wave.specs.Nets.{Net, IsNet, times}
+use Rattle.morris_wave.specs.Lists.{list_at}
 use Rattle.morris_wave.specs.Exits.{is_odd, exits_of, exits_won, last_due_of}
 use Rattle.morris_wave.specs.Values.{is_decided, code_within, HasDepth, IsTooDeep}
 use Rattle.morris_wave.specs.Waves.{known_won, known_lost, is_decided_at, entry_at, is_fresh, marked}
 use Rattle.morris_wave.specs.Solving.{among, every, none}
-use Rattle.morris_wave.specs.Keeping.{StretchHolds, Ranked, code_of, Takes, ComesDue, UsedUpTo, ListsDue, due_wave, due_within, due_word, pending_at, waits, left_of}
+use Rattle.morris_wave.specs.Keeping.{StretchHolds, Ranked, code_of, Takes, ListsDue, due_wave, due_within, pending_at, waits, left_of}
 use Rattle.morris_wave.proofs.Tests.{some_counted}
 use Rattle.morris_wave.proofs.Known.{entry_open, entry_same, open_same}
 use Rattle.morris_wave.proofs.Applying.{odd_entry}
@@ -18,7 +19,6 @@ use Rattle.morris_wave.proofs.Advancing.{entry_all}
 use Rattle.morris_wave.proofs.Parts.{fresh_entry, fresh_code}
 use Rattle.morris_wave.proofs.LateExits.{due_deep}
 use Rattle.morris_wave.proofs.Steps.{waits-le, odd_pending, even_pending, even_closed, odd_pending_next, odd_entry_next, even_pending_next, even_entry_next}
-use Rattle.morris_wave.proofs.DueLists.{due_now, due_times}
 use Rattle.morris_wave.proofs.Ranks.{ranked_once}
 
 plus_one : (m : ℕ) → m + 1 ≡ suc m
@@ -37,7 +37,7 @@ due_same wave n le pos =
     ∙ (ne_eqb 0 n (λ z. omega (arith, z, pos)) ∙ sym (ne_eqb wave n (λ z. omega (arith, z, l, le)))))
     (cases_lt wave 65535)
 
-module _ (g : Net) (law : IsNet g) (n : ℕ) (a : ℕ → Bool) (first : ℕ) (codes counters due : List ℕ) (last_due : ℕ) (h : StretchHolds g n a first codes counters due last_due) where
+module _ (g : Net) (law : IsNet g) (n : ℕ) (a : ℕ → Bool) (first : ℕ) (codes counters : List ℕ) (due : List (List ℕ)) (last_due : ℕ) (h : StretchHolds g n a first codes counters due last_due) where
   pub node_in : (k : ℕ) → k < length codes → first + k < g.size
   node_in k l = omega (arith, h.in_graph, l)
 
@@ -157,27 +157,31 @@ module _ (g : Net) (law : IsNet g) (n : ℕ) (a : ℕ → Bool) (first : ℕ) (c
         reached = λ some. let w = h.reached some in (w.0, (omega (arith, w.1.0, codes_len), w.1.1));
       }
         where
-          ListsDueOf : List ℕ → ℕ → Type 0
-          ListsDueOf xs count = ListsDue (λ k. due_within (due_wave (exits_of (g.exits (first + k))))) count xs
+          ListsDueOf : List (List ℕ) → ℕ → Type 0
+          ListsDueOf xs count = ListsDue (λ k. due_within (due_wave (exits_of (g.exits (first + k))))) first count xs
 
 -- from a complete wave to the next
-module _ (g : Net) (law : IsNet g) (n first : ℕ) (codes counters due : List ℕ) (last_due : ℕ) (h : StretchHolds g n every first codes counters due last_due)
-    (small_stretch : length codes ≤ 1099511627776) (last : n < 65534) (used : ℕ) (next : UsedUpTo (n + 1) due used) where
-  is_due : (k : ℕ) → k < length codes → among (take used due) (due_word (n + 1) k) ≡ eqb (due_wave (exits_of (g.exits (first + k)))) (suc n)
-  is_due k l =
-      due_now (λ j. due_within (due_wave (exits_of (g.exits (first + j))))) (length codes) due h.due_are small_stretch n used next k l
-      ∙ (due_same (due_wave (exits_of (g.exits (first + k)))) (n + 1) (omega (arith, last)) (omega arith)
-      ∙ ap (eqb (due_wave (exits_of (g.exits (first + k))))) (plus_one n))
-
-  often_due : (k : ℕ) → k < length codes → times (due_word (n + 1) k) (take used due) ≡ cond {A = ℕ} (eqb (due_wave (exits_of (g.exits (first + k)))) (suc n)) 1 0
+module _ (g : Net) (law : IsNet g) (n first : ℕ) (codes counters : List ℕ) (due : List (List ℕ)) (last_due : ℕ) (h : StretchHolds g n every first codes counters due last_due)
+    (last : n < 65534) where
+  often_due : (k : ℕ) → k < length codes → times (first + k) (list_at due (n + 1)) ≡ cond {A = ℕ} (eqb (due_wave (exits_of (g.exits (first + k)))) (suc n)) 1 0
   often_due k l =
-      due_times (λ j. due_within (due_wave (exits_of (g.exits (first + j))))) (length codes) due h.due_are small_stretch n used next k l
+      h.due_are.once (n + 1) k l
       ∙ ap (λ (t : Bool). cond {A = ℕ} t 1 0)
-      (due_same (due_wave (exits_of (g.exits (first + k)))) (n + 1) (omega (arith, last)) (omega arith)
-      ∙ ap (eqb (due_wave (exits_of (g.exits (first + k))))) (plus_one n))
+      (ap (λ t. t && eqb (due_within (due_wave (exits_of (g.exits (first + k))))) (n + 1)) (lt-ltb 0 (n + 1) (omega arith))
+      ∙ (due_same (due_wave (exits_of (g.exits (first + k)))) (n + 1) (omega (arith, last)) (omega arith)
+      ∙ ap (eqb (due_wave (exits_of (g.exits (first + k))))) (plus_one n)))
+
+  is_due : (k : ℕ) → k < length codes → among (list_at due (n + 1)) (first + k) ≡ eqb (due_wave (exits_of (g.exits (first + k)))) (suc n)
+  is_due k l =
+      sym (some_counted (λ x. eqb x (first + k)) (list_at due (n + 1)))
+      ∙ (ap (ltb 0) (often_due k l) ∙ some_if (eqb (due_wave (exits_of (g.exits (first + k)))) (suc n)))
+    where
+      some_if : (t : Bool) → ltb 0 (cond {A = ℕ} t 1 0) ≡ t
+      some_if true = lt-ltb 0 1 (omega arith)
+      some_if false = le-ltb 0 0 (omega arith)
 
   module _ (codes' counters' : List ℕ) (codes_len : length codes' ≡ length codes) (counters_len : length counters' ≡ length counters) (small : (k : ℕ) → k < length counters' → get_or counters' k 0 < 65536)
-      (comes : ComesDue (n + 1) due codes codes' counters counters' used) where
+      (comes : Takes (n + 1) first (list_at due (n + 1)) codes codes' counters counters') where
     odd_suc : (b : Bool) → is_odd (n + 1) ≡ b → is_odd (suc n) ≡ b
     odd_suc b e = ap is_odd (sym (plus_one n)) ∙ e
 
@@ -197,7 +201,7 @@ module _ (g : Net) (law : IsNet g) (n first : ℕ) (codes counters due : List �
         twice : (m : ℕ) → m + 1 + 1 ≡ suc (suc m)
         twice m = omega arith
 
-        closes : is_odd (n + 1) ≡ false → (among (take used due) (due_word (n + 1) k) && eqb (get_or counters' k 0) 0)
+        closes : is_odd (n + 1) ≡ false → (among (list_at due (n + 1)) (first + k) && eqb (get_or counters' k 0) 0)
             ≡ (eqb (due_wave (exits_of (g.exits (first + k)))) (suc n) && eqb (pending_at g (suc n) none (first + k)) 0)
         closes even =
             ⊎_elim
@@ -244,8 +248,8 @@ module _ (g : Net) (law : IsNet g) (n first : ℕ) (codes counters due : List �
       reached = λ some. let w = h.reached some in (w.0, (omega (arith, w.1.0, codes_len), w.1.1));
     }
       where
-        ListsDueOf : List ℕ → ℕ → Type 0
-        ListsDueOf xs count = ListsDue (λ k. due_within (due_wave (exits_of (g.exits (first + k))))) count xs
+        ListsDueOf : List (List ℕ) → ℕ → Type 0
+        ListsDueOf xs count = ListsDue (λ k. due_within (due_wave (exits_of (g.exits (first + k))))) first count xs
 
 -- before the first wave nothing is known, whatever is applied
 none_won : (g : Net) (a b : ℕ → Bool) (j : ℕ) → known_won g 0 a j ≡ known_won g 0 b j
@@ -256,11 +260,11 @@ none_lost : (g : Net) (a b : ℕ → Bool) (j : ℕ) → known_lost g 0 a j ≡ 
 unfolding known_lost
 none_lost g a b j = refl
 
-pub first_holds : (g : Net) (law : IsNet g) (a b : ℕ → Bool) (first : ℕ) (codes counters due : List ℕ) (last_due : ℕ) → StretchHolds g 0 a first codes counters due last_due → StretchHolds g 0 b first codes counters due last_due
+pub first_holds : (g : Net) (law : IsNet g) (a b : ℕ → Bool) (first : ℕ) (codes counters : List ℕ) (due : List (List ℕ)) (last_due : ℕ) → StretchHolds g 0 a first codes counters due last_due → StretchHolds g 0 b first codes counters due last_due
 first_holds g law a b first codes counters due last_due h = holds_same g law 0 a first codes counters due last_due h b (λ j l. none_won g a b j) (λ j l. none_lost g a b j)
 
 -- what a complete wave found
-module _ (g : Net) (law : IsNet g) (n first : ℕ) (codes counters due : List ℕ) (last_due : ℕ) (h : StretchHolds g n every first codes counters due last_due) where
+module _ (g : Net) (law : IsNet g) (n first : ℕ) (codes counters : List ℕ) (due : List (List ℕ)) (last_due : ℕ) (h : StretchHolds g n every first codes counters due last_due) where
   depth_new : (i : ℕ) → HasDepth g i n → is_fresh g (suc n) i ≡ true
   unfolding is_fresh
   depth_new i d = and_from (not (is_decided g n i)) (is_decided g (suc n) i) (not_from_false (is_decided g n i) d.not_before) d.reached

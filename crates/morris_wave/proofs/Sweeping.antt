@@ -18,7 +18,7 @@ use Rattle.morris_wave.proofs.Settling.{IsQuiet, quiet_codes, not_too_deep}
 use Rattle.morris_wave.proofs.Stretches.{take_enough, take_holds, holds_same, fresh_once, codes_within, no_depth, new_depth, due_by}
 
 -- the nodes of the wave's stretch of the list are the fresh ones
-pub fresh_listed : (g : Net) (law : IsNet g) (n : ℕ) (a : ℕ → Bool) (codes counters due : List ℕ) (last_due : ℕ) → StretchHolds g n a 0 codes counters due last_due → length codes ≡ g.size
+pub fresh_listed : (g : Net) (law : IsNet g) (n : ℕ) (a : ℕ → Bool) (codes counters : List ℕ) (due : List (List ℕ)) (last_due : ℕ) → StretchHolds g n a 0 codes counters due last_due → length codes ≡ g.size
     → (decided : List ℕ) (before here : ℕ) → Ranked 0 n codes decided before here → ListsFresh g n (take (here - before) (drop before decided))
 fresh_listed g law n a codes counters due last_due h len decided before here r = record {
   inside = λ p d l. let w = stretch_inside 0 n before here codes decided r p d l in omega (arith, w.1, len);
@@ -80,7 +80,7 @@ module _ (g : Net) (n : ℕ) (fresh : List ℕ) (listed : ListsFresh g n fresh) 
             (λ e. ne_eqb y node (λ z. e (sym z)) ∙ sym (and_left (eqb node y) (is_fresh g n y) (ne_eqb node y e)))
             (cases_eq node y)
 
-    module _ (law : IsNet g) (first : ℕ) (codes counters due : List ℕ) (last_due : ℕ) (h : StretchHolds g n (among (take i fresh)) first codes counters due last_due) where
+    module _ (law : IsNet g) (first : ℕ) (codes counters : List ℕ) (due : List (List ℕ)) (last_due : ℕ) (h : StretchHolds g n (among (take i fresh)) first codes counters due last_due) where
       taken : (k : ℕ) → k < length codes → times (first + k) nodes ≡ count_by (λ j. eqb node j && is_fresh g n j) (g.quiet (first + k))
       taken k l = counted (first + k) (omega (arith, l, h.in_graph))
 
@@ -96,7 +96,7 @@ module _ (g : Net) (n : ℕ) (fresh : List ℕ) (listed : ListsFresh g n fresh) 
           (λ j l. known_won_cong g n (λ x. among (take i fresh) x || eqb node x) (among (take (i + 1) fresh)) j (sym (among_more fresh i node inside is j)))
           (λ j l. known_lost_cong g n (λ x. among (take i fresh) x || eqb node x) (among (take (i + 1) fresh)) j (sym (among_more fresh i node inside is j)))
 
-module _ (g : Net) (law : IsNet g) (n first : ℕ) (codes counters due : List ℕ) (last_due : ℕ) where
+module _ (g : Net) (law : IsNet g) (n first : ℕ) (codes counters : List ℕ) (due : List (List ℕ)) (last_due : ℕ) where
   -- before the first of them
   pub spread_none : (fresh : List ℕ) (i : ℕ) → i ≡ 0 → StretchHolds g n none first codes counters due last_due → StretchHolds g n (among (take i fresh)) first codes counters due last_due
   spread_none fresh i is h = subst (λ x. StretchHolds g n (among (take x fresh)) first codes counters due last_due) (sym is) h
@@ -111,7 +111,7 @@ module _ (g : Net) (law : IsNet g) (n first : ℕ) (codes counters due : List �
       has j l e = sym (some_counted (λ x. eqb x j) fresh) ∙ lt-ltb 0 (times j fresh) (omega (arith, listed.once j l, cond-true {A = ℕ} (is_fresh g n j) 1 0 e))
 
 -- a complete wave that found nothing more, when all exits are due: its entries are the codes
-module _ (g : Net) (law : IsNet g) (n : ℕ) (codes counters due : List ℕ) (last_due : ℕ) (h : StretchHolds g n every 0 codes counters due last_due) (len : length codes ≡ g.size)
+module _ (g : Net) (law : IsNet g) (n : ℕ) (codes counters : List ℕ) (due : List (List ℕ)) (last_due : ℕ) (h : StretchHolds g n every 0 codes counters due last_due) (len : length codes ≡ g.size)
     (le : last_due ≤ n) (nothing : list_any (λ c. eqb c (n + 1)) codes ≡ false) where
   quiet : IsQuiet g n
   quiet = record {

@@ -56,7 +56,7 @@ abbrev pub count_of : BlockState → ℕ
 count_of s = first_of s.cut (s.number + 1) - first_of s.cut s.number
 
 -- A block holds, at every moment, what its wave and its applied sources say.
-pub record BlockHolds (g : Net) (s : BlockState) (first : ℕ) (codes counters due : List ℕ) (last_due : ℕ) : Type 0 where
+pub record BlockHolds (g : Net) (s : BlockState) (first : ℕ) (codes counters : List ℕ) (due : List (List ℕ)) (last_due : ℕ) : Type 0 where
   pub cut : IsCut s.cut
   pub size : g.size ≡ s.cut.size
   pub number : s.number < s.cut.blocks

@@ -1,17 +1,10 @@
 -- Batches for all blocks of a cut.
-use Rattle.std.specs.Prelude.{◌≡◌, ℕ, ◌<◌, ◌+◌, List, [], map, length, slice_index_or}
+use Rattle.std.specs.Prelude.{◌≡◌, ℕ, ◌<◌, ◌+◌, List, length}
 use Rattle.std.specs.List.{All, sum_by}
 use Rattle.morris_wave.specs.Nets.{Net, times}
+use Rattle.morris_wave.specs.Lists.{list_at}
 use Rattle.morris_wave.specs.Blocks.{Parts, IsIn, block_of}
 use Rattle.morris_wave.specs.Batches.{FreshState, BatchState, BatchHolds}
-
--- what lists of nodes hold, where `items` says it of one
-abbrev pub contents : {A : Type 0} → (A → List ℕ) → List A → List (List ℕ)
-contents items lists = map items lists
-
--- the list at a place, empty past the last one
-abbrev pub list_at : List (List ℕ) → ℕ → List ℕ
-list_at lists t = slice_index_or lists t []
 
 -- each list has nodes of its block alone
 abbrev pub AreSorted : Parts → List (List ℕ) → Type 0

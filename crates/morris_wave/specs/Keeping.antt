@@ -1,10 +1,11 @@
 -- What is kept of a stretch of nodes, in place of their exits.
-use Rattle.std.specs.Prelude.{◌≡◌, ℕ, ◌+◌, ◌-◌, ◌*◌, ◌/◌, ◌%◌, ◌<◌, ◌≤◌, Bool, true, false, ◌&&◌, nat_lt, List, length, take, slice_index, Some, None, ◌==◌, if◌then◌else◌}
+use Rattle.std.specs.Prelude.{◌≡◌, ℕ, ◌+◌, ◌-◌, ◌%◌, ◌<◌, ◌≤◌, Bool, true, false, ◌&&◌, nat_lt, List, length, slice_index, Some, None, ◌==◌, if◌then◌else◌}
 use Rattle.std.specs.List.{All}
-use Rattle.std.specs.List.Sorted.{IsNonDecreasing, IsNonDecreasingBy}
+use Rattle.std.specs.List.Sorted.{IsNonDecreasingBy}
 use Rattle.morris_wave.specs.declared.network.Exits.{Exits}
 use Rattle.morris_wave.specs.Exits.{is_odd, exits_of, exits_won, due_of, last_due_of}
 use Rattle.morris_wave.specs.Nets.{Net, times}
+use Rattle.morris_wave.specs.Lists.{list_at}
 use Rattle.morris_wave.specs.Waves.{open_at, entry_at}
 use Rattle.morris_wave.specs.Solving.{Marks, among, every}
 
@@ -38,31 +39,10 @@ pub record Ranked (first wave : ℕ) (codes decided : List ℕ) (before here : �
   pub last : (p : ℕ) → before ≤ p → p < here → code_of first codes (slice_index decided p) ≡ wave
   pub this : (p : ℕ) → here ≤ p → p < length decided → code_of first codes (slice_index decided p) ≡ wave + 1
 
--- a place below 2^40 and a wave in one number, which is ordered by the wave
-abbrev pub due_word : ℕ → ℕ → ℕ
-due_word wave place = wave * 1099511627776 + place
-
-abbrev pub wave_of : ℕ → ℕ
-wave_of word = word / 1099511627776
-
-abbrev pub place_of : ℕ → ℕ
-place_of word = word % 1099511627776
-
--- each place below the count whose wave isn't 0 stands once with its wave, and nothing else
-pub record HoldsDue (f : ℕ → ℕ) (count : ℕ) (due : List ℕ) : Type 0 where
-  pub inside : All (λ d. (place_of d < count) × ((0 < wave_of d) × (f (place_of d) ≡ wave_of d))) due
-  pub once : (k : ℕ) → k < count → times (due_word (f k) k) due ≡ (if f k == 0 then 0 else 1)
-
--- and in order of waves
-pub record ListsDue (f : ℕ → ℕ) (count : ℕ) (due : List ℕ) : Type 0 where
-  pub holds : HoldsDue f count due
-  pub order : IsNonDecreasing due
-
--- what has come due by the wave lies before a place of the list
-pub record UsedUpTo (wave : ℕ) (due : List ℕ) (used : ℕ) : Type 0 where
-  pub within : used ≤ length due
-  pub past : (p : ℕ) → p < used → wave_of (slice_index due p) ≤ wave
-  pub ahead : (p : ℕ) → used ≤ p → p < length due → wave < wave_of (slice_index due p)
+-- The nodes from `first` on whose wave is n stand once each in the list of n; the list of 0 is empty.
+pub record ListsDue (f : ℕ → ℕ) (first count : ℕ) (due : List (List ℕ)) : Type 0 where
+  pub inside : (n : ℕ) → All (λ i. (first ≤ i) × (i < first + count)) (list_at due n)
+  pub once : (n k : ℕ) → k < count → times (first + k) (list_at due n) ≡ (if nat_lt 0 n && (f k == n) then 1 else 0)
 
 -- so many falls until a counter of 16 bits is spent: one that reads 0 stands for 65,536
 abbrev pub left_of : ℕ → ℕ
@@ -72,17 +52,13 @@ left_of counter = (counter + 65535) % 65536 + 1
 abbrev pub LowersBy : (ℕ → ℕ) → List ℕ → List ℕ → List ℕ → Type 0
 LowersBy number old new list = (k : ℕ) → k < length old → (slice_index new k + times (number k) list) % 65536 ≡ slice_index old k
 
--- What lies behind the fresh nodes of a wave was taken in. At an odd wave these are lost, and a
--- node that leads to one is won. At an even wave they are won: the counters fall, and a node is
--- lost as its counter is spent.
+-- Nodes with a result that is known since this wave were taken in, each as often as it has one: those
+-- that lead to fresh nodes, or those whose exits come due. At an odd wave these results are lost, and
+-- the nodes are won. At an even wave they are won: the counters fall, and a node is lost as its
+-- counter is spent.
 pub record Takes (n first : ℕ) (nodes codes codes' counters counters' : List ℕ) : Type 0 where
   pub odd : is_odd n ≡ true → Marks codes codes' (λ k. among nodes (first + k)) (n + 1) × (counters' ≡ counters)
   pub even : is_odd n ≡ false → LowersBy (λ k. first + k) counters counters' nodes × Marks codes codes' (λ k. among nodes (first + k) && slice_index counters' k == 0) (n + 1)
-
--- The same of what comes due by exits at wave n, up to a place of the list.
-pub record ComesDue (n : ℕ) (due codes codes' counters counters' : List ℕ) (used : ℕ) : Type 0 where
-  pub odd : is_odd n ≡ true → Marks codes codes' (λ k. among (take used due) (due_word n k)) (n + 1) × (counters' ≡ counters)
-  pub even : is_odd n ≡ false → LowersBy (due_word n) counters counters' (take used due) × Marks codes codes' (λ k. among (take used due) (due_word n k) && slice_index counters' k == 0) (n + 1)
 
 -- waves after 65,534 never come
 abbrev pub due_within : ℕ → ℕ
@@ -91,12 +67,12 @@ due_within wave = if nat_lt wave 65535 then wave else 0
 -- What is kept of the nodes from `first` on at a wave, of which the nodes that pass a test are
 -- applied: their codes, what they wait for, which of them come due by their exits, and when the
 -- last exit does.
-pub record StretchHolds (g : Net) (n : ℕ) (applied : ℕ → Bool) (first : ℕ) (codes counters due : List ℕ) (last_due : ℕ) : Type 0 where
+pub record StretchHolds (g : Net) (n : ℕ) (applied : ℕ → Bool) (first : ℕ) (codes counters : List ℕ) (due : List (List ℕ)) (last_due : ℕ) : Type 0 where
   pub in_graph : first + length codes ≤ g.size
   pub counters_len : length counters ≡ length codes
   pub codes_are : (k : ℕ) → k < length codes → slice_index codes k ≡ entry_at g n applied (first + k)
   pub counters_are : (k : ℕ) → k < length codes → slice_index counters k ≡ pending_at g n applied (first + k) % 65536
-  pub due_are : ListsDue (λ k. due_within (due_wave (exits_of (g.exits (first + k))))) (length codes) due
+  pub due_are : ListsDue (λ k. due_within (due_wave (exits_of (g.exits (first + k))))) first (length codes) due
   pub bound : (k : ℕ) → k < length codes → last_due_of (exits_of (g.exits (first + k))) ≤ last_due
   pub reached : 0 < last_due → (k : ℕ) × ((k < length codes) × (last_due_of (exits_of (g.exits (first + k))) ≡ last_due))
 

@@ -1,5 +1,6 @@
 -- What the contracts of this crate speak of.
 pub mod Nets
+pub mod Lists
 pub mod Exits
 pub mod Summaries
 pub mod Values

@@ -1,14 +1,15 @@
 //! Batches for all blocks of a cut, from the fresh nodes of one block.
-ghost use Rattle.std.specs.Prelude.{◌≡◌, ℕ, ◌+◌, ◌<◌, ◌≤◌, [], ◌∷◌, ◌++◌, List, OnOk, IfOk, vec_len, length, slice_set, slice_index_or};
+ghost use Rattle.std.specs.Prelude.{◌≡◌, ℕ, ◌+◌, ◌<◌, ◌≤◌, [], List, OnOk, IfOk, vec_len, length, slice_index_or};
 ghost use Rattle.std.specs.List.{All};
 ghost use Rattle.morris_wave.specs.Blocks.{IsIn};
 ghost use Rattle.morris_wave.specs.Batches.{BatchState, BatchHolds};
-ghost use Rattle.morris_wave.specs.Delivery.{contents, list_at, AreSorted, Deals, LeadTo, batch_of, IsBatchOf};
+ghost use Rattle.morris_wave.specs.Lists.{contents, list_at};
+ghost use Rattle.morris_wave.specs.Delivery.{AreSorted, Deals, LeadTo, batch_of, IsBatchOf};
 
 use crate::division::{Cut, Finder};
 use crate::engine::{Batch, Fresh};
 use crate::network::{Graph, Levels};
-use crate::nodes::NodeList;
+use crate::nodes::{NodeList, put_into};
 use std::alloc::{AllocError, Global};
 use std::marker::PhantomData;
 
@@ -41,19 +42,6 @@ fn no_lists<L: NodeList>(
     Ok(lists)
 }
 
-// Puts a node at the end of one list.
-fn put<L: NodeList>(lists: &mut Vec<L>, target: usize, node: u64) -> Result<(), AllocError>
-    requires target { target < vec_len lists.old }
-    requires node { node < L.limit }
-    ensures len { vec_len lists.new ≡ vec_len lists.old }
-    ensures put { OnOk result (contents L.items lists.new.items
-        ≡ slice_set (contents L.items lists.old.items) target (list_at (contents L.items lists.old.items) target ++ node ∷ [])) }
-{
-    let list = &mut lists[target];
-    list.add(node)?;
-    Ok(())
-}
-
 // Puts each node into the list of its block.
 fn deal<L: NodeList>(lists: &mut Vec<L>, finder: &Finder, nodes: &[u64]) -> Result<(), AllocError>
     requires small { finder.now.cut.size ≤ L.limit }
@@ -65,7 +53,7 @@ fn deal<L: NodeList>(lists: &mut Vec<L>, finder: &Finder, nodes: &[u64]) -> Resu
     ensures dealt { OnOk result (Deals finder.now.cut (contents L.items lists.old.items) (contents L.items lists.new.items) nodes.now) }
 {
     for node in nodes {
-        put(lists, finder.find(*node) as usize, *node)?;
+        put_into(lists, finder.find(*node) as usize, *node)?;
     }
     Ok(())
 }

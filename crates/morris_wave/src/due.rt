@@ -1,40 +1,96 @@
-//! The nodes that come due by their exits, in order of waves.
-ghost use Rattle.std.specs.Prelude.{◌≡◌, ℕ, ◌+◌, ◌-◌, ◌*◌, ◌/◌, ◌<◌, ◌≤◌, ◌&&◌, ◌==◌, ◌^◌, IfOk, length, if◌then◌else◌, slice_index, vec_len};
+//! The nodes that come due by their exits, in one list for each wave.
+ghost use Rattle.std.specs.Prelude.{◌≡◌, ℕ, ◌+◌, ◌<◌, ◌≤◌, ◌^◌, [], IfOk, length, slice_index, vec_len};
 ghost use Rattle.std.specs.List.{All};
-ghost use Rattle.morris_wave.specs.Solving.{Marks, among};
-ghost use Rattle.morris_wave.specs.Keeping.{HoldsDue, ListsDue, UsedUpTo, due_word, wave_of, place_of};
+ghost use Rattle.morris_wave.specs.Lists.{contents, list_at};
+ghost use Rattle.morris_wave.specs.Keeping.{ListsDue};
 
-use crate::listed::Listed;
+use crate::nodes::{NodeList, put_into};
 use std::alloc::{AllocError, Global};
+use std::marker::Model;
 
-// 2^40: a place is below it.
-pub(crate) const PLACES: u64 = 1099511627776;
-
-// One number for each place whose wave isn't 0, in order of waves.
-pub(crate) fn list_due(alloc: Global, waves: &[u16]) -> Result<Vec<u64>, AllocError>
-    requires { length waves.now ≤ 2 ^ 40 }
-    ensures { IfOk result (λ v. ListsDue (λ k. slice_index waves.now k) (length waves.now) v.items) }
-{
-    let mut due = words(alloc, waves)?;
-    due.sort_unstable();
-    Ok(due)
+// The nodes that come due at wave 0, 1, .. up to the last such wave, in a list for each.
+#[derive(Drop)]
+pub(crate) struct Due<L: NodeList> {
+    waves: Vec<L>,
+    // What stands for the list of a later wave.
+    none: L,
 }
 
-// How many places have a wave.
-fn count_due(waves: &[u16]) -> usize {
-    waves.iter().filter(|wave| **wave > 0).count()
+impl<L: NodeList> Model for Due<L> {
+    ghost use Rattle.std.specs.Prelude.{◌≡◌, ℕ, List, []};
+    ghost use Rattle.morris_wave.specs.Lists.{contents};
+
+    ghost Value = { List (List ℕ) };
+
+    ghost view = { λ d. contents L.items d.waves.items };
+
+    ghost invariant = { λ d. L.items d.none ≡ [] };
 }
 
-// One number for each place whose wave isn't 0, in order of places.
-fn words(alloc: Global, waves: &[u16]) -> Result<Vec<u64>, AllocError>
-    requires { length waves.now ≤ 2 ^ 40 }
-    ensures { IfOk result (λ v. HoldsDue (λ k. slice_index waves.now k) (length waves.now) v.items) }
-{
-    let mut due = Vec::with_capacity(alloc, count_due(waves))?;
-    for (place, wave) in waves.iter().enumerate() {
-        if *wave > 0 {
-            due.push(u64::from(*wave) * PLACES + place as u64)?;
+impl<L: NodeList> Due<L> {
+    // The nodes from `first` on by their waves; a node of wave 0 never comes due.
+    pub(crate) fn of(alloc: Global, first: u64, waves: &[u16]) -> Result<Due<L>, AllocError>
+        requires small { first + length waves.now ≤ 2 ^ 40 }
+        requires short { first + length waves.now ≤ L.limit }
+        ensures { IfOk result (λ d. ListsDue (λ k. slice_index waves.now k) first (length waves.now) d) }
+    {
+        let counts = count_due(alloc, waves)?;
+        let mut lists = empty_lists(alloc, &counts)?;
+        for (place, wave) in waves.iter().enumerate() {
+            if *wave > 0 {
+                put_into(&mut lists, usize::from(*wave), first + place as u64)?;
+            }
+        }
+        Ok(Due {
+            waves: lists,
+            none: L::none(alloc),
+        })
+    }
+
+    // The nodes that come due at a wave.
+    pub(crate) fn at(&self, wave: u16) -> &L
+        ensures { L.items result.now ≡ list_at self.now wave }
+    {
+        match self.waves.get(usize::from(wave)) {
+            Some(nodes) => nodes,
+            None => &self.none,
         }
     }
-    Ok(due)
+}
+
+// The last wave, 0 if there is none.
+fn last(waves: &[u16]) -> u16
+    ensures { All (λ wave. wave ≤ result) waves.now }
+{
+    let mut last = 0;
+    for wave in waves {
+        last = last.max(*wave);
+    }
+    last
+}
+
+// How many nodes come due at each wave, so that no list grows.
+fn count_due(alloc: Global, waves: &[u16]) -> Result<Vec<usize>, AllocError>
+    ensures { IfOk result (λ v. All (λ wave. wave < vec_len v) waves.now) }
+{
+    let mut counts = vec![in alloc; 0usize; usize::from(last(waves)) + 1]?;
+    for wave in waves {
+        if *wave > 0 {
+            let count = &mut counts[usize::from(*wave)];
+            *count = count.saturating_add(1);
+        }
+    }
+    Ok(counts)
+}
+
+// Lists of no nodes, with room for so many each.
+fn empty_lists<L: NodeList>(alloc: Global, counts: &[usize]) -> Result<Vec<L>, AllocError>
+    ensures len { IfOk result (λ v. vec_len v ≡ length counts.now) }
+    ensures empty { IfOk result (λ v. (n : ℕ) → list_at (contents L.items v.items) n ≡ []) }
+{
+    let mut lists = Vec::with_capacity(alloc, counts.len())?;
+    for count in counts {
+        lists.push(L::with_room(alloc, *count)?)?;
+    }
+    Ok(lists)
 }

@@ -125,18 +125,19 @@ impl<N: Levels, L: NodeList> Drop for Batch<N, L> {
 /// every quiet result is known and won. A result is known where its depth is at most `n - 2`, or is
 /// `n - 1` and its block is applied. A decided node's entry is its code, an open node's is 0.
 ///
-/// A block keeps 4 bytes a node, 8 for each decided node and 8 for each node that comes due by its
-/// exits. Room for all of them is taken in `make`.
-pub struct Block<N: Levels> {
+/// A block keeps 4 bytes a node, and lists of the kind `L` of the nodes that are decided and of those
+/// that come due by their exits: of 8 bytes for each, or of 4 where all nodes of the graph are below
+/// 2^32. Room for all of them is taken in `make`; that of nodes which aren't decided is never used.
+pub struct Block<N: Levels, L: NodeList = Vec<u64>> {
     level: u64,
     pub(crate) cut: Cut,
     number: u64,
     applied: Vec<bool>,
-    pub(crate) kept: Stretch,
+    pub(crate) kept: Stretch<L>,
     family: PhantomData<N>,
 }
 
-impl<N: Levels> Model for Block<N> {
+impl<N: Levels, L: NodeList> Model for Block<N, L> {
     ghost use Rattle.morris_wave.specs.Blocks.{BlockState, BlockHolds};
 
     ghost Value = { BlockState };
@@ -145,10 +146,10 @@ impl<N: Levels> Model for Block<N> {
 
     ghost invariant = { λ b. BlockHolds (N.net b.level)
         (record { level = b.level; cut = b.cut; number = b.number; wave = b.kept.entries.wave; applied = b.applied.items })
-        b.kept.entries.first b.kept.entries.entries.codes.items b.kept.counters.items b.kept.due.items b.kept.last_due };
+        b.kept.entries.first b.kept.entries.entries.codes.items b.kept.counters.items b.kept.due b.kept.last_due };
 }
 
-impl<N: Levels> Drop for Block<N> {
+impl<N: Levels, L: NodeList> Drop for Block<N, L> {
     fn drop(self) {
         let Block {
             level: _,
@@ -198,10 +199,7 @@ impl<N: Levels> Fresh<N> {
 }
 
 impl<N: Levels> Block<N> {
-    ghost use Rattle.morris_wave.specs.Blocks.{BlockState, IsBlock, first_of, first_wave, next_wave_of, is_complete, in_applied, IsIn, count_of, entries_of, IsLastDue, IsSettled};
-    ghost use Rattle.morris_wave.specs.Exits.{is_odd, is_won_code};
-    ghost use Rattle.morris_wave.specs.Values.{IsTooDeep, HasCode};
-    ghost use Rattle.morris_wave.specs.Answering.{answer_to, after_batch};
+    ghost use Rattle.morris_wave.specs.Blocks.{first_wave, in_applied, IsIn};
 
     /// The block `number` of a graph at wave 0, before the first wave, where every source counts as
     /// applied.
@@ -218,6 +216,48 @@ impl<N: Levels> Block<N> {
         number: u64,
     ) -> Result<Block<N>, AllocError>
         requires size { cut.now.size ≡ (N.net (G.level graph.now)).size }
+        requires number { number < cut.now.blocks }
+        ensures { IfOk result (λ b. b ≡ first_wave (G.level graph.now) cut.now number) }
+    {
+        // The proof learns here that the size is a number of 64 bits.
+        let _size = cut.size();
+        Block::make_as(alloc, graph, cut, number)
+    }
+
+    /// The decided nodes of the block, each once, in ascending order of their depths.
+    pub fn decided(&self) -> &[u64]
+        ensures inside { All (IsIn self.now.cut self.now.number) result.now }
+        ensures once { (i : ℕ) → IsIn self.now.cut self.now.number i
+            → times i result.now ≡ (if is_decided_at (N.net self.now.level) self.now.wave (in_applied self.now) i then 1 else 0) }
+        ensures order { IsNonDecreasingBy (entry_at (N.net self.now.level) self.now.wave (in_applied self.now)) result.now }
+    {
+        self.decided_list().as_slice()
+    }
+}
+
+impl<N: Levels, L: NodeList> Block<N, L> {
+    ghost use Rattle.morris_wave.specs.Blocks.{BlockState, IsBlock, first_of, first_wave, next_wave_of, is_complete, in_applied, IsIn, count_of, entries_of, IsLastDue, IsSettled};
+    ghost use Rattle.morris_wave.specs.Exits.{is_odd, is_won_code};
+    ghost use Rattle.morris_wave.specs.Values.{IsTooDeep, HasCode};
+    ghost use Rattle.morris_wave.specs.Answering.{answer_to, after_batch};
+
+    /// The block `number` of a graph at wave 0, before the first wave, where every source counts as
+    /// applied.
+    ///
+    /// The cut is of the graph's size, and has such a block. Lists of the kind `L` have room for each
+    /// node of the graph.
+    ///
+    /// # Errors
+    ///
+    /// `AllocError` where memory is refused.
+    pub fn make_as<G: Graph<Name = N>>(
+        alloc: Global,
+        graph: &G,
+        cut: &Cut,
+        number: u64,
+    ) -> Result<Block<N, L>, AllocError>
+        requires size { cut.now.size ≡ (N.net (G.level graph.now)).size }
+        requires short { cut.now.size ≤ L.limit }
         requires number { number < cut.now.blocks }
         ensures { IfOk result (λ b. b ≡ first_wave (G.level graph.now) cut.now number) }
     {
@@ -345,7 +385,7 @@ impl<N: Levels> Block<N> {
     /// these are lost, so each open node of the batch is won. At an even wave they are won, so a
     /// node is lost once it has no other quiet result left and every exit is won. It takes no
     /// memory.
-    pub fn apply<L: NodeList>(&mut self, batch: &Batch<N, L>) -> Applied
+    pub fn apply<B: NodeList>(&mut self, batch: &Batch<N, B>) -> Applied
         ensures answer { result ≡ answer_to self.old batch.now }
         ensures state { self.new ≡ after_batch self.old batch.now }
     {
@@ -387,14 +427,14 @@ impl<N: Levels> Block<N> {
         Ok(())
     }
 
-    /// The decided nodes of the block, each once, in ascending order of their depths.
-    pub fn decided(&self) -> &[u64]
-        ensures inside { All (IsIn self.now.cut self.now.number) result.now }
+    /// The list of the decided nodes of the block, each once, in ascending order of their depths.
+    pub fn decided_list(&self) -> &L
+        ensures inside { All (IsIn self.now.cut self.now.number) (L.items result.now) }
         ensures once { (i : ℕ) → IsIn self.now.cut self.now.number i
-            → times i result.now ≡ (if is_decided_at (N.net self.now.level) self.now.wave (in_applied self.now) i then 1 else 0) }
-        ensures order { IsNonDecreasingBy (entry_at (N.net self.now.level) self.now.wave (in_applied self.now)) result.now }
+            → times i (L.items result.now) ≡ (if is_decided_at (N.net self.now.level) self.now.wave (in_applied self.now) i then 1 else 0) }
+        ensures order { IsNonDecreasingBy (entry_at (N.net self.now.level) self.now.wave (in_applied self.now)) (L.items result.now) }
     {
-        self.kept.entries.decided.as_slice()
+        &self.kept.entries.decided
     }
 
     /// The nodes of the block that have the depth one less than its wave, each once; none at wave

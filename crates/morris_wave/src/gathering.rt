@@ -8,6 +8,7 @@ ghost use Rattle.morris_wave.specs.Gathering.{complaint, first_complaint, HasAll
 use crate::division::Cut;
 use crate::engine::Block;
 use crate::network::Levels;
+use crate::nodes::NodeList;
 use std::alloc::{AllocError, Global};
 use thiserror::Error;
 
@@ -42,8 +43,8 @@ impl From<AllocError> for GatherFault {
 const NUMBERS: usize = 1024;
 
 // What speaks against a block at its place, after those whose places are known.
-fn complaint<N: Levels>(
-    block: &Block<N>,
+fn complaint<N: Levels, L: NodeList>(
+    block: &Block<N, L>,
     place: usize,
     level: u64,
     wave: u16,
@@ -77,11 +78,11 @@ fn nowhere() -> [Option<usize>; NUMBERS]
 }
 
 // Where the block of each number stands, unless something speaks against one of them.
-fn walk<N: Levels>(
+fn walk<N: Levels, L: NodeList>(
     level: u64,
     wave: u16,
     cut: &Cut,
-    blocks: &[Block<N>],
+    blocks: &[Block<N, L>],
 ) -> Result<[Option<usize>; NUMBERS], GatherFault>
     ensures ok { IfOk result (λ places. ArePlaces blocks.now places) }
     ensures walked { OnOk result (first_complaint level wave cut.now [] blocks.now ≡ None) }
@@ -114,7 +115,7 @@ fn first_absent(cut: &Cut, places: &[Option<usize>]) -> Option<u64>
 }
 
 // The entries of a block.
-fn entries_of<N: Levels>(block: &Block<N>) -> &[u16]
+fn entries_of<N: Levels, L: NodeList>(block: &Block<N, L>) -> &[u16]
     ensures cut { IsCut block.now.cut }
     ensures size { (N.net block.now.level).size ≡ block.now.cut.size }
     ensures wave { block.now.wave ≤ 65534 }
@@ -126,12 +127,12 @@ fn entries_of<N: Levels>(block: &Block<N>) -> &[u16]
 }
 
 // The entries of all blocks, in the order of their numbers.
-fn in_order<N: Levels>(
+fn in_order<N: Levels, L: NodeList>(
     alloc: Global,
     level: u64,
     wave: u16,
     cut: &Cut,
-    blocks: &[Block<N>],
+    blocks: &[Block<N, L>],
     places: &[Option<usize>],
 ) -> Result<Vec<u16>, AllocError>
     requires places { ArePlaces blocks.now places.now }
@@ -164,12 +165,12 @@ fn in_order<N: Levels>(
 /// cut, `Double` with a number that already came, `Missing` with the number of a block that isn't
 /// complete at the wave. Then `Missing` with the least number that didn't come, and `Memory` at
 /// last.
-pub fn gather<N: Levels>(
+pub fn gather<N: Levels, L: NodeList>(
     alloc: Global,
     level: u64,
     wave: u16,
     cut: &Cut,
-    blocks: &[Block<N>],
+    blocks: &[Block<N, L>],
 ) -> Result<Vec<u16>, GatherFault>
     ensures fit { OnOk result (All (Fits level wave cut.now) blocks.now) }
     ensures walked { OnOk result (first_complaint level wave cut.now [] blocks.now ≡ None) }
@@ -192,7 +193,7 @@ pub fn gather<N: Levels>(
 }
 
 // Whether the block of each number stands at that place.
-fn are_in_order<N: Levels>(blocks: &[Block<N>]) -> bool
+fn are_in_order<N: Levels, L: NodeList>(blocks: &[Block<N, L>]) -> bool
     ensures { result ≡ true → (k : ℕ) (d : BlockState) → k < length blocks.now → (slice_index_or blocks.now k d).number ≡ k }
 {
     for (place, block) in blocks.iter().enumerate() {
@@ -205,12 +206,12 @@ fn are_in_order<N: Levels>(blocks: &[Block<N>]) -> bool
 
 // The entries of all blocks, which stand in the order of their numbers. Each is let go once it was
 // copied.
-fn drained<N: Levels>(
+fn drained<N: Levels, L: NodeList>(
     alloc: Global,
     level: u64,
     wave: u16,
     cut: &Cut,
-    blocks: Vec<Block<N>>,
+    blocks: Vec<Block<N, L>>,
 ) -> Result<Vec<u16>, AllocError>
     requires count { vec_len blocks ≡ cut.now.blocks }
     requires order { (k : ℕ) (d : BlockState) → k < length blocks.items → (slice_index_or blocks.items k d).number ≡ k }
@@ -231,12 +232,12 @@ fn drained<N: Levels>(
 
 // The entries of all blocks, in the order of their numbers. Where the blocks stand in it, each is
 // let go once it was copied.
-fn taken_in_order<N: Levels>(
+fn taken_in_order<N: Levels, L: NodeList>(
     alloc: Global,
     level: u64,
     wave: u16,
     cut: &Cut,
-    blocks: Vec<Block<N>>,
+    blocks: Vec<Block<N, L>>,
     places: &[Option<usize>],
 ) -> Result<Vec<u16>, AllocError>
     requires places { ArePlaces blocks.items places.now }
@@ -263,12 +264,12 @@ fn taken_in_order<N: Levels>(
 /// # Errors
 ///
 /// As `gather`.
-pub fn gather_from<N: Levels>(
+pub fn gather_from<N: Levels, L: NodeList>(
     alloc: Global,
     level: u64,
     wave: u16,
     cut: &Cut,
-    blocks: Vec<Block<N>>,
+    blocks: Vec<Block<N, L>>,
 ) -> Result<Vec<u16>, GatherFault>
     ensures fit { OnOk result (All (Fits level wave cut.now) blocks.items) }
     ensures walked { OnOk result (first_complaint level wave cut.now [] blocks.items ≡ None) }

@@ -1,11 +1,12 @@
 //! The entries of a block, the list of those that are decided, and the tallies that count them.
-ghost use Rattle.std.specs.Prelude.{◌≡◌, ℕ, ◌+◌, ◌-◌, ◌<◌, ◌≤◌, ◌&&◌, ◌==◌, ◌^◌, ◌++◌, ◌∷◌, [], IfOk, nat_lt, length, if◌then◌else◌, replicate, take, slice_index, slice_set, vec_len, vec_capacity};
+ghost use Rattle.std.specs.Prelude.{◌≡◌, ℕ, ◌+◌, ◌-◌, ◌<◌, ◌≤◌, ◌&&◌, ◌==◌, ◌^◌, IfOk, nat_lt, length, if◌then◌else◌, replicate, take, slice_index, slice_set, vec_len};
 ghost use Rattle.std.specs.List.{All, list_any, count_by};
 ghost use Rattle.morris_wave.specs.Exits.{is_odd, is_won_code};
 ghost use Rattle.morris_wave.specs.Solving.{Marks};
 ghost use Rattle.morris_wave.specs.Nets.{times};
 ghost use Rattle.morris_wave.specs.Keeping.{Ranked};
 
+use crate::nodes::NodeList;
 use std::alloc::{AllocError, Global};
 
 // Entries and how many of them are won and lost.
@@ -39,31 +40,34 @@ impl Counted {
 
 // The entries of the nodes from `first` on at a wave, and the decided nodes in order of their
 // codes. Those from the place `before` up to, not including, `here` have the code of the wave;
-// those behind it got theirs at this wave. There is room for every node.
+// those behind it got theirs at this wave. There is room for every node; what isn't used of it takes
+// no memory, as long as the system hands out pages at their first use.
 #[derive(Drop)]
-pub(crate) struct Listed {
+pub(crate) struct Listed<L: NodeList> {
     pub(crate) first: u64,
     pub(crate) wave: u16,
     pub(crate) entries: Counted,
-    pub(crate) decided: Vec<u64>,
+    pub(crate) decided: L,
     pub(crate) before: usize,
     pub(crate) here: usize,
-    ghost ranked: { Ranked first wave entries.codes.items decided.items before here },
-    ghost room: { vec_len entries.codes ≤ vec_capacity decided },
+    ghost ranked: { Ranked first wave entries.codes.items (L.items decided) before here },
+    ghost room: { vec_len entries.codes ≤ L.capacity decided },
     ghost ends: { first + vec_len entries.codes ≤ 2 ^ 40 },
+    ghost short: { first + vec_len entries.codes ≤ L.limit },
     ghost last: { wave ≤ 65534 },
-    ghost all_counted: { vec_len decided ≡ entries.won + entries.lost },
+    ghost all_counted: { length (L.items decided) ≡ entries.won + entries.lost },
 }
 
-impl Listed {
+impl<L: NodeList> Listed<L> {
     // So many open entries before the first wave.
-    pub(crate) fn open(alloc: Global, first: u64, count: usize) -> Result<Listed, AllocError>
-        requires { first + count ≤ 2 ^ 40 }
+    pub(crate) fn open(alloc: Global, first: u64, count: usize) -> Result<Listed<L>, AllocError>
+        requires small { first + count ≤ 2 ^ 40 }
+        requires short { first + count ≤ L.limit }
         ensures first { IfOk result (λ e. e.first ≡ first) }
         ensures wave { IfOk result (λ e. e.wave ≡ 0) }
         ensures codes { IfOk result (λ e. e.entries.codes.items ≡ replicate count 0) }
     {
-        let decided = Vec::with_capacity(alloc, count)?;
+        let decided = L::with_room(alloc, count)?;
         let codes = vec![in alloc; 0u16; count]?;
         let entries = Counted {
             codes,
@@ -88,14 +92,14 @@ impl Listed {
         ensures wave { self.new.wave ≡ self.old.wave }
         ensures before { self.new.before ≡ self.old.before }
         ensures here { self.new.here ≡ self.old.here }
-        ensures list { take self.old.here self.new.decided.items ≡ take self.old.here self.old.decided.items }
+        ensures list { take self.old.here (L.items self.new.decided) ≡ take self.old.here (L.items self.old.decided) }
         ensures codes { Marks self.old.entries.codes.items self.new.entries.codes.items (λ k. (place == k) && ready) (self.old.wave + 1) }
     {
         let node = self.first + place;
         let place = place as usize;
         if ready && self.entries.codes[place] == 0 {
             self.entries.put(place, self.wave + 1);
-            put_last(&mut self.decided, node);
+            self.decided.put_last(node);
         }
     }
 
@@ -108,14 +112,14 @@ impl Listed {
     {
         self.wave += 1;
         self.before = self.here;
-        self.here = self.decided.len();
+        self.here = self.decided.count();
     }
 
     // Whether some entry got its code at this wave.
     pub(crate) fn has_news(&self) -> bool
         ensures { result ≡ list_any (λ c. c == (self.now.wave + 1)) self.now.entries.codes.items }
     {
-        self.here < self.decided.len()
+        self.here < self.decided.count()
     }
 
     // The nodes whose code is the wave, each once; none at wave 0.
@@ -124,19 +128,10 @@ impl Listed {
         ensures once { IfOk result (λ v. (k : ℕ) → k < length self.now.entries.codes.items
             → times (self.now.first + k) v.items ≡ (if nat_lt 0 self.now.wave && (slice_index self.now.entries.codes.items k == self.now.wave) then 1 else 0)) }
     {
-        let stretch = &self.decided[self.before..self.here];
-        let mut nodes = Vec::with_capacity(alloc, stretch.len())?;
-        nodes.extend_from_slice(stretch)?;
+        let mut nodes = Vec::with_capacity(alloc, self.here - self.before)?;
+        for place in self.before..self.here {
+            nodes.push(self.decided.node(place))?;
+        }
         Ok(nodes)
     }
-}
-
-// Puts a number at the end of a list that has room for it.
-fn put_last(list: &mut Vec<u64>, x: u64)
-    requires { vec_len list.old < vec_capacity list.old }
-    ensures items { list.new.items ≡ list.old.items ++ x ∷ [] }
-    ensures len { vec_len list.new ≡ vec_len list.old + 1 }
-    ensures capacity { vec_capacity list.old ≤ vec_capacity list.new }
-{
-    let Ok(()) = list.push(x) else { unreachable!() };
 }

@@ -1,10 +1,11 @@
 //! Lists of nodes.
-ghost use Rattle.std.specs.Prelude.{◌≡◌, ℕ, ◌<◌, ◌^◌, ◌++◌, ◌∷◌, [], List, length, slice_index, OnOk};
+ghost use Rattle.std.specs.Prelude.{◌≡◌, ℕ, ◌<◌, ◌≤◌, ◌^◌, ◌++◌, ◌∷◌, [], List, length, slice_index, slice_set, OnOk, IfOk, vec_len, vec_capacity};
+ghost use Rattle.morris_wave.specs.Lists.{contents, list_at};
 
 use std::alloc::{AllocError, Global};
 
-/// A list of nodes, as batches carry them: of 8 bytes a node, or of 4 where all nodes of the graph
-/// are below 2^32.
+/// A list of nodes, as blocks keep and batches carry them: of 8 bytes a node, or of 4 where all
+/// nodes of the graph are below 2^32.
 pub trait NodeList: Drop {
     /// The nodes, in their order.
     ghost items: { Self → List ℕ };
@@ -12,9 +13,21 @@ pub trait NodeList: Drop {
     /// Each node is below this number.
     ghost limit: { ℕ };
 
+    /// How many nodes the list has room for.
+    ghost capacity: { Self → ℕ };
+
     /// A list of no nodes.
     fn none(alloc: Global) -> Self
         ensures { items result ≡ [] };
+
+    /// A list of no nodes, with room for so many.
+    ///
+    /// # Errors
+    ///
+    /// `AllocError` where memory is refused.
+    fn with_room(alloc: Global, count: usize) -> Result<Self, AllocError>
+        ensures empty { IfOk result (λ list. items list ≡ []) }
+        ensures room { IfOk result (λ list. count ≤ capacity list) };
 
     /// Takes all nodes out. Their room is kept.
     fn empty(&mut self)
@@ -28,6 +41,13 @@ pub trait NodeList: Drop {
     fn add(&mut self, node: u64) -> Result<(), AllocError>
         requires { node < limit }
         ensures { OnOk result (items self.new ≡ items self.old ++ node ∷ []) };
+
+    /// Puts a node at the end of a list that has room for it. It takes no memory.
+    fn put_last(&mut self, node: u64)
+        requires node { node < limit }
+        requires room { length (items self.old) < capacity self.old }
+        ensures items { items self.new ≡ items self.old ++ node ∷ [] }
+        ensures room { capacity self.old ≤ capacity self.new };
 
     /// How many nodes there are.
     fn count(&self) -> usize
@@ -47,8 +67,15 @@ impl NodeList for Vec<u64> {
 
     ghost limit = { 2 ^ 64 };
 
+    ghost capacity = { λ v. vec_capacity v };
+
     fn none(alloc: Global) -> Vec<u64> {
         Vec::new(alloc)
+    }
+
+    fn with_room(alloc: Global, count: usize) -> Result<Vec<u64>, AllocError> {
+        let list = Vec::with_capacity(alloc, count)?;
+        Ok(list)
     }
 
     fn empty(&mut self) {
@@ -58,6 +85,12 @@ impl NodeList for Vec<u64> {
     fn add(&mut self, node: u64) -> Result<(), AllocError> {
         self.push(node)?;
         Ok(())
+    }
+
+    fn put_last(&mut self, node: u64) {
+        let Ok(()) = self.push(node) else {
+            unreachable!()
+        };
     }
 
     fn count(&self) -> usize {
@@ -78,8 +111,15 @@ impl NodeList for Vec<u32> {
 
     ghost limit = { 2 ^ 32 };
 
+    ghost capacity = { λ v. vec_capacity v };
+
     fn none(alloc: Global) -> Vec<u32> {
         Vec::new(alloc)
+    }
+
+    fn with_room(alloc: Global, count: usize) -> Result<Vec<u32>, AllocError> {
+        let list = Vec::with_capacity(alloc, count)?;
+        Ok(list)
     }
 
     fn empty(&mut self) {
@@ -89,6 +129,12 @@ impl NodeList for Vec<u32> {
     fn add(&mut self, node: u64) -> Result<(), AllocError> {
         self.push(node as u32)?;
         Ok(())
+    }
+
+    fn put_last(&mut self, node: u64) {
+        let Ok(()) = self.push(node as u32) else {
+            unreachable!()
+        };
     }
 
     fn count(&self) -> usize {
@@ -102,4 +148,21 @@ impl NodeList for Vec<u32> {
     fn room(&self) -> usize {
         self.capacity().saturating_mul(4)
     }
+}
+
+// Puts a node at the end of one list.
+pub(crate) fn put_into<L: NodeList>(
+    lists: &mut Vec<L>,
+    target: usize,
+    node: u64,
+) -> Result<(), AllocError>
+    requires target { target < vec_len lists.old }
+    requires node { node < L.limit }
+    ensures len { vec_len lists.new ≡ vec_len lists.old }
+    ensures put { OnOk result (contents L.items lists.new.items
+        ≡ slice_set (contents L.items lists.old.items) target (list_at (contents L.items lists.old.items) target ++ node ∷ [])) }
+{
+    let list = &mut lists[target];
+    list.add(node)?;
+    Ok(())
 }

@@ -5,9 +5,10 @@ ghost use Rattle.morris_wave.specs.Exits.{exits_won, last_due_of};
 ghost use Rattle.morris_wave.specs.Solving.{Marks, every};
 ghost use Rattle.morris_wave.specs.Keeping.{due_wave, due_within, waits, HasRead, StretchHolds};
 
-use crate::due::list_due;
+use crate::due::Due;
 use crate::listed::Listed;
 use crate::network::{Exits, Graph};
+use crate::nodes::NodeList;
 use crate::stretch::Stretch;
 use std::alloc::{AllocError, Global};
 
@@ -16,8 +17,8 @@ const PIECE: usize = 1024;
 
 // What is known of a stretch while the exits of its nodes are read.
 #[derive(Drop)]
-struct Reading {
-    entries: Listed,
+struct Reading<L: NodeList> {
+    entries: Listed<L>,
     counters: Vec<u16>,
     waves: Vec<u16>,
     last_due: u32,
@@ -25,12 +26,18 @@ struct Reading {
     ghost waved: { vec_len waves ≡ vec_len entries.entries.codes },
 }
 
-impl Reading {
+impl<L: NodeList> Reading<L> {
     // Before the exits are read, a node waits for its quiet results alone.
-    fn open<G: Graph>(alloc: Global, graph: &G, first: u64, end: u64) -> Result<Reading, AllocError>
+    fn open<G: Graph>(
+        alloc: Global,
+        graph: &G,
+        first: u64,
+        end: u64,
+    ) -> Result<Reading<L>, AllocError>
         requires order { first ≤ end }
         requires end { end ≤ (G.Name.net (G.level graph.now)).size }
         requires small { end ≤ 2 ^ 40 }
+        requires short { end ≤ L.limit }
         ensures first { IfOk result (λ r. r.entries.first ≡ first) }
         ensures wave { IfOk result (λ r. r.entries.wave ≡ 0) }
         ensures len { IfOk result (λ r. vec_len r.entries.entries.codes ≡ end - first) }
@@ -105,7 +112,12 @@ fn one_unless(holds: bool) -> u16
 }
 
 // Reads as many exits as there is room for, from a place on.
-fn read_piece<G: Graph>(graph: &G, reading: &mut Reading, from: usize, exits: &mut [Exits])
+fn read_piece<G: Graph, L: NodeList>(
+    graph: &G,
+    reading: &mut Reading<L>,
+    from: usize,
+    exits: &mut [Exits],
+)
     requires inside { from + length exits.old ≤ vec_len reading.old.entries.entries.codes }
     requires end { reading.old.entries.first + vec_len reading.old.entries.entries.codes ≤ (G.Name.net (G.level graph.now)).size }
     requires wave { reading.old.entries.wave ≡ 0 }
@@ -124,7 +136,7 @@ fn read_piece<G: Graph>(graph: &G, reading: &mut Reading, from: usize, exits: &m
 }
 
 // Reads the exits of all nodes, a piece at a time.
-fn read_exits<G: Graph>(graph: &G, reading: &mut Reading)
+fn read_exits<G: Graph, L: NodeList>(graph: &G, reading: &mut Reading<L>)
     requires end { reading.old.entries.first + vec_len reading.old.entries.entries.codes ≤ (G.Name.net (G.level graph.now)).size }
     requires wave { reading.old.entries.wave ≡ 0 }
     requires read { HasRead (G.Name.net (G.level graph.now)) reading.old.entries.first 0
@@ -144,26 +156,27 @@ fn read_exits<G: Graph>(graph: &G, reading: &mut Reading)
     }
 }
 
-impl Stretch {
+impl<L: NodeList> Stretch<L> {
     // The nodes from `first` up to, not including, `end`, before the first wave.
     pub(crate) fn read<G: Graph>(
         alloc: Global,
         graph: &G,
         first: u64,
         end: u64,
-    ) -> Result<Stretch, AllocError>
+    ) -> Result<Stretch<L>, AllocError>
         requires order { first ≤ end }
         requires end { end ≤ (G.Name.net (G.level graph.now)).size }
         requires small { end ≤ 2 ^ 40 }
+        requires short { end ≤ L.limit }
         ensures first { IfOk result (λ s. s.entries.first ≡ first) }
         ensures wave { IfOk result (λ s. s.entries.wave ≡ 0) }
         ensures len { IfOk result (λ s. vec_len s.entries.entries.codes ≡ end - first) }
         ensures holds { IfOk result (λ s. StretchHolds (G.Name.net (G.level graph.now)) 0 every first
-            s.entries.entries.codes.items s.counters.items s.due.items s.last_due) }
+            s.entries.entries.codes.items s.counters.items s.due s.last_due) }
     {
         let mut reading = Reading::open(alloc, graph, first, end)?;
         read_exits(graph, &mut reading);
-        let due = list_due(alloc, &reading.waves)?;
+        let due = Due::of(alloc, first, &reading.waves)?;
         let Reading {
             entries,
             counters,
@@ -174,7 +187,6 @@ impl Stretch {
             entries,
             counters,
             due,
-            used: 0,
             last_due,
         })
     }

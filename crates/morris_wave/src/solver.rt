@@ -6,6 +6,7 @@ ghost use Rattle.morris_wave.specs.Solving.{every, none};
 ghost use Rattle.morris_wave.specs.Keeping.{StretchHolds};
 
 use crate::network::Graph;
+use crate::nodes::NodeList;
 use crate::stretch::Stretch;
 use std::alloc::{AllocError, Global};
 use thiserror::Error;
@@ -35,55 +36,63 @@ impl From<AllocError> for SweepFault {
 const LAST_WAVE: u16 = 65534;
 
 // Goes back from each fresh node of the wave, and takes in what leads there.
-fn spread<G: Graph>(graph: &G, whole: &mut Stretch, back: &mut Vec<u64>) -> Result<(), AllocError>
+fn spread<G: Graph, L: NodeList>(
+    graph: &G,
+    whole: &mut Stretch<L>,
+    back: &mut Vec<u64>,
+) -> Result<(), AllocError>
     requires first { whole.old.entries.first ≡ 0 }
     requires len { vec_len whole.old.entries.entries.codes ≡ (G.Name.net (G.level graph.now)).size }
     requires start { StretchHolds (G.Name.net (G.level graph.now)) whole.old.entries.wave none 0
-        whole.old.entries.entries.codes.items whole.old.counters.items whole.old.due.items whole.old.last_due }
+        whole.old.entries.entries.codes.items whole.old.counters.items whole.old.due whole.old.last_due }
     ensures first { whole.new.entries.first ≡ 0 }
     ensures wave { whole.new.entries.wave ≡ whole.old.entries.wave }
     ensures len { vec_len whole.new.entries.entries.codes ≡ vec_len whole.old.entries.entries.codes }
     ensures done { OnOk result (StretchHolds (G.Name.net (G.level graph.now)) whole.old.entries.wave every 0
-        whole.new.entries.entries.codes.items whole.new.counters.items whole.new.due.items whole.new.last_due) }
+        whole.new.entries.entries.codes.items whole.new.counters.items whole.new.due whole.new.last_due) }
 {
     for place in whole.entries.before..whole.entries.here {
-        graph.back(whole.entries.decided[place], back)?;
+        graph.back(whole.entries.decided.node(place), back)?;
         whole.take_in(back);
     }
     Ok(())
 }
 
 // Goes on from a complete wave to the next one, and completes it.
-fn next_wave<G: Graph>(
+fn next_wave<G: Graph, L: NodeList>(
     graph: &G,
-    whole: &mut Stretch,
+    whole: &mut Stretch<L>,
     back: &mut Vec<u64>,
 ) -> Result<(), AllocError>
     requires wave { whole.old.entries.wave < 65534 }
     requires first { whole.old.entries.first ≡ 0 }
     requires len { vec_len whole.old.entries.entries.codes ≡ (G.Name.net (G.level graph.now)).size }
     requires start { StretchHolds (G.Name.net (G.level graph.now)) whole.old.entries.wave every 0
-        whole.old.entries.entries.codes.items whole.old.counters.items whole.old.due.items whole.old.last_due }
+        whole.old.entries.entries.codes.items whole.old.counters.items whole.old.due whole.old.last_due }
     ensures first { whole.new.entries.first ≡ 0 }
     ensures wave { whole.new.entries.wave ≡ whole.old.entries.wave + 1 }
     ensures len { vec_len whole.new.entries.entries.codes ≡ vec_len whole.old.entries.entries.codes }
     ensures done { OnOk result (StretchHolds (G.Name.net (G.level graph.now)) (whole.old.entries.wave + 1) every 0
-        whole.new.entries.entries.codes.items whole.new.counters.items whole.new.due.items whole.new.last_due) }
+        whole.new.entries.entries.codes.items whole.new.counters.items whole.new.due whole.new.last_due) }
 {
     whole.next_wave();
     spread(graph, whole, back)
 }
 
 // Goes from wave to wave until nothing more is to come, and says whether it got so far.
-fn run<G: Graph>(alloc: Global, graph: &G, whole: &mut Stretch) -> Result<bool, AllocError>
+fn run<G: Graph, L: NodeList>(
+    alloc: Global,
+    graph: &G,
+    whole: &mut Stretch<L>,
+) -> Result<bool, AllocError>
     requires first { whole.old.entries.first ≡ 0 }
     requires wave { whole.old.entries.wave ≡ 0 }
     requires len { vec_len whole.old.entries.entries.codes ≡ (G.Name.net (G.level graph.now)).size }
     requires start { StretchHolds (G.Name.net (G.level graph.now)) 0 every 0
-        whole.old.entries.entries.codes.items whole.old.counters.items whole.old.due.items whole.old.last_due }
+        whole.old.entries.entries.codes.items whole.old.counters.items whole.old.due whole.old.last_due }
     ensures len { vec_len whole.new.entries.entries.codes ≡ vec_len whole.old.entries.entries.codes }
     ensures done { OnOk result (StretchHolds (G.Name.net (G.level graph.now)) whole.new.entries.wave every 0
-        whole.new.entries.entries.codes.items whole.new.counters.items whole.new.due.items whole.new.last_due) }
+        whole.new.entries.entries.codes.items whole.new.counters.items whole.new.due whole.new.last_due) }
     ensures quiet { IfOk result (λ quiet. quiet ≡ (nat_le whole.new.last_due whole.new.entries.wave
         && not (list_any (λ c. c == (whole.new.entries.wave + 1)) whole.new.entries.entries.codes.items))) }
     ensures last { IfOk result (λ quiet. quiet ≡ false → whole.new.entries.wave ≡ 65534) }
@@ -124,7 +133,7 @@ pub fn sweep<G: Graph>(alloc: Global, graph: &G) -> Result<Vec<u16>, SweepFault>
     // And it tells who wins: codes of lost nodes are odd, those of won nodes even.
     ensures outcome { CodeRules (G.Name.net (G.level graph.now)) }
 {
-    let mut whole = Stretch::read(alloc, graph, 0, graph.size())?;
+    let mut whole: Stretch<Vec<u64>> = Stretch::read(alloc, graph, 0, graph.size())?;
     if run(alloc, graph, &mut whole)? {
         Ok(whole.entries.entries.codes)
     } else {

@@ -1,49 +1,46 @@
 //! A stretch of nodes of a graph, which goes from wave to wave.
 ghost use Rattle.std.specs.Prelude.{◌≡◌, ℕ, ◌+◌, ◌-◌, ◌*◌, ◌<◌, ◌≤◌, ◌&&◌, ◌==◌, ◌^◌, Bool, true, false, not, nat_le, length, take, slice_index, vec_len};
 ghost use Rattle.std.specs.List.{All, list_any};
-ghost use Rattle.std.specs.List.Sorted.{IsNonDecreasing};
 ghost use Rattle.morris_wave.specs.Nets.{times};
+ghost use Rattle.morris_wave.specs.Lists.{list_at};
 ghost use Rattle.morris_wave.specs.Exits.{is_odd};
-ghost use Rattle.morris_wave.specs.Keeping.{Takes, ComesDue, UsedUpTo, left_of, due_word, place_of};
+ghost use Rattle.morris_wave.specs.Keeping.{Takes, left_of};
 
+use crate::due::Due;
 use crate::falls;
 use crate::listed::Listed;
 use crate::nodes::NodeList;
 
 // Nodes in their order, from the first one of the entries on. For each there is its entry and a
 // counter of the results that it waits for; its exits count as one of these until all of them are
-// won. A node whose exits decide stands once in `due` with the wave at which they do, and those up
-// to `used` came due.
+// won. A node whose exits decide stands once in `due`, in the list of the wave at which they do.
 #[derive(Drop)]
-pub(crate) struct Stretch {
-    pub(crate) entries: Listed,
+pub(crate) struct Stretch<L: NodeList> {
+    pub(crate) entries: Listed<L>,
     pub(crate) counters: Vec<u16>,
-    pub(crate) due: Vec<u64>,
-    pub(crate) used: usize,
+    pub(crate) due: Due<L>,
     pub(crate) last_due: u32,
     ghost counted: { vec_len counters ≡ vec_len entries.entries.codes },
-    ghost order: { IsNonDecreasing due.items },
-    ghost inside: { All (λ d. place_of d < vec_len entries.entries.codes) due.items },
-    ghost once: { (w k : ℕ) → k < vec_len entries.entries.codes → times (due_word w k) due.items ≤ 1 },
-    ghost used_is: { UsedUpTo entries.wave due.items used },
+    ghost inside: { (n : ℕ) → All (λ i. (entries.first ≤ i) × (i < entries.first + vec_len entries.entries.codes)) (list_at due n) },
+    ghost once: { (n k : ℕ) → k < vec_len entries.entries.codes → times (entries.first + k) (list_at due n) ≤ 1 },
 }
 
-impl Stretch {
+impl<L: NodeList> Stretch<L> {
     // Takes in nodes that lead to fresh nodes of the wave, each as often as it leads there.
-    pub(crate) fn take_in<L: NodeList>(&mut self, nodes: &L)
-        requires inside { All (λ i. (self.old.entries.first ≤ i) × (i < self.old.entries.first + vec_len self.old.entries.entries.codes)) (L.items nodes.now) }
+    pub(crate) fn take_in<B: NodeList>(&mut self, nodes: &B)
+        requires inside { All (λ i. (self.old.entries.first ≤ i) × (i < self.old.entries.first + vec_len self.old.entries.entries.codes)) (B.items nodes.now) }
         requires enough { is_odd self.old.entries.wave ≡ false → (k : ℕ) → k < vec_len self.old.entries.entries.codes
-            → times (self.old.entries.first + k) (L.items nodes.now) ≤ left_of (slice_index self.old.counters.items k) }
+            → times (self.old.entries.first + k) (B.items nodes.now) ≤ left_of (slice_index self.old.counters.items k) }
         ensures len { vec_len self.new.entries.entries.codes ≡ vec_len self.old.entries.entries.codes }
         ensures first { self.new.entries.first ≡ self.old.entries.first }
         ensures wave { self.new.entries.wave ≡ self.old.entries.wave }
         ensures before { self.new.entries.before ≡ self.old.entries.before }
         ensures here { self.new.entries.here ≡ self.old.entries.here }
-        ensures list { take self.old.entries.here self.new.entries.decided.items ≡ take self.old.entries.here self.old.entries.decided.items }
+        ensures list { take self.old.entries.here (L.items self.new.entries.decided) ≡ take self.old.entries.here (L.items self.old.entries.decided) }
         ensures due { self.new.due ≡ self.old.due }
         ensures last_due { self.new.last_due ≡ self.old.last_due }
         ensures small { (k : ℕ) → k < length self.new.counters.items → slice_index self.new.counters.items k < 65536 }
-        ensures taken { Takes self.old.entries.wave self.old.entries.first (L.items nodes.now)
+        ensures taken { Takes self.old.entries.wave self.old.entries.first (B.items nodes.now)
             self.old.entries.entries.codes.items self.new.entries.entries.codes.items self.old.counters.items self.new.counters.items }
     {
         falls::take_in(&mut self.entries, &mut self.counters, nodes);
@@ -58,11 +55,12 @@ impl Stretch {
         ensures due { self.new.due ≡ self.old.due }
         ensures last_due { self.new.last_due ≡ self.old.last_due }
         ensures small { (k : ℕ) → k < length self.new.counters.items → slice_index self.new.counters.items k < 65536 }
-        ensures comes { ComesDue (self.old.entries.wave + 1) self.old.due.items
-            self.old.entries.entries.codes.items self.new.entries.entries.codes.items self.old.counters.items self.new.counters.items self.new.used }
+        ensures comes { Takes (self.old.entries.wave + 1) self.old.entries.first (list_at self.old.due (self.old.entries.wave + 1))
+            self.old.entries.entries.codes.items self.new.entries.entries.codes.items self.old.counters.items self.new.counters.items }
     {
         self.entries.next_wave();
-        self.used = falls::come_due(&mut self.entries, &mut self.counters, &self.due, self.used);
+        let nodes = self.due.at(self.entries.wave);
+        falls::take_in(&mut self.entries, &mut self.counters, nodes);
     }
 
     // Whether all exits are due, and no node got its code at this wave.

@@ -1,5 +1,6 @@
 use Rattle.std.proofs.Common.{◌≡◌, length, take}
-use Rattle.morris_wave.specs.Delivery.{contents, AreSorted, LeadTo}
+use Rattle.morris_wave.specs.Lists.{contents}
+use Rattle.morris_wave.specs.Delivery.{AreSorted, LeadTo}
 use Rattle.morris_wave.proofs.delivery.behind.Given as goal
 
 abbrev pub invariant-loop-node : goal.invariant-loop-node

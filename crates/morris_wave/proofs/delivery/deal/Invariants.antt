@@ -1,5 +1,6 @@
 use Rattle.std.proofs.Common.{◌≡◌, length, take}
-use Rattle.morris_wave.specs.Delivery.{contents, AreSorted, Deals}
+use Rattle.morris_wave.specs.Lists.{contents}
+use Rattle.morris_wave.specs.Delivery.{AreSorted, Deals}
 use Rattle.morris_wave.proofs.delivery.deal.Given as goal
 
 abbrev pub invariant-loop-node : goal.invariant-loop-node

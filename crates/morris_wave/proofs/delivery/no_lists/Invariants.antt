@@ -1,5 +1,5 @@
 use Rattle.std.proofs.Common.{◌≡◌, ℕ, [], length}
-use Rattle.morris_wave.specs.Delivery.{contents, list_at}
+use Rattle.morris_wave.specs.Lists.{contents, list_at}
 use Rattle.morris_wave.proofs.delivery.no_lists.Given as goal
 
 abbrev pub invariant-loop : goal.invariant-loop

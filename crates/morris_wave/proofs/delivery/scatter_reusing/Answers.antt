@@ -1,9 +1,9 @@
-use Rattle.std.proofs.Common.{◌≡◌, ℕ, ◌<◌, List, [], ◌∷◌, ◌++◌, Vec, length, slice_index_or, sym, ap, ◌∙◌, subst, arith, append_assoc}
-use Rattle.std.specs.declared.alloc.Global.{Global}
+use Rattle.std.proofs.Common.{◌≡◌, ℕ, ◌<◌, List, [], ◌∷◌, ◌++◌, length, slice_index_or, sym, ap, ◌∙◌, subst, arith, append_assoc}
 use Rattle.std.proofs.lemmas.List.{length_push}
 use Rattle.std.specs.List.{All}
 use Rattle.morris_wave.specs.Batches.{FreshState, BatchState, BatchHolds}
-use Rattle.morris_wave.specs.Delivery.{contents, LeadTo, batch_of, IsBatchOf}
+use Rattle.morris_wave.specs.Lists.{contents}
+use Rattle.morris_wave.specs.Delivery.{LeadTo, batch_of, IsBatchOf}
 use Rattle.morris_wave.proofs.Scattering.{fresh_inside, next_batch, sealed, batches_more}
 use Rattle.morris_wave.proofs.delivery.scatter_reusing.Goals as goal
 

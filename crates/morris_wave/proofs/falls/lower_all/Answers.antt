@@ -10,7 +10,7 @@ pub loop-at-preserved : goal.loop-at-preserved
 loop-at-preserved g c =
     let inv = c.loop-at.invariant in
     let first = c.args.entries.now.first in
-    let nodes = g.L.NodeList.items c.args.nodes.now in
+    let nodes = g.B.NodeList.items c.args.nodes.now in
     let i = c.loop-at.at in
     let node = c.node-node.result in
     let more : i < length nodes = omega (arith, c.loop-at-test.true, c.loop-at.auto.at-end, c.count-at-end.ensures) in
@@ -37,5 +37,5 @@ loop-at-preserved g c =
           (subst (λ (w : ℕ). Marks c.loop-at.entries.entries.codes.items c.mark.new.self.entries.codes.items (λ k. eqb place k && eqb now 0) (w + 1)) inv.3 c.mark.ensures.codes),
       c.mark.ensures.before ∙ inv.6,
       c.mark.ensures.here ∙ inv.7,
-      subst (λ (n : ℕ). take n c.mark.new.self.decided.items ≡ take n c.loop-at.entries.decided.items) inv.7 c.mark.ensures.list ∙ inv.8,
+      subst (λ (n : ℕ). take n (g.L.NodeList.items c.mark.new.self.decided) ≡ take n (g.L.NodeList.items c.loop-at.entries.decided)) inv.7 c.mark.ensures.list ∙ inv.8,
     )

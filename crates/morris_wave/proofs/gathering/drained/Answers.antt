@@ -1,4 +1,4 @@
-use Rattle.std.proofs.Common.{◌≡◌, ℕ, suc, ◌+◌, ◌<◌, [], ◌∷◌, ◌++◌, List, length, get_or, refl, sym, ap, ◌∙◌, subst, arith, append_assoc, slice_index}
+use Rattle.std.proofs.Common.{◌≡◌, ℕ, ◌+◌, ◌<◌, [], ◌∷◌, ◌++◌, List, length, get_or, refl, sym, ap, ◌∙◌, subst, arith, append_assoc, slice_index}
 use Rattle.std.proofs.lemmas.List.{length-append, length_push, get_or_at}
 use Rattle.morris_wave.specs.Values.{code_within}
 use Rattle.morris_wave.specs.Blocks.{IsCut, BlockState, first_of, first_node, count_of}
@@ -37,6 +37,47 @@ loop-block-preserved g c =
       λ _. omega (arith, c.entries_of.ensures.wave, fit.wave_is),
       λ _. subst (λ t. IsCut t) fit.cut_is c.entries_of.ensures.cut,
     )
+
+pub returns-clause-len : goal.returns-clause-len
+returns-clause-len g c =
+    let inv = c.loop-block.invariant in
+    let cut = c.args.cut.now in
+    let before : List BlockState = c.loop-block.yielded in
+    let none : length c.loop-block.block-iterator.rest.items ≡ 0 = omega (arith, c.in-None.ensures.steps.0, c.loop-block.block-iterator.rest.ok.0) in
+    let all : length before ≡ cut.blocks =
+    omega (arith, ap length inv.1, length-append before c.loop-block.block-iterator.rest.items, none, ap length c.into_iter-block-iterator.ensures.into_iter_gives.0, c.requires.count, c.args.blocks.ok.0) in
+    let end : first_of cut (length before) ≡ cut.size = ap (first_of cut) all ∙ first_last cut (omega (arith, c.blocks-blocks.ensures.some, c.blocks-blocks.ensures.count)) in
+    omega (arith, c.loop-block.codes.ok.0, inv.0, end)
+
+pub returns-clause-size : goal.returns-clause-size
+returns-clause-size g c =
+    let inv = c.loop-block.invariant in
+    let cut = c.args.cut.now in
+    let before : List BlockState = c.loop-block.yielded in
+    let none : length c.loop-block.block-iterator.rest.items ≡ 0 = omega (arith, c.in-None.ensures.steps.0, c.loop-block.block-iterator.rest.ok.0) in
+    let all : length before ≡ cut.blocks =
+    omega (arith, ap length inv.1, length-append before c.loop-block.block-iterator.rest.items, none, ap length c.into_iter-block-iterator.ensures.into_iter_gives.0, c.requires.count, c.args.blocks.ok.0) in
+    inv.3 (omega (arith, all, c.blocks-blocks.ensures.some, c.blocks-blocks.ensures.count))
+
+pub returns-clause-wave : goal.returns-clause-wave
+returns-clause-wave g c =
+    let inv = c.loop-block.invariant in
+    let cut = c.args.cut.now in
+    let before : List BlockState = c.loop-block.yielded in
+    let none : length c.loop-block.block-iterator.rest.items ≡ 0 = omega (arith, c.in-None.ensures.steps.0, c.loop-block.block-iterator.rest.ok.0) in
+    let all : length before ≡ cut.blocks =
+    omega (arith, ap length inv.1, length-append before c.loop-block.block-iterator.rest.items, none, ap length c.into_iter-block-iterator.ensures.into_iter_gives.0, c.requires.count, c.args.blocks.ok.0) in
+    inv.4 (omega (arith, all, c.blocks-blocks.ensures.some, c.blocks-blocks.ensures.count))
+
+pub returns-clause-cut : goal.returns-clause-cut
+returns-clause-cut g c =
+    let inv = c.loop-block.invariant in
+    let cut = c.args.cut.now in
+    let before : List BlockState = c.loop-block.yielded in
+    let none : length c.loop-block.block-iterator.rest.items ≡ 0 = omega (arith, c.in-None.ensures.steps.0, c.loop-block.block-iterator.rest.ok.0) in
+    let all : length before ≡ cut.blocks =
+    omega (arith, ap length inv.1, length-append before c.loop-block.block-iterator.rest.items, none, ap length c.into_iter-block-iterator.ensures.into_iter_gives.0, c.requires.count, c.args.blocks.ok.0) in
+    inv.5 (omega (arith, all, c.blocks-blocks.ensures.some, c.blocks-blocks.ensures.count))
 
 pub returns-clause-codes : goal.returns-clause-codes
 returns-clause-codes g c =

@@ -1,9 +1,7 @@
-use Rattle.std.proofs.Common.{◌≡◌, [], ℕ, List, None, Option, subst, sym}
-use Rattle.std.specs.List.{All}
+use Rattle.std.proofs.Common.{◌≡◌, [], ℕ, List, None, subst, sym}
 use Rattle.morris_wave.specs.Values.{HasCode}
 use Rattle.morris_wave.specs.Blocks.{BlockState}
-use Rattle.morris_wave.specs.Gathering.{first_complaint, ArePlaces, Fits}
-use Rattle.morris_wave.specs.declared.gathering.GatherFault.{GatherFault}
+use Rattle.morris_wave.specs.Gathering.{first_complaint, ArePlaces}
 use Rattle.morris_wave.proofs.Gathered.{all_fit, all_there, comes_once, settled_codes, settled_deep}
 use Rattle.morris_wave.proofs.gathering.gather_from.Goals as goal
 

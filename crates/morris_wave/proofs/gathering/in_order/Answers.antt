@@ -5,6 +5,12 @@ use Rattle.morris_wave.specs.Gathering.{Fits}
 use Rattle.morris_wave.proofs.Gathered.{block_more, first_last}
 use Rattle.morris_wave.proofs.gathering.in_order.Goals as goal
 
+pub offset_bounds-blocks-place : goal.offset_bounds-blocks-place
+offset_bounds-blocks-place g c = omega (arith, (c.requires.places.at c.loop-number.number c.in-Some.place c.in-Some.is).0)
+
+pub bounds-blocks-place : goal.bounds-blocks-place
+bounds-blocks-place g c = (c.requires.places.at c.loop-number.number c.in-Some.place c.in-Some.is).0
+
 pub loop-number-preserved : goal.loop-number-preserved
 loop-number-preserved g c =
     let inv = c.loop-number.invariant in

@@ -8,4 +8,4 @@ invariant-loop-done g l =
     (l.whole.entries.wave ≡ l.done)
     × (l.whole.entries.first ≡ 0)
     × (vec_len l.whole.entries.entries.codes ≡ vec_len l.initial.whole.entries.entries.codes)
-    × StretchHolds (g.G.Name.Levels.net (g.G.Graph.level l.graph)) l.whole.entries.wave every 0 l.whole.entries.entries.codes.items l.whole.counters.items l.whole.due.items l.whole.last_due
+    × StretchHolds (g.G.Name.Levels.net (g.G.Graph.level l.graph)) l.whole.entries.wave every 0 l.whole.entries.entries.codes.items l.whole.counters.items l.whole.due l.whole.last_due

@@ -1,5 +1,5 @@
 use Rattle.std.proofs.Common.{◌≡◌, ◌<◌, ◌≤◌, ℕ, ◌+◌, ◌-◌, false, List, drop, length, refl, slice_index, sym, take, ap, subst, ◌∙◌, arith}
-use Rattle.std.proofs.lemmas.List.{get_or_read, take_all}
+use Rattle.std.proofs.lemmas.List.{take_all}
 use Rattle.morris_wave.specs.Nets.{times}
 use Rattle.morris_wave.specs.Exits.{is_odd}
 use Rattle.morris_wave.specs.Solving.{ListsFresh, among, none}
@@ -20,8 +20,8 @@ loop-place-init g c =
       refl,
       refl,
       omega arith,
-      spread_none net law e.wave 0 e.entries.codes.items start.counters.items start.due.items start.last_due
-          (take (e.here - e.before) (drop e.before e.decided.items)) (e.before - e.before) (omega arith) c.requires.start,
+      spread_none net law e.wave 0 e.entries.codes.items start.counters.items start.due start.last_due
+          (take (e.here - e.before) (drop e.before (g.L.NodeList.items e.decided))) (e.before - e.before) (omega arith) c.requires.start,
     )
 
 pub take_in-requires-clause-enough : goal.take_in-requires-clause-enough
@@ -33,21 +33,21 @@ take_in-requires-clause-enough g c =
     let e = start.entries in
     let now = c.loop-place.whole in
     let codes = now.entries.entries.codes in
-    let fresh = take (e.here - e.before) (drop e.before e.decided.items) in
+    let fresh = take (e.here - e.before) (drop e.before (g.L.NodeList.items e.decided)) in
     let i = c.loop-place.place - e.before in
     let listed : ListsFresh net e.wave fresh =
-    fresh_listed net law e.wave none e.entries.codes.items start.counters.items start.due.items start.last_due c.requires.start (omega (arith, c.requires.len, e.entries.codes.ok.0))
-    e.decided.items e.before e.here (subst (λ (f : ℕ). Ranked f e.wave e.entries.codes.items e.decided.items e.before e.here) c.requires.first e.ranked) in
-    let node = c.index.result.now in
-    let within : i < length fresh = omega (arith, fresh_length e.decided.items e.before e.here e.ranked.within, c.loop-place-test.true, inv.6) in
-    let read : node ≡ slice_index now.entries.decided.items c.loop-place.place =
-    get_or_read now.entries.decided.items c.loop-place.place node (omega (arith, c.loop-place-test.true, inv.1, now.entries.ranked.within)) c.index.ensures 0 in
-    let is : node ≡ slice_index fresh i = read ∙ fresh_at e.decided.items now.entries.decided.items e.before e.here c.loop-place.place inv.2 inv.6 c.loop-place-test.true in
+    fresh_listed net law e.wave none e.entries.codes.items start.counters.items start.due start.last_due c.requires.start (omega (arith, c.requires.len, e.entries.codes.ok.0))
+    (g.L.NodeList.items e.decided) e.before e.here (subst (λ (f : ℕ). Ranked f e.wave e.entries.codes.items (g.L.NodeList.items e.decided) e.before e.here) c.requires.first e.ranked) in
+    let node = c.node.result in
+    let within : i < length fresh = omega (arith, fresh_length (g.L.NodeList.items e.decided) e.before e.here e.ranked.within, c.loop-place-test.true, inv.6) in
+    let read : node ≡ slice_index (g.L.NodeList.items now.entries.decided) c.loop-place.place =
+    c.node.ensures in
+    let is : node ≡ slice_index fresh i = read ∙ fresh_at (g.L.NodeList.items e.decided) (g.L.NodeList.items now.entries.decided) e.before e.here c.loop-place.place inv.2 inv.6 c.loop-place-test.true in
     let behind : (k : ℕ) → k < net.size → times k c.back.new.out.items ≡ times node (net.quiet k) = c.in_ok-back.ensures.times in
     λ even k l.
     let even_here : is_odd e.wave ≡ false = ap is_odd (sym inv.4) ∙ even in
     subst (λ (f : ℕ). times (f + k) c.back.new.out.items ≤ left_of (slice_index now.counters.items k)) (sym inv.3)
-    (spread_enough net e.wave fresh listed i node within is c.back.new.out.items behind law 0 codes.items now.counters.items now.due.items now.last_due inv.7 even_here k (omega (arith, l, codes.ok.0)))
+    (spread_enough net e.wave fresh listed i node within is c.back.new.out.items behind law 0 codes.items now.counters.items now.due now.last_due inv.7 even_here k (omega (arith, l, codes.ok.0)))
 
 pub loop-place-preserved : goal.loop-place-preserved
 loop-place-preserved g c =
@@ -58,16 +58,16 @@ loop-place-preserved g c =
     let e = start.entries in
     let now = c.loop-place.whole in
     let codes = now.entries.entries.codes in
-    let fresh = take (e.here - e.before) (drop e.before e.decided.items) in
+    let fresh = take (e.here - e.before) (drop e.before (g.L.NodeList.items e.decided)) in
     let i = c.loop-place.place - e.before in
     let listed : ListsFresh net e.wave fresh =
-    fresh_listed net law e.wave none e.entries.codes.items start.counters.items start.due.items start.last_due c.requires.start (omega (arith, c.requires.len, e.entries.codes.ok.0))
-    e.decided.items e.before e.here (subst (λ (f : ℕ). Ranked f e.wave e.entries.codes.items e.decided.items e.before e.here) c.requires.first e.ranked) in
-    let node = c.index.result.now in
-    let within : i < length fresh = omega (arith, fresh_length e.decided.items e.before e.here e.ranked.within, c.loop-place-test.true, inv.6) in
-    let read : node ≡ slice_index now.entries.decided.items c.loop-place.place =
-    get_or_read now.entries.decided.items c.loop-place.place node (omega (arith, c.loop-place-test.true, inv.1, now.entries.ranked.within)) c.index.ensures 0 in
-    let is : node ≡ slice_index fresh i = read ∙ fresh_at e.decided.items now.entries.decided.items e.before e.here c.loop-place.place inv.2 inv.6 c.loop-place-test.true in
+    fresh_listed net law e.wave none e.entries.codes.items start.counters.items start.due start.last_due c.requires.start (omega (arith, c.requires.len, e.entries.codes.ok.0))
+    (g.L.NodeList.items e.decided) e.before e.here (subst (λ (f : ℕ). Ranked f e.wave e.entries.codes.items (g.L.NodeList.items e.decided) e.before e.here) c.requires.first e.ranked) in
+    let node = c.node.result in
+    let within : i < length fresh = omega (arith, fresh_length (g.L.NodeList.items e.decided) e.before e.here e.ranked.within, c.loop-place-test.true, inv.6) in
+    let read : node ≡ slice_index (g.L.NodeList.items now.entries.decided) c.loop-place.place =
+    c.node.ensures in
+    let is : node ≡ slice_index fresh i = read ∙ fresh_at (g.L.NodeList.items e.decided) (g.L.NodeList.items now.entries.decided) e.before e.here c.loop-place.place inv.2 inv.6 c.loop-place-test.true in
     let behind : (k : ℕ) → k < net.size → times k c.back.new.out.items ≡ times node (net.quiet k) = c.in_ok-back.ensures.times in
     let made = c.take_in.ensures in
     let new = c.take_in.new.self in
@@ -75,21 +75,21 @@ loop-place-preserved g c =
     let takes : Takes e.wave 0 c.back.new.out.items codes.items codes'.items now.counters.items new.counters.items =
     subst (λ (w : ℕ). Takes w 0 c.back.new.out.items codes.items codes'.items now.counters.items new.counters.items) inv.4
     (subst (λ (f : ℕ). Takes now.entries.wave f c.back.new.out.items codes.items codes'.items now.counters.items new.counters.items) inv.3 made.taken) in
-    let more = spread_more net e.wave fresh listed i node within is c.back.new.out.items behind law 0 codes.items now.counters.items now.due.items now.last_due inv.7
+    let more = spread_more net e.wave fresh listed i node within is c.back.new.out.items behind law 0 codes.items now.counters.items now.due now.last_due inv.7
     codes'.items new.counters.items
     (omega (arith, made.len, codes.ok.0, codes'.ok.0))
     (omega (arith, new.counted, now.counted, made.len, new.counters.ok.0, now.counters.ok.0)) made.small takes in
     let next : i + 1 ≡ c.loop-place.place + 1 - e.before = omega (arith, inv.6) in (
       made.before ∙ inv.0,
       made.here ∙ inv.1,
-      subst (λ (n : ℕ). take n new.entries.decided.items ≡ take n now.entries.decided.items) inv.1 made.list ∙ inv.2,
+      subst (λ (n : ℕ). take n (g.L.NodeList.items new.entries.decided) ≡ take n (g.L.NodeList.items now.entries.decided)) inv.1 made.list ∙ inv.2,
       made.first ∙ inv.3,
       made.wave ∙ inv.4,
       made.len ∙ inv.5,
       omega (arith, inv.6),
-      subst (λ (p : ℕ). StretchHolds net e.wave (among (take p fresh)) 0 codes'.items new.counters.items new.due.items new.last_due) next
-          (subst (λ (xs : List ℕ). StretchHolds net e.wave (among (take (i + 1) fresh)) 0 codes'.items new.counters.items xs new.last_due) (sym (ap (λ v. v.items) made.due))
-          (subst (λ (d : ℕ). StretchHolds net e.wave (among (take (i + 1) fresh)) 0 codes'.items new.counters.items now.due.items d) (sym made.last_due) more)),
+      subst (λ (p : ℕ). StretchHolds net e.wave (among (take p fresh)) 0 codes'.items new.counters.items new.due new.last_due) next
+          (subst (λ (xs : List (List ℕ)). StretchHolds net e.wave (among (take (i + 1) fresh)) 0 codes'.items new.counters.items xs new.last_due) (sym made.due)
+          (subst (λ (d : ℕ). StretchHolds net e.wave (among (take (i + 1) fresh)) 0 codes'.items new.counters.items now.due d) (sym made.last_due) more)),
     )
 
 pub returns-clause-done : goal.returns-clause-done
@@ -101,11 +101,11 @@ returns-clause-done g c =
     let e = start.entries in
     let now = c.loop-place.whole in
     let codes = now.entries.entries.codes in
-    let fresh = take (e.here - e.before) (drop e.before e.decided.items) in
+    let fresh = take (e.here - e.before) (drop e.before (g.L.NodeList.items e.decided)) in
     let i = c.loop-place.place - e.before in
     let listed : ListsFresh net e.wave fresh =
-    fresh_listed net law e.wave none e.entries.codes.items start.counters.items start.due.items start.last_due c.requires.start (omega (arith, c.requires.len, e.entries.codes.ok.0))
-    e.decided.items e.before e.here (subst (λ (f : ℕ). Ranked f e.wave e.entries.codes.items e.decided.items e.before e.here) c.requires.first e.ranked) in
-    let whole : take i fresh ≡ fresh = take_all i fresh (omega (arith, fresh_length e.decided.items e.before e.here e.ranked.within, c.loop-place-test.false, inv.6)) in
-    spread_all net law e.wave 0 codes.items now.counters.items now.due.items now.last_due fresh listed
-    (subst (λ (xs : List ℕ). StretchHolds net e.wave (among xs) 0 codes.items now.counters.items now.due.items now.last_due) whole inv.7)
+    fresh_listed net law e.wave none e.entries.codes.items start.counters.items start.due start.last_due c.requires.start (omega (arith, c.requires.len, e.entries.codes.ok.0))
+    (g.L.NodeList.items e.decided) e.before e.here (subst (λ (f : ℕ). Ranked f e.wave e.entries.codes.items (g.L.NodeList.items e.decided) e.before e.here) c.requires.first e.ranked) in
+    let whole : take i fresh ≡ fresh = take_all i fresh (omega (arith, fresh_length (g.L.NodeList.items e.decided) e.before e.here e.ranked.within, c.loop-place-test.false, inv.6)) in
+    spread_all net law e.wave 0 codes.items now.counters.items now.due now.last_due fresh listed
+    (subst (λ (xs : List ℕ). StretchHolds net e.wave (among xs) 0 codes.items now.counters.items now.due now.last_due) whole inv.7)

@@ -7,11 +7,11 @@ abbrev pub invariant-loop-place : goal.invariant-loop-place
 invariant-loop-place g l =
     (l.whole.entries.before ≡ l.initial.whole.entries.before)
     × (l.whole.entries.here ≡ l.initial.whole.entries.here)
-    × (take l.initial.whole.entries.here l.whole.entries.decided.items ≡ take l.initial.whole.entries.here l.initial.whole.entries.decided.items)
+    × (take l.initial.whole.entries.here (g.L.NodeList.items l.whole.entries.decided) ≡ take l.initial.whole.entries.here (g.L.NodeList.items l.initial.whole.entries.decided))
     × (l.whole.entries.first ≡ 0)
     × (l.whole.entries.wave ≡ l.initial.whole.entries.wave)
     × (vec_len l.whole.entries.entries.codes ≡ vec_len l.initial.whole.entries.entries.codes)
     × (l.initial.whole.entries.before ≤ l.place)
     × StretchHolds (g.G.Name.Levels.net (g.G.Graph.level l.graph)) l.initial.whole.entries.wave
-    (among (take (l.place - l.initial.whole.entries.before) (take (l.initial.whole.entries.here - l.initial.whole.entries.before) (drop l.initial.whole.entries.before l.initial.whole.entries.decided.items)))) 0
-    l.whole.entries.entries.codes.items l.whole.counters.items l.whole.due.items l.whole.last_due
+    (among (take (l.place - l.initial.whole.entries.before) (take (l.initial.whole.entries.here - l.initial.whole.entries.before) (drop l.initial.whole.entries.before (g.L.NodeList.items l.initial.whole.entries.decided))))) 0
+    l.whole.entries.entries.codes.items l.whole.counters.items l.whole.due l.whole.last_due

@@ -1,10 +1,7 @@
-use Rattle.std.proofs.Common.{◌≡◌, ◌<◌, ◌≤◌, ℕ, ◌+◌, Bool, false, true, List, get_or, set, length, sym, ap, subst, ◌∙◌, arith}
-use Rattle.std.specs.List.{All}
+use Rattle.std.proofs.Common.{◌≡◌, ◌<◌, ℕ, Bool, false, true, List, get_or, set, length, sym, ap, subst, ◌∙◌, arith}
 use Rattle.std.proofs.lemmas.List.{get_or_read}
-use Rattle.morris_wave.specs.Nets.{times}
 use Rattle.morris_wave.specs.Blocks.{BlockState, BlockHolds}
 use Rattle.morris_wave.specs.Batches.{BatchState, BatchHolds}
-use Rattle.morris_wave.specs.Keeping.{Takes, left_of}
 use Rattle.morris_wave.proofs.Blocking.{same_parts, batch_inside, apply_enough, apply_holds}
 use Rattle.morris_wave.proofs.engine.Block.apply.Goals as goal
 
@@ -17,7 +14,7 @@ take_in-requires-clause-inside g c =
     let codes = kept.entries.entries.codes in
     let s : BlockState = record { level = inside.level; cut = inside.cut; number = inside.number; wave = kept.entries.wave; applied = inside.applied.items } in
     let batch = c.batch.inside in
-    let b : BatchState = record { level = batch.level; cut = batch.cut; wave = batch.wave; source = batch.source; target = batch.target; nodes = g.L.NodeList.items batch.nodes } in
+    let b : BatchState = record { level = batch.level; cut = batch.cut; wave = batch.wave; source = batch.source; target = batch.target; nodes = g.B.NodeList.items batch.nodes } in
     let hb : BatchHolds net b = subst (λ (l : ℕ). BatchHolds (g.N.Levels.net l) b) c.if-batch-self.false c.batch.invariant in
     let cut : batch.cut ≡ inside.cut = same_parts batch.cut inside.cut (sym c.is_same.ensures ∙ c.if-not-is_same.false) in
     let source : batch.source < length inside.applied.items = omega (arith, hb.source, c.self.invariant.sources, ap (λ p. p.blocks) cut) in
@@ -25,7 +22,7 @@ take_in-requires-clause-inside g c =
     sym {A = Bool} (get_or_read inside.applied.items batch.source c.index.result.now source c.index.ensures false) ∙ c.if-index.false in
     λ p d l.
     let at =
-    (batch_inside net law s kept.entries.first codes.items kept.counters.items kept.due.items kept.last_due c.self.invariant b hb cut c.if-batch-self-2.false c.if-batch-self-3.false open_source) p d l in
+    (batch_inside net law s kept.entries.first codes.items kept.counters.items kept.due kept.last_due c.self.invariant b hb cut c.if-batch-self-2.false c.if-batch-self-3.false open_source) p d l in
     (at.0, omega (arith, at.1, codes.ok.0))
 
 pub take_in-requires-clause-enough : goal.take_in-requires-clause-enough
@@ -37,14 +34,14 @@ take_in-requires-clause-enough g c =
     let codes = kept.entries.entries.codes in
     let s : BlockState = record { level = inside.level; cut = inside.cut; number = inside.number; wave = kept.entries.wave; applied = inside.applied.items } in
     let batch = c.batch.inside in
-    let b : BatchState = record { level = batch.level; cut = batch.cut; wave = batch.wave; source = batch.source; target = batch.target; nodes = g.L.NodeList.items batch.nodes } in
+    let b : BatchState = record { level = batch.level; cut = batch.cut; wave = batch.wave; source = batch.source; target = batch.target; nodes = g.B.NodeList.items batch.nodes } in
     let hb : BatchHolds net b = subst (λ (l : ℕ). BatchHolds (g.N.Levels.net l) b) c.if-batch-self.false c.batch.invariant in
     let cut : batch.cut ≡ inside.cut = same_parts batch.cut inside.cut (sym c.is_same.ensures ∙ c.if-not-is_same.false) in
     let source : batch.source < length inside.applied.items = omega (arith, hb.source, c.self.invariant.sources, ap (λ p. p.blocks) cut) in
     let open_source : get_or inside.applied.items batch.source false ≡ false =
     sym {A = Bool} (get_or_read inside.applied.items batch.source c.index.result.now source c.index.ensures false) ∙ c.if-index.false in
     λ even k l.
-    (apply_enough net law s kept.entries.first codes.items kept.counters.items kept.due.items kept.last_due c.self.invariant b hb cut c.if-batch-self-2.false c.if-batch-self-3.false open_source even k (omega (arith, l, codes.ok.0)))
+    (apply_enough net law s kept.entries.first codes.items kept.counters.items kept.due kept.last_due c.self.invariant b hb cut c.if-batch-self-2.false c.if-batch-self-3.false open_source even k (omega (arith, l, codes.ok.0)))
 
 pub invariant_of-self : goal.invariant_of-self
 invariant_of-self g c =
@@ -55,7 +52,7 @@ invariant_of-self g c =
     let codes = kept.entries.entries.codes in
     let s : BlockState = record { level = inside.level; cut = inside.cut; number = inside.number; wave = kept.entries.wave; applied = inside.applied.items } in
     let batch = c.batch.inside in
-    let b : BatchState = record { level = batch.level; cut = batch.cut; wave = batch.wave; source = batch.source; target = batch.target; nodes = g.L.NodeList.items batch.nodes } in
+    let b : BatchState = record { level = batch.level; cut = batch.cut; wave = batch.wave; source = batch.source; target = batch.target; nodes = g.B.NodeList.items batch.nodes } in
     let hb : BatchHolds net b = subst (λ (l : ℕ). BatchHolds (g.N.Levels.net l) b) c.if-batch-self.false c.batch.invariant in
     let cut : batch.cut ≡ inside.cut = same_parts batch.cut inside.cut (sym c.is_same.ensures ∙ c.if-not-is_same.false) in
     let source : batch.source < length inside.applied.items = omega (arith, hb.source, c.self.invariant.sources, ap (λ p. p.blocks) cut) in
@@ -65,12 +62,12 @@ invariant_of-self g c =
     let made = c.take_in.ensures in
     let new = after.entries.entries.codes in
     let takes = made.taken in
-    let holds = apply_holds net law s kept.entries.first codes.items kept.counters.items kept.due.items kept.last_due c.self.invariant b hb cut c.if-batch-self-2.false c.if-batch-self-3.false open_source
+    let holds = apply_holds net law s kept.entries.first codes.items kept.counters.items kept.due kept.last_due c.self.invariant b hb cut c.if-batch-self-2.false c.if-batch-self-3.false open_source
     new.items after.counters.items
     (omega (arith, made.len, new.ok.0, codes.ok.0))
     (omega (arith, after.counted, kept.counted, made.len, after.counters.ok.0, kept.counters.ok.0)) made.small takes in
     let now : ℕ → BlockState = λ w. record { level = inside.level; cut = inside.cut; number = inside.number; wave = w; applied = set inside.applied.items batch.source true } in
-    subst (λ (w : ℕ). BlockHolds net (now w) after.entries.first new.items after.counters.items after.due.items after.last_due) (sym made.wave)
-    (subst (λ (f : ℕ). BlockHolds net (now kept.entries.wave) f new.items after.counters.items after.due.items after.last_due) (sym made.first)
-    (subst (λ (xs : List ℕ). BlockHolds net (now kept.entries.wave) kept.entries.first new.items after.counters.items xs after.last_due) (sym (ap (λ v. v.items) made.due))
-    (subst (λ (d : ℕ). BlockHolds net (now kept.entries.wave) kept.entries.first new.items after.counters.items kept.due.items d) (sym made.last_due) holds)))
+    subst (λ (w : ℕ). BlockHolds net (now w) after.entries.first new.items after.counters.items after.due after.last_due) (sym made.wave)
+    (subst (λ (f : ℕ). BlockHolds net (now kept.entries.wave) f new.items after.counters.items after.due after.last_due) (sym made.first)
+    (subst (λ (xs : List (List ℕ)). BlockHolds net (now kept.entries.wave) kept.entries.first new.items after.counters.items xs after.last_due) (sym made.due)
+    (subst (λ (d : ℕ). BlockHolds net (now kept.entries.wave) kept.entries.first new.items after.counters.items kept.due d) (sym made.last_due) holds)))

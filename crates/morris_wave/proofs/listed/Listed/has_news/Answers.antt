@@ -3,6 +3,6 @@ use Rattle.morris_wave.proofs.Ranks.{some_this}
 use Rattle.morris_wave.proofs.listed.Listed.has_news.Goals as goal
 
 pub returns : goal.returns
-returns c =
+returns g c =
     let s = c.args.self.now in
-    ap (ltb s.here) (c.len.ensures ∙ s.decided.ok.0) ∙ some_this s.first s.wave s.before s.here s.entries.codes.items s.decided.items s.ranked
+    ap (ltb s.here) c.count.ensures ∙ some_this s.first s.wave s.before s.here s.entries.codes.items (g.L.NodeList.items s.decided) s.ranked

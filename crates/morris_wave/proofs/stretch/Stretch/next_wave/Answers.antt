@@ -1,25 +1,33 @@
-use Rattle.std.proofs.Common.{◌≤◌, ℕ, List, sym, ap, subst, vec_len, arith}
+use Rattle.std.proofs.Common.{◌≡◌, ◌<◌, ◌≤◌, ℕ, ◌+◌, List, length, slice_index_or, sym, ap, subst, ◌∙◌, vec_len, arith}
 use Rattle.morris_wave.specs.Nets.{times}
-use Rattle.morris_wave.specs.Keeping.{UsedUpTo, due_word}
+use Rattle.morris_wave.specs.Lists.{list_at}
 use Rattle.morris_wave.proofs.stretch.Stretch.next_wave.Goals as goal
 
-pub come_due-self-requires-clause-once : goal.come_due-self-requires-clause-once
-come_due-self-requires-clause-once c = λ k l.
+pub take_in-requires-clause-inside : goal.take_in-requires-clause-inside
+take_in-requires-clause-inside g c =
+    let s = c.args.self.now in
+    let is = c.at-nodes.ensures in
+    λ p d l.
+    let w = subst (λ (xs : List ℕ). (p : ℕ) (d : ℕ) → p < length xs → (s.entries.first ≤ slice_index_or xs p d) × (slice_index_or xs p d < s.entries.first + vec_len s.entries.entries.codes)) (sym is) (s.inside c.next_wave.new.self.wave) p d l in
+    (omega (arith, w.0, c.next_wave.ensures.first), omega (arith, w.1, c.next_wave.ensures.first, ap vec_len c.next_wave.ensures.codes))
+
+pub take_in-requires-clause-enough : goal.take_in-requires-clause-enough
+take_in-requires-clause-enough g c = λ even k l.
     let s = c.args.self.now in
     let wave = c.next_wave.new.self.wave in
-    subst (λ (xs : List ℕ). times (due_word wave k) xs ≤ 1) (sym c.deref.ensures.value) (s.once wave k (omega (arith, l, s.counted)))
+    let once : times (c.next_wave.new.self.first + k) (g.L.NodeList.items c.at-nodes.result.now) ≤ 1 =
+    subst (λ (xs : List ℕ). times (c.next_wave.new.self.first + k) xs ≤ 1) (sym c.at-nodes.ensures)
+    (subst (λ (f : ℕ). times (f + k) (list_at s.due wave) ≤ 1) (sym c.next_wave.ensures.first) (s.once wave k (omega (arith, l, s.counted)))) in
+    omega (arith, once)
 
 pub invariant_of-self : goal.invariant_of-self
-invariant_of-self c =
+invariant_of-self g c =
     let s = c.args.self.now in
-    let made = c.come_due-self.ensures in
-    let next = c.next_wave.new.self in
-    let len = c.next_wave.ensures.codes in
-    let used = c.come_due-self.result in
+    let made = c.take_in.ensures in
+    let first : c.take_in.new.entries.first ≡ s.entries.first = made.first ∙ c.next_wave.ensures.first in
+    let len : vec_len c.take_in.new.entries.entries.codes ≡ vec_len s.entries.entries.codes = made.len ∙ ap vec_len c.next_wave.ensures.codes in
     record {
-      counted = omega (arith, made.counters_len, made.len, s.counted, ap vec_len len);
-      order = s.order;
-      inside = λ k d l. omega (arith, s.inside k d l, made.len, ap vec_len len);
-      once = λ w k l. s.once w k (omega (arith, l, made.len, ap vec_len len));
-      used_is = subst (λ (w : ℕ). UsedUpTo w s.due.items used) (sym made.wave) (subst (λ (xs : List ℕ). UsedUpTo next.wave xs used) c.deref.ensures.value made.used);
+      counted = omega (arith, made.counters_len, len, s.counted);
+      inside = λ n p d l. let w = s.inside n p d l in (omega (arith, w.0, first), omega (arith, w.1, first, len));
+      once = λ n k l. subst (λ (f : ℕ). times (f + k) (list_at s.due n) ≤ 1) (sym first) (s.once n k (omega (arith, l, len)));
     }

@@ -1,23 +1,24 @@
-use Rattle.std.proofs.Common.{◌≡◌, ◌≤◌, ℕ, List, length, slice_index, vec_len, sym, subst, arith}
-use Rattle.morris_wave.specs.Keeping.{HasRead, ListsDue, UsedUpTo}
-use Rattle.morris_wave.proofs.Readings.{read_all, nothing_used}
-use Rattle.morris_wave.proofs.DueLists.{due_once}
+use Rattle.std.proofs.Common.{◌≡◌, ◌+◌, ◌≤◌, ℕ, List, length, slice_index, vec_len, sym, subst, ◌∙◌, arith}
+use Rattle.morris_wave.specs.Nets.{times}
+use Rattle.morris_wave.specs.Lists.{list_at}
+use Rattle.morris_wave.specs.Keeping.{HasRead, ListsDue}
+use Rattle.morris_wave.proofs.Readings.{read_all, due_once}
 use Rattle.morris_wave.proofs.stretch.Stretch.read.Goals as goal
 
 pub invariant_of-result : goal.invariant_of-result
 invariant_of-result g c =
     let r = c.read_exits.new.reading in
-    let due = c.in_ok-due.due.items in
-    let listed : ListsDue (λ k. slice_index r.waves.items k) (length r.waves.items) due =
-    subst (λ (xs : List ℕ). ListsDue (λ k. slice_index xs k) (length xs) due) c.deref.ensures.value c.in_ok-due.ensures in
+    let due = c.in_ok-due.due in
+    let listed : ListsDue (λ k. slice_index r.waves.items k) c.args.first (length r.waves.items) due =
+    subst (λ (xs : List ℕ). ListsDue (λ k. slice_index xs k) c.args.first (length xs) due) c.deref.ensures.value c.in_ok-due.ensures in
     let many : length r.waves.items ≡ vec_len r.entries.entries.codes = omega (arith, r.waved, r.waves.ok.0) in
-    let small : length r.waves.items ≤ 1099511627776 = omega (arith, many, r.entries.ends) in
+    let first : r.entries.first ≡ c.args.first = c.read_exits.ensures.first ∙ c.in_ok-reading.ensures.first in
     record {
       counted = r.counted;
-      order = listed.order;
-      inside = λ k d l. omega (arith, (listed.holds.inside k d l).0, many);
-      once = λ w k l. due_once (λ j. slice_index r.waves.items j) (length r.waves.items) due listed.holds small w k (omega (arith, l, many));
-      used_is = subst (λ (w : ℕ). UsedUpTo w due 0) (sym c.read_exits.ensures.wave) (nothing_used (λ j. slice_index r.waves.items j) (length r.waves.items) due listed.holds);
+      inside = λ n k d l. let w = listed.inside n k d l in (omega (arith, w.0, first), omega (arith, w.1, first, many));
+      once = λ n k l.
+          subst (λ (f : ℕ). times (f + k) (list_at due n) ≤ 1) (sym first)
+          (due_once (λ j. slice_index r.waves.items j) c.args.first (length r.waves.items) due listed n k (omega (arith, l, many)));
     }
 
 pub returns-clause-holds : goal.returns-clause-holds
@@ -26,9 +27,9 @@ returns-clause-holds g c =
     let before = c.in_ok-reading.reading in
     let r = c.read_exits.new.reading in
     let codes = r.entries.entries.codes in
-    let due = c.in_ok-due.due.items in
-    let listed : ListsDue (λ k. slice_index r.waves.items k) (length r.waves.items) due =
-    subst (λ (xs : List ℕ). ListsDue (λ k. slice_index xs k) (length xs) due) c.deref.ensures.value c.in_ok-due.ensures in
+    let due = c.in_ok-due.due in
+    let listed : ListsDue (λ k. slice_index r.waves.items k) c.args.first (length r.waves.items) due =
+    subst (λ (xs : List ℕ). ListsDue (λ k. slice_index xs k) c.args.first (length xs) due) c.deref.ensures.value c.in_ok-due.ensures in
     let len : vec_len before.entries.entries.codes ≡ length codes.items = omega (arith, c.read_exits.ensures.len, codes.ok.0) in
     let read : HasRead net c.args.first (length codes.items) codes.items r.counters.items r.waves.items r.last_due =
     subst (λ (n : ℕ). HasRead net c.args.first n codes.items r.counters.items r.waves.items r.last_due) len

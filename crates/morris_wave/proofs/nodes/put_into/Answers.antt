@@ -1,6 +1,6 @@
 use Rattle.std.proofs.Common.{arith}
 use Rattle.morris_wave.proofs.Dealing.{put_is}
-use Rattle.morris_wave.proofs.delivery.put.Goals as goal
+use Rattle.morris_wave.proofs.nodes.put_into.Goals as goal
 
 pub returns-clause-put : goal.returns-clause-put
 returns-clause-put g c =

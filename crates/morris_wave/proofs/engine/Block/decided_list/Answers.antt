@@ -1,11 +1,11 @@
-use Rattle.std.proofs.Common.{◌≡◌, ℕ, List, cond, sym, subst}
+use Rattle.std.proofs.Common.{◌≡◌, ℕ, cond, subst}
 use Rattle.std.specs.List.{All}
 use Rattle.std.specs.List.Sorted.{IsNonDecreasingBy}
 use Rattle.morris_wave.specs.Nets.{times}
 use Rattle.morris_wave.specs.Waves.{entry_at, is_decided_at}
 use Rattle.morris_wave.specs.Blocks.{BlockState, IsIn, in_applied}
 use Rattle.morris_wave.proofs.Settled.{list_inside, list_once, list_order}
-use Rattle.morris_wave.proofs.engine.Block.decided.Goals as goal
+use Rattle.morris_wave.proofs.engine.Block.decided_list.Goals as goal
 
 pub returns-clause-inside : goal.returns-clause-inside
 returns-clause-inside g c =
@@ -16,9 +16,8 @@ returns-clause-inside g c =
     let codes = kept.entries.entries.codes in
     let s : BlockState = record { level = inside.level; cut = inside.cut; number = inside.number; wave = kept.entries.wave; applied = inside.applied.items } in
     let e = kept.entries in
-    subst (λ (t : BlockState). All (IsIn t.cut t.number) c.as_slice.result.now) c.self.view_is
-    (subst (λ (xs : List ℕ). All (IsIn s.cut s.number) xs) (sym c.as_slice.ensures.value)
-    (list_inside net law s kept.entries.first codes.items kept.counters.items kept.due.items kept.last_due c.self.invariant e.wave e.before e.here e.decided.items e.ranked))
+    subst (λ (t : BlockState). All (IsIn t.cut t.number) (g.L.NodeList.items e.decided)) c.self.view_is
+    (list_inside net law s kept.entries.first codes.items kept.counters.items kept.due kept.last_due c.self.invariant e.wave e.before e.here (g.L.NodeList.items e.decided) e.ranked)
 
 pub returns-clause-once : goal.returns-clause-once
 returns-clause-once g c =
@@ -29,9 +28,8 @@ returns-clause-once g c =
     let codes = kept.entries.entries.codes in
     let s : BlockState = record { level = inside.level; cut = inside.cut; number = inside.number; wave = kept.entries.wave; applied = inside.applied.items } in
     let e = kept.entries in
-    subst (λ (t : BlockState). (i : ℕ) → IsIn t.cut t.number i → times i c.as_slice.result.now ≡ cond {A = ℕ} (is_decided_at (g.N.Levels.net t.level) t.wave (in_applied t) i) 1 0) c.self.view_is
-    (subst (λ (xs : List ℕ). (i : ℕ) → IsIn s.cut s.number i → times i xs ≡ cond {A = ℕ} (is_decided_at net s.wave (in_applied s) i) 1 0) (sym c.as_slice.ensures.value)
-    (list_once net law s kept.entries.first codes.items kept.counters.items kept.due.items kept.last_due c.self.invariant e.wave e.before e.here e.decided.items e.ranked))
+    subst (λ (t : BlockState). (i : ℕ) → IsIn t.cut t.number i → times i (g.L.NodeList.items e.decided) ≡ cond {A = ℕ} (is_decided_at (g.N.Levels.net t.level) t.wave (in_applied t) i) 1 0) c.self.view_is
+    (list_once net law s kept.entries.first codes.items kept.counters.items kept.due kept.last_due c.self.invariant e.wave e.before e.here (g.L.NodeList.items e.decided) e.ranked)
 
 pub returns-clause-order : goal.returns-clause-order
 returns-clause-order g c =
@@ -42,6 +40,5 @@ returns-clause-order g c =
     let codes = kept.entries.entries.codes in
     let s : BlockState = record { level = inside.level; cut = inside.cut; number = inside.number; wave = kept.entries.wave; applied = inside.applied.items } in
     let e = kept.entries in
-    subst (λ (t : BlockState). IsNonDecreasingBy (entry_at (g.N.Levels.net t.level) t.wave (in_applied t)) c.as_slice.result.now) c.self.view_is
-    (subst (λ (xs : List ℕ). IsNonDecreasingBy (entry_at net s.wave (in_applied s)) xs) (sym c.as_slice.ensures.value)
-    (list_order net law s kept.entries.first codes.items kept.counters.items kept.due.items kept.last_due c.self.invariant e.wave e.before e.here e.decided.items e.ranked))
+    subst (λ (t : BlockState). IsNonDecreasingBy (entry_at (g.N.Levels.net t.level) t.wave (in_applied t)) (g.L.NodeList.items e.decided)) c.self.view_is
+    (list_order net law s kept.entries.first codes.items kept.counters.items kept.due kept.last_due c.self.invariant e.wave e.before e.here (g.L.NodeList.items e.decided) e.ranked)
