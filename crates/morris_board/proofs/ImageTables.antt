@@ -1,10 +1,10 @@
 -- The images of sets by tables: the tables of the boards have the images of the points, and the
 -- image of a set is found from its points one by one.
-use Rattle.std.proofs.Common.{◌≡◌, ℕ, ◌+◌, ◌^◌, ◌<◌, ◌≤◌, Bool, true, false, ◌&&◌, ◌||◌, eqb, ltb, List, [], ◌∷◌, ◌++◌, length, map, get_or, refl, sym, ap, subst, ◌∙◌, arith}
+use Rattle.std.proofs.Common.{◌≡◌, ℕ, ◌^◌, ◌<◌, Bool, true, false, ◌&&◌, ◌||◌, eqb, ltb, List, [], ◌∷◌, ◌++◌, length, map, get_or, refl, sym, ap, subst, ◌∙◌}
 use Rattle.std.proofs.lemmas.Bool.{ltb-true, lt-ltb, and_parts, eqb-true}
 use Rattle.std.proofs.lemmas.List.Folds.{list_all-append, list_any-append}
-use Rattle.std.specs.List.{range_with_len, list_any, list_all}
-use Rattle.morris_board.specs.Sets.{has, members, set_of, with_point}
+use Rattle.std.specs.List.{range_with_len, list_all}
+use Rattle.morris_board.specs.Sets.{members, set_of, with_point}
 use Rattle.morris_board.specs.Boards.{Shape, grid, nine, grid_image, nine_image}
 use Rattle.morris_board.specs.Symmetries.{image_of}
 use Rattle.morris_board.specs.SymmetryLaws.{below}

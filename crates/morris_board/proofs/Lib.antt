@@ -7,3 +7,4 @@ pub mod Tables
 pub mod TextLaws
 pub mod ImageLaws
 pub mod ImageTables
+pub mod RingImages

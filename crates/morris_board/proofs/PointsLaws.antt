@@ -1,6 +1,6 @@
 -- Laws of the sets of points: what each set has, its members in order, and when two sets are the
 -- same.
-use Rattle.std.proofs.Common.{◌≡◌, ◌≢◌, ℕ, zero, suc, ◌+◌, ◌-◌, ◌*◌, ◌/◌, ◌%◌, ◌^◌, ◌<◌, ◌≤◌, max, min, Bool, true, false, not, ◌&&◌, ◌||◌, cond, eqb, ltb, List, [], ◌∷◌, length, refl, sym, ◌∙◌, ap, inl, inr, arith}
+use Rattle.std.proofs.Common.{◌≡◌, ◌≢◌, ℕ, zero, suc, ◌+◌, ◌-◌, ◌*◌, ◌/◌, ◌%◌, ◌^◌, ◌<◌, ◌≤◌, max, min, Bool, true, false, not, ◌&&◌, ◌||◌, cond, eqb, ltb, List, [], ◌∷◌, length, drop, refl, sym, ◌∙◌, ap, inl, inr, arith}
 use Rattle.std.proofs.lemmas.Bool.{cases_Bool, cases_eq, eq-eqb, ne_eqb, eqb-true, lt-ltb, le-ltb, both_ways, and_parts}
 use Rattle.std.proofs.lemmas.Bool.Decides.{nat_tests}
 use Rattle.std.proofs.lemmas.Nat.Bits.{bit_at_or, bit_at_xor, bit_at_and, bit_at-pow_same, bit_at-pow_other, bit_at-lt, bit_at-zero, bit_at_above, same_from_bits}
@@ -16,9 +16,9 @@ use Rattle.std.proofs.lemmas.List.Sums.{length-filter, count_by-le-length}
 use Rattle.std.proofs.lemmas.List.FromFn.{length-range_with_len}
 use lib.Count.{ones, ones_step}
 use lib.Bits.{or_lt, and_le_l, and_mask}
-use Rattle.std.proofs.lemmas.Nat.{div-add-mod'}
+use Rattle.std.proofs.lemmas.Nat.{div-add-mod', pow_pos}
 use Rattle.std.proofs.Math.Nat.{mod-lt, mod-le}
-use Rattle.std.proofs.lemmas.Nat.Bits.{bit_at_cat_low}
+use Rattle.std.proofs.lemmas.Nat.Bits.{bit_at_cat_low, bit_at_cat_high, bit_at_ones_above}
 use Rattle.std.proofs.Common.{one-mul}
 use Rattle.std.proofs.Math.Nat.{mod-eq_of_lt}
 use Rattle.std.proofs.Math.Pow.{pow-lt}
@@ -338,13 +338,9 @@ set_where-lt zero f = lit< tt
 set_where-lt (suc n) f =
     let small : set_where n f < 2 ^ suc n = omega (arith, set_where-lt n f, pow-suc 2 n) in
     elim (cases_Bool (f n)) [
-      | inl h ↦ rw h (or_lt (suc n) (set_where n f) (2 ^ n) small (omega (arith, pow-suc 2 n, pow-pos n)))
+      | inl h ↦ rw h (or_lt (suc n) (set_where n f) (2 ^ n) small (omega (arith, pow-suc 2 n, pow_pos n)))
       | inr h ↦ rw h small
     ]
-  where
-    pow-pos : (n : ℕ) → 0 < 2 ^ n
-    pow-pos zero = lit< tt
-    pow-pos (suc n) = omega (arith, pow-pos n, pow-suc 2 n)
 
 -- ---- what the code computes
 
@@ -419,10 +415,75 @@ has-low s n p = elim (cases_lt p n) [
   | inl low ↦ rw (lt-ltb p n low) (ap (λ k. eqb k 1) (sym (bit_at_cat_low (s / 2 ^ n) n (s % 2 ^ n) p low) ∙ ap (λ k. bit_at k p) (div-add-mod' s (2 ^ n))))
   | inr high ↦ rw (le-ltb p n high) (ap (λ k. eqb k 1) (bit_at_above (s % 2 ^ n) n p (mod-lt s (pow_pos n)) high))
 ]
-  where
-    pow_pos : (k : ℕ) → 0 < 2 ^ k
-    pow_pos zero = lit< tt
-    pow_pos (suc k) = omega (arith, pow_pos k, pow-suc 2 k)
+
+-- `mask & (mask - 1)`, where t is the least point
+module _ (s t : ℕ) (here : has s t ≡ true) (below : (q : ℕ) → q < t → has s q ≡ false) where
+  above : ℕ
+  above = s / 2 ^ t / 2
+
+  cut : s ≡ above * 2 ^ suc t + 2 ^ t
+  unfolding above has
+  cut =
+      let odd : s / 2 ^ t % 2 ≡ 1 = eqb-true _ _ here in
+      let none : s % 2 ^ t ≡ 0 = same_points _ 0 (λ q. has-low s t q ∙ low_none q ∙ sym (has-none q)) in
+      let whole : s / 2 ^ t * 2 ^ t + s % 2 ^ t ≡ s = div-add-mod' s (2 ^ t) in
+      let half : s / 2 ^ t ≡ s / 2 ^ t / 2 * 2 + 1 = omega arith in
+      let twice : s / 2 ^ t * 2 ^ t ≡ (s / 2 ^ t / 2 * 2 + 1) * 2 ^ t = ap (λ n. n * 2 ^ t) half in
+      sym whole ∙ omega (arith, none, twice, spread (s / 2 ^ t / 2) (2 ^ t) (2 ^ suc t) (pow-suc 2 t))
+    where
+      spread : (a p q : ℕ) → q ≡ p * 2 → (a * 2 + 1) * p ≡ a * q + p
+      spread a p q e = rw e (omega arith)
+
+      low_none : (q : ℕ) → (ltb q t && has s q) ≡ false
+      low_none q = elim (cases_lt q t) [
+        | inl low ↦ and_right (ltb q t) (has s q) (below q low)
+        | inr high ↦ and_left (ltb q t) (has s q) (le-ltb q t high)
+      ]
+
+  less : s - 1 ≡ above * 2 ^ suc t + (2 ^ t - 1)
+  less = omega (arith, cut, pow_pos t)
+
+  less-here : has (s - 1) t ≡ false
+  unfolding has
+  less-here = ap (λ n. eqb n 1) (ap (λ n. bit_at n t) less ∙ bit_at_cat_low above (suc t) (2 ^ t - 1) t (omega arith) ∙ bit_at_ones_above t t (omega arith))
+
+  less-above : (q : ℕ) → t < q → has (s - 1) q ≡ has s q
+  unfolding has
+  less-above q high =
+      ap (λ n. eqb n 1)
+      (ap (λ n. bit_at n q) less
+      ∙ bit_at_cat_high above (suc t) (2 ^ t - 1) q (omega (arith, pow-suc 2 t, pow_pos t)) (omega arith)
+      ∙ sym (ap (λ n. bit_at n q) cut ∙ bit_at_cat_high above (suc t) (2 ^ t) q (omega (arith, pow-suc 2 t, pow_pos t)) (omega arith)))
+
+  less-each : (q : ℕ) → (has s q && has (s - 1) q) ≡ (not (eqb q t) && has s q)
+  less-each q = elim (cases_lt q t) [
+    | inl low ↦ rw (below q low) (sym (and_right (not (eqb q t)) false refl))
+    | inr high ↦ elim (cases_eq q t) [
+      | inl e ↦ rw (e, less-here, eq-eqb t t refl) (and_right (has s t) false refl)
+      | inr differ ↦ rw (less-above q (omega arith), ne_eqb q t differ) (same (has s q))
+    ]
+  ]
+    where
+      same : (b : Bool) → (b && b) ≡ b
+      same true = refl
+      same false = refl
+
+  pub lowest_cleared : bit_and s (s - 1) ≡ without_point s t
+  lowest_cleared = same_points _ _ (λ q. has-and s (s - 1) q ∙ less-each q ∙ sym (has-without s t q))
+
+pub rest_is : (s : ℕ) → s < 2 ^ 32 → members (bit_and s ((s + 4294967295) % 4294967296)) ≡ drop 1 (members s)
+unfolding has
+rest_is s small = elim (cases_lt 0 s) [
+  | inl some ↦
+      let t = bit_at-trailing_zeros w32 s some small in
+      let less : (s + 4294967295) % 4294967296 ≡ s - 1 = omega arith in
+      ap (λ n. members (bit_and s n)) less
+      ∙ ap members (lowest_cleared s (trailing_zeros w32 s) (eq-eqb _ _ t.1) (λ k h. ap (λ n. eqb n 1) (t.2 k h)))
+      ∙ ap (drop 1) (sym (first_is s some small).rest)
+  | inr none ↦
+      let zero_is : s ≡ 0 = omega arith in
+      rw (zero_is, members-none) refl
+]
 
 filter_filter : (f g : ℕ → Bool) (ks : List ℕ) → filter f (filter g ks) ≡ filter (λ k. f k && g k) ks
 filter_filter f g [] = refl

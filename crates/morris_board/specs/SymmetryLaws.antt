@@ -1,14 +1,14 @@
 -- The symmetries of the two boards, each by tests that are computed over the whole board, and by
 -- lemmas that turn a test into the law at each point, edge and mill.
-use Rattle.std.proofs.Common.{◌≡◌, ℕ, zero, suc, ◌+◌, ◌-◌, ◌*◌, ◌/◌, ◌%◌, ◌<◌, ◌≤◌, Bool, true, false, ◌&&◌, ◌||◌, cond, eqb, ltb, List, [], ◌∷◌, refl, sym, ◌∙◌, ap, ap₂, subst, inl, inr, arith, map}
-use Rattle.std.proofs.lemmas.Bool.{cases_Bool, cases_eq, eqb-true, ltb-true, and_parts, or_cases, both_ways}
+use Rattle.std.proofs.Common.{◌≡◌, ℕ, zero, suc, ◌+◌, ◌-◌, ◌*◌, ◌/◌, ◌%◌, ◌<◌, ◌≤◌, Bool, true, false, ◌&&◌, ◌||◌, cond, eqb, ltb, List, [], ◌∷◌, refl, sym, ◌∙◌, ap, ap₂, subst, inl, inr, arith}
+use Rattle.std.proofs.lemmas.Bool.{cases_eq, eqb-true, ltb-true, and_parts, or_cases, both_ways}
 use Rattle.std.specs.List.{range_with_len, list_any, list_all, Contains}
 use Rattle.std.proofs.lemmas.Map.Views.{Contains-from_any}
 use Rattle.std.proofs.lemmas.List.Elements.{All-contains}
 use Rattle.std.proofs.lemmas.List.Sums.{AllPass-from_list_all}
 use Rattle.morris_board.specs.Sets.{has, members, set_of, with_point}
 use Rattle.morris_board.specs.Boards.{Shape, is_adjacent, mills_of, grid, nine, grid_image, nine_image}
-use Rattle.morris_board.specs.Symmetries.{image_of, IsSymmetry, IsComposite, HasSymmetries, inverse_of}
+use Rattle.morris_board.specs.Symmetries.{image_of, HasSymmetries, inverse_of}
 
 -- ---- tests over ranges, edges and mills
 

@@ -8,5 +8,6 @@ pub mod grid;
 pub mod nine;
 pub mod points;
 pub mod position;
+mod rings;
 pub mod streams;
 mod symmetries;

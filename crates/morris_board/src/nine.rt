@@ -1,7 +1,8 @@
 //! The board Nine.
 use crate::board::{Board, Geometry};
 use crate::points::Points;
-use crate::symmetries::{image_by, inverse_of};
+use crate::rings::image_by_rings;
+use crate::symmetries::inverse_of;
 
 /// The usual board with 24 points on three rings. Point `8 * r + k` is place `k` of ring `r`, where
 /// ring 0 is the outer one, and place 0 the top left corner, from which the places go clockwise;
@@ -153,7 +154,7 @@ impl Geometry for Nine {
     }
 
     fn image_of(symmetry: u8, set: Points) -> Points {
-        image_by(&IMAGES[symmetry as usize], set)
+        image_by_rings(symmetry, set)
     }
 
     ghost is_lawful = { is_board-nine };

@@ -1,5 +1,5 @@
 //! Sets of points of a board.
-ghost use Rattle.std.specs.Prelude.{◌≡◌, ℕ, ◌<◌, ◌≤◌, ◌^◌, length, List, [], ◌∷◌, filter, nat_lt, true, not, ◌&&◌, ◌||◌, IfSome, MatchOption};
+ghost use Rattle.std.specs.Prelude.{◌≡◌, ℕ, ◌<◌, ◌≤◌, ◌^◌, length, List, [], ◌∷◌, filter, drop, nat_lt, true, not, ◌&&◌, ◌||◌, IfSome, MatchOption};
 ghost use Rattle.std.specs.Iterator.{YieldsFirst, item_count};
 ghost use Rattle.morris_board.specs.Sets.{has, members, count_of, with_point, without_point, is_within};
 
@@ -139,6 +139,15 @@ impl Points {
         Some(self.mask.trailing_zeros() as u8)
     }
 
+    /// The set less its least point, or the empty set where it has none.
+    pub fn rest(self) -> Points
+        ensures { members result ≡ drop 1 (members self) }
+    {
+        Points {
+            mask: self.mask & self.mask.wrapping_sub(1),
+        }
+    }
+
     /// The points of the set, in ascending order.
     pub fn iter(self) -> PointsIter
         ensures points { result ≡ self }
@@ -171,7 +180,7 @@ impl Iterator for PointsIter {
 
     fn next(&mut self) -> Option<u8> {
         let point = self.left.first()?;
-        self.left = self.left.without(point);
+        self.left = self.left.rest();
         Some(point)
     }
 }

@@ -1,5 +1,5 @@
-use Rattle.std.proofs.Common.{◌≡◌, ◌<◌, ◌≤◌, ◌^◌, ◌∙◌, arith, get_or, ℕ, [], List, length, subst, sym, rules}
-use Rattle.morris_board.proofs.ImageTables.{row-grid, row_image, IsRow}
+use Rattle.std.proofs.Common.{◌<◌, ◌^◌, ◌∙◌, arith, get_or, [], subst, sym}
+use Rattle.morris_board.proofs.ImageTables.{row-grid, row_image}
 use Rattle.morris_board.specs.Boards.{grid}
 use Rattle.morris_board.specs.declared.grid.TheConstants as table
 use Rattle.morris_board.proofs.grid.GridGeometry.image_of.Goals as goal
