@@ -19,7 +19,7 @@ use Rattle.morris_index.specs.Moves.{InPair, taken_back}
 use Rattle.morris_index.specs.Carried.{carries, IsCarriedBack}
 use Rattle.morris_index.proofs.BinomialTable.{choose_small}
 use Rattle.morris_index.proofs.RankLaws.{passing, passing-yes, passing-no, passing-above}
-use Rattle.morris_index.proofs.IndexLaws.{IsPlaced, placed, within_24, other_rank-lt, halves_of, is_of-first, is_of-second}
+use Rattle.morris_index.proofs.IndexLaws.{IsPlaced, placed, within_24, other_apart, other_rank-lt, halves_of, is_of-first, is_of-second}
 use Rattle.morris_index.proofs.PairLaws.{own_count, other_count}
 use Rattle.morris_index.proofs.MoveLaws.{vacant_own, vacant_other, before_count, before_placed}
 use Rattle.morris_index.proofs.ClassLaws.{more_new, led_least, representative_twice, class_of-representative}
@@ -221,6 +221,11 @@ module _ (board : Shape) (n : ℕ) (few : n ≤ 24) (points : board.points ≡ n
 
         pub image_24 : image_of (board.image t) s.own < 2 ^ 24
         image_24 = within_24 _ n (carried_placed before before_here t carrying_low leading_too).other_within few
+
+        pub image_apart : (p : ℕ) → has (image_of (board.image t) s.own) p ≡ true → has (representative_of board before.own) p ≡ false
+        image_apart p y =
+            ap (λ o. has o p) (sym (carried_own before before_here t carrying_low leading_too))
+            ∙ other_apart n (omega arith) _ (carried_placed before before_here t carrying_low leading_too) p y
 
         pub image_few : count_of (image_of (board.image t) s.own) ≤ 9
         image_few = omega (arith, other_same before before_here t carrying_low leading_too, own_most)

@@ -183,10 +183,37 @@ module _ (board : Shape) (set : ℕ) where
       let low : t < board.symmetries = ltb-true _ _ parts.0 in
       h.all t low (leads_same s t first low parts.1))
 
+  pub has_first : (x : ℕ) → 0 < board.symmetries → AreLeading board set x → has x (symmetry_of board set) ≡ true
+  has_first x some leads =
+      let first = symmetry_first board set some in
+      leads (symmetry_of board set)
+      ∙ and_from _ _ (lt-ltb (symmetry_of board set) board.symmetries first.within) (same_leads (symmetry_of board set) (symmetry_of board set) first refl)
+
+  -- the least of them is the one that the definition says
+  pub first_leading : (x p : ℕ) → 0 < board.symmetries → AreLeading board set x → has x p ≡ true → ((k : ℕ) → k < p → has x k ≡ false) → p ≡ symmetry_of board set
+  first_leading x p some leads here below =
+      let first = symmetry_first board set some in
+      let parts = and_parts (ltb p board.symmetries) (is_leading board set p) (sym (leads p) ∙ here) in
+      let same = leads_same (symmetry_of board set) p first (ltb-true p board.symmetries parts.0) parts.1 in
+      elim (cases_lt p (symmetry_of board set)) [
+        | inl less ↦ absurd (omega (arith, same, first.first p less))
+        | inr le ↦ elim (cases_eq p (symmetry_of board set)) [
+          | inl e ↦ e
+          | inr d ↦ absurd (both_ways (has x (symmetry_of board set)) (below (symmetry_of board set) (omega arith)) (has_first x some leads))
+        ]
+      ]
+
   -- so it leads to the representative
   pub led_least : (t : ℕ) → t < board.symmetries → is_leading board set t ≡ true → image_of (board.image t) set ≡ representative_of board set
   unfolding representative_of
   led_least t low h = leads_same (symmetry_of board set) t (symmetry_first board set (omega arith)) low h
+
+-- the least image so far, and all symmetries so far that lead there
+pub record IsLeastSoFar (board : Shape) (count set least x : ℕ) : Type 0 where
+  pub symmetry : ℕ
+  pub first : IsFirst board count set symmetry
+  pub same : AreSame board count set symmetry x
+  pub is : least ≡ image_of (board.image symmetry) set
 
 -- ---- images of images
 

@@ -11,11 +11,10 @@ use Rattle.morris_index.specs.ClassPairs.{led, class_half_index, class_index_of}
 use Rattle.morris_index.specs.Pairs.{Counts}
 use Rattle.morris_index.specs.Moves.{InPair, moved_on}
 use Rattle.morris_index.specs.ClassMoves.{class_half_start, class_start_of, IsLedOn}
-use Rattle.morris_index.specs.declared.sums.MovedSums.{MovedSums}
-use Rattle.morris_index.proofs.IndexLaws.{placed}
+use Rattle.morris_index.proofs.IndexLaws.{IsPlaced, placed, within_24, other_apart}
 use Rattle.morris_index.proofs.PairLaws.{own_count, other_count}
 use Rattle.morris_index.proofs.SumLaws.{without_point-lt}
-use Rattle.morris_index.proofs.MoveLaws.{vacant_own, vacant_other, own_lt, own_24, count_of-moved, after_few}
+use Rattle.morris_index.proofs.MoveLaws.{vacant_own, vacant_other, own_lt, count_of-moved, after_placed, after_count, after_few}
 use Rattle.morris_index.proofs.ClassLaws.{symmetry_within}
 use Rattle.morris_index.proofs.ClassPairLaws.{index-first, index-second}
 
@@ -39,7 +38,7 @@ module _ (board : Shape) (n : ℕ) (few : n ≤ 24) (points : board.points ≡ n
         ∙ rw (ne_eqb (count_of s.own) c.greater d) (omega (arith, half-parts s))
   ]
 
-  module _ (q : InPair) (g : ℕ) (image : Sides) (mover : MovedSums) (first : ℕ) (k : IsLedOn board n q g image mover first) where
+  module _ (q : InPair) (g : ℕ) (image : Sides) (first : ℕ) (k : IsLedOn board n q g image first) where
     abbrev s : Sides
     s = q.position
 
@@ -51,9 +50,6 @@ module _ (board : Shape) (n : ℕ) (few : n ≤ 24) (points : board.points ≡ n
 
     pub image_position : IsPosition board image
     image_position = rw k.led (IsPosition-image board (omega arith) _ _ one s k.lawful)
-
-    pub image_24 : image.own < 2 ^ 24
-    image_24 = own_24 board n points few image image_position
 
     module _ (u v : ℕ) (v_in : v < n) (here : has s.own u ≡ true) (vacant : not (has s.own v || has s.other v) ≡ true) where
       pub from_in : u < n
@@ -90,9 +86,39 @@ module _ (board : Shape) (n : ℕ) (few : n ≤ 24) (points : board.points ≡ n
       moved_count : count_of (moved_on s u v).other ≡ count_of s.own
       moved_count = count_of-moved s.own v u n (placed board n s points k.lawful).own_within (omega arith) (vacant_own _ _ vacant) here v_in
 
+      -- the images once the stone has moved
+      abbrev pub led_moved : ℕ
+      led_moved = with_point (without_point image.own (board.image g u)) (board.image g v)
+
+      own_few : count_of image.own ≤ 9
+      own_few = (own_count image image_position.sized).1
+
+      other_few : count_of image.other ≤ 9
+      other_few = (other_count image image_position.sized).1
+
+      led_placed : IsPlaced n (moved_on image (board.image g u) (board.image g v))
+      led_placed =
+          after_placed n few q.pair image (placed board n image points image_position) own_few other_few (board.image g u) (board.image g v) image_to_in image_free_own
+          image_free_other image_here
+
+      pub led_24 : led_moved < 2 ^ 24
+      led_24 = within_24 led_moved n led_placed.other_within few
+
+      pub led_few : count_of led_moved ≤ 9
+      led_few =
+          omega (
+            arith,
+            after_count n few q.pair image (placed board n image points image_position) own_few other_few (board.image g u) (board.image g v) image_to_in image_free_own
+                image_free_other image_here,
+            own_few,
+          )
+
+      pub led_apart : (p : ℕ) → has led_moved p ≡ true → has image.other p ≡ false
+      led_apart = other_apart n (omega arith) (moved_on image (board.image g u) (board.image g v)) led_placed
+
       -- what the code adds up
       abbrev pub led_rank : ℕ
-      led_rank = rank_of (map (number_outside image.other) (members (with_point (without_point image.own (board.image g u)) (board.image g v))))
+      led_rank = rank_of (map (number_outside image.other) (members led_moved))
 
       pub led_rank-few : led_rank < 1307504 * 1307504
       led_rank-few = omega (

@@ -1,18 +1,19 @@
 -- What is kept of the sets of a number of points, set by set in the order of their ranks.
-use Rattle.std.proofs.Common.{◌≡◌, ℕ, suc, ◌+◌, ◌-◌, ◌^◌, ◌<◌, ◌≤◌, true, List, [], ◌∷◌, ◌++◌, length, get_or, refl, sym, ap, ap₂, ◌∙◌, inl, inr, subst, arith, length-append}
+use Rattle.std.proofs.Common.{◌≡◌, ℕ, suc, ◌+◌, ◌-◌, ◌^◌, ◌<◌, ◌≤◌, true, false, List, [], ◌∷◌, ◌++◌, length, get_or, refl, sym, ap, ap₂, ◌∙◌, inl, inr, subst, arith, length-append}
 use Rattle.std.proofs.lemmas.Bool.{cases_eq}
-use Rattle.std.proofs.lemmas.List.{get_or_append_left, get_or_push}
+use Rattle.std.proofs.lemmas.List.{get_or_append_left, get_or_push, get_or-map, length-map}
 use Rattle.morris_board.specs.Boards.{Shape}
-use Rattle.morris_board.specs.Sets.{count_of}
+use Rattle.morris_board.specs.Sets.{has, count_of}
 use Rattle.morris_board.specs.Symmetries.{HasSymmetries}
 use Rattle.morris_board.proofs.PointsLaws.{has-none}
 use Rattle.morris_index.specs.Binomials.{choose}
 use Rattle.morris_index.specs.Numbering.{IsRanked}
-use Rattle.morris_index.specs.Classes.{symmetry_of, representative_of, is_representative, classes_below, class_of, class_count, AreLeading, IsKept, IsClasses}
+use Rattle.morris_index.specs.Classes.{symmetry_of, representative_of, is_representative, classes_below, class_of, class_count, AreLeading, IsKept, IsClasses, classes_in, leading_in}
+use Rattle.morris_index.specs.declared.classes.Lead.{Lead}
 use Rattle.morris_index.proofs.BinomialTable.{choose_small}
 use Rattle.morris_index.proofs.IndexLaws.{number_outside-none, rank_outside-lt, rank_outside-same}
 use Rattle.morris_index.proofs.OrderLaws.{rank_at, rank_less, mask_less}
-use Rattle.morris_index.proofs.ClassLaws.{representative_within, representative_count, representative_le, class_of-representative, symmetry_within, representative_twice, test_parts, test_from, test_other, test_count, none_below, none_between, one_more, no_more, class_lt, class_alone}
+use Rattle.morris_index.proofs.ClassLaws.{representative_within, representative_count, representative_le, class_of-representative, symmetry_within, representative_twice, test_parts, test_from, test_other, test_count, first_leading, none_below, none_between, one_more, no_more, class_lt, class_alone}
 
 -- ---- ranked sets
 
@@ -55,14 +56,12 @@ module _ (board : Shape) (n count : ℕ) (low : n ≤ 24) (points : board.points
   on_board set h = subst (λ k. set < 2 ^ k) (sym points) h
 
   -- before the first set
-  pub kept-none : IsKept board n count 0 [] [] [] []
+  pub kept-none : IsKept board n count 0 [] [] []
   kept-none = record {
     classes_len = refl;
-    symmetries_len = refl;
     leading_len = refl;
     few = omega arith;
     class = λ r s h. absurd (omega arith);
-    symmetry = λ r s h. absurd (omega arith);
     leads = λ r s h. absurd (omega arith);
     listed = λ k h. absurd (omega arith);
     whole = λ mask le f g. none_below board count mask (λ s less. elim (cases_eq (count_of s) count) [
@@ -71,8 +70,26 @@ module _ (board : Shape) (n count : ℕ) (low : n ≤ 24) (points : board.points
     ]);
   }
 
-  module _ (rank set : ℕ) (here : IsRanked n 0 count rank set) (classes symmetries leading representatives : List ℕ)
-      (before : IsKept board n count rank classes symmetries leading representatives) where
+  module _ (rank set : ℕ) (here : IsRanked n 0 count rank set) where
+    -- no set between this one and the next
+    pub beyond : (mask : ℕ) → mask ≤ 2 ^ n
+        → ((r s : ℕ) → IsRanked n 0 count r s → s < mask → r < rank + 1)
+        → ((r s : ℕ) → IsRanked n 0 count r s → r < rank + 1 → s < mask)
+        → classes_below board count mask ≡ classes_below board count (suc set)
+    beyond mask le f g =
+        let less : set < mask = g rank set here (omega arith) in
+        let e : suc set + (mask - suc set) ≡ mask = omega arith in
+        ap (classes_below board count) (sym e)
+        ∙ none_between board count (suc set) (mask - suc set) (λ s above under. elim (cases_eq (count_of s) count) [
+          | inl counted ↦
+              let h : IsRanked n 0 count (rank_at s) s = ranked n count s (omega arith) counted in
+              let at : rank_at s < rank + 1 = f (rank_at s) s h (omega arith) in
+              absurd (omega (arith, ranks_less n count low rank (rank_at s) set s here h (omega arith)))
+          | inr d ↦ test_count board count s d
+        ])
+
+  module _ (rank set : ℕ) (here : IsRanked n 0 count rank set) (classes leading representatives : List ℕ)
+      (before : IsKept board n count rank classes leading representatives) where
     small : set < 2 ^ board.points
     small = on_board set here.within
 
@@ -114,34 +131,15 @@ module _ (board : Shape) (n count : ℕ) (low : n ≤ 24) (points : board.points
       | inr d ↦ subst (is s) (sym (get_or_append_left list (x ∷ []) 0 r (omega arith))) (old r s (omega arith) h)
     ]
 
-    -- no set between this one and the next
-    beyond : (mask : ℕ) → mask ≤ 2 ^ n
-        → ((r s : ℕ) → IsRanked n 0 count r s → s < mask → r < rank + 1)
-        → ((r s : ℕ) → IsRanked n 0 count r s → r < rank + 1 → s < mask)
-        → classes_below board count mask ≡ classes_below board count (suc set)
-    beyond mask le f g =
-        let less : set < mask = g rank set here (omega arith) in
-        let e : suc set + (mask - suc set) ≡ mask = omega arith in
-        ap (classes_below board count) (sym e)
-        ∙ none_between board count (suc set) (mask - suc set) (λ s above under. elim (cases_eq (count_of s) count) [
-          | inl counted ↦
-              let h : IsRanked n 0 count (rank_at s) s = ranked n count s (omega arith) counted in
-              let at : rank_at s < rank + 1 = f (rank_at s) s h (omega arith) in
-              absurd (omega (arith, ranks_less n count low rank (rank_at s) set s here h (omega arith)))
-          | inr d ↦ test_count board count s d
-        ])
-
-    module _ (symmetry : ℕ) (symmetry_is : symmetry ≡ symmetry_of board set) (ways : ℕ) (ways_are : AreLeading board set ways) where
+    module _ (ways : ℕ) (ways_are : AreLeading board set ways) where
       -- the set is a representative
       pub kept-new : other ≡ set
-          → IsKept board n count (rank + 1) (classes ++ length representatives ∷ []) (symmetries ++ symmetry ∷ []) (leading ++ ways ∷ []) (representatives ++ set ∷ [])
+          → IsKept board n count (rank + 1) (classes ++ length representatives ∷ []) (leading ++ ways ∷ []) (representatives ++ set ∷ [])
       kept-new own = record {
         classes_len = omega (arith, before.classes_len, length-append classes (length representatives ∷ []));
-        symmetries_len = omega (arith, before.symmetries_len, length-append symmetries (symmetry ∷ []));
         leading_len = omega (arith, before.leading_len, length-append leading (ways ∷ []));
         few = omega (arith, before.few, length-append representatives (set ∷ []));
         class = entered (λ t x. x ≡ class_of board t) classes (length representatives) before.classes_len (own_class own) before.class;
-        symmetry = entered (λ t x. x ≡ symmetry_of board t) symmetries symmetry before.symmetries_len symmetry_is before.symmetry;
         leads = entered (AreLeading board) leading ways before.leading_len ways_are before.leads;
         listed = λ k less. elim (cases_eq k (length representatives)) [
           | inl e ↦
@@ -154,7 +152,7 @@ module _ (board : Shape) (n count : ℕ) (low : n ≤ 24) (points : board.points
               subst (λ s. (is_representative board count s ≡ true) × (s < 2 ^ n) × (classes_below board count s ≡ k)) (sym at) (before.listed k under)
         ];
         whole = λ mask le f g.
-            omega (arith, beyond mask le f g, one_more board count set (is_new own), below_is, length-append representatives (set ∷ []));
+            omega (arith, beyond rank set here mask le f g, one_more board count set (is_new own), below_is, length-append representatives (set ∷ []));
       }
         where
           is_new : other ≡ set → is_representative board count set ≡ true
@@ -162,22 +160,20 @@ module _ (board : Shape) (n count : ℕ) (low : n ≤ 24) (points : board.points
 
       -- it isn't: its class is that of its representative
       pub kept-other : (other ≡ set → ⊥)
-          → IsKept board n count (rank + 1) (classes ++ get_or classes (rank_at other) 0 ∷ []) (symmetries ++ symmetry ∷ []) (leading ++ ways ∷ []) representatives
+          → IsKept board n count (rank + 1) (classes ++ get_or classes (rank_at other) 0 ∷ []) (leading ++ ways ∷ []) representatives
       kept-other d = record {
         classes_len = omega (arith, before.classes_len, length-append classes (get_or classes (rank_at other) 0 ∷ []));
-        symmetries_len = omega (arith, before.symmetries_len, length-append symmetries (symmetry ∷ []));
         leading_len = omega (arith, before.leading_len, length-append leading (ways ∷ []));
         few = omega (arith, before.few);
         class = entered (λ t x. x ≡ class_of board t) classes (get_or classes (rank_at other) 0) before.classes_len (other_class d) before.class;
-        symmetry = entered (λ t x. x ≡ symmetry_of board t) symmetries symmetry before.symmetries_len symmetry_is before.symmetry;
         leads = entered (AreLeading board) leading ways before.leading_len ways_are before.leads;
         listed = before.listed;
-        whole = λ mask le f g. beyond mask le f g ∙ no_more board count set (test_other board count set d) ∙ below_is;
+        whole = λ mask le f g. beyond rank set here mask le f g ∙ no_more board count set (test_other board count set d) ∙ below_is;
       }
 
   -- ---- all sets
 
-  module _ (classes symmetries leading representatives : List ℕ) (all : IsClasses board n count classes symmetries leading representatives) where
+  module _ (classes leading representatives : List ℕ) (all : IsClasses board n count classes leading representatives) where
     pub class_count-is : class_count board count ≡ length representatives
     unfolding class_count
     class_count-is =
@@ -196,9 +192,6 @@ module _ (board : Shape) (n count : ℕ) (low : n ≤ 24) (points : board.points
 
       pub class_at : get_or classes (rank_at set) 0 ≡ class_of board set
       class_at = all.kept.class (rank_at set) set rank_in here
-
-      pub symmetry_at : get_or symmetries (rank_at set) 0 ≡ symmetry_of board set
-      symmetry_at = all.kept.symmetry (rank_at set) set rank_in here
 
       pub leads_at : AreLeading board set (get_or leading (rank_at set) 0)
       leads_at = all.kept.leads (rank_at set) set rank_in here
@@ -225,6 +218,9 @@ module _ (board : Shape) (n count : ℕ) (low : n ≤ 24) (points : board.points
           (test_from board count (representative_of board set) (representative_twice board few y set small) (representative_count board few y set small ∙ counted))
           (ap₂ (classes_below board) (sym r_count) (sym own) ∙ same ∙ ap (λ k. classes_below board k (representative_of board set)) counted)
 
+      pub first_at : (x p : ℕ) → AreLeading board set x → has x p ≡ true → ((k : ℕ) → k < p → has x k ≡ false) → p ≡ symmetry_of board set
+      first_at x p leads here below = first_leading board set x p y.some leads here below
+
     module _ (class : ℕ) (low_class : class < class_count board count) where
       abbrev found : ℕ
       found = get_or representatives class 0
@@ -244,3 +240,37 @@ module _ (board : Shape) (n count : ℕ) (low : n ≤ 24) (points : board.points
       pub found_class : class_of board found ≡ class
       unfolding class_of
       found_class = rw (found_own, found_count) is_listed.2
+
+  -- ---- what is kept of one set
+
+  module _ (leads : List Lead) (representatives : List ℕ) (all : IsClasses board n count (classes_in leads) (leading_in leads) representatives)
+      (set rank : ℕ) (within : set < 2 ^ n) (counted : count_of set ≡ count) (is : rank ≡ rank_at set) where
+    pub lead_in : rank < length leads
+    lead_in =
+        omega (
+          arith,
+          is,
+          rank_in (classes_in leads) (leading_in leads) representatives all set within counted,
+          all.kept.classes_len,
+          length-map leads (λ (lead : Lead). lead.class),
+        )
+
+    module _ (lead : Lead) (here : lead ≡ get_or leads rank lead) where
+      pub lead_class : lead.class ≡ class_of board set
+      lead_class =
+          ap (λ (l : Lead). l.class) here
+          ∙ sym (get_or-map (λ (l : Lead). l.class) leads rank lead 0 lead_in)
+          ∙ ap (λ r. get_or (classes_in leads) r 0) is
+          ∙ class_at (classes_in leads) (leading_in leads) representatives all set within counted
+
+      pub lead_leads : AreLeading board set lead.leading
+      lead_leads =
+          subst (AreLeading board set)
+          (sym (ap (λ (l : Lead). l.leading) here
+          ∙ sym (get_or-map (λ (l : Lead). l.leading) leads rank lead 0 lead_in)
+          ∙ ap (λ r. get_or (leading_in leads) r 0) is))
+          (leads_at (classes_in leads) (leading_in leads) representatives all set within counted)
+
+-- the class that is kept at a rank
+pub class_in : (leads : List Lead) (rank : ℕ) (lead : Lead) → rank < length leads → lead ≡ get_or leads rank lead → lead.class ≡ get_or (classes_in leads) rank 0
+class_in leads rank lead low here = ap (λ (l : Lead). l.class) here ∙ sym (get_or-map (λ (l : Lead). l.class) leads rank lead 0 low)

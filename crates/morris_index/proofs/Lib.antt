@@ -2,11 +2,13 @@ pub mod BinomialTable
 pub mod ChooseLaws
 pub mod RankLaws
 pub mod Moving
+pub mod PartTables
 pub mod SetLaws
 pub mod Unranking
 pub mod Following
 pub mod SumLaws
 pub mod IndexLaws
+pub mod Squeezing
 pub mod PairLaws
 pub mod MoveLaws
 pub mod BelowLaws

@@ -136,10 +136,10 @@ module _ (n : ℕ) (low : n ≤ 24) (c : Counts) (s : Sides) (placed : IsPlaced 
 
 module _ (n : ℕ) (low : n ≤ 24) (c : Counts) (s : Sides) (placed : IsPlaced n s) (own_few : count_of s.own ≤ 9) (other_few : count_of s.other ≤ 9) (u v : ℕ)
     (v_in : v < n) (free_own : has s.own v ≡ false) (free_other : has s.other v ≡ false) (here : has s.own u ≡ true) where
-  after_count : count_of (moved_on s u v).other ≡ count_of s.own
+  pub after_count : count_of (moved_on s u v).other ≡ count_of s.own
   after_count = count_of-moved s.own v u n placed.own_within (omega arith) free_own here v_in
 
-  after_placed : IsPlaced n (moved_on s u v)
+  pub after_placed : IsPlaced n (moved_on s u v)
   after_placed = record {
     own_within = placed.other_within;
     other_within = moved-lt s.own v u n placed.own_within (omega arith) free_own here v_in;

@@ -10,8 +10,6 @@ use Rattle.morris_index.specs.Classes.{symmetry_of, class_of}
 use Rattle.morris_index.specs.ClassPairs.{class_half_size}
 use Rattle.morris_index.specs.Pairs.{Counts, IsPair, is_of}
 use Rattle.morris_index.specs.Moves.{InPair}
-use Rattle.morris_index.specs.Sums.{IsMoved}
-use Rattle.morris_index.specs.declared.sums.MovedSums.{MovedSums}
 
 -- the number of the first entry of a class, the one of the set `own` of the player to move, among
 -- those with as many stones and `other` of the opponent
@@ -25,12 +23,11 @@ class_start_of board n c own other =
 
 -- What is kept of a position, on n points, for the entries of those after it. In each of these the
 -- opponent is to move, so all of them are led by the symmetry of the opponent's set.
-pub record IsLedOn (board : Shape) (n : ℕ) (q : InPair) (symmetry : ℕ) (image : Sides) (mover : MovedSums) (first : ℕ) : Type 0 where
+pub record IsLedOn (board : Shape) (n : ℕ) (q : InPair) (symmetry : ℕ) (image : Sides) (first : ℕ) : Type 0 where
   pub counts : is_of q.pair q.position ≡ true
   pub lawful : IsPosition board q.position
   pub pair : IsPair n q.pair
   pub leads : symmetry ≡ symmetry_of board q.position.other
   pub led : image ≡ image_sides (board.image symmetry) q.position
-  pub moved : IsMoved image.other image.own mover
   pub start : first ≡ class_start_of board n q.pair q.position.other (count_of q.position.own)
   pub few : first ≤ 2 ^ 54

@@ -1,12 +1,13 @@
 -- Classes of sets of points. The class of a set is the set of its images under the symmetries of
 -- the board.
-use Rattle.std.specs.Prelude.{◌≡◌, ℕ, ◌^◌, ◌<◌, ◌≤◌, Bool, true, ◌&&◌, nat_eq, nat_lt, nat_le, List, length, slice_index}
+use Rattle.std.specs.Prelude.{◌≡◌, ℕ, ◌^◌, ◌<◌, ◌≤◌, Bool, true, ◌&&◌, nat_eq, nat_lt, nat_le, List, length, map, slice_index}
 use Rattle.std.specs.List.{range_with_len, list_all, position_or_len}
 use Rattle.morris_board.specs.Boards.{Shape}
 use Rattle.morris_board.specs.Sets.{has, count_of}
 use Rattle.morris_board.specs.Symmetries.{image_of}
 use Rattle.morris_index.specs.Binomials.{choose}
 use Rattle.morris_index.specs.Numbering.{count_below, IsRanked}
+use Rattle.morris_index.specs.declared.classes.Lead.{Lead}
 
 -- whether symmetry s leads a set to its image with the least mask
 unfoldable pub is_leading : Shape → ℕ → ℕ → Bool
@@ -42,16 +43,21 @@ class_of board set = classes_below board (count_of set) (representative_of board
 unfoldable pub class_count : Shape → ℕ → ℕ
 class_count board count = classes_below board count (2 ^ board.points)
 
+-- the two parts of what is kept of sets, each as a list
+abbrev pub classes_in : List Lead → List ℕ
+classes_in leads = map (λ (lead : Lead). lead.class) leads
+
+abbrev pub leading_in : List Lead → List ℕ
+leading_in leads = map (λ (lead : Lead). lead.leading) leads
+
 -- What is kept of the sets of `count` points, on n points, whose rank is below `to`: at the rank of
--- each, its class, its symmetry and all symmetries that lead it; and the representatives among
--- them, in the order of their classes.
-pub record IsKept (board : Shape) (n count to : ℕ) (classes symmetries leading representatives : List ℕ) : Type 0 where
+-- each, its class and all symmetries that lead it; and the representatives among them, in the order
+-- of their classes.
+pub record IsKept (board : Shape) (n count to : ℕ) (classes leading representatives : List ℕ) : Type 0 where
   pub classes_len : length classes ≡ to
-  pub symmetries_len : length symmetries ≡ to
   pub leading_len : length leading ≡ to
   pub few : length representatives ≤ to
   pub class : (rank set : ℕ) → rank < to → IsRanked n 0 count rank set → slice_index classes rank ≡ class_of board set
-  pub symmetry : (rank set : ℕ) → rank < to → IsRanked n 0 count rank set → slice_index symmetries rank ≡ symmetry_of board set
   pub leads : (rank set : ℕ) → rank < to → IsRanked n 0 count rank set → AreLeading board set (slice_index leading rank)
   pub listed : (k : ℕ) → k < length representatives
       → (is_representative board count (slice_index representatives k) ≡ true) × (slice_index representatives k < 2 ^ n)
@@ -62,7 +68,7 @@ pub record IsKept (board : Shape) (n count to : ℕ) (classes symmetries leading
       → classes_below board count mask ≡ length representatives
 
 -- the same of all sets of `count` points
-pub record IsClasses (board : Shape) (n count : ℕ) (classes symmetries leading representatives : List ℕ) : Type 0 where
+pub record IsClasses (board : Shape) (n count : ℕ) (classes leading representatives : List ℕ) : Type 0 where
   pub few : count ≤ 9
   pub fits : count ≤ n
-  pub kept : IsKept board n count (choose n count) classes symmetries leading representatives
+  pub kept : IsKept board n count (choose n count) classes leading representatives

@@ -2,6 +2,7 @@ pub mod Binomials
 pub mod Numbering
 pub mod Pairs
 pub mod Sums
+pub mod Parts
 pub mod Moves
 pub mod Classes
 pub mod ClassPairs

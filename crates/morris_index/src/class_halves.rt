@@ -10,7 +10,7 @@ ghost use Rattle.morris_index.specs.Pairs.{has_counts, IsHalf};
 
 use crate::binomials::binomial;
 use crate::classes::Classes;
-use crate::ranks::{rank, unrank};
+use crate::ranks::{rank_outside, unrank};
 use morris_board::board::Geometry;
 use morris_board::points::Points;
 use morris_board::position::Position;
@@ -35,7 +35,7 @@ pub(crate) fn class_half_index<B: Geometry>(classes: &Classes<B>, position: &Pos
     let other = position.other().count();
     let (start, symmetry) = class_half_start(classes, position.own(), other);
     let led = position.image(symmetry);
-    start + rank(led.other(), led.own())
+    start + rank_outside(led.other(), led.own())
 }
 
 /// The number of the first entry in which the player to move stands on the representative of the

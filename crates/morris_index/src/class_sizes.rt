@@ -7,11 +7,13 @@ ghost use Rattle.morris_index.specs.Pairs.{IsHalf};
 
 use crate::binomials::binomial;
 use crate::pair::Pair;
+use crate::ranks::{following, least};
 use morris_board::board::Geometry;
 use morris_board::points::Points;
 
 /// How many entries a pair has by classes: what [`size`](crate::class_pair::ClassPair::size)
-/// answers, without the memory that the classes take. It looks at every set of points of the board.
+/// answers, without the memory that the classes take. It looks at every set of as many points as
+/// either player has stones.
 pub fn class_size<B: Geometry>(pair: Pair<B>) -> u64
     ensures { result ≡ class_size_of B.shape B.POINTS pair }
 {
@@ -35,13 +37,20 @@ fn class_half_size<B: Geometry>(own: u8, other: u8) -> u64
 
 /// How many classes of sets of `count` points there are.
 fn class_count<B: Geometry>(count: u8) -> u32
+    requires most { count ≤ 9 }
+    requires fits { count ≤ B.POINTS }
     ensures value { result ≡ class_count B.shape count }
     ensures few { result ≤ choose B.POINTS count }
 {
+    let sets = binomial(B::POINTS, count);
     let mut classes = 0;
-    for mask in 0..1 << B::POINTS {
-        if is_representative::<B>(count, Points::from_mask(mask)) {
+    let mut set = least(B::POINTS, Points::EMPTY, count);
+    for _ in 0..sets {
+        if is_representative::<B>(count, set) {
             classes += 1;
+        }
+        if let Some(next) = following(B::POINTS, Points::EMPTY, set) {
+            set = next;
         }
     }
     classes

@@ -4,10 +4,10 @@ ghost use Rattle.morris_board.specs.Sets.{count_of};
 ghost use Rattle.morris_board.specs.Symmetries.{image_of};
 ghost use Rattle.morris_index.specs.Binomials.{choose};
 ghost use Rattle.morris_index.specs.Numbering.{IsRanked};
-ghost use Rattle.morris_index.specs.Classes.{symmetry_of, representative_of, is_representative, classes_below, class_of, class_count, AreLeading, IsKept};
+ghost use Rattle.morris_index.specs.Classes.{symmetry_of, representative_of, is_representative, classes_below, class_of, class_count, AreLeading, IsKept, classes_in, leading_in};
 
 use crate::binomials::binomial;
-use crate::ranks::{self, unrank};
+use crate::ranks::{self, following, least};
 use morris_board::board::Geometry;
 use morris_board::points::Points;
 use std::alloc::{AllocError, Global};
@@ -25,23 +25,29 @@ pub struct Classes<B: Geometry> {
 impl<B: Geometry> Model for Classes<B> {
     ghost use Rattle.std.specs.Prelude.{ℕ, ◌≤◌};
     ghost use Rattle.morris_index.specs.Binomials.{choose};
-    ghost use Rattle.morris_index.specs.Classes.{IsClasses};
+    ghost use Rattle.morris_index.specs.Classes.{IsClasses, classes_in, leading_in};
 
     ghost Value = { ℕ };
 
     ghost view = { λ classes. classes.count };
 
-    ghost invariant = { λ classes. IsClasses B.shape B.POINTS classes.count classes.kept.classes.items classes.kept.symmetries.items classes.kept.leading.items classes.kept.representatives.items };
+    ghost invariant = { λ classes. IsClasses B.shape B.POINTS classes.count (classes_in classes.kept.leads.items) (leading_in classes.kept.leads.items) classes.kept.representatives.items };
 }
 
-/// What is kept of sets of points: at the rank of each, its class, the first symmetry that leads to
-/// its representative, and the mask of all that do; and the masks of the representatives, in the
-/// order of their classes.
+/// What is kept of a set of points.
+#[derive(Clone, Copy, Debug)]
+struct Lead {
+    /// Its class.
+    class: u32,
+    /// The mask of all symmetries that lead to its representative.
+    leading: u32,
+}
+
+/// What is kept of sets of points: at the rank of each, where it is led; and the masks of the
+/// representatives, in the order of their classes.
 #[derive(Drop)]
 struct Kept {
-    classes: Vec<u32>,
-    symmetries: Vec<u8>,
-    leading: Vec<u32>,
+    leads: Vec<Lead>,
     representatives: Vec<u32>,
 }
 
@@ -58,14 +64,15 @@ impl<B: Geometry> Classes<B> {
     {
         let sets = binomial(B::POINTS, count);
         let mut kept = Kept {
-            classes: Vec::with_capacity(alloc, sets as usize)?,
-            symmetries: Vec::with_capacity(alloc, sets as usize)?,
-            leading: Vec::with_capacity(alloc, sets as usize)?,
+            leads: Vec::with_capacity(alloc, sets as usize)?,
             representatives: Vec::new(alloc),
         };
+        let mut set = least(B::POINTS, Points::EMPTY, count);
         for index in 0..sets {
-            let set = unrank(B::POINTS, Points::EMPTY, count, index);
             keep::<B>(&mut kept, count, index, set)?;
+            if let Some(next) = following(B::POINTS, Points::EMPTY, set) {
+                set = next;
+            }
         }
         Ok(Classes {
             count,
@@ -93,9 +100,11 @@ impl<B: Geometry> Classes<B> {
         ensures symmetry { result.1 ≡ symmetry_of B.shape set }
         ensures one { result.1 < B.SYMMETRIES }
     {
-        let kept = &self.kept;
-        let rank = ranks::rank(set, Points::EMPTY) as usize;
-        (kept.classes[rank], kept.symmetries[rank])
+        let lead = self.kept.leads[ranks::rank(set) as usize];
+        match Points::from_mask(lead.leading).first() {
+            Some(symmetry) => (lead.class, symmetry),
+            None => unreachable!(),
+        }
     }
 
     /// The class of a set of as many points as the classes are of, its representative, and all
@@ -107,11 +116,9 @@ impl<B: Geometry> Classes<B> {
         ensures representative { result.1 ≡ representative_of B.shape set }
         ensures symmetries { AreLeading B.shape set result.2 }
     {
-        let kept = &self.kept;
-        let rank = ranks::rank(set, Points::EMPTY) as usize;
-        let class = kept.classes[rank];
-        let symmetries = Points::from_mask(kept.leading[rank]);
-        (class, self.representative(class), symmetries)
+        let lead = self.kept.leads[ranks::rank(set) as usize];
+        let symmetries = Points::from_mask(lead.leading);
+        (lead.class, self.representative(lead.class), symmetries)
     }
 
     /// The representative of a class, below [`Classes::count`]: of all its sets the one with the
@@ -127,48 +134,46 @@ impl<B: Geometry> Classes<B> {
     }
 }
 
-/// Keeps the class and the symmetries of the set of `count` points with this rank, where those of
-/// all lesser ranks are kept. A set that is its own representative has the next class.
+/// Keeps where the set of `count` points with this rank is led, where that of the sets of all
+/// lesser ranks is kept. A set that is its own representative has the next class.
 fn keep<B: Geometry>(kept: &mut Kept, count: u8, rank: u64, set: Points) -> Result<(), AllocError>
     requires few { count ≤ 9 }
     requires fits { count ≤ B.POINTS }
     requires ranked { IsRanked B.POINTS 0 count rank set }
-    requires before { IsKept B.shape B.POINTS count rank kept.old.classes.items kept.old.symmetries.items kept.old.leading.items kept.old.representatives.items }
-    ensures { OnOk result (IsKept B.shape B.POINTS count (rank + 1) kept.new.classes.items kept.new.symmetries.items kept.new.leading.items kept.new.representatives.items) }
+    requires before { IsKept B.shape B.POINTS count rank (classes_in kept.old.leads.items) (leading_in kept.old.leads.items) kept.old.representatives.items }
+    ensures { OnOk result (IsKept B.shape B.POINTS count (rank + 1) (classes_in kept.new.leads.items) (leading_in kept.new.leads.items) kept.new.representatives.items) }
 {
-    let (least, symmetry, leading) = least_image::<B>(set);
+    let (least, leading) = least_image::<B>(set);
     let class = if least.mask() == set.mask() {
         let next = kept.representatives.len() as u32;
         kept.representatives.push(set.mask())?;
         next
     } else {
-        kept.classes[ranks::rank(least, Points::EMPTY) as usize]
+        kept.leads[ranks::rank(least) as usize].class
     };
-    kept.classes.push(class)?;
-    kept.symmetries.push(symmetry)?;
-    kept.leading.push(leading.mask())?;
+    kept.leads.push(Lead {
+        class,
+        leading: leading.mask(),
+    })?;
     Ok(())
 }
 
-/// The image of a set with the least mask, the first symmetry that leads to it, and all that do.
-fn least_image<B: Geometry>(set: Points) -> (Points, u8, Points)
+/// The image of a set with the least mask, and all symmetries that lead to it.
+fn least_image<B: Geometry>(set: Points) -> (Points, Points)
     requires { set < 2 ^ B.POINTS }
     ensures image { result.0 ≡ representative_of B.shape set }
-    ensures symmetry { result.1 ≡ symmetry_of B.shape set }
-    ensures leading { AreLeading B.shape set result.2 }
+    ensures leading { AreLeading B.shape set result.1 }
 {
     let mut least = set;
-    let mut symmetry = 0;
     let mut leading = Points::EMPTY.with(0);
     for other in 1..B::SYMMETRIES {
         let image = B::image_of(other, set);
         if image.mask() < least.mask() {
             least = image;
-            symmetry = other;
             leading = Points::EMPTY.with(other);
         } else if image.mask() == least.mask() {
             leading = leading.with(other);
         }
     }
-    (least, symmetry, leading)
+    (least, leading)
 }

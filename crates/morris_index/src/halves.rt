@@ -7,7 +7,7 @@ ghost use Rattle.morris_index.specs.Numbering.{half_size, half_index};
 ghost use Rattle.morris_index.specs.Pairs.{has_counts, IsHalf};
 
 use crate::binomials::binomial;
-use crate::ranks::{following, rank, unrank};
+use crate::ranks::{following, rank, rank_outside, unrank};
 use morris_board::board::Geometry;
 use morris_board::points::Points;
 use morris_board::position::Position;
@@ -30,7 +30,7 @@ pub(crate) fn half_index<B: Geometry>(position: &Position<B>) -> u64
     let own = position.own();
     let other = position.other();
     let choices = binomial(B::POINTS - own.count(), other.count());
-    rank(own, Points::EMPTY) * choices + rank(other, own)
+    rank(own) * choices + rank_outside(other, own)
 }
 
 /// The position with this index among those with `own` stones of the player to move and `other` of

@@ -11,6 +11,8 @@ pub mod falls;
 pub mod faults;
 mod halves;
 pub mod pair;
+mod part_tables;
+mod parts;
 pub mod predecessor_entries;
 pub mod predecessors;
 mod ranks;

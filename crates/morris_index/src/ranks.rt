@@ -3,23 +3,52 @@ ghost use Rattle.std.specs.Prelude.{◌≡◌, ℕ, suc, ◌<◌, ◌≤◌, ◌
 ghost use Rattle.morris_board.specs.Sets.{has, members, count_of};
 ghost use Rattle.morris_index.specs.Binomials.{choose};
 ghost use Rattle.morris_index.specs.Numbering.{rank_of, number_outside, IsRanked};
+ghost use Rattle.morris_index.specs.Parts.{squeezed_below};
 
 use crate::binomials::binomial;
+use crate::parts::{part_rank, part_size, squeezed_part};
 use morris_board::points::Points;
 
-/// The rank of `set` among the sets of as many points that have none in common with `outside`.
-pub(crate) fn rank(set: Points, outside: Points) -> u64
+/// The rank of `set` among the sets of as many points.
+pub(crate) fn rank(set: Points) -> u64
     requires board { set < 2 ^ 24 }
     requires few { count_of set ≤ 9 }
-    ensures { result ≡ rank_of (map (number_outside outside) (members set)) }
+    ensures { result ≡ rank_of (map (number_outside 0) (members set)) }
 {
-    let mut rank = 0;
     let mut place = 0;
-    for point in set.iter() {
-        place += 1;
-        rank += binomial(number_outside(outside, point), place);
+    let mut rank = 0;
+    for part in 0..4 {
+        let points = (set.mask() >> (6 * part)) % 64;
+        rank += part_rank(part, place, points);
+        place += part_size(points);
     }
     rank
+}
+
+/// The rank of `set` among the sets of as many points that have none in common with `outside`.
+pub(crate) fn rank_outside(set: Points, outside: Points) -> u64
+    requires board { set < 2 ^ 24 }
+    requires few { count_of set ≤ 9 }
+    requires apart { (p : ℕ) → has set p ≡ true → has outside p ≡ false }
+    ensures { result ≡ rank_of (map (number_outside outside) (members set)) }
+{
+    rank(squeezed(set, outside))
+}
+
+/// The set of the numbers of the points of `set` that aren't in `outside`, see [`number_outside`].
+fn squeezed(set: Points, outside: Points) -> Points
+    requires { (p : ℕ) → has set p ≡ true → has outside p ≡ false }
+    ensures { result ≡ squeezed_below outside set 24 }
+{
+    let mut squeezed = 0;
+    let mut number = 0;
+    for part in 0..4_u8 {
+        let points = (set.mask() >> (6 * part)) % 64;
+        let taken = (outside.mask() >> (6 * part)) % 64;
+        squeezed += squeezed_part(taken, points) << number;
+        number += 6 - part_size(taken);
+    }
+    Points::from_mask(squeezed)
 }
 
 /// The number of `point` among the points that aren't in `outside`, in ascending order.
@@ -59,7 +88,7 @@ pub(crate) fn unrank(points: u8, outside: Points, count: u8, rank: u64) -> Point
 }
 
 /// The set of the least `count` points below `end` that aren't in `outside`.
-fn least(end: u8, outside: Points, count: u8) -> Points
+pub(crate) fn least(end: u8, outside: Points, count: u8) -> Points
     requires board { end < 32 }
     requires fits { count ≤ number_outside outside end }
     ensures { IsRanked end outside count 0 result }

@@ -7,7 +7,7 @@ ghost use Rattle.morris_index.specs.ClassPairs.{class_index_of};
 
 use crate::class_pair::ClassPair;
 use crate::pair::Pair;
-use crate::sums::MovedSums;
+use crate::ranks::rank_outside;
 use morris_board::board::Geometry;
 use morris_board::position::Position;
 use std::marker::Model;
@@ -26,8 +26,6 @@ pub struct SuccessorEntries<B: Geometry> {
     symmetry: u8,
     /// The image of the position under this symmetry.
     led: Position<B>,
-    /// The sums of the images of the stones of the player to move, of which one moves.
-    moved: MovedSums,
     /// The first entry in which the player to move stands on the images of the stones that the
     /// opponent has here.
     start: u64,
@@ -41,7 +39,7 @@ impl<B: Geometry> Model for SuccessorEntries<B> {
 
     ghost view = { λ entries. in_pair entries.pair entries.position };
 
-    ghost invariant = { λ entries. IsLedOn B.shape B.POINTS (in_pair entries.pair entries.position) entries.symmetry entries.led entries.moved entries.start };
+    ghost invariant = { λ entries. IsLedOn B.shape B.POINTS (in_pair entries.pair entries.position) entries.symmetry entries.led entries.start };
 }
 
 impl<B: Geometry> SuccessorEntries<B> {
@@ -51,13 +49,11 @@ impl<B: Geometry> SuccessorEntries<B> {
         ensures { result ≡ in_pair pair.now position.now }
     {
         let (start, symmetry) = pair.start_of(position.other(), position.own());
-        let led = position.image(symmetry);
         SuccessorEntries {
             pair: pair.pair(),
             position: *position,
             symmetry,
-            led,
-            moved: MovedSums::of(led.own(), led.other()),
+            led: position.image(symmetry),
             start,
         }
     }
@@ -72,8 +68,7 @@ impl<B: Geometry> SuccessorEntries<B> {
     {
         let led_from = B::image(self.symmetry, from);
         let led_to = B::image(self.symmetry, to);
-        let own = self.led.own();
-        let other = self.led.other();
-        self.start + self.moved.rank(other, own, led_from, led_to)
+        let moved = self.led.own().without(led_from).with(led_to);
+        self.start + rank_outside(moved, self.led.other())
     }
 }

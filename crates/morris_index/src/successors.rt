@@ -9,7 +9,6 @@ use crate::pair::Pair;
 use crate::ranks::rank;
 use crate::sums::MovedSums;
 use morris_board::board::Geometry;
-use morris_board::points::Points;
 use morris_board::position::Position;
 use std::marker::Model;
 
@@ -52,7 +51,7 @@ impl<B: Geometry> SuccessorIndices<B> {
             pair: *pair,
             position: *position,
             moved: MovedSums::of(own, other),
-            start: pair.start_of(other.count()) + rank(other, Points::EMPTY) * choices,
+            start: pair.start_of(other.count()) + rank(other) * choices,
         }
     }
 

@@ -1,11 +1,13 @@
 -- The set is a representative, or the class of its representative is kept already.
 use Rattle.std.proofs.Common.{◌≡◌, ◌<◌, ◌∙◌, length, get_or, sym, ap, arith}
-use Rattle.std.proofs.lemmas.Grind.{get_or_default_zero}
-use Rattle.morris_index.specs.Classes.{representative_of}
+use Rattle.morris_index.specs.Classes.{classes_in, leading_in, AreLeading, representative_of}
 use Rattle.morris_index.proofs.BinomialTable.{choose_small}
 use Rattle.morris_index.proofs.IndexLaws.{within_24}
 use Rattle.morris_index.proofs.OrderLaws.{rank_at}
 use Rattle.morris_index.proofs.KeepLaws.{kept-new, kept-other, other_rank, other_within, other_ranked, rank_lt}
+use Rattle.morris_index.proofs.KeepLaws.{class_in}
+use Rattle.std.proofs.lemmas.List.{map-append, length-map}
+use Rattle.morris_index.specs.declared.classes.Lead.{Lead}
 use Rattle.morris_index.proofs.classes.keep.Goals as goal
 use Rattle.morris_index.proofs.classes.keep.Goals.{then-mask+in_ok-push, else-mask}
 
@@ -19,7 +21,7 @@ pub rank-requires-clause-board : goal.rank-requires-clause-board
 rank-requires-clause-board g c =
     rw c.least_image-least.ensures.image
     (within_24 _ g.B.Geometry.POINTS (other_within g.B.Geometry.shape g.B.Geometry.POINTS c.args.count (omega (arith, g.met.B.Geometry.few)) g.met.B.Geometry.point_count g.met.B.Geometry.has_symmetries
-    c.args.rank c.args.set c.requires.ranked c.args.kept.now.classes.items c.args.kept.now.symmetries.items c.args.kept.now.leading.items c.args.kept.now.representatives.items c.requires.before) (omega (arith, g.met.B.Geometry.few)))
+    c.args.rank c.args.set c.requires.ranked (classes_in c.args.kept.now.leads.items) (leading_in c.args.kept.now.leads.items) c.args.kept.now.representatives.items c.requires.before) (omega (arith, g.met.B.Geometry.few)))
 
 pub rank-requires-clause-few : goal.rank-requires-clause-few
 rank-requires-clause-few g c =
@@ -28,39 +30,52 @@ rank-requires-clause-few g c =
       arith,
       c.requires.few,
       (other_ranked g.B.Geometry.shape g.B.Geometry.POINTS c.args.count (omega (arith, g.met.B.Geometry.few)) g.met.B.Geometry.point_count g.met.B.Geometry.has_symmetries
-          c.args.rank c.args.set c.requires.ranked c.args.kept.now.classes.items c.args.kept.now.symmetries.items c.args.kept.now.leading.items c.args.kept.now.representatives.items c.requires.before).counted,
+          c.args.rank c.args.set c.requires.ranked (classes_in c.args.kept.now.leads.items) (leading_in c.args.kept.now.leads.items) c.args.kept.now.representatives.items c.requires.before).counted,
     ))
 
 pub index-requires : goal.index-requires
 index-requires g c =
     let differ : representative_of g.B.Geometry.shape c.args.set ≡ c.args.set → ⊥ =
     λ e. c.if-mask.false (c.mask.ensures ∙ c.least_image-least.ensures.image ∙ e ∙ sym c.mask-2.ensures) in
-    let low = other_rank g.B.Geometry.shape g.B.Geometry.POINTS c.args.count (omega (arith, g.met.B.Geometry.few)) g.met.B.Geometry.point_count g.met.B.Geometry.has_symmetries
-    c.args.rank c.args.set c.requires.ranked c.args.kept.now.classes.items c.args.kept.now.symmetries.items c.args.kept.now.leading.items c.args.kept.now.representatives.items c.requires.before differ in
+    let low = other_rank g.B.Geometry.shape g.B.Geometry.POINTS c.args.count (omega (arith, g.met.B.Geometry.few)) g.met.B.Geometry.point_count g.met.B.Geometry.has_symmetries c.args.rank c.args.set c.requires.ranked (classes_in c.args.kept.now.leads.items) (leading_in c.args.kept.now.leads.items) c.args.kept.now.representatives.items c.requires.before differ in
     let at : c.rank.result ≡ rank_at (representative_of g.B.Geometry.shape c.args.set) = c.rank.ensures ∙ ap rank_at c.least_image-least.ensures.image in
-    omega (arith, low, at, c.requires.before.classes_len)
+    omega (arith, low, at, c.requires.before.classes_len, length-map c.args.kept.now.leads.items (λ (lead : Lead). lead.class))
 
 pub returns : goal.returns
-returns g c = elim c.if-mask.branch [
-  | then-mask+in_ok-push w ↦
-      let own : representative_of g.B.Geometry.shape c.args.set ≡ c.args.set =
-      sym c.least_image-least.ensures.image ∙ sym c.mask.ensures ∙ w.if-mask.true ∙ c.mask-2.ensures in
-      let next : w.len-next.result ≡ length c.args.kept.now.representatives.items = omega (arith, w.len-next.ensures) in
-      rw (c.in_ok-push-2.ensures.items, c.in_ok-push-3.ensures.items, c.in_ok-push-4.ensures.items, w.kept-is, w.class-is, next, w.in_ok-push.ensures.items, w.mask-then-mask.ensures)
-      (kept-new g.B.Geometry.shape g.B.Geometry.POINTS c.args.count (omega (arith, g.met.B.Geometry.few)) g.met.B.Geometry.point_count g.met.B.Geometry.has_symmetries
-      c.args.rank c.args.set c.requires.ranked c.args.kept.now.classes.items c.args.kept.now.symmetries.items c.args.kept.now.leading.items c.args.kept.now.representatives.items c.requires.before c.least_image-least.result.1 c.least_image-least.ensures.symmetry c.mask-3.result (rw c.mask-3.ensures c.least_image-least.ensures.leading) own)
-  | else-mask w ↦
-      let differ : representative_of g.B.Geometry.shape c.args.set ≡ c.args.set → ⊥ =
-      λ e. w.if-mask.false (c.mask.ensures ∙ c.least_image-least.ensures.image ∙ e ∙ sym c.mask-2.ensures) in
-      let low = other_rank g.B.Geometry.shape g.B.Geometry.POINTS c.args.count (omega (arith, g.met.B.Geometry.few)) g.met.B.Geometry.point_count g.met.B.Geometry.has_symmetries
-      c.args.rank c.args.set c.requires.ranked c.args.kept.now.classes.items c.args.kept.now.symmetries.items c.args.kept.now.leading.items c.args.kept.now.representatives.items c.requires.before differ in
-      let at : w.rank.result ≡ rank_at (representative_of g.B.Geometry.shape c.args.set) = w.rank.ensures ∙ ap rank_at c.least_image-least.ensures.image in
-      let under : w.rank.result < length c.args.kept.now.classes.items = omega (arith, low, at, c.requires.before.classes_len) in
-      let class : w.index.result.now ≡ get_or c.args.kept.now.classes.items (rank_at (representative_of g.B.Geometry.shape c.args.set)) 0 =
-      w.index.ensures
-      ∙ get_or_default_zero c.args.kept.now.classes.items w.rank.result _ under
-      ∙ ap (λ r. get_or c.args.kept.now.classes.items r 0) at in
-      rw (c.in_ok-push-2.ensures.items, c.in_ok-push-3.ensures.items, c.in_ok-push-4.ensures.items, w.kept-is, w.class-is, class)
-      (kept-other g.B.Geometry.shape g.B.Geometry.POINTS c.args.count (omega (arith, g.met.B.Geometry.few)) g.met.B.Geometry.point_count g.met.B.Geometry.has_symmetries
-      c.args.rank c.args.set c.requires.ranked c.args.kept.now.classes.items c.args.kept.now.symmetries.items c.args.kept.now.leading.items c.args.kept.now.representatives.items c.requires.before c.least_image-least.result.1 c.least_image-least.ensures.symmetry c.mask-3.result (rw c.mask-3.ensures c.least_image-least.ensures.leading) differ)
-]
+returns g c =
+    let ways : AreLeading g.B.Geometry.shape c.args.set c.mask-3.result = rw c.mask-3.ensures c.least_image-least.ensures.leading in
+    elim c.if-mask.branch [
+      | then-mask+in_ok-push w ↦
+          let own : representative_of g.B.Geometry.shape c.args.set ≡ c.args.set =
+          sym c.least_image-least.ensures.image ∙ sym c.mask.ensures ∙ w.if-mask.true ∙ c.mask-2.ensures in
+          let next : w.len-next.result ≡ length c.args.kept.now.representatives.items = omega (arith, w.len-next.ensures) in
+          rw (
+            c.in_ok-push-2.ensures.items,
+            w.kept-is,
+            w.class-is,
+            next,
+            w.in_ok-push.ensures.items,
+            w.mask-then-mask.ensures,
+            map-append (λ (lead : Lead). lead.class) c.args.kept.now.leads.items,
+            map-append (λ (lead : Lead). lead.leading) c.args.kept.now.leads.items,
+          )
+          (kept-new g.B.Geometry.shape g.B.Geometry.POINTS c.args.count (omega (arith, g.met.B.Geometry.few)) g.met.B.Geometry.point_count g.met.B.Geometry.has_symmetries c.args.rank c.args.set c.requires.ranked (classes_in c.args.kept.now.leads.items) (leading_in c.args.kept.now.leads.items) c.args.kept.now.representatives.items c.requires.before c.mask-3.result ways own)
+      | else-mask w ↦
+          let differ : representative_of g.B.Geometry.shape c.args.set ≡ c.args.set → ⊥ =
+          λ e. w.if-mask.false (c.mask.ensures ∙ c.least_image-least.ensures.image ∙ e ∙ sym c.mask-2.ensures) in
+          let low = other_rank g.B.Geometry.shape g.B.Geometry.POINTS c.args.count (omega (arith, g.met.B.Geometry.few)) g.met.B.Geometry.point_count g.met.B.Geometry.has_symmetries c.args.rank c.args.set c.requires.ranked (classes_in c.args.kept.now.leads.items) (leading_in c.args.kept.now.leads.items) c.args.kept.now.representatives.items c.requires.before differ in
+          let at : w.rank.result ≡ rank_at (representative_of g.B.Geometry.shape c.args.set) = w.rank.ensures ∙ ap rank_at c.least_image-least.ensures.image in
+          let under : w.rank.result < length c.args.kept.now.leads.items =
+          omega (arith, low, at, c.requires.before.classes_len, length-map c.args.kept.now.leads.items (λ (lead : Lead). lead.class)) in
+          let class : w.index.result.now.class ≡ get_or (classes_in c.args.kept.now.leads.items) (rank_at (representative_of g.B.Geometry.shape c.args.set)) 0 =
+          class_in c.args.kept.now.leads.items w.rank.result w.index.result.now under w.index.ensures ∙ ap (λ r. get_or (classes_in c.args.kept.now.leads.items) r 0) at in
+          rw (
+            c.in_ok-push-2.ensures.items,
+            w.kept-is,
+            w.class-is,
+            class,
+            map-append (λ (lead : Lead). lead.class) c.args.kept.now.leads.items,
+            map-append (λ (lead : Lead). lead.leading) c.args.kept.now.leads.items,
+          )
+          (kept-other g.B.Geometry.shape g.B.Geometry.POINTS c.args.count (omega (arith, g.met.B.Geometry.few)) g.met.B.Geometry.point_count g.met.B.Geometry.has_symmetries c.args.rank c.args.set c.requires.ranked (classes_in c.args.kept.now.leads.items) (leading_in c.args.kept.now.leads.items) c.args.kept.now.representatives.items c.requires.before c.mask-3.result ways differ)
+    ]

@@ -4,7 +4,7 @@ use Rattle.morris_board.specs.Positions.{Sides, IsPosition}
 use Rattle.morris_board.specs.Boards.{Shape}
 use Rattle.morris_index.specs.Binomials.{choose}
 use Rattle.morris_index.specs.Numbering.{rank_of, number_outside, half_size, half_index}
-use Rattle.morris_index.proofs.IndexLaws.{IsPlaced, placed, counts_fit, half_index-lt, half_index-few, map_number-none, within_24}
+use Rattle.morris_index.proofs.IndexLaws.{IsPlaced, placed, counts_fit, half_index-lt, half_index-few, map_number-none, within_24, other_apart}
 use Rattle.morris_index.proofs.PairLaws.{own_count, other_count}
 use Rattle.morris_index.proofs.halves.half_index.Goals as goal
 
@@ -48,10 +48,15 @@ rank-requires-clause-board g c =
     rw c.own-own.ensures.points
     (own_small g.B.Geometry.shape g.B.Geometry.POINTS (omega (arith, g.met.B.Geometry.few)) g.met.B.Geometry.point_count c.args.position.now c.own-own.ensures.lawful)
 
-pub rank-requires-2-clause-board : goal.rank-requires-2-clause-board
-rank-requires-2-clause-board g c =
+pub rank_outside-requires-clause-board : goal.rank_outside-requires-clause-board
+rank_outside-requires-clause-board g c =
     rw c.other-other.ensures.points
     (other_small g.B.Geometry.shape g.B.Geometry.POINTS (omega (arith, g.met.B.Geometry.few)) g.met.B.Geometry.point_count c.args.position.now c.own-own.ensures.lawful)
+
+pub rank_outside-requires-clause-apart : goal.rank_outside-requires-clause-apart
+rank_outside-requires-clause-apart g c =
+    rw (c.other-other.ensures.points, c.own-own.ensures.points)
+    (other_apart g.B.Geometry.POINTS (omega (arith, g.met.B.Geometry.few)) c.args.position.now (at g.B.Geometry.shape g.B.Geometry.POINTS (omega (arith, g.met.B.Geometry.few)) g.met.B.Geometry.point_count c.args.position.now c.own-own.ensures.lawful))
 
 pub overflow_mul-result : goal.overflow_mul-result
 overflow_mul-result g c =
@@ -70,7 +75,7 @@ pub overflow_add-result : goal.overflow_add-result
 overflow_add-result g c =
     rw (
       c.rank.ensures,
-      c.rank-2.ensures,
+      c.rank_outside.ensures,
       c.binomial-choices.ensures.value,
       c.POINTS.ensures,
       c.count.ensures.value,
@@ -84,7 +89,7 @@ pub returns-clause-value : goal.returns-clause-value
 returns-clause-value g c =
     rw (
       c.rank.ensures,
-      c.rank-2.ensures,
+      c.rank_outside.ensures,
       c.binomial-choices.ensures.value,
       c.POINTS.ensures,
       c.count.ensures.value,

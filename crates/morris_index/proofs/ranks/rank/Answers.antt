@@ -1,68 +1,46 @@
-use Rattle.std.proofs.Common.{◌≡◌, ℕ, ◌<◌, ◌≤◌, ◌+◌, ◌∷◌, ◌++◌, [], List, length, map, suc, sym, ◌∙◌, ap, arith, length-append, refl, ◌^◌, append_assoc}
-use Rattle.std.proofs.lemmas.List.{map-append, length-map}
-use Rattle.morris_board.specs.Sets.{members, count_of}
-use Rattle.morris_index.specs.Binomials.{choose}
-use Rattle.morris_index.specs.Numbering.{rank_of, number_outside}
-use Rattle.morris_index.proofs.RankLaws.{rank_of-append, number-count}
-use Rattle.morris_index.proofs.SetLaws.{member_lt}
+-- Each part adds what its points add to the rank, and its number of points.
+use Rattle.std.proofs.Common.{◌≡◌, ◌+◌, ◌*◌, ◌/◌, ◌%◌, ◌^◌, ◌≤◌, ◌∙◌, sym, ap, ap₂, arith}
+use Rattle.morris_board.specs.Sets.{has}
+use Rattle.morris_index.specs.Parts.{part_rank}
+use Rattle.morris_index.proofs.RankLaws.{count_below, count-none, rank_below}
+use Rattle.morris_index.proofs.Moving.{rank-zero}
+use Rattle.morris_index.proofs.Following.{rank_set}
+use Rattle.morris_index.proofs.Squeezing.{count-next, rank-next, few_so_far}
 use Rattle.morris_index.proofs.ranks.rank.Goals as goal
 
--- where the points are cut
-module _ (set point : ℕ) (before after left : List ℕ) (split : before ++ left ≡ members set) (step : left ≡ point ∷ after) where
-  pub cut : before ++ point ∷ after ≡ members set
-  cut = ap (λ t. before ++ t) (sym step) ∙ split
-
-  pub small : set < 2 ^ 24 → point < 24
-  small h = member_lt set 24 point before after h cut
-
-  pub few : count_of set ≤ 9 → suc (length before) ≤ 9
-  unfolding count_of
-  few h = omega (arith, ap length cut, length-append before (point ∷ after))
-
-  pub split_after : (before ++ point ∷ []) ++ after ≡ members set
-  split_after = append_assoc before (point ∷ []) after ∙ cut
-
-ranked_after : (outside point rank : ℕ) (before : List ℕ) → rank ≡ rank_of (map (number_outside outside) before)
-    → rank + choose (number_outside outside point) (suc (length before)) ≡ rank_of (map (number_outside outside) (before ++ point ∷ []))
-ranked_after outside point rank before e = sym (
-    ap rank_of (map-append (number_outside outside) before (point ∷ []))
-    ∙ rank_of-append (number_outside outside point) (map (number_outside outside) before)
-    ∙ ap (λ k. rank_of (map (number_outside outside) before) + choose (number_outside outside point) (suc k)) (length-map before (number_outside outside))
-    ∙ ap (λ r. r + choose (number_outside outside point) (suc (length before))) (sym e))
-
-pub loop-point-init : goal.loop-point-init
-unfolding rank_of
-loop-point-init c = record {
-  split = ap members (c.into_iter-point-iterator.ensures.into_iter_gives ∙ c.iter-point-items.ensures.points);
-  placed = refl;
-  ranked = refl;
+pub loop-part-init : goal.loop-part-init
+loop-part-init c = record {
+  placed = sym (count-none (has c.args.set));
+  ranked = sym (rank-zero 0 (has c.args.set));
   small = omega arith;
 }
 
-pub number_outside-requires : goal.number_outside-requires
-number_outside-requires c =
-    omega (arith, small c.args.set c.in-Some.point c.loop-point.yielded _ _ c.loop-point.invariant.split c.in-Some.ensures.steps c.requires.board)
+pub part_rank-rank-requires-clause-few : goal.part_rank-rank-requires-clause-few
+part_rank-rank-requires-clause-few c =
+    rw c.mask.ensures (omega (arith, few_so_far c.args.set c.loop-part.part c.requires.board c.requires.few (omega arith), c.loop-part.invariant.placed))
 
-pub binomial-rank-requires-clause-things : goal.binomial-rank-requires-clause-things
-binomial-rank-requires-clause-things c =
-    omega (
-      arith,
-      number-count c.args.outside c.in-Some.point,
-      c.number_outside.ensures,
-      small c.args.set c.in-Some.point c.loop-point.yielded _ _ c.loop-point.invariant.split c.in-Some.ensures.steps c.requires.board,
-    )
+pub overflow_add-place : goal.overflow_add-place
+overflow_add-place c =
+    let few : c.loop-part.place + count_below (has (c.mask.result / 2 ^ (6 * c.loop-part.part) % 64)) 6 ≤ 9 =
+    rw c.mask.ensures (omega (arith, few_so_far c.args.set c.loop-part.part c.requires.board c.requires.few (omega arith), c.loop-part.invariant.placed)) in
+    omega (arith, few, c.part_size-place.ensures)
 
-pub binomial-rank-requires-clause-chosen : goal.binomial-rank-requires-clause-chosen
-binomial-rank-requires-clause-chosen c =
-    omega (arith, c.loop-point.invariant.placed, few c.args.set c.in-Some.point c.loop-point.yielded _ _ c.loop-point.invariant.split c.in-Some.ensures.steps c.requires.few)
-
-pub loop-point-preserved : goal.loop-point-preserved
-loop-point-preserved c =
-    let place : c.loop-point.place + 1 ≡ suc (length c.loop-point.yielded) = omega (arith, c.loop-point.invariant.placed) in
+pub loop-part-preserved : goal.loop-part-preserved
+loop-part-preserved c =
+    let size : c.part_size-place.result ≡ count_below (has (c.args.set / 2 ^ (6 * c.loop-part.part) % 64)) 6 =
+    c.part_size-place.ensures ∙ ap (λ m. count_below (has (m / 2 ^ (6 * c.loop-part.part) % 64)) 6) c.mask.ensures in
+    let added : c.part_rank-rank.result ≡ part_rank c.loop-part.part (count_below (has c.args.set) (6 * c.loop-part.part)) (c.args.set / 2 ^ (6 * c.loop-part.part) % 64) =
+    c.part_rank-rank.ensures.value
+    ∙ ap₂ (λ p m. part_rank c.loop-part.part p (m / 2 ^ (6 * c.loop-part.part) % 64)) c.loop-part.invariant.placed c.mask.ensures in
     record {
-      split = split_after c.args.set c.in-Some.point c.loop-point.yielded _ _ c.loop-point.invariant.split c.in-Some.ensures.steps;
-      placed = omega (arith, place, length-append c.loop-point.yielded (c.in-Some.point ∷ []));
-      ranked = rw (c.binomial-rank.ensures.value, c.number_outside.ensures, place)
-          (ranked_after c.args.outside c.in-Some.point c.loop-point.rank c.loop-point.yielded c.loop-point.invariant.ranked);
-      small = omega (arith, c.loop-point.invariant.small, c.binomial-rank.ensures.few);
+      placed = omega (arith, size, c.loop-part.invariant.placed, count-next c.args.set c.loop-part.part);
+      ranked = omega (arith, added, c.loop-part.invariant.ranked, rank-next c.args.set c.loop-part.part);
+      small = omega (arith, c.loop-part.invariant.small, c.part_rank-rank.ensures.small);
     }
+
+pub returns : goal.returns
+returns c =
+    let end : c.loop-part.part ≡ 4 = omega arith in
+    c.loop-part.invariant.ranked
+    ∙ ap (λ k. rank_below 0 (has c.args.set) (6 * k)) end
+    ∙ sym (rank_set 24 0 (omega arith) c.args.set c.requires.board)

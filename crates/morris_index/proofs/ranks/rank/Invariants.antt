@@ -1,12 +1,12 @@
-use Rattle.std.proofs.Common.{◌≡◌, ◌*◌, ◌≤◌, ◌++◌, length, map}
-use Rattle.morris_board.specs.Sets.{members}
-use Rattle.morris_index.specs.Numbering.{rank_of, number_outside}
+-- What the parts so far add up to.
+use Rattle.std.proofs.Common.{◌≡◌, ◌*◌, ◌≤◌}
+use Rattle.morris_board.specs.Sets.{has}
+use Rattle.morris_index.proofs.RankLaws.{count_below, rank_below}
 use Rattle.morris_index.proofs.ranks.rank.Given as goal
 
-abbrev pub invariant-loop-point : goal.invariant-loop-point
-invariant-loop-point l = record {
-  split : l.yielded ++ members l.point-iterator ≡ members l.fn.set;
-  placed : l.place ≡ length l.yielded;
-  ranked : l.rank ≡ rank_of (map (number_outside l.outside) l.yielded);
-  small : l.rank ≤ l.place * 2097152;
+abbrev pub invariant-loop-part : goal.invariant-loop-part
+invariant-loop-part l = record {
+  placed : l.place ≡ count_below (has l.fn.set) (6 * l.part);
+  ranked : l.rank ≡ rank_below 0 (has l.fn.set) (6 * l.part);
+  small : l.rank ≤ l.part * 4294967296;
 }

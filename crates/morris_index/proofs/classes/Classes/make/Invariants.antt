@@ -1,7 +1,12 @@
--- The sets with lesser ranks are kept.
-use Rattle.morris_index.specs.Classes.{IsKept}
+-- The sets with lesser ranks are kept, and the next one is at hand.
+use Rattle.std.proofs.Common.{◌<◌}
+use Rattle.morris_index.specs.Binomials.{choose}
+use Rattle.morris_index.specs.Numbering.{IsRanked}
+use Rattle.morris_index.specs.Classes.{classes_in, leading_in, IsKept}
 use Rattle.morris_index.proofs.classes.Classes.make.Given as goal
 
 abbrev pub invariant-loop-index : goal.invariant-loop-index
-invariant-loop-index g l =
-    IsKept g.B.Geometry.shape g.B.Geometry.POINTS l.count l.index l.kept.classes.items l.kept.symmetries.items l.kept.leading.items l.kept.representatives.items
+invariant-loop-index g l = record {
+  kept : IsKept g.B.Geometry.shape g.B.Geometry.POINTS l.count l.index (classes_in l.kept.leads.items) (leading_in l.kept.leads.items) l.kept.representatives.items;
+  next : l.index < choose g.B.Geometry.POINTS l.count → IsRanked g.B.Geometry.POINTS 0 l.count l.index l.set;
+}

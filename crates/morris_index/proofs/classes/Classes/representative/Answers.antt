@@ -1,5 +1,5 @@
 use Rattle.std.proofs.Common.{◌≡◌, ◌<◌, ◌∙◌, length, get_or, arith}
-use Rattle.morris_index.specs.Classes.{class_count}
+use Rattle.morris_index.specs.Classes.{classes_in, leading_in, class_count}
 use Rattle.morris_index.proofs.KeepLaws.{class_count-is, found_own, found_count, found_within, found_class}
 use Rattle.std.proofs.lemmas.Grind.{get_or_default_zero}
 use Rattle.morris_index.proofs.classes.Classes.representative.Goals as goal
@@ -10,7 +10,7 @@ index-requires g c =
     omega (
       arith,
       class_count-is g.B.Geometry.shape g.B.Geometry.POINTS c.self.inside.count (omega (arith, g.met.B.Geometry.few)) g.met.B.Geometry.point_count g.met.B.Geometry.has_symmetries
-          c.self.inside.kept.classes.items c.self.inside.kept.symmetries.items c.self.inside.kept.leading.items c.self.inside.kept.representatives.items c.self.invariant,
+          (classes_in c.self.inside.kept.leads.items) (leading_in c.self.inside.kept.leads.items) c.self.inside.kept.representatives.items c.self.invariant,
     )
 
 pub returns-clause-least : goal.returns-clause-least
@@ -19,12 +19,12 @@ returns-clause-least g c =
     let under : c.args.class < length c.self.inside.kept.representatives.items = omega (
       arith,
       class_count-is g.B.Geometry.shape g.B.Geometry.POINTS c.self.inside.count (omega (arith, g.met.B.Geometry.few)) g.met.B.Geometry.point_count g.met.B.Geometry.has_symmetries
-          c.self.inside.kept.classes.items c.self.inside.kept.symmetries.items c.self.inside.kept.leading.items c.self.inside.kept.representatives.items c.self.invariant,
+          (classes_in c.self.inside.kept.leads.items) (leading_in c.self.inside.kept.leads.items) c.self.inside.kept.representatives.items c.self.invariant,
     ) in
     let is : c.from_mask.result ≡ get_or c.self.inside.kept.representatives.items c.args.class 0 =
     c.from_mask.ensures ∙ c.index.ensures ∙ get_or_default_zero c.self.inside.kept.representatives.items c.args.class _ under in
     rw is (found_own g.B.Geometry.shape g.B.Geometry.POINTS c.self.inside.count (omega (arith, g.met.B.Geometry.few)) g.met.B.Geometry.point_count g.met.B.Geometry.has_symmetries
-    c.self.inside.kept.classes.items c.self.inside.kept.symmetries.items c.self.inside.kept.leading.items c.self.inside.kept.representatives.items c.self.invariant c.args.class low)
+    (classes_in c.self.inside.kept.leads.items) (leading_in c.self.inside.kept.leads.items) c.self.inside.kept.representatives.items c.self.invariant c.args.class low)
 
 pub returns-clause-count : goal.returns-clause-count
 returns-clause-count g c =
@@ -32,12 +32,12 @@ returns-clause-count g c =
     let under : c.args.class < length c.self.inside.kept.representatives.items = omega (
       arith,
       class_count-is g.B.Geometry.shape g.B.Geometry.POINTS c.self.inside.count (omega (arith, g.met.B.Geometry.few)) g.met.B.Geometry.point_count g.met.B.Geometry.has_symmetries
-          c.self.inside.kept.classes.items c.self.inside.kept.symmetries.items c.self.inside.kept.leading.items c.self.inside.kept.representatives.items c.self.invariant,
+          (classes_in c.self.inside.kept.leads.items) (leading_in c.self.inside.kept.leads.items) c.self.inside.kept.representatives.items c.self.invariant,
     ) in
     let is : c.from_mask.result ≡ get_or c.self.inside.kept.representatives.items c.args.class 0 =
     c.from_mask.ensures ∙ c.index.ensures ∙ get_or_default_zero c.self.inside.kept.representatives.items c.args.class _ under in
     rw is (found_count g.B.Geometry.shape g.B.Geometry.POINTS c.self.inside.count (omega (arith, g.met.B.Geometry.few)) g.met.B.Geometry.point_count g.met.B.Geometry.has_symmetries
-    c.self.inside.kept.classes.items c.self.inside.kept.symmetries.items c.self.inside.kept.leading.items c.self.inside.kept.representatives.items c.self.invariant c.args.class low ∙ c.self.view_is)
+    (classes_in c.self.inside.kept.leads.items) (leading_in c.self.inside.kept.leads.items) c.self.inside.kept.representatives.items c.self.invariant c.args.class low ∙ c.self.view_is)
 
 pub returns-clause-class : goal.returns-clause-class
 returns-clause-class g c =
@@ -45,12 +45,12 @@ returns-clause-class g c =
     let under : c.args.class < length c.self.inside.kept.representatives.items = omega (
       arith,
       class_count-is g.B.Geometry.shape g.B.Geometry.POINTS c.self.inside.count (omega (arith, g.met.B.Geometry.few)) g.met.B.Geometry.point_count g.met.B.Geometry.has_symmetries
-          c.self.inside.kept.classes.items c.self.inside.kept.symmetries.items c.self.inside.kept.leading.items c.self.inside.kept.representatives.items c.self.invariant,
+          (classes_in c.self.inside.kept.leads.items) (leading_in c.self.inside.kept.leads.items) c.self.inside.kept.representatives.items c.self.invariant,
     ) in
     let is : c.from_mask.result ≡ get_or c.self.inside.kept.representatives.items c.args.class 0 =
     c.from_mask.ensures ∙ c.index.ensures ∙ get_or_default_zero c.self.inside.kept.representatives.items c.args.class _ under in
     rw is (found_class g.B.Geometry.shape g.B.Geometry.POINTS c.self.inside.count (omega (arith, g.met.B.Geometry.few)) g.met.B.Geometry.point_count g.met.B.Geometry.has_symmetries
-    c.self.inside.kept.classes.items c.self.inside.kept.symmetries.items c.self.inside.kept.leading.items c.self.inside.kept.representatives.items c.self.invariant c.args.class low)
+    (classes_in c.self.inside.kept.leads.items) (leading_in c.self.inside.kept.leads.items) c.self.inside.kept.representatives.items c.self.invariant c.args.class low)
 
 pub returns-clause-within : goal.returns-clause-within
 returns-clause-within g c =
@@ -58,9 +58,9 @@ returns-clause-within g c =
     let under : c.args.class < length c.self.inside.kept.representatives.items = omega (
       arith,
       class_count-is g.B.Geometry.shape g.B.Geometry.POINTS c.self.inside.count (omega (arith, g.met.B.Geometry.few)) g.met.B.Geometry.point_count g.met.B.Geometry.has_symmetries
-          c.self.inside.kept.classes.items c.self.inside.kept.symmetries.items c.self.inside.kept.leading.items c.self.inside.kept.representatives.items c.self.invariant,
+          (classes_in c.self.inside.kept.leads.items) (leading_in c.self.inside.kept.leads.items) c.self.inside.kept.representatives.items c.self.invariant,
     ) in
     let is : c.from_mask.result ≡ get_or c.self.inside.kept.representatives.items c.args.class 0 =
     c.from_mask.ensures ∙ c.index.ensures ∙ get_or_default_zero c.self.inside.kept.representatives.items c.args.class _ under in
     rw is (found_within g.B.Geometry.shape g.B.Geometry.POINTS c.self.inside.count (omega (arith, g.met.B.Geometry.few)) g.met.B.Geometry.point_count g.met.B.Geometry.has_symmetries
-    c.self.inside.kept.classes.items c.self.inside.kept.symmetries.items c.self.inside.kept.leading.items c.self.inside.kept.representatives.items c.self.invariant c.args.class low)
+    (classes_in c.self.inside.kept.leads.items) (leading_in c.self.inside.kept.leads.items) c.self.inside.kept.representatives.items c.self.invariant c.args.class low)

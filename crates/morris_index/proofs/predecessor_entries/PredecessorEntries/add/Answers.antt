@@ -11,7 +11,7 @@ use Rattle.morris_index.specs.Pairs.{IsPair, is_of}
 use Rattle.morris_board.specs.Positions.{IsPosition}
 use Rattle.morris_index.proofs.StepLaws.{adds_entries}
 use Rattle.morris_index.proofs.MoveLaws.{other_lt}
-use Rattle.morris_index.proofs.CarriedLaws.{member_has, split_after, pushed, before_here, before_of, members_are, carrying_low, image_24, image_few, entry_few, entry_is}
+use Rattle.morris_index.proofs.CarriedLaws.{member_has, split_after, pushed, before_here, before_of, members_are, carrying_low, image_24, image_few, image_apart, entry_few, entry_is}
 use Rattle.morris_index.proofs.predecessor_entries.PredecessorEntries.add.Goals as goal
 
 pub without-requires : goal.without-requires
@@ -53,8 +53,8 @@ image_of-image-requires-clause-symmetry g c =
     member_has c.common-carrying.result c.in-Some.symmetry c.loop-symmetry.yielded _ _ (c.loop-symmetry.invariant.split ∙ ap members items) c.in-Some.ensures.steps in
     omega (arith, carrying_low g.B.Geometry.shape g.B.Geometry.POINTS (omega (arith, g.met.B.Geometry.few)) g.met.B.Geometry.point_count g.met.B.Geometry.has_symmetries (in_pair c.self.inside.pair.now c.self.inside.position) c.self.inside.returning c.self.invariant c.args.from c.args.to c.requires.start vacant end c.leads_of-start.result.2 c.common-carrying.result leads c.common-carrying.ensures c.in-Some.symmetry inside, g.met.B.Geometry.symmetry_count, g.met.B.Geometry.few_symmetries)
 
-pub rank-requires-clause-board : goal.rank-requires-clause-board
-rank-requires-clause-board g c =
+pub rank_outside-requires-clause-board : goal.rank_outside-requires-clause-board
+rank_outside-requires-clause-board g c =
     let end : has c.self.inside.position.other c.args.to ≡ true = ap (λ (q : InPair). has q.position.other c.args.to) c.self.view_is ∙ c.requires.end in
     let vacant : not (has c.self.inside.position.own c.args.from || has c.self.inside.position.other c.args.from) ≡ true =
     ap (λ (q : InPair). not (has q.position.own c.args.from || has q.position.other c.args.from)) c.self.view_is ∙ c.requires.vacant in
@@ -68,8 +68,8 @@ rank-requires-clause-board g c =
     c.image_of-image.ensures ∙ ap (image_of (g.B.Geometry.shape.image c.in-Some.symmetry)) c.own-own.ensures.points in
     rw at (image_24 g.B.Geometry.shape g.B.Geometry.POINTS (omega (arith, g.met.B.Geometry.few)) g.met.B.Geometry.point_count g.met.B.Geometry.has_symmetries (in_pair c.self.inside.pair.now c.self.inside.position) c.self.inside.returning c.self.invariant c.args.from c.args.to c.requires.start vacant end c.leads_of-start.result.2 c.common-carrying.result leads c.common-carrying.ensures c.in-Some.symmetry inside)
 
-pub rank-requires-clause-few : goal.rank-requires-clause-few
-rank-requires-clause-few g c =
+pub rank_outside-requires-clause-few : goal.rank_outside-requires-clause-few
+rank_outside-requires-clause-few g c =
     let end : has c.self.inside.position.other c.args.to ≡ true = ap (λ (q : InPair). has q.position.other c.args.to) c.self.view_is ∙ c.requires.end in
     let vacant : not (has c.self.inside.position.own c.args.from || has c.self.inside.position.other c.args.from) ≡ true =
     ap (λ (q : InPair). not (has q.position.own c.args.from || has q.position.other c.args.from)) c.self.view_is ∙ c.requires.vacant in
@@ -82,6 +82,21 @@ rank-requires-clause-few g c =
     let at : c.image_of-image.result ≡ image_of (g.B.Geometry.shape.image c.in-Some.symmetry) c.self.inside.position.own =
     c.image_of-image.ensures ∙ ap (image_of (g.B.Geometry.shape.image c.in-Some.symmetry)) c.own-own.ensures.points in
     rw at (image_few g.B.Geometry.shape g.B.Geometry.POINTS (omega (arith, g.met.B.Geometry.few)) g.met.B.Geometry.point_count g.met.B.Geometry.has_symmetries (in_pair c.self.inside.pair.now c.self.inside.position) c.self.inside.returning c.self.invariant c.args.from c.args.to c.requires.start vacant end c.leads_of-start.result.2 c.common-carrying.result leads c.common-carrying.ensures c.in-Some.symmetry inside)
+
+pub rank_outside-requires-clause-apart : goal.rank_outside-requires-clause-apart
+rank_outside-requires-clause-apart g c =
+    let end : has c.self.inside.position.other c.args.to ≡ true = ap (λ (q : InPair). has q.position.other c.args.to) c.self.view_is ∙ c.requires.end in
+    let vacant : not (has c.self.inside.position.own c.args.from || has c.self.inside.position.other c.args.from) ≡ true =
+    ap (λ (q : InPair). not (has q.position.own c.args.from || has q.position.other c.args.from)) c.self.view_is ∙ c.requires.vacant in
+    let mover : c.with-mover.result ≡ (taken_back c.self.inside.position c.args.from c.args.to).own =
+    c.with-mover.ensures ∙ ap (λ x. with_point x c.args.from) (c.without.ensures ∙ ap (λ x. without_point x c.args.to) c.other.ensures.points) in
+    let leads : AreLeading g.B.Geometry.shape (taken_back c.self.inside.position c.args.from c.args.to).own c.leads_of-start.result.2 = rw mover at c.leads_of-start.ensures.symmetries in
+    let items : c.into_iter-symmetry-iterator.result ≡ c.common-carrying.result = c.into_iter-symmetry-iterator.ensures.into_iter_gives ∙ c.iter-symmetry-items.ensures.points in
+    let inside : has c.common-carrying.result c.in-Some.symmetry ≡ true =
+    member_has c.common-carrying.result c.in-Some.symmetry c.loop-symmetry.yielded _ _ (c.loop-symmetry.invariant.split ∙ ap members items) c.in-Some.ensures.steps in
+    let at : c.image_of-image.result ≡ image_of (g.B.Geometry.shape.image c.in-Some.symmetry) c.self.inside.position.own =
+    c.image_of-image.ensures ∙ ap (image_of (g.B.Geometry.shape.image c.in-Some.symmetry)) c.own-own.ensures.points in
+    rw (at, c.leads_of-start.ensures.representative, mover) (image_apart g.B.Geometry.shape g.B.Geometry.POINTS (omega (arith, g.met.B.Geometry.few)) g.met.B.Geometry.point_count g.met.B.Geometry.has_symmetries (in_pair c.self.inside.pair.now c.self.inside.position) c.self.inside.returning c.self.invariant c.args.from c.args.to c.requires.start vacant end c.leads_of-start.result.2 c.common-carrying.result leads c.common-carrying.ensures c.in-Some.symmetry inside)
 
 pub overflow_add-start : goal.overflow_add-start
 overflow_add-start g c =
@@ -96,7 +111,7 @@ overflow_add-start g c =
     member_has c.common-carrying.result c.in-Some.symmetry c.loop-symmetry.yielded _ _ (c.loop-symmetry.invariant.split ∙ ap members items) c.in-Some.ensures.steps in
     let at : c.image_of-image.result ≡ image_of (g.B.Geometry.shape.image c.in-Some.symmetry) c.self.inside.position.own =
     c.image_of-image.ensures ∙ ap (image_of (g.B.Geometry.shape.image c.in-Some.symmetry)) c.own-own.ensures.points in
-    rw (c.rank.ensures, at, c.leads_of-start.ensures.representative, mover)
+    rw (c.rank_outside.ensures, at, c.leads_of-start.ensures.representative, mover)
     (omega (arith, c.leads_of-start.ensures.few, entry_few g.B.Geometry.shape g.B.Geometry.POINTS (omega (arith, g.met.B.Geometry.few)) g.met.B.Geometry.point_count g.met.B.Geometry.has_symmetries (in_pair c.self.inside.pair.now c.self.inside.position) c.self.inside.returning c.self.invariant c.args.from c.args.to c.requires.start vacant end c.leads_of-start.result.2 c.common-carrying.result leads c.common-carrying.ensures c.in-Some.symmetry inside))
 
 pub loop-symmetry-preserved : goal.loop-symmetry-preserved
@@ -112,8 +127,8 @@ loop-symmetry-preserved g c =
     member_has c.common-carrying.result c.in-Some.symmetry c.loop-symmetry.yielded _ _ (c.loop-symmetry.invariant.split ∙ ap members items) c.in-Some.ensures.steps in
     let at : c.image_of-image.result ≡ image_of (g.B.Geometry.shape.image c.in-Some.symmetry) c.self.inside.position.own =
     c.image_of-image.ensures ∙ ap (image_of (g.B.Geometry.shape.image c.in-Some.symmetry)) c.own-own.ensures.points in
-    let entry : c.leads_of-start.result.0 + c.rank.result ≡ class_index_of g.B.Geometry.shape g.B.Geometry.POINTS c.self.inside.pair.now (image_sides (g.B.Geometry.shape.image c.in-Some.symmetry) (taken_back c.self.inside.position c.args.from c.args.to)) =
-    rw (c.rank.ensures, at, c.leads_of-start.ensures.start, c.leads_of-start.ensures.representative, c.own-own.ensures.points, mover)
+    let entry : c.leads_of-start.result.0 + c.rank_outside.result ≡ class_index_of g.B.Geometry.shape g.B.Geometry.POINTS c.self.inside.pair.now (image_sides (g.B.Geometry.shape.image c.in-Some.symmetry) (taken_back c.self.inside.position c.args.from c.args.to)) =
+    rw (c.rank_outside.ensures, at, c.leads_of-start.ensures.start, c.leads_of-start.ensures.representative, c.own-own.ensures.points, mover)
     (entry_is g.B.Geometry.shape g.B.Geometry.POINTS (omega (arith, g.met.B.Geometry.few)) g.met.B.Geometry.point_count g.met.B.Geometry.has_symmetries (in_pair c.self.inside.pair.now c.self.inside.position) c.self.inside.returning c.self.invariant c.args.from c.args.to c.requires.start vacant end c.leads_of-start.result.2 c.common-carrying.result leads c.common-carrying.ensures c.in-Some.symmetry inside) in
     record {
       split = split_after c.loop-symmetry.yielded _ c.in-Some.symmetry _ _ c.in-Some.ensures.steps c.loop-symmetry.invariant.split;

@@ -1,0 +1,17 @@
+use Rattle.std.proofs.Common.{◌∙◌, ap, map, arith}
+use Rattle.morris_board.specs.Sets.{members}
+use Rattle.morris_index.specs.Numbering.{rank_of, number_outside}
+use Rattle.morris_index.proofs.Squeezing.{squeezed-24, squeezed-few, squeezed-rank}
+use Rattle.morris_index.proofs.ranks.rank_outside.Goals as goal
+
+pub rank-requires-clause-board : goal.rank-requires-clause-board
+rank-requires-clause-board c = rw c.squeezed.ensures (squeezed-24 c.args.outside c.args.set c.requires.apart 24 (omega arith))
+
+pub rank-requires-clause-few : goal.rank-requires-clause-few
+rank-requires-clause-few c = rw c.squeezed.ensures (squeezed-few c.args.outside c.args.set c.requires.apart c.requires.board c.requires.few)
+
+pub returns : goal.returns
+returns c =
+    c.rank.ensures
+    ∙ ap (λ s. rank_of (map (number_outside 0) (members s))) c.squeezed.ensures
+    ∙ squeezed-rank c.args.outside c.args.set c.requires.apart c.requires.board

@@ -1,0 +1,19 @@
+-- Sets of points read part by part, six points at a time.
+use Rattle.std.specs.Prelude.{ℕ, ◌+◌, ◌*◌, ◌^◌, ◌&&◌, not, if◌then◌else◌}
+use Rattle.morris_board.specs.Sets.{has}
+use Rattle.morris_index.specs.Numbering.{number_outside}
+use Rattle.morris_index.specs.Sums.{total, sum_below}
+
+-- the mask of a point's number outside a set, and 0 for a point that isn't in `set` or is in
+-- `outside`
+abbrev pub weight : ℕ → ℕ → ℕ → ℕ
+weight outside set p = if has set p && not (has outside p) then 2 ^ number_outside outside p else 0
+
+-- the numbers outside a set of the points of another below n, as a set
+unfoldable pub squeezed_below : ℕ → ℕ → ℕ → ℕ
+squeezed_below outside set n = total (weight outside set) n
+
+-- What the points of a part add to a rank, where the part's point i is the point 6 * part + i and
+-- `place` points of the set stand below the part.
+unfoldable pub part_rank : ℕ → ℕ → ℕ → ℕ
+part_rank part place points = sum_below points (λ i. 6 * part + i) (place + 1) 6
