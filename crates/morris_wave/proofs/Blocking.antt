@@ -11,10 +11,11 @@ use Rattle.morris_wave.specs.Exits.{is_odd}
 use Rattle.morris_wave.specs.Waves.{is_fresh}
 use Rattle.morris_wave.specs.Solving.{every, none}
 use Rattle.morris_wave.specs.Keeping.{StretchHolds, Takes, left_of}
+use Rattle.morris_wave.specs.Counts.{AreFew}
 use Rattle.morris_wave.specs.Blocks.{Parts, IsCut, first_of, block_of, IsIn, BlockState, BlockHolds, is_complete, in_applied, count_of, first_wave, next_wave_of}
 use Rattle.morris_wave.specs.Batches.{BatchState, BatchHolds}
 use Rattle.morris_wave.proofs.Parts.{known_won_cong, known_lost_cong}
-use Rattle.morris_wave.proofs.Stretches.{take_enough, take_holds, next_holds, holds_same, first_holds}
+use Rattle.morris_wave.proofs.Stretches.{take_enough, take_few, due_enough, due_few, take_holds, next_holds, holds_same, first_holds}
 
 or_false : (t : Bool) → t ≡ (t || false)
 or_false true = refl
@@ -34,10 +35,10 @@ first_of-le c law k l =
     omega (arith, below)
 
 -- before the first wave
-pub make_holds : (g : Net) (law : IsNet g) (level number first : ℕ) (cut : Parts) (codes counters : List ℕ) (due : List (List ℕ)) (last_due : ℕ) → IsCut cut → g.size ≡ cut.size → number < cut.blocks
-    → first ≡ first_of cut number → length codes ≡ count_of (first_wave level cut number) → StretchHolds g 0 every first codes counters due last_due
-    → BlockHolds g (first_wave level cut number) first codes counters due last_due
-make_holds g law level number first cut codes counters due last_due is_cut size inside first_is count_is kept = record {
+pub make_holds : (g : Net) (law : IsNet g) (level number first : ℕ) (cut : Parts) (codes counters : List ℕ) (due : List (List ℕ)) (last_due most : ℕ) → IsCut cut → g.size ≡ cut.size → number < cut.blocks
+    → first ≡ first_of cut number → length codes ≡ count_of (first_wave level cut number) → StretchHolds g 0 every first codes counters due last_due → AreFew g first (length codes) most
+    → BlockHolds g (first_wave level cut number) first codes counters due last_due most
+make_holds g law level number first cut codes counters due last_due most is_cut size inside first_is count_is kept few = record {
   cut = is_cut;
   size = size;
   number = inside;
@@ -46,9 +47,10 @@ make_holds g law level number first cut codes counters due last_due is_cut size 
   first_is = first_is;
   count_is = count_is;
   kept = first_holds g law every (in_applied (first_wave level cut number)) first codes counters due last_due kept;
+  few = few;
 }
 
-module _ (g : Net) (law : IsNet g) (s : BlockState) (first : ℕ) (codes counters : List ℕ) (due : List (List ℕ)) (last_due : ℕ) (h : BlockHolds g s first codes counters due last_due) where
+module _ (g : Net) (law : IsNet g) (s : BlockState) (first : ℕ) (codes counters : List ℕ) (due : List (List ℕ)) (last_due : ℕ) {most : ℕ} (h : BlockHolds g s first codes counters due last_due most) where
   -- the nodes of the block are those of the stretch
   pub inside_low : (i : ℕ) → IsIn s.cut s.number i → first ≤ i
   inside_low i inside = omega (arith, inside.0, h.first_is)
@@ -78,6 +80,9 @@ module _ (g : Net) (law : IsNet g) (s : BlockState) (first : ℕ) (codes counter
     pub apply_enough : is_odd s.wave ≡ false → (k : ℕ) → k < length codes → times (first + k) b.nodes ≤ left_of (get_or counters k 0)
     apply_enough even k l = take_enough g law s.wave (in_applied s) first codes counters due last_due h.kept (λ j. eqb (block_of s.cut j) b.source) b.nodes taken apart even k l
 
+    pub apply_few : is_odd s.wave ≡ false → (k : ℕ) → k < length codes → most ≤ 255 → times (first + k) b.nodes ≤ get_or counters k 0
+    apply_few even k l le = take_few g law s.wave (in_applied s) first codes counters due last_due h.kept (λ j. eqb (block_of s.cut j) b.source) b.nodes taken apart even k l (omega (arith, h.few k l, le))
+
     source_in : b.source < length s.applied
     source_in = omega (arith, hb.source, h.sources, ap (λ c. c.blocks) cut)
 
@@ -91,7 +96,7 @@ module _ (g : Net) (law : IsNet g) (s : BlockState) (first : ℕ) (codes counter
         (cases_eq (block_of s.cut j) b.source)
 
     pub apply_holds : (codes' counters' : List ℕ) → length codes' ≡ length codes → length counters' ≡ length counters → ((k : ℕ) → k < length counters' → get_or counters' k 0 < 65536)
-        → Takes s.wave first b.nodes codes codes' counters counters' → BlockHolds g (record s { applied = set s.applied b.source true }) first codes' counters' due last_due
+        → Takes s.wave first b.nodes codes codes' counters counters' → BlockHolds g (record s { applied = set s.applied b.source true }) first codes' counters' due last_due most
     apply_holds codes' counters' codes_len counters_len small takes = record {
       cut = h.cut;
       size = h.size;
@@ -105,6 +110,7 @@ module _ (g : Net) (law : IsNet g) (s : BlockState) (first : ℕ) (codes counter
           (in_applied (record s { applied = set s.applied b.source true }))
           (λ j l. known_won_cong g s.wave (λ i. in_applied s i || eqb (block_of s.cut i) b.source) (in_applied (record s { applied = set s.applied b.source true })) j (joins j))
           (λ j l. known_lost_cong g s.wave (λ i. in_applied s i || eqb (block_of s.cut i) b.source) (in_applied (record s { applied = set s.applied b.source true })) j (joins j));
+      few = λ k l. h.few k (omega (arith, codes_len, l));
     }
 
   -- a complete wave
@@ -117,6 +123,12 @@ module _ (g : Net) (law : IsNet g) (s : BlockState) (first : ℕ) (codes counter
         holds_same g law s.wave (in_applied s) first codes counters due last_due h.kept every
         (λ j l. known_won_cong g s.wave (in_applied s) every j (all_applied j l)) (λ j l. known_lost_cong g s.wave (in_applied s) every j (all_applied j l))
 
+    pub advance_enough : s.wave < 65534 → (k : ℕ) → k < length codes → times (first + k) (list_at due (s.wave + 1)) ≤ left_of (get_or counters k 0)
+    advance_enough last k l = due_enough g law s.wave first codes counters due last_due complete_holds last k l
+
+    pub advance_few : s.wave < 65534 → is_odd (s.wave + 1) ≡ false → (k : ℕ) → k < length codes → most ≤ 255 → times (first + k) (list_at due (s.wave + 1)) ≤ get_or counters k 0
+    advance_few last even k l le = due_few g law s.wave first codes counters due last_due complete_holds last even k l (omega (arith, h.few k l, le))
+
     none_applied : (j : ℕ) → none j ≡ in_applied (next_wave_of s) j
     none_applied j =
         ⊎_elim
@@ -126,7 +138,7 @@ module _ (g : Net) (law : IsNet g) (s : BlockState) (first : ℕ) (codes counter
 
     pub advance_holds : s.wave < 65534 → (codes' counters' : List ℕ) → length codes' ≡ length codes → length counters' ≡ length counters
         → ((k : ℕ) → k < length counters' → get_or counters' k 0 < 65536) → Takes (s.wave + 1) first (list_at due (s.wave + 1)) codes codes' counters counters'
-        → BlockHolds g (next_wave_of s) first codes' counters' due last_due
+        → BlockHolds g (next_wave_of s) first codes' counters' due last_due most
     advance_holds last codes' counters' codes_len counters_len small comes = record {
       cut = h.cut;
       size = h.size;
@@ -139,6 +151,7 @@ module _ (g : Net) (law : IsNet g) (s : BlockState) (first : ℕ) (codes counter
           (next_holds g law s.wave first codes counters due last_due complete_holds last codes' counters' codes_len counters_len small comes)
           (in_applied (next_wave_of s))
           (λ j l. known_won_cong g (s.wave + 1) none (in_applied (next_wave_of s)) j (none_applied j)) (λ j l. known_lost_cong g (s.wave + 1) none (in_applied (next_wave_of s)) j (none_applied j));
+      few = λ k l. h.few k (omega (arith, codes_len, l));
     }
 
 -- every element was overwritten

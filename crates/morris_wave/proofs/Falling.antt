@@ -1,5 +1,5 @@
 -- Counters of 16 bits that fall, and the nodes that are spent.
-use Rattle.std.proofs.Common.{◌≡◌, ℕ, ◌+◌, ◌-◌, ◌%◌, ◌<◌, ◌≤◌, Bool, true, false, ◌&&◌, ◌||◌, cond, eqb, List, length, get_or, set, take, refl, sym, ap, ap₂, ◌∙◌, subst, ⊎_elim, arith, get_or-set_other, get_or-set_same}
+use Rattle.std.proofs.Common.{◌≡◌, ℕ, ◌+◌, ◌-◌, ◌%◌, ◌<◌, ◌≤◌, Bool, true, false, ◌&&◌, ◌||◌, cond, eqb, List, length, get_or, set, take, refl, sym, ap, ap₂, ◌∙◌, subst, ⊎_elim, arith, get_or-set_other, get_or-set_same, length-set}
 use Rattle.std.proofs.lemmas.Bool.{and_left, and_right, cond-true, cond-false, eq-eqb, ne_eqb, cases_eq, cases_lt, le-ltb}
 use Rattle.std.proofs.lemmas.List.Sums.{sum_by-take-le}
 use Rattle.morris_wave.specs.Nets.{times}
@@ -43,6 +43,22 @@ module _ (e : ℕ → ℕ) (nodes : List ℕ) (i node place : ℕ) (inside : i <
       (sym (some_counted (λ x. eqb x (e place)) (take i nodes)) ∙ le-ltb 0 (times (e place) (take i nodes)) none_yet))
       (cases_lt 0 (times (e place) (take i nodes)))
 
+  -- a counter that falls once more has a fall left
+  pub falls_left : (left : ℕ → ℕ) → ((count : ℕ) → left count ≤ left_of count) → ((count : ℕ) → 0 < count → left count ≡ left_of count)
+      → times (e place) nodes ≤ left (get_or old place 0) → 0 < left (get_or mid place 0)
+  falls_left left less same enough =
+      let le : times (e place) (take (i + 1) nodes) ≤ times (e place) nodes = sum_by-take-le (λ x. cond {A = ℕ} (eqb x (e place)) 1 0) nodes (i + 1) in
+      ⊎_elim
+      (λ (some : 0 < get_or mid place 0). omega (arith, same (get_or mid place 0) some))
+      (λ (none : get_or mid place 0 ≤ 0).
+      ⊎_elim
+      (λ (some : 0 < get_or old place 0). absurd (omega (arith, none, some, h place l, le, times_here, enough, same (get_or old place 0) some)))
+      (λ (nothing : get_or old place 0 ≤ 0).
+      let alike : left (get_or old place 0) ≡ left (get_or mid place 0) = ap left (omega (arith, none, nothing)) in
+      omega (arith, alike, le, times_here, enough))
+      (cases_lt 0 (get_or old place 0)))
+      (cases_lt 0 (get_or mid place 0))
+
   -- so each is closed as it is spent
   pub spent_more : (codes mcodes ncodes : List ℕ) (code now : ℕ) (ready : Bool) → 0 < code → length mcodes ≡ length codes → length codes ≡ length old
       → times (e place) nodes ≤ left_of (get_or old place 0)
@@ -77,6 +93,16 @@ module _ (e : ℕ → ℕ) (nodes : List ℕ) (i node place : ℕ) (inside : i <
       or_false_and true true = refl
       or_false_and true false = refl
       or_false_and false q = refl
+
+-- one counter more that is small
+pub small_set : (counters : List ℕ) (place now : ℕ) → ((k : ℕ) → k < length counters → get_or counters k 0 < 65536) → now < 65536
+    → (k : ℕ) → k < length (set counters place now) → get_or (set counters place now) k 0 < 65536
+small_set counters place now small fits k l =
+    let len : length (set counters place now) ≡ length counters = length-set counters place now in
+    ⊎_elim
+    (λ e. subst (λ x. get_or (set counters place now) x 0 < 65536) e (omega (arith, fits, get_or-set_same counters place now 0 (omega (arith, e, l, len)))))
+    (λ e. omega (arith, get_or-set_other counters place k now 0 (λ z. e (sym z)), small k (omega (arith, l, len))))
+    (cases_eq place k)
 
 -- the place of a node of a block
 pub node_place : (first node : ℕ) → first ≤ node → (k : ℕ) → eqb (node - first) k ≡ eqb node (first + k)

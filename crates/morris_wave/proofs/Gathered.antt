@@ -179,7 +179,7 @@ all_places blocks k places e h = record {
 }
 
 -- the entries of a complete block
-pub entries_are : (g : Net) (law : IsNet g) (s : BlockState) (first : ℕ) (codes counters : List ℕ) (due : List (List ℕ)) (last_due : ℕ) (h : BlockHolds g s first codes counters due last_due) → is_complete s ≡ true
+pub entries_are : (g : Net) (law : IsNet g) (s : BlockState) (first : ℕ) (codes counters : List ℕ) (due : List (List ℕ)) (last_due : ℕ) {most : ℕ} (h : BlockHolds g s first codes counters due last_due most) → is_complete s ≡ true
     → (k : ℕ) → k < count_of s → get_or codes k 0 ≡ code_within g (s.wave + 1) (first_node s + k)
 entries_are g law s first codes counters due last_due h complete k l =
     codes_within g law s.wave first codes counters due last_due (complete_holds g law s first codes counters due last_due h complete) k (omega (arith, h.count_is, l))

@@ -16,6 +16,7 @@ pub mod Steps
 pub mod Placing
 pub mod Ranks
 pub mod DueLists
+pub mod Widths
 pub mod Falling
 pub mod Stretches
 pub mod Readings

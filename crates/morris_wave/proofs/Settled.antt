@@ -36,7 +36,7 @@ three_kinds (c ∷ cs) =
         at true = refl
         at false = refl
 
-module _ (g : Net) (law : IsNet g) (s : BlockState) (first : ℕ) (codes counters : List ℕ) (due : List (List ℕ)) (last_due : ℕ) (h : BlockHolds g s first codes counters due last_due) where
+module _ (g : Net) (law : IsNet g) (s : BlockState) (first : ℕ) (codes counters : List ℕ) (due : List (List ℕ)) (last_due : ℕ) {most : ℕ} (h : BlockHolds g s first codes counters due last_due most) where
   low : (i : ℕ) → IsIn s.cut s.number i → first ≤ i
   low i inside = inside_low g law s first codes counters due last_due h i inside
 

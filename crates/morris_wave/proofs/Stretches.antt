@@ -28,6 +28,10 @@ plus_one m = omega arith
 pending-le : (g : Net) (law : IsNet g) (n : ℕ) (a : ℕ → Bool) (i : ℕ) → i < g.size → pending_at g n a i ≤ 65536
 pending-le g law n a i l = omega (arith, law.few i l, count_by-le-length (λ j. not (known_won g n a j)) (g.quiet i), waits-le n (exits_won n (exits_of (g.exits i))))
 
+-- and fits a byte where a node has few quiet results
+few_pending : (g : Net) (n : ℕ) (a : ℕ → Bool) (i : ℕ) → length (g.quiet i) < 255 → pending_at g n a i ≤ 255
+few_pending g n a i few = omega (arith, few, count_by-le-length (λ j. not (known_won g n a j)) (g.quiet i), waits-le n (exits_won n (exits_of (g.exits i))))
+
 due_same : (wave n : ℕ) → n ≤ 65534 → 0 < n → eqb (due_within wave) n ≡ eqb wave n
 due_same wave n le pos =
     ⊎_elim
@@ -100,6 +104,10 @@ module _ (g : Net) (law : IsNet g) (n : ℕ) (a : ℕ → Bool) (first : ℕ) (c
     -- no counter falls more often than it may
     pub take_enough : is_odd n ≡ false → (k : ℕ) → k < length codes → times (first + k) nodes ≤ left_of (get_or counters k 0)
     take_enough even k l = omega (arith, h.counters_are k l, falls even k l, pending-le g law n a (first + k) (node_in k l))
+
+    -- nor one of 8 bits
+    pub take_few : is_odd n ≡ false → (k : ℕ) → k < length codes → length (g.quiet (first + k)) < 255 → times (first + k) nodes ≤ get_or counters k 0
+    take_few even k l few = omega (arith, h.counters_are k l, falls even k l, few_pending g n a (first + k) few)
 
     is_behind : (i : ℕ) → ltb 0 (times i nodes) ≡ among nodes i
     is_behind i = some_counted (λ y. eqb y i) nodes
@@ -179,6 +187,21 @@ module _ (g : Net) (law : IsNet g) (n first : ℕ) (codes counters : List ℕ) (
       some_if : (t : Bool) → ltb 0 (cond {A = ℕ} t 1 0) ≡ t
       some_if true = lt-ltb 0 1 (omega arith)
       some_if false = le-ltb 0 0 (omega arith)
+
+  -- no counter falls more often than it may as exits come due
+  due_once : (k : ℕ) → k < length codes → times (first + k) (list_at due (n + 1)) ≤ 1
+  due_once k l = omega (arith, often_due k l, at_most (eqb (due_wave (exits_of (g.exits (first + k)))) (suc n)))
+    where
+      at_most : (t : Bool) → cond {A = ℕ} t 1 0 ≤ 1
+      at_most true = omega arith
+      at_most false = omega arith
+
+  pub due_enough : (k : ℕ) → k < length codes → times (first + k) (list_at due (n + 1)) ≤ left_of (get_or counters k 0)
+  due_enough k l = omega (arith, due_once k l)
+
+  pub due_few : is_odd (n + 1) ≡ false → (k : ℕ) → k < length codes → length (g.quiet (first + k)) < 255 → times (first + k) (list_at due (n + 1)) ≤ get_or counters k 0
+  due_few even k l few =
+      omega (arith, often_due k l, even_pending_next g n (first + k) (ap is_odd (sym (plus_one n)) ∙ even), h.counters_are k l, few_pending g n every (first + k) few)
 
   module _ (codes' counters' : List ℕ) (codes_len : length codes' ≡ length codes) (counters_len : length counters' ≡ length counters) (small : (k : ℕ) → k < length counters' → get_or counters' k 0 < 65536)
       (comes : Takes (n + 1) first (list_at due (n + 1)) codes codes' counters counters') where

@@ -15,7 +15,7 @@ use Rattle.morris_wave.proofs.Marking.{among_more, times_more}
 use Rattle.morris_wave.proofs.Parts.{known_won_cong, known_lost_cong, known_won_covered, known_lost_covered}
 use Rattle.morris_wave.proofs.Ranks.{stretch_inside, stretch_once}
 use Rattle.morris_wave.proofs.Settling.{IsQuiet, quiet_codes, not_too_deep}
-use Rattle.morris_wave.proofs.Stretches.{take_enough, take_holds, holds_same, fresh_once, codes_within, no_depth, new_depth, due_by}
+use Rattle.morris_wave.proofs.Stretches.{take_enough, take_few, take_holds, holds_same, fresh_once, codes_within, no_depth, new_depth, due_by}
 
 -- the nodes of the wave's stretch of the list are the fresh ones
 pub fresh_listed : (g : Net) (law : IsNet g) (n : ℕ) (a : ℕ → Bool) (codes counters : List ℕ) (due : List (List ℕ)) (last_due : ℕ) → StretchHolds g n a 0 codes counters due last_due → length codes ≡ g.size
@@ -86,6 +86,9 @@ module _ (g : Net) (n : ℕ) (fresh : List ℕ) (listed : ListsFresh g n fresh) 
 
       pub spread_enough : is_odd n ≡ false → (k : ℕ) → k < length codes → times (first + k) nodes ≤ left_of (get_or counters k 0)
       spread_enough even k l = take_enough g law n (among (take i fresh)) first codes counters due last_due h (λ j. eqb node j) nodes taken apart_from even k l
+
+      pub spread_few : is_odd n ≡ false → (k : ℕ) → k < length codes → length (g.quiet (first + k)) < 255 → times (first + k) nodes ≤ get_or counters k 0
+      spread_few even k l few = take_few g law n (among (take i fresh)) first codes counters due last_due h (λ j. eqb node j) nodes taken apart_from even k l few
 
       pub spread_more : (codes' counters' : List ℕ) → length codes' ≡ length codes → length counters' ≡ length counters → ((k : ℕ) → k < length counters' → get_or counters' k 0 < 65536)
           → Takes n first nodes codes codes' counters counters' → StretchHolds g n (among (take (i + 1) fresh)) first codes' counters' due last_due

@@ -6,6 +6,7 @@ use Rattle.morris_wave.specs.Nets.{Net}
 use Rattle.morris_wave.specs.Values.{HasDepth}
 use Rattle.morris_wave.specs.Waves.{entry_at}
 use Rattle.morris_wave.specs.Keeping.{StretchHolds}
+use Rattle.morris_wave.specs.Counts.{AreFew}
 
 -- so many nodes, cut into so many blocks
 pub record Parts : Type 0 where
@@ -56,7 +57,7 @@ abbrev pub count_of : BlockState → ℕ
 count_of s = first_of s.cut (s.number + 1) - first_of s.cut s.number
 
 -- A block holds, at every moment, what its wave and its applied sources say.
-pub record BlockHolds (g : Net) (s : BlockState) (first : ℕ) (codes counters : List ℕ) (due : List (List ℕ)) (last_due : ℕ) : Type 0 where
+pub record BlockHolds (g : Net) (s : BlockState) (first : ℕ) (codes counters : List ℕ) (due : List (List ℕ)) (last_due most : ℕ) : Type 0 where
   pub cut : IsCut s.cut
   pub size : g.size ≡ s.cut.size
   pub number : s.number < s.cut.blocks
@@ -65,6 +66,8 @@ pub record BlockHolds (g : Net) (s : BlockState) (first : ℕ) (codes counters :
   pub first_is : first ≡ first_node s
   pub count_is : length codes ≡ count_of s
   pub kept : StretchHolds g s.wave (in_applied s) first codes counters due last_due
+  -- each node has fewer quiet results than the counters are for
+  pub few : AreFew g first (length codes) most
 
 -- What every block keeps, whatever is done with it: it is one of a cut of its graph into at most
 -- 1,024 blocks, at one of the waves from 0 to 65,534.

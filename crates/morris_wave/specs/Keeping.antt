@@ -39,7 +39,8 @@ pub record Ranked (first wave : ℕ) (codes decided : List ℕ) (before here : �
   pub last : (p : ℕ) → before ≤ p → p < here → code_of first codes (slice_index decided p) ≡ wave
   pub this : (p : ℕ) → here ≤ p → p < length decided → code_of first codes (slice_index decided p) ≡ wave + 1
 
--- The nodes from `first` on whose wave is n stand once each in the list of n; the list of 0 is empty.
+-- The nodes from `first` on whose wave is n stand once each in the list of n; the list of 0 is
+-- empty.
 pub record ListsDue (f : ℕ → ℕ) (first count : ℕ) (due : List (List ℕ)) : Type 0 where
   pub inside : (n : ℕ) → All (λ i. (first ≤ i) × (i < first + count)) (list_at due n)
   pub once : (n k : ℕ) → k < count → times (first + k) (list_at due n) ≡ (if nat_lt 0 n && (f k == n) then 1 else 0)
@@ -52,10 +53,10 @@ left_of counter = (counter + 65535) % 65536 + 1
 abbrev pub LowersBy : (ℕ → ℕ) → List ℕ → List ℕ → List ℕ → Type 0
 LowersBy number old new list = (k : ℕ) → k < length old → (slice_index new k + times (number k) list) % 65536 ≡ slice_index old k
 
--- Nodes with a result that is known since this wave were taken in, each as often as it has one: those
--- that lead to fresh nodes, or those whose exits come due. At an odd wave these results are lost, and
--- the nodes are won. At an even wave they are won: the counters fall, and a node is lost as its
--- counter is spent.
+-- Nodes with a result that is known since this wave were taken in, each as often as it has one:
+-- those that lead to fresh nodes, or those whose exits come due. At an odd wave these results are
+-- lost, and the nodes are won. At an even wave they are won: the counters fall, and a node is lost
+-- as its counter is spent.
 pub record Takes (n first : ℕ) (nodes codes codes' counters counters' : List ℕ) : Type 0 where
   pub odd : is_odd n ≡ true → Marks codes codes' (λ k. among nodes (first + k)) (n + 1) × (counters' ≡ counters)
   pub even : is_odd n ≡ false → LowersBy (λ k. first + k) counters counters' nodes × Marks codes codes' (λ k. among nodes (first + k) && slice_index counters' k == 0) (n + 1)

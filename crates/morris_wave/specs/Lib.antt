@@ -7,6 +7,7 @@ pub mod Values
 pub mod Waves
 pub mod Solving
 pub mod Keeping
+pub mod Counts
 pub mod Blocks
 pub mod Batches
 pub mod Answering

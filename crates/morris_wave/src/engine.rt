@@ -125,9 +125,10 @@ impl<N: Levels, L: NodeList> Drop for Batch<N, L> {
 /// every quiet result is known and won. A result is known where its depth is at most `n - 2`, or is
 /// `n - 1` and its block is applied. A decided node's entry is its code, an open node's is 0.
 ///
-/// A block keeps 4 bytes a node, and lists of the kind `L` of the nodes that are decided and of those
-/// that come due by their exits: of 8 bytes for each, or of 4 where all nodes of the graph are below
-/// 2^32. Room for all of them is taken in `make`; that of nodes which aren't decided is never used.
+/// A block keeps 3 bytes a node, or 4 where some node of it has more than 254 quiet results, and
+/// lists of the kind `L` of the nodes that are decided and of those that come due by their exits:
+/// of 8 bytes for each, or of 4 where all nodes of the graph are below 2^32. Room for all of them
+/// is taken in `make`; that of nodes which aren't decided is never used.
 pub struct Block<N: Levels, L: NodeList = Vec<u64>> {
     level: u64,
     pub(crate) cut: Cut,
@@ -139,6 +140,7 @@ pub struct Block<N: Levels, L: NodeList = Vec<u64>> {
 
 impl<N: Levels, L: NodeList> Model for Block<N, L> {
     ghost use Rattle.morris_wave.specs.Blocks.{BlockState, BlockHolds};
+    ghost use Rattle.morris_wave.specs.Counts.{counts_of, most_of};
 
     ghost Value = { BlockState };
 
@@ -146,7 +148,7 @@ impl<N: Levels, L: NodeList> Model for Block<N, L> {
 
     ghost invariant = { λ b. BlockHolds (N.net b.level)
         (record { level = b.level; cut = b.cut; number = b.number; wave = b.kept.entries.wave; applied = b.applied.items })
-        b.kept.entries.first b.kept.entries.entries.codes.items b.kept.counters.items b.kept.due b.kept.last_due };
+        b.kept.entries.first b.kept.entries.entries.codes.items (counts_of b.kept.counters) b.kept.due b.kept.last_due (most_of b.kept.counters) };
 }
 
 impl<N: Levels, L: NodeList> Drop for Block<N, L> {
@@ -244,8 +246,8 @@ impl<N: Levels, L: NodeList> Block<N, L> {
     /// The block `number` of a graph at wave 0, before the first wave, where every source counts as
     /// applied.
     ///
-    /// The cut is of the graph's size, and has such a block. Lists of the kind `L` have room for each
-    /// node of the graph.
+    /// The cut is of the graph's size, and has such a block. Lists of the kind `L` have room for
+    /// each node of the graph.
     ///
     /// # Errors
     ///

@@ -4,8 +4,10 @@ ghost use Rattle.std.specs.List.{All};
 ghost use Rattle.morris_wave.specs.Nets.{times};
 ghost use Rattle.morris_wave.specs.Exits.{is_odd};
 ghost use Rattle.morris_wave.specs.Solving.{Marks, among};
-ghost use Rattle.morris_wave.specs.Keeping.{LowersBy, Takes, left_of};
+ghost use Rattle.morris_wave.specs.Keeping.{LowersBy, Takes};
+ghost use Rattle.morris_wave.specs.Counts.{counts_of, most_of, left_at, FallsLike};
 
+use crate::counters::{CounterList, Counters};
 use crate::listed::Listed;
 use crate::nodes::NodeList;
 
@@ -29,27 +31,33 @@ fn win_all<L: NodeList, B: NodeList>(entries: &mut Listed<L>, nodes: &B)
 
 // Lowers the counter of each node of the list, once for each place there, and closes it as it is
 // spent.
-fn lower_all<L: NodeList, B: NodeList>(entries: &mut Listed<L>, counters: &mut Vec<u16>, nodes: &B)
+fn lower_all<L: NodeList, B: NodeList, C: CounterList>(
+    entries: &mut Listed<L>,
+    counters: &mut C,
+    nodes: &B,
+)
     requires inside { All (λ i. (entries.old.first ≤ i) × (i < entries.old.first + vec_len entries.old.entries.codes)) (B.items nodes.now) }
-    requires counters { vec_len counters.old ≡ vec_len entries.old.entries.codes }
-    requires enough { (k : ℕ) → k < vec_len counters.old → times (entries.old.first + k) (B.items nodes.now) ≤ left_of (slice_index counters.old.items k) }
+    requires counters { length (C.counts counters.old) ≡ vec_len entries.old.entries.codes }
+    requires small { (k : ℕ) → k < length (C.counts counters.old) → slice_index (C.counts counters.old) k < 65536 }
+    requires falls { FallsLike C.left }
+    requires enough { (k : ℕ) → k < length (C.counts counters.old) → times (entries.old.first + k) (B.items nodes.now) ≤ C.left (slice_index (C.counts counters.old) k) }
     ensures len { vec_len entries.new.entries.codes ≡ vec_len entries.old.entries.codes }
-    ensures counters_len { vec_len counters.new ≡ vec_len counters.old }
+    ensures counters_len { length (C.counts counters.new) ≡ length (C.counts counters.old) }
     ensures first { entries.new.first ≡ entries.old.first }
     ensures wave { entries.new.wave ≡ entries.old.wave }
     ensures before { entries.new.before ≡ entries.old.before }
     ensures here { entries.new.here ≡ entries.old.here }
     ensures list { take entries.old.here (L.items entries.new.decided) ≡ take entries.old.here (L.items entries.old.decided) }
-    ensures lowered { LowersBy (λ k. entries.old.first + k) counters.old.items counters.new.items (B.items nodes.now) }
+    ensures small { (k : ℕ) → k < length (C.counts counters.new) → slice_index (C.counts counters.new) k < 65536 }
+    ensures lowered { LowersBy (λ k. entries.old.first + k) (C.counts counters.old) (C.counts counters.new) (B.items nodes.now) }
     ensures codes { Marks entries.old.entries.codes.items entries.new.entries.codes.items
-        (λ k. among (B.items nodes.now) (entries.old.first + k) && (slice_index counters.new.items k == 0)) (entries.old.wave + 1) }
+        (λ k. among (B.items nodes.now) (entries.old.first + k) && (slice_index (C.counts counters.new) k == 0)) (entries.old.wave + 1) }
 {
     for at in 0..nodes.count() {
         let node = nodes.node(at);
         let place = node - entries.first;
-        let counter = counters[place as usize].wrapping_sub(1);
-        counters[place as usize] = counter;
-        entries.mark(place, counter == 0);
+        let spent = counters.lower(place as usize);
+        entries.mark(place, spent);
     }
 }
 
@@ -57,27 +65,32 @@ fn lower_all<L: NodeList, B: NodeList>(entries: &mut Listed<L>, counters: &mut V
 // exits come due at it.
 pub(crate) fn take_in<L: NodeList, B: NodeList>(
     entries: &mut Listed<L>,
-    counters: &mut Vec<u16>,
+    counters: &mut Counters,
     nodes: &B,
 )
     requires inside { All (λ i. (entries.old.first ≤ i) × (i < entries.old.first + vec_len entries.old.entries.codes)) (B.items nodes.now) }
-    requires counters { vec_len counters.old ≡ vec_len entries.old.entries.codes }
+    requires counters { length (counts_of counters.old) ≡ vec_len entries.old.entries.codes }
+    requires small { (k : ℕ) → k < length (counts_of counters.old) → slice_index (counts_of counters.old) k < 65536 }
     requires enough { is_odd entries.old.wave ≡ false
-        → (k : ℕ) → k < vec_len counters.old → times (entries.old.first + k) (B.items nodes.now) ≤ left_of (slice_index counters.old.items k) }
+        → (k : ℕ) → k < length (counts_of counters.old) → times (entries.old.first + k) (B.items nodes.now) ≤ left_at counters.old k }
     ensures len { vec_len entries.new.entries.codes ≡ vec_len entries.old.entries.codes }
-    ensures counters_len { vec_len counters.new ≡ vec_len counters.old }
+    ensures counters_len { length (counts_of counters.new) ≡ length (counts_of counters.old) }
+    ensures most { most_of counters.new ≡ most_of counters.old }
     ensures first { entries.new.first ≡ entries.old.first }
     ensures wave { entries.new.wave ≡ entries.old.wave }
     ensures before { entries.new.before ≡ entries.old.before }
     ensures here { entries.new.here ≡ entries.old.here }
     ensures list { take entries.old.here (L.items entries.new.decided) ≡ take entries.old.here (L.items entries.old.decided) }
-    ensures small { (k : ℕ) → k < length counters.new.items → slice_index counters.new.items k < 65536 }
+    ensures small { (k : ℕ) → k < length (counts_of counters.new) → slice_index (counts_of counters.new) k < 65536 }
     ensures taken { Takes entries.old.wave entries.old.first (B.items nodes.now) entries.old.entries.codes.items entries.new.entries.codes.items
-        counters.old.items counters.new.items }
+        (counts_of counters.old) (counts_of counters.new) }
 {
     if entries.wave % 2 == 1 {
         win_all(entries, nodes);
     } else {
-        lower_all(entries, counters, nodes);
+        match counters {
+            Counters::Bytes(list) => lower_all(entries, list, nodes),
+            Counters::Words(list) => lower_all(entries, list, nodes),
+        }
     }
 }

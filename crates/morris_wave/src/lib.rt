@@ -4,6 +4,7 @@
 //! node.
 #![tactic(auto)]
 
+mod counters;
 mod delivery;
 mod division;
 mod due;

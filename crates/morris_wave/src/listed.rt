@@ -40,8 +40,8 @@ impl Counted {
 
 // The entries of the nodes from `first` on at a wave, and the decided nodes in order of their
 // codes. Those from the place `before` up to, not including, `here` have the code of the wave;
-// those behind it got theirs at this wave. There is room for every node; what isn't used of it takes
-// no memory, as long as the system hands out pages at their first use.
+// those behind it got theirs at this wave. There is room for every node; what isn't used of it
+// takes no memory, as long as the system hands out pages at their first use.
 #[derive(Drop)]
 pub(crate) struct Listed<L: NodeList> {
     pub(crate) first: u64,

@@ -4,8 +4,10 @@ ghost use Rattle.std.specs.List.{All, list_any};
 ghost use Rattle.morris_wave.specs.Nets.{times};
 ghost use Rattle.morris_wave.specs.Lists.{list_at};
 ghost use Rattle.morris_wave.specs.Exits.{is_odd};
-ghost use Rattle.morris_wave.specs.Keeping.{Takes, left_of};
+ghost use Rattle.morris_wave.specs.Keeping.{Takes};
+ghost use Rattle.morris_wave.specs.Counts.{counts_of, most_of, left_at};
 
+use crate::counters::Counters;
 use crate::due::Due;
 use crate::falls;
 use crate::listed::Listed;
@@ -17,10 +19,11 @@ use crate::nodes::NodeList;
 #[derive(Drop)]
 pub(crate) struct Stretch<L: NodeList> {
     pub(crate) entries: Listed<L>,
-    pub(crate) counters: Vec<u16>,
+    pub(crate) counters: Counters,
     pub(crate) due: Due<L>,
     pub(crate) last_due: u32,
-    ghost counted: { vec_len counters ≡ vec_len entries.entries.codes },
+    ghost counted: { length (counts_of counters) ≡ vec_len entries.entries.codes },
+    ghost small: { (k : ℕ) → k < length (counts_of counters) → slice_index (counts_of counters) k < 65536 },
     ghost inside: { (n : ℕ) → All (λ i. (entries.first ≤ i) × (i < entries.first + vec_len entries.entries.codes)) (list_at due n) },
     ghost once: { (n k : ℕ) → k < vec_len entries.entries.codes → times (entries.first + k) (list_at due n) ≤ 1 },
 }
@@ -30,7 +33,7 @@ impl<L: NodeList> Stretch<L> {
     pub(crate) fn take_in<B: NodeList>(&mut self, nodes: &B)
         requires inside { All (λ i. (self.old.entries.first ≤ i) × (i < self.old.entries.first + vec_len self.old.entries.entries.codes)) (B.items nodes.now) }
         requires enough { is_odd self.old.entries.wave ≡ false → (k : ℕ) → k < vec_len self.old.entries.entries.codes
-            → times (self.old.entries.first + k) (B.items nodes.now) ≤ left_of (slice_index self.old.counters.items k) }
+            → times (self.old.entries.first + k) (B.items nodes.now) ≤ left_at self.old.counters k }
         ensures len { vec_len self.new.entries.entries.codes ≡ vec_len self.old.entries.entries.codes }
         ensures first { self.new.entries.first ≡ self.old.entries.first }
         ensures wave { self.new.entries.wave ≡ self.old.entries.wave }
@@ -39,24 +42,26 @@ impl<L: NodeList> Stretch<L> {
         ensures list { take self.old.entries.here (L.items self.new.entries.decided) ≡ take self.old.entries.here (L.items self.old.entries.decided) }
         ensures due { self.new.due ≡ self.old.due }
         ensures last_due { self.new.last_due ≡ self.old.last_due }
-        ensures small { (k : ℕ) → k < length self.new.counters.items → slice_index self.new.counters.items k < 65536 }
+        ensures most { most_of self.new.counters ≡ most_of self.old.counters }
         ensures taken { Takes self.old.entries.wave self.old.entries.first (B.items nodes.now)
-            self.old.entries.entries.codes.items self.new.entries.entries.codes.items self.old.counters.items self.new.counters.items }
+            self.old.entries.entries.codes.items self.new.entries.entries.codes.items (counts_of self.old.counters) (counts_of self.new.counters) }
     {
         falls::take_in(&mut self.entries, &mut self.counters, nodes);
     }
 
     // Goes on to the next wave, and takes in what comes due at it.
     pub(crate) fn next_wave(&mut self)
-        requires { self.old.entries.wave < 65534 }
+        requires last { self.old.entries.wave < 65534 }
+        requires enough { is_odd (self.old.entries.wave + 1) ≡ false → (k : ℕ) → k < vec_len self.old.entries.entries.codes
+            → times (self.old.entries.first + k) (list_at self.old.due (self.old.entries.wave + 1)) ≤ left_at self.old.counters k }
         ensures len { vec_len self.new.entries.entries.codes ≡ vec_len self.old.entries.entries.codes }
         ensures first { self.new.entries.first ≡ self.old.entries.first }
         ensures wave { self.new.entries.wave ≡ self.old.entries.wave + 1 }
         ensures due { self.new.due ≡ self.old.due }
         ensures last_due { self.new.last_due ≡ self.old.last_due }
-        ensures small { (k : ℕ) → k < length self.new.counters.items → slice_index self.new.counters.items k < 65536 }
+        ensures most { most_of self.new.counters ≡ most_of self.old.counters }
         ensures comes { Takes (self.old.entries.wave + 1) self.old.entries.first (list_at self.old.due (self.old.entries.wave + 1))
-            self.old.entries.entries.codes.items self.new.entries.entries.codes.items self.old.counters.items self.new.counters.items }
+            self.old.entries.entries.codes.items self.new.entries.entries.codes.items (counts_of self.old.counters) (counts_of self.new.counters) }
     {
         self.entries.next_wave();
         let nodes = self.due.at(self.entries.wave);

@@ -8,4 +8,4 @@ invariant-loop-piece g l =
     × (l.reading.entries.first ≡ l.initial.reading.entries.first)
     × (l.reading.entries.wave ≡ 0)
     × (length l.exits ≡ 1024)
-    × HasRead (g.G.Name.Levels.net (g.G.Graph.level l.graph)) l.initial.reading.entries.first (min (l.piece * 1024) (vec_len l.initial.reading.entries.entries.codes)) l.reading.entries.entries.codes.items l.reading.counters.items l.reading.waves.items l.reading.last_due
+    × HasRead (g.G.Name.Levels.net (g.G.Graph.level l.graph)) l.initial.reading.entries.first (min (l.piece * 1024) (vec_len l.initial.reading.entries.entries.codes)) l.reading.entries.entries.codes.items (g.C.CounterList.counts l.reading.counters) l.reading.waves.items l.reading.last_due

@@ -7,4 +7,4 @@ invariant-loop-place g l =
     (vec_len l.reading.entries.entries.codes ≡ vec_len l.initial.reading.entries.entries.codes)
     × (l.reading.entries.first ≡ l.initial.reading.entries.first)
     × (l.reading.entries.wave ≡ 0)
-    × HasRead (g.G.Name.Levels.net (g.G.Graph.level l.graph)) l.initial.reading.entries.first (l.from + l.place) l.reading.entries.entries.codes.items l.reading.counters.items l.reading.waves.items l.reading.last_due
+    × HasRead (g.G.Name.Levels.net (g.G.Graph.level l.graph)) l.initial.reading.entries.first (l.from + l.place) l.reading.entries.entries.codes.items (g.C.CounterList.counts l.reading.counters) l.reading.waves.items l.reading.last_due

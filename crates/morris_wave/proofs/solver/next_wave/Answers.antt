@@ -1,8 +1,11 @@
-use Rattle.std.proofs.Common.{ℕ, ◌+◌, List, sym, subst, arith}
+use Rattle.std.proofs.Common.{◌≡◌, ℕ, ◌+◌, ◌<◌, ◌≤◌, List, length, sym, subst, arith}
 use Rattle.morris_wave.specs.Lists.{list_at}
 use Rattle.morris_wave.specs.Solving.{none}
 use Rattle.morris_wave.specs.Keeping.{StretchHolds, Takes}
-use Rattle.morris_wave.proofs.Stretches.{next_holds}
+use Rattle.morris_wave.specs.Counts.{counts_of, most_of, left_at}
+use Rattle.morris_wave.specs.Nets.{times}
+use Rattle.morris_wave.proofs.Widths.{left_enough}
+use Rattle.morris_wave.proofs.Stretches.{next_holds, due_enough, due_few}
 use Rattle.morris_wave.proofs.solver.next_wave.Goals as goal
 
 pub spread-requires-clause-start : goal.spread-requires-clause-start
@@ -14,11 +17,26 @@ spread-requires-clause-start g c = λ _ _.
     let made = c.next_wave.ensures in
     let new = c.next_wave.new.self in
     let codes' = new.entries.entries.codes in
-    let holds = next_holds net law old.entries.wave 0 codes.items old.counters.items old.due old.last_due c.requires.start c.requires.wave
-    codes'.items new.counters.items
+    let holds = next_holds net law old.entries.wave 0 codes.items (counts_of old.counters) old.due old.last_due c.requires.start c.requires.wave
+    codes'.items (counts_of new.counters)
     (omega (arith, made.len, codes.ok.0, codes'.ok.0))
-    (omega (arith, new.counted, old.counted, made.len, new.counters.ok.0, old.counters.ok.0)) made.small
-    (subst (λ (f : ℕ). Takes (old.entries.wave + 1) f (list_at old.due (old.entries.wave + 1)) codes.items codes'.items old.counters.items new.counters.items) c.requires.first made.comes) in
-    subst (λ (w : ℕ). StretchHolds net w none 0 codes'.items new.counters.items new.due new.last_due) (sym made.wave)
-    (subst (λ (xs : List (List ℕ)). StretchHolds net (old.entries.wave + 1) none 0 codes'.items new.counters.items xs new.last_due) (sym made.due)
-    (subst (λ (d : ℕ). StretchHolds net (old.entries.wave + 1) none 0 codes'.items new.counters.items old.due d) (sym made.last_due) holds))
+    (omega (arith, new.counted, old.counted, made.len)) new.small
+    (subst (λ (f : ℕ). Takes (old.entries.wave + 1) f (list_at old.due (old.entries.wave + 1)) codes.items codes'.items (counts_of old.counters) (counts_of new.counters)) c.requires.first made.comes) in
+    subst (λ (w : ℕ). StretchHolds net w none 0 codes'.items (counts_of new.counters) new.due new.last_due) (sym made.wave)
+    (subst (λ (xs : List (List ℕ)). StretchHolds net (old.entries.wave + 1) none 0 codes'.items (counts_of new.counters) xs new.last_due) (sym made.due)
+    (subst (λ (d : ℕ). StretchHolds net (old.entries.wave + 1) none 0 codes'.items (counts_of new.counters) old.due d) (sym made.last_due) holds))
+
+pub next_wave-requires-clause-enough : goal.next_wave-requires-clause-enough
+next_wave-requires-clause-enough g c =
+    let net = g.G.Name.Levels.net (g.G.Graph.level c.args.graph.now) in
+    let law = g.G.Name.Levels.lawful (g.G.Graph.level c.args.graph.now) in
+    let old = c.args.whole.now in
+    let codes = old.entries.entries.codes in
+    λ even k l.
+    let place : k < length codes.items = omega (arith, l, codes.ok.0) in
+    let size : length codes.items ≡ net.size = omega (arith, c.requires.len, codes.ok.0) in
+    subst (λ (f : ℕ). times (f + k) (list_at old.due (old.entries.wave + 1)) ≤ left_at old.counters k) (sym c.requires.first)
+    (left_enough old.counters k (times (0 + k) (list_at old.due (old.entries.wave + 1)))
+    (due_enough net law old.entries.wave 0 codes.items (counts_of old.counters) old.due old.last_due c.requires.start c.requires.wave k place)
+    (λ le. due_few net law old.entries.wave 0 codes.items (counts_of old.counters) old.due old.last_due c.requires.start c.requires.wave even k place
+    (omega (arith, c.requires.few k (omega (arith, place, size)), le))))

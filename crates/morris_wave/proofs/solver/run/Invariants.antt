@@ -1,6 +1,7 @@
 use Rattle.std.proofs.Common.{◌≡◌, vec_len}
 use Rattle.morris_wave.specs.Solving.{every}
 use Rattle.morris_wave.specs.Keeping.{StretchHolds}
+use Rattle.morris_wave.specs.Counts.{counts_of, most_of}
 use Rattle.morris_wave.proofs.solver.run.Given as goal
 
 abbrev pub invariant-loop-done : goal.invariant-loop-done
@@ -8,4 +9,5 @@ invariant-loop-done g l =
     (l.whole.entries.wave ≡ l.done)
     × (l.whole.entries.first ≡ 0)
     × (vec_len l.whole.entries.entries.codes ≡ vec_len l.initial.whole.entries.entries.codes)
-    × StretchHolds (g.G.Name.Levels.net (g.G.Graph.level l.graph)) l.whole.entries.wave every 0 l.whole.entries.entries.codes.items l.whole.counters.items l.whole.due l.whole.last_due
+    × StretchHolds (g.G.Name.Levels.net (g.G.Graph.level l.graph)) l.whole.entries.wave every 0 l.whole.entries.entries.codes.items (counts_of l.whole.counters) l.whole.due l.whole.last_due
+    × (most_of l.whole.counters ≡ most_of l.initial.whole.counters)

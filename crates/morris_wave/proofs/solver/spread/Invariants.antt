@@ -1,6 +1,7 @@
 use Rattle.std.proofs.Common.{◌≡◌, ◌≤◌, ◌-◌, drop, take, vec_len}
 use Rattle.morris_wave.specs.Solving.{among}
 use Rattle.morris_wave.specs.Keeping.{StretchHolds}
+use Rattle.morris_wave.specs.Counts.{counts_of, most_of}
 use Rattle.morris_wave.proofs.solver.spread.Given as goal
 
 abbrev pub invariant-loop-place : goal.invariant-loop-place
@@ -14,4 +15,5 @@ invariant-loop-place g l =
     × (l.initial.whole.entries.before ≤ l.place)
     × StretchHolds (g.G.Name.Levels.net (g.G.Graph.level l.graph)) l.initial.whole.entries.wave
     (among (take (l.place - l.initial.whole.entries.before) (take (l.initial.whole.entries.here - l.initial.whole.entries.before) (drop l.initial.whole.entries.before (g.L.NodeList.items l.initial.whole.entries.decided))))) 0
-    l.whole.entries.entries.codes.items l.whole.counters.items l.whole.due l.whole.last_due
+    l.whole.entries.entries.codes.items (counts_of l.whole.counters) l.whole.due l.whole.last_due
+    × (most_of l.whole.counters ≡ most_of l.initial.whole.counters)

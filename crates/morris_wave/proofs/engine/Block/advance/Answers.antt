@@ -1,6 +1,10 @@
-use Rattle.std.proofs.Common.{◌≡◌, ◌<◌, ℕ, ◌+◌, Bool, false, true, List, replicate, sym, ap, subst, ◌∙◌, arith}
+use Rattle.std.proofs.Common.{◌≡◌, ◌<◌, ℕ, ◌+◌, Bool, false, true, List, length, replicate, sym, ap, subst, ◌∙◌, arith}
 use Rattle.morris_wave.specs.Blocks.{BlockState, BlockHolds, is_complete}
-use Rattle.morris_wave.proofs.Blocking.{advance_holds}
+use Rattle.morris_wave.specs.Counts.{counts_of, most_of}
+use Rattle.morris_wave.specs.Nets.{times}
+use Rattle.morris_wave.specs.Lists.{list_at}
+use Rattle.morris_wave.proofs.Widths.{left_enough}
+use Rattle.morris_wave.proofs.Blocking.{advance_enough, advance_few, advance_holds}
 use Rattle.morris_wave.proofs.engine.Block.advance.Goals as goal
 
 pub invariant_of-self : goal.invariant_of-self
@@ -16,14 +20,31 @@ invariant_of-self g c =
     let new = after.entries.entries.codes in
     let complete : is_complete s ≡ true = ap is_complete c.self.view_is ∙ (sym c.is_complete.ensures ∙ c.if-not-is_complete.false) in
     let early : s.wave < 65534 = omega (arith, c.self.invariant.wave, c.if-self.false) in
-    let holds = advance_holds net law s kept.entries.first codes.items kept.counters.items kept.due kept.last_due c.self.invariant complete early new.items after.counters.items
+    let holds = advance_holds net law s kept.entries.first codes.items (counts_of kept.counters) kept.due kept.last_due c.self.invariant complete early new.items (counts_of after.counters)
     (omega (arith, made.len, new.ok.0, codes.ok.0))
-    (omega (arith, after.counted, kept.counted, made.len, after.counters.ok.0, kept.counters.ok.0)) made.small made.comes in
+    (omega (arith, after.counted, kept.counted, made.len)) after.small made.comes in
     let none : c.clear.new.applied.items ≡ replicate inside.cut.blocks false =
     c.clear.ensures ∙ ap (λ (n : ℕ). replicate n false) (inside.applied.ok.0 ∙ c.self.invariant.sources) in
     let now : ℕ → List Bool → BlockState = λ w xs. record { level = inside.level; cut = inside.cut; number = inside.number; wave = w; applied = xs } in
-    subst (λ (w : ℕ). BlockHolds net (now w c.clear.new.applied.items) after.entries.first new.items after.counters.items after.due after.last_due) (sym made.wave)
-    (subst (λ (f : ℕ). BlockHolds net (now (kept.entries.wave + 1) c.clear.new.applied.items) f new.items after.counters.items after.due after.last_due) (sym made.first)
-    (subst (λ (xs : List (List ℕ)). BlockHolds net (now (kept.entries.wave + 1) c.clear.new.applied.items) kept.entries.first new.items after.counters.items xs after.last_due) (sym made.due)
-    (subst (λ (d : ℕ). BlockHolds net (now (kept.entries.wave + 1) c.clear.new.applied.items) kept.entries.first new.items after.counters.items kept.due d) (sym made.last_due)
-    (subst (λ (xs : List Bool). BlockHolds net (now (kept.entries.wave + 1) xs) kept.entries.first new.items after.counters.items kept.due kept.last_due) (sym none) holds))))
+    subst (λ (w : ℕ). BlockHolds net (now w c.clear.new.applied.items) after.entries.first new.items (counts_of after.counters) after.due after.last_due (most_of after.counters)) (sym made.wave)
+    (subst (λ (f : ℕ). BlockHolds net (now (kept.entries.wave + 1) c.clear.new.applied.items) f new.items (counts_of after.counters) after.due after.last_due (most_of after.counters)) (sym made.first)
+    (subst (λ (xs : List (List ℕ)). BlockHolds net (now (kept.entries.wave + 1) c.clear.new.applied.items) kept.entries.first new.items (counts_of after.counters) xs after.last_due (most_of after.counters)) (sym made.due)
+    (subst (λ (d : ℕ). BlockHolds net (now (kept.entries.wave + 1) c.clear.new.applied.items) kept.entries.first new.items (counts_of after.counters) kept.due d (most_of after.counters)) (sym made.last_due)
+    (subst (λ (m : ℕ). BlockHolds net (now (kept.entries.wave + 1) c.clear.new.applied.items) kept.entries.first new.items (counts_of after.counters) kept.due kept.last_due m) (sym made.most)
+    (subst (λ (xs : List Bool). BlockHolds net (now (kept.entries.wave + 1) xs) kept.entries.first new.items (counts_of after.counters) kept.due kept.last_due (most_of kept.counters)) (sym none) holds)))))
+
+pub next_wave-requires-clause-enough : goal.next_wave-requires-clause-enough
+next_wave-requires-clause-enough g c =
+    let inside = c.self.inside in
+    let kept = inside.kept in
+    let net = g.N.Levels.net inside.level in
+    let law = g.N.Levels.lawful inside.level in
+    let codes = kept.entries.entries.codes in
+    let s : BlockState = record { level = inside.level; cut = inside.cut; number = inside.number; wave = kept.entries.wave; applied = inside.applied.items } in
+    let complete : is_complete s ≡ true = ap is_complete c.self.view_is ∙ (sym c.is_complete.ensures ∙ c.if-not-is_complete.false) in
+    let early : s.wave < 65534 = omega (arith, c.self.invariant.wave, c.if-self.false) in
+    λ even k l.
+    let place : k < length codes.items = omega (arith, l, codes.ok.0) in
+    left_enough kept.counters k (times (kept.entries.first + k) (list_at kept.due (kept.entries.wave + 1)))
+    (advance_enough net law s kept.entries.first codes.items (counts_of kept.counters) kept.due kept.last_due c.self.invariant complete early k place)
+    (advance_few net law s kept.entries.first codes.items (counts_of kept.counters) kept.due kept.last_due c.self.invariant complete early even k place)

@@ -1,8 +1,11 @@
-use Rattle.std.proofs.Common.{◌≡◌, ◌<◌, ℕ, Bool, false, true, List, get_or, set, length, sym, ap, subst, ◌∙◌, arith}
+use Rattle.std.proofs.Common.{◌≡◌, ◌<◌, ℕ, ◌+◌, Bool, false, true, List, get_or, set, length, sym, ap, subst, ◌∙◌, arith}
 use Rattle.std.proofs.lemmas.List.{get_or_read}
 use Rattle.morris_wave.specs.Blocks.{BlockState, BlockHolds}
 use Rattle.morris_wave.specs.Batches.{BatchState, BatchHolds}
-use Rattle.morris_wave.proofs.Blocking.{same_parts, batch_inside, apply_enough, apply_holds}
+use Rattle.morris_wave.specs.Counts.{counts_of, most_of}
+use Rattle.morris_wave.specs.Nets.{times}
+use Rattle.morris_wave.proofs.Widths.{left_enough}
+use Rattle.morris_wave.proofs.Blocking.{same_parts, batch_inside, apply_enough, apply_few, apply_holds}
 use Rattle.morris_wave.proofs.engine.Block.apply.Goals as goal
 
 pub take_in-requires-clause-inside : goal.take_in-requires-clause-inside
@@ -22,7 +25,7 @@ take_in-requires-clause-inside g c =
     sym {A = Bool} (get_or_read inside.applied.items batch.source c.index.result.now source c.index.ensures false) ∙ c.if-index.false in
     λ p d l.
     let at =
-    (batch_inside net law s kept.entries.first codes.items kept.counters.items kept.due kept.last_due c.self.invariant b hb cut c.if-batch-self-2.false c.if-batch-self-3.false open_source) p d l in
+    (batch_inside net law s kept.entries.first codes.items (counts_of kept.counters) kept.due kept.last_due c.self.invariant b hb cut c.if-batch-self-2.false c.if-batch-self-3.false open_source) p d l in
     (at.0, omega (arith, at.1, codes.ok.0))
 
 pub take_in-requires-clause-enough : goal.take_in-requires-clause-enough
@@ -41,7 +44,10 @@ take_in-requires-clause-enough g c =
     let open_source : get_or inside.applied.items batch.source false ≡ false =
     sym {A = Bool} (get_or_read inside.applied.items batch.source c.index.result.now source c.index.ensures false) ∙ c.if-index.false in
     λ even k l.
-    (apply_enough net law s kept.entries.first codes.items kept.counters.items kept.due kept.last_due c.self.invariant b hb cut c.if-batch-self-2.false c.if-batch-self-3.false open_source even k (omega (arith, l, codes.ok.0)))
+    let place : k < length codes.items = omega (arith, l, codes.ok.0) in
+    left_enough kept.counters k (times (kept.entries.first + k) b.nodes)
+    (apply_enough net law s kept.entries.first codes.items (counts_of kept.counters) kept.due kept.last_due c.self.invariant b hb cut c.if-batch-self-2.false c.if-batch-self-3.false open_source even k place)
+    (apply_few net law s kept.entries.first codes.items (counts_of kept.counters) kept.due kept.last_due c.self.invariant b hb cut c.if-batch-self-2.false c.if-batch-self-3.false open_source even k place)
 
 pub invariant_of-self : goal.invariant_of-self
 invariant_of-self g c =
@@ -62,12 +68,13 @@ invariant_of-self g c =
     let made = c.take_in.ensures in
     let new = after.entries.entries.codes in
     let takes = made.taken in
-    let holds = apply_holds net law s kept.entries.first codes.items kept.counters.items kept.due kept.last_due c.self.invariant b hb cut c.if-batch-self-2.false c.if-batch-self-3.false open_source
-    new.items after.counters.items
+    let holds = apply_holds net law s kept.entries.first codes.items (counts_of kept.counters) kept.due kept.last_due c.self.invariant b hb cut c.if-batch-self-2.false c.if-batch-self-3.false open_source
+    new.items (counts_of after.counters)
     (omega (arith, made.len, new.ok.0, codes.ok.0))
-    (omega (arith, after.counted, kept.counted, made.len, after.counters.ok.0, kept.counters.ok.0)) made.small takes in
+    (omega (arith, after.counted, kept.counted, made.len)) after.small takes in
     let now : ℕ → BlockState = λ w. record { level = inside.level; cut = inside.cut; number = inside.number; wave = w; applied = set inside.applied.items batch.source true } in
-    subst (λ (w : ℕ). BlockHolds net (now w) after.entries.first new.items after.counters.items after.due after.last_due) (sym made.wave)
-    (subst (λ (f : ℕ). BlockHolds net (now kept.entries.wave) f new.items after.counters.items after.due after.last_due) (sym made.first)
-    (subst (λ (xs : List (List ℕ)). BlockHolds net (now kept.entries.wave) kept.entries.first new.items after.counters.items xs after.last_due) (sym made.due)
-    (subst (λ (d : ℕ). BlockHolds net (now kept.entries.wave) kept.entries.first new.items after.counters.items kept.due d) (sym made.last_due) holds)))
+    subst (λ (w : ℕ). BlockHolds net (now w) after.entries.first new.items (counts_of after.counters) after.due after.last_due (most_of after.counters)) (sym made.wave)
+    (subst (λ (f : ℕ). BlockHolds net (now kept.entries.wave) f new.items (counts_of after.counters) after.due after.last_due (most_of after.counters)) (sym made.first)
+    (subst (λ (xs : List (List ℕ)). BlockHolds net (now kept.entries.wave) kept.entries.first new.items (counts_of after.counters) xs after.last_due (most_of after.counters)) (sym made.due)
+    (subst (λ (d : ℕ). BlockHolds net (now kept.entries.wave) kept.entries.first new.items (counts_of after.counters) kept.due d (most_of after.counters)) (sym made.last_due)
+    (subst (λ (m : ℕ). BlockHolds net (now kept.entries.wave) kept.entries.first new.items (counts_of after.counters) kept.due kept.last_due m) (sym made.most) holds))))

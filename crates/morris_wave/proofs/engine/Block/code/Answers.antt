@@ -2,6 +2,7 @@ use Rattle.std.proofs.Common.{◌≡◌, ◌↔◌, false, sym, subst}
 use Rattle.morris_wave.specs.Values.{HasCode}
 use Rattle.morris_wave.specs.Waves.{is_decided_at, entry_at}
 use Rattle.morris_wave.specs.Blocks.{BlockState, IsIn, in_applied}
+use Rattle.morris_wave.specs.Counts.{counts_of}
 use Rattle.morris_wave.proofs.Settled.{code_value, code_exact, code_open}
 use Rattle.morris_wave.proofs.engine.Block.code.Goals as goal
 
@@ -15,7 +16,7 @@ returns-clause-value g c =
     let s : BlockState = record { level = inside.level; cut = inside.cut; number = inside.number; wave = kept.entries.wave; applied = inside.applied.items } in
     let within : IsIn s.cut s.number c.args.i = subst (λ (t : BlockState). IsIn t.cut t.number c.args.i) (sym c.self.view_is) c.requires in
     subst (λ (t : BlockState). c.index.result.now ≡ entry_at (g.N.Levels.net t.level) t.wave (in_applied t) c.args.i) c.self.view_is
-    (code_value net law s kept.entries.first codes.items kept.counters.items kept.due kept.last_due c.self.invariant c.args.i within c.index.result.now c.index.ensures)
+    (code_value net law s kept.entries.first codes.items (counts_of kept.counters) kept.due kept.last_due c.self.invariant c.args.i within c.index.result.now c.index.ensures)
 
 pub returns-clause-exact : goal.returns-clause-exact
 returns-clause-exact g c = λ some.
@@ -27,7 +28,7 @@ returns-clause-exact g c = λ some.
     let s : BlockState = record { level = inside.level; cut = inside.cut; number = inside.number; wave = kept.entries.wave; applied = inside.applied.items } in
     let within : IsIn s.cut s.number c.args.i = subst (λ (t : BlockState). IsIn t.cut t.number c.args.i) (sym c.self.view_is) c.requires in
     subst (λ (t : BlockState). HasCode (g.N.Levels.net t.level) c.args.i c.index.result.now) c.self.view_is
-    (code_exact net law s kept.entries.first codes.items kept.counters.items kept.due kept.last_due c.self.invariant c.args.i within c.index.result.now c.index.ensures some)
+    (code_exact net law s kept.entries.first codes.items (counts_of kept.counters) kept.due kept.last_due c.self.invariant c.args.i within c.index.result.now c.index.ensures some)
 
 pub returns-clause-undecided : goal.returns-clause-undecided
 returns-clause-undecided g c =
@@ -39,4 +40,4 @@ returns-clause-undecided g c =
     let s : BlockState = record { level = inside.level; cut = inside.cut; number = inside.number; wave = kept.entries.wave; applied = inside.applied.items } in
     let within : IsIn s.cut s.number c.args.i = subst (λ (t : BlockState). IsIn t.cut t.number c.args.i) (sym c.self.view_is) c.requires in
     subst (λ (t : BlockState). (c.index.result.now ≡ 0) ↔ (is_decided_at (g.N.Levels.net t.level) t.wave (in_applied t) c.args.i ≡ false)) c.self.view_is
-    (code_open net law s kept.entries.first codes.items kept.counters.items kept.due kept.last_due c.self.invariant c.args.i within c.index.result.now c.index.ensures)
+    (code_open net law s kept.entries.first codes.items (counts_of kept.counters) kept.due kept.last_due c.self.invariant c.args.i within c.index.result.now c.index.ensures)

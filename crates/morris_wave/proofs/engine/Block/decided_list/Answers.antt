@@ -4,6 +4,7 @@ use Rattle.std.specs.List.Sorted.{IsNonDecreasingBy}
 use Rattle.morris_wave.specs.Nets.{times}
 use Rattle.morris_wave.specs.Waves.{entry_at, is_decided_at}
 use Rattle.morris_wave.specs.Blocks.{BlockState, IsIn, in_applied}
+use Rattle.morris_wave.specs.Counts.{counts_of}
 use Rattle.morris_wave.proofs.Settled.{list_inside, list_once, list_order}
 use Rattle.morris_wave.proofs.engine.Block.decided_list.Goals as goal
 
@@ -17,7 +18,7 @@ returns-clause-inside g c =
     let s : BlockState = record { level = inside.level; cut = inside.cut; number = inside.number; wave = kept.entries.wave; applied = inside.applied.items } in
     let e = kept.entries in
     subst (λ (t : BlockState). All (IsIn t.cut t.number) (g.L.NodeList.items e.decided)) c.self.view_is
-    (list_inside net law s kept.entries.first codes.items kept.counters.items kept.due kept.last_due c.self.invariant e.wave e.before e.here (g.L.NodeList.items e.decided) e.ranked)
+    (list_inside net law s kept.entries.first codes.items (counts_of kept.counters) kept.due kept.last_due c.self.invariant e.wave e.before e.here (g.L.NodeList.items e.decided) e.ranked)
 
 pub returns-clause-once : goal.returns-clause-once
 returns-clause-once g c =
@@ -29,7 +30,7 @@ returns-clause-once g c =
     let s : BlockState = record { level = inside.level; cut = inside.cut; number = inside.number; wave = kept.entries.wave; applied = inside.applied.items } in
     let e = kept.entries in
     subst (λ (t : BlockState). (i : ℕ) → IsIn t.cut t.number i → times i (g.L.NodeList.items e.decided) ≡ cond {A = ℕ} (is_decided_at (g.N.Levels.net t.level) t.wave (in_applied t) i) 1 0) c.self.view_is
-    (list_once net law s kept.entries.first codes.items kept.counters.items kept.due kept.last_due c.self.invariant e.wave e.before e.here (g.L.NodeList.items e.decided) e.ranked)
+    (list_once net law s kept.entries.first codes.items (counts_of kept.counters) kept.due kept.last_due c.self.invariant e.wave e.before e.here (g.L.NodeList.items e.decided) e.ranked)
 
 pub returns-clause-order : goal.returns-clause-order
 returns-clause-order g c =
@@ -41,4 +42,4 @@ returns-clause-order g c =
     let s : BlockState = record { level = inside.level; cut = inside.cut; number = inside.number; wave = kept.entries.wave; applied = inside.applied.items } in
     let e = kept.entries in
     subst (λ (t : BlockState). IsNonDecreasingBy (entry_at (g.N.Levels.net t.level) t.wave (in_applied t)) (g.L.NodeList.items e.decided)) c.self.view_is
-    (list_order net law s kept.entries.first codes.items kept.counters.items kept.due kept.last_due c.self.invariant e.wave e.before e.here (g.L.NodeList.items e.decided) e.ranked)
+    (list_order net law s kept.entries.first codes.items (counts_of kept.counters) kept.due kept.last_due c.self.invariant e.wave e.before e.here (g.L.NodeList.items e.decided) e.ranked)

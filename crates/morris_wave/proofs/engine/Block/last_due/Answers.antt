@@ -1,5 +1,6 @@
 use Rattle.std.proofs.Common.{subst}
 use Rattle.morris_wave.specs.Blocks.{BlockState, IsLastDue}
+use Rattle.morris_wave.specs.Counts.{counts_of}
 use Rattle.morris_wave.proofs.Settled.{last_due_is}
 use Rattle.morris_wave.proofs.engine.Block.last_due.Goals as goal
 
@@ -11,4 +12,4 @@ returns g c =
     let law = g.N.Levels.lawful inside.level in
     let codes = kept.entries.entries.codes in
     let s : BlockState = record { level = inside.level; cut = inside.cut; number = inside.number; wave = kept.entries.wave; applied = inside.applied.items } in
-    subst (λ (t : BlockState). IsLastDue (g.N.Levels.net t.level) t kept.last_due) c.self.view_is (last_due_is net law s kept.entries.first codes.items kept.counters.items kept.due kept.last_due c.self.invariant)
+    subst (λ (t : BlockState). IsLastDue (g.N.Levels.net t.level) t kept.last_due) c.self.view_is (last_due_is net law s kept.entries.first codes.items (counts_of kept.counters) kept.due kept.last_due c.self.invariant)

@@ -2,6 +2,7 @@ use Rattle.std.proofs.Common.{◌≡◌, ◌+◌, ◌-◌, ℕ, eqb, ap, subst, 
 use Rattle.std.specs.List.{count_by}
 use Rattle.morris_wave.specs.Exits.{is_odd, is_won_code}
 use Rattle.morris_wave.specs.Blocks.{BlockState, count_of, entries_of}
+use Rattle.morris_wave.specs.Counts.{counts_of}
 use Rattle.morris_wave.proofs.Settled.{codes_entries, three_kinds}
 use Rattle.morris_wave.proofs.engine.Block.tallies.Goals as goal
 
@@ -30,7 +31,7 @@ returns-clause-won g c =
     let codes = kept.entries.entries.codes in
     let s : BlockState = record { level = inside.level; cut = inside.cut; number = inside.number; wave = kept.entries.wave; applied = inside.applied.items } in
     subst (λ (t : BlockState). kept.entries.entries.won ≡ count_by is_won_code (entries_of (g.N.Levels.net t.level) t)) c.self.view_is
-    (kept.entries.entries.won_counted ∙ ap (count_by is_won_code) (codes_entries net law s kept.entries.first codes.items kept.counters.items kept.due kept.last_due c.self.invariant))
+    (kept.entries.entries.won_counted ∙ ap (count_by is_won_code) (codes_entries net law s kept.entries.first codes.items (counts_of kept.counters) kept.due kept.last_due c.self.invariant))
 
 pub returns-clause-lost : goal.returns-clause-lost
 returns-clause-lost g c =
@@ -41,7 +42,7 @@ returns-clause-lost g c =
     let codes = kept.entries.entries.codes in
     let s : BlockState = record { level = inside.level; cut = inside.cut; number = inside.number; wave = kept.entries.wave; applied = inside.applied.items } in
     subst (λ (t : BlockState). kept.entries.entries.lost ≡ count_by is_odd (entries_of (g.N.Levels.net t.level) t)) c.self.view_is
-    (kept.entries.entries.lost_counted ∙ ap (count_by is_odd) (codes_entries net law s kept.entries.first codes.items kept.counters.items kept.due kept.last_due c.self.invariant))
+    (kept.entries.entries.lost_counted ∙ ap (count_by is_odd) (codes_entries net law s kept.entries.first codes.items (counts_of kept.counters) kept.due kept.last_due c.self.invariant))
 
 pub returns-clause-undecided : goal.returns-clause-undecided
 returns-clause-undecided g c =
@@ -55,4 +56,4 @@ returns-clause-undecided g c =
     let counted : c.len.result - (entries.won + entries.lost) ≡ count_by (λ (x : ℕ). eqb x 0) codes.items =
     omega (arith, entries.won_counted, entries.lost_counted, three_kinds codes.items, codes.ok.0, c.len.ensures) in
     subst (λ (t : BlockState). c.len.result - (entries.won + entries.lost) ≡ count_by (λ (x : ℕ). eqb x 0) (entries_of (g.N.Levels.net t.level) t)) c.self.view_is
-    (counted ∙ ap (count_by (λ (x : ℕ). eqb x 0)) (codes_entries net law s kept.entries.first codes.items kept.counters.items kept.due kept.last_due c.self.invariant))
+    (counted ∙ ap (count_by (λ (x : ℕ). eqb x 0)) (codes_entries net law s kept.entries.first codes.items (counts_of kept.counters) kept.due kept.last_due c.self.invariant))

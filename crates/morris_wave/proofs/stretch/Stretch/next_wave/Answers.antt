@@ -1,6 +1,8 @@
 use Rattle.std.proofs.Common.{◌≡◌, ◌<◌, ◌≤◌, ℕ, ◌+◌, List, length, slice_index_or, sym, ap, subst, ◌∙◌, vec_len, arith}
 use Rattle.morris_wave.specs.Nets.{times}
 use Rattle.morris_wave.specs.Lists.{list_at}
+use Rattle.morris_wave.specs.Exits.{is_odd}
+use Rattle.morris_wave.specs.Counts.{left_at}
 use Rattle.morris_wave.proofs.stretch.Stretch.next_wave.Goals as goal
 
 pub take_in-requires-clause-inside : goal.take_in-requires-clause-inside
@@ -14,11 +16,12 @@ take_in-requires-clause-inside g c =
 pub take_in-requires-clause-enough : goal.take_in-requires-clause-enough
 take_in-requires-clause-enough g c = λ even k l.
     let s = c.args.self.now in
-    let wave = c.next_wave.new.self.wave in
-    let once : times (c.next_wave.new.self.first + k) (g.L.NodeList.items c.at-nodes.result.now) ≤ 1 =
-    subst (λ (xs : List ℕ). times (c.next_wave.new.self.first + k) xs ≤ 1) (sym c.at-nodes.ensures)
-    (subst (λ (f : ℕ). times (f + k) (list_at s.due wave) ≤ 1) (sym c.next_wave.ensures.first) (s.once wave k (omega (arith, l, s.counted)))) in
-    omega (arith, once)
+    let wave : c.next_wave.new.self.wave ≡ s.entries.wave + 1 = c.next_wave.ensures.wave in
+    let place : k < vec_len s.entries.entries.codes = omega (arith, l, s.counted) in
+    subst (λ (xs : List ℕ). times (c.next_wave.new.self.first + k) xs ≤ left_at s.counters k) (sym c.at-nodes.ensures)
+    (subst (λ (w : ℕ). times (c.next_wave.new.self.first + k) (list_at s.due w) ≤ left_at s.counters k) (sym wave)
+    (subst (λ (f : ℕ). times (f + k) (list_at s.due (s.entries.wave + 1)) ≤ left_at s.counters k) (sym c.next_wave.ensures.first)
+    (c.requires.enough (ap is_odd (sym wave) ∙ even) k place)))
 
 pub invariant_of-self : goal.invariant_of-self
 invariant_of-self g c =
@@ -28,6 +31,7 @@ invariant_of-self g c =
     let len : vec_len c.take_in.new.entries.entries.codes ≡ vec_len s.entries.entries.codes = made.len ∙ ap vec_len c.next_wave.ensures.codes in
     record {
       counted = omega (arith, made.counters_len, len, s.counted);
+      small = made.small;
       inside = λ n p d l. let w = s.inside n p d l in (omega (arith, w.0, first), omega (arith, w.1, first, len));
       once = λ n k l. subst (λ (f : ℕ). times (f + k) (list_at s.due n) ≤ 1) (sym first) (s.once n k (omega (arith, l, len)));
     }

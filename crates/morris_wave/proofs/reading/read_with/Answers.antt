@@ -1,0 +1,50 @@
+use Rattle.std.proofs.Common.{◌≡◌, ◌+◌, ◌<◌, ◌≤◌, ℕ, List, length, slice_index, vec_len, sym, ap, subst, ◌∙◌, arith}
+use Rattle.morris_wave.specs.Nets.{times}
+use Rattle.morris_wave.specs.Lists.{list_at}
+use Rattle.morris_wave.specs.Keeping.{HasRead, ListsDue, StretchHolds}
+use Rattle.morris_wave.specs.Solving.{every}
+use Rattle.morris_wave.proofs.Readings.{read_all, due_once}
+use Rattle.morris_wave.proofs.reading.read_with.Goals as goal
+
+pub invariant_of-result : goal.invariant_of-result
+invariant_of-result g c =
+    let r = c.read_exits.new.reading in
+    let due = c.in_ok-due.due in
+    let listed : ListsDue (λ k. slice_index r.waves.items k) c.args.first (length r.waves.items) due =
+    subst (λ (xs : List ℕ). ListsDue (λ k. slice_index xs k) c.args.first (length xs) due) c.deref.ensures.value c.in_ok-due.ensures in
+    let many : length r.waves.items ≡ vec_len r.entries.entries.codes = omega (arith, r.waved, r.waves.ok.0) in
+    let first : r.entries.first ≡ c.args.first = c.read_exits.ensures.first ∙ c.in_ok-reading.ensures.first in
+    let net = g.G.Name.Levels.net (g.G.Graph.level c.args.graph.now) in
+    let codes = r.entries.entries.codes in
+    let before = c.in_ok-reading.reading in
+    let len : vec_len before.entries.entries.codes ≡ length codes.items = omega (arith, c.read_exits.ensures.len, codes.ok.0) in
+    let read : HasRead net c.args.first (length codes.items) codes.items (g.C.CounterList.counts r.counters) r.waves.items r.last_due =
+    subst (λ (n : ℕ). HasRead net c.args.first n codes.items (g.C.CounterList.counts r.counters) r.waves.items r.last_due) len
+    (subst (λ (f : ℕ). HasRead net f (vec_len before.entries.entries.codes) codes.items (g.C.CounterList.counts r.counters) r.waves.items r.last_due) c.in_ok-reading.ensures.first c.read_exits.ensures.read) in
+    record {
+      counted = ap length c.keep.ensures.counts ∙ r.counted;
+      small =
+          subst (λ (cs : List ℕ). (k : ℕ) → k < length cs → slice_index cs k < 65536) (sym c.keep.ensures.counts)
+          (λ k l. omega (arith, read.counters_are k (omega (arith, l, r.counted, codes.ok.0))));
+      inside = λ n k d l. let w = listed.inside n k d l in (omega (arith, w.0, first), omega (arith, w.1, first, many));
+      once = λ n k l.
+          subst (λ (f : ℕ). times (f + k) (list_at due n) ≤ 1) (sym first)
+          (due_once (λ j. slice_index r.waves.items j) c.args.first (length r.waves.items) due listed n k (omega (arith, l, many)));
+    }
+
+pub returns-clause-holds : goal.returns-clause-holds
+returns-clause-holds g c =
+    let net = g.G.Name.Levels.net (g.G.Graph.level c.args.graph.now) in
+    let before = c.in_ok-reading.reading in
+    let r = c.read_exits.new.reading in
+    let codes = r.entries.entries.codes in
+    let due = c.in_ok-due.due in
+    let listed : ListsDue (λ k. slice_index r.waves.items k) c.args.first (length r.waves.items) due =
+    subst (λ (xs : List ℕ). ListsDue (λ k. slice_index xs k) c.args.first (length xs) due) c.deref.ensures.value c.in_ok-due.ensures in
+    let len : vec_len before.entries.entries.codes ≡ length codes.items = omega (arith, c.read_exits.ensures.len, codes.ok.0) in
+    let read : HasRead net c.args.first (length codes.items) codes.items (g.C.CounterList.counts r.counters) r.waves.items r.last_due =
+    subst (λ (n : ℕ). HasRead net c.args.first n codes.items (g.C.CounterList.counts r.counters) r.waves.items r.last_due) len
+    (subst (λ (f : ℕ). HasRead net f (vec_len before.entries.entries.codes) codes.items (g.C.CounterList.counts r.counters) r.waves.items r.last_due) c.in_ok-reading.ensures.first c.read_exits.ensures.read) in
+    subst (λ (cs : List ℕ). StretchHolds net 0 every c.args.first codes.items cs due r.last_due) (sym c.keep.ensures.counts)
+    (read_all net c.args.first codes.items (g.C.CounterList.counts r.counters) r.waves.items due r.last_due read
+    (omega (arith, len, c.in_ok-reading.ensures.len, c.requires.end, c.requires.order)) (omega (arith, r.counted, codes.ok.0)) (omega (arith, r.waved, r.waves.ok.0, codes.ok.0)) listed)
