@@ -53,7 +53,7 @@ fn cut_into(size: u64, parts: u64) -> Cut
 }
 
 // Goes from wave to wave until all blocks are settled, and says at which wave they are. The watch
-// is told of each wave before it is run. What is sent lies in lists of the kind `L`.
+// is told of each wave before it is run.
 fn run_waves<
     L: NodeList + Send + Sync,
     G: Graph + Send + Sync,
@@ -65,7 +65,7 @@ fn run_waves<
     alloc: Global,
     graph: &G,
     gate: &A,
-    yard: &Yard<G::Name>,
+    yard: &Yard<G::Name, L>,
     shares: &Cut,
     watch: &mut W,
 ) -> Result<u16, SolveFault>
@@ -88,34 +88,8 @@ fn run_waves<
     Err(SolveFault::Missing(0))
 }
 
-// Goes through all waves, with lists of 32 bits a node where the graph has at most `short` nodes,
-// and of 64 bits otherwise.
-fn run_all<G: Graph + Send + Sync, A: Gate, R: Threads + Wait + Sync, W: Watch>(
-    rt: &R,
-    alloc: Global,
-    graph: &G,
-    gate: &A,
-    yard: &Yard<G::Name>,
-    shares: &Cut,
-    short: u64,
-    watch: &mut W,
-) -> Result<u16, SolveFault>
-    requires short { short ≤ 2 ^ 32 }
-    requires shared { shares.now.size ≡ yard.now }
-    requires blocks { (1 ≤ yard.now) × (yard.now ≤ 1024) }
-    requires workers { (1 ≤ shares.now.blocks) × (shares.now.blocks ≤ 64) }
-    ensures told { IfErr result (Tells (G.Name.net (G.level graph.now)) yard.now) }
-    ensures watched { W.becomes watch.old watch.new }
-{
-    if graph.size() <= short {
-        run_waves::<Vec<u32>, G, A, R, W>(rt, alloc, graph, gate, yard, shares, watch)
-    } else {
-        run_waves::<Vec<u64>, G, A, R, W>(rt, alloc, graph, gate, yard, shares, watch)
-    }
-}
-
 // The first block that isn't settled, or doesn't have the number of its place.
-fn first_unsettled<N: Levels>(blocks: &[Block<N>]) -> Option<usize>
+fn first_unsettled<N: Levels, L: NodeList>(blocks: &[Block<N, L>]) -> Option<usize>
     ensures none { IfNone result (All (λ s. IsSettled (N.net s.level) s) blocks.now) }
     ensures numbers { IfNone result (All (λ s. s.number < length blocks.now) blocks.now) }
     ensures found { IfSome result (λ place. place < length blocks.now) }
@@ -129,12 +103,12 @@ fn first_unsettled<N: Levels>(blocks: &[Block<N>]) -> Option<usize>
 }
 
 // The codes of all nodes, from the blocks at this wave.
-fn codes_of<N: Levels>(
+fn codes_of<N: Levels, L: NodeList>(
     alloc: Global,
     level: u64,
     wave: u16,
     cut: &Cut,
-    blocks: Vec<Block<N>>,
+    blocks: Vec<Block<N, L>>,
 ) -> Result<Vec<u16>, SolveFault>
     requires blocks { vec_len blocks ≡ cut.now.blocks }
     requires size { cut.now.size ≡ (N.net level).size }
@@ -145,6 +119,66 @@ fn codes_of<N: Levels>(
         return Err(SolveFault::Missing(place as u64));
     }
     Ok(gather_from(alloc, level, wave, cut, blocks)?)
+}
+
+// The codes of all nodes, by a worker for each share of the blocks of a cut. Blocks keep and
+// batches carry lists of the kind `L`.
+fn solve_as<
+    L: NodeList + Send + Sync,
+    G: Graph + Send + Sync,
+    A: Gate,
+    R: Threads + Wait + Sync,
+    W: Watch,
+>(
+    rt: &R,
+    alloc: Global,
+    graph: &G,
+    gate: &A,
+    cut: &Cut,
+    shares: &Cut,
+    watch: &mut W,
+) -> Result<Vec<u16>, SolveFault>
+    requires size { cut.now.size ≡ (G.Name.net (G.level graph.now)).size }
+    requires short { cut.now.size ≤ L.limit }
+    requires shares { shares.now.size ≡ cut.now.blocks }
+    requires workers { shares.now.blocks ≤ 64 }
+    ensures codes { IfOk result (AreCodes (G.Name.net (G.level graph.now))) }
+    ensures told { IfErr result (Tells (G.Name.net (G.level graph.now)) cut.now.blocks) }
+    ensures watched { W.becomes watch.old watch.new }
+{
+    // The proof learns here that there are some blocks and workers.
+    let _numbers = (cut.blocks(), shares.blocks());
+    let made = make_blocks::<L, G, R>(rt, alloc, graph, cut, shares)?;
+    let yard = Yard::new(alloc, made)?;
+    let wave = run_waves::<L, G, A, R, W>(rt, alloc, graph, gate, &yard, shares, watch)?;
+    codes_of(alloc, graph.level(), wave, cut, yard.into_blocks())
+}
+
+// The same, with lists of 32 bits a node where the graph has at most `short` nodes, and of 64 bits
+// otherwise.
+fn solve_in<G: Graph + Send + Sync, A: Gate, R: Threads + Wait + Sync, W: Watch>(
+    rt: &R,
+    alloc: Global,
+    graph: &G,
+    gate: &A,
+    cut: &Cut,
+    shares: &Cut,
+    short: u64,
+    watch: &mut W,
+) -> Result<Vec<u16>, SolveFault>
+    requires size { cut.now.size ≡ (G.Name.net (G.level graph.now)).size }
+    requires short { short ≤ 2 ^ 32 }
+    requires shares { shares.now.size ≡ cut.now.blocks }
+    requires workers { shares.now.blocks ≤ 64 }
+    ensures codes { IfOk result (AreCodes (G.Name.net (G.level graph.now))) }
+    ensures told { IfErr result (Tells (G.Name.net (G.level graph.now)) cut.now.blocks) }
+    ensures watched { W.becomes watch.old watch.new }
+{
+    if cut.size() <= short {
+        solve_as::<Vec<u32>, G, A, R, W>(rt, alloc, graph, gate, cut, shares, watch)
+    } else {
+        solve_as::<Vec<u64>, G, A, R, W>(rt, alloc, graph, gate, cut, shares, watch)
+    }
 }
 
 /// The code of each node of a graph: 0 for a draw, otherwise one more than its depth.
@@ -158,10 +192,11 @@ fn codes_of<N: Levels>(
 /// blocks are settled before the first wave is answered without any draw. A worker holds one lock
 /// at a time, and none while it looks at the graph.
 ///
-/// The blocks take what [`Block`] says, each worker the fresh nodes and the batches of one block at
-/// a time, of 4 bytes for each node that leads to a fresh one, or 8 in a graph of more than
-/// [`SHORT_NODES`]. A worker keeps lists that it sent for those of the next block. At the end the
-/// answer takes 2 bytes a node, while the blocks are let go one after the other.
+/// The blocks take what [`Block`] says, with lists of 4 bytes a node, or of 8 in a graph of more
+/// than [`SHORT_NODES`], and each worker the fresh nodes and the batches of one block at a time, of
+/// as many bytes for each node that leads to a fresh one. A worker keeps lists that it sent for
+/// those of the next block. At the end the answer takes 2 bytes a node, while the blocks are let go
+/// one after the other.
 ///
 /// # Errors
 ///
@@ -190,8 +225,8 @@ pub fn solve<G: Graph + Send + Sync, A: Gate, R: Threads + Wait + Sync>(
 }
 
 /// [`solve`], with lists of 4 bytes a node where the graph has at most `short` nodes, up to
-/// [`SHORT_NODES`], and of 8 otherwise. It tells `watch` of each wave before it begins (see [`Watch`]):
-/// of waves 1, 2, .. and of no wave where the blocks are settled before the first one.
+/// [`SHORT_NODES`], and of 8 otherwise. It tells `watch` of each wave before it begins (see
+/// [`Watch`]): of waves 1, 2, .. and of no wave where the blocks are settled before the first one.
 ///
 /// # Errors
 ///
@@ -222,8 +257,5 @@ pub fn solve_with<G: Graph + Send + Sync, A: Gate, R: Threads + Wait + Sync, W: 
     check_numbers(workers, blocks)?;
     let cut = cut_into(graph.size(), blocks as u64);
     let shares = cut_into(blocks as u64, workers as u64);
-    let made = make_blocks(rt, alloc, graph, &cut, &shares)?;
-    let yard = Yard::new(alloc, made)?;
-    let wave = run_all(rt, alloc, graph, gate, &yard, &shares, short, watch)?;
-    codes_of(alloc, graph.level(), wave, &cut, yard.into_blocks())
+    solve_in(rt, alloc, graph, gate, &cut, &shares, short, watch)
 }

@@ -5,7 +5,7 @@ ghost use Rattle.morris_workers.specs.Ranges.{Tells};
 
 use crate::fault::{LAST_WAVE, SolveFault};
 use crate::yard::Yard;
-use morris_wave::{Block, Graph, Levels};
+use morris_wave::{Block, Graph, Levels, NodeList};
 use std::sync::Wait;
 
 // What a block says of its wave.
@@ -22,7 +22,7 @@ enum Finding {
 }
 
 // What a block says of this wave.
-fn examine<N: Levels>(level: u64, block: &Block<N>, wave: u16) -> Finding
+fn examine<N: Levels, L: NodeList>(level: u64, block: &Block<N, L>, wave: u16) -> Finding
     ensures { result ≡ Finding.TooDeep → IsTooDeep (N.net level) }
 {
     if block.wave() != wave {
@@ -47,10 +47,10 @@ fn examine<N: Levels>(level: u64, block: &Block<N>, wave: u16) -> Finding
 ///
 /// `Missing` with the least number of a block that isn't complete at this wave. Otherwise `TooDeep`
 /// where one isn't settled at the last wave.
-pub(crate) fn survey<G: Graph, R: Wait>(
+pub(crate) fn survey<L: NodeList, G: Graph, R: Wait>(
     rt: &R,
     graph: &G,
-    yard: &Yard<G::Name>,
+    yard: &Yard<G::Name, L>,
     wave: u16,
 ) -> Result<bool, SolveFault>
     ensures { IfErr result (Tells (G.Name.net (G.level graph.now)) yard.now) }

@@ -17,6 +17,12 @@ use std::thread::Threads;
 // Lists that were sent are put aside until they have more bytes of room than this.
 const KEPT_ROOM: usize = 4194304;
 
+// A worker sends once it has scattered so many fresh nodes or blocks. So the batches stay small,
+// and where few nodes are fresh a block is locked once for many sources.
+const FULL_NODES: usize = 4096;
+
+const FULL_SOURCES: usize = 64;
+
 // What one worker gets: its number, and a seat to draw from.
 #[derive(Drop)]
 struct Job {
@@ -25,18 +31,18 @@ struct Job {
 }
 
 // What the workers of a wave share. Each has a share of the blocks, which it is the first to go to.
-struct Site<'a, G: Graph, A, R> {
+struct Site<'a, L: NodeList, G: Graph, A, R> {
     rt: &'a R,
     alloc: Global,
     graph: &'a G,
     gate: &'a A,
-    yard: &'a Yard<G::Name>,
+    yard: &'a Yard<G::Name, L>,
     shares: &'a Cut,
     wave: u16,
     ghost shared: { shares.now.size ≡ yard.now },
 }
 
-impl<G: Graph, A, R> Drop for Site<'_, G, A, R> {
+impl<L: NodeList, G: Graph, A, R> Drop for Site<'_, L, G, A, R> {
     fn drop(self) {
         let Site {
             rt: _,
@@ -50,8 +56,51 @@ impl<G: Graph, A, R> Drop for Site<'_, G, A, R> {
     }
 }
 
+// What a worker has scattered and not sent yet: for each source its batches, one for each block,
+// and how many fresh nodes they come from. Lists that were sent wait for the next batches.
+struct Outbox<N: Levels, L: NodeList> {
+    sources: Vec<Vec<Batch<N, L>>>,
+    fresh: usize,
+    spare: Vec<L>,
+}
+
+impl<N: Levels, L: NodeList> Drop for Outbox<N, L> {
+    fn drop(self) {
+        let Outbox {
+            sources: _,
+            fresh: _,
+            spare: _,
+        } = self;
+    }
+}
+
+impl<N: Levels, L: NodeList> Outbox<N, L> {
+    // Nothing yet.
+    fn new(alloc: Global) -> Outbox<N, L> {
+        Outbox {
+            sources: Vec::new(alloc),
+            fresh: 0,
+            spare: Vec::new(alloc),
+        }
+    }
+
+    // Whether it is time to send.
+    fn is_full(&self) -> bool {
+        self.fresh >= FULL_NODES || self.sources.len() >= FULL_SOURCES
+    }
+
+    // Forgets what was sent, and keeps the lists.
+    fn empty(&mut self) -> Result<(), AllocError> {
+        self.fresh = 0;
+        while let Some(batches) = self.sources.pop() {
+            keep_room(batches, &mut self.spare)?;
+        }
+        Ok(())
+    }
+}
+
 // Takes a block to this wave, unless it is there.
-fn bring<N: Levels>(block: &mut Block<N>, wave: u16)
+fn bring<N: Levels, L: NodeList>(block: &mut Block<N, L>, wave: u16)
     ensures { (block.new ≡ block.old) ⊎ (block.new ≡ next_wave_of block.old) }
 {
     if block.wave() < wave {
@@ -60,7 +109,7 @@ fn bring<N: Levels>(block: &mut Block<N>, wave: u16)
     }
 }
 
-// Puts lists of batches that were sent aside for those of the next block. What goes past the room
+// Puts lists of batches that were sent aside for later ones. What goes past the room
 // to be kept is let go.
 fn keep_room<N: Levels, L: NodeList>(
     mut batches: Vec<Batch<N, L>>,
@@ -77,7 +126,7 @@ fn keep_room<N: Levels, L: NodeList>(
     Ok(())
 }
 
-impl<'a, G: Graph, A: Gate, R: Wait> Site<'a, G, A, R> {
+impl<'a, L: NodeList, G: Graph, A: Gate, R: Wait> Site<'a, L, G, A, R> {
     // Takes the blocks of a worker's share to this wave.
     fn advance(&self, worker: u64)
         requires { worker < self.now.shares.now.blocks }
@@ -103,51 +152,75 @@ impl<'a, G: Graph, A: Gate, R: Wait> Site<'a, G, A, R> {
         Ok(Some(block.fresh(self.alloc)?))
     }
 
-    // Applies a batch to its target.
-    fn apply<L: NodeList>(&self, target: usize, batch: &Batch<G::Name, L>)
+    // Applies the batches of all these sources to their target.
+    fn apply(&self, target: usize, sources: &[Vec<Batch<G::Name, L>>])
         requires { target < self.now.yard.now }
     {
         let mut block = self.yard.lock(self.rt, target);
         bring(&mut block, self.wave);
-        // A batch that isn't for this block at this wave changes nothing.
-        let _ = block.apply(batch);
-    }
-
-    // Applies the batches of these places to the blocks there.
-    fn apply_all<L: NodeList>(&self, batches: &[Batch<G::Name, L>], targets: Range<usize>)
-        requires { targets.end ≤ self.now.yard.now }
-    {
-        for target in targets.start..targets.end {
+        for batches in sources {
             if let Some(batch) = batches.get(target) {
-                self.apply(target, batch);
+                // A batch that isn't for this block at this wave changes nothing.
+                let _ = block.apply(batch);
             }
         }
     }
 
-    // Sends what a block found to all blocks, one after the other. It begins at the worker's share,
+    // Applies the batches of these places to the blocks there.
+    fn apply_all(&self, sources: &[Vec<Batch<G::Name, L>>], targets: Range<usize>)
+        requires { targets.end ≤ self.now.yard.now }
+    {
+        for target in targets.start..targets.end {
+            self.apply(target, sources);
+        }
+    }
+
+    // Sends what was scattered to all blocks, one after the other. It begins at the worker's share,
     // so that workers don't queue at one block.
-    fn send<L: NodeList>(
-        &self,
-        worker: u64,
-        source: usize,
-        spare: &mut Vec<L>,
-    ) -> Result<(), AllocError>
+    fn send(&self, worker: u64, outbox: &mut Outbox<G::Name, L>) -> Result<(), AllocError>
+        requires { worker < self.now.shares.now.blocks }
+    {
+        let first = self.shares.range(worker).start as usize;
+        self.apply_all(&outbox.sources, first..self.yard.count());
+        self.apply_all(&outbox.sources, 0..first);
+        outbox.empty()
+    }
+
+    // Scatters what a block found.
+    fn scatter(&self, source: usize, outbox: &mut Outbox<G::Name, L>) -> Result<(), AllocError>
         requires small { (G.Name.net (G.level self.now.graph.now)).size ≤ L.limit }
-        requires worker { worker < self.now.shares.now.blocks }
         requires source { source < self.now.yard.now }
     {
         let Some(fresh) = self.fresh(source)? else {
             return Ok(());
         };
-        let batches = scatter_reusing(self.alloc, self.graph, &fresh, spare)?;
-        let first = self.shares.range(worker).start as usize;
-        self.apply_all(&batches, first..self.yard.count());
-        self.apply_all(&batches, 0..first);
-        keep_room(batches, spare)
+        let batches = scatter_reusing(self.alloc, self.graph, &fresh, &mut outbox.spare)?;
+        outbox.fresh = outbox.fresh.saturating_add(fresh.nodes().len());
+        outbox.sources.push(batches)?;
+        Ok(())
     }
 
-    // Draws and sends until no number is left or the gate says to leave.
-    fn draw_all<L: NodeList>(
+    // Scatters what a block found, and sends once that is much.
+    fn take(
+        &self,
+        worker: u64,
+        source: usize,
+        outbox: &mut Outbox<G::Name, L>,
+    ) -> Result<(), AllocError>
+        requires small { (G.Name.net (G.level self.now.graph.now)).size ≤ L.limit }
+        requires worker { worker < self.now.shares.now.blocks }
+        requires source { source < self.now.yard.now }
+    {
+        self.scatter(source, outbox)?;
+        if outbox.is_full() {
+            self.send(worker, outbox)?;
+        }
+        Ok(())
+    }
+
+    // Draws and sends until no number is left or the gate says to leave. What was drawn before is
+    // sent then too.
+    fn draw_all(
         &self,
         tickets: &Tickets,
         worker: u64,
@@ -161,16 +234,16 @@ impl<'a, G: Graph, A: Gate, R: Wait> Site<'a, G, A, R> {
         ensures seat { IsSeatOf tickets.now seat.new }
         ensures drawn { OnOk result (HasDrawn seat.new) }
     {
-        let mut spare: Vec<L> = Vec::new(self.alloc);
+        let mut outbox = Outbox::new(self.alloc);
         // No worker draws more numbers than there are blocks, and then finds once that none is
         // left.
         for _ in 0..=self.yard.count() {
             let Some(number) = tickets.draw(seat) else {
-                return Ok(());
+                return self.send(worker, &mut outbox);
             };
             match self.gate.pass(worker as usize, number) {
-                Turn::Go => self.send(worker, number as usize, &mut spare)?,
-                Turn::Leave => return Ok(()),
+                Turn::Go => self.take(worker, number as usize, &mut outbox)?,
+                Turn::Leave => return self.send(worker, &mut outbox),
             }
         }
         Ok(())
@@ -178,7 +251,7 @@ impl<'a, G: Graph, A: Gate, R: Wait> Site<'a, G, A, R> {
 
     // What one worker does in the wave. It gives back its seat, and says whether memory was
     // refused; where it wasn't, the seat was drawn from.
-    fn work<L: NodeList>(&self, tickets: &Tickets, job: Job) -> (TicketSeat, Result<(), AllocError>)
+    fn work(&self, tickets: &Tickets, job: Job) -> (TicketSeat, Result<(), AllocError>)
         requires small { (G.Name.net (G.level self.now.graph.now)).size ≤ L.limit }
         requires worker { job.worker < self.now.shares.now.blocks }
         requires limit { limit_of tickets.now ≡ self.now.yard.now }
@@ -188,7 +261,7 @@ impl<'a, G: Graph, A: Gate, R: Wait> Site<'a, G, A, R> {
     {
         let Job { worker, mut seat } = job;
         self.advance(worker);
-        let sent = self.draw_all::<L>(tickets, worker, &mut seat);
+        let sent = self.draw_all(tickets, worker, &mut seat);
         (seat, sent)
     }
 }
@@ -245,9 +318,10 @@ fn outcome_of(done: &[(TicketSeat, Result<(), AllocError>)]) -> Result<(), Alloc
 /// Takes all blocks from a complete wave to this one, and sends what each of them found to all.
 ///
 /// Each worker first takes the blocks of its share to the wave. Then it draws numbers of blocks and
-/// asks the gate after each draw. On `Go` it sends what the block found to every block; on `Leave`
-/// it ends, and nothing is sent from that block. A worker for which no thread can be started is run
-/// by another one. What is sent lies in lists of the kind `L`.
+/// asks the gate after each draw. On `Go` it sends what the block found to every block, maybe
+/// together with what it draws next; on `Leave` it ends, and nothing is sent from that block. A
+/// worker for which no thread can be started is run by another one. Blocks keep and batches carry
+/// lists of the kind `L`.
 ///
 /// # Errors
 ///
@@ -262,7 +336,7 @@ pub(crate) fn run_wave<
     alloc: Global,
     graph: &G,
     gate: &A,
-    yard: &Yard<G::Name>,
+    yard: &Yard<G::Name, L>,
     shares: &Cut,
     wave: u16,
 ) -> Result<(), AllocError>
@@ -291,7 +365,7 @@ pub(crate) fn run_wave<
             requires { IsNewSeatOf shown.now job.seat × (job.worker < site.now.shares.now.blocks) × (limit_of shown.now ≡ site.now.yard.now)
                 × ((G.Name.net (G.level site.now.graph.now)).size ≤ L.limit) }
             ensures { IsSeatOf shown.entry.now result.0 × OnOk result.1 (HasDrawn result.0) }
-        { site.work::<L>(shown, job) },
+        { site.work(shown, job) },
     )?;
     hand_back(alloc, tickets, done)
 }

@@ -4,22 +4,22 @@ ghost use Rattle.std.specs.Sync.Mutex.{mutex_guard_value};
 ghost use Rattle.morris_wave.specs.Blocks.{IsBlock};
 ghost use Rattle.morris_workers.specs.Exact.{IsExact};
 
-use morris_wave::{Block, Levels};
+use morris_wave::{Block, Levels, NodeList};
 use std::alloc::{AllocError, Global};
 use std::marker::Model;
 use std::sync::{Mutex, MutexGuard, Wait};
 
-/// Blocks of a graph, each behind a lock of its own.
+/// Blocks of a graph, each behind a lock of its own, with lists of the kind `L`.
 ///
 /// Contracts see a yard as the number of its locks, which are counted from 0.
 #[derive(Drop)]
-pub struct Yard<N: Levels> {
-    locks: Vec<Mutex<Block<N>>>,
+pub struct Yard<N: Levels, L: NodeList = Vec<u64>> {
+    locks: Vec<Mutex<Block<N, L>>>,
     // The vector that the blocks came in, emptied and kept for its room.
-    home: Vec<Block<N>>,
+    home: Vec<Block<N, L>>,
 }
 
-impl<N: Levels> Model for Yard<N> {
+impl<N: Levels, L: NodeList> Model for Yard<N, L> {
     ghost use Rattle.std.specs.Prelude.{◌≡◌, ◌≤◌, ℕ, vec_len, vec_capacity};
 
     ghost Value = { ℕ };
@@ -31,7 +31,9 @@ impl<N: Levels> Model for Yard<N> {
 
 // Looks at the block of a guard. Of what stands behind a lock nothing is known but what every block
 // keeps, and the block tells that to whoever asks for its cut.
-fn looked_at<N: Levels>(guard: MutexGuard<'_, Block<N>>) -> MutexGuard<'_, Block<N>>
+fn looked_at<N: Levels, L: NodeList>(
+    guard: MutexGuard<'_, Block<N, L>>,
+) -> MutexGuard<'_, Block<N, L>>
     ensures block { IsBlock (N.net (mutex_guard_value result).level) (mutex_guard_value result) }
     ensures exact { IsExact (N.net (mutex_guard_value result).level) (mutex_guard_value result) }
 {
@@ -39,13 +41,13 @@ fn looked_at<N: Levels>(guard: MutexGuard<'_, Block<N>>) -> MutexGuard<'_, Block
     guard
 }
 
-impl<N: Levels> Yard<N> {
+impl<N: Levels, L: NodeList> Yard<N, L> {
     /// Puts each block behind a lock, in the same order.
     ///
     /// # Errors
     ///
     /// `AllocError` where memory is refused; the blocks are then dropped.
-    pub fn new(alloc: Global, mut blocks: Vec<Block<N>>) -> Result<Yard<N>, AllocError>
+    pub fn new(alloc: Global, mut blocks: Vec<Block<N, L>>) -> Result<Yard<N, L>, AllocError>
         ensures { IfOk result (λ y. y ≡ vec_len blocks) }
     {
         let mut locks = Vec::with_capacity(alloc, blocks.len())?;
@@ -72,7 +74,7 @@ impl<N: Levels> Yard<N> {
     /// its level is cut, at one of the waves from 0 to 65,534. Of any such block [`Block::code`]
     /// and [`Block::tallies`] answer what its wave and its applied sources say: an entry that is
     /// there is the code of its node, and the tallies count the entries.
-    pub fn lock<R: Wait>(&self, rt: &R, k: usize) -> MutexGuard<'_, Block<N>>
+    pub fn lock<R: Wait>(&self, rt: &R, k: usize) -> MutexGuard<'_, Block<N, L>>
         requires { k < self.now }
         // What is said of all blocks of a graph, at every wave and whatever is applied, holds of
         // this one with no test but that of its level.
@@ -86,7 +88,7 @@ impl<N: Levels> Yard<N> {
     /// Locks block `k` if it is free, and waits for nobody.
     ///
     /// The block is then as `lock` finds it.
-    pub fn try_lock(&self, k: usize) -> Option<MutexGuard<'_, Block<N>>>
+    pub fn try_lock(&self, k: usize) -> Option<MutexGuard<'_, Block<N, L>>>
         requires { k < self.now }
         ensures block { IfSome result (λ guard. IsBlock (N.net (mutex_guard_value guard).level) (mutex_guard_value guard)) }
         ensures exact { IfSome result (λ guard. IsExact (N.net (mutex_guard_value guard).level) (mutex_guard_value guard)) }
@@ -96,7 +98,7 @@ impl<N: Levels> Yard<N> {
     }
 
     /// Gives the blocks back, in their order. It takes no memory and waits for nobody.
-    pub fn into_blocks(self) -> Vec<Block<N>>
+    pub fn into_blocks(self) -> Vec<Block<N, L>>
         ensures { vec_len result ≡ self }
     {
         let Yard {

@@ -1,7 +1,7 @@
-use Rattle.std.proofs.Common.{◌<◌, List, length, subst, arith}
+use Rattle.std.proofs.Common.{◌<◌, ℕ, List, length, slice_index_or, subst, ◌∙◌, arith}
 use Rattle.std.specs.List.{All}
 use Rattle.std.proofs.lemmas.Result.{err_from_is_err_and}
-use Rattle.morris_wave.specs.Blocks.{BlockState}
+use Rattle.morris_wave.specs.Blocks.{BlockState, IsSettled}
 use Rattle.morris_workers.proofs.Faults.{gather_tells}
 use Rattle.morris_workers.proofs.solver.codes_of.Goals as goal
 
@@ -12,3 +12,15 @@ returns-in_err-gather_from-clause-fault g c =
     rw (p.1, p.2)
     (gather_tells (g.N.Levels.net c.args.level) c.args.level c.args.wave c.args.cut.now c.args.blocks.items c.in_err-gather_from.field-0.0 (omega (arith, c.requires, c.args.blocks.ok.0)) numbers
     c.in_err-gather_from.ensures.fault)
+
+pub returns-clause-codes : goal.returns-clause-codes
+returns-clause-codes g c =
+    let made = c.in_ok-gather_from.ensures in
+    let none = subst (λ (bs : List BlockState). All (λ s. IsSettled (g.N.Levels.net s.level) s) bs) c.deref.ensures.value c.in_default.ensures.none in
+    let all : All (IsSettled (g.N.Levels.net c.args.level)) c.args.blocks.items =
+    λ k d l. subst (λ (n : ℕ). IsSettled (g.N.Levels.net n) (slice_index_or c.args.blocks.items k d)) (made.fit k d l).level_is (none k d l) in
+    record {
+      len = made.len ∙ c.requires.size;
+      each = λ i l. made.settled all i (omega (arith, l, c.requires.size));
+      not_too_deep = made.deep all;
+    }
