@@ -1,0 +1,15 @@
+-- A refusal leaves what the step that failed left, and then what the removal of the part did.
+use Rattle.std.proofs.Common.{◌∙◌}
+use Rattle.morris_folders.proofs.WholeLaws.{goes-trans, goes-trans_three, unwritten, unrenamed}
+use Rattle.morris_folders.proofs.whole.write_whole.Goals as goal
+
+pub returns-in-Err-clause-answer : goal.returns-in-Err-clause-answer
+returns-in-Err-clause-answer g c =
+    goes-trans (unwritten _ c.args.name.now (g.C.Contents.bytes c.args.contents.now) _ c.give_up.result (c.as_str-part.ensures.value ∙ c.in-Ok.ensures) c.give_up.ensures.step c.in-Err.ensures.answer.1)
+    _ _ _ c.in-Err.ensures.answer.0 c.give_up.ensures.given_up
+
+pub returns-clause-answer : goal.returns-clause-answer
+returns-clause-answer g c =
+    let fault = c.give_up-in-Err-rename in
+    goes-trans_three (unrenamed _ c.args.name.now (g.C.Contents.bytes c.args.contents.now) fault.result (c.as_str-part.ensures.value ∙ c.in-Ok.ensures) fault.ensures.step)
+    _ _ _ _ c.in_default-write_part.ensures.answer c.in-Err-rename.ensures.renamed fault.ensures.given_up

@@ -1,0 +1,41 @@
+// Files in memory, written while calls fail.
+use crate::text::Two;
+use morris_folders::memory::MemoryFolder;
+use morris_folders::whole::{NotWhole, Step, write_whole};
+use std::alloc::Global;
+use std::process::Abort;
+
+/// What stands under the name, and how many files there are, once a file was written over another
+/// one while these calls and writes failed.
+fn writes(alloc: Global, calls: u64, failing: u64) -> Option<(Result<(), NotWhole>, bool, usize)> {
+    let mut folder = MemoryFolder::new(alloc, calls, failing);
+    folder.put("kept", b"old").ok()?;
+    let answer = write_whole(alloc, &mut folder, "kept", &Two(b"new", b"er"));
+    let wanted = if answer.is_ok() {
+        b"newer".as_slice()
+    } else {
+        b"old".as_slice()
+    };
+    Some((answer, folder.get("kept") == Some(wanted), folder.count()))
+}
+
+/// Whether a file that is written while these fail is refused at the step, with the old one as it
+/// was and no other file but a part that is told.
+fn is_refused(alloc: Global, calls: u64, failing: u64, step: Step, left: bool) -> bool {
+    let files = if left { 2 } else { 1 };
+    writes(alloc, calls, failing) == Some((Err(NotWhole { step, left }), true, files))
+}
+
+#[test]
+fn a_file_is_whole_or_as_it_was_whichever_calls_fail(rt: HostRuntime) {
+    let alloc = rt.alloc();
+    assert!(rt; writes(alloc, 0, 0) == Some((Ok(()), true, 1)));
+    assert!(rt; is_refused(alloc, 0b1, 0, Step::Create, false));
+    assert!(rt; is_refused(alloc, 0, 0b1, Step::Write, false));
+    assert!(rt; is_refused(alloc, 0, 0b10, Step::Write, false));
+    assert!(rt; is_refused(alloc, 0b10, 0b10, Step::Write, true));
+    assert!(rt; is_refused(alloc, 0b10, 0, Step::Sync, false));
+    assert!(rt; is_refused(alloc, 0b110, 0, Step::Sync, true));
+    assert!(rt; is_refused(alloc, 0b100, 0, Step::Rename, false));
+    assert!(rt; is_refused(alloc, 0b1100, 0, Step::Rename, true));
+}
