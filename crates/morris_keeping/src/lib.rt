@@ -1,0 +1,5 @@
+//! Folders of tables: the file of each pair under a name of its own, written whole or not at all.
+#![tactic(auto)]
+
+pub mod names;
+pub mod table_file;

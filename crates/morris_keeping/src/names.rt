@@ -1,0 +1,30 @@
+//! The names of the files of tables.
+ghost use Rattle.std.specs.Prelude.{◌≡◌, IfOk, string_bytes};
+ghost use Rattle.morris_keeping.specs.Names.{name_of};
+
+use itoa::Buffer;
+use morris_board::board::Geometry;
+use morris_index::pair::Pair;
+use std::alloc::{AllocError, Global};
+
+/// The name of the file of a pair's table on the board of this name, as `nine-4-3.nmmt`.
+///
+/// # Errors
+/// [`AllocError`] where memory is refused.
+pub fn file_name<B: Geometry>(
+    alloc: Global,
+    board: &str,
+    pair: Pair<B>,
+) -> Result<String, AllocError>
+    ensures { IfOk result (λ name. string_bytes name ≡ name_of board.now pair) }
+{
+    let mut digits = Buffer::new();
+    let mut name = String::with_capacity(alloc, 0)?;
+    name.push_str(board)?;
+    name.push_str("-")?;
+    name.push_str(digits.format(pair.greater()))?;
+    name.push_str("-")?;
+    name.push_str(digits.format(pair.lesser()))?;
+    name.push_str(".nmmt")?;
+    Ok(name)
+}

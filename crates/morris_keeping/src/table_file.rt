@@ -1,0 +1,89 @@
+//! The file of one table.
+ghost use Rattle.std.specs.Prelude.{◌≡◌, ◌+◌, ◌-◌, ◌^◌, ◌<◌, IfOk, MatchResult, length};
+ghost use Rattle.morris_table.specs.TableFiles.{file_of};
+ghost use Rattle.morris_folders.specs.Whole.{failed_in};
+ghost use Rattle.morris_keeping.specs.Kept.{AnswersTableFile};
+
+use crate::names::file_name;
+use morris_board::board::Geometry;
+use morris_board::streams::{Failed, Sink};
+use morris_folders::folder::Folder;
+use morris_folders::whole::{Contents, NotWhole, Step, write_whole};
+use morris_index::pair::Pair;
+use morris_table::exact::Exact;
+use morris_table::file_faults::Write;
+use morris_table::writing::write_table;
+use std::alloc::Global;
+
+/// The file of a table.
+#[derive(Drop)]
+pub struct TableFile<'a, B: Geometry>(pub &'a Exact<B>);
+
+impl<B: Geometry> Contents for TableFile<'_, B> {
+    ghost bytes = { λ file. file_of B.shape file.0.now };
+
+    fn write_to<S: Sink>(&self, sink: &mut S) -> Result<(), Failed> {
+        match write_table(sink, self.0) {
+            Ok(()) => Ok(()),
+            Err(Write(_)) => Err(Failed),
+        }
+    }
+}
+
+/// A file that was written.
+#[derive(Drop)]
+pub struct Written<B: Geometry> {
+    /// The pair of its table.
+    pub pair: Pair<B>,
+    /// How many entries the table has.
+    pub entries: u64,
+    /// How many bytes the file has.
+    pub bytes: u64,
+}
+
+/// Writes the file of a table into a folder, whole or not at all, under the name that the file of
+/// its pair has on the board of this name.
+///
+/// Fewer than `u64::MAX - 1` calls of the folder may have failed before. No byte of the file is
+/// held beside the pieces of several KiB in which it goes out, and none is read again.
+///
+/// # Errors
+/// [`NotWhole`] with the first step that failed. What stood under the name before stands there
+/// then, or the whole file does where the step is `Rename`.
+pub fn write_table_file<B: Geometry, F: Folder>(
+    alloc: Global,
+    folder: &mut F,
+    board: &str,
+    table: &Exact<B>,
+) -> Result<Written<B>, NotWhole>
+    requires { F.failures folder.old < 2 ^ 64 - 2 }
+    ensures answer { AnswersTableFile B.shape board.now table.now (F.files folder.old) (F.files folder.new) result }
+    ensures counted { MatchResult result (λ _. F.failures folder.new ≡ F.failures folder.old) (λ fault. F.failures folder.new ≡ F.failures folder.old + failed_in fault) }
+    ensures pair { IfOk result (λ written. written.pair ≡ table.now.pair) }
+    ensures entries { IfOk result (λ written. written.entries ≡ length table.now.codes) }
+    ensures bytes { IfOk result (λ written. written.bytes ≡ length (file_of B.shape table.now)) }
+{
+    let (pair, entries) = (table.pair(), table.len());
+    let Ok(name) = file_name(alloc, board, pair) else {
+        return Err(NotWhole {
+            step: Step::Memory,
+            left: false,
+        });
+    };
+    write_whole(alloc, folder, name.as_str(), &TableFile(table))?;
+    let bytes = file_length(table);
+    Ok(Written {
+        pair,
+        entries,
+        bytes,
+    })
+}
+
+/// How many bytes the file of a table has: 16 before the codes, 2 for each code, and 32 after them.
+fn file_length<B: Geometry>(table: &Exact<B>) -> u64
+    ensures { result ≡ length (file_of B.shape table.now) }
+{
+    // The proof learns here how many entries there may be.
+    let _ = table.len();
+    16 + 2 * table.len() + 32
+}

@@ -1,0 +1,6 @@
+//! The tests of files of tables in folders, apart so that the library is proved once. They are no
+//! part of the product.
+#![tactic(auto)]
+
+#[cfg(test)]
+mod kept;
