@@ -1,0 +1,31 @@
+use Rattle.std.proofs.Common.{◌≡◌, ◌≤◌, ap, ◌∙◌, arith}
+use Rattle.std.proofs.lemmas.Bool.{both_ways}
+use Rattle.std.proofs.lemmas.Result.{err_from_is_err_and}
+use Rattle.morris_index.specs.Pairs.{Counts}
+use Rattle.morris_table.specs.declared.layout.Layout.{Layout}
+use Rattle.morris_lookup.specs.Numberings.{layout_of, pair_of}
+use Rattle.morris_lookup.proofs.OpeningLaws.{opens_refused, kind_found}
+use Rattle.morris_lookup.proofs.opened.Opened.open.Goals as goal
+
+pub returns-in_err-numbering-clause-complete : goal.returns-in_err-numbering-clause-complete
+returns-in_err-numbering-clause-complete g c = λ t raw pair known.
+    let few : g.B.Geometry.shape.points ≤ 24 = omega (arith, g.met.B.Geometry.point_count, g.met.B.Geometry.few) in
+    let failed = err_from_is_err_and c.from_residual.result c.from_residual.ensures.1 in
+    rw (failed.1, failed.2)
+    (opens_refused g.B.Geometry.shape few g.met.B.Geometry.has_symmetries t raw (g.S.Storage.contents c.args.storage) known c.in_err-numbering.field-0.0
+    c.in_err-numbering.ensures.refused)
+
+pub returns-then-not-is_pair-clause-complete : goal.returns-then-not-is_pair-clause-complete
+returns-then-not-is_pair-clause-complete g c = λ t raw pair known.
+    let few : g.B.Geometry.shape.points ≤ 24 = omega (arith, g.met.B.Geometry.point_count, g.met.B.Geometry.few) in
+    let kind = kind_found g.B.Geometry.shape few g.met.B.Geometry.has_symmetries t raw (g.S.Storage.contents c.args.storage) known
+    (layout_of c.in_ok-numbering.numbering, pair_of c.in_ok-numbering.numbering) c.in_ok-numbering.ensures.found in
+    let same : c.pair.result ≡ c.args.pair = c.pair.ensures.value ∙ ap (λ (k : Layout × Counts). k.1) kind ∙ pair in
+    absurd (both_ways _ c.if-not-is_pair.true (c.is_pair.ensures.1 same))
+
+pub returns-clause-complete : goal.returns-clause-complete
+returns-clause-complete g c = λ t raw pair known.
+    let few : g.B.Geometry.shape.points ≤ 24 = omega (arith, g.met.B.Geometry.point_count, g.met.B.Geometry.few) in
+    ap (λ (k : Layout × Counts). k.0)
+    (kind_found g.B.Geometry.shape few g.met.B.Geometry.has_symmetries t raw (g.S.Storage.contents c.args.storage) known
+    (layout_of c.in_ok-numbering.numbering, pair_of c.in_ok-numbering.numbering) c.in_ok-numbering.ensures.found)

@@ -1,0 +1,17 @@
+use Rattle.std.proofs.Common.{◌≡◌, ◌≤◌, ◌++◌, length, map, vec_capacity}
+use Rattle.std.specs.List.{Contains}
+use Rattle.morris_moves.specs.Rules.{moves_of}
+use Rattle.morris_lookup.specs.declared.outcomes.Outcome.{Outcome}
+use Rattle.morris_lookup.specs.Outcomes.{IsOutcome}
+use Rattle.morris_lookup.proofs.outcomes.outcomes.Given as goal
+
+-- the list has the outcomes of the moves so far, the iterator has the other moves, and there is
+-- room for as many outcomes as there are moves
+abbrev pub invariant-loop-m : goal.invariant-loop-m
+invariant-loop-m g l = record {
+  listed : l.yielded ++ l.m-iterator ≡ moves_of g.B.Geometry.shape l.position;
+  steps : map (λ (o : Outcome). o.step) l.outcomes.items ≡ l.yielded;
+  told : (o : Outcome) → Contains l.outcomes.items o → IsOutcome g.B.Geometry.shape l.tables l.position o;
+  few : length l.outcomes.items ≡ length l.yielded;
+  room : length (moves_of g.B.Geometry.shape l.position) ≤ vec_capacity l.outcomes;
+}

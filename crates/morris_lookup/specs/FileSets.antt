@@ -1,0 +1,63 @@
+-- A set of open files, one for each pair at most, and what they say of positions.
+use Rattle.std.specs.Prelude.{◌≡◌, ℕ, List, length, slice_index_or, Option, Some, None, IfSome, is_some, if◌then◌else◌}
+use Rattle.morris_board.specs.Boards.{Shape}
+use Rattle.morris_board.specs.Positions.{Sides}
+use Rattle.morris_index.specs.Pairs.{Counts, pair_of}
+use Rattle.morris_table.specs.declared.value.Value.{Value}
+use Rattle.morris_table.specs.declared.value.Value.TheVariants.{Lost}
+use Rattle.morris_table.specs.Codes.{value_in}
+use Rattle.morris_table.specs.Shelves.{has_place, place_of}
+use Rattle.morris_lookup.specs.Opening.{OpenFile, IsOpen}
+use Rattle.morris_lookup.specs.Lookups.{code_for, IsExactFile}
+use Rattle.morris_lookup.specs.declared.fault.LookFault.{LookFault}
+use Rattle.morris_lookup.specs.declared.fault.LookFault.TheVariants as fault
+
+-- a place for each two numbers of stones, with the open file of that pair where there is one
+abbrev pub Files : Type 0
+Files = List (Option OpenFile)
+
+-- the open file of a pair, where there is one
+unfoldable pub file_for : Files → Counts → Option OpenFile
+file_for files c = if has_place c then slice_index_or files (place_of c) None else None
+
+-- each file stands at the place of its own pair
+pub record AreFiles (board : Shape) (files : Files) : Type 0 where
+  pub places : length files ≡ 49
+  pub right : (c : Counts) → IfSome (file_for files c) (λ file. (file.pair ≡ c) × IsOpen board file)
+
+-- each is the file of an exact table
+abbrev pub AreExactFiles : Shape → Files → Type 0
+AreExactFiles board files = (c : Counts) → IfSome (file_for files c) (IsExactFile board)
+
+-- what a file says of a position of its pair, where its bytes are known
+abbrev pub said_in : Shape → OpenFile → Sides → Option (List ℕ) → Option Value
+said_in board file s None = None
+said_in board file s (Some bytes) = Some (value_in (code_for board file bytes s))
+
+abbrev pub said_by : Shape → Sides → Option OpenFile → Option Value
+said_by board s None = None
+said_by board s (Some file) = said_in board file s file.bytes
+
+-- What the files say of a position: what that of its pair says. A position whose player to move has
+-- two stones is of no pair: it is lost at once, and no file is needed.
+abbrev pub said_at : Shape → Files → Sides → Option Counts → Option Value
+said_at board files s None = Some (Lost 0)
+said_at board files s (Some c) = said_by board s (file_for files c)
+
+abbrev pub said_of : Shape → Files → Sides → Option Value
+said_of board files s = said_at board files s (pair_of s)
+
+-- the pair, where there is one and no file of it is open
+abbrev pub without_file : Files → Option Counts → Option Counts
+without_file files None = None
+without_file files (Some c) = if is_some (file_for files c) then None else Some c
+
+-- the pair of a position, where no file of it is open
+abbrev pub missing_file : Files → Sides → Option Counts
+missing_file files s = without_file files (pair_of s)
+
+-- why there is no value of a position: its file isn't open, or it couldn't be read
+abbrev pub IsValueRefusal : {B : Type 0} → Files → Sides → LookFault B → Type 0
+IsValueRefusal files s (fault.Needs needs) = missing_file files s ≡ Some needs.0
+IsValueRefusal files s fault.Read = missing_file files s ≡ None
+IsValueRefusal files s fault.Memory = ⊥

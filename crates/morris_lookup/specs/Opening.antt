@@ -1,0 +1,58 @@
+-- What opening any bytes as the file of a pair's table gives: nothing of the codes and of the
+-- digest is looked at.
+use Rattle.std.specs.Prelude.{◌≡◌, ◌≢◌, ℕ, ◌+◌, ◌*◌, nat_le, List, length, Option, Some, Result, Ok, Err, IfSome}
+use Rattle.morris_board.specs.Boards.{Shape}
+use Rattle.morris_index.specs.Pairs.{Counts, IsPair}
+use Rattle.morris_table.specs.declared.layout.Layout.{Layout}
+use Rattle.morris_table.specs.Entries.{entry_count}
+use Rattle.morris_table.specs.FileReading.{unless, and_then, header_in, MayTakeRoom}
+use Rattle.morris_table.specs.declared.file_faults.ReadFault.{ReadFault}
+use Rattle.morris_table.specs.declared.file_faults.ReadFault.TheVariants as read
+use Rattle.morris_lookup.specs.declared.fault.OpenFault.{OpenFault}
+use Rattle.morris_lookup.specs.declared.fault.OpenFault.TheVariants as fault
+
+-- how many bytes a file has: 16 before the codes, 2 for each entry, and 32 after them
+abbrev pub file_size : Shape → Layout × Counts → ℕ
+file_size board kind = 16 + 2 * entry_count board board.points kind.0 kind.1 + 32
+
+-- the last steps, once the header is right: the bytes are as many as a file of the table has, not
+-- fewer and not more
+unfoldable pub measured_in : Shape → ℕ → Layout × Counts → Result (Layout × Counts) ReadFault
+measured_in board n kind = unless (nat_le (file_size board kind) n) read.Short (unless (nat_le n (file_size board kind)) read.Trailing (Ok kind))
+
+-- the table whose file the bytes are, by their header and by how many they are, in steps
+unfoldable pub framed_in : Shape → List ℕ → Result (Layout × Counts) ReadFault
+framed_in board bytes = and_then (header_in board bytes) (measured_in board (length bytes))
+
+-- Why bytes that are known aren't taken for a file: no room for the classes, after the steps that
+-- come before they are made; or a step refuses them. Reads of them don't fail.
+abbrev pub IsFramingRefusal : Shape → List ℕ → ReadFault → Type 0
+IsFramingRefusal board bytes read.Memory = MayTakeRoom board (Some bytes)
+IsFramingRefusal board bytes read.Read = ⊥
+IsFramingRefusal board bytes refusal = framed_in board bytes ≡ Err refusal
+
+-- why they aren't opened as the file of a pair: the same, or they are a file of another pair
+abbrev pub IsOpeningRefusal : Shape → Counts → List ℕ → OpenFault → Type 0
+IsOpeningRefusal board wanted bytes (fault.File refusal) = IsFramingRefusal board bytes refusal
+IsOpeningRefusal board wanted bytes fault.Pair = (kind : Layout × Counts) × (framed_in board bytes ≡ Ok kind) × (kind.1 ≢ wanted)
+
+-- a file that is open: what its header says, and the bytes where they are known
+pub record OpenFile : Type 0 where
+  pub layout : Layout
+  pub pair : Counts
+  pub bytes : Option (List ℕ)
+
+abbrev pub open_file : Layout → Counts → Option (List ℕ) → OpenFile
+open_file layout pair bytes = record { layout = layout; pair = pair; bytes = bytes }
+
+-- the bytes are those of a file by their header and number, and it is of this layout and pair
+pub record IsOpen (board : Shape) (file : OpenFile) : Type 0 where
+  pub lawful : IsPair board.points file.pair
+  pub framed : IfSome file.bytes (λ bytes. framed_in board bytes ≡ Ok (file.layout, file.pair))
+
+-- what may be the answer where the bytes are the file of a table: it is opened in the table's
+-- layout, but that room for the classes may be missing
+abbrev pub Opens : Layout → Result OpenFile OpenFault → Type 0
+Opens layout (Ok file) = file.layout ≡ layout
+Opens layout (Err (fault.File read.Memory)) = Unit {0}
+Opens layout (Err refusal) = ⊥

@@ -1,0 +1,78 @@
+//! The best moves of a position, and the line of best play.
+ghost use Rattle.std.specs.Prelude.{◌≡◌, ◌↔◌, ◌<◌, ◌≤◌, [], IsTrue, length, IfOk, IfErr, IfSome, IfNone};
+ghost use Rattle.std.specs.List.{Contains};
+ghost use Rattle.morris_moves.specs.declared.step.Move.{Move};
+ghost use Rattle.morris_moves.specs.Rules.{moves_of};
+ghost use Rattle.morris_probe.specs.Best.{AreBest};
+ghost use Rattle.morris_lookup.specs.FileSets.{AreExactFiles};
+ghost use Rattle.morris_lookup.specs.Lines.{IsBestStep, Falls};
+
+use crate::fault::LookFault;
+use crate::outcomes::outcome_of;
+use crate::storage::Storage;
+use crate::tables::Tables;
+use morris_board::board::Geometry;
+use morris_board::position::Position;
+use morris_moves::rules::{moves, play};
+use morris_moves::step::Move;
+use morris_table::value::Value;
+use std::alloc::Global;
+
+/// The best moves of a position, in order of from, then to, then taken: those that lead to the
+/// position's own value, as the files state both. If the files are those of exact tables, they are
+/// exactly the best moves of the game, and there is one wherever there is a legal move. Two bytes
+/// are read for the position and two for each legal move.
+///
+/// # Errors
+/// Those of [`Tables::value`] for the position; then [`LookFault::Memory`] where there is no room
+/// for as many moves as are legal; then, at the first legal move for which it applies, those of
+/// [`Tables::value`] for the position after it.
+pub fn best<B: Geometry, S: Storage>(
+    alloc: Global,
+    tables: &Tables<B, S>,
+    position: &Position<B>,
+) -> Result<Vec<Move>, LookFault<B>>
+    ensures legal { IfOk result (λ best. (m : Move) → Contains best.items m → Contains (moves_of B.shape position.now) m) }
+    ensures best { AreExactFiles B.shape tables.now → IfOk result (λ best. AreBest B.shape position.now best.items) }
+    ensures some { AreExactFiles B.shape tables.now → IfOk result (λ best. (m : Move) → Contains (moves_of B.shape position.now) m → 0 < length best.items) }
+{
+    let found = tables.value(position)?;
+    let mut best = Vec::with_capacity(alloc, moves(position).count())?;
+    for m in moves(position) {
+        let outcome = outcome_of(tables, position, m)?;
+        if is_same(outcome.value, found) {
+            best.push(m).unwrap();
+        }
+    }
+    Ok(best)
+}
+
+/// Whether two values are the same.
+fn is_same(one: Value, other: Value) -> bool
+    ensures { IsTrue result ↔ (one ≡ other) }
+{
+    one == other
+}
+
+/// The next ply of best play: the first best move, and the position after it. The line of best play
+/// is this again and again. If the files are those of exact tables, a position that is won or lost
+/// in `d` plies is followed by one that is lost or won in `d - 1`; and `None` is only where there
+/// is no legal move, so the line ends at depth 0.
+///
+/// # Errors
+/// Those of [`best`].
+pub fn next<B: Geometry, S: Storage>(
+    alloc: Global,
+    tables: &Tables<B, S>,
+    position: &Position<B>,
+) -> Result<Option<(Move, Position<B>)>, LookFault<B>>
+    ensures best { AreExactFiles B.shape tables.now → IfOk result (λ next. IfSome next (IsBestStep B.shape position.now)) }
+    ensures falls { AreExactFiles B.shape tables.now → IfOk result (λ next. IfSome next (λ step. Falls B.shape position.now step.1)) }
+    ensures end { AreExactFiles B.shape tables.now → IfOk result (λ next. IfNone next ((m : Move) → Contains (moves_of B.shape position.now) m → ⊥)) }
+{
+    let best = best(alloc, tables, position)?;
+    match best.first() {
+        None => Ok(None),
+        Some(m) => Ok(Some((*m, play(position, *m)))),
+    }
+}

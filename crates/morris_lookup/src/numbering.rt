@@ -1,0 +1,156 @@
+//! How the entries of a file are numbered, and what its header says of that.
+ghost use Rattle.std.specs.Prelude.{◌≡◌, ◌<◌, ◌≤◌, ◌^◌, true, IfOk, IfErr, IsOk, Ok};
+ghost use Rattle.morris_index.specs.Pairs.{IsPair, is_of};
+ghost use Rattle.morris_table.specs.Entries.{entry_count, entry_index};
+ghost use Rattle.morris_table.specs.FileReading.{header_at, kind_in, heading_in, IsOfBytes, IsHeadingRefusal};
+ghost use Rattle.morris_lookup.specs.Numberings.{layout_of, pair_of};
+
+use morris_board::board::Geometry;
+use morris_board::position::Position;
+use morris_index::class_pair::ClassPair;
+use morris_index::faults::PairFault;
+use morris_index::pair::Pair;
+use morris_table::file_faults::ReadFault;
+use morris_table::layout::Layout;
+use std::alloc::{AllocError, Global};
+
+/// How many bytes a header has.
+pub(crate) const HEADER: usize = 16;
+
+/// What each file begins with.
+const MAGIC: [u8; 4] = *b"NMMT";
+
+/// How the entries of a pair are numbered, by their layout.
+#[derive(Drop)]
+pub(crate) enum Numbering<B: Geometry> {
+    /// Each position has an entry.
+    Full(Pair<B>),
+    /// Each position is led to one that has an entry.
+    Classes(ClassPair<B>),
+}
+
+impl<B: Geometry> Numbering<B> {
+    /// The entries of a pair in a layout.
+    ///
+    /// # Errors
+    /// [`AllocError`] where memory runs out, which isn't asked for in layout `Full`. No other call
+    /// takes memory.
+    fn make(alloc: Global, pair: Pair<B>, layout: Layout) -> Result<Numbering<B>, AllocError>
+        ensures layout { IfOk result (λ made. layout_of made ≡ layout) }
+        ensures pair { IfOk result (λ made. pair_of made ≡ pair) }
+        ensures full { layout ≡ Layout.Full → IsOk result }
+    {
+        match layout {
+            Layout::Full => Ok(Numbering::Full(pair)),
+            Layout::Classes => Ok(Numbering::Classes(ClassPair::make(alloc, pair)?)),
+        }
+    }
+
+    /// How the entries of the table are numbered that this header stands before.
+    ///
+    /// # Errors
+    /// The first of `Magic`, `Version`, `BoardId`, `Counts` and `Crowded` that applies; then
+    /// `Memory` where there is no room for the classes; then `Count`.
+    #[tactic(auto, unfolding(morris_table::specs::FileReading::heading_in, morris_table::specs::FileReading::counted_in))]
+    pub(crate) fn of_header(alloc: Global, header: &[u8; HEADER]) -> Result<Numbering<B>, ReadFault>
+        ensures found { IfOk result (λ made. heading_in B.shape (header_at header.now) ≡ Ok (layout_of made, pair_of made)) }
+        ensures refused { IfErr result (IsHeadingRefusal B.shape (header_at header.now)) }
+    {
+        let (layout, pair) = kind_of(header)?;
+        let numbering = Numbering::make(alloc, pair, layout)?;
+        if entries_of(header) != numbering.count() {
+            return Err(ReadFault::Count);
+        }
+        Ok(numbering)
+    }
+
+    /// The pair.
+    pub(crate) fn pair(&self) -> Pair<B>
+        ensures value { result ≡ pair_of self.now }
+        ensures lawful { IsPair B.POINTS (pair_of self.now) }
+    {
+        let pair = match self {
+            Numbering::Full(pair) => *pair,
+            Numbering::Classes(classes) => classes.pair(),
+        };
+        // The proof learns here that the numbers of stones are those of a pair.
+        let _ = pair.greater();
+        pair
+    }
+
+    /// The layout.
+    pub(crate) fn layout(&self) -> Layout
+        ensures { result ≡ layout_of self.now }
+    {
+        match self {
+            Numbering::Full(_) => Layout::Full,
+            Numbering::Classes(_) => Layout::Classes,
+        }
+    }
+
+    /// How many entries there are.
+    pub(crate) fn count(&self) -> u64
+        ensures value { result ≡ entry_count B.shape B.POINTS (layout_of self.now) (pair_of self.now) }
+        ensures few { result ≤ 2 ^ 40 }
+    {
+        match self {
+            Numbering::Full(pair) => pair.size(),
+            Numbering::Classes(classes) => classes.size(),
+        }
+    }
+
+    /// The entry that tells the value of a position of the pair, below [`Numbering::count`].
+    pub(crate) fn entry(&self, position: &Position<B>) -> u64
+        requires { is_of (pair_of self.now) position.now ≡ true }
+        ensures value { result ≡ entry_index B.shape B.POINTS (layout_of self.now) (pair_of self.now) position.now }
+        ensures below { result < entry_count B.shape B.POINTS (layout_of self.now) (pair_of self.now) }
+        ensures few { result < 2 ^ 40 }
+    {
+        // The proof learns here how many entries there may be.
+        let _ = self.count();
+        match self {
+            Numbering::Full(pair) => pair.index(position),
+            Numbering::Classes(classes) => classes.index(position),
+        }
+    }
+}
+
+/// The number of entries that a header states.
+fn entries_of(header: &[u8; HEADER]) -> u64
+    ensures { result ≡ (header_at header.now).entries }
+{
+    u64::from_be_bytes([
+        header[8], header[9], header[10], header[11], header[12], header[13], header[14],
+        header[15],
+    ])
+}
+
+/// The layout and the pair of the table that a header stands before.
+///
+/// # Errors
+/// The first of `Magic`, `Version`, `BoardId`, `Counts` and `Crowded` that applies.
+#[tactic(auto, unfolding(morris_table::specs::FileReading::kind_in))]
+fn kind_of<B: Geometry>(header: &[u8; HEADER]) -> Result<(Layout, Pair<B>), ReadFault>
+    ensures value { result ≡ kind_in B.shape (header_at header.now) }
+    ensures refused { IfErr result IsOfBytes }
+{
+    if [header[0], header[1], header[2], header[3]] != MAGIC {
+        return Err(ReadFault::Magic);
+    }
+    let layout = match header[4] {
+        1 => Layout::Full,
+        2 => Layout::Classes,
+        _ => return Err(ReadFault::Version),
+    };
+    if header[5] != B::ID {
+        return Err(ReadFault::BoardId);
+    }
+    if header[6] < header[7] {
+        return Err(ReadFault::Counts);
+    }
+    match Pair::new(header[6], header[7]) {
+        Ok(pair) => Ok((layout, pair)),
+        Err(PairFault::Counts) => Err(ReadFault::Counts),
+        Err(PairFault::Crowded) => Err(ReadFault::Crowded),
+    }
+}

@@ -1,0 +1,186 @@
+//! A table file that was opened: its codes are read where they lie.
+ghost use Rattle.std.specs.Prelude.{◌≡◌, ◌≤◌, ◌↔◌, true, IsTrue, Ok, Err, Some, IfOk, IfErr, IfSome};
+ghost use Rattle.morris_index.specs.Pairs.{is_of};
+ghost use Rattle.morris_table.specs.Codes.{IsCodeOf, IsValue, value_in};
+ghost use Rattle.morris_table.specs.Raws.{IsRaw};
+ghost use Rattle.morris_table.specs.Tables.{Table};
+ghost use Rattle.morris_table.specs.FileReading.{IsOfBytes};
+ghost use Rattle.morris_table.specs.TableFiles.{file_of};
+ghost use Rattle.morris_lookup.specs.Numberings.{layout_of, pair_of};
+ghost use Rattle.morris_lookup.specs.Opening.{measured_in, framed_in, IsFramingRefusal, IsOpeningRefusal, IsOpen, Opens};
+ghost use Rattle.morris_lookup.specs.Lookups.{code_for, depth_of, IsExactFile};
+
+use crate::fault::OpenFault;
+use crate::numbering::{HEADER, Numbering};
+use crate::storage::Storage;
+use morris_board::board::Geometry;
+use morris_board::position::Position;
+use morris_board::streams::Failed;
+use morris_index::pair::Pair;
+use morris_table::file_faults::ReadFault;
+use morris_table::layout::Layout;
+use morris_table::value::Value;
+use std::alloc::Global;
+use std::marker::Model;
+
+/// How many bytes the digest has, which stands after the codes.
+const DIGEST: u64 = 32;
+
+/// The file of a pair's table, whose bytes stay where they lie. Its header and its length were
+/// found to be right; its codes and its digest weren't looked at.
+#[derive(Drop)]
+pub struct Opened<B: Geometry, S: Storage> {
+    numbering: Numbering<B>,
+    storage: S,
+}
+
+impl<B: Geometry, S: Storage> Model for Opened<B, S> {
+    ghost use Rattle.morris_lookup.specs.Numberings.{layout_of, pair_of};
+    ghost use Rattle.morris_lookup.specs.Opening.{OpenFile, open_file, IsOpen};
+
+    ghost Value = { OpenFile };
+
+    ghost view = { λ file. open_file (layout_of file.numbering) (pair_of file.numbering) (S.contents file.storage) };
+
+    ghost invariant = { λ file. IsOpen B.shape (open_file (layout_of file.numbering) (pair_of file.numbering) (S.contents file.storage)) };
+}
+
+impl<B: Geometry, S: Storage> Opened<B, S> {
+    /// The pair whose positions the file tells of.
+    pub fn pair(&self) -> Pair<B>
+        ensures value { result ≡ self.now.pair }
+        ensures lawful { IsOpen B.shape self.now }
+    {
+        // The proof learns here what the header says.
+        let _ = &self.storage;
+        self.numbering.pair()
+    }
+
+    /// How the entries of the file are laid out.
+    pub fn layout(&self) -> Layout
+        ensures { result ≡ self.now.layout }
+    {
+        self.numbering.layout()
+    }
+
+    /// The code that the file states at the entry of a position of its pair: the two bytes that
+    /// stand there, the high one first. They are all that is read.
+    ///
+    /// # Errors
+    /// [`Failed`] where they can't be read.
+    pub fn code(&self, position: &Position<B>) -> Result<u16, Failed>
+        requires { is_of self.now.pair position.now ≡ true }
+        ensures stated { IfSome self.now.bytes (λ bytes. result ≡ Ok (code_for B.shape self.now bytes position.now)) }
+        ensures exact { IsExactFile B.shape self.now → IfOk result (IsCodeOf B.shape position.now) }
+    {
+        // The proof learns the rules of a position where its stones are read.
+        let _ = position.own();
+        let mut code = [0; 2];
+        let place = HEADER as u64 + 2 * self.numbering.entry(position);
+        self.storage.read_at(place, &mut code)?;
+        Ok(u16::from_be_bytes(code))
+    }
+
+    /// The value that the file states for a position of its pair. If the file is that of an exact
+    /// table, it is the position's value in the game.
+    ///
+    /// # Errors
+    /// [`Failed`] where the file can't be read.
+    pub fn value(&self, position: &Position<B>) -> Result<Value, Failed>
+        requires { is_of self.now.pair position.now ≡ true }
+        ensures stated { IfSome self.now.bytes (λ bytes. result ≡ Ok (value_in (code_for B.shape self.now bytes position.now))) }
+        ensures exact { IsExactFile B.shape self.now → IfOk result (IsValue B.shape position.now) }
+        ensures few { IfOk result (λ value. depth_of value ≤ 65534) }
+    {
+        Ok(value_of_code(self.code(position)?))
+    }
+}
+
+impl<B: Geometry, S: Storage + Drop> Opened<B, S> {
+    /// Opens a file as that of a pair's table. Its header and its number of bytes have to be right;
+    /// the codes and the digest aren't read.
+    ///
+    /// # Errors
+    /// The first that applies: `Short` where there are fewer bytes than a header has; `Magic`,
+    /// `Version`, `BoardId`, `Counts`, `Crowded` and `Count` for the header, as [`ReadFault`] says;
+    /// `Short` and `Trailing` where there are fewer or more bytes than the file of that table has;
+    /// [`OpenFault::Pair`] where it is a table of another pair. Before `Count`, `Memory` where
+    /// there is no room for the classes of a file of version 2. `Read` where the file can't be
+    /// read.
+    pub fn open(alloc: Global, storage: S, pair: Pair<B>) -> Result<Opened<B, S>, OpenFault>
+        ensures pair { IfOk result (λ file. file.pair ≡ pair) }
+        ensures bytes { IfOk result (λ file. file.bytes ≡ S.contents storage) }
+        ensures right { IfOk result (IsOpen B.shape) }
+        ensures refused { IfErr result (λ fault. IfSome (S.contents storage) (λ bytes. IsOpeningRefusal B.shape pair bytes fault)) }
+        // The file of any table of the pair is opened, in either layout.
+        ensures complete { (t : Table) → IsRaw B.shape t → t.pair ≡ pair → S.contents storage ≡ Some (file_of B.shape t) → Opens t.layout result }
+    {
+        let numbering = frame(alloc, &storage)?;
+        if !is_pair(numbering.pair(), pair) {
+            return Err(OpenFault::Pair);
+        }
+        Ok(Opened { numbering, storage })
+    }
+}
+
+/// Whether two pairs are the same.
+fn is_pair<B: Geometry>(one: Pair<B>, other: Pair<B>) -> bool
+    ensures { IsTrue result ↔ one ≡ other }
+{
+    one.greater() == other.greater() && one.lesser() == other.lesser()
+}
+
+/// What the header of a file says, and the number of its bytes bears out.
+///
+/// # Errors
+/// Those of [`Opened::open`], but for another pair.
+#[tactic(auto, unfolding(crate::specs::Opening::framed_in))]
+fn frame<B: Geometry, S: Storage>(alloc: Global, storage: &S) -> Result<Numbering<B>, ReadFault>
+    ensures found { IfOk result (λ made. IfSome (S.contents storage.now) (λ bytes. framed_in B.shape bytes ≡ Ok (layout_of made, pair_of made))) }
+    ensures refused { IfErr result (λ fault. IfSome (S.contents storage.now) (λ bytes. IsFramingRefusal B.shape bytes fault)) }
+{
+    let length = storage.len()?;
+    if length < HEADER as u64 {
+        return Err(ReadFault::Short);
+    }
+    let mut header = [0; HEADER];
+    storage.read_at(0, &mut header)?;
+    let numbering = Numbering::of_header(alloc, &header)?;
+    measure(&numbering, length)?;
+    Ok(numbering)
+}
+
+/// Holds the number of bytes of a file against that of its table.
+///
+/// # Errors
+/// `Short` where there are fewer bytes, `Trailing` where there are more.
+#[tactic(auto, unfolding(crate::specs::Opening::measured_in))]
+fn measure<B: Geometry>(numbering: &Numbering<B>, length: u64) -> Result<(), ReadFault>
+    ensures right { IfOk result (λ _. measured_in B.shape length (layout_of numbering.now, pair_of numbering.now) ≡ Ok (layout_of numbering.now, pair_of numbering.now)) }
+    ensures refused { IfErr result (λ fault. (measured_in B.shape length (layout_of numbering.now, pair_of numbering.now) ≡ Err fault) × IsOfBytes fault) }
+{
+    let size = HEADER as u64 + 2 * numbering.count() + DIGEST;
+    if length < size {
+        return Err(ReadFault::Short);
+    }
+    if size < length {
+        return Err(ReadFault::Trailing);
+    }
+    Ok(())
+}
+
+/// The value that a code says.
+fn value_of_code(code: u16) -> Value
+    ensures value { result ≡ value_in code }
+    ensures few { depth_of result ≤ 65534 }
+{
+    if code == 0 {
+        return Value::Draw;
+    }
+    let depth = code - 1;
+    if depth % 2 == 0 {
+        Value::Lost(depth)
+    } else {
+        Value::Won(depth)
+    }
+}
