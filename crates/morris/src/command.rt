@@ -1,25 +1,21 @@
 //! The command line: from its words to what goes out, and the exit status.
 ghost use Rattle.std.specs.Prelude.{◌≡◌, ◌≢◌, ◌-◌, ◌^◌, ◌<◌, ◌≤◌, [], IsTrue, false, map, if◌then◌else◌};
-ghost use Rattle.morris_board.specs.Streams.{CountsFailure};
-ghost use Rattle.morris_probe.specs.Reports.{WentOut};
-ghost use Rattle.morris_commands.specs.Faults.{CountsWrites, Prints, Reports, ReportsFault, ReportsText, fault_line};
+ghost use Rattle.morris_commands.specs.Faults.{Reports, ReportsFault, ReportsText};
 ghost use Rattle.morris_commands.specs.declared.fault.Fault.TheVariants as fault;
-ghost use Rattle.morris_commands.specs.Progress.{Becomes, TellsInOrder};
+ghost use Rattle.morris_commands.specs.Progress.{TellsInOrder};
 ghost use Rattle.morris_words.specs.Words.{IsInRange, faults_of, named_by};
 ghost use Rattle.morris_commands.specs.Verify.{input_of};
 ghost use Rattle.morris.specs.Command.{Answers, AsksToRead, Ends, HasMistake, TellsProgress, asks_progress, not_text, status_of, takes_input};
 
-use morris_board::streams::buffered::Buffered;
-use morris_board::streams::{Failed, Sink, Source, put};
-use morris_commands::build::build_told;
+use morris_board::streams::{Sink, Source};
+use morris_commands::build::build_with;
 use morris_commands::fault::Fault;
 use morris_commands::look::look;
-use morris_commands::print_fault::put_fault;
-use morris_commands::probe::probe_told;
+use morris_commands::print::{print, send};
+use morris_commands::probe::probe_with;
 use morris_commands::progress::Progress;
-use morris_commands::size::Team;
-use morris_commands::stats::stats_told;
-use morris_commands::verify::verify_told;
+use morris_commands::stats::stats_with;
+use morris_commands::verify::verify_with;
 use morris_words::words::{Refusal, Request, read_words};
 use std::alloc::Global;
 use std::convert::AsStr;
@@ -65,14 +61,14 @@ pub fn command<R: Threads + Wait + Clock + Sync, W: AsStr, I: Source, O: Sink, E
 {
     match read_words(alloc, words) {
         Ok(request) => {
-            let done = run_told(rt, alloc, request, input, output, errors);
+            let done = run(rt, alloc, request, input, output, errors);
             finish(done, errors)
         }
-        Err(Refusal::Help(text)) => finish(print_text(text.as_str(), output), errors),
-        Err(Refusal::Version(text)) => finish(print_text(text.as_str(), output), errors),
+        Err(Refusal::Help(text)) => finish(print(&text.as_str(), output), errors),
+        Err(Refusal::Version(text)) => finish(print(&text.as_str(), output), errors),
         Err(Refusal::Memory) => finish(Err(Fault::Memory), errors),
         Err(Refusal::Wrong(text)) => {
-            let _ = send_text(text.as_str(), errors);
+            let _ = send(&text.as_str(), errors);
             2
         }
     }
@@ -89,14 +85,13 @@ pub fn refuse_words<E: Sink>(out_of_memory: bool, errors: &mut E) -> u8
     if out_of_memory {
         return finish(Err(Fault::Memory), errors);
     }
-    let _ = send_text("error: a word of the command line is not text\n", errors);
+    let _ = send(&"error: a word of the command line is not text\n", errors);
     2
 }
 
 /// Runs the command of a request, and tells on `errors` how far it is, where the request asks for
 /// it.
-#[tactic(auto, using(morris_commands::specs::ProgressLaws::told_laws))]
-fn run_told<R: Threads + Wait + Clock + Sync, I: Source, O: Sink, E: Sink>(
+fn run<R: Threads + Wait + Clock + Sync, I: Source, O: Sink, E: Sink>(
     rt: &R,
     alloc: Global,
     request: Request<'_>,
@@ -104,7 +99,7 @@ fn run_told<R: Threads + Wait + Clock + Sync, I: Source, O: Sink, E: Sink>(
     output: &mut O,
     errors: &mut E,
 ) -> Result<(), Fault>
-    requires depth { IsInRange request }
+    requires range { IsInRange request }
     requires input { I.failures input.old < 2 ^ 64 - 1 }
     requires output { O.failures output.old < 2 ^ 64 - 1 }
     ensures answer { Answers (input_of (I.remaining input.old) (I.failures input.old)) (input_of (I.remaining input.new) (I.failures input.new))
@@ -114,7 +109,27 @@ fn run_told<R: Threads + Wait + Clock + Sync, I: Source, O: Sink, E: Sink>(
     ensures silent { asks_progress request.entry ≡ false → errors.new ≡ errors.old }
 {
     let mut progress = Progress::new(rt, asks_progress(&request), errors);
-    run(rt, alloc, request, input, output, &mut progress)
+    let told = &mut progress;
+    match request {
+        Request::Look { board, text, depth } => look(board, text, depth, output),
+        Request::Stats { board, pair, .. } => stats_with(alloc, board, pair, output, told),
+        Request::Build {
+            board,
+            pair,
+            workers,
+            blocks,
+            all,
+            classes,
+            ..
+        } => {
+            let (workers, blocks) = (usize::from(workers), usize::from(blocks));
+            build_with(
+                rt, alloc, board, pair, workers, blocks, all, classes, output, told,
+            )
+        }
+        Request::Verify { board, .. } => verify_with(alloc, board, input, output, told),
+        Request::Probe { board, text, .. } => probe_with(alloc, board, text, input, output, told),
+    }
 }
 
 /// Whether a request asks to be told how far its command is.
@@ -130,71 +145,6 @@ fn asks_progress(request: &Request<'_>) -> bool
     }
 }
 
-/// Runs the command of a request, which tells `progress` how far it is.
-#[tactic(auto, using(morris_commands::specs::ProgressLaws::told_laws))]
-fn run<R: Threads + Wait + Sync, I: Source, O: Sink, C: Clock, E: Sink>(
-    rt: &R,
-    alloc: Global,
-    request: Request<'_>,
-    input: &mut I,
-    output: &mut O,
-    progress: &mut Progress<'_, C, E>,
-) -> Result<(), Fault>
-    requires depth { IsInRange request }
-    requires input { I.failures input.old < 2 ^ 64 - 1 }
-    requires output { O.failures output.old < 2 ^ 64 - 1 }
-    ensures answer { Answers (input_of (I.remaining input.old) (I.failures input.old)) (input_of (I.remaining input.new) (I.failures input.new))
-        (O.contents output.old) (O.contents output.new) request.entry result }
-    ensures unread { takes_input request.entry ≡ false → input.new ≡ input.old }
-    ensures told { Becomes E.contents E.failures progress.old progress.new }
-{
-    match request {
-        Request::Look { board, text, depth } => look(board, text, depth, output),
-        Request::Stats { board, pair, .. } => stats_told(alloc, board, pair, output, progress),
-        Request::Build {
-            board,
-            pair,
-            workers,
-            blocks,
-            all,
-            classes,
-            ..
-        } => {
-            let (workers, blocks) = (usize::from(workers), usize::from(blocks));
-            let team = Team { workers, blocks };
-            build_told(rt, alloc, board, pair, team, all, classes, output, progress)
-        }
-        Request::Verify { board, .. } => verify_told(alloc, board, input, output, progress),
-        Request::Probe { board, text, .. } => {
-            probe_told(alloc, board, text, input, output, progress)
-        }
-    }
-}
-
-/// Prints the text of the help, or of the version, that was asked for.
-fn print_text<O: Sink>(text: &str, output: &mut O) -> Result<(), Fault>
-    requires { O.failures output.old < 2 ^ 64 - 1 }
-    ensures shown { Prints (O.contents output.old) (O.contents output.new) text.now result }
-    ensures counted { CountsWrites (O.failures output.old) (O.failures output.new) result }
-{
-    match send_text(text, output) {
-        Ok(()) => Ok(()),
-        Err(sent) => Err(Fault::Write(sent)),
-    }
-}
-
-/// Sends a text: the whole, or as many bytes of it as go out.
-fn send_text<S: Sink>(text: &str, sink: &mut S) -> Result<(), u64>
-    requires { S.failures sink.old < 2 ^ 64 - 1 }
-    ensures sent { WentOut (S.contents sink.old) (S.contents sink.new) text.now result }
-    ensures counted { CountsFailure (S.failures sink.old) (S.failures sink.new) result }
-{
-    match put(sink, 0, text.as_bytes()) {
-        Ok(_) => Ok(()),
-        Err(sent) => Err(sent),
-    }
-}
-
 /// The exit status of a command; where it was refused, its fault goes to `errors`.
 fn finish<E: Sink>(done: Result<(), Fault>, errors: &mut E) -> u8
     requires { E.failures errors.old < 2 ^ 64 - 1 }
@@ -205,21 +155,8 @@ fn finish<E: Sink>(done: Result<(), Fault>, errors: &mut E) -> u8
         Ok(()) => 0,
         Err(fault) => {
             // A fault of `errors` itself is ignored.
-            let _ = send_fault(fault, errors);
+            let _ = send(&fault, errors);
             1
         }
-    }
-}
-
-/// Sends the line of a fault: the whole, or as many bytes of it as went out.
-fn send_fault<E: Sink>(fault: Fault, errors: &mut E) -> Result<(), u64>
-    requires { E.failures errors.old < 2 ^ 64 - 1 }
-    ensures sent { WentOut (E.contents errors.old) (E.contents errors.new) (fault_line fault) result }
-    ensures counted { CountsFailure (E.failures errors.old) (E.failures errors.new) result }
-{
-    let mut out = Buffered::new(errors);
-    match put_fault(&mut out, fault) {
-        Ok(()) => Ok(()),
-        Err(Failed) => Err(out.sent()),
     }
 }

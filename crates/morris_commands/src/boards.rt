@@ -36,3 +36,20 @@ pub fn read_board(name: &str) -> Result<NamedBoard, Fault>
         Err(Fault::Board)
     }
 }
+
+/// Runs a function of a board's type on the board of a name, or answers the fault that there is
+/// none. The board's type is the first of the function's type arguments.
+macro_rules! on_board {
+    ($name:expr, $run:ident::<$($type:ty),*>($($argument:expr),* $(,)?)) => {
+        match $crate::boards::read_board($name)? {
+            $crate::boards::NamedBoard::Nine => {
+                $run::<morris_board::nine::Nine, $($type),*>($($argument),*)
+            }
+            $crate::boards::NamedBoard::Grid => {
+                $run::<morris_board::grid::Grid, $($type),*>($($argument),*)
+            }
+        }
+    };
+}
+
+pub(crate) use on_board;

@@ -1,26 +1,23 @@
 //! The command `build`.
-ghost use Rattle.std.specs.Prelude.{◌≡◌, ◌≢◌, ◌+◌, ◌-◌, ◌^◌, ◌<◌, ◌≤◌, None, Some, true, false, is_some, length, IfErr, IfOk, MatchResult, OnOk, option_map};
+ghost use Rattle.std.specs.Prelude.{◌≡◌, ◌≢◌, ◌+◌, ◌-◌, ◌^◌, ◌<◌, ◌≤◌, None, true, false, is_some, length, IfErr, IfOk, OnOk};
 ghost use Rattle.std.specs.List.{flat_map};
 ghost use Rattle.morris_board.specs.Streams.{CountsFailure, HasSent};
 ghost use Rattle.morris_index.specs.Pairs.{Counts, EndsIn, below_of};
 ghost use Rattle.morris_table.specs.Known.{IsBeyondCodes};
 ghost use Rattle.morris_table.specs.Shelves.{first_missing, table_on};
 ghost use Rattle.morris_table.specs.TableFiles.{file_of};
-ghost use Rattle.morris_workers.specs.Ranges.{range_fault};
-ghost use Rattle.morris_commands.specs.Faults.{CountsWrites, is_write, solve_fault};
+ghost use Rattle.morris_commands.specs.Faults.{CountsWrites, is_write};
 ghost use Rattle.morris_commands.specs.Look.{board_of};
-ghost use Rattle.morris_commands.specs.Progress.{Becomes};
 ghost use Rattle.morris_commands.specs.Stats.{HasTooDeep};
-ghost use Rattle.morris_commands.specs.Build.{AnswersBuild, AnswersBuildOn, AnswersBuilt, AnswersFiles, HasExact, HasExactAt, HasTables, IsUnbuiltAt, IsUnbuiltFor, file_on, layout_asked, pairs_written};
+ghost use Rattle.morris_commands.specs.Build.{AnswersBuild, AnswersBuildOn, AnswersFiles, HasExact, HasExactAt, HasTables, IsUnbuiltAt, IsUnbuiltFor, file_on, layout_asked, pairs_written};
 
-use crate::boards::{NamedBoard, read_board};
+use crate::boards::on_board;
 use crate::fault::Fault;
 use crate::pairs::read_pair;
-use crate::progress::{Nowhere, Progress};
-use crate::size::{Team, Way};
+use crate::size::Way;
+use crate::team::Team;
+use crate::teller::Teller;
 use morris_board::board::{Board, Geometry};
-use morris_board::grid::Grid;
-use morris_board::nine::Nine;
 use morris_board::streams::Sink;
 use morris_index::pair::Pair;
 use morris_table::building::build_watched;
@@ -29,18 +26,18 @@ use morris_table::file_faults::Write;
 use morris_table::layout::Layout;
 use morris_table::shelf::Shelf;
 use morris_table::writing::write_table;
-use morris_workers::{OpenGate, check_numbers};
+use morris_workers::{OpenGate, Unwatched};
 use std::alloc::Global;
 use std::sync::Wait;
 use std::thread::Threads;
-use std::time::Clock;
 
-/// What is built, and by whom.
-#[derive(Clone, Copy, Debug, PartialEq, Eq)]
+/// What is built, and by whom, as it was asked for.
+#[derive(Clone, Copy, Debug)]
 struct Plan {
     // The layout of the tables.
     layout: Layout,
-    team: Team,
+    workers: usize,
+    blocks: usize,
     // Whether the files of all tables are written, or that of the last alone.
     all: bool,
 }
@@ -76,49 +73,40 @@ pub fn build_out<R: Threads + Wait + Sync, O: Sink>(
     ensures answer { AnswersBuild (board_of board.now) pair.now workers blocks all classes (O.contents output.old) (O.contents output.new) result }
     ensures counted { CountsWrites (O.failures output.old) (O.failures output.new) result }
 {
-    let (clock, mut nowhere) = (Nowhere, Nowhere);
-    let mut progress = Progress::new(&clock, false, &mut nowhere);
-    let team = Team { workers, blocks };
-    build_told(
-        rt,
-        alloc,
-        board,
-        pair,
-        team,
-        all,
-        classes,
-        output,
-        &mut progress,
+    let told = &mut Unwatched;
+    build_with(
+        rt, alloc, board, pair, workers, blocks, all, classes, output, told,
     )
 }
 
-/// [`build_out`], which tells `progress` how far it is.
-#[tactic(auto, using(crate::specs::ProgressLaws::told_laws))]
-pub fn build_told<R: Threads + Wait + Sync, O: Sink, C: Clock, E: Sink>(
+/// The body of [`build_out`], which the program runs: it tells `teller` how far it is.
+pub fn build_with<R: Threads + Wait + Sync, O: Sink, T: Teller>(
     rt: &R,
     alloc: Global,
     board: &str,
     pair: &str,
-    team: Team,
+    workers: usize,
+    blocks: usize,
     all: bool,
     classes: bool,
     output: &mut O,
-    progress: &mut Progress<'_, C, E>,
+    teller: &mut T,
 ) -> Result<(), Fault>
     requires { O.failures output.old < 2 ^ 64 - 1 }
-    ensures answer { AnswersBuild (board_of board.now) pair.now team.workers team.blocks all classes (O.contents output.old) (O.contents output.new) result }
+    ensures answer { AnswersBuild (board_of board.now) pair.now workers blocks all classes (O.contents output.old) (O.contents output.new) result }
     ensures counted { CountsWrites (O.failures output.old) (O.failures output.new) result }
-    ensures told { Becomes E.contents E.failures progress.old progress.new }
+    ensures told { T.becomes teller.old teller.new }
 {
     let plan = Plan {
         layout: layout_of(classes),
-        team,
+        workers,
+        blocks,
         all,
     };
-    match read_board(board)? {
-        NamedBoard::Nine => build_on::<Nine, R, O, C, E>(rt, alloc, plan, pair, output, progress),
-        NamedBoard::Grid => build_on::<Grid, R, O, C, E>(rt, alloc, plan, pair, output, progress),
-    }
+    on_board!(
+        board,
+        build_on::<R, O, T>(rt, alloc, plan, pair, output, teller)
+    )
 }
 
 /// The layout of the tables, by whether entries for classes are asked for.
@@ -132,108 +120,74 @@ fn layout_of(classes: bool) -> Layout
     }
 }
 
-#[tactic(auto, using(crate::specs::ProgressLaws::told_laws))]
-fn build_on<B: Board, R: Threads + Wait + Sync, O: Sink, C: Clock, E: Sink>(
+fn build_on<B: Board, R: Threads + Wait + Sync, O: Sink, T: Teller>(
     rt: &R,
     alloc: Global,
     plan: Plan,
     text: &str,
     output: &mut O,
-    progress: &mut Progress<'_, C, E>,
+    teller: &mut T,
 ) -> Result<(), Fault>
     requires { O.failures output.old < 2 ^ 64 - 1 }
-    ensures answer { AnswersBuildOn B.shape plan.layout text.now plan.team.workers plan.team.blocks plan.all (O.contents output.old) (O.contents output.new) result }
+    ensures answer { AnswersBuildOn B.shape plan.layout text.now plan.workers plan.blocks plan.all (O.contents output.old) (O.contents output.new) result }
     ensures counted { CountsWrites (O.failures output.old) (O.failures output.new) result }
-    ensures told { Becomes E.contents E.failures progress.old progress.new }
+    ensures told { T.becomes teller.old teller.new }
 {
     let pair = read_pair::<B>(text)?;
-    check_team(plan.team)?;
-    build_pair(rt, alloc, plan, pair, output, progress)
-}
-
-/// Whether there are so many workers and blocks as there may be.
-fn check_team(team: Team) -> Result<(), Fault>
-    ensures { MatchResult result (λ _. range_fault team.workers team.blocks ≡ None)
-        (λ refused. option_map solve_fault (range_fault team.workers team.blocks) ≡ Some refused) }
-{
-    match check_numbers(team.workers, team.blocks) {
-        Ok(()) => Ok(()),
-        Err(refused) => Err(Fault::from(refused)),
-    }
-}
-
-#[tactic(auto, using(crate::specs::ProgressLaws::told_laws))]
-fn build_pair<B: Board, R: Threads + Wait + Sync, O: Sink, C: Clock, E: Sink>(
-    rt: &R,
-    alloc: Global,
-    plan: Plan,
-    pair: Pair<B>,
-    output: &mut O,
-    progress: &mut Progress<'_, C, E>,
-) -> Result<(), Fault>
-    requires failures { O.failures output.old < 2 ^ 64 - 1 }
-    requires range { range_fault plan.team.workers plan.team.blocks ≡ None }
-    ensures answer { AnswersBuilt B.shape plan.layout pair plan.team.blocks plan.all (O.contents output.old) (O.contents output.new) result }
-    ensures counted { CountsWrites (O.failures output.old) (O.failures output.new) result }
-    ensures told { Becomes E.contents E.failures progress.old progress.new }
-{
-    let Plan { layout, team, all } = plan;
-    let shelf = build_below(rt, alloc, layout, pair, team, progress)?;
-    write_files(&shelf, layout, pair, all, output)
+    let team = Team::new(plan.workers, plan.blocks)?;
+    let shelf = build_below(rt, alloc, plan.layout, pair, team, teller)?;
+    write_files(&shelf, plan.layout, pair, plan.all, output)
 }
 
 /// The tables of all pairs below a pair, its own among them, in a layout.
-#[tactic(auto, using(crate::specs::ProgressLaws::told_laws))]
-fn build_below<B: Board, R: Threads + Wait + Sync, C: Clock, E: Sink>(
+fn build_below<B: Board, R: Threads + Wait + Sync, T: Teller>(
     rt: &R,
     alloc: Global,
     layout: Layout,
     pair: Pair<B>,
     team: Team,
-    progress: &mut Progress<'_, C, E>,
+    teller: &mut T,
 ) -> Result<Shelf<B>, Fault>
-    requires range { range_fault team.workers team.blocks ≡ None }
+    // The caller's proof learns here that the board has as many points as its shape says.
+    ensures points { B.shape.points ≡ B.POINTS }
     ensures exact { IfOk result (λ shelf. HasExact B.shape layout shelf (below_of pair)) }
     ensures last { OnOk result (EndsIn (below_of pair) pair) }
     ensures within { OnOk result (¬ HasTooDeep B.shape pair) }
     ensures refused { IfErr result (IsUnbuiltFor B.shape pair team.blocks) }
     ensures unwritten { IfErr result (λ refused. is_write refused ≡ false) }
-    ensures told { Becomes E.contents E.failures progress.old progress.new }
+    ensures told { T.becomes teller.old teller.new }
 {
     let mut shelf = Shelf::new(alloc)?;
-    progress.announce(pair, layout, Way::Built(team));
+    teller.announce(pair, layout, Way::Built(team));
     for below in pair.below() {
-        build_onto(rt, alloc, &mut shelf, layout, below, team, progress)?;
+        build_onto(rt, alloc, &mut shelf, layout, below, team, teller)?;
     }
     Ok(shelf)
 }
 
 /// Puts the table of a pair in a layout on a shelf that has those that it needs.
-#[tactic(auto, using(crate::specs::ProgressLaws::told_laws))]
-fn build_onto<B: Board, R: Threads + Wait + Sync, C: Clock, E: Sink>(
+fn build_onto<B: Board, R: Threads + Wait + Sync, T: Teller>(
     rt: &R,
     alloc: Global,
     shelf: &mut Shelf<B>,
     layout: Layout,
     pair: Pair<B>,
     team: Team,
-    progress: &mut Progress<'_, C, E>,
+    teller: &mut T,
 ) -> Result<(), Fault>
     requires ready { first_missing shelf.old pair ≡ None }
-    requires range { range_fault team.workers team.blocks ≡ None }
     ensures exact { OnOk result (HasExactAt B.shape layout shelf.new pair) }
     ensures others { OnOk result ((other : Counts) → other ≢ pair → table_on shelf.new other ≡ table_on shelf.old other) }
     ensures within { OnOk result (¬ IsBeyondCodes B.shape pair) }
     ensures refused { IfErr result (IsUnbuiltAt B.shape pair team.blocks) }
-    ensures told { Becomes E.contents E.failures progress.old progress.new }
+    ensures told { T.becomes teller.old teller.new }
 {
-    let Team { workers, blocks } = team;
-    progress.begin_pair(pair);
-    let gate = &OpenGate;
+    let (gate, workers, blocks) = (&OpenGate, team.workers, team.blocks);
+    teller.begin_pair(pair);
     let table = build_watched(
-        rt, alloc, shelf, pair, layout, gate, progress, workers, blocks,
+        rt, alloc, shelf, pair, layout, gate, teller, workers, blocks,
     )?;
-    progress.end_pair(&table);
+    teller.end_pair(&table);
     match shelf.put(table) {
         Ok(()) => Ok(()),
         Err(_) => unreachable!(),

@@ -3,15 +3,13 @@ ghost use Rattle.std.specs.Prelude.{◌≡◌, ◌-◌, ◌^◌, ◌<◌, ◌≤
 ghost use Rattle.morris_commands.specs.Faults.{CountsWrites};
 ghost use Rattle.morris_commands.specs.Look.{board_of, Looks, LooksOn};
 
-use crate::boards::{NamedBoard, read_board};
+use crate::boards::on_board;
 use crate::fault::Fault;
-use crate::print::put_look;
+use crate::print::print;
+use crate::print_look::Looked;
 use morris_board::board::Geometry;
-use morris_board::grid::Grid;
-use morris_board::nine::Nine;
 use morris_board::position::Position;
-use morris_board::streams::buffered::Buffered;
-use morris_board::streams::{Failed, Sink};
+use morris_board::streams::Sink;
 use morris_moves::look_ahead::within;
 
 /// Shows the position that `text` writes on the board named `board`: its text, how many stones each
@@ -28,10 +26,7 @@ pub fn look<S: Sink>(board: &str, text: &str, depth: u8, output: &mut S) -> Resu
     ensures answer { Looks (board_of board.now) text.now depth (S.contents output.old) (S.contents output.new) result }
     ensures counted { CountsWrites (S.failures output.old) (S.failures output.new) result }
 {
-    match read_board(board)? {
-        NamedBoard::Nine => look_on::<Nine, S>(text, depth, output),
-        NamedBoard::Grid => look_on::<Grid, S>(text, depth, output),
-    }
+    on_board!(board, look_on::<S>(text, depth, output))
 }
 
 fn look_on<B: Geometry, S: Sink>(text: &str, depth: u8, output: &mut S) -> Result<(), Fault>
@@ -42,9 +37,10 @@ fn look_on<B: Geometry, S: Sink>(text: &str, depth: u8, output: &mut S) -> Resul
 {
     let position = Position::<B>::read(text.as_bytes())?;
     let found = within(&position, depth);
-    let mut out = Buffered::new(output);
-    match put_look(&mut out, &position, depth, found) {
-        Ok(()) => Ok(()),
-        Err(Failed) => Err(Fault::Write(out.sent())),
-    }
+    let looked = Looked {
+        position,
+        plies: depth,
+        found,
+    };
+    print(&looked, output)
 }

@@ -1,118 +1,77 @@
-//! What `look` prints, piece by piece, through a buffer. Each function ends at the first write that
-//! fails.
-ghost use Rattle.std.specs.Prelude.{◌≡◌, ◌+◌, ◌-◌, ◌^◌, ◌<◌, ◌≤◌, [], length, OnOk};
-ghost use Rattle.std.specs.List.{flat_map};
+//! What is printed: a text, and that it goes out through a buffer.
+ghost use Rattle.std.specs.Prelude.{◌≡◌, ℕ, ◌-◌, ◌^◌, ◌<◌, List, ⊤, [], OnOk};
 ghost use Rattle.morris_board.specs.Buffered.{Passes, held_of, sink_of, taken_of};
-ghost use Rattle.morris_moves.specs.Rules.{moves_of};
-ghost use Rattle.morris_probe.specs.Lines.{move_line};
-ghost use Rattle.morris_commands.specs.Look.{counts_line, value_line, head_text, list_text, look_text};
+ghost use Rattle.morris_board.specs.Streams.{CountsFailure};
+ghost use Rattle.morris_probe.specs.Reports.{WentOut};
+ghost use Rattle.morris_commands.specs.Faults.{CountsWrites, Prints};
 
-use morris_board::board::Geometry;
-use morris_board::position::Position;
+use crate::fault::Fault;
 use morris_board::streams::buffered::Buffered;
 use morris_board::streams::{Failed, Sink};
-use morris_moves::rules::moves;
-use morris_moves::search::Within;
-use morris_probe::print::{put_count, put_move_line, put_number_line, put_position};
 
-/// How many stones each side has.
-#[tactic(auto, using(morris_board::proofs::BufferedLaws::passed_laws))]
-fn put_counts<B: Geometry, S: Sink>(
-    out: &mut Buffered<'_, S>,
-    position: &Position<B>,
-) -> Result<(), Failed>
-    requires failures { S.failures (sink_of out.old) < 2 ^ 64 - 1 }
-    requires room { taken_of out.old < 2 ^ 63 }
-    ensures passed { Passes S.contents S.failures out.old out.new (counts_line position.now) result }
-    ensures few { OnOk result (taken_of out.new ≤ taken_of out.old + 105) }
-{
-    let (own, other) = position.counts();
-    put_count(out, "own ", u64::from(own))?;
-    put_number_line(out, " other ", u64::from(other))
+/// A text that can be printed.
+pub trait Printed {
+    // Its bytes.
+    ghost bytes: { Self → List ℕ };
+    // That they are few enough to be counted.
+    ghost is_short: { Self → Type 0 } = { λ text. ⊤ };
+
+    /// Puts the text in, piece by piece. The first write that fails ends it.
+    fn put_into<S: Sink>(&self, out: &mut Buffered<'_, S>) -> Result<(), Failed>
+        requires short { is_short self.now }
+        requires failures { S.failures (sink_of out.old) < 2 ^ 64 - 1 }
+        requires new { taken_of out.old ≡ 0 }
+        ensures passed { Passes S.contents S.failures out.old out.new (bytes self.now) result }
+        ensures few { OnOk result (taken_of out.new < 2 ^ 63) };
 }
 
-/// The lines of the legal moves.
-fn put_moves<B: Geometry, S: Sink>(
-    out: &mut Buffered<'_, S>,
-    position: &Position<B>,
-) -> Result<(), Failed>
-    requires failures { S.failures (sink_of out.old) < 2 ^ 64 - 1 }
-    requires room { taken_of out.old < 2 ^ 10 }
-    ensures passed { Passes S.contents S.failures out.old out.new (flat_map move_line (moves_of B.shape position.now)) result }
-    ensures few { OnOk result (taken_of out.new < 2 ^ 20) }
-{
-    for m in moves(position) {
-        put_move_line(out, m)?;
-    }
-    Ok(())
-}
+/// A text as it stands.
+impl Printed for &str {
+    ghost bytes = { λ text. text.now };
 
-/// The value of a position as far as `plies` plies show it.
-fn put_value<S: Sink>(out: &mut Buffered<'_, S>, plies: u8, found: Within) -> Result<(), Failed>
-    requires failures { S.failures (sink_of out.old) < 2 ^ 64 - 1 }
-    requires room { taken_of out.old < 2 ^ 63 }
-    ensures passed { Passes S.contents S.failures out.old out.new (value_line plies found) result }
-    ensures few { OnOk result (taken_of out.new ≤ taken_of out.old + 53) }
-{
-    match found {
-        Within::Lost(depth) => put_number_line(out, "lost in ", u64::from(depth)),
-        Within::Won(depth) => put_number_line(out, "won in ", u64::from(depth)),
-        Within::Unknown => put_number_line(out, "unknown within ", u64::from(plies)),
+    fn put_into<S: Sink>(&self, out: &mut Buffered<'_, S>) -> Result<(), Failed> {
+        out.put(self.as_bytes())
     }
 }
 
-/// A position and how many stones each side has.
-#[tactic(auto, using(morris_board::proofs::BufferedLaws::passed_laws))]
-fn put_head<B: Geometry, S: Sink>(
-    out: &mut Buffered<'_, S>,
-    position: &Position<B>,
-) -> Result<(), Failed>
+/// Prints a text, as a command answers it.
+///
+/// # Errors
+/// [`Fault::Write`], with the bytes that went out, at the first write that fails.
+pub fn print<P: Printed, S: Sink>(text: &P, output: &mut S) -> Result<(), Fault>
+    requires short { P.is_short text.now }
+    requires failures { S.failures output.old < 2 ^ 64 - 1 }
+    ensures shown { Prints (S.contents output.old) (S.contents output.new) (P.bytes text.now) result }
+    ensures counted { CountsWrites (S.failures output.old) (S.failures output.new) result }
+{
+    match send(text, output) {
+        Ok(()) => Ok(()),
+        Err(sent) => Err(Fault::Write(sent)),
+    }
+}
+
+/// Sends a text: the whole, or as many bytes of it as go out, which a refusal tells.
+pub fn send<P: Printed, S: Sink>(text: &P, sink: &mut S) -> Result<(), u64>
+    requires short { P.is_short text.now }
+    requires failures { S.failures sink.old < 2 ^ 64 - 1 }
+    ensures sent { WentOut (S.contents sink.old) (S.contents sink.new) (P.bytes text.now) result }
+    ensures counted { CountsFailure (S.failures sink.old) (S.failures sink.new) result }
+{
+    let mut out = Buffered::new(sink);
+    match put_all(text, &mut out) {
+        Ok(()) => Ok(()),
+        Err(Failed) => Err(out.sent()),
+    }
+}
+
+/// Puts a text in to the last byte: nothing is held back.
+fn put_all<P: Printed, S: Sink>(text: &P, out: &mut Buffered<'_, S>) -> Result<(), Failed>
+    requires short { P.is_short text.now }
     requires failures { S.failures (sink_of out.old) < 2 ^ 64 - 1 }
     requires new { taken_of out.old ≡ 0 }
-    ensures passed { Passes S.contents S.failures out.old out.new (head_text B.shape position.now) result }
-    ensures few { OnOk result (taken_of out.new < 2 ^ 10) }
-{
-    put_position(out, position)?;
-    put_counts(out, position)
-}
-
-/// The legal moves and how many there are.
-#[tactic(auto, using(morris_board::proofs::BufferedLaws::passed_laws))]
-fn put_list<B: Geometry, S: Sink>(
-    out: &mut Buffered<'_, S>,
-    position: &Position<B>,
-) -> Result<(), Failed>
-    requires failures { S.failures (sink_of out.old) < 2 ^ 64 - 1 }
-    requires room { taken_of out.old < 2 ^ 10 }
-    ensures passed { Passes S.contents S.failures out.old out.new (list_text B.shape position.now) result }
-    ensures few { OnOk result (taken_of out.new < 2 ^ 21) }
-{
-    put_moves(out, position)?;
-    put_number_line(out, "moves ", move_count(position))
-}
-
-/// How many legal moves there are.
-fn move_count<B: Geometry>(position: &Position<B>) -> u64
-    ensures { result ≡ length (moves_of B.shape position.now) }
-{
-    moves(position).count() as u64
-}
-
-/// All that `look` prints, to the last byte: nothing is held back.
-#[tactic(auto, using(morris_board::proofs::BufferedLaws::passed_laws), unfolding(crate::specs::Look::look_text))]
-pub fn put_look<B: Geometry, S: Sink>(
-    out: &mut Buffered<'_, S>,
-    position: &Position<B>,
-    plies: u8,
-    found: Within,
-) -> Result<(), Failed>
-    requires failures { S.failures (sink_of out.old) < 2 ^ 64 - 1 }
-    requires new { taken_of out.old ≡ 0 }
-    ensures passed { Passes S.contents S.failures out.old out.new (look_text B.shape position.now plies found) result }
+    ensures passed { Passes S.contents S.failures out.old out.new (P.bytes text.now) result }
     ensures empty { OnOk result (held_of out.new ≡ []) }
 {
-    put_head(out, position)?;
-    put_list(out, position)?;
-    put_value(out, plies, found)?;
+    text.put_into(out)?;
     out.flush()
 }

@@ -1,25 +1,27 @@
-//! What is printed of a fault, through a buffer.
-ghost use Rattle.std.specs.Prelude.{◌≡◌, ◌+◌, ◌-◌, ◌^◌, ◌<◌, ◌≤◌, [], length, OnOk};
-ghost use Rattle.morris_board.specs.Buffered.{Passes, held_of, sink_of, taken_of};
-ghost use Rattle.morris_commands.specs.Faults.{fault_line, length_around, worded};
+//! What is printed of a fault.
+ghost use Rattle.std.specs.Prelude.{◌≡◌, ◌+◌, ◌-◌, ◌^◌, ◌<◌, ◌≤◌, OnOk};
+ghost use Rattle.morris_board.specs.Buffered.{Passes, sink_of, taken_of};
+ghost use Rattle.morris_commands.specs.Faults.{length_around, worded};
 
 use crate::fault::{Fault, Wording};
+use crate::print::Printed;
 use morris_board::streams::buffered::Buffered;
 use morris_board::streams::{Failed, Sink};
 use morris_probe::print::{put_count, put_signed};
 
-/// The line of a fault, to the last byte: nothing is held back.
-pub fn put_fault<S: Sink>(out: &mut Buffered<'_, S>, fault: Fault) -> Result<(), Failed>
-    requires failures { S.failures (sink_of out.old) < 2 ^ 64 - 1 }
-    requires new { taken_of out.old ≡ 0 }
-    ensures passed { Passes S.contents S.failures out.old out.new (fault_line fault) result }
-    ensures empty { OnOk result (held_of out.new ≡ []) }
-{
-    put_count(out, "fault ", u64::from(fault.number()))?;
-    out.put(b": ")?;
-    put_wording(out, fault.wording())?;
-    out.put_byte(b'\n')?;
-    out.flush()
+/// The line of the fault.
+#[tactic(auto, using(morris_board::proofs::BufferedLaws::passed_laws), unfolding(crate::specs::Faults::fault_line))]
+impl Printed for Fault {
+    ghost use Rattle.morris_commands.specs.Faults.{fault_line};
+
+    ghost bytes = { λ fault. fault_line fault };
+
+    fn put_into<S: Sink>(&self, out: &mut Buffered<'_, S>) -> Result<(), Failed> {
+        put_count(out, "fault ", u64::from(self.number()))?;
+        out.put(b": ")?;
+        put_wording(out, self.wording())?;
+        out.put_byte(b'\n')
+    }
 }
 
 /// The text of a fault.

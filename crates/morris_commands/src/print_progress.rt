@@ -1,8 +1,9 @@
-//! What is printed of how far a command is, through a buffer.
-ghost use Rattle.std.specs.Prelude.{◌≡◌, ◌+◌, ◌-◌, ◌^◌, ◌<◌, ◌≤◌, [], length, OnOk};
-ghost use Rattle.morris_board.specs.Buffered.{Passes, held_of, sink_of, taken_of};
-ghost use Rattle.morris_commands.specs.Progress.{labelled, news_line, so_far_text, stones_text, whole_line};
+//! What is printed of how far a command is.
+ghost use Rattle.std.specs.Prelude.{◌≡◌, ◌+◌, ◌-◌, ◌^◌, ◌<◌, ◌≤◌, length, OnOk};
+ghost use Rattle.morris_board.specs.Buffered.{Passes, sink_of, taken_of};
+ghost use Rattle.morris_commands.specs.Progress.{labelled, so_far_text, stones_text, whole_line};
 
+use crate::print::Printed;
 use crate::progress::{News, SoFar};
 use morris_board::streams::buffered::Buffered;
 use morris_board::streams::{Failed, Sink};
@@ -59,46 +60,35 @@ fn put_whole<S: Sink>(out: &mut Buffered<'_, S>, entries: u64, megabytes: u64) -
     out.put(b" MB of memory\n")
 }
 
-/// One of the news.
+/// The line of one of the news.
 #[tactic(auto, using(morris_board::proofs::BufferedLaws::passed_laws))]
-fn put_news<S: Sink>(out: &mut Buffered<'_, S>, news: News) -> Result<(), Failed>
-    requires failures { S.failures (sink_of out.old) < 2 ^ 64 - 1 }
-    requires room { taken_of out.old < 2 ^ 9 }
-    ensures passed { Passes S.contents S.failures out.old out.new (news_line news) result }
-    ensures few { OnOk result (taken_of out.new < 2 ^ 12) }
-{
-    match news {
-        News::Whole { entries, megabytes } => put_whole(out, entries, megabytes),
-        News::Wave {
-            greater,
-            lesser,
-            wave,
-            so_far,
-        } => {
-            put_stones(out, greater, lesser)?;
-            put_labelled(out, " wave ", u64::from(wave))?;
-            put_so_far(out, so_far)
-        }
-        News::Done {
-            greater,
-            lesser,
-            so_far,
-        } => {
-            put_stones(out, greater, lesser)?;
-            out.put(b" done")?;
-            put_so_far(out, so_far)
+impl Printed for News {
+    ghost use Rattle.morris_commands.specs.Progress.{news_line};
+
+    ghost bytes = { λ news. news_line news };
+
+    fn put_into<S: Sink>(&self, out: &mut Buffered<'_, S>) -> Result<(), Failed> {
+        match *self {
+            News::Whole { entries, megabytes } => put_whole(out, entries, megabytes),
+            News::Wave {
+                greater,
+                lesser,
+                wave,
+                so_far,
+            } => {
+                put_stones(out, greater, lesser)?;
+                put_labelled(out, " wave ", u64::from(wave))?;
+                put_so_far(out, so_far)
+            }
+            News::Done {
+                greater,
+                lesser,
+                so_far,
+            } => {
+                put_stones(out, greater, lesser)?;
+                out.put(b" done")?;
+                put_so_far(out, so_far)
+            }
         }
     }
-}
-
-/// The line of one of the news, to the last byte: nothing is held back.
-#[tactic(auto, using(morris_board::proofs::BufferedLaws::passed_laws))]
-pub fn put_news_line<S: Sink>(out: &mut Buffered<'_, S>, news: News) -> Result<(), Failed>
-    requires failures { S.failures (sink_of out.old) < 2 ^ 64 - 1 }
-    requires new { taken_of out.old ≡ 0 }
-    ensures passed { Passes S.contents S.failures out.old out.new (news_line news) result }
-    ensures empty { OnOk result (held_of out.new ≡ []) }
-{
-    put_news(out, news)?;
-    out.flush()
 }

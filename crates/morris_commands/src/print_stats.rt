@@ -1,16 +1,41 @@
-//! What `stats` prints, piece by piece, through a buffer. Each function ends at the first write
-//! that fails.
-ghost use Rattle.std.specs.Prelude.{◌≡◌, ◌+◌, ◌*◌, ◌^◌, ◌-◌, ◌<◌, ◌≤◌, [], ◌++◌, length, drop, slice_index, OnOk, codes};
-ghost use Rattle.std.specs.Fmt.{decimal};
-ghost use Rattle.morris_board.specs.Buffered.{Passes, held_of, sink_of, taken_of};
+//! What `stats` prints, piece by piece. Each function ends at the first write that fails.
+ghost use Rattle.std.specs.Prelude.{◌≡◌, ◌+◌, ◌*◌, ◌^◌, ◌-◌, ◌<◌, ◌≤◌, length, drop, slice_index, OnOk};
+ghost use Rattle.morris_board.specs.Buffered.{Passes, sink_of, taken_of};
 ghost use Rattle.morris_index.specs.Pairs.{pair_text};
-ghost use Rattle.morris_commands.specs.Stats.{depth_line, depth_lines, draw_line, pair_line, stats_text};
+ghost use Rattle.morris_commands.specs.Stats.{depth_line, depth_lines, draw_line, pair_line};
 
+use crate::print::Printed;
 use morris_board::board::Geometry;
 use morris_board::streams::buffered::Buffered;
 use morris_board::streams::{Failed, Sink};
 use morris_index::pair::Pair;
 use morris_probe::print::{put_count, put_number_line, put_signed};
+
+/// What `stats` prints of a pair.
+#[derive(Drop)]
+pub struct Counted<'a, B: Geometry> {
+    /// The pair.
+    pub pair: Pair<B>,
+    /// How many positions have each code, from 0 up.
+    pub tallies: &'a [u64],
+}
+
+#[tactic(auto, using(morris_board::proofs::BufferedLaws::passed_laws), unfolding(crate::specs::Stats::stats_text))]
+impl<'a, B: Geometry> Printed for Counted<'a, B> {
+    ghost use Rattle.std.specs.Prelude.{◌≤◌, ◌^◌, length};
+    ghost use Rattle.morris_commands.specs.Stats.{stats_text};
+
+    ghost bytes = { λ counted. stats_text B.POINTS counted.pair counted.tallies.now };
+
+    ghost is_short = { λ counted. length counted.tallies.now ≤ 2 ^ 16 };
+
+    fn put_into<S: Sink>(&self, out: &mut Buffered<'_, S>) -> Result<(), Failed> {
+        let (draws, decided) = draws_and_decided(self.tallies);
+        put_pair_line(out, self.pair)?;
+        put_depths(out, decided)?;
+        put_draws(out, draws)
+    }
+}
 
 /// The numbers of a pair.
 #[tactic(auto, using(morris_board::proofs::BufferedLaws::passed_laws))]
@@ -98,25 +123,4 @@ fn draws_and_decided(tallies: &[u64]) -> (u64, &[u64])
         [draws, decided @ ..] => (*draws, decided),
         [] => (0, &[]),
     }
-}
-
-/// All that `stats` prints of a pair, to the last byte: nothing is held back. `tallies` has how
-/// many positions have each code, from 0 up.
-#[tactic(auto, using(morris_board::proofs::BufferedLaws::passed_laws), unfolding(crate::specs::Stats::stats_text))]
-pub fn put_stats<B: Geometry, S: Sink>(
-    out: &mut Buffered<'_, S>,
-    pair: Pair<B>,
-    tallies: &[u64],
-) -> Result<(), Failed>
-    requires failures { S.failures (sink_of out.old) < 2 ^ 64 - 1 }
-    requires few { length tallies.now ≤ 2 ^ 16 }
-    requires new { taken_of out.old ≡ 0 }
-    ensures passed { Passes S.contents S.failures out.old out.new (stats_text B.POINTS pair tallies.now) result }
-    ensures empty { OnOk result (held_of out.new ≡ []) }
-{
-    let (draws, decided) = draws_and_decided(tallies);
-    put_pair_line(out, pair)?;
-    put_depths(out, decided)?;
-    put_draws(out, draws)?;
-    out.flush()
 }

@@ -4,17 +4,14 @@ ghost use Rattle.morris_table.specs.Shelves.{first_missing};
 ghost use Rattle.morris_table.specs.Tables.{IsTable};
 ghost use Rattle.morris_commands.specs.Faults.{CountsWrites, is_write};
 ghost use Rattle.morris_commands.specs.Look.{board_of};
-ghost use Rattle.morris_commands.specs.Progress.{Becomes};
 ghost use Rattle.morris_commands.specs.Probe.{AnswersOnBoard, AnswersProbe, IsAsked, IsUnfit, Joins, LoadsBundle, AnswersReport};
 ghost use Rattle.morris_commands.specs.Verify.{input_of};
 
-use crate::boards::{NamedBoard, read_board};
+use crate::boards::on_board;
 use crate::fault::Fault;
-use crate::progress::{Nowhere, Progress};
 use crate::size::Way;
+use crate::teller::Teller;
 use morris_board::board::Board;
-use morris_board::grid::Grid;
-use morris_board::nine::Nine;
 use morris_board::position::Position;
 use morris_board::streams::{Sink, Source};
 use morris_index::pair::Pair;
@@ -23,8 +20,8 @@ use morris_table::exact::Exact;
 use morris_table::raw::Raw;
 use morris_table::reading::read_next;
 use morris_table::shelf::Shelf;
+use morris_workers::Unwatched;
 use std::alloc::Global;
-use std::time::Clock;
 
 /// How many table files are taken from the input at most.
 const MOST_FILES: u8 = 64;
@@ -58,20 +55,17 @@ pub fn probe_in<I: Source, O: Sink>(
     ensures unread { ¬ IsAsked (board_of board.now) text.now → input.new ≡ input.old }
     ensures counted { CountsWrites (O.failures output.old) (O.failures output.new) result }
 {
-    let (clock, mut nowhere) = (Nowhere, Nowhere);
-    let mut progress = Progress::new(&clock, false, &mut nowhere);
-    probe_told(alloc, board, text, input, output, &mut progress)
+    probe_with(alloc, board, text, input, output, &mut Unwatched)
 }
 
-/// [`probe_in`], which tells `progress` how far it is.
-#[tactic(auto, using(crate::specs::ProgressLaws::told_laws))]
-pub fn probe_told<I: Source, O: Sink, C: Clock, E: Sink>(
+/// The body of [`probe_in`], which the program runs: it tells `teller` how far it is.
+pub fn probe_with<I: Source, O: Sink, T: Teller>(
     alloc: Global,
     board: &str,
     text: &str,
     input: &mut I,
     output: &mut O,
-    progress: &mut Progress<'_, C, E>,
+    teller: &mut T,
 ) -> Result<(), Fault>
     requires input { I.failures input.old < 2 ^ 64 - 1 }
     requires output { O.failures output.old < 2 ^ 64 - 1 }
@@ -79,21 +73,20 @@ pub fn probe_told<I: Source, O: Sink, C: Clock, E: Sink>(
         (input_of (I.remaining input.new) (I.failures input.new)) (O.contents output.old) (O.contents output.new) result }
     ensures unread { ¬ IsAsked (board_of board.now) text.now → input.new ≡ input.old }
     ensures counted { CountsWrites (O.failures output.old) (O.failures output.new) result }
-    ensures told { Becomes E.contents E.failures progress.old progress.new }
+    ensures told { T.becomes teller.old teller.new }
 {
-    match read_board(board)? {
-        NamedBoard::Nine => probe_on::<Nine, I, O, C, E>(alloc, text, input, output, progress),
-        NamedBoard::Grid => probe_on::<Grid, I, O, C, E>(alloc, text, input, output, progress),
-    }
+    on_board!(
+        board,
+        probe_on::<I, O, T>(alloc, text, input, output, teller)
+    )
 }
 
-#[tactic(auto, using(crate::specs::ProgressLaws::told_laws))]
-fn probe_on<B: Board, I: Source, O: Sink, C: Clock, E: Sink>(
+fn probe_on<B: Board, I: Source, O: Sink, T: Teller>(
     alloc: Global,
     text: &str,
     input: &mut I,
     output: &mut O,
-    progress: &mut Progress<'_, C, E>,
+    teller: &mut T,
 ) -> Result<(), Fault>
     requires input { I.failures input.old < 2 ^ 64 - 1 }
     requires output { O.failures output.old < 2 ^ 64 - 1 }
@@ -101,11 +94,11 @@ fn probe_on<B: Board, I: Source, O: Sink, C: Clock, E: Sink>(
         (input_of (I.remaining input.new) (I.failures input.new)) (O.contents output.old) (O.contents output.new) result }
     ensures unread { ¬ IsAsked (Some B.shape) text.now → input.new ≡ input.old }
     ensures counted { CountsWrites (O.failures output.old) (O.failures output.new) result }
-    ensures told { Becomes E.contents E.failures progress.old progress.new }
+    ensures told { T.becomes teller.old teller.new }
 {
     let position = Position::<B>::read(text.as_bytes())?;
     let asked = Pair::of(&position);
-    let shelf = load_bundle::<B, I, C, E>(alloc, asked.as_ref(), input, progress)?;
+    let shelf = load_bundle::<B, I, T>(alloc, asked.as_ref(), input, teller)?;
     show_report(alloc, output, &shelf, &position)
 }
 
@@ -128,23 +121,22 @@ fn show_report<B: Board, O: Sink>(
 
 /// The tables of the files on the input, each verified before the next is read, for a position of
 /// the pair `asked`.
-#[tactic(auto, using(crate::specs::ProgressLaws::told_laws))]
-fn load_bundle<B: Board, I: Source, C: Clock, E: Sink>(
+fn load_bundle<B: Board, I: Source, T: Teller>(
     alloc: Global,
     asked: Option<&Pair<B>>,
     input: &mut I,
-    progress: &mut Progress<'_, C, E>,
+    teller: &mut T,
 ) -> Result<Shelf<B>, Fault>
     requires { I.failures input.old < 2 ^ 64 - 1 }
     ensures loaded { LoadsBundle B.shape (input_of (I.remaining input.old) (I.failures input.old))
         (result, input_of (I.remaining input.new) (I.failures input.new)) }
     ensures unwritten { IfErr result (λ refused. is_write refused ≡ false) }
-    ensures told { Becomes E.contents E.failures progress.old progress.new }
+    ensures told { T.becomes teller.old teller.new }
 {
     let mut shelf = Shelf::new(alloc)?;
     for _ in 0..MOST_FILES {
         match read_next::<B, I>(alloc, input)? {
-            Some(raw) => put_verified(&mut shelf, raw, asked, progress)?,
+            Some(raw) => join_shelf(&mut shelf, raw, asked, teller)?,
             None => return Ok(shelf),
         }
     }
@@ -156,26 +148,25 @@ fn load_bundle<B: Board, I: Source, C: Clock, E: Sink>(
 
 /// Puts a table on the shelf once each of its entries is known to be right. What is told first goes
 /// by the pair `asked`, or where the position is of none by that of the first file.
-#[tactic(auto, using(crate::specs::ProgressLaws::told_laws))]
-fn put_verified<B: Board, C: Clock, E: Sink>(
+fn join_shelf<B: Board, T: Teller>(
     shelf: &mut Shelf<B>,
     raw: Raw<B>,
     asked: Option<&Pair<B>>,
-    progress: &mut Progress<'_, C, E>,
+    teller: &mut T,
 ) -> Result<(), Fault>
     ensures joined { OnOk result (Joins B.shape shelf.old shelf.new raw) }
     ensures refused { IfErr result (IsUnfit B.shape shelf.old raw) }
     ensures unwritten { IfErr result (λ refused. is_write refused ≡ false) }
-    ensures told { Becomes E.contents E.failures progress.old progress.new }
+    ensures told { T.becomes teller.old teller.new }
 {
     let pair = match asked {
         Some(pair) => *pair,
         None => raw.pair(),
     };
     // The other files are taken to be in the layout of the first.
-    progress.announce(pair, raw.layout(), Way::Read);
+    teller.announce(pair, raw.layout(), Way::Read);
     let exact = verify_over(shelf, raw)?;
-    progress.end_pair(&exact);
+    teller.end_pair(&exact);
     match shelf.put(exact) {
         Ok(()) => Ok(()),
         Err(_) => unreachable!(),

@@ -1,21 +1,18 @@
 //! How far a command is, told line by line.
 ghost use Rattle.std.specs.Prelude.{◌≡◌, ℕ, ◌-◌, ◌^◌, ◌<◌, true, false, length, max};
-ghost use Rattle.morris_board.specs.Streams.{CountsFailure};
-ghost use Rattle.morris_probe.specs.Reports.{WentOut};
-ghost use Rattle.morris_commands.specs.Progress.{Becomes, CountsMore, Speaks, TellsLine, done_of, has_begun_of, lent_of, news_line, sink_of, tells_of, whole_of};
+ghost use Rattle.morris_commands.specs.Progress.{Becomes, CountsMore, Speaks, TellsLine, done_of, has_begun_of, lent_of, sink_of, tells_of, whole_of};
 ghost use Rattle.morris_commands.specs.Sizes.{entries_below};
 
-use crate::print_progress::put_news_line;
+use crate::print::send;
 use crate::size::{Size, Way};
+use crate::teller::Teller;
 use morris_board::board::Geometry;
-use morris_board::streams::buffered::Buffered;
-use morris_board::streams::{Failed, Sink};
+use morris_board::streams::Sink;
 use morris_index::pair::Pair;
 use morris_table::exact::Exact;
 use morris_table::layout::Layout;
 use morris_workers::Watch;
-use std::io;
-use std::time::{Clock, Duration, Instant};
+use std::time::{Clock, Instant};
 
 /// One thing that is told.
 #[derive(Clone, Copy, Debug, PartialEq, Eq)]
@@ -96,50 +93,6 @@ impl<'a, R: Clock, E: Sink> Progress<'a, R, E> {
         }
     }
 
-    /// Tells how much there is to do where the tables of all pairs below a pair come about in this
-    /// way, unless it was told before. Nothing is told before this, and it takes no memory.
-    pub fn announce<B: Geometry>(&mut self, pair: Pair<B>, layout: Layout, way: Way)
-        ensures told { Becomes E.contents E.failures self.old self.new }
-        // As far as 64 bits hold the number of entries.
-        ensures first { has_begun_of self.old ≡ false → entries_below B.shape B.POINTS layout pair way < 2 ^ 64
-            → (megabytes : ℕ) × TellsLine E.contents E.failures self.old self.new (News.Whole (entries_below B.shape B.POINTS layout pair way) megabytes) }
-        ensures again { has_begun_of self.old ≡ true → self.new ≡ self.old }
-    {
-        if !self.tells || self.has_begun {
-            return;
-        }
-        let Size { entries, bytes } = Size::of(pair, layout, way);
-        self.has_begun = true;
-        self.whole = entries;
-        let megabytes = bytes.div_ceil(1_000_000);
-        self.tell(News::Whole { entries, megabytes });
-    }
-
-    /// A pair begins.
-    pub fn begin_pair<B: Geometry>(&mut self, pair: Pair<B>)
-        ensures { Becomes E.contents E.failures self.old self.new }
-    {
-        self.greater = pair.greater();
-        self.lesser = pair.lesser();
-    }
-
-    /// Tells that the pair of an exact table is done, with all entries of the table.
-    pub fn end_pair<B: Geometry>(&mut self, table: &Exact<B>)
-        ensures told { Becomes E.contents E.failures self.old self.new }
-        ensures line { has_begun_of self.old ≡ true → (so_far : SoFar) × CountsMore self.old (length table.now.codes) so_far
-            × TellsLine E.contents E.failures self.old self.new (News.Done table.now.pair.greater table.now.pair.lesser so_far) }
-    {
-        let pair = table.pair();
-        self.done = self.done.saturating_add(table.len());
-        let so_far = self.so_far();
-        self.last_second = so_far.seconds;
-        self.tell(News::Done {
-            greater: pair.greater(),
-            lesser: pair.lesser(),
-            so_far,
-        });
-    }
-
     fn so_far(&self) -> SoFar
         ensures done { result.done ≡ done_of self.now }
         ensures whole { result.whole ≡ max (whole_of self.now) (done_of self.now) }
@@ -174,7 +127,54 @@ impl<'a, R: Clock, E: Sink> Progress<'a, R, E> {
             self.tells = false;
             return;
         }
-        self.tells = send_news(self.errors, news).is_ok();
+        self.tells = send(&news, self.errors).is_ok();
+    }
+}
+
+/// Each line is told once it is known how much there is to do.
+impl<'a, R: Clock, E: Sink> Teller for Progress<'a, R, E> {
+    /// Tells how much there is to do where the tables of all pairs below a pair come about in this
+    /// way, unless it was told before. Nothing is told before this, and it takes no memory.
+    fn announce<B: Geometry>(&mut self, pair: Pair<B>, layout: Layout, way: Way)
+        ensures told { Becomes E.contents E.failures self.old self.new }
+        // As far as 64 bits hold the number of entries.
+        ensures first { has_begun_of self.old ≡ false → entries_below B.shape B.POINTS layout pair way < 2 ^ 64
+            → (megabytes : ℕ) × TellsLine E.contents E.failures self.old self.new (News.Whole (entries_below B.shape B.POINTS layout pair way) megabytes) }
+        ensures again { has_begun_of self.old ≡ true → self.new ≡ self.old }
+    {
+        if !self.tells || self.has_begun {
+            return;
+        }
+        let Size { entries, bytes } = Size::of(pair, layout, way);
+        self.has_begun = true;
+        self.whole = entries;
+        let megabytes = bytes.div_ceil(1_000_000);
+        self.tell(News::Whole { entries, megabytes });
+    }
+
+    /// A pair begins.
+    fn begin_pair<B: Geometry>(&mut self, pair: Pair<B>)
+        ensures told { Becomes E.contents E.failures self.old self.new }
+    {
+        self.greater = pair.greater();
+        self.lesser = pair.lesser();
+    }
+
+    /// Tells that the pair of an exact table is done, with all entries of the table.
+    fn end_pair<B: Geometry>(&mut self, table: &Exact<B>)
+        ensures told { Becomes E.contents E.failures self.old self.new }
+        ensures line { has_begun_of self.old ≡ true → (so_far : SoFar) × CountsMore self.old (length table.now.codes) so_far
+            × TellsLine E.contents E.failures self.old self.new (News.Done table.now.pair.greater table.now.pair.lesser so_far) }
+    {
+        let pair = table.pair();
+        self.done = self.done.saturating_add(table.len());
+        let so_far = self.so_far();
+        self.last_second = so_far.seconds;
+        self.tell(News::Done {
+            greater: pair.greater(),
+            lesser: pair.lesser(),
+            so_far,
+        });
     }
 }
 
@@ -203,47 +203,4 @@ impl<'a, R: Clock, E: Sink> Watch for Progress<'a, R, E> {
     ghost stays = { λ told. Becomes-stays E.contents E.failures told };
 
     ghost joins = { λ first midway last once again. Becomes-joins E.contents E.failures first midway last once again };
-}
-
-/// Sends the line of one of the news: the whole, or as many bytes of it as went out.
-fn send_news<E: Sink>(errors: &mut E, news: News) -> Result<(), u64>
-    requires { E.failures errors.old < 2 ^ 64 - 1 }
-    ensures sent { WentOut (E.contents errors.old) (E.contents errors.new) (news_line news) result }
-    ensures counted { CountsFailure (E.failures errors.old) (E.failures errors.new) result }
-{
-    let mut out = Buffered::new(errors);
-    match put_news_line(&mut out, news) {
-        Ok(()) => Ok(()),
-        Err(Failed) => Err(out.sent()),
-    }
-}
-
-/// Where nobody listens: a sink that takes all, and a clock that stands still.
-#[derive(Clone, Copy, Debug)]
-pub struct Nowhere;
-
-impl Sink for Nowhere {
-    ghost use Rattle.std.specs.Prelude.{None};
-
-    ghost contents = { λ s. None };
-
-    ghost failures = { λ s. 0 };
-
-    fn write(&mut self, bytes: &[u8]) -> Result<usize, Failed> {
-        Ok(bytes.len())
-    }
-
-    fn failures(&self) -> u64 {
-        0
-    }
-}
-
-impl Clock for Nowhere {
-    fn monotonic(&self) -> io::Result<Duration> {
-        Ok(Duration::ZERO)
-    }
-
-    fn since_1970(&self) -> io::Result<Duration> {
-        Ok(Duration::ZERO)
-    }
 }

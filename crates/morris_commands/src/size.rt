@@ -2,6 +2,7 @@
 ghost use Rattle.std.specs.Prelude.{◌≡◌, ◌+◌, ◌^◌, ◌<◌};
 ghost use Rattle.morris_commands.specs.Sizes.{entries_below, entries_of, is_same};
 
+use crate::team::Team;
 use morris_board::board::Geometry;
 use morris_index::class_sizes::class_size;
 use morris_index::pair::Pair;
@@ -12,15 +13,6 @@ const BASE: u64 = 9_000_000;
 
 /// What stays of an entry with its table, in bytes: its code.
 const KEPT: u64 = 2;
-
-/// How many workers build, over how many blocks.
-#[derive(Clone, Copy, Debug, PartialEq, Eq)]
-pub struct Team {
-    /// 1 to 64.
-    pub workers: usize,
-    /// 1 to 1,024.
-    pub blocks: usize,
-}
 
 /// How the tables of a pair and of those below it come about, one after the other.
 #[derive(Clone, Copy, Debug, PartialEq, Eq)]
@@ -127,5 +119,5 @@ fn bytes_of_making<B: Geometry>(pair: Pair<B>, entries: u64, team: Option<Team>)
     let lists = entries
         .saturating_mul(list)
         .saturating_mul(team.workers as u64);
-    nodes.saturating_add(lists.checked_div(team.blocks as u64).unwrap_or(0))
+    nodes.saturating_add(lists / team.blocks as u64)
 }

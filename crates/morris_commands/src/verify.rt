@@ -1,31 +1,27 @@
 //! The command `verify`.
 ghost use Rattle.std.specs.Prelude.{◌≡◌, ◌-◌, ◌^◌, ◌<◌, None, IfErr, IfOk, OnOk};
 ghost use Rattle.morris_table.specs.Tables.{IsTable};
-ghost use Rattle.morris_commands.specs.Faults.{CountsWrites, Prints};
+ghost use Rattle.morris_commands.specs.Faults.{CountsWrites};
 ghost use Rattle.morris_commands.specs.Look.{board_of};
-ghost use Rattle.morris_commands.specs.Progress.{Becomes};
 ghost use Rattle.morris_commands.specs.Stats.{RestsOnTooDeep};
-ghost use Rattle.morris_commands.specs.Verify.{AnswersInput, AnswersVerify, Input, IsUnverified, input_of, verified_text};
+ghost use Rattle.morris_commands.specs.Verify.{AnswersInput, AnswersVerify, IsUnverified, input_of};
 
-use crate::boards::{NamedBoard, read_board};
+use crate::boards::on_board;
 use crate::fault::Fault;
-use crate::print_verified::put_verified;
-use crate::progress::{Nowhere, Progress};
+use crate::print::print;
+use crate::print_verified::Verified;
 use crate::size::Way;
 use crate::stats::sweep_before;
-use morris_board::board::{Board, Geometry};
-use morris_board::grid::Grid;
-use morris_board::nine::Nine;
-use morris_board::streams::buffered::Buffered;
-use morris_board::streams::{Failed, Sink, Source};
-use morris_index::pair::Pair;
+use crate::teller::Teller;
+use morris_board::board::Board;
+use morris_board::streams::{Sink, Source};
 use morris_table::exact::Exact;
 use morris_table::layout::Layout;
 use morris_table::raw::Raw;
 use morris_table::reading::read_table;
 use morris_table::verify::VerifyFault;
+use morris_workers::Unwatched;
 use std::alloc::Global;
-use std::time::Clock;
 
 /// Reads the file of one table from `input`, which ends with it, for the board named `board`, and
 /// tells whether each of its codes is that of the game. The pairs below that of the file are swept
@@ -51,19 +47,16 @@ pub fn verify_in<I: Source, O: Sink>(
     ensures unread { board_of board.now ≡ None → input.new ≡ input.old }
     ensures counted { CountsWrites (O.failures output.old) (O.failures output.new) result }
 {
-    let (clock, mut nowhere) = (Nowhere, Nowhere);
-    let mut progress = Progress::new(&clock, false, &mut nowhere);
-    verify_told(alloc, board, input, output, &mut progress)
+    verify_with(alloc, board, input, output, &mut Unwatched)
 }
 
-/// [`verify_in`], which tells `progress` how far it is.
-#[tactic(auto, using(crate::specs::ProgressLaws::told_laws))]
-pub fn verify_told<I: Source, O: Sink, C: Clock, E: Sink>(
+/// The body of [`verify_in`], which the program runs: it tells `teller` how far it is.
+pub fn verify_with<I: Source, O: Sink, T: Teller>(
     alloc: Global,
     board: &str,
     input: &mut I,
     output: &mut O,
-    progress: &mut Progress<'_, C, E>,
+    teller: &mut T,
 ) -> Result<(), Fault>
     requires input { I.failures input.old < 2 ^ 64 - 1 }
     requires output { O.failures output.old < 2 ^ 64 - 1 }
@@ -71,68 +64,47 @@ pub fn verify_told<I: Source, O: Sink, C: Clock, E: Sink>(
         (O.contents output.old) (O.contents output.new) result }
     ensures unread { board_of board.now ≡ None → input.new ≡ input.old }
     ensures counted { CountsWrites (O.failures output.old) (O.failures output.new) result }
-    ensures told { Becomes E.contents E.failures progress.old progress.new }
+    ensures told { T.becomes teller.old teller.new }
 {
-    match read_board(board)? {
-        NamedBoard::Nine => verify_on::<Nine, I, O, C, E>(alloc, input, output, progress),
-        NamedBoard::Grid => verify_on::<Grid, I, O, C, E>(alloc, input, output, progress),
-    }
+    on_board!(board, verify_on::<I, O, T>(alloc, input, output, teller))
 }
 
-#[tactic(auto, using(crate::specs::ProgressLaws::told_laws))]
-fn verify_on<B: Board, I: Source, O: Sink, C: Clock, E: Sink>(
+fn verify_on<B: Board, I: Source, O: Sink, T: Teller>(
     alloc: Global,
     input: &mut I,
     output: &mut O,
-    progress: &mut Progress<'_, C, E>,
+    teller: &mut T,
 ) -> Result<(), Fault>
     requires input { I.failures input.old < 2 ^ 64 - 1 }
     requires output { O.failures output.old < 2 ^ 64 - 1 }
     ensures answer { AnswersInput B.shape (input_of (I.remaining input.old) (I.failures input.old)) (input_of (I.remaining input.new) (I.failures input.new))
         (O.contents output.old) (O.contents output.new) result }
     ensures counted { CountsWrites (O.failures output.old) (O.failures output.new) result }
-    ensures told { Becomes E.contents E.failures progress.old progress.new }
+    ensures told { T.becomes teller.old teller.new }
 {
     let raw = read_table::<B, I>(alloc, input)?;
-    let exact = believe(alloc, raw, progress)?;
-    show_verified(exact.pair(), exact.len(), output)
-}
-
-/// Prints the pair and the number of entries of a table that was verified.
-fn show_verified<B: Geometry, S: Sink>(
-    pair: Pair<B>,
-    entries: u64,
-    output: &mut S,
-) -> Result<(), Fault>
-    requires { S.failures output.old < 2 ^ 64 - 1 }
-    ensures shown { Prints (S.contents output.old) (S.contents output.new) (verified_text pair entries) result }
-    ensures counted { CountsWrites (S.failures output.old) (S.failures output.new) result }
-{
-    let mut out = Buffered::new(output);
-    match put_verified(&mut out, pair, entries) {
-        Ok(()) => Ok(()),
-        Err(Failed) => Err(Fault::Write(out.sent())),
-    }
+    let exact = believe(alloc, raw, teller)?;
+    let (pair, entries) = (exact.pair(), exact.len());
+    print(&Verified { pair, entries }, output)
 }
 
 /// The table that was read, once each of its entries is known to be right.
-#[tactic(auto, using(crate::specs::ProgressLaws::told_laws))]
-fn believe<B: Board, C: Clock, E: Sink>(
+fn believe<B: Board, T: Teller>(
     alloc: Global,
     raw: Raw<B>,
-    progress: &mut Progress<'_, C, E>,
+    teller: &mut T,
 ) -> Result<Exact<B>, Fault>
     ensures exact { IfOk result (λ exact. IsTable B.shape raw) }
     ensures value { IfOk result (λ exact. exact ≡ raw) }
     ensures within { OnOk result (¬ RestsOnTooDeep B.shape raw.pair) }
     ensures refused { IfErr result (IsUnverified B.shape raw) }
-    ensures told { Becomes E.contents E.failures progress.old progress.new }
+    ensures told { T.becomes teller.old teller.new }
 {
-    progress.announce(raw.pair(), Layout::Full, Way::Verified(raw.len()));
-    let shelf = sweep_before(alloc, raw.pair(), progress)?;
+    teller.announce(raw.pair(), Layout::Full, Way::Verified(raw.len()));
+    let shelf = sweep_before(alloc, raw.pair(), teller)?;
     match raw.verify(&shelf) {
         Ok(exact) => {
-            progress.end_pair(&exact);
+            teller.end_pair(&exact);
             Ok(exact)
         }
         Err((_, VerifyFault::Differs(index))) => Err(Fault::Differs(index)),

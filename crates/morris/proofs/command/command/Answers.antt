@@ -21,9 +21,9 @@ pub returns-in-Err-Help-clause-answer : goal.returns-in-Err-Help-clause-answer
 returns-in-Err-Help-clause-answer g c = λ other.
     let kinds = faults_of (map g.W.AsStr.text c.args.words.now) in
     let asked = subst (IsAnswerToOneOf kinds) c.in-Err-Help.field-0-is c.in-Err-Help.ensures.refused in (
-      c.print_text.result,
+      c.print.result,
       c.args.errors.now,
-      inr (inl (inl asked, refl, (c.as_str.result.now, c.print_text.ensures.shown))),
+      inr (inl (inl asked, refl, (c.as_str.result.now, c.print.ensures.shown))),
       inl refl,
       c.finish-in-Err-Help.ensures.status,
       c.finish-in-Err-Help.ensures.reported,
@@ -33,9 +33,9 @@ pub returns-in-Err-Version-clause-answer : goal.returns-in-Err-Version-clause-an
 returns-in-Err-Version-clause-answer g c = λ other.
     let kinds = faults_of (map g.W.AsStr.text c.args.words.now) in
     let asked = subst (IsAnswerToOneOf kinds) c.in-Err-Version.field-0-is c.in-Err-Version.ensures.refused in (
-      c.print_text-in-Err-Version.result,
+      c.print-in-Err-Version.result,
       c.args.errors.now,
-      inr (inl (inr asked, refl, (c.as_str-in-Err-Version.result.now, c.print_text-in-Err-Version.ensures.shown))),
+      inr (inl (inr asked, refl, (c.as_str-in-Err-Version.result.now, c.print-in-Err-Version.ensures.shown))),
       inl refl,
       c.finish-in-Err-Version.ensures.status,
       c.finish-in-Err-Version.ensures.reported,
@@ -43,7 +43,7 @@ returns-in-Err-Version-clause-answer g c = λ other.
 
 -- A request for a command that reads its input was asked for by the words.
 pub returns-in-Ok-clause-unread : goal.returns-in-Ok-clause-unread
-returns-in-Ok-clause-unread g c = λ unasked. c.run_told-done.ensures.unread (reads_nothing unasked (takes_input c.in-Ok.request) refl)
+returns-in-Ok-clause-unread g c = λ unasked. c.run-done.ensures.unread (reads_nothing unasked (takes_input c.in-Ok.request) refl)
   where
     reads_nothing : Prim.¬◌ (AsksToRead (named_by (map g.W.AsStr.text c.args.words.now))) → (b : Bool) → takes_input c.in-Ok.request ≡ b
         → takes_input c.in-Ok.request ≡ false
@@ -53,19 +53,19 @@ returns-in-Ok-clause-unread g c = λ unasked. c.run_told-done.ensures.unread (re
 -- A command was run for the words, and told how far it is only where they ask for it.
 pub returns-in-Ok-clause-answer : goal.returns-in-Ok-clause-answer
 returns-in-Ok-clause-answer g c = λ other. (
-  c.run_told-done.result,
-  c.run_told-done.new.errors,
-  inl (c.in-Ok.request, c.in-Ok.ensures.request, c.in-Ok.ensures.taken, c.run_told-done.ensures.answer),
+  c.run-done.result,
+  c.run-done.new.errors,
+  inl (c.in-Ok.request, c.in-Ok.ensures.request, c.in-Ok.ensures.taken, c.run-done.ensures.answer),
   told (asks_progress c.in-Ok.request) refl,
   c.finish.ensures.status,
   c.finish.ensures.reported,
 )
   where
     told : (b : Bool) → asks_progress c.in-Ok.request ≡ b
-        → TellsProgress g.E.Sink.contents g.E.Sink.failures (map g.W.AsStr.text c.args.words.now) c.args.errors.now c.run_told-done.new.errors
-    told true is = inr (c.in-Ok.request, c.in-Ok.ensures.request, is, c.run_told-done.ensures.told)
-    told false is = inl (c.run_told-done.ensures.silent is)
+        → TellsProgress g.E.Sink.contents g.E.Sink.failures (map g.W.AsStr.text c.args.words.now) c.args.errors.now c.run-done.new.errors
+    told true is = inr (c.in-Ok.request, c.in-Ok.ensures.request, is, c.run-done.ensures.told)
+    told false is = inl (c.run-done.ensures.silent is)
 
 -- There is room for a failure more.
 pub finish-requires : goal.finish-requires
-finish-requires g c = c.run_told-done.ensures.told.0.room c.requires.errors
+finish-requires g c = c.run-done.ensures.told.0.room c.requires.errors

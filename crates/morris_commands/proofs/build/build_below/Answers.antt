@@ -5,7 +5,6 @@ use Rattle.morris_index.specs.Pairs.{below_of}
 use Rattle.morris_commands.specs.Build.{HasExact}
 use Rattle.morris_commands.proofs.BuildLaws.{has_tables, one_exact_more}
 use Rattle.morris_commands.proofs.ShelfLaws.{none_missing, one_within_more}
-use Rattle.morris_commands.specs.ProgressLaws.{Becomes-joins, Becomes-stays}
 use Rattle.morris_commands.proofs.build.build_below.Goals as goal
 
 pub build_onto-requires-clause-ready : goal.build_onto-requires-clause-ready
@@ -26,33 +25,32 @@ loop-below-preserved g c = record {
   within =
       one_within_more g.B.Geometry.shape c.loop-below.yielded c.in-Some.below c.loop-below.invariant.within c.in_ok-build_onto.ensures.within;
   told =
-      Becomes-joins g.E.Sink.contents g.E.Sink.failures c.announce.new.self c.loop-below.progress c.build_onto.new.progress
-      c.loop-below.invariant.told c.build_onto.ensures.told;
+      g.met.T.Watch.joins c.announce.new.self c.loop-below.teller c.build_onto.new.teller c.loop-below.invariant.told
+      c.build_onto.ensures.told;
 }
 
-pub returns : goal.returns
-returns g c =
+pub returns-clause-exact : goal.returns-clause-exact
+returns-clause-exact g c =
     let all : c.loop-below.yielded ≡ below_of c.args.pair =
     sym (append-nil c.loop-below.yielded) ∙ (ap (λ rest. c.loop-below.yielded ++ rest) (sym c.in-None.ensures.steps.0) ∙ c.loop-below.invariant.split) in
-    record {
-      exact = subst (HasExact g.B.Geometry.shape c.args.layout c.loop-below.shelf) all c.loop-below.invariant.exact;
-      last = c.below-below-items.ensures.last;
-      within = λ deep. c.loop-below.invariant.within deep.0 (subst (λ cs. Contains cs deep.0) (sym all) deep.1) deep.2;
-      refused = tt;
-      unwritten = tt;
-      told =
-          Becomes-joins g.E.Sink.contents g.E.Sink.failures c.args.progress.now c.announce.new.self c.loop-below.progress
-          c.announce.ensures.told c.loop-below.invariant.told;
-    }
+    subst (HasExact g.B.Geometry.shape c.args.layout c.loop-below.shelf) all c.loop-below.invariant.exact
+
+pub returns-clause-last : goal.returns-clause-last
+returns-clause-last g c = c.below-below-items.ensures.last
+
+pub returns-clause-within : goal.returns-clause-within
+returns-clause-within g c = λ deep.
+    let all : c.loop-below.yielded ≡ below_of c.args.pair =
+    sym (append-nil c.loop-below.yielded) ∙ (ap (λ rest. c.loop-below.yielded ++ rest) (sym c.in-None.ensures.steps.0) ∙ c.loop-below.invariant.split) in
+    c.loop-below.invariant.within deep.0 (subst (λ cs. Contains cs deep.0) (sym all) deep.1) deep.2
+
+pub returns-clause-told : goal.returns-clause-told
+returns-clause-told g c = g.met.T.Watch.joins _ _ _ c.announce.ensures.told c.loop-below.invariant.told
 
 pub loop-below-init : goal.loop-below-init
 loop-below-init g c = record {
   split = search rules;
   exact = λ other m. absurd (omega (arith, m.1));
   within = λ other m. absurd (omega (arith, m.1));
-  told = Becomes-stays g.E.Sink.contents g.E.Sink.failures c.announce.new.self;
+  told = g.met.T.Watch.stays c.announce.new.self;
 }
-
-pub returns-in_err-build_onto-clause-told : goal.returns-in_err-build_onto-clause-told
-returns-in_err-build_onto-clause-told g c =
-    Becomes-joins _ _ _ _ _ (Becomes-joins _ _ _ _ _ c.announce.ensures.told c.loop-below.invariant.told) c.build_onto.ensures.told

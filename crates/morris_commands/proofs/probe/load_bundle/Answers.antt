@@ -5,14 +5,13 @@ use Rattle.morris_commands.specs.declared.fault.Fault.TheVariants as fault
 use Rattle.morris_commands.specs.Probe.{Loads}
 use Rattle.morris_commands.specs.Verify.{input_of}
 use Rattle.morris_commands.proofs.BundleLaws.{at_end, leads_on, leads_to_unfit, no_room_wanting, one_too_many, read_unwritten, refused_file}
-use Rattle.morris_commands.specs.ProgressLaws.{Becomes-joins, Becomes-stays}
 use Rattle.morris_commands.proofs.probe.load_bundle.Goals as goal
 
 pub loop-init : goal.loop-init
 loop-init g c = record {
   leads = λ loaded goes. goes;
   unfailed = refl;
-  told = Becomes-stays g.E.Sink.contents g.E.Sink.failures c.args.progress.now;
+  told = g.met.T.Watch.stays c.args.teller.now;
 }
 
 pub read_next-requires : goal.read_next-requires
@@ -38,9 +37,9 @@ returns-in_err-raw g c =
       told = c.loop.invariant.told;
     }
 
-pub returns-in_err-put_verified-in-Some : goal.returns-in_err-put_verified-in-Some
-returns-in_err-put_verified-in-Some g c =
-    let failed = err_from_is_err_and c.from_residual-in_err-put_verified-in-Some.result c.from_residual-in_err-put_verified-in-Some.ensures.1 in
+pub returns-in_err-join_shelf-in-Some : goal.returns-in_err-join_shelf-in-Some
+returns-in_err-join_shelf-in-Some g c =
+    let failed = err_from_is_err_and c.from_residual-in_err-join_shelf-in-Some.result c.from_residual-in_err-join_shelf-in-Some.ensures.1 in
     let after = input_of (g.I.Source.remaining c.read_next.new.source) (g.I.Source.failures c.read_next.new.source) in
     record {
       loaded =
@@ -48,15 +47,15 @@ returns-in_err-put_verified-in-Some g c =
           (inr (
             c.in_ok-shelf.shelf,
             c.in_ok-shelf.ensures,
-            leads_to_unfit g.B.Geometry.shape c.in_ok-shelf.shelf c.loop.shelf _ _ after c.in-Some.raw c.in_err-put_verified-in-Some.field-0.0 c.loop.counter
+            leads_to_unfit g.B.Geometry.shape c.in_ok-shelf.shelf c.loop.shelf _ _ after c.in-Some.raw c.in_err-join_shelf-in-Some.field-0.0 c.loop.counter
                 c.loop-test.true c.loop.invariant.leads
                 (record { read = rw c.in-Some.is at c.in_ok-raw.ensures.outcome; counted = c.in_ok-raw.ensures.counted; room = no_room_wanting _; place = c.in_ok-raw.ensures.place })
-                c.in_err-put_verified-in-Some.ensures.refused,
+                c.in_err-join_shelf-in-Some.ensures.refused,
           ));
-      unwritten = rw (failed.1, failed.2) c.in_err-put_verified-in-Some.ensures.unwritten;
+      unwritten = rw (failed.1, failed.2) c.in_err-join_shelf-in-Some.ensures.unwritten;
       told =
-          Becomes-joins g.E.Sink.contents g.E.Sink.failures c.args.progress.now c.loop.progress c.put_verified.new.progress
-          c.loop.invariant.told c.put_verified.ensures.told;
+          g.met.T.Watch.joins c.args.teller.now c.loop.teller c.join_shelf.new.teller c.loop.invariant.told
+          c.join_shelf.ensures.told;
     }
 
 pub returns-in-None : goal.returns-in-None
@@ -79,14 +78,14 @@ loop-preserved g c =
     let after = input_of (g.I.Source.remaining c.read_next.new.source) (g.I.Source.failures c.read_next.new.source) in
     record {
       leads =
-          leads_on g.B.Geometry.shape c.in_ok-shelf.shelf c.loop.shelf c.put_verified.new.shelf _ _ after c.in-Some.raw c.loop.counter c.loop-test.true
+          leads_on g.B.Geometry.shape c.in_ok-shelf.shelf c.loop.shelf c.join_shelf.new.shelf _ _ after c.in-Some.raw c.loop.counter c.loop-test.true
           c.loop.invariant.leads
           (record { read = rw c.in-Some.is at c.in_ok-raw.ensures.outcome; counted = c.in_ok-raw.ensures.counted; room = no_room_wanting _; place = c.in_ok-raw.ensures.place })
-          c.in_ok-put_verified-in-Some.ensures.joined;
+          c.in_ok-join_shelf-in-Some.ensures.joined;
       unfailed = c.in_ok-raw.ensures.counted ∙ c.loop.invariant.unfailed;
       told =
-          Becomes-joins g.E.Sink.contents g.E.Sink.failures c.args.progress.now c.loop.progress c.put_verified.new.progress
-          c.loop.invariant.told c.put_verified.ensures.told;
+          g.met.T.Watch.joins c.args.teller.now c.loop.teller c.join_shelf.new.teller c.loop.invariant.told
+          c.join_shelf.ensures.told;
     }
 
 pub returns-in_err-read_next : goal.returns-in_err-read_next

@@ -1,5 +1,4 @@
 use Rattle.std.proofs.Common.{◌≡◌, ◌-◌}
-use Rattle.morris_commands.specs.Progress.{Becomes}
 use Rattle.morris_commands.specs.Verify.{input_of}
 use Rattle.morris_commands.proofs.BundleLaws.{Leads}
 use Rattle.morris_commands.proofs.probe.load_bundle.Given as goal
@@ -11,5 +10,5 @@ invariant-loop g l = record {
   leads : Leads g.B.Geometry.shape l.initial.shelf (input_of (g.I.Source.remaining l.initial.input) (g.I.Source.failures l.initial.input))
       (64 - l.counter) l.shelf (input_of (g.I.Source.remaining l.input) (g.I.Source.failures l.input));
   unfailed : g.I.Source.failures l.input ≡ g.I.Source.failures l.initial.input;
-  told : Becomes g.E.Sink.contents g.E.Sink.failures l.initial.progress l.progress;
+  told : g.T.Watch.becomes l.initial.teller l.teller;
 }

@@ -13,18 +13,18 @@ returns-clause-answer g c =
     let points : board.points ≡ g.B.Geometry.POINTS = c.in_ok-tallies.ensures.points in
     let pair = c.in_ok-pair.pair in
     let old = g.S.Sink.contents c.args.output.now in
-    let new = g.S.Sink.contents c.show_tallies.new.output in
+    let new = g.S.Sink.contents c.print.new.output in
     let read : read_pair_of board.points c.args.text.now ≡ Ok pair =
     ap (λ n. read_pair_of n c.args.text.now) points ∙ sym c.in_ok-pair.ensures in
-    let shown : Prints old new (stats_text g.B.Geometry.POINTS pair c.in_ok-tallies.tallies.items) c.show_tallies.result =
-    subst (λ tallies. Prints old new (stats_text g.B.Geometry.POINTS pair tallies) c.show_tallies.result) c.as_slice.ensures.value c.show_tallies.ensures.shown in
-    subst (λ found. AnswersRead board old new c.show_tallies.result found) (sym read)
+    let shown : Prints old new (stats_text g.B.Geometry.POINTS pair c.in_ok-tallies.tallies.items) c.print.result =
+    subst (λ tallies. Prints old new (stats_text g.B.Geometry.POINTS pair tallies) c.print.result) c.as_slice-tallies.ensures.value c.print.ensures.shown in
+    subst (λ found. AnswersRead board old new c.print.result found) (sym read)
     (inr (
       c.in_ok-tallies.ensures.within,
       (
         c.in_ok-tallies.tallies.items,
         c.in_ok-tallies.ensures.counts,
-        subst (λ n. Prints old new (stats_text n pair c.in_ok-tallies.tallies.items) c.show_tallies.result) (sym points) shown,
+        subst (λ n. Prints old new (stats_text n pair c.in_ok-tallies.tallies.items) c.print.result) (sym points) shown,
       ),
     ))
 

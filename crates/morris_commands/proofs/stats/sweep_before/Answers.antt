@@ -1,4 +1,4 @@
-use Rattle.std.proofs.Common.{◌≡◌, ◌∷◌, [], ◌++◌, is_some, sym, ap, subst, ◌∙◌, append_assoc}
+use Rattle.std.proofs.Common.{◌≡◌, ◌∷◌, [], ◌++◌, sym, ap, subst, ◌∙◌, append_assoc}
 use Rattle.std.specs.List.{Contains}
 use Rattle.std.proofs.lemmas.List.{append-nil}
 use Rattle.std.proofs.Math.Path.{ap₂}
@@ -6,7 +6,6 @@ use Rattle.std.proofs.lemmas.Bool.{and_parts, eqb-true, not-false}
 use Rattle.std.proofs.lemmas.List.Elements.{Contains-append_left}
 use Rattle.morris_index.specs.Pairs.{below_of, counts}
 use Rattle.morris_commands.proofs.ShelfLaws.{none_swept_more, one_swept_more, swept_needs}
-use Rattle.morris_commands.specs.ProgressLaws.{Becomes-joins}
 use Rattle.morris_commands.proofs.stats.sweep_before.Goals as goal
 
 pub sweep_onto-requires-after_bounds : goal.sweep_onto-requires-after_bounds
@@ -34,8 +33,8 @@ loop-below-preserved-in-Continue-branch-2 g c = record {
       ∙ (ap (λ rest. c.loop-below.yielded ++ rest) (sym c.in-Some.ensures.steps) ∙ c.loop-below.invariant.split);
   swept =
       one_swept_more g.B.Geometry.shape c.loop-below.shelf c.sweep_onto.new.shelf c.args.pair c.loop-below.yielded c.in-Some.below
-      c.loop-below.invariant.swept (ap is_some c.in_ok-sweep_onto.ensures.exact.1) c.in_ok-sweep_onto.ensures.within c.in_ok-sweep_onto.ensures.others;
-  told = Becomes-joins _ _ _ _ _ c.loop-below.invariant.told c.sweep_onto.ensures.told;
+      c.loop-below.invariant.swept c.in_ok-sweep_onto.ensures.there c.in_ok-sweep_onto.ensures.within c.in_ok-sweep_onto.ensures.others;
+  told = g.met.T.Watch.joins _ _ _ c.loop-below.invariant.told c.sweep_onto.ensures.told;
 }
 
 pub returns-clause-ready : goal.returns-clause-ready
@@ -51,6 +50,3 @@ returns-clause-within g c = λ deep.
     let all : c.loop-below.yielded ≡ below_of c.args.pair =
     sym (append-nil c.loop-below.yielded) ∙ (ap (λ rest. c.loop-below.yielded ++ rest) (sym c.in-None.ensures.steps.0) ∙ c.loop-below.invariant.split) in
     (c.loop-below.invariant.swept deep.0 (subst (λ cs. Contains cs deep.0) (sym all) deep.1) deep.2).1 deep.3
-
-pub returns-in_err-sweep_onto-clause-told : goal.returns-in_err-sweep_onto-clause-told
-returns-in_err-sweep_onto-clause-told g c = Becomes-joins _ _ _ _ _ c.loop-below.invariant.told c.sweep_onto.ensures.told

@@ -1,6 +1,5 @@
 use Rattle.std.proofs.Common.{◌≡◌, ◌++◌}
 use Rattle.morris_index.specs.Pairs.{below_of}
-use Rattle.morris_commands.specs.Progress.{Becomes}
 use Rattle.morris_commands.proofs.ShelfLaws.{AreSwept}
 use Rattle.morris_commands.proofs.stats.sweep_before.Given as goal
 
@@ -10,5 +9,5 @@ abbrev pub invariant-loop-below : goal.invariant-loop-below
 invariant-loop-below g l = record {
   split : l.yielded ++ l.below-iterator ≡ below_of l.fn.pair;
   swept : AreSwept g.B.Geometry.shape l.shelf l.fn.pair l.yielded;
-  told : Becomes g.E.Sink.contents g.E.Sink.failures l.initial.progress l.progress;
+  told : g.T.Watch.becomes l.initial.teller l.teller;
 }

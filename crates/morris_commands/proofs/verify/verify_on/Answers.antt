@@ -24,8 +24,8 @@ returns-in_err-exact-clause-answer g c =
 pub returns-clause-answer : goal.returns-clause-answer
 returns-clause-answer g c =
     let t = c.in_ok-raw.raw in
-    let text : verified_text c.pair.result c.len.result ≡ verified_text t.pair (length t.codes) =
-    rw (c.pair.ensures.value, c.len.ensures.value, c.in_ok-exact.ensures.value) refl in (
+    let text : verified_text c.pair-pair.result c.len-entries.result ≡ verified_text t.pair (length t.codes) =
+    rw (c.pair-pair.ensures.value, c.len-entries.ensures.value, c.in_ok-exact.ensures.value) refl in (
       Ok c.in_ok-raw.raw,
       c.in_ok-raw.ensures.outcome,
       c.in_ok-raw.ensures.counted,
@@ -36,7 +36,7 @@ returns-clause-answer g c =
       inr (
         c.in_ok-exact.ensures.within,
         c.in_ok-exact.ensures.exact,
-        subst (λ s. Prints (g.O.Sink.contents c.args.output.now) (g.O.Sink.contents c.show_verified.new.output) s c.show_verified.result) text
-            c.show_verified.ensures.shown,
+        subst (λ s. Prints (g.O.Sink.contents c.args.output.now) (g.O.Sink.contents c.print.new.output) s c.print.result) text
+            c.print.ensures.shown,
       ),
     )

@@ -15,5 +15,5 @@ returns g c = record {
       let bad : true ≡ false = sym c.if-not-self-2.false ∙ e in
       cc;
   cramped = λ e b full. absurd (omega (arith, full, c.if-failures.false, c.failures.ensures));
-  said = λ e b room. (c.send_news.result, c.send_news.ensures.sent, c.send_news.ensures.counted, c.is_ok-self.ensures.value);
+  said = λ e b room. (c.send.result, c.send.ensures.sent, c.send.ensures.counted, c.is_ok-self.ensures.value);
 }
