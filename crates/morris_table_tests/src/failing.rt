@@ -92,8 +92,8 @@ fn ends_reading(alloc: Global, file: &[u8], room: u64) -> bool {
     fault == Some(ReadFault::Read) && source.into_inner().calls == room.saturating_add(1)
 }
 
-/// Whether reading ends at a call that fails: the first one and the last of the header, of the codes
-/// and of the digest, and the one for a byte that mustn't follow.
+/// Whether reading ends at a call that fails: the first one and the last of the header, of the
+/// codes and of the digest, and the one for a byte that mustn't follow.
 fn ends_each_reading(alloc: Global, file: &[u8]) -> bool {
     ends_reading(alloc, file, 0)
         && ends_reading(alloc, file, 15)
@@ -118,8 +118,8 @@ fn ends_writing(alloc: Global, table: &Exact<Grid>, file: &[u8], room: u64) -> b
         && Some(sink.taken.as_slice()) == file.get(..room as usize)
 }
 
-/// Whether writing ends at a call that fails: the first one and the last of the header, of the codes
-/// and of the digest.
+/// Whether writing ends at a call that fails: the first one and the last of the header, of the
+/// codes and of the digest.
 fn ends_each_writing(alloc: Global, table: &Exact<Grid>, file: &[u8]) -> bool {
     ends_writing(alloc, table, file, 0)
         && ends_writing(alloc, table, file, 15)

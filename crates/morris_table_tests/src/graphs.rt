@@ -18,7 +18,8 @@ fn sum_to(node: u64, list: &[u64]) -> u64 {
     )
 }
 
-/// The sum of these products over all quiet moves, as the lists of a graph have them, modulo 99,991.
+/// The sum of these products over all quiet moves, as the lists of a graph have them, modulo
+/// 99,991.
 fn sum_of_lists<N: Levels, G: Graph<Name = N>>(alloc: Global, graph: &G) -> Option<u64> {
     let mut list = Vec::new(alloc);
     let mut sum = 0u64;

@@ -1,5 +1,5 @@
-// Tables, their files and shelves of them, of which the tests are made. Each function answers `None`
-// where a call is refused.
+// Tables, their files and shelves of them, of which the tests are made. Each function answers
+// `None` where a call is refused.
 use morris_board::board::Board;
 use morris_board::grid::Grid;
 use morris_board::streams::IntoWrite;
