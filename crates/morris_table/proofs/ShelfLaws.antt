@@ -1,5 +1,5 @@
 -- Laws of the shelf: the places of pairs, and what putting a table there does.
-use Rattle.std.proofs.Common.{◌≡◌, ◌≢◌, ℕ, zero, suc, ◌-◌, ◌<◌, ◌≤◌, ◌⊎◌, Bool, true, false, ◌&&◌, leb, List, [], ◌∷◌, ◌++◌, length, get_or, set, Option, Some, None, Bor, refl, sym, ap, ◌∙◌, subst, inl, inr, arith, length-set, get_or-set_other, get_or-set_same}
+use Rattle.std.proofs.Common.{◌≡◌, ◌≢◌, ℕ, zero, suc, ◌-◌, ◌<◌, ◌≤◌, ◌⊎◌, Bool, true, false, ◌&&◌, leb, List, [], ◌∷◌, ◌++◌, length, get_or, set, Option, Some, None, Bor, refl, sym, ap, ◌∙◌, subst, inl, inr, arith, get_or-set_other, get_or-set_same}
 use Rattle.std.specs.List.{Contains, list_all, find}
 use Rattle.std.specs.Option.{is_some, is_none, IfSome, option_to_list, option_copied}
 use Rattle.std.proofs.lemmas.Bool.{cases_Bool, cases_eq, cases_lt, both_ways, and_parts, leb-true, le-leb, lt-ltb, cond-true, cond-false}
@@ -10,8 +10,8 @@ use Rattle.morris_board.specs.Boards.{Shape}
 use Rattle.morris_board.specs.Positions.{is_between}
 use Rattle.morris_index.specs.Pairs.{Counts, counts, IsPair, needed, less_lesser, all_pairs, is_below, below_of}
 use Rattle.morris_table.specs.FilterLaws.{filter-contains, contained-filter}
-use Rattle.morris_table.specs.Tables.{Table, IsTable}
-use Rattle.morris_table.specs.Shelves.{Stored, has_place, place_of, table_on, HasAllBelow, IsShelf, first_missing}
+use Rattle.morris_table.specs.Tables.{Table}
+use Rattle.morris_table.specs.Shelves.{AreTables, Stored, has_place, place_of, table_on, HasAllBelow, IsShelf, first_missing}
 
 -- ---- what a search finds
 
@@ -84,10 +84,10 @@ has_place-pair n c h =
     rw (le-leb 3 c.greater (omega (arith, h.least, h.ordered)), le-leb c.greater 9 h.most, le-leb 3 c.lesser h.least, le-leb c.lesser 9 (omega (arith, h.most, h.ordered))) refl
 
 -- the numbers of a pair that has a place
-abbrev HasNumbers : Counts → Type 0
+abbrev pub HasNumbers : Counts → Type 0
 HasNumbers c = (3 ≤ c.greater) × (c.greater ≤ 9) × (3 ≤ c.lesser) × (c.lesser ≤ 9)
 
-numbers : (c : Counts) → has_place c ≡ true → HasNumbers c
+pub numbers : (c : Counts) → has_place c ≡ true → HasNumbers c
 numbers c h =
     let both = and_parts (is_between 3 c.greater 9) (is_between 3 c.lesser 9) h in
     let greater = and_parts (leb 3 c.greater) (leb c.greater 9) (both.0) in
@@ -114,7 +114,7 @@ pub table_at : (shelf : Stored) (c : Counts) → has_place c ≡ true → table_
 unfolding table_on
 table_at shelf c h = rw h refl
 
-table_nowhere : (shelf : Stored) (c : Counts) → has_place c ≡ false → table_on shelf c ≡ None
+pub table_nowhere : (shelf : Stored) (c : Counts) → has_place c ≡ false → table_on shelf c ≡ None
 unfolding table_on
 table_nowhere shelf c h = rw h refl
 
@@ -132,13 +132,6 @@ module _ (shelf : Stored) (empty : (k : ℕ) → get_or shelf k None ≡ None) w
     | inl h ↦ table_at shelf c h ∙ empty (place_of c)
     | inr h ↦ table_nowhere shelf c h
   ]
-
-  pub empty-lawful : (board : Shape) → length shelf ≡ 49 → IsShelf board shelf
-  empty-lawful board len = record {
-    places = len;
-    tables = λ c. rw (empty-nothing c) tt;
-    closed = λ c h. absurd (both_ways (is_some (table_on shelf c)) (ap is_some (empty-nothing c)) h);
-  }
 
 pub empty-push : (shelf : Stored) → ((k : ℕ) → get_or shelf k None ≡ None) → (k : ℕ) → get_or (shelf ++ None ∷ []) k None ≡ None
 empty-push [] h zero = refl
@@ -188,29 +181,27 @@ module _ (shelf : Stored) (t : Table) (len : length shelf ≡ 49) (h : has_place
     | inr k ↦ table_nowhere put c k ∙ sym (table_nowhere shelf c k)
   ]
 
-  kept : (c : Counts) → is_some (table_on shelf c) ≡ true → is_some (table_on put c) ≡ true
-  kept = still-there shelf put t put-this put-other
+-- nothing stands on an empty shelf
+pub empty-closed : (board : Shape) (shelf : Stored) → AreTables board shelf → ((c : Counts) → table_on shelf c ≡ None) → IsShelf board shelf
+empty-closed board shelf exact nothing = record { exact = exact; closed = λ c h. absurd (both_ways (is_some (table_on shelf c)) (ap is_some (nothing c)) h) }
 
-  module _ (board : Shape) (lawful : IsShelf board shelf) (exact : IsTable board t) (all : first_missing shelf t.pair ≡ None) where
+-- a table is put onto a shelf that has those that its pair needs
+pub put-lawful : (board : Shape) (shelf put : Stored) (t : Table) → IsShelf board shelf → AreTables board put → first_missing shelf t.pair ≡ None
+    → table_on put t.pair ≡ Some t → ((c : Counts) → c ≢ t.pair → table_on put c ≡ table_on shelf c) → IsShelf board put
+put-lawful board shelf put t lawful exact all this others = record { exact = exact; closed = put-closed }
+  where
+    kept : (c : Counts) → is_some (table_on shelf c) ≡ true → is_some (table_on put c) ≡ true
+    kept = still-there shelf put t this others
+
     put-closed : (c : Counts) → is_some (table_on put c) ≡ true → HasAllBelow put c
     put-closed c there d below = elim (cases_pair c t.pair) [
       | inl e ↦
           elim (below-split t.pair d (subst (λ p. Contains (below_of p) d) e below)) [
-            | inl itself ↦ rw (itself, put-this) refl
+            | inl itself ↦ rw (itself, this) refl
             | inr under ↦ kept d (lawful.closed (under.0) (needed-there shelf t.pair all (under.0) (under.1)) d (under.2))
           ]
-      | inr other ↦ kept d (lawful.closed c (ap is_some (sym (put-other c other)) ∙ there) d below)
+      | inr other ↦ kept d (lawful.closed c (ap is_some (sym (others c other)) ∙ there) d below)
     ]
-
-    pub put-lawful : IsShelf board put
-    put-lawful = record {
-      places = length-set _ _ _ ∙ len;
-      tables = λ c. elim (cases_pair c t.pair) [
-        | inl e ↦ subst (λ p. IfSome (table_on put p) (λ u. (u.pair ≡ p) × IsTable board u)) (sym e) (rw put-this (refl, exact))
-        | inr other ↦ rw (put-other c other) (lawful.tables c)
-      ];
-      closed = put-closed;
-    }
 
 -- ---- what a look-up gives
 

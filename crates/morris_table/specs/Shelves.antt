@@ -1,5 +1,5 @@
 -- A shelf: the exact tables of some pairs, with those of all pairs below each of them.
-use Rattle.std.specs.Prelude.{◌≡◌, ℕ, ◌+◌, ◌-◌, ◌*◌, true, Bool, ◌&&◌, List, length, slice_index_or, Option, None, is_some, is_none, IfSome, if◌then◌else◌}
+use Rattle.std.specs.Prelude.{◌≡◌, ℕ, ◌+◌, ◌-◌, ◌*◌, true, Bool, ◌&&◌, nat_le, List, length, slice_index_or, Option, None, is_some, is_none, IfSome, if◌then◌else◌}
 use Rattle.std.specs.List.{Contains, find}
 use Rattle.morris_board.specs.Boards.{Shape}
 use Rattle.morris_board.specs.Positions.{is_between}
@@ -25,11 +25,18 @@ table_on shelf c = if has_place c then slice_index_or shelf (place_of c) None el
 abbrev pub HasAllBelow : Stored → Counts → Type 0
 HasAllBelow shelf c = (d : Counts) → Contains (below_of c) d → is_some (table_on shelf d) ≡ true
 
--- each table is an exact one of the pair at whose place it stands, and all pairs below a pair on
--- the shelf are on it as well
+-- each table is an exact one of the pair at whose place it stands
+pub record AreTables (board : Shape) (stored : Stored) : Type 0 where
+  pub places : length stored ≡ 49
+  pub tables : (c : Counts) → IfSome (table_on stored c) (λ t. (t.pair ≡ c) × IsTable board t)
+
+-- what there is of a pair's table once those of fewer stones than this together are let go
+abbrev pub kept_from : ℕ → Stored → Counts → Option Table
+kept_from stones stored c = if nat_le stones (c.greater + c.lesser) then table_on stored c else None
+
+-- so is each on a shelf, and all pairs below a pair on the shelf are on it as well
 pub record IsShelf (board : Shape) (shelf : Stored) : Type 0 where
-  pub places : length shelf ≡ 49
-  pub tables : (c : Counts) → IfSome (table_on shelf c) (λ t. (t.pair ≡ c) × IsTable board t)
+  pub exact : AreTables board shelf
   pub closed : (c : Counts) → is_some (table_on shelf c) ≡ true → HasAllBelow shelf c
 
 -- the first of the pairs that a pair needs whose table isn't on the shelf

@@ -12,6 +12,7 @@ use crate::exact::Exact;
 use crate::graph::PairGraph;
 use crate::layout::Layout;
 use crate::shelf::Shelf;
+use crate::stock::Stock;
 use morris_board::board::Board;
 use morris_index::pair::Pair;
 use morris_workers::{Gate, SHORT_NODES, Unwatched, Watch, solve_with};
@@ -50,7 +51,8 @@ pub fn build<B: Board, A: Gate, R: Threads + Wait + Sync>(
     ensures whenever { (s : BlockState) → IsBlockOf B.shape Layout.Full pair s → TellsTheGame B.shape Layout.Full pair s }
 {
     let (layout, watch) = (Layout::Full, &mut Unwatched);
-    build_watched(rt, alloc, shelf, pair, layout, gate, watch, workers, blocks)
+    let stock = shelf.stock();
+    build_watched(rt, alloc, stock, pair, layout, gate, watch, workers, blocks)
 }
 
 /// [`build`] with a layout: the exact table of a pair with its entries so laid out, over tables of
@@ -78,10 +80,12 @@ pub fn build_as<B: Board, A: Gate, R: Threads + Wait + Sync>(
     ensures whenever { (s : BlockState) → IsBlockOf B.shape layout pair s → TellsTheGame B.shape layout pair s }
 {
     let watch = &mut Unwatched;
-    build_watched(rt, alloc, shelf, pair, layout, gate, watch, workers, blocks)
+    let stock = shelf.stock();
+    build_watched(rt, alloc, stock, pair, layout, gate, watch, workers, blocks)
 }
 
-/// [`build_as`], and tells `watch` of each wave before it begins (see [`Watch`]).
+/// [`build_as`] over the tables of a stock, and tells `watch` of each wave before it begins (see
+/// [`Watch`]).
 ///
 /// # Errors
 /// Those of [`build_as`], in the same order. The watch is told nothing before the graph of the pair
@@ -89,7 +93,7 @@ pub fn build_as<B: Board, A: Gate, R: Threads + Wait + Sync>(
 pub fn build_watched<B: Board, A: Gate, V: Watch, R: Threads + Wait + Sync>(
     rt: &R,
     alloc: Global,
-    shelf: &Shelf<B>,
+    stock: &Stock<B>,
     pair: Pair<B>,
     layout: Layout,
     gate: &A,
@@ -97,10 +101,10 @@ pub fn build_watched<B: Board, A: Gate, V: Watch, R: Threads + Wait + Sync>(
     workers: usize,
     blocks: usize,
 ) -> Result<Exact<B>, BuildFault<B>>
-    ensures ready { OnOk result (first_missing shelf.now pair ≡ None) }
+    ensures ready { OnOk result (first_missing stock.now pair ≡ None) }
     ensures range { OnOk result (range_fault workers blocks ≡ None) }
     ensures exact { IfOk result (IsBuilt B.shape layout pair) }
-    ensures refused { IfErr result (IsUnbuilt B.shape shelf.now layout pair workers blocks) }
+    ensures refused { IfErr result (IsUnbuilt B.shape stock.now layout pair workers blocks) }
     // Whenever a block's lock is free, each decided entry is the game's value and exact depth at
     // its position and the tallies count the entries.
     ensures whenever { (s : BlockState) → IsBlockOf B.shape layout pair s → TellsTheGame B.shape layout pair s }
@@ -109,12 +113,12 @@ pub fn build_watched<B: Board, A: Gate, V: Watch, R: Threads + Wait + Sync>(
 {
     match layout {
         Layout::Full => {
-            let graph = PairGraph::new(shelf, pair)?;
+            let graph = PairGraph::over(stock, pair)?;
             let codes = solve_with(rt, alloc, &graph, gate, workers, blocks, SHORT_NODES, watch)?;
             Ok(graph.into_table(codes))
         }
         Layout::Classes => {
-            let graph = ClassGraph::new(alloc, shelf, pair)?;
+            let graph = ClassGraph::over(alloc, stock, pair)?;
             let entry_codes = solve_with(
                 rt,
                 alloc,

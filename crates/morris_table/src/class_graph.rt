@@ -19,6 +19,7 @@ use crate::levels::PairLevels;
 use crate::numbering::Numbering;
 use crate::rows::{Row, read_counts};
 use crate::shelf::Shelf;
+use crate::stock::Stock;
 use morris_board::board::{Board, Geometry};
 use morris_index::pair::Pair;
 use morris_wave::{Exits, Graph};
@@ -70,9 +71,31 @@ impl<'a, B: Geometry> ClassGraph<'a, B> {
         // also where a table is missing.
         ensures blocks { (s : BlockState) → IsBlockOf B.shape Layout.Classes pair s → TellsTheGame B.shape Layout.Classes pair s }
     {
+        ClassGraph::over(alloc, shelf.stock(), pair)
+    }
+
+    /// [`new`](ClassGraph::new) over the tables of a stock.
+    ///
+    /// # Errors
+    /// Those of [`new`](ClassGraph::new), in the same order.
+    pub fn over(
+        alloc: Global,
+        stock: &'a Stock<B>,
+        pair: Pair<B>,
+    ) -> Result<ClassGraph<'a, B>, BuildFault<B>>
+        ensures needs { MatchResult result (λ _. first_missing stock.now pair ≡ None) (λ fault. needed_by fault ≡ first_missing stock.now pair) }
+        // Nothing but a table or memory can be wanting.
+        ensures alone { IfErr result (λ fault. is_of_graph fault ≡ true) }
+        ensures pair { IfOk result (λ graph. graph ≡ pair) }
+        ensures values { OnOk result (HasGameValues B.shape Layout.Classes pair) }
+        ensures deep { OnOk result (IsTooDeep (net_at B.shape (level_of Layout.Classes pair)) ↔ IsBeyondCodes B.shape pair) }
+        // What the blocks of the graph hold, at any wave and whatever is applied, is the game's,
+        // also where a table is missing.
+        ensures blocks { (s : BlockState) → IsBlockOf B.shape Layout.Classes pair s → TellsTheGame B.shape Layout.Classes pair s }
+    {
         // The proof learns here that the numbers of stones are those of a pair.
         let _ = pair.greater();
-        let graph = PairGraph::new(shelf, pair)?;
+        let graph = PairGraph::over(stock, pair)?;
         let numbering = Numbering::make(alloc, pair, Layout::Classes)?;
         Ok(ClassGraph { graph, numbering })
     }

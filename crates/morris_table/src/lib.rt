@@ -17,6 +17,7 @@ pub mod raw;
 pub mod reading;
 mod rows;
 pub mod shelf;
+pub mod stock;
 pub mod sweeping;
 pub mod value;
 pub mod verify;

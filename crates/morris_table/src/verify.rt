@@ -12,6 +12,7 @@ use crate::exact::Exact;
 use crate::graph::PairGraph;
 use crate::raw::Raw;
 use crate::shelf::{Needs, Shelf};
+use crate::stock::Stock;
 use morris_board::board::{Board, Geometry};
 use thiserror::Error;
 
@@ -50,7 +51,25 @@ impl<B: Board> Raw<B> {
         ensures agreement { first_missing shelf.now self.pair ≡ None
             → (((i : ℕ) → i < entry_count B.shape B.POINTS self.layout self.pair → Agrees B.shape self i) ↔ IsTable B.shape self) }
     {
-        let graph = match PairGraph::new(shelf, self.pair()) {
+        self.verify_over(shelf.stock())
+    }
+
+    /// [`verify`](Raw::verify) over the tables of a stock.
+    ///
+    /// # Errors
+    /// Those of [`verify`](Raw::verify), in the same order.
+    pub fn verify_over(self, stock: &Stock<B>) -> Result<Exact<B>, (Raw<B>, VerifyFault<B>)>
+        ensures needs { MatchResult result (λ _. first_missing stock.now self.pair ≡ None)
+            (λ refused. missing_in refused.1 ≡ first_missing stock.now self.pair) }
+        ensures exact { IsTrue (is_ok result) ↔ ((first_missing stock.now self.pair ≡ None) × IsTable B.shape self) }
+        ensures value { IfOk result (λ t. t ≡ self) }
+        ensures differs { IfErr result (λ refused. IfSome (differing_in refused.1) (IsFirstToDiffer B.shape self)) }
+        ensures given_back { IfErr result (λ refused. refused.0 ≡ self) }
+        // A table is exact where all of its entries agree, and only there.
+        ensures agreement { first_missing stock.now self.pair ≡ None
+            → (((i : ℕ) → i < entry_count B.shape B.POINTS self.layout self.pair → Agrees B.shape self i) ↔ IsTable B.shape self) }
+    {
+        let graph = match PairGraph::over(stock, self.pair()) {
             Ok(graph) => graph,
             Err(needs) => return Err((self, VerifyFault::Needs(needs))),
         };

@@ -7,7 +7,8 @@ use morris_board::grid::Grid;
 use morris_table::build_fault::BuildFault;
 use morris_table::building::build_watched;
 use morris_table::layout::Layout;
-use morris_table::shelf::{Needs, Shelf};
+use morris_table::shelf::Needs;
+use morris_table::stock::Stock;
 use morris_workers::{OpenGate, Watch};
 use std::alloc::Global;
 use std::process::Abort;
@@ -44,11 +45,11 @@ fn is_built<R: Threads + Wait + Sync>(
     workers: usize,
     blocks: usize,
 ) -> bool {
-    match (pair(3, 3), Shelf::new(alloc)) {
-        (Some(pair), Ok(shelf)) => {
+    match (pair(3, 3), Stock::new(alloc)) {
+        (Some(pair), Ok(stock)) => {
             let gate = &OpenGate;
             build_watched(
-                rt, alloc, &shelf, pair, layout, gate, watch, workers, blocks,
+                rt, alloc, &stock, pair, layout, gate, watch, workers, blocks,
             )
             .is_ok()
         }
@@ -79,7 +80,7 @@ fn a_watch_is_told_the_waves_of_a_build(rt: HostRuntime) {
     assert!(rt; tells_four(&rt, rt.alloc(), Layout::Classes, 2, 5));
 }
 
-/// How many waves are told of a build over an empty shelf that is refused for this, and whose
+/// How many waves are told of a build over no tables that is refused for this, and whose
 /// workers are all sent away.
 fn waves_before<R: Threads + Wait + Sync>(
     rt: &R,
@@ -90,11 +91,11 @@ fn waves_before<R: Threads + Wait + Sync>(
     fault: BuildFault<Grid>,
 ) -> Option<usize> {
     let pair = pair(greater, 3)?;
-    let shelf = &Shelf::new(alloc).ok()?;
+    let stock = &Stock::new(alloc).ok()?;
     let told = Vec::new(alloc);
     let mut scribe = Scribe { told };
     let watch = &mut scribe;
-    let refused = build_watched(rt, alloc, shelf, pair, layout, &Shut, watch, workers, 5).err();
+    let refused = build_watched(rt, alloc, stock, pair, layout, &Shut, watch, workers, 5).err();
     (refused == Some(fault)).then_some(scribe.told.len())
 }
 

@@ -12,23 +12,23 @@ use Rattle.morris_table.proofs.building.build_watched.Goals as goal
 
 pub returns-in_err-graph-in-Full-clause-refused : goal.returns-in_err-graph-in-Full-clause-refused
 returns-in_err-graph-in-Full-clause-refused g c =
-    err_of c.from_residual.result (IsUnbuilt g.B.Geometry.shape c.args.shelf.now c.args.layout c.args.pair c.args.workers c.args.blocks) (Needs c.in_err-graph-in-Full.field-0.0)
+    err_of c.from_residual.result (IsUnbuilt g.B.Geometry.shape c.args.stock.now c.args.layout c.args.pair c.args.workers c.args.blocks) (Needs c.in_err-graph-in-Full.field-0.0)
     c.from_residual.ensures.1 c.in_err-graph-in-Full.ensures.needs
 
 pub returns-in_err-graph-in-Full-clause-whenever : goal.returns-in_err-graph-in-Full-clause-whenever
-returns-in_err-graph-in-Full-clause-whenever g c = rw c.in-Full.is (c.new.ensures.blocks Full)
+returns-in_err-graph-in-Full-clause-whenever g c = rw c.in-Full.is (c.over.ensures.blocks Full)
 
 pub returns-in_err-codes-in-Full-clause-refused : goal.returns-in_err-codes-in-Full-clause-refused
 returns-in_err-codes-in-Full-clause-refused g c =
     let fault = c.in_err-codes-in-Full.field-0.0 in
     rw c.in-Full.is
-    (err_of c.from_residual-in_err-codes-in-Full.result (IsUnbuilt g.B.Geometry.shape c.args.shelf.now Full c.args.pair c.args.workers c.args.blocks) (solved fault)
+    (err_of c.from_residual-in_err-codes-in-Full.result (IsUnbuilt g.B.Geometry.shape c.args.stock.now Full c.args.pair c.args.workers c.args.blocks) (solved fault)
     c.from_residual-in_err-codes-in-Full.ensures.1
-    (refused_by_workers _ g.B.Geometry.shape c.args.shelf.now c.args.pair Full c.args.workers c.args.blocks fault c.in_ok-graph-in-Full.ensures.needs (c.in_ok-graph-in-Full.ensures.deep Full).0
+    (refused_by_workers _ g.B.Geometry.shape c.args.stock.now c.args.pair Full c.args.workers c.args.blocks fault c.in_ok-graph-in-Full.ensures.needs (c.in_ok-graph-in-Full.ensures.deep Full).0
     (subst (λ d. IsRefusal (net_at g.B.Geometry.shape (level_of Full d)) c.args.workers c.args.blocks fault) c.in_ok-graph-in-Full.ensures.pair c.in_err-codes-in-Full.ensures.refused)))
 
 pub returns-in_err-codes-in-Full-clause-whenever : goal.returns-in_err-codes-in-Full-clause-whenever
-returns-in_err-codes-in-Full-clause-whenever g c = rw c.in-Full.is (c.new.ensures.blocks Full)
+returns-in_err-codes-in-Full-clause-whenever g c = rw c.in-Full.is (c.over.ensures.blocks Full)
 
 pub returns-in_ok-codes-in-Full-clause-exact : goal.returns-in_ok-codes-in-Full-clause-exact
 returns-in_ok-codes-in-Full-clause-exact g c =
@@ -43,7 +43,7 @@ returns-in_ok-codes-in-Full-clause-exact g c =
     }
 
 pub returns-in_ok-codes-in-Full-clause-whenever : goal.returns-in_ok-codes-in-Full-clause-whenever
-returns-in_ok-codes-in-Full-clause-whenever g c = rw c.in-Full.is (c.new.ensures.blocks Full)
+returns-in_ok-codes-in-Full-clause-whenever g c = rw c.in-Full.is (c.over.ensures.blocks Full)
 
 -- by classes
 
@@ -51,17 +51,17 @@ pub returns-in_err-graph-in-Classes-clause-refused : goal.returns-in_err-graph-i
 returns-in_err-graph-in-Classes-clause-refused g c =
     let fault = c.in_err-graph-in-Classes.field-0.0 in
     rw c.in-Classes.is
-    (err_of c.from_residual-in_err-graph-in-Classes.result (IsUnbuilt g.B.Geometry.shape c.args.shelf.now Classes c.args.pair c.args.workers c.args.blocks) fault
+    (err_of c.from_residual-in_err-graph-in-Classes.result (IsUnbuilt g.B.Geometry.shape c.args.stock.now Classes c.args.pair c.args.workers c.args.blocks) fault
     c.from_residual-in_err-graph-in-Classes.ensures.1
-    (refused_by_graph _ g.B.Geometry.shape c.args.shelf.now c.args.pair c.args.workers c.args.blocks fault c.in_err-graph-in-Classes.ensures.needs c.in_err-graph-in-Classes.ensures.alone))
+    (refused_by_graph _ g.B.Geometry.shape c.args.stock.now c.args.pair c.args.workers c.args.blocks fault c.in_err-graph-in-Classes.ensures.needs c.in_err-graph-in-Classes.ensures.alone))
 
 pub returns-in_err-entry_codes-in-Classes-clause-refused : goal.returns-in_err-entry_codes-in-Classes-clause-refused
 returns-in_err-entry_codes-in-Classes-clause-refused g c =
     let fault = c.in_err-entry_codes-in-Classes.field-0.0 in
     rw c.in-Classes.is
-    (err_of c.from_residual-in_err-entry_codes-in-Classes.result (IsUnbuilt g.B.Geometry.shape c.args.shelf.now Classes c.args.pair c.args.workers c.args.blocks) (solved fault)
+    (err_of c.from_residual-in_err-entry_codes-in-Classes.result (IsUnbuilt g.B.Geometry.shape c.args.stock.now Classes c.args.pair c.args.workers c.args.blocks) (solved fault)
     c.from_residual-in_err-entry_codes-in-Classes.ensures.1
-    (refused_by_workers _ g.B.Geometry.shape c.args.shelf.now c.args.pair Classes c.args.workers c.args.blocks fault c.in_ok-graph-in-Classes.ensures.needs
+    (refused_by_workers _ g.B.Geometry.shape c.args.stock.now c.args.pair Classes c.args.workers c.args.blocks fault c.in_ok-graph-in-Classes.ensures.needs
     c.in_ok-graph-in-Classes.ensures.deep.0
     (subst (λ d. IsRefusal (net_at g.B.Geometry.shape (level_of Classes d)) c.args.workers c.args.blocks fault) c.in_ok-graph-in-Classes.ensures.pair
     c.in_err-entry_codes-in-Classes.ensures.refused)))

@@ -1,21 +1,8 @@
-use Rattle.std.proofs.Common.{◌≡◌, ◌∙◌}
-use Rattle.morris_table.specs.Tables.{IsTable}
 use Rattle.morris_table.specs.Shelves.{HasAllBelow, IsShelf}
-use Rattle.morris_table.proofs.ShelfLaws.{has_place-pair, table_read, from_copied, where_there}
+use Rattle.morris_table.proofs.ShelfLaws.{where_there}
 use Rattle.morris_table.proofs.shelf.Shelf.get.Goals as goal
-
-pub returns-clause-value : goal.returns-clause-value
-returns-clause-value g c =
-    rw (← c.self.view_is)
-    (c.as_ref.ensures.value
-    ∙ table_read _ c.args.pair c.place_of.result _ c.self.invariant.places (has_place-pair _ _ c.place_of.ensures.lawful) c.place_of.ensures.place c.index.ensures)
-
-pub returns-clause-exact : goal.returns-clause-exact
-returns-clause-exact g c =
-    let lawful : IsShelf g.B.Geometry.shape c.args.self.now = rw (← c.self.view_is) c.self.invariant in
-    from_copied (λ t. (t.pair ≡ c.args.pair) × IsTable g.B.Geometry.shape t) c.as_ref.result _ (returns-clause-value g c) (lawful.tables c.args.pair)
 
 pub returns-clause-below : goal.returns-clause-below
 returns-clause-below g c =
     let lawful : IsShelf g.B.Geometry.shape c.args.self.now = rw (← c.self.view_is) c.self.invariant in
-    where_there (HasAllBelow c.args.self.now c.args.pair) c.as_ref.result _ (returns-clause-value g c) (lawful.closed c.args.pair)
+    where_there (HasAllBelow c.args.self.now c.args.pair) c.get.result _ (rw (← c.self.view_is) c.get.ensures.value) (lawful.closed c.args.pair)

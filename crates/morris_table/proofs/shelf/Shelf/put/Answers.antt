@@ -1,18 +1,7 @@
-use Rattle.morris_table.proofs.ShelfLaws.{has_place-pair, put-this, put-other, put-lawful}
+use Rattle.morris_table.proofs.ShelfLaws.{put-lawful}
 use Rattle.morris_table.proofs.shelf.Shelf.put.Goals as goal
 
 pub invariant_of-self : goal.invariant_of-self
 invariant_of-self g c =
-    rw (c.place_of.ensures.place, c.pair-pair.ensures.value)
-    (put-lawful _ c.args.table c.self.invariant.places (has_place-pair _ _ c.pair-pair.ensures.lawful.lawful) g.B.Geometry.shape c.self.invariant c.pair-pair.ensures.lawful
-    (rw (c.self.view_is, ← c.pair-pair.ensures.value) c.in_default.ensures))
-
-pub returns-clause-this : goal.returns-clause-this
-returns-clause-this g c =
-    rw (c.place_of.ensures.place, c.pair-pair.ensures.value)
-    (put-this _ c.args.table c.self.invariant.places (has_place-pair _ _ c.pair-pair.ensures.lawful.lawful))
-
-pub returns-clause-others : goal.returns-clause-others
-returns-clause-others g c =
-    rw (c.place_of.ensures.place, c.pair-pair.ensures.value, ← c.self.view_is)
-    (put-other _ c.args.table c.self.invariant.places (has_place-pair _ _ c.pair-pair.ensures.lawful.lawful))
+    put-lawful g.B.Geometry.shape c.self.inside.stock c.put.new.self c.args.table c.self.invariant c.put.ensures.lawful
+    (rw (← c.pair.ensures.value) c.in_default.ensures) c.put.ensures.this c.put.ensures.others

@@ -1,7 +1,7 @@
 use Rattle.std.specs.Option.{option_copied}
 use Rattle.morris_table.proofs.GraphLaws.{values_over, depths_over}
 use Rattle.morris_table.proofs.HeadlineLaws.{whenever}
-use Rattle.morris_table.proofs.graph.PairGraph.new.Goals as goal
+use Rattle.morris_table.proofs.graph.PairGraph.over.Goals as goal
 
 pub returns-clause-values : goal.returns-clause-values
 returns-clause-values g c =

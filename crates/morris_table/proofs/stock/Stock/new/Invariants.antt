@@ -1,5 +1,5 @@
 use Rattle.std.proofs.Common.{◌≡◌, ℕ, length, get_or, None}
-use Rattle.morris_table.proofs.shelf.Shelf.new.Given as goal
+use Rattle.morris_table.proofs.stock.Stock.new.Given as goal
 
 abbrev pub invariant-loop : goal.invariant-loop
 invariant-loop g l = record {
