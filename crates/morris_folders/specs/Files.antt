@@ -31,10 +31,10 @@ Keeps old new = Goes old new AreSame
 abbrev pub IsUnsynced : Option Files → Option Files → List ℕ → Type 0
 IsUnsynced old new name = Goes old new (AreSameBut name)
 
--- what an opened reader gives first: the bytes of the file
+-- what an opened reader gives first: the bytes of the file, which is there
 abbrev pub IsReaderOf : Option Files → List ℕ → Option (List ℕ) → Type 0
 IsReaderOf None name remaining = ⊤
-IsReaderOf (Some files) name remaining = files name ≡ remaining
+IsReaderOf (Some files) name remaining = (bytes : List ℕ) × (files name ≡ Some bytes) × (remaining ≡ Some bytes)
 
 -- there is no file of this name
 abbrev pub HasNone : Option Files → List ℕ → Type 0

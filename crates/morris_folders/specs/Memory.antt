@@ -1,13 +1,17 @@
 -- What a folder in memory has.
 use Rattle.std.specs.Prelude.{ℕ}
 use Rattle.std.specs.Option.{option_map}
-use Rattle.std.specs.BTreeMap.{get_by_text}
+use Rattle.std.specs.BTreeMap.{btree_map_len, get_by_text}
 use Rattle.morris_folders.specs.declared.memory.MemoryFolder.{MemoryFolder}
 use Rattle.morris_folders.specs.Files.{Files}
 
 -- its files
 abbrev pub files_of : MemoryFolder → Files
 files_of folder name = option_map (λ bytes. bytes.items) (get_by_text folder.files name)
+
+-- how many there are
+abbrev pub count_of : MemoryFolder → ℕ
+count_of folder = btree_map_len folder.files
 
 -- how many of its calls have failed
 abbrev pub failures_of : MemoryFolder → ℕ

@@ -22,11 +22,18 @@ pub trait Folder {
     /// How many calls have failed, without those of readers and writers.
     ghost failures: { Self → ℕ };
 
-    /// Opens the file of this name, to be read from its first byte on; `None` where there isn't
-    /// one.
+    /// Makes the folder itself where there is none. Its parent has to be there. No file is changed,
+    /// whether the call fails or not.
     ///
     /// Fewer than `u64::MAX` calls may have failed before, here and at each other call. A failed
     /// call is counted by [`failures`](Folder::failures), and isn't tried again.
+    fn make(&mut self) -> Result<(), Failed>
+        requires { failures self.old < 2 ^ 64 - 1 }
+        ensures kept { Keeps (files self.old) (files self.new) }
+        ensures counted { CountsFailure (failures self.old) (failures self.new) result };
+
+    /// Opens the file of this name, to be read from its first byte on; `None` where there isn't
+    /// one.
     fn open(&mut self, name: &str) -> Result<Option<Self::Reader>, Failed>
         requires { failures self.old < 2 ^ 64 - 1 }
         ensures opened { IsOpened Self.Reader.remaining Self.Reader.failures (files self.old) name.now result }

@@ -2,7 +2,7 @@
 ghost use Rattle.std.specs.Prelude.{◌≡◌, ◌≢◌, ℕ, ◌+◌, ◌-◌, ◌^◌, ◌<◌, List, Some, None, OnOk, OnErr};
 ghost use Rattle.std.specs.Option.{option_map};
 ghost use Rattle.morris_folders.specs.Files.{AreSame, AreSameBut};
-ghost use Rattle.morris_folders.specs.Memory.{files_of, failures_of};
+ghost use Rattle.morris_folders.specs.Memory.{count_of, files_of, failures_of};
 
 use crate::folder::Folder;
 use morris_board::streams::{Failed, FromRead, Sink};
@@ -83,7 +83,9 @@ impl MemoryFolder {
     }
 
     /// How many files there are.
-    pub fn count(&self) -> usize {
+    pub fn count(&self) -> usize
+        ensures { result ≡ count_of self.now }
+    {
         self.files.len()
     }
 
@@ -190,6 +192,13 @@ impl Folder for MemoryFolder {
     ghost files = { λ s. Some (files_of s) };
 
     ghost failures = { failures_of };
+
+    fn make(&mut self) -> Result<(), Failed> {
+        if self.failing.next_fails() {
+            return Err(self.fail());
+        }
+        Ok(())
+    }
 
     fn open(&mut self, name: &str) -> Result<Option<FromRead<VecDeque<u8>>>, Failed> {
         if self.failing.next_fails() {

@@ -31,7 +31,7 @@ impl<'a, R> Model for SystemFolder<'a, R> {
 
 impl<'a, R: Files + AllocGlobal> SystemFolder<'a, R> {
     /// The folder with this path, of which no call has failed yet. It isn't looked for: where it
-    /// isn't there, no file is, and none can be made.
+    /// isn't there, no file is, and none can be written until [`make`](Folder::make) made it.
     pub fn new(rt: &'a R, path: &'a str) -> SystemFolder<'a, R>
         ensures { result ≡ 0 }
     {
@@ -42,23 +42,6 @@ impl<'a, R: Files + AllocGlobal> SystemFolder<'a, R> {
         }
     }
 
-    /// [`new`](SystemFolder::new), which makes the folder where there is none.
-    ///
-    /// # Errors
-    /// [`Failed`] where there is none and the system doesn't make it, as where its parent isn't
-    /// there.
-    pub fn make(rt: &'a R, path: &'a str) -> Result<SystemFolder<'a, R>, Failed>
-        ensures { IfOk result (λ folder. folder ≡ 0) }
-    {
-        match fs::create_dir(rt, path) {
-            Ok(()) => Ok(SystemFolder::new(rt, path)),
-            Err(fault) if fault.kind() == ErrorKind::AlreadyExists => {
-                Ok(SystemFolder::new(rt, path))
-            }
-            Err(_) => Err(Failed),
-        }
-    }
-
     /// The path of the file of this name.
     fn path_of(&self, name: &str) -> Result<String, AllocError> {
         let mut path = String::new(self.rt.alloc());
@@ -66,6 +49,14 @@ impl<'a, R: Files + AllocGlobal> SystemFolder<'a, R> {
         path.push('/')?;
         path.push_str(name)?;
         Ok(path)
+    }
+
+    /// Makes the folder itself, unless the path stands for something already.
+    fn make_folder(&self) -> io::Result<()> {
+        match fs::create_dir(self.rt, self.path) {
+            Err(fault) if fault.kind() == ErrorKind::AlreadyExists => Ok(()),
+            answer => answer,
+        }
     }
 
     /// A reader of the file of this name, and `None` where there isn't one.
@@ -114,6 +105,11 @@ impl<'a, R: Files + AllocGlobal> Folder for SystemFolder<'a, R> {
     ghost files = { λ s. None };
 
     ghost failures = { λ s. s };
+
+    fn make(&mut self) -> Result<(), Failed> {
+        let answer = self.make_folder();
+        tally(answer, &mut self.failed)
+    }
 
     fn open(&mut self, name: &str) -> Result<Option<FromRead<R::File>>, Failed> {
         let answer = self.reader(name);

@@ -1,5 +1,7 @@
 // Files in memory, written while calls fail.
 use crate::text::Two;
+use morris_board::streams::Failed;
+use morris_folders::folder::Folder;
 use morris_folders::memory::MemoryFolder;
 use morris_folders::whole::{NotWhole, Step, write_whole};
 use std::alloc::Global;
@@ -38,4 +40,12 @@ fn a_file_is_whole_or_as_it_was_whichever_calls_fail(rt: HostRuntime) {
     assert!(rt; is_refused(alloc, 0b110, 0, Step::Sync, true));
     assert!(rt; is_refused(alloc, 0b100, 0, Step::Rename, false));
     assert!(rt; is_refused(alloc, 0b1100, 0, Step::Rename, true));
+}
+
+#[test]
+fn a_folder_in_memory_is_made_unless_it_is_told_to_fail(rt: HostRuntime) {
+    let mut folder = MemoryFolder::new(rt.alloc(), 0b1, 0);
+    assert!(rt; folder.make() == Err(Failed));
+    assert!(rt; folder.make() == Ok(()));
+    assert!(rt; folder.count() == 0);
 }

@@ -1,6 +1,6 @@
 //! The names of the files of tables.
 ghost use Rattle.std.specs.Prelude.{◌≡◌, IfOk, string_bytes};
-ghost use Rattle.morris_keeping.specs.Names.{name_of};
+ghost use Rattle.morris_keeping.specs.Names.{digests_name_of, name_of};
 
 use itoa::Buffer;
 use morris_board::board::Geometry;
@@ -26,5 +26,19 @@ pub fn file_name<B: Geometry>(
     name.push_str("-")?;
     name.push_str(digits.format(pair.lesser()))?;
     name.push_str(".nmmt")?;
+    Ok(name)
+}
+
+/// The name of the file of the digests of the files of tables on the board of this name, as
+/// `nine.sha256`.
+///
+/// # Errors
+/// [`AllocError`] where memory is refused.
+pub fn digests_name(alloc: Global, board: &str) -> Result<String, AllocError>
+    ensures { IfOk result (λ name. string_bytes name ≡ digests_name_of board.now) }
+{
+    let mut name = String::with_capacity(alloc, 0)?;
+    name.push_str(board)?;
+    name.push_str(".sha256")?;
     Ok(name)
 }

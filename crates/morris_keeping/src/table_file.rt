@@ -1,9 +1,11 @@
 //! The file of one table.
 ghost use Rattle.std.specs.Prelude.{◌≡◌, ◌+◌, ◌-◌, ◌^◌, ◌<◌, IfOk, MatchResult, length};
+ghost use Rattle.sha2.specs.Sha256.{sha256};
 ghost use Rattle.morris_table.specs.TableFiles.{file_of};
 ghost use Rattle.morris_folders.specs.Whole.{failed_in};
 ghost use Rattle.morris_keeping.specs.Kept.{AnswersTableFile};
 
+use crate::digest::digest_of_file;
 use crate::names::file_name;
 use morris_board::board::Geometry;
 use morris_board::streams::{Failed, Sink};
@@ -39,6 +41,8 @@ pub struct Written<B: Geometry> {
     pub entries: u64,
     /// How many bytes the file has.
     pub bytes: u64,
+    /// The SHA-256 of the whole file.
+    pub digest: [u8; 32],
 }
 
 /// Writes the file of a table into a folder, whole or not at all, under the name that the file of
@@ -62,6 +66,7 @@ pub fn write_table_file<B: Geometry, F: Folder>(
     ensures pair { IfOk result (λ written. written.pair ≡ table.now.pair) }
     ensures entries { IfOk result (λ written. written.entries ≡ length table.now.codes) }
     ensures bytes { IfOk result (λ written. written.bytes ≡ length (file_of B.shape table.now)) }
+    ensures digest { IfOk result (λ written. written.digest ≡ sha256 (file_of B.shape table.now)) }
 {
     let (pair, entries) = (table.pair(), table.len());
     let Ok(name) = file_name(alloc, board, pair) else {
@@ -71,11 +76,12 @@ pub fn write_table_file<B: Geometry, F: Folder>(
         });
     };
     write_whole(alloc, folder, name.as_str(), &TableFile(table))?;
-    let bytes = file_length(table);
+    let (bytes, digest) = (file_length(table), digest_of_file(table));
     Ok(Written {
         pair,
         entries,
         bytes,
+        digest,
     })
 }
 

@@ -1,9 +1,13 @@
 // The file of a table in a folder in memory.
 use morris_board::grid::Grid;
+use morris_folders::folder::Folder;
 use morris_folders::memory::MemoryFolder;
 use morris_index::pair::Pair;
-use morris_keeping::table_file::write_table_file;
+use morris_keeping::digests::write_digests;
+use morris_keeping::kept::{KeptFault, read_table_file};
+use morris_keeping::table_file::{Written, write_table_file};
 use morris_table::exact::Exact;
+use morris_table::file_faults::ReadFault;
 use morris_table::shelf::Shelf;
 use morris_table::sweeping::sweep_pair;
 use std::alloc::Global;
@@ -14,6 +18,16 @@ const DIGEST: [u8; 32] = [
     0xd6, 0x6a, 0x9e, 0xcf, 0x00, 0x1c, 0xc6, 0x95, 0xc7, 0x90, 0x4b, 0xf2, 0xb8, 0xbd, 0xbc, 0xc3,
     0xac, 0x27, 0x50, 0x65, 0xc3, 0xb5, 0x79, 0xb9, 0x5f, 0x4f, 0x84, 0x5e, 0x2a, 0x95, 0xd1, 0x8d,
 ];
+
+/// The SHA-256 of the whole file, by the same program.
+const WHOLE: [u8; 32] = [
+    0xf8, 0xc4, 0x8a, 0x20, 0xf9, 0x6d, 0x42, 0x47, 0x48, 0xed, 0x4c, 0x63, 0x1d, 0x94, 0xd9, 0x8d,
+    0x80, 0xb8, 0xb0, 0x0b, 0xe2, 0xf1, 0x7e, 0xb8, 0x13, 0x2b, 0x23, 0x3d, 0x2b, 0x18, 0x40, 0x76,
+];
+
+/// The file of the digests of that file alone.
+const LINE: &[u8] =
+    b"f8c48a20f96d424748ed4c631d94d98d80b8b00be2f17eb8132b233d2b184076  grid-3-3.nmmt\n";
 
 /// The table of 3-3.
 fn three_three(alloc: Global) -> Option<Exact<Grid>> {
@@ -37,6 +51,62 @@ fn the_file_of_a_table_has_the_name_of_its_pair(rt: HostRuntime) {
     let mut folder = MemoryFolder::new(rt.alloc(), 0, 0);
     let written = write_table_file(rt.alloc(), &mut folder, "grid", &table).ok();
     let written = written.expect(&rt, "the file of 3-3");
-    assert!(rt; written.entries == 1680 && written.bytes == 3408);
+    assert!(rt; written.entries == 1680 && written.bytes == 3408 && written.digest == WHOLE);
     assert!(rt; has_file(&folder));
+}
+
+/// The folder with the file of 3-3, and what is told of the file.
+fn kept(alloc: Global, calls: u64) -> Option<(MemoryFolder, Written<Grid>)> {
+    let mut folder = MemoryFolder::new(alloc, calls, 0);
+    let written = write_table_file(alloc, &mut folder, "grid", &three_three(alloc)?).ok()?;
+    Some((folder, written))
+}
+
+#[test]
+fn the_digests_stand_in_a_file_of_their_own(rt: HostRuntime) {
+    let (mut folder, written) = kept(rt.alloc(), 0).expect(&rt, "the file of 3-3");
+    assert!(rt; folder.failures() == 0);
+    let answer = write_digests(rt.alloc(), &mut folder, "grid", &[written]);
+    assert!(rt; answer == Ok(()) && folder.get("grid.sha256") == Some(LINE));
+    assert!(rt; folder.count() == 2);
+}
+
+/// Whether the file of a pair is answered by a table of so many entries, by none, or by this fault.
+fn reads(
+    alloc: Global,
+    folder: &mut MemoryFolder,
+    pair: (u8, u8),
+    wanted: Result<Option<u64>, KeptFault>,
+) -> bool {
+    let Ok(pair) = Pair::<Grid>::new(pair.0, pair.1) else {
+        return false;
+    };
+    if folder.failures() > 1 {
+        return false;
+    }
+    let answer = match read_table_file(alloc, folder, "grid", pair) {
+        Ok(Some(raw)) => Ok(Some(raw.len())),
+        Ok(None) => Ok(None),
+        Err(fault) => Err(fault),
+    };
+    answer == wanted
+}
+
+// The first three calls write the file of 3-3, and the next two open it.
+#[test]
+fn a_table_is_read_from_the_file_of_its_pair(rt: HostRuntime) {
+    let alloc = rt.alloc();
+    let (mut folder, _) = kept(alloc, 0b1000).expect(&rt, "the file of 3-3");
+    let folder = &mut folder;
+    assert!(rt; reads(alloc, folder, (3, 3), Err(KeptFault::Unopened)));
+    assert!(rt; reads(alloc, folder, (3, 3), Ok(Some(1680))));
+    assert!(rt; reads(alloc, folder, (4, 3), Ok(None)));
+    let file = Vec::from_slice(alloc, folder.get("grid-3-3.nmmt").unwrap_or_default());
+    let mut file = file.expect(&rt, "room for the file");
+    assert!(rt; folder.put("grid-4-3.nmmt", file.as_slice()).is_ok());
+    assert!(rt; reads(alloc, folder, (4, 3), Err(KeptFault::OtherPair)));
+    assert!(rt; file.push(0).is_ok());
+    assert!(rt; folder.put("grid-3-3.nmmt", file.as_slice()).is_ok());
+    let trailing = KeptFault::Refused(ReadFault::Trailing);
+    assert!(rt; reads(alloc, folder, (3, 3), Err(trailing)));
 }

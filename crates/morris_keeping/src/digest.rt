@@ -1,0 +1,93 @@
+//! The digest of the file of a table.
+ghost use Rattle.std.specs.Prelude.{◌≡◌, ℕ, ◌+◌, ◌*◌, ◌/◌, ◌%◌, ◌≤◌, ◌++◌, List, length, take, drop};
+ghost use Rattle.sha2.specs.Hashers.{Holds256};
+ghost use Rattle.sha2.specs.Sha256.{sha256};
+ghost use Rattle.morris_table.specs.TableFiles.{code_bytes, file_of, header_of};
+
+use morris_board::board::Geometry;
+use morris_table::exact::Exact;
+use morris_table::layout::Layout;
+use sha2::{Digest, Sha256};
+
+/// How many bytes are digested at a time, at most.
+const PIECE: usize = 4096;
+
+/// The SHA-256 of the whole file of a table, as `sha256sum` tells it. It is found from the table:
+/// no file is read, and no memory is taken.
+///
+/// The digest of the first bytes, with which the file ends, is found on the way, so that each code
+/// is digested once.
+pub fn digest_of_file<B: Geometry>(table: &Exact<B>) -> [u8; 32]
+    ensures { result ≡ sha256 (file_of B.shape table.now) }
+{
+    let mut hasher = Sha256::new();
+    hasher.update(&header(table));
+    digest_codes(table, &mut hasher);
+    let Ok(content) = hasher.clone() else {
+        unreachable!()
+    };
+    hasher.update(&content.finalize());
+    hasher.finalize()
+}
+
+/// The header of the file of a table.
+#[tactic(auto, unfolding(morris_table::specs::TableFiles::header_of))]
+fn header<B: Geometry>(table: &Exact<B>) -> [u8; 16]
+    ensures { result ≡ header_of B.shape table.now.layout table.now.pair (length table.now.codes) }
+{
+    let version = match table.layout() {
+        Layout::Full => 1,
+        Layout::Classes => 2,
+    };
+    let pair = table.pair();
+    let [a, b, c, d, e, f, g, h] = table.len().to_be_bytes();
+    [
+        b'N',
+        b'M',
+        b'M',
+        b'T',
+        version,
+        B::ID,
+        pair.greater(),
+        pair.lesser(),
+        a,
+        b,
+        c,
+        d,
+        e,
+        f,
+        g,
+        h,
+    ]
+}
+
+/// Feeds the codes of a table to the hasher.
+fn digest_codes<B: Geometry>(table: &Exact<B>, hasher: &mut Sha256)
+    ensures { (before : List ℕ) → Holds256 hasher.old before → Holds256 hasher.new (before ++ code_bytes table.now.codes) }
+{
+    let mut piece = [0; PIECE];
+    let count = table.len();
+    let mut first = 0;
+    while first < count {
+        let codes = (count - first).min(PIECE as u64 / 2);
+        let bytes = &mut piece[..2 * codes as usize];
+        copy_codes(table, first, bytes);
+        hasher.update(&*bytes);
+        first += codes;
+    }
+}
+
+/// Fills `piece` with the codes of a table from the entry `first` on, which the table has.
+fn copy_codes<B: Geometry>(table: &Exact<B>, first: u64, piece: &mut [u8])
+    requires even { length piece.old % 2 ≡ 0 }
+    requires inside { 2 * first + length piece.old ≤ 2 * length table.now.codes }
+    ensures { piece.new ≡ code_bytes (take (length piece.old / 2) (drop first table.now.codes)) }
+{
+    // The proof learns here how many entries there are.
+    let _ = table.len();
+    for i in 0..piece.len() / 2 {
+        let [high, low] = table.code(first + i as u64).to_be_bytes();
+        piece[2 * i] = high;
+        piece[2 * i + 1] = low;
+    }
+}

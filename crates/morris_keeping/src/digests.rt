@@ -1,0 +1,88 @@
+//! The file of the digests of the files of tables.
+ghost use Rattle.std.specs.Prelude.{◌≡◌, ℕ, ◌+◌, ◌-◌, ◌^◌, ◌<◌, ◌++◌, List, IfOk, MatchResult, OnOk, string_bytes};
+ghost use Rattle.morris_folders.specs.Whole.{AnswersWhole, failed_in};
+ghost use Rattle.morris_keeping.specs.Digests.{digest_line, digest_lines};
+ghost use Rattle.morris_keeping.specs.Names.{digests_name_of};
+
+use crate::names::{digests_name, file_name};
+use crate::table_file::Written;
+use morris_board::board::Geometry;
+use morris_board::streams::{Failed, Sink, put};
+use morris_folders::folder::Folder;
+use morris_folders::whole::{Contents, NotWhole, Step, write_whole};
+use std::alloc::{AllocError, Global};
+
+/// A text that is a file.
+#[derive(Drop)]
+struct Text<'a>(&'a str);
+
+impl Contents for Text<'_> {
+    ghost bytes = { λ text. text.0.now };
+
+    fn write_to<S: Sink>(&self, sink: &mut S) -> Result<(), Failed> {
+        match put(sink, 0, self.0.as_bytes()) {
+            Ok(_) => Ok(()),
+            Err(_) => Err(Failed),
+        }
+    }
+}
+
+/// Writes the file of the digests of these files, which are those of tables of the board of this
+/// name, into their folder, whole or not at all: a line for each file, in order, as
+/// `sha256sum -c` reads it. The file is named as [`digests_name`] says.
+///
+/// Fewer than `u64::MAX - 1` calls of the folder may have failed before.
+///
+/// # Errors
+/// [`NotWhole`] with the first step that failed. What stood under the name before stands there
+/// then, or the whole file does where the step is `Rename`.
+pub fn write_digests<B: Geometry, F: Folder>(
+    alloc: Global,
+    folder: &mut F,
+    board: &str,
+    written: &[Written<B>],
+) -> Result<(), NotWhole>
+    requires { F.failures folder.old < 2 ^ 64 - 2 }
+    ensures answer { AnswersWhole (digests_name_of board.now) (digest_lines board.now (λ w. w.pair) (λ w. w.digest) written.now) (F.files folder.old) (F.files folder.new) result }
+    ensures counted { MatchResult result (λ _. F.failures folder.new ≡ F.failures folder.old) (λ fault. F.failures folder.new ≡ F.failures folder.old + failed_in fault) }
+{
+    let (Ok(name), Ok(text)) = (digests_name(alloc, board), lines(alloc, board, written)) else {
+        return Err(NotWhole {
+            step: Step::Memory,
+            left: false,
+        });
+    };
+    write_whole(alloc, folder, name.as_str(), &Text(text.as_str()))
+}
+
+/// The lines of the digests of these files.
+fn lines<B: Geometry>(
+    alloc: Global,
+    board: &str,
+    written: &[Written<B>],
+) -> Result<String, AllocError>
+    ensures { IfOk result (λ text. string_bytes text ≡ digest_lines board.now (λ w. w.pair) (λ w. w.digest) written.now) }
+{
+    let mut text = String::with_capacity(alloc, 0)?;
+    for file in written {
+        push_line(alloc, &mut text, board, file)?;
+    }
+    Ok(text)
+}
+
+/// Adds the line of the digest of a file.
+fn push_line<B: Geometry>(
+    alloc: Global,
+    text: &mut String,
+    board: &str,
+    file: &Written<B>,
+) -> Result<(), AllocError>
+    ensures { OnOk result (string_bytes text.new ≡ string_bytes text.old ++ digest_line board.now file.now.pair file.now.digest) }
+{
+    let digest = hex::encode(alloc, &file.digest)?;
+    let name = file_name(alloc, board, file.pair)?;
+    text.push_str(digest.as_str())?;
+    text.push_str("  ")?;
+    text.push_str(name.as_str())?;
+    text.push_str("\n")
+}
