@@ -1,20 +1,20 @@
 -- The files that are written of the tables on a shelf.
-use Rattle.std.proofs.Common.{◌≡◌, ◌≢◌, ℕ, List, [], ◌∷◌, ◌++◌, Option, Some, None, is_some, Ok, Err, take, ◌-◌, refl, sym, ap, ap₂, subst, ◌∙◌, inl, inr, arith, append_assoc, append-nil}
+use Rattle.std.proofs.Common.{◌≡◌, ◌≢◌, ℕ, Bool, true, false, List, [], ◌∷◌, ◌++◌, Option, Some, None, is_some, Ok, Err, take, ◌-◌, refl, sym, ap, ap₂, subst, ◌∙◌, inl, inr, arith, append_assoc, append-nil}
 use Rattle.std.specs.List.{flat_map}
 use Rattle.std.proofs.lemmas.Grind.{flat_map-append}
 use Rattle.std.proofs.lemmas.List.Elements.{All-cons, All-nil, Contains-push_cases}
 use Rattle.std.specs.Io.KnownBytes.{Appends}
 use Rattle.morris_board.specs.Boards.{Shape}
 use Rattle.morris_board.specs.Streams.{PartSent}
-use Rattle.morris_index.specs.Pairs.{Counts}
+use Rattle.morris_index.specs.Pairs.{Counts, below_of}
 use Rattle.morris_table.specs.declared.layout.Layout.{Layout}
 use Rattle.morris_table.specs.Shelves.{Stored, table_on}
 use Rattle.morris_table.specs.TableFiles.{file_of}
 use Rattle.morris_table.specs.Tables.{IsTable, Table}
-use Rattle.morris_moves.proofs.ListLaws.{Contains-head, Contains-tail}
+use Rattle.morris_moves.proofs.ListLaws.{Contains-cons_cases, Contains-head, Contains-tail}
 use Rattle.morris_table.proofs.ShelfLaws.{cases_pair}
 use Rattle.morris_commands.specs.declared.fault.Fault.TheVariants as fault
-use Rattle.morris_commands.specs.Build.{AnswersFiles, AreTablesOf, HasExact, HasExactAt, HasTables, file_on}
+use Rattle.morris_commands.specs.Build.{AnswersFiles, AreTablesOf, HasExact, HasExactAt, HasTables, file_on, pairs_written}
 
 module _ (f : Counts → List ℕ) where
   -- the files of all pairs are those of the pairs so far, of this one, and of the others
@@ -66,6 +66,20 @@ one_exact_more board l old new before c there here others = λ d m.
         | inr is ↦ absurd (other (sym is))
       ]
     ]
+
+-- where nothing is let go, all is there as before
+pub still_exact : (board : Shape) (l : Layout) (old new : Stored) (pairs : List Counts) → HasExact board l old pairs
+    → ((c : Counts) → table_on new c ≡ table_on old c) → HasExact board l new pairs
+still_exact board l old new pairs there same = λ d m. let e = there d m in (e.0, same d ∙ e.1, e.2, e.3, e.4)
+
+-- the tables whose files are written: all, or the last
+pub written_exact : (board : Shape) (l : Layout) (stock : Stored) (pair : Counts) (all : Bool) → (all ≡ true → HasExact board l stock (below_of pair))
+    → HasExactAt board l stock pair → HasExact board l stock (pairs_written all pair)
+written_exact board l stock pair true every last = every refl
+written_exact board l stock pair false every last = λ d m. elim (Contains-cons_cases pair [] d m) [
+  | inl here ↦ subst (HasExactAt board l stock) here last
+  | inr none ↦ absurd (omega (arith, none.1))
+]
 
 -- what went out of the files of some pairs on a shelf is what was answered of them
 module _ (board : Shape) (l : Layout) (shelf : Stored) (pairs : List Counts) (there : HasExact board l shelf pairs) (old new : Option (List ℕ)) where

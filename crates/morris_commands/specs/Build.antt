@@ -1,5 +1,5 @@
 -- What `build` writes.
-use Rattle.std.specs.Prelude.{◌≡◌, ◌⊎◌, ⊤, ℕ, ◌<◌, Bool, true, List, [], ◌∷◌, map, Option, Some, None, is_some, Result, Ok, Err, if◌then◌else◌}
+use Rattle.std.specs.Prelude.{◌≡◌, ◌⊎◌, ⊤, ℕ, ◌+◌, ◌<◌, ◌≤◌, Bool, true, List, [], ◌∷◌, map, Option, Some, None, is_some, Result, Ok, Err, if◌then◌else◌}
 use Rattle.std.specs.List.{All, Contains, flat_map}
 use Rattle.std.specs.Io.KnownBytes.{Keeps}
 use Rattle.morris_board.specs.Boards.{Shape}
@@ -57,6 +57,14 @@ HasExactAt board l shelf c = (t : Table) × (table_on shelf c ≡ Some t) × (t.
 -- it has such a table of each of these pairs
 abbrev pub HasExact : Shape → Layout → Stored → List Counts → Type 0
 HasExact board l shelf pairs = (c : Counts) → Contains pairs c → HasExactAt board l shelf c
+
+-- how many stones a pair has
+abbrev pub stones : Counts → ℕ
+stones c = c.greater + c.lesser
+
+-- what a pair or one after it may need is still there: it needs tables of one stone less
+abbrev pub IsSpared : Stored → Stored → Counts → Type 0
+IsSpared old new c = (d : Counts) → stones c ≤ stones d + 1 → table_on new d ≡ table_on old d
 
 -- ---- the refusals
 

@@ -1,5 +1,5 @@
 -- Which fault answers a refusal, and what an answer says of what was printed.
-use Rattle.std.specs.Prelude.{◌≡◌, ℕ, ◌+◌, ◌<◌, Bool, true, false, List, [], ◌∷◌, ◌++◌, length, take, codes, Option, Result, Ok, Err, if◌then◌else◌}
+use Rattle.std.specs.Prelude.{◌≡◌, ℕ, ◌+◌, ◌<◌, Bool, true, false, List, [], ◌∷◌, ◌++◌, length, take, codes, Option, Some, None, Result, Ok, Err, if◌then◌else◌}
 use Rattle.std.specs.Fmt.{decimal}
 use Rattle.std.specs.Io.KnownBytes.{Appends}
 use Rattle.morris_board.specs.Streams.{CountsFailure}
@@ -19,8 +19,12 @@ use Rattle.morris_probe.specs.declared.fault.ProbeFault.{ProbeFault}
 use Rattle.morris_probe.specs.declared.fault.ProbeFault.TheVariants as probe
 use Rattle.morris_commands.specs.declared.fault.Fault.{Fault}
 use Rattle.morris_commands.specs.declared.fault.Fault.TheVariants as fault
-use Rattle.morris_commands.specs.declared.fault.Wording.{Wording}
-use Rattle.morris_commands.specs.declared.fault.Wording.TheVariants as wording
+use Rattle.morris_commands.specs.declared.flaw.Flaw.{Flaw}
+use Rattle.morris_commands.specs.declared.flaw.Flaw.TheVariants as flaw
+use Rattle.morris_commands.specs.declared.wording.Words.{Words}
+use Rattle.morris_commands.specs.declared.wording.Words.TheVariants.{Plain, Number, Pair}
+use Rattle.morris_commands.specs.declared.wording.Wording.{Wording}
+use Rattle.morris_commands.specs.declared.wording.Wording.TheVariants.{Alone, InFile}
 
 -- the fault that a refused text is answered with
 abbrev pub text_fault : TextFault → Fault
@@ -65,7 +69,22 @@ probe_fault (probe.Needs needs) = needs_fault needs.0
 probe_fault probe.Memory = fault.Memory
 probe_fault (probe.Write sent) = fault.Write sent
 
--- the number of a fault
+-- the number of a flaw
+abbrev pub flaw_number : Flaw → ℕ
+flaw_number flaw.Short = 15
+flaw_number flaw.Magic = 16
+flaw_number flaw.Version = 17
+flaw_number flaw.BoardId = 18
+flaw_number flaw.Counts = 4
+flaw_number flaw.Crowded = 5
+flaw_number flaw.Count = 19
+flaw_number flaw.Digest = 20
+flaw_number flaw.Trailing = 21
+flaw_number flaw.Read = 22
+flaw_number (flaw.Needs greater lesser) = 13
+flaw_number (flaw.Differs index) = 14
+
+-- the number of a fault; one that was met in a file has that of the file's flaw
 abbrev pub fault_number : Fault → ℕ
 fault_number fault.Length = 1
 fault_number (fault.Character place) = 2
@@ -91,45 +110,109 @@ fault_number (fault.Write sent) = 23
 fault_number fault.Board = 25
 fault_number fault.PairText = 26
 fault_number fault.TooMany = 27
+fault_number fault.Folder = 28
+fault_number (fault.Unwritten greater lesser) = 29
+fault_number (fault.Unopened greater lesser) = 30
+fault_number (fault.OtherPair greater lesser) = 31
+fault_number fault.NoFiles = 32
+fault_number (fault.Unanswered count) = 33
+fault_number fault.Digests = 34
+fault_number (fault.InFile greater lesser f) = flaw_number f
 
--- a text; a number between two texts; or the numbers of stones of a pair after a text
-abbrev pub worded : Wording → List ℕ
-worded (wording.Plain text) = text.now
-worded (wording.Number before number after) = before.now ++ decimal number ++ after.now
-worded (wording.Pair before greater lesser) = before.now ++ decimal greater ++ (45 ∷ decimal lesser)
+-- numbers of stones, with a hyphen (45) between them
+abbrev pub stones_text : ℕ → ℕ → List ℕ
+stones_text greater lesser = decimal greater ++ (45 ∷ decimal lesser)
+
+-- a text; a number between two texts; or the numbers of stones of a pair between two texts
+abbrev pub said : Words → List ℕ
+said (Plain text) = text.now
+said (Number before number after) = before.now ++ decimal number ++ after.now
+said (Pair before greater lesser after) = before.now ++ stones_text greater lesser ++ after.now
 
 -- how many bytes stand around the numbers
-abbrev pub length_around : Wording → ℕ
-length_around (wording.Plain text) = length text.now
-length_around (wording.Number before number after) = length before.now + length after.now
-length_around (wording.Pair before greater lesser) = length before.now
+abbrev pub length_around : Words → ℕ
+length_around (Plain text) = length text.now
+length_around (Number before number after) = length before.now + length after.now
+length_around (Pair before greater lesser after) = length before.now + length after.now
+
+-- words, and in which file
+abbrev pub worded : Wording → List ℕ
+worded (Alone words) = said words
+worded (InFile words greater lesser) = said words ++ codes ", in the file of " ++ stones_text greater lesser
+
+abbrev pub length_worded : Wording → ℕ
+length_worded (Alone words) = length_around words
+length_worded (InFile words greater lesser) = length_around words
+
+-- the text of a flaw
+abbrev pub flaw_text : Flaw → List ℕ
+flaw_text flaw.Short = codes "file is too short"
+flaw_text flaw.Magic = codes "not a table file"
+flaw_text flaw.Version = codes "unknown version"
+flaw_text flaw.BoardId = codes "another board"
+flaw_text flaw.Counts = codes "bad counts"
+flaw_text flaw.Crowded = codes "more stones than points"
+flaw_text flaw.Count = codes "wrong number of entries"
+flaw_text flaw.Digest = codes "digest is wrong"
+flaw_text flaw.Trailing = codes "bytes after the table"
+flaw_text flaw.Read = codes "reading failed"
+flaw_text (flaw.Needs greater lesser) = codes "needs " ++ stones_text greater lesser
+flaw_text (flaw.Differs index) = codes "entry " ++ decimal index ++ codes " differs"
 
 -- the text of a fault
 abbrev pub fault_text : Fault → List ℕ
 fault_text fault.Length = codes "text is not one character per point"
 fault_text (fault.Character place) = codes "bad character at " ++ decimal place
 fault_text fault.Stones = codes "bad number of stones"
-fault_text fault.Counts = codes "bad counts"
-fault_text fault.Crowded = codes "more stones than points"
+fault_text fault.Counts = flaw_text flaw.Counts
+fault_text fault.Crowded = flaw_text flaw.Crowded
 fault_text fault.Blocks = codes "blocks must be 1 to 1024"
 fault_text (fault.Missing number) = codes "block " ++ decimal number ++ codes " is not complete"
 fault_text fault.TooDeep = codes "depth is too great"
 fault_text fault.Workers = codes "workers must be 1 to 64"
 fault_text fault.Memory = codes "out of memory"
-fault_text (fault.Needs greater lesser) = codes "needs " ++ decimal greater ++ (45 ∷ decimal lesser)
-fault_text (fault.Differs index) = codes "entry " ++ decimal index ++ codes " differs"
-fault_text fault.Short = codes "file is too short"
-fault_text fault.Magic = codes "not a table file"
-fault_text fault.Version = codes "unknown version"
-fault_text fault.BoardId = codes "another board"
-fault_text fault.Count = codes "wrong number of entries"
-fault_text fault.Digest = codes "digest is wrong"
-fault_text fault.Trailing = codes "bytes after the table"
-fault_text fault.Read = codes "reading failed"
+fault_text (fault.Needs greater lesser) = flaw_text (flaw.Needs greater lesser)
+fault_text (fault.Differs index) = flaw_text (flaw.Differs index)
+fault_text fault.Short = flaw_text flaw.Short
+fault_text fault.Magic = flaw_text flaw.Magic
+fault_text fault.Version = flaw_text flaw.Version
+fault_text fault.BoardId = flaw_text flaw.BoardId
+fault_text fault.Count = flaw_text flaw.Count
+fault_text fault.Digest = flaw_text flaw.Digest
+fault_text fault.Trailing = flaw_text flaw.Trailing
+fault_text fault.Read = flaw_text flaw.Read
 fault_text (fault.Write sent) = codes "writing failed after " ++ decimal sent ++ codes " bytes"
 fault_text fault.Board = codes "no such board"
 fault_text fault.PairText = codes "not a pair"
 fault_text fault.TooMany = codes "more than 64 tables"
+fault_text fault.Folder = codes "folder can't be made"
+fault_text (fault.Unwritten greater lesser) = codes "file of " ++ stones_text greater lesser ++ codes " can't be written"
+fault_text (fault.Unopened greater lesser) = codes "file of " ++ stones_text greater lesser ++ codes " can't be opened"
+fault_text (fault.OtherPair greater lesser) = codes "file of " ++ stones_text greater lesser ++ codes " has the table of another pair"
+fault_text fault.NoFiles = codes "no table files"
+fault_text (fault.Unanswered count) = decimal count ++ codes " lines have no answer"
+fault_text fault.Digests = codes "file of digests can't be written"
+fault_text (fault.InFile greater lesser f) = flaw_text f ++ codes ", in the file of " ++ stones_text greater lesser
+
+-- the flaw that a fault says a table file has, where it doesn't say which file
+abbrev pub flaw_in : Fault → Option Flaw
+flaw_in fault.Counts = Some flaw.Counts
+flaw_in fault.Crowded = Some flaw.Crowded
+flaw_in (fault.Needs greater lesser) = Some (flaw.Needs greater lesser)
+flaw_in (fault.Differs index) = Some (flaw.Differs index)
+flaw_in fault.Short = Some flaw.Short
+flaw_in fault.Magic = Some flaw.Magic
+flaw_in fault.Version = Some flaw.Version
+flaw_in fault.BoardId = Some flaw.BoardId
+flaw_in fault.Count = Some flaw.Count
+flaw_in fault.Digest = Some flaw.Digest
+flaw_in fault.Trailing = Some flaw.Trailing
+flaw_in fault.Read = Some flaw.Read
+flaw_in _ = None
+
+-- a fault as it is told where it was met in the file of a pair: a flaw says of which file it is
+abbrev pub in_file : Counts → Fault → Fault
+in_file c f = elim (flaw_in f) [ None ↦ f | Some found ↦ fault.InFile c.greater c.lesser found ]
 
 -- the line of a fault: `fault N: TEXT`
 unfoldable pub fault_line : Fault → List ℕ

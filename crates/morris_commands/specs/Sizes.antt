@@ -17,7 +17,7 @@ is_same c d = nat_eq c.greater d.greater && nat_eq c.lesser d.lesser
 abbrev pub entries_of : Shape → ℕ → Layout → Counts → Way → Counts → ℕ
 entries_of board n l pair (way.Verified entries) c = if is_same c pair then entries else entry_count board n l c
 entries_of board n l pair way.Swept c = entry_count board n l c
-entries_of board n l pair (way.Built team) c = entry_count board n l c
+entries_of board n l pair (way.Built team all) c = entry_count board n l c
 entries_of board n l pair way.Read c = entry_count board n l c
 
 -- those of all pairs below a pair, its own among them

@@ -2,14 +2,14 @@
 ghost use Rattle.std.specs.Prelude.{◌≡◌, ◌≢◌, ◌+◌, ◌-◌, ◌^◌, ◌<◌, ◌≤◌, None, true, false, is_some, length, IfErr, IfOk, OnOk};
 ghost use Rattle.std.specs.List.{flat_map};
 ghost use Rattle.morris_board.specs.Streams.{CountsFailure, HasSent};
-ghost use Rattle.morris_index.specs.Pairs.{Counts, EndsIn, below_of};
+ghost use Rattle.morris_index.specs.Pairs.{Counts, below_of};
 ghost use Rattle.morris_table.specs.Known.{IsBeyondCodes};
 ghost use Rattle.morris_table.specs.Shelves.{first_missing, table_on};
 ghost use Rattle.morris_table.specs.TableFiles.{file_of};
 ghost use Rattle.morris_commands.specs.Faults.{CountsWrites, is_write};
 ghost use Rattle.morris_commands.specs.Look.{board_of};
 ghost use Rattle.morris_commands.specs.Stats.{HasTooDeep};
-ghost use Rattle.morris_commands.specs.Build.{AnswersBuild, AnswersBuildOn, AnswersFiles, HasExact, HasExactAt, HasTables, IsUnbuiltAt, IsUnbuiltFor, file_on, layout_asked, pairs_written};
+ghost use Rattle.morris_commands.specs.Build.{AnswersBuild, AnswersBuildOn, AnswersFiles, HasExact, HasExactAt, HasTables, IsSpared, IsUnbuiltAt, IsUnbuiltFor, file_on, layout_asked, pairs_written, stones};
 
 use crate::boards::on_board;
 use crate::fault::Fault;
@@ -24,7 +24,7 @@ use morris_table::building::build_watched;
 use morris_table::exact::Exact;
 use morris_table::file_faults::Write;
 use morris_table::layout::Layout;
-use morris_table::shelf::Shelf;
+use morris_table::stock::Stock;
 use morris_table::writing::write_table;
 use morris_workers::{OpenGate, Unwatched};
 use std::alloc::Global;
@@ -110,7 +110,7 @@ pub fn build_with<R: Threads + Wait + Sync, O: Sink, T: Teller>(
 }
 
 /// The layout of the tables, by whether entries for classes are asked for.
-fn layout_of(classes: bool) -> Layout
+pub(crate) fn layout_of(classes: bool) -> Layout
     ensures { result ≡ layout_asked classes }
 {
     if classes {
@@ -135,49 +135,62 @@ fn build_on<B: Board, R: Threads + Wait + Sync, O: Sink, T: Teller>(
 {
     let pair = read_pair::<B>(text)?;
     let team = Team::new(plan.workers, plan.blocks)?;
-    let shelf = build_below(rt, alloc, plan.layout, pair, team, teller)?;
-    write_files(&shelf, plan.layout, pair, plan.all, output)
+    let stock = build_below(rt, alloc, plan.layout, plan.all, pair, team, teller)?;
+    write_files(&stock, plan.layout, pair, plan.all, output)
 }
 
-/// The tables of all pairs below a pair, its own among them, in a layout.
+/// The tables of all pairs below a pair, its own among them, in a layout; or, but for `all`, its own
+/// alone: the others are let go once no pair to come needs them.
 fn build_below<B: Board, R: Threads + Wait + Sync, T: Teller>(
     rt: &R,
     alloc: Global,
     layout: Layout,
+    all: bool,
     pair: Pair<B>,
     team: Team,
     teller: &mut T,
-) -> Result<Shelf<B>, Fault>
+) -> Result<Stock<B>, Fault>
     // The caller's proof learns here that the board has as many points as its shape says.
     ensures points { B.shape.points ≡ B.POINTS }
-    ensures exact { IfOk result (λ shelf. HasExact B.shape layout shelf (below_of pair)) }
-    ensures last { OnOk result (EndsIn (below_of pair) pair) }
+    ensures exact { IfOk result (λ stock. HasExact B.shape layout stock (pairs_written all pair)) }
     ensures within { OnOk result (¬ HasTooDeep B.shape pair) }
     ensures refused { IfErr result (IsUnbuiltFor B.shape pair team.blocks) }
     ensures unwritten { IfErr result (λ refused. is_write refused ≡ false) }
     ensures told { T.becomes teller.old teller.new }
 {
-    let mut shelf = Shelf::new(alloc)?;
-    teller.announce(pair, layout, Way::Built(team));
+    let mut stock = Stock::new(alloc)?;
+    teller.announce(pair, layout, Way::Built { team, all });
     for below in pair.below() {
-        build_onto(rt, alloc, &mut shelf, layout, below, team, teller)?;
+        spare(&mut stock, all, below);
+        build_onto(rt, alloc, &mut stock, layout, below, team, teller)?;
     }
-    Ok(shelf)
+    Ok(stock)
 }
 
-/// Puts the table of a pair in a layout on a shelf that has those that it needs.
-fn build_onto<B: Board, R: Threads + Wait + Sync, T: Teller>(
+/// Lets the tables go that neither this pair needs nor any after it, unless all are to be kept.
+pub(crate) fn spare<B: Geometry>(stock: &mut Stock<B>, all: bool, pair: Pair<B>)
+    ensures near { IsSpared stock.old stock.new pair }
+    ensures all { all ≡ true → (c : Counts) → table_on stock.new c ≡ table_on stock.old c }
+    ensures gone { all ≡ false → (c : Counts) → stones c + 1 < stones pair → table_on stock.new c ≡ None }
+{
+    if !all {
+        stock.let_go(pair.greater() + pair.lesser() - 1);
+    }
+}
+
+/// Puts the table of a pair in a layout into a stock that has those that it needs.
+pub(crate) fn build_onto<B: Board, R: Threads + Wait + Sync, T: Teller>(
     rt: &R,
     alloc: Global,
-    shelf: &mut Shelf<B>,
+    stock: &mut Stock<B>,
     layout: Layout,
     pair: Pair<B>,
     team: Team,
     teller: &mut T,
 ) -> Result<(), Fault>
-    requires ready { first_missing shelf.old pair ≡ None }
-    ensures exact { OnOk result (HasExactAt B.shape layout shelf.new pair) }
-    ensures others { OnOk result ((other : Counts) → other ≢ pair → table_on shelf.new other ≡ table_on shelf.old other) }
+    requires ready { first_missing stock.old pair ≡ None }
+    ensures exact { OnOk result (HasExactAt B.shape layout stock.new pair) }
+    ensures others { OnOk result ((other : Counts) → other ≢ pair → table_on stock.new other ≡ table_on stock.old other) }
     ensures within { OnOk result (¬ IsBeyondCodes B.shape pair) }
     ensures refused { IfErr result (IsUnbuiltAt B.shape pair team.blocks) }
     ensures told { T.becomes teller.old teller.new }
@@ -185,31 +198,28 @@ fn build_onto<B: Board, R: Threads + Wait + Sync, T: Teller>(
     let (gate, workers, blocks) = (&OpenGate, team.workers, team.blocks);
     teller.begin_pair(pair);
     let table = build_watched(
-        rt, alloc, shelf, pair, layout, gate, teller, workers, blocks,
+        rt, alloc, stock, pair, layout, gate, teller, workers, blocks,
     )?;
     teller.end_pair(&table);
-    match shelf.put(table) {
-        Ok(()) => Ok(()),
-        Err(_) => unreachable!(),
-    }
+    stock.put(table);
+    Ok(())
 }
 
-/// Writes the file of a pair's table, or those of all pairs below it, where these are in a layout.
+/// Writes the file of a pair's table, or those of all pairs below it, in a layout.
 fn write_files<B: Geometry, O: Sink>(
-    shelf: &Shelf<B>,
+    stock: &Stock<B>,
     layout: Layout,
     pair: Pair<B>,
     all: bool,
     output: &mut O,
 ) -> Result<(), Fault>
     requires failures { O.failures output.old < 2 ^ 64 - 1 }
-    requires exact { HasExact B.shape layout shelf.now (below_of pair) }
-    requires last { EndsIn (below_of pair) pair }
+    requires exact { HasExact B.shape layout stock.now (pairs_written all pair) }
     ensures files { AnswersFiles B.shape layout (pairs_written all pair) (O.contents output.old) (O.contents output.new) result }
     ensures unrefused { IfErr result (λ refused. is_write refused ≡ true) }
     ensures counted { CountsWrites (O.failures output.old) (O.failures output.new) result }
 {
-    match send_files(shelf, layout, pair, all, output) {
+    match send_files(stock, layout, pair, all, output) {
         Ok(_) => Ok(()),
         Err(sent) => Err(Fault::Write(sent)),
     }
@@ -217,40 +227,38 @@ fn write_files<B: Geometry, O: Sink>(
 
 /// Sends these files, and answers how many bytes went out.
 fn send_files<B: Geometry, O: Sink>(
-    shelf: &Shelf<B>,
+    stock: &Stock<B>,
     layout: Layout,
     pair: Pair<B>,
     all: bool,
     output: &mut O,
 ) -> Result<u64, u64>
     requires failures { O.failures output.old < 2 ^ 64 - 1 }
-    requires exact { HasExact B.shape layout shelf.now (below_of pair) }
-    requires last { EndsIn (below_of pair) pair }
-    ensures sent { HasSent (O.contents output.old) (O.contents output.new) 0 (flat_map (file_on B.shape shelf.now) (pairs_written all pair)) result }
+    requires exact { HasExact B.shape layout stock.now (pairs_written all pair) }
+    ensures sent { HasSent (O.contents output.old) (O.contents output.new) 0 (flat_map (file_on B.shape stock.now) (pairs_written all pair)) result }
     ensures counted { CountsFailure (O.failures output.old) (O.failures output.new) result }
-    ensures exact { HasExact B.shape layout shelf.now (pairs_written all pair) }
 {
     if all {
-        write_below(shelf, pair, output)
+        write_below(stock, pair, output)
     } else {
-        write_one(shelf, pair, 0, output)
+        write_one(stock, pair, 0, output)
     }
 }
 
 /// Writes the files of the tables of all pairs below a pair, and answers how many bytes went out.
 fn write_below<B: Geometry, O: Sink>(
-    shelf: &Shelf<B>,
+    stock: &Stock<B>,
     pair: Pair<B>,
     output: &mut O,
 ) -> Result<u64, u64>
     requires failures { O.failures output.old < 2 ^ 64 - 1 }
-    requires there { HasTables shelf.now (below_of pair) }
-    ensures sent { HasSent (O.contents output.old) (O.contents output.new) 0 (flat_map (file_on B.shape shelf.now) (below_of pair)) result }
+    requires there { HasTables stock.now (below_of pair) }
+    ensures sent { HasSent (O.contents output.old) (O.contents output.new) 0 (flat_map (file_on B.shape stock.now) (below_of pair)) result }
     ensures counted { CountsFailure (O.failures output.old) (O.failures output.new) result }
 {
     let mut sent = 0;
     for below in pair.below() {
-        sent = write_one(shelf, below, sent, output)?;
+        sent = write_one(stock, below, sent, output)?;
     }
     Ok(sent)
 }
@@ -258,19 +266,19 @@ fn write_below<B: Geometry, O: Sink>(
 /// Writes the file of a pair's table. `sent` counts the bytes that went out before it; the answer
 /// counts those of the file as well.
 fn write_one<B: Geometry, O: Sink>(
-    shelf: &Shelf<B>,
+    stock: &Stock<B>,
     pair: Pair<B>,
     sent: u64,
     output: &mut O,
 ) -> Result<u64, u64>
     requires failures { O.failures output.old < 2 ^ 64 - 1 }
-    requires there { is_some (table_on shelf.now pair) ≡ true }
+    requires there { is_some (table_on stock.now pair) ≡ true }
     requires room { sent < 2 ^ 60 }
-    ensures sent { HasSent (O.contents output.old) (O.contents output.new) sent (file_on B.shape shelf.now pair) result }
+    ensures sent { HasSent (O.contents output.old) (O.contents output.new) sent (file_on B.shape stock.now pair) result }
     ensures counted { CountsFailure (O.failures output.old) (O.failures output.new) result }
     ensures few { IfOk result (λ now. now ≤ sent + 2 ^ 42) }
 {
-    let Some(table) = shelf.get(pair) else {
+    let Some(table) = stock.get(pair) else {
         unreachable!()
     };
     let length = file_length(table);

@@ -1,10 +1,13 @@
 //! What a command can be refused for.
 ghost use Rattle.std.specs.Prelude.{◌≡◌, ◌≤◌};
-ghost use Rattle.morris_commands.specs.Faults.{build_fault, fault_number, fault_text, length_around, needs_fault, pair_fault, probe_fault, solve_fault, text_fault, verify_fault, worded};
+ghost use Rattle.morris_commands.specs.Faults.{build_fault, fault_number, fault_text, flaw_in, in_file, length_worded, needs_fault, pair_fault, probe_fault, solve_fault, text_fault, verify_fault, worded};
 
+use crate::flaw::Flaw;
+use crate::wording::{Wording, Words};
 use morris_board::board::Geometry;
 use morris_board::faults::TextFault;
 use morris_index::faults::PairFault;
+use morris_index::pair::Pair;
 use morris_probe::fault::ProbeFault;
 use morris_table::build_fault::BuildFault;
 use morris_table::file_faults::ReadFault;
@@ -70,17 +73,23 @@ pub enum Fault {
     PairText,
     /// The input has more than 64 table files.
     TooMany,
-}
-
-/// How the text of a fault is made up.
-#[derive(Clone, Copy, Debug, PartialEq, Eq)]
-pub enum Wording {
-    /// This text.
-    Plain(&'static str),
-    /// A number between two texts.
-    Number(&'static str, u64, &'static str),
-    /// The two numbers of stones of a pair after a text.
-    Pair(&'static str, u8, u8),
+    /// The folder can't be made.
+    Folder,
+    /// The file of the pair of these numbers of stones, the greater one first, can't be written.
+    Unwritten(u8, u8),
+    /// The file of the pair of these numbers of stones, the greater one first, can't be opened.
+    Unopened(u8, u8),
+    /// The file of the pair of these numbers of stones, the greater one first, has the table of
+    /// another pair.
+    OtherPair(u8, u8),
+    /// The folder has no table file.
+    NoFiles,
+    /// So many lines of the input have no answer.
+    Unanswered(u64),
+    /// The file of digests can't be written.
+    Digests,
+    /// The file of the pair of these numbers of stones, the greater one first, has this flaw.
+    InFile(u8, u8, Flaw),
 }
 
 impl Fault {
@@ -113,39 +122,118 @@ impl Fault {
             Fault::Board => 25,
             Fault::PairText => 26,
             Fault::TooMany => 27,
+            Fault::Folder => 28,
+            Fault::Unwritten(_, _) => 29,
+            Fault::Unopened(_, _) => 30,
+            Fault::OtherPair(_, _) => 31,
+            Fault::NoFiles => 32,
+            Fault::Unanswered(_) => 33,
+            Fault::Digests => 34,
+            Fault::InFile(_, _, flaw) => flaw.number(),
         }
     }
 
     /// How the text of the fault is made up.
     pub fn wording(&self) -> Wording
         ensures text { worded result ≡ fault_text self.now }
-        ensures short { length_around result ≤ 64 }
+        ensures short { length_worded result ≤ 64 }
     {
-        match self {
-            Fault::Length => Wording::Plain("text is not one character per point"),
-            Fault::Character(place) => Wording::Number("bad character at ", *place as u64, ""),
-            Fault::Stones => Wording::Plain("bad number of stones"),
-            Fault::Counts => Wording::Plain("bad counts"),
-            Fault::Crowded => Wording::Plain("more stones than points"),
-            Fault::Blocks => Wording::Plain("blocks must be 1 to 1024"),
-            Fault::Missing(number) => Wording::Number("block ", *number, " is not complete"),
-            Fault::TooDeep => Wording::Plain("depth is too great"),
-            Fault::Workers => Wording::Plain("workers must be 1 to 64"),
-            Fault::Memory => Wording::Plain("out of memory"),
-            Fault::Needs(greater, lesser) => Wording::Pair("needs ", *greater, *lesser),
-            Fault::Differs(index) => Wording::Number("entry ", *index, " differs"),
-            Fault::Short => Wording::Plain("file is too short"),
-            Fault::Magic => Wording::Plain("not a table file"),
-            Fault::Version => Wording::Plain("unknown version"),
-            Fault::BoardId => Wording::Plain("another board"),
-            Fault::Count => Wording::Plain("wrong number of entries"),
-            Fault::Digest => Wording::Plain("digest is wrong"),
-            Fault::Trailing => Wording::Plain("bytes after the table"),
-            Fault::Read => Wording::Plain("reading failed"),
-            Fault::Write(sent) => Wording::Number("writing failed after ", *sent, " bytes"),
-            Fault::Board => Wording::Plain("no such board"),
-            Fault::PairText => Wording::Plain("not a pair"),
-            Fault::TooMany => Wording::Plain("more than 64 tables"),
+        match *self {
+            Fault::Length => Wording::Alone(Words::Plain("text is not one character per point")),
+            Fault::Character(place) => Wording::Alone(Words::Number(
+                "bad character at ",
+                place as u64,
+                "",
+            )),
+            Fault::Stones => Wording::Alone(Words::Plain("bad number of stones")),
+            Fault::Counts => Wording::Alone(Flaw::Counts.words()),
+            Fault::Crowded => Wording::Alone(Flaw::Crowded.words()),
+            Fault::Blocks => Wording::Alone(Words::Plain("blocks must be 1 to 1024")),
+            Fault::Missing(number) => Wording::Alone(Words::Number(
+                "block ",
+                number,
+                " is not complete",
+            )),
+            Fault::TooDeep => Wording::Alone(Words::Plain("depth is too great")),
+            Fault::Workers => Wording::Alone(Words::Plain("workers must be 1 to 64")),
+            Fault::Memory => Wording::Alone(Words::Plain("out of memory")),
+            Fault::Needs(greater, lesser) => Wording::Alone(Flaw::Needs(greater, lesser).words()),
+            Fault::Differs(index) => Wording::Alone(Flaw::Differs(index).words()),
+            Fault::Short => Wording::Alone(Flaw::Short.words()),
+            Fault::Magic => Wording::Alone(Flaw::Magic.words()),
+            Fault::Version => Wording::Alone(Flaw::Version.words()),
+            Fault::BoardId => Wording::Alone(Flaw::BoardId.words()),
+            Fault::Count => Wording::Alone(Flaw::Count.words()),
+            Fault::Digest => Wording::Alone(Flaw::Digest.words()),
+            Fault::Trailing => Wording::Alone(Flaw::Trailing.words()),
+            Fault::Read => Wording::Alone(Flaw::Read.words()),
+            Fault::Write(sent) => Wording::Alone(Words::Number(
+                "writing failed after ",
+                sent,
+                " bytes",
+            )),
+            Fault::Board => Wording::Alone(Words::Plain("no such board")),
+            Fault::PairText => Wording::Alone(Words::Plain("not a pair")),
+            Fault::TooMany => Wording::Alone(Words::Plain("more than 64 tables")),
+            Fault::Folder => Wording::Alone(Words::Plain("folder can't be made")),
+            Fault::Unwritten(a, b) => Wording::Alone(Words::Pair(
+                "file of ",
+                a,
+                b,
+                " can't be written",
+            )),
+            Fault::Unopened(a, b) => Wording::Alone(Words::Pair(
+                "file of ",
+                a,
+                b,
+                " can't be opened",
+            )),
+            Fault::OtherPair(a, b) => Wording::Alone(Words::Pair(
+                "file of ",
+                a,
+                b,
+                " has the table of another pair",
+            )),
+            Fault::NoFiles => Wording::Alone(Words::Plain("no table files")),
+            Fault::Unanswered(count) => Wording::Alone(Words::Number(
+                "",
+                count,
+                " lines have no answer",
+            )),
+            Fault::Digests => Wording::Alone(Words::Plain("file of digests can't be written")),
+            Fault::InFile(a, b, flaw) => Wording::InFile(flaw.words(), a, b),
+        }
+    }
+
+    /// The flaw that the fault says a table file has, where it doesn't say which file.
+    pub fn flaw(&self) -> Option<Flaw>
+        ensures { result ≡ flaw_in self.now }
+    {
+        match *self {
+            Fault::Counts => Some(Flaw::Counts),
+            Fault::Crowded => Some(Flaw::Crowded),
+            Fault::Needs(greater, lesser) => Some(Flaw::Needs(greater, lesser)),
+            Fault::Differs(index) => Some(Flaw::Differs(index)),
+            Fault::Short => Some(Flaw::Short),
+            Fault::Magic => Some(Flaw::Magic),
+            Fault::Version => Some(Flaw::Version),
+            Fault::BoardId => Some(Flaw::BoardId),
+            Fault::Count => Some(Flaw::Count),
+            Fault::Digest => Some(Flaw::Digest),
+            Fault::Trailing => Some(Flaw::Trailing),
+            Fault::Read => Some(Flaw::Read),
+            _ => None,
+        }
+    }
+
+    /// The fault as it is told where it was met in the file of this pair: a flaw says of which file
+    /// it is, and any other fault is told as it is.
+    pub fn in_file<B: Geometry>(self, pair: Pair<B>) -> Fault
+        ensures { result ≡ in_file pair self }
+    {
+        match self.flaw() {
+            Some(flaw) => Fault::InFile(pair.greater(), pair.lesser(), flaw),
+            None => self,
         }
     }
 }
@@ -157,11 +245,8 @@ impl fmt::Display for Fault {
     ghost output = { λ fault. Some (fault_text fault) };
 
     fn fmt<W: fmt::Write>(&self, f: &mut fmt::Formatter<W>) -> fmt::Result {
-        match self.wording() {
-            Wording::Plain(text) => f.write_str(text),
-            Wording::Number(before, number, after) => write!(f, "{before}{number}{after}"),
-            Wording::Pair(before, greater, lesser) => write!(f, "{before}{greater}-{lesser}"),
-        }
+        let wording = self.wording();
+        write!(f, "{wording}")
     }
 }
 

@@ -1,7 +1,7 @@
 //! What is printed: a text, and that it goes out through a buffer.
-ghost use Rattle.std.specs.Prelude.{◌≡◌, ℕ, ◌-◌, ◌^◌, ◌<◌, List, ⊤, [], OnOk};
+ghost use Rattle.std.specs.Prelude.{◌≡◌, ℕ, ◌-◌, ◌^◌, ◌<◌, List, ⊤, [], length, OnOk};
 ghost use Rattle.morris_board.specs.Buffered.{Passes, held_of, sink_of, taken_of};
-ghost use Rattle.morris_board.specs.Streams.{CountsFailure};
+ghost use Rattle.morris_board.specs.Streams.{CountsFailure, HasSent};
 ghost use Rattle.morris_probe.specs.Reports.{WentOut};
 ghost use Rattle.morris_commands.specs.Faults.{CountsWrites, Prints};
 
@@ -61,6 +61,23 @@ pub fn send<P: Printed, S: Sink>(text: &P, sink: &mut S) -> Result<(), u64>
     match put_all(text, &mut out) {
         Ok(()) => Ok(()),
         Err(Failed) => Err(out.sent()),
+    }
+}
+
+/// Sends a text as [`send`] does, where `sent` bytes went out before it. Both answers count these as
+/// well: at `Ok` with all bytes of the text, at `Err` with those that went out.
+pub fn send_after<P: Printed, S: Sink>(text: &P, sent: u64, sink: &mut S) -> Result<u64, u64>
+    requires short { P.is_short text.now }
+    requires few { length (P.bytes text.now) < 2 ^ 32 }
+    requires failures { S.failures sink.old < 2 ^ 64 - 1 }
+    requires room { sent < 2 ^ 63 }
+    ensures sent { HasSent (S.contents sink.old) (S.contents sink.new) sent (P.bytes text.now) result }
+    ensures counted { CountsFailure (S.failures sink.old) (S.failures sink.new) result }
+{
+    let mut out = Buffered::new(sink);
+    match put_all(text, &mut out) {
+        Ok(()) => Ok(sent + out.sent()),
+        Err(Failed) => Err(sent + out.sent()),
     }
 }
 

@@ -19,12 +19,61 @@ const KEPT: u64 = 2;
 pub enum Way {
     /// They are swept, on one thread.
     Swept,
-    /// A team builds them.
-    Built(Team),
+    /// A team builds them; `all` are kept, or only those that a pair to come needs.
+    Built { team: Team, all: bool },
     /// They are read from files.
     Read,
     /// Those below are swept, and the pair's own, of so many entries, was read.
     Verified(u64),
+}
+
+impl Way {
+    /// Whether tables are let go once no pair to come needs them.
+    fn lets_go(self) -> bool {
+        matches!(self, Way::Built { all: false, .. })
+    }
+}
+
+/// The entries of the tables that a pair may need, as far as these were made: those of pairs with as
+/// many stones, and with one less.
+#[derive(Clone, Copy, Debug)]
+struct Near {
+    stones: u8,
+    here: u64,
+    before: u64,
+}
+
+impl Near {
+    const NONE: Near = Near {
+        stones: 0,
+        here: 0,
+        before: 0,
+    };
+
+    /// Before the table of a pair is made.
+    fn before<B: Geometry>(self, pair: Pair<B>) -> Near {
+        let stones = pair.greater() + pair.lesser();
+        if stones == self.stones {
+            return self;
+        }
+        Near {
+            stones,
+            here: 0,
+            before: self.here,
+        }
+    }
+
+    /// With a table of so many entries.
+    fn with(self, entries: u64) -> Near {
+        Near {
+            here: self.here.saturating_add(entries),
+            ..self
+        }
+    }
+
+    fn entries(self) -> u64 {
+        self.here.saturating_add(self.before)
+    }
 }
 
 /// So many entries, and about so many bytes of memory to find them, table by table.
@@ -43,11 +92,12 @@ impl Size {
         bytes: BASE,
     };
 
-    /// With a table of so many entries more, which takes so many bytes while it comes about.
-    fn with(self, entries: u64, bytes: u64) -> Size
+    /// With a table of so many entries more, which takes so many bytes while it comes about, beside
+    /// tables of so many entries that are kept.
+    fn with(self, entries: u64, bytes: u64, kept: u64) -> Size
         ensures { self.entries + entries < 2 ^ 64 → result.entries ≡ self.entries + entries }
     {
-        let kept = KEPT.saturating_mul(self.entries);
+        let kept = KEPT.saturating_mul(kept);
         let at_once = kept.saturating_add(bytes).saturating_add(BASE);
         Size {
             entries: self.entries.saturating_add(entries),
@@ -62,10 +112,18 @@ impl Size {
             → result.entries ≡ entries_below B.shape B.POINTS layout pair way }
     {
         let mut size = Size::NONE;
+        let mut near = Near::NONE;
         for below in pair.below() {
             let entries = count_entries(below, pair, layout, way);
             let bytes = bytes_of(below, pair, entries, way);
-            size = size.with(entries, bytes);
+            near = near.before(below);
+            let kept = if way.lets_go() {
+                near.entries()
+            } else {
+                size.entries
+            };
+            size = size.with(entries, bytes, kept);
+            near = near.with(entries);
         }
         size
     }
@@ -97,7 +155,7 @@ fn count_entries<B: Geometry>(pair: Pair<B>, last: Pair<B>, layout: Layout, way:
 fn bytes_of<B: Geometry>(pair: Pair<B>, last: Pair<B>, entries: u64, way: Way) -> u64 {
     match way {
         Way::Swept => bytes_of_making(pair, entries, None),
-        Way::Built(team) => bytes_of_making(pair, entries, Some(team)),
+        Way::Built { team, .. } => bytes_of_making(pair, entries, Some(team)),
         Way::Verified(_) if !is_same(pair, last) => bytes_of_making(pair, entries, None),
         Way::Read | Way::Verified(_) => KEPT.saturating_mul(entries),
     }

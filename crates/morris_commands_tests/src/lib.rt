@@ -1,5 +1,5 @@
 //! Tests of what no run of the program shows of its commands: faults that words are refused before,
-//! and the comparison of pairs. All else of the program is shown by runs of it. No part of the
+//! folders whose calls fail, and the comparison of pairs. All else of the program is shown by runs of it. No part of the
 //! product.
 #![tactic(auto)]
 
@@ -7,5 +7,9 @@
 mod build_tests;
 #[cfg(test)]
 mod fault_tests;
+#[cfg(test)]
+mod from_tests;
+#[cfg(test)]
+mod into_tests;
 #[cfg(test)]
 mod pair_tests;

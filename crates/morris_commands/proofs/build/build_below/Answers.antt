@@ -3,40 +3,47 @@ use Rattle.std.specs.List.{Contains}
 use Rattle.std.proofs.lemmas.List.{append-nil}
 use Rattle.morris_index.specs.Pairs.{below_of}
 use Rattle.morris_commands.specs.Build.{HasExact}
-use Rattle.morris_commands.proofs.BuildLaws.{has_tables, one_exact_more}
-use Rattle.morris_commands.proofs.ShelfLaws.{none_missing, one_within_more}
+use Rattle.morris_commands.proofs.BuildLaws.{one_exact_more, still_exact, written_exact}
+use Rattle.morris_commands.proofs.NearLaws.{HasNear, near-last, near-more, near-ready}
+use Rattle.morris_commands.proofs.ShelfLaws.{one_within_more}
 use Rattle.morris_commands.proofs.build.build_below.Goals as goal
 
 pub build_onto-requires-clause-ready : goal.build_onto-requires-clause-ready
 build_onto-requires-clause-ready g c = λ κs within.
-    none_missing c.loop-below.shelf c.loop-below.yielded c.next.new.self (below_of c.args.pair) c.in-Some.below
-    c.below-below-items.ensures.needs_first
+    near-ready g.B.Geometry.shape c.args.layout c.args.pair c.loop-below.yielded c.next.new.self c.in-Some.below c.below-below-items.ensures.needs_first
     (ap (λ rest. c.loop-below.yielded ++ rest) (sym c.in-Some.ensures.steps) ∙ c.loop-below.invariant.split)
-    (has_tables g.B.Geometry.shape c.args.layout c.loop-below.shelf c.loop-below.yielded c.loop-below.invariant.exact)
+    c.loop-below.stock c.spare.new.stock c.loop-below.invariant.near c.spare.ensures.near
 
 pub loop-below-preserved : goal.loop-below-preserved
-loop-below-preserved g c = record {
-  split =
-      append_assoc c.loop-below.yielded (c.in-Some.below ∷ []) c.next.new.self
-      ∙ (ap (λ rest. c.loop-below.yielded ++ rest) (sym c.in-Some.ensures.steps) ∙ c.loop-below.invariant.split);
-  exact =
-      one_exact_more g.B.Geometry.shape c.args.layout c.loop-below.shelf c.build_onto.new.shelf c.loop-below.yielded c.in-Some.below
-      c.loop-below.invariant.exact c.in_ok-build_onto.ensures.exact c.in_ok-build_onto.ensures.others;
-  within =
-      one_within_more g.B.Geometry.shape c.loop-below.yielded c.in-Some.below c.loop-below.invariant.within c.in_ok-build_onto.ensures.within;
-  told =
-      g.met.T.Watch.joins c.announce.new.self c.loop-below.teller c.build_onto.new.teller c.loop-below.invariant.told
-      c.build_onto.ensures.told;
-}
+loop-below-preserved g c =
+    let split : c.loop-below.yielded ++ (c.in-Some.below ∷ c.next.new.self) ≡ below_of c.args.pair =
+    ap (λ rest. c.loop-below.yielded ++ rest) (sym c.in-Some.ensures.steps) ∙ c.loop-below.invariant.split in
+    record {
+      split = append_assoc c.loop-below.yielded (c.in-Some.below ∷ []) c.next.new.self ∙ split;
+      near =
+          near-more g.B.Geometry.shape c.args.layout c.args.pair c.loop-below.yielded c.next.new.self c.in-Some.below c.below-below-items.ensures.needs_first split
+          c.loop-below.stock c.spare.new.stock c.build_onto.new.stock c.loop-below.invariant.near c.spare.ensures.near
+          c.in_ok-build_onto.ensures.exact c.in_ok-build_onto.ensures.others;
+      every = λ all.
+          one_exact_more g.B.Geometry.shape c.args.layout c.spare.new.stock c.build_onto.new.stock c.loop-below.yielded c.in-Some.below
+          (still_exact g.B.Geometry.shape c.args.layout c.loop-below.stock c.spare.new.stock c.loop-below.yielded (c.loop-below.invariant.every all) (c.spare.ensures.all all))
+          c.in_ok-build_onto.ensures.exact c.in_ok-build_onto.ensures.others;
+      within =
+          one_within_more g.B.Geometry.shape c.loop-below.yielded c.in-Some.below c.loop-below.invariant.within c.in_ok-build_onto.ensures.within;
+      told =
+          g.met.T.Watch.joins c.announce.new.self c.loop-below.teller c.build_onto.new.teller c.loop-below.invariant.told
+          c.build_onto.ensures.told;
+    }
 
 pub returns-clause-exact : goal.returns-clause-exact
 returns-clause-exact g c =
     let all : c.loop-below.yielded ≡ below_of c.args.pair =
     sym (append-nil c.loop-below.yielded) ∙ (ap (λ rest. c.loop-below.yielded ++ rest) (sym c.in-None.ensures.steps.0) ∙ c.loop-below.invariant.split) in
-    subst (HasExact g.B.Geometry.shape c.args.layout c.loop-below.shelf) all c.loop-below.invariant.exact
-
-pub returns-clause-last : goal.returns-clause-last
-returns-clause-last g c = c.below-below-items.ensures.last
+    let last = c.below-below-items.ensures.last in
+    written_exact g.B.Geometry.shape c.args.layout c.loop-below.stock c.args.pair c.args.all
+    (λ every. subst (HasExact g.B.Geometry.shape c.args.layout c.loop-below.stock) all (c.loop-below.invariant.every every))
+    (near-last g.B.Geometry.shape c.args.layout c.loop-below.stock c.args.pair last.0 last.1
+    (subst (HasNear g.B.Geometry.shape c.args.layout c.loop-below.stock) all c.loop-below.invariant.near))
 
 pub returns-clause-within : goal.returns-clause-within
 returns-clause-within g c = λ deep.
@@ -50,7 +57,8 @@ returns-clause-told g c = g.met.T.Watch.joins _ _ _ c.announce.ensures.told c.lo
 pub loop-below-init : goal.loop-below-init
 loop-below-init g c = record {
   split = search rules;
-  exact = λ other m. absurd (omega (arith, m.1));
+  near = λ other m near. absurd (omega (arith, m.1));
+  every = λ all other m. absurd (omega (arith, m.1));
   within = λ other m. absurd (omega (arith, m.1));
   told = g.met.T.Watch.stays c.announce.new.self;
 }

@@ -8,18 +8,18 @@ use Rattle.morris_commands.specs.PairText.{read_pair_of}
 use Rattle.morris_commands.proofs.build.build_on.Goals as goal
 
 -- one that isn't built is refused, with nothing written
-pub returns-in_err-shelf-clause-answer : goal.returns-in_err-shelf-clause-answer
-returns-in_err-shelf-clause-answer g c =
+pub returns-in_err-stock-clause-answer : goal.returns-in_err-stock-clause-answer
+returns-in_err-stock-clause-answer g c =
     let board = g.B.Geometry.shape in
     let plan = c.args.plan in
     let old = g.O.Sink.contents c.args.output.now in
     let pair = c.in_ok-pair.pair in
-    let r = c.from_residual-in_err-shelf.result in
-    let failed = err_from_is_err_and r c.from_residual-in_err-shelf.ensures.1 in
+    let r = c.from_residual-in_err-stock.result in
+    let failed = err_from_is_err_and r c.from_residual-in_err-stock.ensures.1 in
     let read : read_pair_of board.points c.args.text.now ≡ Ok pair =
-    ap (λ n. read_pair_of n c.args.text.now) c.in_err-shelf.ensures.points ∙ sym c.in_ok-pair.ensures in
+    ap (λ n. read_pair_of n c.args.text.now) c.in_err-stock.ensures.points ∙ sym c.in_ok-pair.ensures in
     let built : AnswersBuilt board plan.layout pair plan.blocks plan.all old old r =
-    inl (_, failed.1 ∙ ap Err failed.2, rw c.in_ok-team.ensures.1 at c.in_err-shelf.ensures.refused, Keeps-refl old) in
+    inl (_, failed.1 ∙ ap Err failed.2, rw c.in_ok-team.ensures.1 at c.in_err-stock.ensures.refused, Keeps-refl old) in
     subst (λ found. AnswersRead board plan.layout plan.workers plan.blocks plan.all old old r found) (sym read)
     (subst (λ wrong. AnswersTeam board plan.layout pair plan.blocks plan.all old old r wrong) (sym c.in_ok-team.ensures.2) built)
 
@@ -32,8 +32,8 @@ returns-clause-answer g c =
     let pair = c.in_ok-pair.pair in
     let r = c.write_files.result in
     let read : read_pair_of board.points c.args.text.now ≡ Ok pair =
-    ap (λ n. read_pair_of n c.args.text.now) c.in_ok-shelf.ensures.points ∙ sym c.in_ok-pair.ensures in
+    ap (λ n. read_pair_of n c.args.text.now) c.in_ok-stock.ensures.points ∙ sym c.in_ok-pair.ensures in
     let built : AnswersBuilt board plan.layout pair plan.blocks plan.all old new r =
-    inr (c.in_ok-shelf.ensures.within, c.write_files.ensures.files) in
+    inr (c.in_ok-stock.ensures.within, c.write_files.ensures.files) in
     subst (λ found. AnswersRead board plan.layout plan.workers plan.blocks plan.all old new r found) (sym read)
     (subst (λ wrong. AnswersTeam board plan.layout pair plan.blocks plan.all old new r wrong) (sym c.in_ok-team.ensures.2) built)

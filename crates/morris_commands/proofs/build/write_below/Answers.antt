@@ -10,7 +10,7 @@ use Rattle.morris_commands.proofs.build.write_below.Goals as goal
 pub returns-in_err-sent-clause-sent : goal.returns-in_err-sent-clause-sent
 returns-in_err-sent-clause-sent g c =
     let failed = err_from_is_err_and c.from_residual.result c.from_residual.ensures.1 in
-    let file = file_on g.B.Geometry.shape c.args.shelf.now in
+    let file = file_on g.B.Geometry.shape c.args.stock.now in
     let split : c.loop-below.yielded ++ (c.in-Some.below ∷ c.next.new.self) ≡ below_of c.args.pair =
     ap (λ rest. c.loop-below.yielded ++ rest) (sym c.in-Some.ensures.steps) ∙ c.loop-below.invariant.split in
     rw (failed.1, failed.2)

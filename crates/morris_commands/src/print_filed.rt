@@ -1,0 +1,43 @@
+//! What `build` prints of a file in a folder.
+ghost use Rattle.std.specs.Prelude.{◌≡◌, ◌+◌, ◌-◌, ◌^◌, ◌<◌, ◌≤◌, OnOk};
+ghost use Rattle.hex.specs.Hex.{encode_lower};
+ghost use Rattle.morris_board.specs.Buffered.{Passes, sink_of, taken_of};
+
+use crate::print::Printed;
+use crate::print_stats::put_pair;
+use hex::encode_to_slice;
+use morris_board::board::Geometry;
+use morris_board::streams::buffered::Buffered;
+use morris_board::streams::{Failed, Sink};
+use morris_keeping::table_file::Written;
+use morris_probe::print::put_count;
+
+/// The line of a file that was written.
+#[tactic(auto, using(morris_board::proofs::BufferedLaws::passed_laws), unfolding(crate::specs::Into::filed_text))]
+impl<B: Geometry> Printed for Written<B> {
+    ghost use Rattle.morris_commands.specs.Into.{filed_text};
+
+    ghost bytes = { λ file. filed_text file.pair file.entries file.bytes file.digest };
+
+    fn put_into<S: Sink>(&self, out: &mut Buffered<'_, S>) -> Result<(), Failed> {
+        put_pair(out, self.pair)?;
+        put_count(out, " ", self.entries)?;
+        put_count(out, " entries ", self.bytes)?;
+        out.put(b" bytes ")?;
+        put_digest(out, &self.digest)?;
+        out.put_byte(b'\n')
+    }
+}
+
+/// The digest of a file.
+#[tactic(auto, using(morris_board::proofs::BufferedLaws::passed_laws))]
+fn put_digest<S: Sink>(out: &mut Buffered<'_, S>, digest: &[u8; 32]) -> Result<(), Failed>
+    requires failures { S.failures (sink_of out.old) < 2 ^ 64 - 1 }
+    requires room { taken_of out.old < 2 ^ 32 }
+    ensures passed { Passes S.contents S.failures out.old out.new (encode_lower digest.now) result }
+    ensures few { OnOk result (taken_of out.new ≤ taken_of out.old + 100) }
+{
+    let mut digits = [0; 64];
+    let _ = encode_to_slice(digest, &mut digits);
+    out.put(&digits)
+}

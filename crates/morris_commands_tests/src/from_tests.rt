@@ -1,0 +1,129 @@
+// Tables of a folder in memory that are verified.
+use crate::into_tests::build;
+use morris_board::streams::IntoWrite;
+use morris_commands::fault::Fault;
+use morris_commands::flaw::Flaw;
+use morris_commands::from::verify_from;
+use morris_folders::folder::Folder;
+use morris_folders::memory::MemoryFolder;
+use morris_workers::Unwatched;
+use sha2::{Digest, Sha256};
+use std::alloc::AllocError;
+use std::process::Abort;
+use std::sync::Wait;
+use std::test::Fail;
+use std::thread::Threads;
+
+const FIRST: &str = "verified 3-3: 1680 entries\n";
+
+const BOTH: &str = "verified 3-3: 1680 entries\nverified 4-3: 2520 entries\n";
+
+fn assert_answers(
+    rt: &(impl Abort + AllocGlobal),
+    folder: &mut MemoryFolder,
+    wanted: Result<(), Fault>,
+    lines: &str,
+) {
+    assert!(rt; folder.failures() == 0);
+    let mut output = IntoWrite::new(Vec::new(rt.alloc()));
+    let answer = verify_from(rt.alloc(), "grid", folder, &mut output, &mut Unwatched);
+    assert!(rt; answer == wanted);
+    assert!(rt;
+        output.into_inner().as_slice() == lines.as_bytes(),
+        "{lines}"
+    );
+}
+
+/// A folder whose calls that are set in the bits fail, with the files of 3-3 and 4-3 where these
+/// are wanted.
+fn folder_with(
+    rt: &(impl AllocGlobal + Threads + Wait + Sync),
+    calls: u64,
+    first: bool,
+    second: bool,
+) -> Result<MemoryFolder, AllocError> {
+    let (_, built, _) = build(rt, 0, 0);
+    let mut folder = MemoryFolder::new(rt.alloc(), calls, 0);
+    if first {
+        folder.put(
+            "grid-3-3.nmmt",
+            built.get("grid-3-3.nmmt").unwrap_or_default(),
+        )?;
+    }
+    if second {
+        folder.put(
+            "grid-4-3.nmmt",
+            built.get("grid-4-3.nmmt").unwrap_or_default(),
+        )?;
+    }
+    Ok(folder)
+}
+
+#[test]
+fn each_table_is_told(rt: HostRuntime) -> Result<(), Fail> {
+    assert_answers(&rt, &mut folder_with(&rt, 0, true, true)?, Ok(()), BOTH);
+    assert_answers(&rt, &mut folder_with(&rt, 0, true, false)?, Ok(()), FIRST);
+    Ok(())
+}
+
+#[test]
+fn files_that_are_missing_are_named(rt: HostRuntime) -> Result<(), Fail> {
+    let none = Err(Fault::NoFiles);
+    assert_answers(&rt, &mut folder_with(&rt, 0, false, false)?, none, "");
+    let needs = Err(Fault::InFile(4, 3, Flaw::Needs(3, 3)));
+    assert_answers(&rt, &mut folder_with(&rt, 0, false, true)?, needs, "");
+    Ok(())
+}
+
+#[test]
+fn a_file_that_is_not_opened_is_named(rt: HostRuntime) -> Result<(), Fail> {
+    let first = Err(Fault::Unopened(3, 3));
+    assert_answers(&rt, &mut folder_with(&rt, 0b1, true, true)?, first, "");
+    let second = Err(Fault::Unopened(4, 3));
+    assert_answers(&rt, &mut folder_with(&rt, 0b10, true, true)?, second, FIRST);
+    Ok(())
+}
+
+/// The file of 4-3 of a folder, for which another one is put.
+fn put_second(folder: &mut MemoryFolder, file: &[u8]) -> Result<(), AllocError> {
+    folder.put("grid-4-3.nmmt", file)
+}
+
+#[test]
+fn a_damaged_file_is_named(rt: HostRuntime) -> Result<(), Fail> {
+    let folder = &mut folder_with(&rt, 0, true, true)?;
+    let mut file = Vec::from_slice(rt.alloc(), folder.get("grid-4-3.nmmt").unwrap_or_default())?;
+    if let Some(byte) = file.get_mut(100) {
+        *byte ^= 1;
+    }
+    put_second(folder, file.as_slice())?;
+    let damaged = Err(Fault::InFile(4, 3, Flaw::Digest));
+    assert_answers(&rt, folder, damaged, FIRST);
+    let _ = file.pop();
+    put_second(folder, file.as_slice())?;
+    assert_answers(&rt, folder, Err(Fault::InFile(4, 3, Flaw::Short)), FIRST);
+    let other = Vec::from_slice(rt.alloc(), folder.get("grid-3-3.nmmt").unwrap_or_default())?;
+    put_second(folder, other.as_slice())?;
+    assert_answers(&rt, folder, Err(Fault::OtherPair(4, 3)), FIRST);
+    Ok(())
+}
+
+// Entry 20 of 3-3 is won in 1; here it is a draw, under a digest that is right.
+#[test]
+fn a_false_file_is_named(rt: HostRuntime) -> Result<(), Fail> {
+    let folder = &mut folder_with(&rt, 0, true, true)?;
+    let mut file = Vec::from_slice(rt.alloc(), folder.get("grid-3-3.nmmt").unwrap_or_default())?;
+    if let Some(byte) = file.get_mut(57) {
+        *byte = 0;
+    }
+    file.truncate(3376);
+    let digest = Sha256::digest(file.as_slice());
+    file.extend_from_slice(&digest)?;
+    folder.put("grid-3-3.nmmt", file.as_slice())?;
+    let fault = Fault::InFile(3, 3, Flaw::Differs(20));
+    assert_answers(&rt, folder, Err(fault), "");
+    let text = format!(in rt.alloc(); "{fault}")?;
+    assert!(rt; fault.number() == 14);
+    assert!(rt; text.as_str() == "entry 20 differs, in the file of 3-3");
+    Ok(())
+}
