@@ -1,5 +1,5 @@
 -- What the program makes of its words.
-use Rattle.std.specs.Prelude.{◌≡◌, ◌≢◌, ◌⊎◌, ℕ, Bool, true, false, List, [], String, codes, map, string_bytes, Option, Result, Ok, Err}
+use Rattle.std.specs.Prelude.{◌≡◌, ◌≢◌, ◌⊎◌, ℕ, Bool, true, false, List, [], String, codes, map, string_bytes, Option, Some, None, Result, Ok, Err}
 use Rattle.std.specs.Vec.Iter.{into_iter_items}
 use Rattle.std.specs.declared.vec.IntoIter.{IntoIter}
 use Rattle.std.specs.Io.KnownBytes.{Keeps}
@@ -12,10 +12,13 @@ use Rattle.morris_commands.specs.Faults.{Prints}
 use Rattle.morris_commands.specs.Progress.{TellsInOrder}
 use Rattle.morris_words.specs.Words.{AsksFor, faults_of, named_by}
 use Rattle.morris_words.specs.declared.words.Request.{Request}
-use Rattle.morris_words.specs.declared.words.Request.TheVariants.{Look, Stats, Build, Verify, Probe}
+use Rattle.morris_words.specs.declared.words.Task.{Task}
+use Rattle.morris_words.specs.declared.words.Task.TheVariants.{Look, Stats, Build, Verify, Probe}
 use Rattle.morris_commands.specs.Look.{Looks, board_of}
 use Rattle.morris_commands.specs.Stats.{AnswersStats}
-use Rattle.morris_commands.specs.Build.{AnswersBuild}
+use Rattle.morris_commands.specs.Build.{AnswersBuild, layout_asked}
+use Rattle.morris_commands.specs.From.{AnswersFrom}
+use Rattle.morris_commands.specs.Into.{AnswersInto, place_of}
 use Rattle.morris_commands.specs.Probe.{AnswersProbe}
 use Rattle.morris_commands.specs.Verify.{AnswersVerify, Input}
 
@@ -27,40 +30,33 @@ HasMistake kinds = (k : ErrorKind) × (k ≢ kind.DisplayHelp) × (k ≢ kind.Di
 abbrev pub AsksToShow : Kinds → Type 0
 AsksToShow kinds = IsAmong kind.DisplayHelp kinds ⊎ IsAmong kind.DisplayVersion kinds
 
--- what the command of a request answers, of its input before and after it, and of what was printed
-abbrev pub Answers : {T : Type 0} → Input → Input → Option (List ℕ) → Option (List ℕ) → Request → Result T Fault → Type 0
+-- What the command of a task answers, of its input before and after it, and of what was printed. No
+-- contract knows what the system keeps in a folder: nothing is said of the bytes of its files.
+abbrev pub Answers : Input → Input → Option (List ℕ) → Option (List ℕ) → Task → Result (Unit {0}) Fault → Type 0
 Answers before after old new (Look board text depth) result = Looks (board_of board.now) text.now depth old new result
-Answers before after old new (Stats board pair progress) result = AnswersStats (board_of board.now) pair.now old new result
-Answers before after old new (Build board pair workers blocks all classes progress) result =
+Answers before after old new (Stats board pair) result = AnswersStats (board_of board.now) pair.now old new result
+Answers before after old new (Build board pair workers blocks all None classes) result =
     AnswersBuild (board_of board.now) pair.now workers blocks all classes old new result
-Answers before after old new (Verify board progress) result = AnswersVerify (board_of board.now) before after old new result
-Answers before after old new (Probe board text progress) result = AnswersProbe (board_of board.now) text.now before after old new result
-
--- whether a request is for a command that reads its input
-abbrev pub takes_input : Request → Bool
-takes_input (Look board text depth) = false
-takes_input (Stats board pair progress) = false
-takes_input (Build board pair workers blocks all classes progress) = false
-takes_input (Verify board progress) = true
-takes_input (Probe board text progress) = true
-
--- whether a request asks to be told how far its command is
-abbrev pub asks_progress : Request → Bool
-asks_progress (Look board text depth) = false
-asks_progress (Stats board pair progress) = progress
-asks_progress (Build board pair workers blocks all classes progress) = progress
-asks_progress (Verify board progress) = progress
-asks_progress (Probe board text progress) = progress
+Answers before after old new (Build board pair workers blocks all (Some folder) classes) result =
+    AnswersInto (board_of board.now) (layout_asked classes) board.now pair.now workers blocks (place_of None old) (place_of None new) result
+Answers before after old new (Verify board None) result = AnswersVerify (board_of board.now) before after old new result
+Answers before after old new (Verify board (Some folder)) result = AnswersFrom (board_of board.now) None board.now old new result
+Answers before after old new (Probe board text) result = AnswersProbe (board_of board.now) text.now before after old new result
+-- whether the command of a task reads its input
+abbrev pub takes_input : Task → Bool
+takes_input (Verify board None) = true
+takes_input (Probe board text) = true
+takes_input _ = false
 
 -- what was told of how far the command is: nothing; or, where the words ask for it, some lines, of
 -- which the first says how much there is to do
 abbrev pub TellsProgress : {E : Type 0} → (E → Option (List ℕ)) → (E → ℕ) → List Text → E → E → Type 0
 TellsProgress contents failures words old new =
-    (new ≡ old) ⊎ ((request : Request) × AsksFor (named_by words) request × (asks_progress request ≡ true) × TellsInOrder contents failures old new)
+    (new ≡ old) ⊎ ((request : Request) × AsksFor (named_by words) request × (request.progress ≡ true) × TellsInOrder contents failures old new)
 
 -- the command that was named reads its input
 abbrev pub AsksToRead : Option (Text × List Row) → Type 0
-AsksToRead named = (request : Request) × AsksFor named request × (takes_input request ≡ true)
+AsksToRead named = (request : Request) × AsksFor named request × (takes_input request.task ≡ true)
 
 -- the exit status of a command: 0 where it is done, 1 where it was refused
 abbrev pub status_of : {T : Type 0} → Result T Fault → ℕ
@@ -71,7 +67,7 @@ status_of (Err fault) = 1
 -- text where they ask for help or for the version, or by want of memory, with nothing read.
 abbrev pub Ends : List Text → Input → Input → Option (List ℕ) → Option (List ℕ) → Result (Unit {0}) Fault → Type 0
 Ends words before after old new answer =
-    ((request : Request) × AsksFor (named_by words) request × (faults_of words ≡ []) × Answers before after old new request answer)
+    ((request : Request) × AsksFor (named_by words) request × (faults_of words ≡ []) × Answers before after old new request.task answer)
     ⊎ ((AsksToShow (faults_of words) × (after ≡ before) × ((text : List ℕ) × Prints old new text answer))
     ⊎ ((answer ≡ Err fault.Memory) × (after ≡ before) × Keeps old new))
 

@@ -4,21 +4,28 @@ ghost use Rattle.morris_commands.specs.Faults.{Reports, ReportsFault, ReportsTex
 ghost use Rattle.morris_commands.specs.declared.fault.Fault.TheVariants as fault;
 ghost use Rattle.morris_commands.specs.Progress.{TellsInOrder};
 ghost use Rattle.morris_words.specs.Words.{IsInRange, faults_of, named_by};
+ghost use Rattle.morris_words.specs.declared.words.Task.TheVariants as task;
 ghost use Rattle.morris_commands.specs.Verify.{input_of};
-ghost use Rattle.morris.specs.Command.{Answers, AsksToRead, Ends, HasMistake, TellsProgress, asks_progress, not_text, status_of, takes_input};
+ghost use Rattle.morris.specs.Command.{Answers, AsksToRead, Ends, HasMistake, TellsProgress, not_text, status_of, takes_input};
 
 use morris_board::streams::{Sink, Source};
 use morris_commands::build::build_with;
 use morris_commands::fault::Fault;
+use morris_commands::from::verify_from;
+use morris_commands::into::build_into;
 use morris_commands::look::look;
 use morris_commands::print::{print, send};
 use morris_commands::probe::probe_with;
 use morris_commands::progress::Progress;
 use morris_commands::stats::stats_with;
+use morris_commands::teller::Teller;
 use morris_commands::verify::verify_with;
-use morris_words::words::{Refusal, Request, read_words};
+use morris_folders::system::SystemFolder;
+use morris_words::words::{Refusal, Request, Task, read_words};
 use std::alloc::Global;
 use std::convert::AsStr;
+use std::fs::File;
+use std::rt::Files;
 use std::sync::Wait;
 use std::thread::Threads;
 use std::time::Clock;
@@ -28,22 +35,23 @@ use std::time::Clock;
 ///
 /// 0: the words have no mistake, and the whole text of the command, or of the help or the version
 /// that was asked for, went to `output`, and nothing to `errors`. 1: the command was refused, or
-/// memory was, and `output` has got nothing, or a part of the text where a write failed; the fault
-/// went to `errors` as one line, `fault N: ` and its text. 2: the words name no command, or not the
-/// arguments that it takes; what is wrong with them went to `errors`, and nothing to `output`. A
-/// fault while `errors` is written is ignored. Only `verify` and `probe` read `input`.
+/// memory was, and `output` has got nothing, or a part of the text where a write failed, or what a
+/// command that goes from file to file or from text to text has told until then; the fault went to
+/// `errors` as one line, `fault N: ` and its text. 2: the words name no command, or not the
+/// arguments that it takes, or two that exclude each other; what is wrong with them went to
+/// `errors`, and nothing to `output`. A fault while `errors` is written is ignored. Only `probe`
+/// and `verify` without a folder read `input`.
 ///
 /// Where the words ask for it, lines that begin with `progress: ` go to `errors` before all else
 /// there, first one that says how much there is to do, with the seconds by the clock of `rt`, until
 /// one of them can't be written. Nothing else changes by it: it takes no memory of its own.
-pub fn command<R: Threads + Wait + Clock + Sync, W: AsStr, I: Source, O: Sink, E: Sink>(
-    rt: &R,
-    alloc: Global,
-    words: &[W],
-    input: &mut I,
-    output: &mut O,
-    errors: &mut E,
-) -> u8
+pub fn command<
+    R: Threads + Wait + Clock + Sync + Files<File = File> + AllocGlobal,
+    W: AsStr,
+    I: Source,
+    O: Sink,
+    E: Sink,
+>(rt: &R, alloc: Global, words: &[W], input: &mut I, output: &mut O, errors: &mut E) -> u8
     requires input { I.failures input.old < 2 ^ 64 - 1 }
     requires output { O.failures output.old < 2 ^ 64 - 1 }
     requires errors { E.failures errors.old < 2 ^ 64 - 1 }
@@ -91,7 +99,12 @@ pub fn refuse_words<E: Sink>(out_of_memory: bool, errors: &mut E) -> u8
 
 /// Runs the command of a request, and tells on `errors` how far it is, where the request asks for
 /// it.
-fn run<R: Threads + Wait + Clock + Sync, I: Source, O: Sink, E: Sink>(
+fn run<
+    R: Threads + Wait + Clock + Sync + Files<File = File> + AllocGlobal,
+    I: Source,
+    O: Sink,
+    E: Sink,
+>(
     rt: &R,
     alloc: Global,
     request: Request<'_>,
@@ -99,49 +112,93 @@ fn run<R: Threads + Wait + Clock + Sync, I: Source, O: Sink, E: Sink>(
     output: &mut O,
     errors: &mut E,
 ) -> Result<(), Fault>
-    requires range { IsInRange request }
+    requires range { IsInRange request.task }
     requires input { I.failures input.old < 2 ^ 64 - 1 }
     requires output { O.failures output.old < 2 ^ 64 - 1 }
     ensures answer { Answers (input_of (I.remaining input.old) (I.failures input.old)) (input_of (I.remaining input.new) (I.failures input.new))
-        (O.contents output.old) (O.contents output.new) request.entry result }
-    ensures unread { takes_input request.entry ≡ false → input.new ≡ input.old }
+        (O.contents output.old) (O.contents output.new) request.entry.task result }
+    ensures unread { takes_input request.entry.task ≡ false → input.new ≡ input.old }
     ensures told { TellsInOrder E.contents E.failures errors.old errors.new }
-    ensures silent { asks_progress request.entry ≡ false → errors.new ≡ errors.old }
+    ensures silent { request.entry.progress ≡ false → errors.new ≡ errors.old }
 {
-    let mut progress = Progress::new(rt, asks_progress(&request), errors);
-    let told = &mut progress;
-    match request {
-        Request::Look { board, text, depth } => look(board, text, depth, output),
-        Request::Stats { board, pair, .. } => stats_with(alloc, board, pair, output, told),
-        Request::Build {
+    let mut progress = Progress::new(rt, request.progress, errors);
+    perform(rt, alloc, request.task, input, output, &mut progress)
+}
+
+/// Runs the command of a task, and tells `teller` how far it is.
+fn perform<
+    R: Threads + Wait + Sync + Files<File = File> + AllocGlobal,
+    I: Source,
+    O: Sink,
+    T: Teller,
+>(
+    rt: &R,
+    alloc: Global,
+    task: Task<'_>,
+    input: &mut I,
+    output: &mut O,
+    teller: &mut T,
+) -> Result<(), Fault>
+    requires range { IsInRange task }
+    requires input { I.failures input.old < 2 ^ 64 - 1 }
+    requires output { O.failures output.old < 2 ^ 64 - 1 }
+    ensures answer { Answers (input_of (I.remaining input.old) (I.failures input.old)) (input_of (I.remaining input.new) (I.failures input.new))
+        (O.contents output.old) (O.contents output.new) task.entry result }
+    ensures unread { takes_input task.entry ≡ false → input.new ≡ input.old }
+    ensures told { T.becomes teller.old teller.new }
+{
+    match task {
+        Task::Look { board, text, depth } => look(board, text, depth, output),
+        Task::Stats { board, pair } => stats_with(alloc, board, pair, output, teller),
+        Task::Build {
             board,
             pair,
             workers,
             blocks,
             all,
+            into,
             classes,
-            ..
         } => {
             let (workers, blocks) = (usize::from(workers), usize::from(blocks));
-            build_with(
-                rt, alloc, board, pair, workers, blocks, all, classes, output, told,
-            )
+            if let Some(path) = into {
+                let folder = &mut SystemFolder::new(rt, path);
+                build_into(
+                    rt, alloc, board, pair, workers, blocks, classes, folder, output, teller,
+                )
+            } else {
+                build_with(
+                    rt, alloc, board, pair, workers, blocks, all, classes, output, teller,
+                )
+            }
         }
-        Request::Verify { board, .. } => verify_with(alloc, board, input, output, told),
-        Request::Probe { board, text, .. } => probe_with(alloc, board, text, input, output, told),
+        Task::Verify { board, from } => verify(rt, alloc, board, from, input, output, teller),
+        Task::Probe { board, text } => probe_with(alloc, board, text, input, output, teller),
     }
 }
 
-/// Whether a request asks to be told how far its command is.
-fn asks_progress(request: &Request<'_>) -> bool
-    ensures { result ≡ asks_progress request.now }
+/// Verifies the table files of a folder, where there is one, and else the one on `input`.
+fn verify<R: Files<File = File> + AllocGlobal, I: Source, O: Sink, T: Teller>(
+    rt: &R,
+    alloc: Global,
+    board: &str,
+    from: Option<&str>,
+    input: &mut I,
+    output: &mut O,
+    teller: &mut T,
+) -> Result<(), Fault>
+    requires input { I.failures input.old < 2 ^ 64 - 1 }
+    requires output { O.failures output.old < 2 ^ 64 - 1 }
+    ensures answer { Answers (input_of (I.remaining input.old) (I.failures input.old)) (input_of (I.remaining input.new) (I.failures input.new))
+        (O.contents output.old) (O.contents output.new) (task.Verify board.entry from.entry) result }
+    ensures unread { takes_input (task.Verify board.entry from.entry) ≡ false → input.new ≡ input.old }
+    ensures told { T.becomes teller.old teller.new }
 {
-    match request {
-        Request::Look { .. } => false,
-        Request::Stats { progress, .. }
-        | Request::Build { progress, .. }
-        | Request::Verify { progress, .. }
-        | Request::Probe { progress, .. } => *progress,
+    match from {
+        Some(path) => {
+            let folder = &mut SystemFolder::new(rt, path);
+            verify_from(alloc, board, folder, output, teller)
+        }
+        None => verify_with(alloc, board, input, output, teller),
     }
 }
 

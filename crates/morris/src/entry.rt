@@ -14,9 +14,11 @@ use crate::command::{command, refuse_words};
 use morris_board::streams::{Sink, Source};
 use std::alloc::{AllocError, Global};
 use std::env::Args;
+use std::fs::File;
 use std::io;
 use std::io::ErrorKind;
 use std::process::ExitCode;
+use std::rt::Files;
 use std::sync::Wait;
 use std::thread::Threads;
 use std::time::Clock;
@@ -28,13 +30,12 @@ use std::time::Clock;
 /// Where the system gave no words, nothing is read and nothing goes to `output`: with want of
 /// memory the status is 1 and fault 12 goes to `errors`, and with a word that isn't text (of bytes
 /// that aren't UTF-8) it is 2, and one line says so on `errors`.
-pub fn answer_words<R: AllocGlobal + Threads + Wait + Clock + Sync, I: Source, O: Sink, E: Sink>(
-    rt: &R,
-    words: io::Result<Args>,
-    input: &mut I,
-    output: &mut O,
-    errors: &mut E,
-) -> ExitCode
+pub fn answer_words<
+    R: AllocGlobal + Threads + Wait + Clock + Sync + Files<File = File>,
+    I: Source,
+    O: Sink,
+    E: Sink,
+>(rt: &R, words: io::Result<Args>, input: &mut I, output: &mut O, errors: &mut E) -> ExitCode
     requires input { I.failures input.old < 2 ^ 64 - 1 }
     requires output { O.failures output.old < 2 ^ 64 - 1 }
     requires errors { E.failures errors.old < 2 ^ 64 - 1 }

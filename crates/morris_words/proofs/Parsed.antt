@@ -15,7 +15,7 @@ use Rattle.clap.specs.Values.{is_request, read_as, refused_kind}
 use Rattle.clap.specs.Facts.{explicit_source, unwrap_or_range, parser_of_value}
 use Rattle.clap.specs.Kinds.{Kinds, check_kinds, or_else, range_kinds, request_kinds, value_kinds, values_kinds}
 use Rattle.clap.specs.Takes.{is_given, value_passes, values_pass}
-use Rattle.clap.specs.Walk.{Held, Names, Outcome, Row, Rule, Step, Text, Waiting, Walk, action_of, after_flag, after_step, arg_by_id, arg_by_index, arg_by_long, arg_by_short, at_row, attached_value, bundle, bundle_met, bundle_step, done, finished, first_of, flag_met, has_row, nothing_held, one_of, idle, is_empty, is_pending, long_met, long_or_other, more_values, next, option, option_met, option_word, plain, plain_word, positional, positional_held, reacted, reading_by, refused, settled, settled_rows, short_met, short_or_plain, subcommand, subcommand_met, subcommand_or_other, takes_several, takes_values, to_positional, trailing, used, used_as, used_by_id, value, values_or_missing, waits, walk, walk_from, walked, walked_from, with_default, default_rows, with_values, without, word_met}
+use Rattle.clap.specs.Walk.{Held, Names, Outcome, Row, Rule, Step, Text, Waiting, Walk, action_of, after_flag, after_step, arg_by_id, arg_by_index, arg_by_long, arg_by_short, at_row, attached_value, bundle, bundle_met, bundle_step, done, finished, first_of, flag_met, has_row, nothing_held, one_of, idle, is_empty, is_pending, long_met, long_or_other, more_values, next, option, option_met, option_word, plain, plain_word, positional, positional_held, reacted, reading_by, refused, settled, settled_rows, short_met, short_or_plain, stronger, subcommand, subcommand_met, subcommand_or_other, takes_several, takes_values, to_positional, trailing, used, used_as, used_by_id, value, values_or_missing, waits, walk, walk_from, walked, walked_from, with_default, default_rows, with_values, without, word_met}
 use Rattle.clap.specs.Simple.{Shape}
 use Rattle.clap.specs.Faults.{action_fault, given_default_fault, bundle_fault, bundle_step_fault, check_fault, default_fault, defaults_fault, flag_word_fault, flags_fault, level_fault, long_fault, option_fault, other_fault, positional_fault, react_fault, set_fault, settle_fault, short_fault, step_fault, stray_fault, turn_fault, use_fault, values_fault, walk_fault, word_fault}
 use Rattle.clap.specs.declared.builder.action.ArgAction.{ArgAction}
@@ -77,19 +77,21 @@ all_accepted i p (v ∷ vs) h =
 -- ---- rows
 
 -- the row belongs to an argument, and has a value at least, each of which passed that argument's
--- parser
+-- parser; and the words gave it, if the argument has no default
 pub record RowPasses (c : List Rule) (r : Row) : Type 0 where
   pub rule : Rule
   pub known : arg_by_id c r.id ≡ Some rule
   pub some : 0 < length r.values
   pub passes : values_pass rule r.values ≡ true
   pub reading : r.reading ≡ reading_by rule
+  pub given : is_empty rule.defaults ≡ true → explicit_source r.source ≡ true
 
--- the argument is the one of its id, and is set to a value at least, or is a flag that stands for a
--- value at least, or asks for help or for the version
+-- the argument is the one of its id, and takes a value at least, which replaces those before or
+-- comes after them, or is a flag that stands for a value at least, or asks for help or for the
+-- version
 pub record IsPlainRule (c : List Rule) (a : Rule) : Type 0 where
   pub known : arg_by_id c a.id ≡ Some a
-  pub kind : ((action_of a ≡ Set) × (nat_lt 0 (unwrap_or_range a.range).start_inclusive ≡ true))
+  pub kind : (((action_of a ≡ Set) ⊎ (action_of a ≡ Append)) × (nat_lt 0 (unwrap_or_range a.range).start_inclusive ≡ true))
       ⊎ (((action_of a ≡ SetTrue) × (nat_lt 0 (length a.missing) ≡ true)) ⊎ (is_request (action_of a) ≡ true))
 
 at_row_each : (P : Row → Type 0) (id : Text) (change : Row → List Row) (missing rows : List Row)
@@ -104,10 +106,19 @@ at_row_each P id change missing (r ∷ rs) step m h = go (bytes_eq r.id id) refl
 abbrev pub Passing : List Rule → List Row → Type 0
 Passing c rows = Each (RowPasses c) rows
 
+-- values come from the words, if their argument has no default
+abbrev IsGiven : Rule → ValueSource → Type 0
+IsGiven a source = is_empty a.defaults ≡ true → source ≡ CommandLine
+
+words_outweigh : (o : Option ValueSource) → stronger o CommandLine ≡ CommandLine
+words_outweigh None = refl
+words_outweigh (Some CommandLine) = refl
+words_outweigh (Some DefaultValue) = refl
+
 -- the row of an argument, with more values of it
 with_more : (c : List Rule) (a : Rule) (source : ValueSource) (vals : List Text) → arg_by_id c a.id ≡ Some a → values_pass a vals ≡ true
-    → (r : Row) → bytes_eq r.id a.id ≡ true → RowPasses c r → Passing c (more_values source vals r)
-with_more c a source vals known pass r same h =
+    → IsGiven a source → (r : Row) → bytes_eq r.id a.id ≡ true → RowPasses c r → Passing c (more_values source vals r)
+with_more c a source vals known pass given r same h =
     let id : r.id ≡ a.id = (bytes_eq-Decides r.id a.id).0 same in
     let both : Some h.rule ≡ Some a = sym h.known ∙ (ap (λ t. arg_by_id c t) id ∙ known) in
     let is : h.rule ≡ a = cc in
@@ -119,15 +130,18 @@ with_more c a source vals known pass r same h =
         some = omega (arith, h.some, length-append r.values vals);
         passes = all;
         reading = h.reading;
+        given = λ none.
+            let words : source ≡ CommandLine = given (subst (λ (x : Rule). is_empty x.defaults ≡ true) is none) in
+            ap (λ x. explicit_source (Some x)) (ap (stronger r.source) words ∙ words_outweigh r.source);
       },
       tt,
     )
 
 filled_rows : (c : List Rule) (a : Rule) (source : ValueSource) (vals : List Text) (rows : List Row) → arg_by_id c a.id ≡ Some a → 0 < length vals
-    → values_pass a vals ≡ true → Passing c rows → Passing c (with_values a.id (reading_by a) source vals rows)
-filled_rows c a source vals rows known some pass h =
-    at_row_each (RowPasses c) a.id (more_values source vals) _ rows (with_more c a source vals known pass)
-    (record { rule = a; known = known; some = some; passes = pass; reading = refl }, tt) h
+    → values_pass a vals ≡ true → IsGiven a source → Passing c rows → Passing c (with_values a.id (reading_by a) source vals rows)
+filled_rows c a source vals rows known some pass given h =
+    at_row_each (RowPasses c) a.id (more_values source vals) _ rows (with_more c a source vals known pass given)
+    (record { rule = a; known = known; some = some; passes = pass; reading = refl; given = λ none. ap (λ x. explicit_source (Some x)) (given none) }, tt) h
 
 without_rows : (c : List Rule) (id : Text) (rows : List Row) → Passing c rows → Passing c (without id rows)
 without_rows c id rows h = at_row_each (RowPasses c) id (λ _. []) [] rows (λ r same p. tt) tt h
@@ -150,7 +164,7 @@ module _ (c : List Rule) (again : Bool) (plain_rules : Each (IsPlainRule c) c) w
       → Passing c (with_values a.id (reading_by a) CommandLine vals (without a.id rows))
   set_passes a vals rows p some none h =
       filled_rows c a CommandLine vals (without a.id rows) p.known some (all_accepted a.ignore_case (parser_of_value a.parser) vals (then_none _ _ none))
-      (without_rows c a.id rows h)
+      (λ none. refl) (without_rows c a.id rows h)
 
   -- a request leaves the rows as they are
   request_keeps : (x : ArgAction) (id : Text) (how : Reading) (values : List Text) (rows : List Row) → is_request x ≡ true → Passing c rows
@@ -168,12 +182,19 @@ module _ (c : List Rule) (again : Bool) (plain_rules : Each (IsPlainRule c) c) w
   used_passes : (a : Rule) (values : List Text) (rows : List Row) → IsPlainRule c a → use_fault again a values rows ≡ [] → Passing c rows
       → Passing c (used a values rows)
   used_passes a values rows p none h = elim p.kind [
-    | inl k ↦
+    | inl (inl is, least) ↦
         let vals = values_or_missing a values in
         let act : action_fault (action_of a) again a vals rows ≡ [] = then_none _ _ none in
-        let as_set : set_fault again a vals rows ≡ [] = subst (λ (x : ArgAction). action_fault x again a vals rows ≡ []) k.0 act in
-        subst (λ (x : ArgAction). Passing c (used_as x a.id (reading_by a) vals rows)) (sym k.0)
-        (set_passes a vals rows p (some_values a values _ _ (first_none _ _ none) k.1) as_set h)
+        let as_set : set_fault again a vals rows ≡ [] = subst (λ (x : ArgAction). action_fault x again a vals rows ≡ []) is act in
+        subst (λ (x : ArgAction). Passing c (used_as x a.id (reading_by a) vals rows)) (sym is)
+        (set_passes a vals rows p (some_values a values _ _ (first_none _ _ none) least) as_set h)
+    | inl (inr is, least) ↦
+        let vals = values_or_missing a values in
+        let act : action_fault (action_of a) again a vals rows ≡ [] = then_none _ _ none in
+        let as_more : values_fault a vals ≡ [] = subst (λ (x : ArgAction). action_fault x again a vals rows ≡ []) is act in
+        subst (λ (x : ArgAction). Passing c (used_as x a.id (reading_by a) vals rows)) (sym is)
+        (filled_rows c a CommandLine vals rows p.known (some_values a values _ _ (first_none _ _ none) least)
+        (all_accepted a.ignore_case (parser_of_value a.parser) vals as_more) (λ none. refl) h)
     | inr (inl k) ↦
         let vals = values_or_missing a values in
         let act : action_fault (action_of a) again a vals rows ≡ [] = then_none _ _ none in
@@ -410,14 +431,17 @@ module _ (s : Shape) (names : Names) (plain_rules : Each (IsPlainRule s.rules) s
 
 -- ---- defaults
 
-given_default_passes : (c : List Rule) (a : Rule) (vs : List Text) (rows : List Row) → IsPlainRule c a
+given_default_passes : (c : List Rule) (a : Rule) (vs : List Text) (rows : List Row) → IsPlainRule c a → a.defaults ≡ vs
     → (if is_empty vs then [] else given_default_fault a vs) ≡ [] → Passing c rows → Passing c (default_rows a.id (reading_by a) vs rows)
-given_default_passes c a [] rows p none h = h
-given_default_passes c a (v ∷ vs) rows p none h =
+given_default_passes c a [] rows p is none h = h
+given_default_passes c a (v ∷ vs) rows p is none h =
     let some : (length (v ∷ vs) == 0) ≡ false = ne_eqb _ _ (λ e. omega arith) in
     let faults : given_default_fault a (v ∷ vs) ≡ [] = rw some at none in
     let values : values_fault a (v ∷ vs) ≡ [] = then_none (request_kinds (action_of a)) (values_fault a (v ∷ vs)) faults in
-    filled_rows c a DefaultValue (v ∷ vs) rows p.known (omega arith) (all_accepted a.ignore_case (parser_of_value a.parser) (v ∷ vs) values) h
+    let given : IsGiven a DefaultValue = λ empty.
+    let bad : true ≡ false = sym empty ∙ (ap is_empty is ∙ some) in
+    cc in
+    filled_rows c a DefaultValue (v ∷ vs) rows p.known (omega arith) (all_accepted a.ignore_case (parser_of_value a.parser) (v ∷ vs) values) given h
 
 default_passes : (c : List Rule) (a : Rule) (rows : List Row) → IsPlainRule c a → default_fault rows a ≡ [] → Passing c rows
     → Passing c (with_default rows a)
@@ -425,7 +449,7 @@ default_passes c a rows p none h = go (has_row a.id rows) refl
   where
     go : (b : Bool) → has_row a.id rows ≡ b → Passing c (with_default rows a)
     go true t = rw t h
-    go false t = rw t (given_default_passes c a a.defaults rows p (rw t at none) h)
+    go false t = rw t (given_default_passes c a a.defaults rows p refl (rw t at none) h)
 
 defaults_pass : (c : List Rule) (rules : List Rule) (rows : List Row) → Each (IsPlainRule c) rules → defaults_fault rows rules ≡ [] → Passing c rows
     → Passing c (fold with_default rows rules)
@@ -554,6 +578,23 @@ pub row_value : (c : List Rule) (rows : List Row) (a : Rule) → Passing c rows 
 row_value c rows a h has known =
     let r = row_any (λ x. bytes_eq x.id a.id) rows has in
     value_at c rows a r.0 h r.1 known
+
+-- an argument with no default has a value exactly where the words gave it
+pub text_given : (c : List Rule) (rows : List Row) (a : Rule) → Passing c rows → arg_by_id c a.id ≡ Some a → is_empty a.defaults ≡ true
+    → is_given a.id rows ≡ is_some (first_of a.id rows)
+text_given c rows a h known none = go (find (λ x. bytes_eq x.id a.id) rows) refl
+  where
+    go : (o : Option Row) → find (λ x. bytes_eq x.id a.id) rows ≡ o → is_given a.id rows ≡ is_some (first_of a.id rows)
+    go None e = rw e refl
+    go (Some r) e =
+        let value : HasValue rows a = value_at c rows a r h e known in
+        let got = Each-find (RowPasses c) (λ x. bytes_eq x.id a.id) rows r h e in
+        let p = got.0 in
+        let id : r.id ≡ a.id = (bytes_eq-Decides r.id a.id).0 got.1 in
+        let same : Some p.rule ≡ Some a = sym p.known ∙ (ap (λ t. arg_by_id c t) id ∙ known) in
+        let is : p.rule ≡ a = cc in
+        let words : explicit_source r.source ≡ true = p.given (subst (λ (x : Rule). is_empty x.defaults ≡ true) (sym is) none) in
+        ap (λ o. option_map_or (λ x. explicit_source x.source) o false) e ∙ (words ∙ sym (ap is_some value.is_first))
 
 at_row_new : (id : Text) (change : Row → List Row) (missing rows : List Row) → has_row id rows ≡ false → at_row id change missing rows ≡ rows ++ missing
 at_row_new id change missing [] none = refl

@@ -1,21 +1,22 @@
 -- Where `clap` finds no mistake in the words, they name a command of the program, with the values
 -- that its request wants.
-use Rattle.std.proofs.Common.{◌≡◌, ◌∙◌, ◌&&◌, ◌||◌, ◌⊎◌, Bool, true, false, not, refl, sym, ap, subst, inl, inr, List, [], ◌∷◌, Option, Some, None, is_some, codes}
-use Rattle.std.specs.Prelude.{find, fold, option_map, pos}
+use Rattle.std.proofs.Common.{◌≡◌, ◌∙◌, ◌&&◌, ◌||◌, ◌⊎◌, Bool, true, false, not, refl, length, sym, ap, subst, inl, inr, List, [], ◌∷◌, Option, Some, None, is_some, codes}
+use Rattle.std.specs.Prelude.{find, fold, nat_lt, option_map, pos}
 use Rattle.std.specs.Option.{option_map_or}
 use Rattle.std.specs.Str.{bytes_eq}
 use Rattle.std.proofs.lemmas.Slice.Eq.{bytes_eq-Decides}
 use Rattle.clap.proofs.ValueTestLemmas.{accepts-Accepts}
-use Rattle.clap.specs.Faults.{built_fault, entered_fault, level_fault}
+use Rattle.clap.specs.Faults.{built_fault, entered_fault, fault_of, level_fault}
 use Rattle.clap.specs.Takes.{is_given}
 use Rattle.clap.specs.ValueTests.{accepts}
-use Rattle.clap.specs.Values.{bool_text}
-use Rattle.clap.specs.Walk.{Row, Rule, Text, answers_to, arg_by_id, finished, has_row, nothing_held, one_of, rows_after, settled, stop_after, walk, with_default}
+use Rattle.clap.specs.Facts.{unwrap_or_range}
+use Rattle.clap.specs.Values.{bool_text, is_request}
+use Rattle.clap.specs.Walk.{Row, Rule, Text, action_of, answers_to, arg_by_id, finished, has_row, nothing_held, one_of, rows_after, settled, stop_after, walk, with_default}
 use Rattle.clap.specs.Simple.{App, Shape, argument_words, built, built_leaf, entered, filled, help_rule, inherited, label_of, marked_built, names_of, new_rule, new_shape, rows_at, with_index, with_leaf_noted, with_subcommand}
-use Rattle.clap.specs.declared.builder.action.ArgAction.TheVariants.{SetTrue}
+use Rattle.clap.specs.declared.builder.action.ArgAction.TheVariants.{Append, Set, SetTrue}
 use Rattle.clap.specs.declared.builder.value_parser.ValueParser.TheVariants as parser
-use Rattle.morris_words.specs.Words.{HasBuildValues, HasLookValues, HasProbeValues, HasStatsValues, HasVerifyValues, NamesRequest, all_rule, blocks_rule, build_app, classes_rule, depth_rule, faults_of, look_app, morris_app, named_by, probe_app, program, progress_rule, required_rule, stats_app, verify_app, workers_rule}
-use Rattle.morris_words.proofs.Parsed.{Each, Each-find, HasValue, IsNotHelp, IsPlainRule, Passing, arguments_there, default_fills, default_keeps, given_value, level_passes, row_value, subcommand_there}
+use Rattle.morris_words.specs.Words.{HasBuildValues, HasLookValues, HasProbeValues, HasStatsValues, HasVerifyValues, NamesRequest, blocks_rule, build_app, depth_rule, flag_rule, look_app, morris_app, named_by, option_rule, probe_app, program, required_rule, stats_app, verify_app, workers_rule}
+use Rattle.morris_words.proofs.Parsed.{Each, Each-find, HasValue, IsNotHelp, IsPlainRule, Passing, arguments_there, default_fills, default_keeps, given_value, level_passes, row_value, subcommand_there, text_given}
 
 -- ---- arguments that have a value where they are left out
 
@@ -50,6 +51,21 @@ flag_says c name rest rows passes known =
     let says = says_bool value.first value.passes in
     (says.0, value.read ∙ ap (λ t. Some t) says.1)
 
+-- an argument that is set to a value, a flag, and one that asks for help or for the version
+sets : {c : List Rule} {a : Rule} → arg_by_id c a.id ≡ Some a → action_of a ≡ Set → nat_lt 0 (unwrap_or_range a.range).start_inclusive ≡ true → IsPlainRule c a
+sets known is some = record { known = known; kind = inl (inl is, some) }
+
+-- one that takes more values at each use
+appends : {c : List Rule} {a : Rule} → arg_by_id c a.id ≡ Some a → action_of a ≡ Append → nat_lt 0 (unwrap_or_range a.range).start_inclusive ≡ true
+    → IsPlainRule c a
+appends known is some = record { known = known; kind = inl (inr is, some) }
+
+stands : {c : List Rule} {a : Rule} → arg_by_id c a.id ≡ Some a → action_of a ≡ SetTrue → nat_lt 0 (length a.missing) ≡ true → IsPlainRule c a
+stands known is some = record { known = known; kind = inr (inl (is, some)) }
+
+asks : {c : List Rule} {a : Rule} → arg_by_id c a.id ≡ Some a → is_request (action_of a) ≡ true → IsPlainRule c a
+asks known is = record { known = known; kind = inr (inr is) }
+
 -- ---- `look`, as it is built
 
 abbrev board : Rule
@@ -68,36 +84,29 @@ abbrev look_top : Shape
 look_top = record (new_shape (codes "look")) { rules = required_rule (codes "BOARD") ∷ required_rule (codes "TEXT") ∷ depth_rule ∷ [] }
 
 abbrev stats_top : Shape
-stats_top = record (new_shape (codes "stats")) { rules = required_rule (codes "BOARD") ∷ required_rule (codes "PAIR") ∷ progress_rule ∷ [] }
+stats_top = record (new_shape (codes "stats")) { rules = required_rule (codes "BOARD") ∷ required_rule (codes "PAIR") ∷ flag_rule (codes "progress") ∷ [] }
 
 abbrev build_top : Shape
 build_top = record (new_shape (codes "build")) {
-  rules = required_rule (codes "BOARD") ∷ required_rule (codes "PAIR") ∷ workers_rule ∷ blocks_rule ∷ all_rule ∷ classes_rule ∷ progress_rule ∷ [];
+  rules = required_rule (codes "BOARD") ∷ required_rule (codes "PAIR") ∷ workers_rule ∷ blocks_rule ∷ flag_rule (codes "all") ∷ option_rule (codes "into")
+      ∷ flag_rule (codes "classes") ∷ flag_rule (codes "progress") ∷ [];
 }
 
 abbrev verify_top : Shape
-verify_top = record (new_shape (codes "verify")) { rules = required_rule (codes "BOARD") ∷ progress_rule ∷ [] }
+verify_top = record (new_shape (codes "verify")) { rules = required_rule (codes "BOARD") ∷ option_rule (codes "from") ∷ flag_rule (codes "progress") ∷ [] }
 
 abbrev probe_top : Shape
-probe_top = record (new_shape (codes "probe")) { rules = required_rule (codes "BOARD") ∷ required_rule (codes "TEXT") ∷ progress_rule ∷ [] }
+probe_top = record (new_shape (codes "probe")) { rules = required_rule (codes "BOARD") ∷ required_rule (codes "TEXT") ∷ flag_rule (codes "progress") ∷ [] }
 
 abbrev whole : App
-whole = with_subcommand (with_subcommand (with_subcommand (with_subcommand (with_subcommand program look_top) stats_top) build_top) verify_top) probe_top
+whole =
+    with_subcommand (with_subcommand (with_subcommand (with_subcommand (with_subcommand program look_top) stats_top) build_top) verify_top) probe_top
 
 abbrev look : Shape
 look = built_leaf (inherited (with_leaf_noted (marked_built whole.top)) look_top)
 
 look_plain : Each (IsPlainRule look.rules) look.rules
-look_plain = (
-  record { known = refl; kind = inl (refl, refl) },
-  (
-    record { known = refl; kind = inl (refl, refl) },
-    (
-      record { known = refl; kind = inl (refl, refl) },
-      (record { known = refl; kind = inr (inr refl) }, tt),
-    ),
-  ),
-)
+look_plain = (sets refl refl refl, (sets refl refl refl, (sets refl refl refl, (asks refl refl, tt))))
 
 both_given : (p q : Bool) → (not p || (not q || false)) ≡ false → (p ≡ true) × (q ≡ true)
 both_given true true h = (refl, refl)
@@ -118,9 +127,7 @@ look_fits words none =
     record {
       board = ap is_some first.is_first;
       text = ap is_some second.is_first;
-      depth = third.first;
-      read = third.read;
-      in_range = accepts-Accepts false (parser.Signed (pos 0) (pos 6)) third.first third.passes;
+      depth = record { text = third.first; read = third.read; in_range = accepts-Accepts false (parser.Signed (pos 0) (pos 6)) third.first third.passes };
     }
 
 -- ---- `stats`, as it is built
@@ -132,16 +139,7 @@ abbrev stats : Shape
 stats = built_leaf (inherited (with_leaf_noted (marked_built whole.top)) stats_top)
 
 stats_plain : Each (IsPlainRule stats.rules) stats.rules
-stats_plain = (
-  record { known = refl; kind = inl (refl, refl) },
-  (
-    record { known = refl; kind = inl (refl, refl) },
-    (
-      record { known = refl; kind = inr (inl (refl, refl)) },
-      (record { known = refl; kind = inr (inr refl) }, tt),
-    ),
-  ),
-)
+stats_plain = (sets refl refl refl, (sets refl refl refl, (stands refl refl refl, (asks refl refl, tt))))
 
 stats_fits : (words : List Text) → level_fault stats [] nothing_held words false [] ≡ [] → HasStatsValues (rows_after stats.rules [] words)
 stats_fits words none =
@@ -156,8 +154,7 @@ stats_fits words none =
     record {
       board = ap is_some first.is_first;
       pair = ap is_some second.is_first;
-      progress = progress.0;
-      progress_read = progress.1;
+      progress = progress;
     }
 
 -- ---- `build`, as it is built
@@ -168,31 +165,16 @@ workers = filled workers_rule
 abbrev blocks : Rule
 blocks = filled blocks_rule
 
+abbrev into : Rule
+into = filled (option_rule (codes "into"))
+
 abbrev build : Shape
 build = built_leaf (inherited (with_leaf_noted (marked_built whole.top)) build_top)
 
 build_plain : Each (IsPlainRule build.rules) build.rules
 build_plain = (
-  record { known = refl; kind = inl (refl, refl) },
-  (
-    record { known = refl; kind = inl (refl, refl) },
-    (
-      record { known = refl; kind = inl (refl, refl) },
-      (
-        record { known = refl; kind = inl (refl, refl) },
-        (
-          record { known = refl; kind = inr (inl (refl, refl)) },
-          (
-            record { known = refl; kind = inr (inl (refl, refl)) },
-            (
-              record { known = refl; kind = inr (inl (refl, refl)) },
-              (record { known = refl; kind = inr (inr refl) }, tt),
-            ),
-          ),
-        ),
-      ),
-    ),
-  ),
+  sets refl refl refl,
+  (sets refl refl refl, (sets refl refl refl, (sets refl refl refl, (stands refl refl refl, (sets refl refl refl, (stands refl refl refl, (stands refl refl refl, (asks refl refl, tt)))))))),
 )
 
 build_fits : (words : List Text) → level_fault build [] nothing_held words false [] ≡ [] → HasBuildValues (rows_after build.rules [] words)
@@ -206,47 +188,39 @@ build_fits words none =
     let three = with_default two workers in
     let four = with_default three blocks in
     let five = with_default four (flag (codes "all")) in
-    let six = with_default five (flag (codes "classes")) in
+    let six = with_default five into in
+    let seven = with_default six (flag (codes "classes")) in
     let after_classes = flag (codes "progress") ∷ help ∷ [] in
-    let after_all = flag (codes "classes") ∷ after_classes in
+    let after_all = into ∷ flag (codes "classes") ∷ after_classes in
     let after_blocks = flag (codes "all") ∷ after_all in
     let first : HasValue rows board = given_value build.rules rows board level.rows given.0 refl in
     let second : HasValue rows pair = given_value build.rules rows pair level.rows given.1 refl in
     let third : HasValue rows workers = row_value build.rules rows workers level.rows (default_stays workers (codes "2") [] (blocks ∷ after_blocks) two refl) refl in
     let fourth : HasValue rows blocks = row_value build.rules rows blocks level.rows (default_stays blocks (codes "16") [] after_blocks three refl) refl in
     let all = flag_says build.rules (codes "all") after_all four level.rows refl in
-    let classes = flag_says build.rules (codes "classes") after_classes five level.rows refl in
-    let progress = flag_says build.rules (codes "progress") (help ∷ []) six level.rows refl in
+    let classes = flag_says build.rules (codes "classes") after_classes six level.rows refl in
+    let progress = flag_says build.rules (codes "progress") (help ∷ []) seven level.rows refl in
     record {
       board = ap is_some first.is_first;
       pair = ap is_some second.is_first;
-      workers_text = third.first;
-      workers_read = third.read;
-      workers_in_range = accepts-Accepts false (parser.Signed (pos 1) (pos 64)) third.first third.passes;
-      blocks_text = fourth.first;
-      blocks_read = fourth.read;
-      blocks_in_range = accepts-Accepts false (parser.Signed (pos 1) (pos 1024)) fourth.first fourth.passes;
-      all = all.0;
-      all_read = all.1;
-      classes = classes.0;
-      classes_read = classes.1;
-      progress = progress.0;
-      progress_read = progress.1;
+      workers = record { text = third.first; read = third.read; in_range = accepts-Accepts false (parser.Signed (pos 1) (pos 64)) third.first third.passes };
+      blocks = record { text = fourth.first; read = fourth.read; in_range = accepts-Accepts false (parser.Signed (pos 1) (pos 1024)) fourth.first fourth.passes };
+      all = all;
+      into = text_given build.rules rows into level.rows refl refl;
+      classes = classes;
+      progress = progress;
     }
 
 -- ---- `verify`, as it is built
+
+abbrev from : Rule
+from = filled (option_rule (codes "from"))
 
 abbrev verify : Shape
 verify = built_leaf (inherited (with_leaf_noted (marked_built whole.top)) verify_top)
 
 verify_plain : Each (IsPlainRule verify.rules) verify.rules
-verify_plain = (
-  record { known = refl; kind = inl (refl, refl) },
-  (
-    record { known = refl; kind = inr (inl (refl, refl)) },
-    (record { known = refl; kind = inr (inr refl) }, tt),
-  ),
-)
+verify_plain = (sets refl refl refl, (sets refl refl refl, (stands refl refl refl, (asks refl refl, tt))))
 
 one_given : (p : Bool) → (not p || false) ≡ false → p ≡ true
 one_given true h = refl
@@ -259,8 +233,12 @@ verify_fits words none =
     let start = (settled verify.rules (walk verify.rules [] nothing_held words).held).rows in
     let missing : (not (is_given (codes "BOARD") rows) || false) ≡ false = arguments_there verify rows false level.checked in
     let first : HasValue rows board = given_value verify.rules rows board level.rows (one_given _ missing) refl in
-    let progress = flag_says verify.rules (codes "progress") (help ∷ []) (with_default start board) level.rows refl in
-    record { board = ap is_some first.is_first; progress = progress.0; progress_read = progress.1 }
+    let progress = flag_says verify.rules (codes "progress") (help ∷ []) (with_default (with_default start board) from) level.rows refl in
+    record {
+      board = ap is_some first.is_first;
+      from = text_given verify.rules rows from level.rows refl refl;
+      progress = progress;
+    }
 
 -- ---- `probe`, as it is built
 
@@ -268,16 +246,7 @@ abbrev probe : Shape
 probe = built_leaf (inherited (with_leaf_noted (marked_built whole.top)) probe_top)
 
 probe_plain : Each (IsPlainRule probe.rules) probe.rules
-probe_plain = (
-  record { known = refl; kind = inl (refl, refl) },
-  (
-    record { known = refl; kind = inl (refl, refl) },
-    (
-      record { known = refl; kind = inr (inl (refl, refl)) },
-      (record { known = refl; kind = inr (inr refl) }, tt),
-    ),
-  ),
-)
+probe_plain = (sets refl refl refl, (sets refl refl refl, (stands refl refl refl, (asks refl refl, tt))))
 
 probe_fits : (words : List Text) → level_fault probe [] nothing_held words false [] ≡ [] → HasProbeValues (rows_after probe.rules [] words)
 probe_fits words none =
@@ -292,8 +261,7 @@ probe_fits words none =
     record {
       board = ap is_some first.is_first;
       text = ap is_some second.is_first;
-      progress = progress.0;
-      progress_read = progress.1;
+      progress = progress;
     }
 
 -- ---- the program
@@ -324,10 +292,7 @@ all_serve = (
 )
 
 program_plain : Each (IsPlainRule (built whole).top.rules) (built whole).top.rules
-program_plain = (
-  record { known = refl; kind = inr (inr refl) },
-  (record { known = refl; kind = inr (inr refl) }, tt),
-)
+program_plain = (asks refl refl, (asks refl refl, tt))
 
 not_named_help : (s : Shape) (name : Text) → s.name ≡ codes "help" → s.aliases ≡ [] → answers_to name (label_of s) ≡ true
     → bytes_eq name (codes "help") ≡ false → ⊥
@@ -372,6 +337,6 @@ program_named a words plain serves wants offers none =
     let wanted : (not has && true) ≡ false = subst (λ (b : Bool). (not has && b) ≡ false) wants (subcommand_there a.top rows has level.checked) in
     entered_named a stop serves (level.stopped offers) level.below_none (there has wanted)
 
-pub named : (words : List Text) → faults_of words ≡ [] → NamesRequest (named_by words)
+pub named : (words : List Text) → fault_of morris_app words ≡ [] → NamesRequest (named_by words)
 unfolding morris_app look_app stats_app build_app verify_app probe_app
 named words none = program_named (built whole) (argument_words whole words) program_plain all_serve refl refl none

@@ -1,19 +1,26 @@
 -- The command line, as `clap` reads it, and what its words ask for.
-use Rattle.std.specs.Prelude.{◌≡◌, ◌≢◌, ◌≤◌, ◌⊎◌, ⊤, ℕ, Bool, true, List, [], ◌∷◌, Option, Some, None}
-use Rattle.std.specs.Prelude.{IsSomeAnd, codes, is_some, option_map, pos}
+use Rattle.std.specs.Prelude.{◌≡◌, ◌≢◌, ◌≤◌, ◌⊎◌, ◌&&◌, ⊤, ℕ, Bool, true, false, List, [], ◌∷◌, Option, Some, None}
+use Rattle.std.specs.Prelude.{IsSomeAnd, codes, if◌then◌else◌, is_some, option_map, pos}
+use Rattle.std.specs.Borrow.{Bor}
+use Rattle.std.specs.Option.{option_map_or}
+use Rattle.std.specs.Str.{bytes_eq}
 use Rattle.std.specs.Str.Parse.{digits_value, without_leading_plus}
-use Rattle.clap.specs.Words.{App, IsAmong, IsSignedIn, Kinds, Row, Rule, Text, fault_of, first_of}
+use Rattle.clap.specs.Kinds.{or_else}
+use Rattle.clap.specs.Takes.{is_given}
+use Rattle.clap.specs.Words.{App, IsAmong, IsSignedIn, Kinds, Row, Rule, Text, app_of, fault_of, first_of, rule_of}
 use Rattle.clap.specs.Words.{new_app, new_rule, one_of, subcommand_of, with_rule, with_subcommand}
 use Rattle.clap.specs.Words.{without_minus}
 use Rattle.clap.specs.Values.{bool_text}
 use Rattle.clap.specs.declared.builder.action.ArgAction.TheVariants as action
+use Rattle.clap.specs.declared.builder.arg.Arg.{Arg}
 use Rattle.clap.specs.declared.builder.command.Command.{Command}
 use Rattle.clap.specs.declared.builder.command.Command.TheViews.{out-Command}
 use Rattle.clap.specs.declared.builder.value_parser.ValueParser.TheVariants as parser
 use Rattle.clap.specs.declared.error.kind.ErrorKind.{ErrorKind}
 use Rattle.clap.specs.declared.error.kind.ErrorKind.TheVariants as kind
 use Rattle.morris_words.specs.declared.words.Request.{Request}
-use Rattle.morris_words.specs.declared.words.Request.TheVariants.{Look, Stats, Build, Verify, Probe}
+use Rattle.morris_words.specs.declared.words.Task.{Task}
+use Rattle.morris_words.specs.declared.words.Task.TheVariants.{Look, Stats, Build, Verify, Probe}
 use Rattle.morris_words.specs.declared.words.Refusal.{Refusal}
 use Rattle.morris_words.specs.declared.words.Refusal.TheVariants.{Memory, Help, Version, Wrong}
 
@@ -44,15 +51,15 @@ program = record (new_app (codes "morris")) {
   top = record (new_app (codes "morris")).top { has_version = true; subcommand_required = true };
 }
 
--- `--progress`, a flag: its value is true where it is given, and false where it is left out
-abbrev pub progress_rule : Rule
-progress_rule = record (new_rule (codes "progress")) { long = Some (codes "progress"); action = Some action.SetTrue }
+-- `--NAME`, a flag: its value is true where it is given, and false where it is left out
+abbrev pub flag_rule : Text → Rule
+flag_rule name = record (new_rule name) { long = Some name; action = Some action.SetTrue }
 
 -- `stats BOARD PAIR [--progress]`
 unfoldable pub stats_app : App
 stats_app =
     with_rule (with_rule (with_rule (new_app (codes "stats")) (required_rule (codes "BOARD")))
-    (required_rule (codes "PAIR"))) progress_rule
+    (required_rule (codes "PAIR"))) (flag_rule (codes "progress"))
 
 -- `--workers W`, W a number from 1 to 64, and 2 where it is left out
 abbrev pub workers_rule : Rule
@@ -72,29 +79,27 @@ blocks_rule = record (new_rule (codes "blocks")) {
   defaults = codes "16" ∷ [];
 }
 
--- `--all`, a flag
-abbrev pub all_rule : Rule
-all_rule = record (new_rule (codes "all")) { long = Some (codes "all"); action = Some action.SetTrue }
+-- `--NAME VALUE`, an option that may be left out, and has no value then
+abbrev pub option_rule : Text → Rule
+option_rule name = record (new_rule name) { long = Some name; value_names = 1 }
 
--- `--classes`, a flag
-abbrev pub classes_rule : Rule
-classes_rule = record (new_rule (codes "classes")) { long = Some (codes "classes"); action = Some action.SetTrue }
-
--- `build BOARD PAIR [--workers W] [--blocks K] [--all] [--classes] [--progress]`
+-- `build BOARD PAIR [--workers W] [--blocks K] [--all] [--into FOLDER] [--classes] [--progress]`
 unfoldable pub build_app : App
 build_app =
-    with_rule (with_rule (with_rule (with_rule (with_rule (with_rule (with_rule (new_app (codes "build")) (required_rule (codes "BOARD")))
-    (required_rule (codes "PAIR"))) workers_rule) blocks_rule) all_rule) classes_rule) progress_rule
+    with_rule (with_rule (with_rule (with_rule (with_rule (with_rule (with_rule (with_rule (new_app (codes "build")) (required_rule (codes "BOARD")))
+    (required_rule (codes "PAIR"))) workers_rule) blocks_rule) (flag_rule (codes "all"))) (option_rule (codes "into"))) (flag_rule (codes "classes")))
+    (flag_rule (codes "progress"))
 
--- `verify BOARD [--progress]`
+-- `verify BOARD [--from FOLDER] [--progress]`
 unfoldable pub verify_app : App
-verify_app = with_rule (with_rule (new_app (codes "verify")) (required_rule (codes "BOARD"))) progress_rule
+verify_app =
+    with_rule (with_rule (with_rule (new_app (codes "verify")) (required_rule (codes "BOARD"))) (option_rule (codes "from"))) (flag_rule (codes "progress"))
 
 -- `probe BOARD TEXT [--progress]`
 unfoldable pub probe_app : App
 probe_app =
     with_rule (with_rule (with_rule (new_app (codes "probe")) (required_rule (codes "BOARD")))
-    (required_rule (codes "TEXT"))) progress_rule
+    (required_rule (codes "TEXT"))) (flag_rule (codes "progress"))
 
 -- the program `morris` with its commands
 unfoldable pub morris_app : App
@@ -102,107 +107,140 @@ morris_app =
     with_subcommand (with_subcommand (with_subcommand (with_subcommand (with_subcommand program look_app.top) stats_app.top)
     build_app.top) verify_app.top) probe_app.top
 
--- an argument of the command, or of one of its own commands, is global
-abbrev pub has_globals : Command → Bool
-has_globals c = (out-Command c).has_globals
+-- the command takes what `a` says, and none of its arguments, or of those of its own commands, is
+-- global
+abbrev pub Is : App → Command → Type 0
+Is a c = (app_of c ≡ a) × ((out-Command c).has_globals ≡ false)
+
+-- the argument takes what the rule says, and isn't global
+abbrev pub IsArg : Rule → Arg → Type 0
+IsArg r a = (rule_of a ≡ r) × (a.global ≡ false)
 
 -- ---- what the words ask for
-
--- what `clap` finds against the words: the kinds of mistake that they may have, or a request for
--- help or for the version, and nothing where it takes them
-abbrev pub faults_of : List Text → Kinds
-faults_of words = fault_of morris_app words
 
 -- the command that the words name, with the values of its arguments
 abbrev pub named_by : List Text → Option (Text × List Row)
 named_by words = subcommand_of morris_app words
 
+-- the flag of a name says true
+abbrev pub is_on : Text → List Row → Bool
+is_on name rows = option_map_or (λ t. bytes_eq t (codes "true")) (one_of name rows) false
+
+-- two arguments of the command exclude each other: `--all` and `--into` of `build`
+abbrev pub has_clash : Text → List Row → Bool
+has_clash name rows =
+    bytes_eq name (codes "build") && (is_on (codes "all") rows && is_given (codes "into") rows)
+
+-- the mistake of such a command
+abbrev pub clashes : Option (Text × List Row) → Kinds
+clashes None = []
+clashes (Some (name, rows)) = if has_clash name rows then kind.ArgumentConflict ∷ [] else []
+
+-- what there is against the words: the kinds of mistake that `clap` may find in them, or a request
+-- for help or for the version; or else two arguments that exclude each other. Nothing where they
+-- are taken.
+abbrev pub faults_of : List Text → Kinds
+faults_of words = or_else (fault_of morris_app words) (clashes (named_by words))
+
 -- the number that a decimal text writes
 abbrev pub number_of : Text → ℕ
 number_of text = digits_value 10 (without_leading_plus text)
 
--- the request is for the command that was named, with the values of its arguments; the value of a
+-- the text of an option: the one that was given, where it was given
+abbrev pub IsOption : Text → List Row → Option (Bor Text) → Type 0
+IsOption name rows text = (first_of name rows ≡ option_map (λ t. t.now) text) × (is_given name rows ≡ is_some text)
+
+-- the task is that of the command that was named, with the values of its arguments; the value of a
 -- flag says whether it was given
-abbrev pub AsksFor : Option (Text × List Row) → Request → Type 0
-AsksFor None r = ⊥
-AsksFor (Some (name, rows)) (Look board text depth) =
+abbrev pub AsksForTask : Text → List Row → Task → Type 0
+AsksForTask name rows (Look board text depth) =
     (name ≡ codes "look") × (first_of (codes "BOARD") rows ≡ Some board.now)
     × (first_of (codes "TEXT") rows ≡ Some text.now)
     × (option_map number_of (one_of (codes "depth") rows) ≡ Some depth)
-AsksFor (Some (name, rows)) (Stats board pair progress) =
+AsksForTask name rows (Stats board pair) =
     (name ≡ codes "stats") × (first_of (codes "BOARD") rows ≡ Some board.now) × (first_of (codes "PAIR") rows ≡ Some pair.now)
-    × (one_of (codes "progress") rows ≡ Some (bool_text progress))
-AsksFor (Some (name, rows)) (Build board pair workers blocks all classes progress) =
+AsksForTask name rows (Build board pair workers blocks all into classes) =
     (name ≡ codes "build") × (first_of (codes "BOARD") rows ≡ Some board.now) × (first_of (codes "PAIR") rows ≡ Some pair.now)
     × (option_map number_of (one_of (codes "workers") rows) ≡ Some workers)
     × (option_map number_of (one_of (codes "blocks") rows) ≡ Some blocks)
     × (one_of (codes "all") rows ≡ Some (bool_text all))
+    × IsOption (codes "into") rows into
     × (one_of (codes "classes") rows ≡ Some (bool_text classes))
-    × (one_of (codes "progress") rows ≡ Some (bool_text progress))
-AsksFor (Some (name, rows)) (Verify board progress) =
-    (name ≡ codes "verify") × (first_of (codes "BOARD") rows ≡ Some board.now)
-    × (one_of (codes "progress") rows ≡ Some (bool_text progress))
-AsksFor (Some (name, rows)) (Probe board text progress) =
+AsksForTask name rows (Verify board from) =
+    (name ≡ codes "verify") × (first_of (codes "BOARD") rows ≡ Some board.now) × IsOption (codes "from") rows from
+AsksForTask name rows (Probe board text) =
     (name ≡ codes "probe") × (first_of (codes "BOARD") rows ≡ Some board.now) × (first_of (codes "TEXT") rows ≡ Some text.now)
-    × (one_of (codes "progress") rows ≡ Some (bool_text progress))
+
+-- progress is to be told where `--progress` was given, which `look` doesn't take
+abbrev pub AsksToTell : Task → List Row → Bool → Type 0
+AsksToTell (Look board text depth) rows progress = progress ≡ false
+AsksToTell _ rows progress = one_of (codes "progress") rows ≡ Some (bool_text progress)
+
+-- the request is for the command that was named, with the values of its arguments
+abbrev pub AsksFor : Option (Text × List Row) → Request → Type 0
+AsksFor None r = ⊥
+AsksFor (Some (name, rows)) r = AsksForTask name rows r.task × AsksToTell r.task rows r.progress
 
 -- a depth to look ahead is at most 6 plies; workers are 1 to 64, and blocks 1 to 1,024
-abbrev pub IsInRange : Request → Type 0
+abbrev pub IsInRange : Task → Type 0
 IsInRange (Look board text depth) = depth ≤ 6
-IsInRange (Stats board pair progress) = ⊤
-IsInRange (Build board pair workers blocks all classes progress) =
-    ((1 ≤ workers) × (workers ≤ 64)) × ((1 ≤ blocks) × (blocks ≤ 1024))
-IsInRange (Verify board progress) = ⊤
-IsInRange (Probe board text progress) = ⊤
+IsInRange (Build board pair workers blocks all into classes) = ((1 ≤ workers) × (workers ≤ 64)) × ((1 ≤ blocks) × (blocks ≤ 1024))
+IsInRange _ = ⊤
+
+-- the argument of a name has a number from `low` to `high`
+pub record HasNumber (name : Text) (low high : ℕ) (rows : List Row) : Type 0 where
+  pub text : Text
+  pub read : one_of name rows ≡ Some (without_minus text)
+  pub in_range : IsSignedIn (pos low) (pos high) text
+
+-- the flag of a name has a value
+abbrev pub HasFlag : Text → List Row → Type 0
+HasFlag name rows = (b : Bool) × (one_of name rows ≡ Some (bool_text b))
+
+-- a text is there of the option of a name exactly where it was given
+abbrev pub HasOption : Text → List Row → Type 0
+HasOption name rows = is_given name rows ≡ is_some (first_of name rows)
 
 -- the values of which `look` makes its request: board and text are there, and so is a depth from 0
 -- to 6
 pub record HasLookValues (rows : List Row) : Type 0 where
   pub board : is_some (first_of (codes "BOARD") rows) ≡ true
   pub text : is_some (first_of (codes "TEXT") rows) ≡ true
-  pub depth : Text
-  pub read : one_of (codes "depth") rows ≡ Some (without_minus depth)
-  pub in_range : IsSignedIn (pos 0) (pos 6) depth
+  pub depth : HasNumber (codes "depth") 0 6 rows
 
 -- the values of which `stats` makes its request: board and pair are there, and so is the value of
 -- its flag
 pub record HasStatsValues (rows : List Row) : Type 0 where
   pub board : is_some (first_of (codes "BOARD") rows) ≡ true
   pub pair : is_some (first_of (codes "PAIR") rows) ≡ true
-  pub progress : Bool
-  pub progress_read : one_of (codes "progress") rows ≡ Some (bool_text progress)
+  pub progress : HasFlag (codes "progress") rows
 
 -- the values of which `build` makes its request: board and pair are there, and so are a number of
--- workers from 1 to 64, one of blocks from 1 to 1,024, and the values of its flags
+-- workers from 1 to 64, one of blocks from 1 to 1,024, the values of its flags, and a folder where
+-- one was given
 pub record HasBuildValues (rows : List Row) : Type 0 where
   pub board : is_some (first_of (codes "BOARD") rows) ≡ true
   pub pair : is_some (first_of (codes "PAIR") rows) ≡ true
-  pub workers_text : Text
-  pub workers_read : one_of (codes "workers") rows ≡ Some (without_minus workers_text)
-  pub workers_in_range : IsSignedIn (pos 1) (pos 64) workers_text
-  pub blocks_text : Text
-  pub blocks_read : one_of (codes "blocks") rows ≡ Some (without_minus blocks_text)
-  pub blocks_in_range : IsSignedIn (pos 1) (pos 1024) blocks_text
-  pub all : Bool
-  pub all_read : one_of (codes "all") rows ≡ Some (bool_text all)
-  pub classes : Bool
-  pub classes_read : one_of (codes "classes") rows ≡ Some (bool_text classes)
-  pub progress : Bool
-  pub progress_read : one_of (codes "progress") rows ≡ Some (bool_text progress)
+  pub workers : HasNumber (codes "workers") 1 64 rows
+  pub blocks : HasNumber (codes "blocks") 1 1024 rows
+  pub all : HasFlag (codes "all") rows
+  pub into : HasOption (codes "into") rows
+  pub classes : HasFlag (codes "classes") rows
+  pub progress : HasFlag (codes "progress") rows
 
--- the values of which `verify` makes its request: a board is there, and so is the value of its flag
+-- the values of which `verify` makes its request: a board is there, and so are the value of its
+-- flag, and a folder where one was given
 pub record HasVerifyValues (rows : List Row) : Type 0 where
   pub board : is_some (first_of (codes "BOARD") rows) ≡ true
-  pub progress : Bool
-  pub progress_read : one_of (codes "progress") rows ≡ Some (bool_text progress)
+  pub from : HasOption (codes "from") rows
+  pub progress : HasFlag (codes "progress") rows
 
 -- the values of which `probe` makes its request: board and text are there, and so is the value of
 -- its flag
 pub record HasProbeValues (rows : List Row) : Type 0 where
   pub board : is_some (first_of (codes "BOARD") rows) ≡ true
   pub text : is_some (first_of (codes "TEXT") rows) ≡ true
-  pub progress : Bool
-  pub progress_read : one_of (codes "progress") rows ≡ Some (bool_text progress)
+  pub progress : HasFlag (codes "progress") rows
 
 -- a name and values: of a command of the program, and those of which it makes its request
 abbrev pub NamesCommand : Text × List Row → Type 0
@@ -210,7 +248,8 @@ NamesCommand named =
     ((named.0 ≡ codes "look") × HasLookValues named.1)
     ⊎ (((named.0 ≡ codes "stats") × HasStatsValues named.1)
     ⊎ (((named.0 ≡ codes "build") × HasBuildValues named.1)
-    ⊎ (((named.0 ≡ codes "verify") × HasVerifyValues named.1) ⊎ ((named.0 ≡ codes "probe") × HasProbeValues named.1))))
+    ⊎ (((named.0 ≡ codes "verify") × HasVerifyValues named.1)
+    ⊎ ((named.0 ≡ codes "probe") × HasProbeValues named.1))))
 
 -- such a command was named
 abbrev pub NamesRequest : Option (Text × List Row) → Type 0

@@ -1,6 +1,46 @@
 //! What the help says below the arguments: what the words mean, the exit statuses and an example.
 //! The lines are at most 80 characters wide.
 
+/// A page of help: texts, one after the other, and by their names paragraphs that several pages
+/// have. It begins with `[]`, where the texts are gathered.
+macro_rules! page {
+    ([$($text:literal)*]) => { concat!($($text),*) };
+    ([$($text:literal)*] $next:literal $($rest:tt)*) => { page!([$($text)* $next] $($rest)*) };
+    ([$($text:literal)*] TEXT $($rest:tt)*) => {
+        page!([$($text)* "\
+TEXT has one character for each point, in the order of their numbers: X for a\n\
+stone of the player to move (own), O for one of the opponent (other), . for a\n\
+vacant point. On nine the points are numbered clockwise from the top left\n\
+corner, on the outer ring (0 to 7), then the middle one (8 to 15), then the\n\
+inner one (16 to 23); on grid row by row (0 to 8). `morris --help` draws both.\n\
+\n\
+"] $($rest)*)
+    };
+    ([$($text:literal)*] PAIR $($rest:tt)*) => {
+        page!([$($text)* "\
+PAIR is how many stones the players have, each 3 to 9: a digit, a hyphen and a\n\
+digit. 4-3 and 3-4 are one pair, of all positions in which the player to move\n\
+has 4 stones (own) and the opponent 3 (other), or 3 and 4.\n\
+\n\
+"] $($rest)*)
+    };
+    ([$($text:literal)*] PROGRESS $($rest:tt)*) => {
+        page!([$($text)* "\
+--progress writes lines `progress: ..` to standard error: first how many entries\n\
+there are in all and about how much memory they take, then at most one a second\n\
+and one at each pair's end. Standard output is the same with and without it.\n\
+\n\
+"] $($rest)*)
+    };
+    ([$($text:literal)*] EXIT $($rest:tt)*) => {
+        page!([$($text)* "\
+Exit status: 0 done; 1 a fault, one line on standard error; 2 words that aren't\n\
+allowed.\n\
+\n\
+"] $($rest)*)
+    };
+}
+
 /// Of the program as a whole.
 pub(crate) const PROGRAM: &str = "\
 Words:\n  \
@@ -9,7 +49,8 @@ TEXT   a position, with one character for each point, in the order of their\n   
 numbers: X a stone of the player to move (own), O one of the opponent\n         \
 (other), . a vacant point\n  \
 PAIR   how many stones the players have: 4-3 and 3-4 are one pair, of all\n         \
-positions with 4 own and 3 other stones, or with 3 own and 4 other\n\
+positions with 4 own and 3 other stones, or with 3 own and 4 other\n  \
+FOLDER a folder with table files, as `build --into` writes them\n\
 \n\
 The points of nine and of grid:\n\
 \n  \
@@ -29,8 +70,8 @@ The points of nine and of grid:\n\
 \n\
 Exit status:\n  \
 0  done, or help or the version was asked for\n  \
-1  a fault: one line `fault N: ..` on standard error, and nothing on standard\n     \
-output unless a write failed\n  \
+1  a fault: one line `fault N: ..` on standard error; standard output has\n     \
+nothing, or what came before it\n  \
 2  words that aren't allowed: what is wrong with them, on standard error\n\
 \n\
 Example:\n  \
@@ -44,13 +85,10 @@ draw: 600\n\
 `morris help COMMAND` has more of each command.";
 
 /// Of `look`.
-pub(crate) const LOOK: &str = "\
-TEXT has one character for each point, in the order of their numbers: X for a\n\
-stone of the player to move (own), O for one of the opponent (other), . for a\n\
-vacant point. On nine the points are numbered clockwise from the top left\n\
-corner, on the outer ring (0 to 7), then the middle one (8 to 15), then the\n\
-inner one (16 to 23); on grid row by row (0 to 8). `morris --help` draws both.\n\
-\n\
+pub(crate) const LOOK: &str = page!(
+    []
+    TEXT
+    "\
 It prints the text, how many stones each player has, each legal move (0-3 from\n\
 point 0 to point 3, 8-2x5 one that also takes the stone on 5), how many moves\n\
 there are, and the value as far as N plies tell (a ply is one player's move):\n  \
@@ -60,97 +98,103 @@ lost in 0         the player to move has no legal move, and so has lost\n  \
 unknown within 2  neither can force a win in 2 plies: it may be won or lost in\n                    \
 more, or drawn\n\
 \n\
-Exit status: 0 done; 1 a fault, one line on standard error; 2 words that aren't\n\
-allowed.\n\
-\n\
+"
+    EXIT
+    "\
 Example:\n  \
 $ morris look grid XXXXO.OO.\n  \
 XXXXO.OO.\n  \
 own 4 other 3\n  \
 2-5\n  \
 moves 1\n  \
-unknown within 2";
+unknown within 2"
+);
 
 /// Of `stats`.
-pub(crate) const STATS: &str = "\
-PAIR is how many stones the players have, each 3 to 9: a digit, a hyphen and a\n\
-digit. 4-3 and 3-4 are one pair, of all positions in which the player to move\n\
-has 4 stones (own) and the opponent 3 (other), or 3 and 4.\n\
-\n\
+pub(crate) const STATS: &str = page!(
+    []
+    PAIR
+    "\
 It finds the values of the pair and of the pairs that it rests on, on one\n\
 thread, and prints how many positions there are, how many are won and lost in\n\
 each number of plies (a ply is one player's move; the player to move is the one\n\
 who wins or loses), and how many are drawn: neither player can force a win.\n\
 \n\
---progress writes lines `progress: ..` to standard error: first how many entries\n\
-there are in all and about how much memory they take, then at most one a second\n\
-and one at each pair's end. Standard output is the same with and without it.\n\
-\n\
-Exit status: 0 done; 1 a fault, one line on standard error; 2 words that aren't\n\
-allowed.\n\
-\n\
+"
+    PROGRESS
+    EXIT
+    "\
 Example:\n  \
 $ morris stats grid 3-3\n  \
 3-3 1680 positions\n  \
 won in 1: 936\n  \
 lost in 2: 36\n  \
 won in 3: 108\n  \
-draw: 600";
+draw: 600"
+);
 
 /// Of `build`.
-pub(crate) const BUILD: &str = "\
-PAIR is how many stones the players have, each 3 to 9: a digit, a hyphen and a\n\
-digit. 4-3 and 3-4 are one pair, of all positions in which the player to move\n\
-has 4 stones (own) and the opponent 3 (other), or 3 and 4.\n\
-\n\
+pub(crate) const BUILD: &str = page!(
+    []
+    PAIR
+    "\
 It builds the tables of the pairs that the pair rests on, then that of the pair,\n\
 and writes nothing before the last of them is built. The bytes are the same for\n\
 every number of workers and blocks.\n\
+\n\
+With --into it writes each of these tables into a folder as soon as it is built,\n\
+in a file with a name like nine-4-3.nmmt, whole or not at all. The folder is\n\
+made where its parent is there. After each file it prints a line: the pair, how\n\
+many entries and bytes the file has, and its SHA-256. At the end it writes\n\
+nine.sha256 beside the files, for `sha256sum -c nine.sha256` in the folder.\n\
 \n\
 With --classes most positions that a symmetry of the board leads to one another\n\
 share an entry, so that the files are smaller. They are of version 2, which\n\
 `verify` and `probe` read as well.\n\
 \n\
---progress writes lines `progress: ..` to standard error: first how many entries\n\
-there are in all and about how much memory they take, then at most one a second\n\
-and one at each pair's end. Standard output is the same with and without it.\n\
-\n\
-Exit status: 0 done; 1 a fault, one line on standard error; 2 words that aren't\n\
-allowed.\n\
-\n\
-Example: the table of 3-3, and a file with those of 3-3 and 4-3, by positions\n\
-and by classes\n  \
+"
+    PROGRESS
+    EXIT
+    "\
+Example: the table of 3-3; a file with those of 3-3 and 4-3, by positions and by\n\
+classes; and a folder with a file for each of the two\n  \
 $ morris build nine 3-3 --workers 4 > table\n  \
 $ morris build grid 4-3 --all > tables\n  \
-$ morris build grid 4-3 --all --classes > smaller";
+$ morris build grid 4-3 --all --classes > smaller\n  \
+$ morris build grid 4-3 --into folder"
+);
 
 /// Of `verify`.
-pub(crate) const VERIFY: &str = "\
+pub(crate) const VERIFY: &str = page!(
+    []
+    "\
 It reads the file of one table, as `morris build` writes it, finds the values of\n\
 the pairs that the table's pair rests on, and compares each entry of the table\n\
 with what the rules give from the entries of its results. So nothing of the file\n\
 is believed.\n\
 \n\
---progress writes lines `progress: ..` to standard error: first how many entries\n\
-there are in all and about how much memory they take, then at most one a second\n\
-and one at each pair's end. Standard output is the same with and without it.\n\
+With --from it reads every table file of the board that a folder has, as `morris\n\
+build --into` writes them, in the order of pairs, and compares each over those\n\
+before it. Of these nothing is believed either.\n\
 \n\
+"
+    PROGRESS
+    "\
 Exit status: 0 each entry is the game's; 1 a fault, one line on standard error,\n\
 such as `fault 14: entry 20 differs` with the first entry that is wrong, counted\n\
 from 0; 2 words that aren't allowed.\n\
 \n\
 Example:\n  \
 $ morris build grid 3-3 | morris verify grid\n  \
-verified 3-3: 1680 entries";
+verified 3-3: 1680 entries\n  \
+$ morris verify grid --from folder"
+);
 
 /// Of `probe`.
-pub(crate) const PROBE: &str = "\
-TEXT has one character for each point, in the order of their numbers: X for a\n\
-stone of the player to move (own), O for one of the opponent (other), . for a\n\
-vacant point. On nine the points are numbered clockwise from the top left\n\
-corner, on the outer ring (0 to 7), then the middle one (8 to 15), then the\n\
-inner one (16 to 23); on grid row by row (0 to 8). `morris --help` draws both.\n\
-\n\
+pub(crate) const PROBE: &str = page!(
+    []
+    TEXT
+    "\
 It reads up to 64 table files, one after the other, as `morris build --all`\n\
 writes them: each after those of the pairs that its pair needs. It verifies\n\
 each, and then prints the text, the value (`won in 3`, `lost in 2`, in plies, or\n\
@@ -158,17 +202,15 @@ each, and then prints the text, the value (`won in 3`, `lost in 2`, in plies, or
 draw, else those that lose latest. 8-2x5 is a move from point 8 to point 2 that\n\
 takes the stone on point 5.\n\
 \n\
---progress writes lines `progress: ..` to standard error: first how many entries\n\
-there are in all and about how much memory they take, then at most one a second\n\
-and one at each pair's end. Standard output is the same with and without it.\n\
-\n\
-Exit status: 0 done; 1 a fault, one line on standard error; 2 words that aren't\n\
-allowed.\n\
-\n\
+"
+    PROGRESS
+    EXIT
+    "\
 Example:\n  \
 $ morris build grid 4-3 --all | morris probe grid XX..OO.OX\n  \
 XX..OO.OX\n  \
 won in 1\n  \
 8-2x4\n  \
 8-2x5\n  \
-8-2x7";
+8-2x7"
+);

@@ -1,11 +1,13 @@
 //! The words of the command line, and the request that they make.
-ghost use Rattle.std.specs.Prelude.{◌≡◌, [], IfErr, IfOk, OnOk, Some, codes, false, map};
-ghost use Rattle.clap.specs.Words.{FailsBy, app_of, found_of, kind_of, rows_of, rule_of};
-ghost use Rattle.clap.specs.Words.{subcommand_rows_of};
-ghost use Rattle.morris_words.specs.Words.{AsksFor, HasBuildValues, HasLookValues, HasProbeValues, HasStatsValues, HasVerifyValues};
-ghost use Rattle.morris_words.specs.Words.{IsAnswerTo, IsAnswerToOneOf, IsInRange, NamesRequest, all_rule, blocks_rule, build_app, classes_rule};
-ghost use Rattle.morris_words.specs.Words.{depth_rule, faults_of, has_globals, look_app, morris_app, named_by, probe_app};
-ghost use Rattle.morris_words.specs.Words.{progress_rule, required_rule, stats_app, verify_app, workers_rule};
+ghost use Rattle.std.specs.Prelude.{◌≡◌, ℕ, ◌<◌, ◌≤◌, ◌^◌, [], IfErr, IfOk, IfSome, None, OnOk, Some, codes, is_some, map, option_map, true, unwrap_or};
+ghost use Rattle.clap.specs.Values.{bool_text};
+ghost use Rattle.clap.specs.Words.{FailsBy, all_of, app_of, fault_of, first_of, found_of, kind_of, new_app, one_of, rows_of, subcommand_rows_of};
+ghost use Rattle.clap.specs.declared.error.kind.ErrorKind.TheVariants.{ArgumentConflict};
+ghost use Rattle.morris_words.specs.Words.{AsksFor, HasBuildValues, HasFlag, HasLookValues, HasNumber, HasOption, HasProbeValues};
+ghost use Rattle.morris_words.specs.Words.{HasStatsValues, HasVerifyValues, Is, IsAnswerTo, IsAnswerToOneOf, IsArg, IsInRange, IsOption};
+ghost use Rattle.morris_words.specs.Words.{NamesRequest, blocks_rule, build_app, clashes, depth_rule, faults_of, flag_rule, has_clash, look_app};
+ghost use Rattle.morris_words.specs.Words.{morris_app, named_by, number_of, option_rule, probe_app, required_rule};
+ghost use Rattle.morris_words.specs.Words.{stats_app, verify_app, workers_rule};
 
 use crate::help;
 use clap::error::ErrorKind;
@@ -13,9 +15,18 @@ use clap::{Arg, ArgAction, ArgMatches, Command, Error, value_parser};
 use std::alloc::{AllocError, Global};
 use std::convert::AsStr;
 
+/// What the words ask the program for.
+#[derive(Debug, Drop)]
+pub struct Request<'a> {
+    /// What it is to do.
+    pub task: Task<'a>,
+    /// Whether it is to tell on standard error how far it is, which `look` never is.
+    pub progress: bool,
+}
+
 /// What the words ask the program to do.
-#[derive(Clone, Copy, Debug, PartialEq, Eq)]
-pub enum Request<'a> {
+#[derive(Debug, Drop)]
+pub enum Task<'a> {
     /// Show the position that `text` writes on the board named `board`: its legal moves, and its
     /// value as far as `depth` plies tell, 0 to 6 of them.
     Look {
@@ -23,39 +34,37 @@ pub enum Request<'a> {
         text: &'a str,
         depth: u8,
     },
-    /// Count the values of the positions of the pair that `pair` names on the board named `board`,
-    /// and where `progress` is true tell on standard error how far it is.
+    /// Count the values of the positions of the pair that `pair` names on the board named `board`.
     Stats {
         board: &'a str,
         pair: &'a str,
-        progress: bool,
     },
     /// Build the table of the pair that `pair` names on the board named `board`, and of each pair
-    /// below it, with 1 to 64 `workers` and 1 to 1,024 `blocks`, and write the table file of the
-    /// pair, or where `all` is true those of all these pairs. Where `classes` is true the tables
-    /// have an entry for each class of positions, and otherwise one for each position. Where
-    /// `progress` is true tell on standard error how far it is.
+    /// below it, with 1 to 64 `workers` and 1 to 1,024 `blocks`. Write the table file of the pair
+    /// to the output, or where `all` is true those of all these pairs; or, where there is a folder
+    /// `into`, write the file of each of these pairs into it, in which case `all` is false. Where
+    /// `classes` is true the tables have an entry for each class of positions, and otherwise one
+    /// for each position.
     Build {
         board: &'a str,
         pair: &'a str,
         workers: u8,
         blocks: u16,
         all: bool,
+        into: Option<&'a str>,
         classes: bool,
-        progress: bool,
     },
-    /// Verify the table file on the input, of the board named `board`, and where `progress` is true
-    /// tell on standard error how far it is.
+    /// Verify the table file on the input, of the board named `board`, or, where there is a folder
+    /// `from`, each table file of that board in it.
     Verify {
         board: &'a str,
-        progress: bool,
+        from: Option<&'a str>,
     },
     /// Report the position that `text` writes on the board named `board`, by the tables on the
-    /// input, and where `progress` is true tell on standard error how far it is.
+    /// input.
     Probe {
         board: &'a str,
         text: &'a str,
-        progress: bool,
     },
 }
 
@@ -75,21 +84,21 @@ pub enum Refusal {
 /// Reads the words, of which the first is the program's own name. `Memory` is answered only where
 /// an allocation was refused, `Help` to `--help`, `-h` and `help`, `Version` to `--version` and
 /// `-V` in place of a command, and `Wrong` where the words name no command, or not the arguments
-/// that it takes.
+/// that it takes, or two of them that exclude each other.
 pub fn read_words<'a, S: AsStr>(alloc: Global, words: &'a [S]) -> Result<Request<'a>, Refusal>
     ensures taken { OnOk result (faults_of (map S.text words.entry.now) ≡ []) }
     ensures request { IfOk result (AsksFor (named_by (map S.text words.entry.now))) }
-    ensures depth { IfOk result IsInRange }
+    ensures range { IfOk result (λ request. IsInRange request.task) }
     ensures refused { IfErr result (IsAnswerToOneOf (faults_of (map S.text words.entry.now))) }
 {
     match parse(alloc, words) {
-        Ok(matches) => Ok(request_of(&matches)),
+        Ok(matches) => request_of(alloc, &matches),
         Err(error) => Err(refusal_of(alloc, &error)),
     }
 }
 
 fn parse<'a, S: AsStr>(alloc: Global, words: &'a [S]) -> Result<ArgMatches<'a>, Error>
-    ensures kinds { FailsBy (faults_of (map S.text words.entry.now)) result }
+    ensures kinds { FailsBy (fault_of morris_app (map S.text words.entry.now)) result }
     ensures matches { IfOk result (λ m.
         subcommand_rows_of m ≡ named_by (map S.text words.entry.now)) }
 {
@@ -97,13 +106,26 @@ fn parse<'a, S: AsStr>(alloc: Global, words: &'a [S]) -> Result<ArgMatches<'a>, 
 }
 
 // The version of the program, and those of the table files that it writes and reads.
-const VERSION: &str = "0.1.0\ntable files: writes and reads versions 1 and 2";
+const VERSION: &str = "0.2.0\ntable files: writes and reads versions 1 and 2";
 
 const BOARD_HELP: &str = "The board: nine or grid";
 
 const POSITION_HELP: &str = "The position: for each point X own, O other or . vacant";
 
 const PAIR_HELP: &str = "The numbers of stones of the two players: 3-3, 4-3, ..";
+
+const ALL_HELP: &str = "Write the files of the pairs below it too, one after the other";
+
+const INTO_HELP: &str = "Write each pair's file into this folder, under a name of its own";
+
+const FROM_HELP: &str = "Check every table file of the board in this folder";
+
+const CLASSES_HELP: &str = "Have one entry for each class of positions: files of version 2";
+
+const PROGRESS_HELP: &str = "Tell on standard error how far it is";
+
+// How `clap` ends what it says of a mistake.
+const MORE_HELP: &str = "\n\nFor more information, try '--help'.\n";
 
 // How many workers and blocks `build` has where they are left out.
 const DEFAULT_WORKERS: &str = "2";
@@ -127,105 +149,99 @@ fn morris_command<'a>(alloc: Global) -> Result<Command<'a>, AllocError>
         .subcommand(probe_command(alloc)?)
 }
 
-fn look_command<'a>(alloc: Global) -> Result<Command<'a>, AllocError>
-    ensures app { IfOk result (λ c. app_of c ≡ look_app) }
-    ensures local { IfOk result (λ c. has_globals c ≡ false) }
+// A command of this name, with no argument yet.
+fn command_of<'a>(alloc: Global, name: &'a str, about: &'a str, help: &'a str) -> Command<'a>
+    ensures { Is (new_app name.entry.now) result }
 {
-    Command::new(alloc, "look")
-        .about("Show a position, its legal moves and its value within N plies")
-        .after_help(help::LOOK)
+    Command::new(alloc, name).about(about).after_help(help)
+}
+
+fn look_command<'a>(alloc: Global) -> Result<Command<'a>, AllocError>
+    ensures { IfOk result (Is look_app) }
+{
+    let about = "Show a position, its legal moves and its value within N plies";
+    command_of(alloc, "look", about, help::LOOK)
         .arg(required_arg(alloc, "BOARD", BOARD_HELP))?
         .arg(required_arg(alloc, "TEXT", POSITION_HELP))?
         .arg(depth_arg(alloc))
 }
 
 fn stats_command<'a>(alloc: Global) -> Result<Command<'a>, AllocError>
-    ensures app { IfOk result (λ c. app_of c ≡ stats_app) }
-    ensures local { IfOk result (λ c. has_globals c ≡ false) }
+    ensures { IfOk result (Is stats_app) }
 {
-    Command::new(alloc, "stats")
-        .about("Count the values of all positions with a pair's numbers of stones")
-        .after_help(help::STATS)
+    let about = "Count the values of all positions with a pair's numbers of stones";
+    command_of(alloc, "stats", about, help::STATS)
         .arg(required_arg(alloc, "BOARD", BOARD_HELP))?
         .arg(required_arg(alloc, "PAIR", PAIR_HELP))?
-        .arg(progress_arg(alloc))
+        .arg(flag_arg(alloc, "progress", PROGRESS_HELP))
 }
 
 fn build_command<'a>(alloc: Global) -> Result<Command<'a>, AllocError>
-    ensures app { IfOk result (λ c. app_of c ≡ build_app) }
-    ensures local { IfOk result (λ c. has_globals c ≡ false) }
+    ensures { IfOk result (Is build_app) }
 {
-    Command::new(alloc, "build")
-        .about("Build the table of a pair, and write its file to standard output")
-        .after_help(help::BUILD)
+    let about = "Build the table of a pair, and write its file to standard output or a folder";
+    command_of(alloc, "build", about, help::BUILD)
         .arg(required_arg(alloc, "BOARD", BOARD_HELP))?
         .arg(required_arg(alloc, "PAIR", PAIR_HELP))?
         .arg(workers_arg(alloc))?
         .arg(blocks_arg(alloc))?
-        .arg(all_arg(alloc))?
-        .arg(classes_arg(alloc))?
-        .arg(progress_arg(alloc))
+        .arg(flag_arg(alloc, "all", ALL_HELP))?
+        .arg(option_arg(alloc, "into", "FOLDER", INTO_HELP))?
+        .arg(flag_arg(alloc, "classes", CLASSES_HELP))?
+        .arg(flag_arg(alloc, "progress", PROGRESS_HELP))
 }
 
 fn verify_command<'a>(alloc: Global) -> Result<Command<'a>, AllocError>
-    ensures app { IfOk result (λ c. app_of c ≡ verify_app) }
-    ensures local { IfOk result (λ c. has_globals c ≡ false) }
+    ensures { IfOk result (Is verify_app) }
 {
-    Command::new(alloc, "verify")
-        .about("Check each entry of a table file, which is read from standard input")
-        .after_help(help::VERIFY)
+    let about = "Check each entry of the table file on standard input, or of those in a folder";
+    command_of(alloc, "verify", about, help::VERIFY)
         .arg(required_arg(alloc, "BOARD", BOARD_HELP))?
-        .arg(progress_arg(alloc))
+        .arg(option_arg(alloc, "from", "FOLDER", FROM_HELP))?
+        .arg(flag_arg(alloc, "progress", PROGRESS_HELP))
 }
 
 fn probe_command<'a>(alloc: Global) -> Result<Command<'a>, AllocError>
-    ensures app { IfOk result (λ c. app_of c ≡ probe_app) }
-    ensures local { IfOk result (λ c. has_globals c ≡ false) }
+    ensures { IfOk result (Is probe_app) }
 {
-    Command::new(alloc, "probe")
-        .about(
-            "Report the value and the best moves of a position, by table files on standard input",
-        )
-        .after_help(help::PROBE)
+    let about =
+        "Report the value and the best moves of a position, by table files on standard input";
+    command_of(alloc, "probe", about, help::PROBE)
         .arg(required_arg(alloc, "BOARD", BOARD_HELP))?
         .arg(required_arg(alloc, "TEXT", POSITION_HELP))?
-        .arg(progress_arg(alloc))
+        .arg(flag_arg(alloc, "progress", PROGRESS_HELP))
 }
 
 fn required_arg<'a>(alloc: Global, name: &'a str, help: &'a str) -> Arg<'a>
-    ensures rule { rule_of result ≡ required_rule name.entry.now }
-    ensures local { result.global ≡ false }
+    ensures { IsArg (required_rule name.entry.now) result }
 {
     Arg::new(alloc, name).required(true).help(help)
 }
 
 fn depth_arg<'a>(alloc: Global) -> Arg<'a>
-    ensures rule { rule_of result ≡ depth_rule }
-    ensures local { result.global ≡ false }
+    ensures { IsArg depth_rule result }
 {
     Arg::new(alloc, "depth")
         .long("depth")
         .value_name("N")
-        .value_parser(value_parser!(u8).range(0..=6))
+        .value_parser(value_parser!(u16).range(0..=6))
         .default_value("2")
         .help("How many plies to look ahead, 0 to 6")
 }
 
 fn workers_arg<'a>(alloc: Global) -> Arg<'a>
-    ensures rule { rule_of result ≡ workers_rule }
-    ensures local { result.global ≡ false }
+    ensures { IsArg workers_rule result }
 {
     Arg::new(alloc, "workers")
         .long("workers")
         .value_name("W")
-        .value_parser(value_parser!(u8).range(1..=64))
+        .value_parser(value_parser!(u16).range(1..=64))
         .default_value(DEFAULT_WORKERS)
         .help("How many threads work, 1 to 64")
 }
 
 fn blocks_arg<'a>(alloc: Global) -> Arg<'a>
-    ensures rule { rule_of result ≡ blocks_rule }
-    ensures local { result.global ≡ false }
+    ensures { IsArg blocks_rule result }
 {
     Arg::new(alloc, "blocks")
         .long("blocks")
@@ -235,47 +251,37 @@ fn blocks_arg<'a>(alloc: Global) -> Arg<'a>
         .help("Into how many blocks the positions are cut, 1 to 1024")
 }
 
-fn all_arg<'a>(alloc: Global) -> Arg<'a>
-    ensures rule { rule_of result ≡ all_rule }
-    ensures local { result.global ≡ false }
+fn flag_arg<'a>(alloc: Global, name: &'a str, help: &'a str) -> Arg<'a>
+    ensures { IsArg (flag_rule name.entry.now) result }
 {
-    Arg::new(alloc, "all")
-        .long("all")
+    Arg::new(alloc, name)
+        .long(name)
         .action(ArgAction::SetTrue)
-        .help("Write the files of the pairs below it too, one after the other")
+        .help(help)
 }
 
-fn classes_arg<'a>(alloc: Global) -> Arg<'a>
-    ensures rule { rule_of result ≡ classes_rule }
-    ensures local { result.global ≡ false }
+fn option_arg<'a>(alloc: Global, name: &'a str, value: &'a str, help: &'a str) -> Arg<'a>
+    ensures { IsArg (option_rule name.entry.now) result }
 {
-    Arg::new(alloc, "classes")
-        .long("classes")
-        .action(ArgAction::SetTrue)
-        .help("Have one entry for each class of positions: files of version 2")
+    Arg::new(alloc, name)
+        .long(name)
+        .value_name(value)
+        .help(help)
 }
 
-fn progress_arg<'a>(alloc: Global) -> Arg<'a>
-    ensures rule { rule_of result ≡ progress_rule }
-    ensures local { result.global ≡ false }
-{
-    Arg::new(alloc, "progress")
-        .long("progress")
-        .action(ArgAction::SetTrue)
-        .help("Tell on standard error how far it is")
-}
-
-fn request_of<'a>(matches: &ArgMatches<'a>) -> Request<'a>
+fn request_of<'a>(alloc: Global, matches: &ArgMatches<'a>) -> Result<Request<'a>, Refusal>
     requires { NamesRequest (subcommand_rows_of matches.now) }
-    ensures request { AsksFor (subcommand_rows_of matches.now) result }
-    ensures depth { IsInRange result }
+    ensures taken { OnOk result (clashes (subcommand_rows_of matches.now) ≡ []) }
+    ensures request { IfOk result (AsksFor (subcommand_rows_of matches.now)) }
+    ensures range { IfOk result (λ request. IsInRange request.task) }
+    ensures refused { IfErr result (IsAnswerToOneOf (clashes (subcommand_rows_of matches.now))) }
 {
     match matches.subcommand() {
-        Some(("look", found)) => look_request(found),
-        Some(("stats", found)) => stats_request(found),
-        Some(("build", found)) => build_request(found),
-        Some(("verify", found)) => verify_request(found),
-        Some(("probe", found)) => probe_request(found),
+        Some(("look", found)) => Ok(look_request(found)),
+        Some(("stats", found)) => Ok(stats_request(found)),
+        Some(("build", found)) => build_request(alloc, found),
+        Some(("verify", found)) => Ok(verify_request(found)),
+        Some(("probe", found)) => Ok(probe_request(found)),
         _ => unreachable!(),
     }
 }
@@ -283,85 +289,133 @@ fn request_of<'a>(matches: &ArgMatches<'a>) -> Request<'a>
 fn look_request<'a>(found: &ArgMatches<'a>) -> Request<'a>
     requires { HasLookValues (rows_of (found_of found.now)) }
     ensures request { AsksFor (Some (codes "look", rows_of (found_of found.now))) result }
-    ensures depth { IsInRange result }
+    ensures range { IsInRange result.task }
 {
-    let (Some(board), Some(text), Some(depth)) = (
-        found.get_str("BOARD"),
-        found.get_str("TEXT"),
-        found.get_one::<u8>("depth"),
-    ) else {
-        unreachable!()
-    };
-    Request::Look { board, text, depth }
+    Request {
+        task: Task::Look {
+            board: given(found, "BOARD"),
+            text: given(found, "TEXT"),
+            depth: number(found, "depth") as u8,
+        },
+        progress: false,
+    }
 }
 
 fn stats_request<'a>(found: &ArgMatches<'a>) -> Request<'a>
     requires { HasStatsValues (rows_of (found_of found.now)) }
     ensures request { AsksFor (Some (codes "stats", rows_of (found_of found.now))) result }
-    ensures depth { IsInRange result }
+    ensures range { IsInRange result.task }
 {
-    let (Some(board), Some(pair)) = (found.get_str("BOARD"), found.get_str("PAIR")) else {
-        unreachable!()
-    };
-    let progress = found.get_flag("progress");
-    Request::Stats {
-        board,
-        pair,
-        progress,
+    Request {
+        task: Task::Stats {
+            board: given(found, "BOARD"),
+            pair: given(found, "PAIR"),
+        },
+        progress: flag(found, "progress"),
     }
 }
 
-fn build_request<'a>(found: &ArgMatches<'a>) -> Request<'a>
+fn build_request<'a>(alloc: Global, found: &ArgMatches<'a>) -> Result<Request<'a>, Refusal>
     requires { HasBuildValues (rows_of (found_of found.now)) }
-    ensures request { AsksFor (Some (codes "build", rows_of (found_of found.now))) result }
-    ensures range { IsInRange result }
+    ensures taken { OnOk result (clashes (Some (codes "build", rows_of (found_of found.now))) ≡ []) }
+    ensures request { IfOk result (AsksFor (Some (codes "build", rows_of (found_of found.now)))) }
+    ensures range { IfOk result (λ request. IsInRange request.task) }
+    ensures refused { IfErr result (IsAnswerToOneOf (clashes (Some (codes "build", rows_of (found_of found.now))))) }
 {
-    let (Some(board), Some(pair), Some(workers), Some(blocks)) = (
-        found.get_str("BOARD"),
-        found.get_str("PAIR"),
-        found.get_one::<u8>("workers"),
-        found.get_one::<u16>("blocks"),
-    ) else {
-        unreachable!()
-    };
-    let (all, classes) = (found.get_flag("all"), found.get_flag("classes"));
-    let progress = found.get_flag("progress");
-    Request::Build {
-        board,
-        pair,
-        workers,
-        blocks,
-        all,
-        classes,
-        progress,
+    let (all, into) = (flag(found, "all"), optional(found, "into"));
+    if all && into.is_some() {
+        return Err(clash(alloc, "--all", "--into <FOLDER>"));
     }
+    Ok(Request {
+        task: Task::Build {
+            board: given(found, "BOARD"),
+            pair: given(found, "PAIR"),
+            workers: number(found, "workers") as u8,
+            blocks: number(found, "blocks"),
+            all,
+            into,
+            classes: flag(found, "classes"),
+        },
+        progress: flag(found, "progress"),
+    })
 }
 
 fn verify_request<'a>(found: &ArgMatches<'a>) -> Request<'a>
     requires { HasVerifyValues (rows_of (found_of found.now)) }
     ensures request { AsksFor (Some (codes "verify", rows_of (found_of found.now))) result }
-    ensures depth { IsInRange result }
+    ensures range { IsInRange result.task }
 {
-    let Some(board) = found.get_str("BOARD") else {
-        unreachable!()
-    };
-    let progress = found.get_flag("progress");
-    Request::Verify { board, progress }
+    Request {
+        task: Task::Verify {
+            board: given(found, "BOARD"),
+            from: optional(found, "from"),
+        },
+        progress: flag(found, "progress"),
+    }
 }
 
 fn probe_request<'a>(found: &ArgMatches<'a>) -> Request<'a>
     requires { HasProbeValues (rows_of (found_of found.now)) }
     ensures request { AsksFor (Some (codes "probe", rows_of (found_of found.now))) result }
-    ensures depth { IsInRange result }
+    ensures range { IsInRange result.task }
 {
-    let (Some(board), Some(text)) = (found.get_str("BOARD"), found.get_str("TEXT")) else {
+    Request {
+        task: Task::Probe {
+            board: given(found, "BOARD"),
+            text: given(found, "TEXT"),
+        },
+        progress: flag(found, "progress"),
+    }
+}
+
+/// The text of an argument that has to be given.
+fn given<'a>(found: &ArgMatches<'a>, name: &str) -> &'a str
+    requires { is_some (first_of name.now (rows_of (found_of found.now))) ≡ true }
+    ensures { first_of name.now (rows_of (found_of found.now)) ≡ Some result.now }
+{
+    let Some(text) = found.get_str(name) else {
         unreachable!()
     };
-    let progress = found.get_flag("progress");
-    Request::Probe {
-        board,
-        text,
-        progress,
+    text
+}
+
+/// The text of an option, where it was given.
+fn optional<'a>(found: &ArgMatches<'a>, name: &str) -> Option<&'a str>
+    requires { HasOption name.now (rows_of (found_of found.now)) }
+    ensures { IsOption name.now (rows_of (found_of found.now)) result }
+{
+    found.get_str(name)
+}
+
+/// The number of an argument that stands for one where it is left out.
+fn number(found: &ArgMatches<'_>, name: &str) -> u16
+    requires { (low : ℕ) × (high : ℕ) × (high < 2 ^ 16) × HasNumber name.now low high (rows_of (found_of found.now)) }
+    ensures value { option_map number_of (one_of name.now (rows_of (found_of found.now))) ≡ Some result }
+    ensures range { (low high : ℕ) → high < 2 ^ 16 → HasNumber name.now low high (rows_of (found_of found.now)) → (low ≤ result) × (result ≤ high) }
+{
+    let Some(number) = found.get_one::<u16>(name) else {
+        unreachable!()
+    };
+    number
+}
+
+/// Whether a flag was given.
+fn flag(found: &ArgMatches<'_>, name: &str) -> bool
+    requires { HasFlag name.now (rows_of (found_of found.now)) }
+    ensures { one_of name.now (rows_of (found_of found.now)) ≡ Some (bool_text result) }
+{
+    found.get_flag(name)
+}
+
+/// Why two arguments that exclude each other are refused.
+fn clash(alloc: Global, one: &str, other: &str) -> Refusal
+    ensures { IsAnswerTo ArgumentConflict result }
+{
+    match format!(in alloc;
+        "error: the argument '{one}' cannot be used with '{other}'{MORE_HELP}"
+    ) {
+        Ok(text) => Refusal::Wrong(text),
+        Err(AllocError) => Refusal::Memory,
     }
 }
 

@@ -1,6 +1,6 @@
 -- Want of memory is answered, with nothing printed.
 use Rattle.std.proofs.Common.{◌≡◌, Bool, false, refl, inl, inr, map, subst, true, Err}
-use Rattle.morris.specs.Command.{AsksToRead, TellsProgress, asks_progress, takes_input}
+use Rattle.morris.specs.Command.{AsksToRead, TellsProgress, takes_input}
 use Rattle.morris_words.specs.Words.{IsAnswerToOneOf, faults_of, named_by}
 use Rattle.std.proofs.KnownBytes.{Keeps-refl}
 use Rattle.morris_commands.specs.declared.fault.Fault.TheVariants as fault
@@ -43,10 +43,10 @@ returns-in-Err-Version-clause-answer g c = λ other.
 
 -- A request for a command that reads its input was asked for by the words.
 pub returns-in-Ok-clause-unread : goal.returns-in-Ok-clause-unread
-returns-in-Ok-clause-unread g c = λ unasked. c.run-done.ensures.unread (reads_nothing unasked (takes_input c.in-Ok.request) refl)
+returns-in-Ok-clause-unread g c = λ unasked. c.run-done.ensures.unread (reads_nothing unasked (takes_input c.in-Ok.request.task) refl)
   where
-    reads_nothing : Prim.¬◌ (AsksToRead (named_by (map g.W.AsStr.text c.args.words.now))) → (b : Bool) → takes_input c.in-Ok.request ≡ b
-        → takes_input c.in-Ok.request ≡ false
+    reads_nothing : Prim.¬◌ (AsksToRead (named_by (map g.W.AsStr.text c.args.words.now))) → (b : Bool) → takes_input c.in-Ok.request.task ≡ b
+        → takes_input c.in-Ok.request.task ≡ false
     reads_nothing unasked true is = absurd (unasked (c.in-Ok.request, c.in-Ok.ensures.request, is))
     reads_nothing unasked false is = is
 
@@ -56,12 +56,12 @@ returns-in-Ok-clause-answer g c = λ other. (
   c.run-done.result,
   c.run-done.new.errors,
   inl (c.in-Ok.request, c.in-Ok.ensures.request, c.in-Ok.ensures.taken, c.run-done.ensures.answer),
-  told (asks_progress c.in-Ok.request) refl,
+  told (c.in-Ok.request.progress) refl,
   c.finish.ensures.status,
   c.finish.ensures.reported,
 )
   where
-    told : (b : Bool) → asks_progress c.in-Ok.request ≡ b
+    told : (b : Bool) → c.in-Ok.request.progress ≡ b
         → TellsProgress g.E.Sink.contents g.E.Sink.failures (map g.W.AsStr.text c.args.words.now) c.args.errors.now c.run-done.new.errors
     told true is = inr (c.in-Ok.request, c.in-Ok.ensures.request, is, c.run-done.ensures.told)
     told false is = inl (c.run-done.ensures.silent is)

@@ -3,8 +3,8 @@ use Rattle.std.specs.Prelude.{Some, pos}
 use Rattle.clap.specs.declared.builder.value_parser.ValueParser.TheVariants as parser
 use Rattle.morris_words.proofs.words.depth_arg.Goals as goal
 
-pub returns-clause-rule : goal.returns-clause-rule
-returns-clause-rule c =
+pub returns : goal.returns
+returns c =
     let given = c.value_parser-2.ensures.given in
     let narrowed : c.range.result ≡ parser.Signed (pos 0) (pos 6) = rw (c.value_parser.ensures, c.new-2.ensures.start, c.new-2.ensures.end) at c.range.ensures in
     let kept : c.value_parser-2.result.value_parser ≡ Some (parser.Signed (pos 0) (pos 6)) = given.1 ∙ ap (λ q. Some q) (given.2 ∙ narrowed) in

@@ -17,13 +17,13 @@ returns c =
     let after : app_of c.after_help.result ≡ with_version (new_app (codes "morris")) = ap app_of_fields c.after_help.ensures ∙ version in
     let wants : app_of c.subcommand_required.result ≡ program =
     ap app_of_fields c.subcommand_required.ensures ∙ ap (λ (a : App). record a { top = record a.top { subcommand_required = true } }) after in
-    let look = ap (λ (a : App). a.top) c.in_ok-look_command.ensures.app in
-    let one = c.in_ok-subcommand.ensures.shape c.in_ok-look_command.ensures.local ∙ ap₂ with_subcommand wants look in
-    let stats = ap (λ (a : App). a.top) c.in_ok-stats_command.ensures.app in
-    let two = c.in_ok-subcommand-2.ensures.shape c.in_ok-stats_command.ensures.local ∙ ap₂ with_subcommand one stats in
-    let build = ap (λ (a : App). a.top) c.in_ok-build_command.ensures.app in
-    let three = c.in_ok-subcommand-3.ensures.shape c.in_ok-build_command.ensures.local ∙ ap₂ with_subcommand two build in
-    let verify = ap (λ (a : App). a.top) c.in_ok-verify_command.ensures.app in
-    let four = c.in_ok-subcommand-4.ensures.shape c.in_ok-verify_command.ensures.local ∙ ap₂ with_subcommand three verify in
-    let probe = ap (λ (a : App). a.top) c.in_ok-probe_command.ensures.app in
-    IfOk-weaker c.subcommand-5.result _ _ (λ r h. h.shape c.in_ok-probe_command.ensures.local ∙ ap₂ with_subcommand four probe) c.subcommand-5.ensures
+    let look = ap (λ (a : App). a.top) c.in_ok-look_command.ensures.0 in
+    let one = c.in_ok-subcommand.ensures.shape c.in_ok-look_command.ensures.1 ∙ ap₂ with_subcommand wants look in
+    let stats = ap (λ (a : App). a.top) c.in_ok-stats_command.ensures.0 in
+    let two = c.in_ok-subcommand-2.ensures.shape c.in_ok-stats_command.ensures.1 ∙ ap₂ with_subcommand one stats in
+    let build = ap (λ (a : App). a.top) c.in_ok-build_command.ensures.0 in
+    let three = c.in_ok-subcommand-3.ensures.shape c.in_ok-build_command.ensures.1 ∙ ap₂ with_subcommand two build in
+    let verify = ap (λ (a : App). a.top) c.in_ok-verify_command.ensures.0 in
+    let four = c.in_ok-subcommand-4.ensures.shape c.in_ok-verify_command.ensures.1 ∙ ap₂ with_subcommand three verify in
+    let probe = ap (λ (a : App). a.top) c.in_ok-probe_command.ensures.0 in
+    IfOk-weaker c.subcommand-5.result _ _ (λ r h. h.shape c.in_ok-probe_command.ensures.1 ∙ ap₂ with_subcommand four probe) c.subcommand-5.ensures

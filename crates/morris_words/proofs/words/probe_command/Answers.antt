@@ -1,25 +1,11 @@
-use Rattle.std.proofs.Common.{◌≡◌, ◌∙◌, ◌||◌, ap, ap₂, codes, false}
 use Rattle.std.proofs.lemmas.Result.{IfOk-weaker}
-use Rattle.clap.specs.Simple.{app_of_fields}
-use Rattle.clap.specs.Words.{app_of, new_app, with_rule}
-use Rattle.morris_words.specs.Words.{has_globals, probe_app}
+use Rattle.morris_words.specs.Words.{probe_app}
+use Rattle.morris_words.proofs.ReadLaws.{with_arg}
 use Rattle.morris_words.proofs.words.probe_command.Goals as goal
 
-pub returns-clause-app : goal.returns-clause-app
+pub returns : goal.returns
 unfolding probe_app
-returns-clause-app c =
-    let board = c.required_arg.ensures in
-    let text = c.required_arg-2.ensures in
-    let about : app_of c.about.result ≡ new_app (codes "probe") = ap app_of_fields c.about.ensures ∙ c.new.ensures.app in
-    let start : app_of c.after_help.result ≡ new_app (codes "probe") = ap app_of_fields c.after_help.ensures ∙ about in
-    let one = c.in_ok-arg.ensures.shape board.local ∙ ap₂ with_rule start board.rule in
-    let two = c.in_ok-arg-2.ensures.shape text.local ∙ ap₂ with_rule one text.rule in
-    IfOk-weaker c.arg-3.result _ _ (λ r h. h.shape c.progress_arg.ensures.local ∙ ap₂ with_rule two c.progress_arg.ensures.rule) c.arg-3.ensures
-
-pub returns-clause-local : goal.returns-clause-local
-returns-clause-local c =
-    let about : has_globals c.about.result ≡ false = ap (λ f. f.has_globals) c.about.ensures ∙ c.new.ensures.local in
-    let start : has_globals c.after_help.result ≡ false = ap (λ f. f.has_globals) c.after_help.ensures ∙ about in
-    let one = c.in_ok-arg.ensures.globals ∙ ap₂ (λ a b. a || b) start c.required_arg.ensures.local in
-    let two = c.in_ok-arg-2.ensures.globals ∙ ap₂ (λ a b. a || b) one c.required_arg-2.ensures.local in
-    IfOk-weaker c.arg-3.result _ _ (λ r h. h.globals ∙ ap₂ (λ a b. a || b) two c.progress_arg.ensures.local) c.arg-3.ensures
+returns c =
+    let one = with_arg _ _ _ _ _ c.command_of.ensures c.required_arg.ensures c.in_ok-arg.ensures in
+    let two = with_arg _ _ _ _ _ one c.required_arg-2.ensures c.in_ok-arg-2.ensures in
+    IfOk-weaker c.arg-3.result _ _ (λ r h. with_arg _ _ _ _ _ two c.flag_arg.ensures h) c.arg-3.ensures

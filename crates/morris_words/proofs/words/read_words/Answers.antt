@@ -1,9 +1,10 @@
-use Rattle.std.proofs.Common.{◌≡◌, ◌∙◌, inl, inr, map, subst, sym}
-use Rattle.clap.specs.Words.{HasKind, IsAmong, Kinds, kind_of}
+use Rattle.std.proofs.Common.{◌≡◌, ◌∙◌, [], ◌∷◌, inl, inr, map, subst, sym}
+use Rattle.clap.specs.Kinds.{or_else}
+use Rattle.clap.specs.Words.{HasKind, IsAmong, Kinds, fault_of, kind_of}
 use Rattle.clap.specs.declared.error.Error.{Error}
 use Rattle.clap.specs.declared.error.kind.ErrorKind.{ErrorKind}
 use Rattle.clap.specs.declared.error.kind.ErrorKind.TheVariants.{DisplayHelp, DisplayVersion, OutOfMemory}
-use Rattle.morris_words.specs.Words.{AsksFor, IsAnswerTo, IsAnswerToOneOf, NamesRequest, faults_of}
+use Rattle.morris_words.specs.Words.{IsAnswerTo, IsAnswerToOneOf, NamesRequest, clashes, faults_of, morris_app, named_by}
 use Rattle.morris_words.specs.declared.words.Refusal.{Refusal}
 use Rattle.morris_words.specs.declared.words.Refusal.TheVariants.{Memory, Help, Version, Wrong}
 use Rattle.morris_words.proofs.Requests.{named}
@@ -33,14 +34,16 @@ request_of-requires g c =
     let words = map g.S.AsStr.text c.args.words.now in
     subst NamesRequest (sym c.in-Ok.ensures.matches) (named words c.in-Ok.ensures.kinds)
 
-pub returns-in-Ok : goal.returns-in-Ok
-returns-in-Ok g c = record {
-  taken = c.in-Ok.ensures.kinds;
-  request = subst (λ m. AsksFor m c.request_of.result) c.in-Ok.ensures.matches c.request_of.ensures.request;
-  depth = c.request_of.ensures.depth;
-  refused = tt;
-}
+-- a kind that comes first
+first_kind : (kinds more : Kinds) (e : Error) → HasKind kinds e → HasKind (or_else kinds more) e
+first_kind [] more e has = elim has [
+  | inl memory ↦ inl memory
+  | inr among ↦ absurd among
+]
+first_kind (k ∷ ks) more e has = has
 
 pub returns-in-Err-clause-refused : goal.returns-in-Err-clause-refused
 returns-in-Err-clause-refused g c =
-    answered (faults_of (map g.S.AsStr.text c.args.words.now)) c.in-Err.error c.refusal_of.result c.in-Err.ensures.kinds c.refusal_of.ensures
+    let words = map g.S.AsStr.text c.args.words.now in
+    let kind = first_kind (fault_of morris_app words) (clashes (named_by words)) c.in-Err.error c.in-Err.ensures.kinds in
+    answered (faults_of words) c.in-Err.error c.refusal_of.result kind c.refusal_of.ensures
