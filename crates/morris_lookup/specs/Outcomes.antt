@@ -1,5 +1,5 @@
 -- What each legal move leads to, for the player who makes it.
-use Rattle.std.specs.Prelude.{◌≡◌, suc, Some}
+use Rattle.std.specs.Prelude.{◌≡◌, ◌⊎◌, suc, Some}
 use Rattle.std.specs.List.{Contains}
 use Rattle.morris_board.specs.Boards.{Shape}
 use Rattle.morris_board.specs.Positions.{Sides}
@@ -11,7 +11,7 @@ use Rattle.morris_table.specs.Codes.{IsValue}
 use Rattle.morris_lookup.specs.declared.fault.LookFault.{LookFault}
 use Rattle.morris_lookup.specs.declared.fault.LookFault.TheVariants as fault
 use Rattle.morris_lookup.specs.declared.outcomes.Outcome.{Outcome}
-use Rattle.morris_lookup.specs.FileSets.{Files, said_of, AreExactFiles, missing_file}
+use Rattle.morris_lookup.specs.FileSets.{Files, said_of, AreExactFiles, missing_file, IsValueRefusal}
 
 -- What a position's value is for the player who has just moved to it: where the player to move has
 -- lost in d plies, a win in d + 1, and so on.
@@ -34,3 +34,7 @@ abbrev pub IsOutcomeRefusal : {B : Type 0} → Shape → Files → Sides → Loo
 IsOutcomeRefusal board files s (fault.Needs needs) = (m : Move) × Contains (moves_of board s) m × (missing_file files (result_of s m) ≡ Some needs.0)
 IsOutcomeRefusal board files s fault.Read = Unit {0}
 IsOutcomeRefusal board files s fault.Memory = Unit {0}
+
+-- why no best moves are found: no value of the position, or no outcome of a legal move
+abbrev pub IsBestRefusal : {B : Type 0} → Shape → Files → Sides → LookFault B → Type 0
+IsBestRefusal board files s refusal = IsValueRefusal files s refusal ⊎ IsOutcomeRefusal board files s refusal

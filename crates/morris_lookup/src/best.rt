@@ -6,6 +6,7 @@ ghost use Rattle.morris_moves.specs.Rules.{moves_of};
 ghost use Rattle.morris_probe.specs.Best.{AreBest};
 ghost use Rattle.morris_lookup.specs.FileSets.{AreExactFiles};
 ghost use Rattle.morris_lookup.specs.Lines.{IsBestStep, Falls};
+ghost use Rattle.morris_lookup.specs.Outcomes.{IsBestRefusal};
 
 use crate::fault::LookFault;
 use crate::outcomes::outcome_of;
@@ -35,6 +36,7 @@ pub fn best<B: Geometry, S: Storage>(
     ensures legal { IfOk result (λ best. (m : Move) → Contains best.items m → Contains (moves_of B.shape position.now) m) }
     ensures best { AreExactFiles B.shape tables.now → IfOk result (λ best. AreBest B.shape position.now best.items) }
     ensures some { AreExactFiles B.shape tables.now → IfOk result (λ best. (m : Move) → Contains (moves_of B.shape position.now) m → 0 < length best.items) }
+    ensures refused { IfErr result (IsBestRefusal B.shape tables.now position.now) }
 {
     let found = tables.value(position)?;
     let mut best = Vec::with_capacity(alloc, moves(position).count())?;
@@ -69,6 +71,7 @@ pub fn next<B: Geometry, S: Storage>(
     ensures best { AreExactFiles B.shape tables.now → IfOk result (λ next. IfSome next (IsBestStep B.shape position.now)) }
     ensures falls { AreExactFiles B.shape tables.now → IfOk result (λ next. IfSome next (λ step. Falls B.shape position.now step.1)) }
     ensures end { AreExactFiles B.shape tables.now → IfOk result (λ next. IfNone next ((m : Move) → Contains (moves_of B.shape position.now) m → ⊥)) }
+    ensures refused { IfErr result (IsBestRefusal B.shape tables.now position.now) }
 {
     let best = best(alloc, tables, position)?;
     match best.first() {

@@ -1,0 +1,211 @@
+-- What an answer is, and how what went out of one text, and then of the next, makes up what went out
+-- of both.
+use Rattle.std.proofs.Common.{◌≡◌, ℕ, ◌+◌, ◌-◌, ◌^◌, ◌<◌, ◌≤◌, min, List, [], ◌∷◌, ◌++◌, Bor, get_or, take, map, length, Option, Some, Result, Ok, Err, refl, sym, ap, subst, ◌∙◌, inl, inr, arith, length-append, append-nil}
+use Rattle.std.specs.Prelude.{IfOk, is_err, if◌then◌else◌}
+use Rattle.std.specs.Io.KnownBytes.{Appends}
+use Rattle.std.proofs.KnownBytes.{Appends-nil, Appends-trans}
+use Rattle.std.proofs.Math.Seq.{take-append-add}
+use Rattle.std.proofs.lemmas.List.{take-append-le, take_more, get_or-map, length-map}
+use Rattle.std.proofs.lemmas.Grind.{flat_map-append}
+use Rattle.std.proofs.lemmas.List.Elements.{Contains-push_cases}
+use Rattle.morris_board.specs.Boards.{Shape}
+use Rattle.morris_board.specs.Positions.{Sides, read_of}
+use Rattle.morris_board.specs.Streams.{AllSent, PartSent, CountsFailure}
+use Rattle.morris_board.specs.declared.faults.TextFault.{TextFault}
+use Rattle.morris_folders.specs.Files.{Files}
+use Rattle.morris_commands.specs.Faults.{text_fault}
+use Rattle.morris_queries.specs.declared.answer.Answered.{Answered}
+use Rattle.morris_queries.specs.declared.show.Show.{Show}
+use Rattle.morris_queries.specs.declared.fault.QueryFault.{QueryFault}
+use Rattle.morris_queries.specs.declared.fault.QueryFault.TheVariants as query
+use Rattle.morris_queries.specs.declared.texts.Tally.{Tally}
+use Rattle.morris_queries.specs.Answers.{Answer, IsAnswer, Given, AreGiven, AnswersText, AnswersTexts, CountsWrites, WentIn, IsTallied, counted_to, printed_of, refused_in}
+use Rattle.morris_queries.specs.Printing.{answer_text}
+use Rattle.morris_queries.specs.Exactness.{AreExactIn, IsGame}
+use Rattle.morris_queries.specs.Telling.{Agrees, IsListed, told_to, told_text, told_shown}
+
+-- ---- one answer
+
+-- a text that is no position's
+pub answer_refused : (board : Shape) (name : List ℕ) (known : Option Files) (show : Show) (text : List ℕ) (fault : TextFault)
+    → read_of board text ≡ Err fault → IsAnswer board name known show text (Err (text_fault fault))
+unfolding told_text
+answer_refused board name known show text fault e = record {
+  refused = λ other is. let same : fault ≡ other = cc in ap (λ f. Err (text_fault f)) same;
+  listed = λ s is. cc;
+  told = λ files there. inl (ap (told_to board name files show) e);
+  exact = λ files there right s is. cc;
+}
+
+-- a position's
+pub answer_told : (board : Shape) (name : List ℕ) (known : Option Files) (show : Show) (text : List ℕ) (s : Sides) (answer : Answer)
+    → read_of board text ≡ Ok s → IfOk answer (IsListed board s)
+    → ((files : Files) → known ≡ Some files → Agrees answer (told_shown board name files show s))
+    → ((files : Files) → known ≡ Some files → AreExactIn board name files → IfOk answer (IsGame board show s))
+    → IsAnswer board name known show text answer
+unfolding told_text
+answer_told board name known show text s answer e legal told exact = record {
+  refused = λ other is. cc;
+  listed = λ u is. let same : s ≡ u = cc in subst (λ v. IfOk answer (IsListed board v)) same legal;
+  told = λ files there. subst (Agrees answer) (sym (ap (told_to board name files show) e)) (told files there);
+  exact = λ files there right u is. let same : s ≡ u = cc in subst (λ v. IfOk answer (IsGame board show v)) same (exact files there right);
+}
+
+-- ---- what went out
+
+none_before : (n : ℕ) → n - 0 ≡ n
+none_before n = omega arith
+
+-- one whole text, and then a part of the next
+pub part_more : (old mid new : Option (List ℕ)) (t u : List ℕ) (a b total : ℕ) → AllSent old mid 0 a t → PartSent mid new 0 b u
+    → total ≡ min (a + b) (2 ^ 64 - 1) → WentIn old new (t ++ u) total
+part_more old mid new t u a b total first second is =
+    let part : Appends mid new (take b u) = subst (λ n. Appends mid new (take n u)) (none_before b) second.appended in
+    let count : a ≡ length t = omega (arith, first.count) in (
+      length t + b,
+      omega (arith, length-append t u, second.short),
+      subst (Appends old new) (sym (take-append-add t u b)) (Appends-trans old mid new t (take b u) first.appended part),
+      is ∙ ap (λ n. min (n + b) (2 ^ 64 - 1)) count,
+    )
+
+-- a part of the first alone
+pub part_first : (old new : Option (List ℕ)) (t u : List ℕ) (a : ℕ) → PartSent old new 0 a t → a < 2 ^ 64 → WentIn old new (t ++ u) a
+part_first old new t u a part low =
+    let within : a ≤ length t = omega (arith, part.short) in
+    let front : Appends old new (take a t) = subst (λ n. Appends old new (take n t)) (none_before a) part.appended in (
+      a,
+      omega (arith, length-append t u, part.short),
+      subst (Appends old new) (sym (take-append-le a t u within)) front,
+      omega (arith, low),
+    )
+
+-- ---- texts that were answered
+
+-- all answers to these texts went out, and were counted
+pub record AreOut (board : Shape) (name : List ℕ) (known : Option Files) (show : Show) (texts : List (List ℕ)) (old new : Option (List ℕ)) (tally : Tally) : Type 0 where
+  pub given : Given
+  pub are : AreGiven board name known show texts given
+  pub out : Appends old new (printed_of board show given)
+  pub sent : tally.sent ≡ counted_to (length (printed_of board show given))
+  pub refused : tally.refused ≡ counted_to (refused_in given)
+
+-- the answers to these texts are those that a part went out of
+abbrev pub ArePartOut : Shape → List ℕ → Option Files → Show → List (List ℕ) → Option (List ℕ) → Option (List ℕ) → ℕ → Type 0
+ArePartOut board name known show texts old new sent = (given : Given) × AreGiven board name known show texts given × WentIn old new (printed_of board show given) sent
+
+module _ (board : Shape) (name : List ℕ) (known : Option Files) (show : Show) where
+  pub out_none : (old : Option (List ℕ)) (tally : Tally) → tally.sent ≡ 0 → tally.refused ≡ 0 → AreOut board name known show [] old old tally
+  out_none old tally none nothing = record {
+    given = [];
+    are = record { listed = refl; each = λ g c. absurd (omega (arith, c.1)) };
+    out = Appends-nil old;
+    sent = none;
+    refused = nothing;
+  }
+
+  given_more : (texts : List (List ℕ)) (text : List ℕ) (given : Given) (answer : Answer) → AreGiven board name known show texts given
+      → IsAnswer board name known show text answer → AreGiven board name known show (texts ++ text ∷ []) (given ++ (text, answer) ∷ [])
+  given_more texts text given answer are is = record {
+    listed = texts_of given ∙ ap (λ ts. ts ++ text ∷ []) are.listed;
+    each = λ g c. elim (Contains-push_cases given (text, answer) g c) [
+      | inl earlier ↦ are.each g earlier
+      | inr same ↦ subst (λ (h : List ℕ × Answer). IsAnswer board name known show h.0 h.1) same is
+    ];
+  }
+    where
+      texts_of : (gs : Given) → map (λ (g : List ℕ × Answer). g.0) (gs ++ (text, answer) ∷ []) ≡ map (λ (g : List ℕ × Answer). g.0) gs ++ text ∷ []
+      texts_of [] = refl
+      texts_of (g ∷ gs) = ap (λ ts. g.0 ∷ ts) (texts_of gs)
+
+  printed_more : (given : Given) (text : List ℕ) (answer : Answer)
+      → printed_of board show (given ++ (text, answer) ∷ []) ≡ printed_of board show given ++ answer_text board show text answer
+  printed_more given text answer =
+      flat_map-append (λ (g : List ℕ × Answer). answer_text board show g.0 g.1) given ((text, answer) ∷ [])
+      ∙ ap (λ ys. printed_of board show given ++ ys) (append-nil (answer_text board show text answer))
+
+  refused_more : (given : Given) (text : List ℕ) (answer : Answer) → refused_in (given ++ (text, answer) ∷ []) ≡ refused_in given + (if is_err answer then 1 else 0)
+  refused_more [] text (Ok t) = refl
+  refused_more [] text (Err fault) = refl
+  refused_more (g ∷ given) text answer = omega (arith, refused_more given text answer)
+
+  counts : (was n one m now : ℕ) → was ≡ counted_to n → now ≡ counted_to (was + one) → m ≡ n + one → now ≡ counted_to m
+  counts was n one m now was_is now_is m_is = omega (arith, was_is, now_is, m_is)
+
+  pub out_more : (texts : List (List ℕ)) (text : List ℕ) (old mid new : Option (List ℕ)) (before after : Tally) (done : Answered) (result : Result (Unit {0}) QueryFault)
+      → AreOut board name known show texts old mid before → AnswersText board name known show text mid new (Ok done) → IsTallied before after (Ok done) result
+      → AreOut board name known show (texts ++ text ∷ []) old new after
+  out_more texts text old mid new before after done result all next tallied =
+      let answer : Answer = next.0 in
+      let whole : List ℕ = answer_text board show text answer in
+      record {
+        given = all.given ++ (text, answer) ∷ [];
+        are = given_more texts text all.given answer all.are next.1;
+        out = subst (Appends old new) (sym (printed_more all.given text answer)) (Appends-trans old mid new (printed_of board show all.given) whole all.out next.2.0);
+        sent = omega (arith, tallied.1, all.sent, next.2.1, ap length (printed_more all.given text answer), length-append (printed_of board show all.given) whole);
+        refused =
+            let now : after.refused ≡ counted_to (before.refused + (if is_err answer then 1 else 0)) = rw next.2.2 at tallied.2 in
+            counts (before.refused) (refused_in all.given) (if is_err answer then 1 else 0) (refused_in (all.given ++ (text, answer) ∷ [])) after.refused all.refused now
+            (refused_more all.given text answer);
+      }
+
+  pub out_failed : (texts : List (List ℕ)) (text : List ℕ) (old mid new : Option (List ℕ)) (before : Tally) (sent : ℕ)
+      → AreOut board name known show texts old mid before → AnswersText board name known show text mid new (Err sent)
+      → ArePartOut board name known show (texts ++ text ∷ []) old new (counted_to (before.sent + sent))
+  out_failed texts text old mid new before sent all next =
+      let answer : Answer = next.0 in
+      let whole : List ℕ = answer_text board show text answer in
+      let printed : List ℕ = printed_of board show all.given in
+      let went : ℕ = next.2.0 in
+      let more : length (printed_of board show (all.given ++ (text, answer) ∷ [])) ≡ length printed + length whole =
+      ap length (printed_more all.given text answer) ∙ length-append printed whole in (
+        all.given ++ (text, answer) ∷ [],
+        given_more texts text all.given answer all.are next.1,
+        (
+          length printed + went,
+          omega (arith, more, next.2.1),
+          subst (λ ys. Appends old new (take (length printed + went) ys)) (sym (printed_more all.given text answer))
+              (subst (Appends old new) (sym (take-append-add printed whole went)) (Appends-trans old mid new printed (take went whole) all.out next.2.2)),
+          omega (arith, all.sent, next.2.3),
+        ),
+      )
+
+  -- where the calls for the texts end at a write that failed
+  pub texts_stopped : (texts : List (List ℕ)) (i : ℕ) (text : List ℕ) (old mid new : Option (List ℕ)) (before after : Tally) (answered : Result Answered ℕ) (refusal : QueryFault)
+      → AreOut board name known show (take i texts) old mid before → AnswersText board name known show text mid new answered
+      → IsTallied before after answered (Err refusal) → take (i + 1) texts ≡ take i texts ++ text ∷ []
+      → AnswersTexts board name known show texts old new (Err refusal)
+  texts_stopped texts i text old mid new before after (Ok done) refusal all next tallied step = let no : Err refusal ≡ Ok tt = tallied.0 in cc
+  texts_stopped texts i text old mid new before after (Err sent) refusal all next tallied step =
+      let is : query.Write (counted_to (before.sent + sent)) ≡ refusal = cc in
+      let part : ArePartOut board name known show (take (i + 1) texts) old new (counted_to (before.sent + sent)) =
+      subst (λ ts. ArePartOut board name known show ts old new (counted_to (before.sent + sent))) (sym step) (out_failed (take i texts) text old mid new before sent all next) in
+      subst (λ r. AnswersTexts board name known show texts old new (Err r)) is (i + 1, part.0, part.1, part.2)
+
+  -- and where they go on
+  pub texts_more : (texts : List (List ℕ)) (text : List ℕ) (old mid new : Option (List ℕ)) (before after : Tally) (answered : Result Answered ℕ)
+      → AreOut board name known show texts old mid before → AnswersText board name known show text mid new answered
+      → IsTallied before after answered (Ok tt) → AreOut board name known show (texts ++ text ∷ []) old new after
+  texts_more texts text old mid new before after (Ok done) all next tallied = out_more texts text old mid new before after done (Ok tt) all next tallied
+  texts_more texts text old mid new before after (Err sent) all next tallied = cc
+
+-- the failures of the sink, after what was counted of the next text
+pub counts_stopped : (T : Type 0) (old mid new : ℕ) (before after : Tally) (answered : Result Answered ℕ) (refusal : QueryFault) → mid ≡ old → CountsFailure mid new answered
+    → IsTallied before after answered (Err refusal) → CountsWrites {T = T} old new (Err refusal)
+counts_stopped T old mid new before after (Ok done) refusal same counted tallied = let no : Err refusal ≡ Ok tt = tallied.0 in cc
+counts_stopped T old mid new before after (Err sent) refusal same counted tallied =
+    let is : query.Write (counted_to (before.sent + sent)) ≡ refusal = cc in
+    subst (λ r. CountsWrites {T = T} old new (Err r)) is (counted ∙ ap (λ n. n + 1) same)
+
+pub counts_on : (old mid new : ℕ) (before after : Tally) (answered : Result Answered ℕ) → mid ≡ old → CountsFailure mid new answered
+    → IsTallied before after answered (Ok tt) → new ≡ old
+counts_on old mid new before after (Ok done) same counted tallied = counted ∙ same
+counts_on old mid new before after (Err sent) same counted tallied = cc
+
+-- ---- a list of texts
+
+pub text_next : (texts : List (Bor (List ℕ))) (i : ℕ) (d : Bor (List ℕ)) (text : List ℕ) → i < length texts → text ≡ (get_or texts i d).now
+    → take (i + 1) (map (λ (t : Bor (List ℕ)). t.now) texts) ≡ take i (map (λ (t : Bor (List ℕ)). t.now) texts) ++ text ∷ []
+text_next texts i d text low is =
+    let all : List (List ℕ) = map (λ (t : Bor (List ℕ)). t.now) texts in
+    take_more all i d.now (omega (arith, length-map texts (λ (t : Bor (List ℕ)). t.now)))
+    ∙ ap (λ t. take i all ++ t ∷ []) (get_or-map (λ (t : Bor (List ℕ)). t.now) texts i d d.now low ∙ sym is)

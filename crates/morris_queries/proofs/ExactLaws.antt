@@ -1,0 +1,420 @@
+-- What is told where the files of a folder are those of exact tables is the game's.
+use Rattle.std.proofs.Common.{◌≡◌, ◌≢◌, ℕ, zero, suc, ◌+◌, ◌≤◌, ◌<◌, true, false, Bool, eqb, leb, List, [], ◌∷◌, ◌++◌, map, length, Option, Some, None, Result, Ok, Err, refl, sym, ap, subst, ◌∙◌, inl, inr, arith, append_assoc, append-nil}
+use Rattle.std.specs.Prelude.{IfOk, IfSome, ◌&&◌, ◌||◌, slice_get}
+use Rattle.std.specs.List.{Contains, AllPairs}
+use Rattle.std.proofs.lemmas.Bool.{cases_Bool, and_parts, leb-true, leb-false, eqb-true, eq-eqb, cases_eq, ne_eqb, both_ways}
+use Rattle.morris_board.specs.Boards.{Shape}
+use Rattle.morris_board.specs.Sets.{count_of}
+use Rattle.morris_board.specs.Positions.{Sides, IsPosition, is_between}
+use Rattle.morris_board.specs.Symmetries.{HasSymmetries}
+use Rattle.morris_index.specs.Pairs.{Counts, IsPair, pair_of, is_of, ordered}
+use Rattle.morris_index.proofs.IndexLaws.{placed, counts_fit}
+use Rattle.morris_moves.specs.declared.step.Move.{Move}
+use Rattle.morris_moves.specs.Order.{Precedes}
+use Rattle.morris_moves.specs.Rules.{moves_of, result_of}
+use Rattle.morris_moves.specs.Values.{is_lost}
+use Rattle.morris_moves.proofs.OrderLaws.{moves_in_order}
+use Rattle.morris_moves.proofs.ListLaws.{Contains-head, Contains-tail, Contains-cons_cases}
+use Rattle.morris_table.specs.declared.value.Value.{Value}
+use Rattle.morris_table.specs.declared.value.Value.TheVariants.{Draw, Won, Lost}
+use Rattle.morris_table.specs.Codes.{IsValue}
+use Rattle.morris_table.specs.EntryLaws.{laid}
+use Rattle.morris_table.specs.NetLaws.{result-position}
+use Rattle.morris_table.specs.Tables.{Table}
+use Rattle.morris_table.proofs.FileLaws.{IsRaw-from_exact}
+use Rattle.morris_probe.specs.Best.{LeadsOn, after_best}
+use Rattle.morris_probe.proofs.BestLaws.{AreBestOf, best_none, best_more, best_same, leads_off, best_all, one_value}
+use Rattle.morris_probe.proofs.SomeBest.{HasValues, some_listed}
+use Rattle.morris_probe.proofs.ProbingLaws.{lost_with_two}
+use Rattle.morris_lookup.specs.declared.outcomes.Outcome.{Outcome}
+use Rattle.morris_lookup.specs.Lookups.{code_for, depth_of}
+use Rattle.morris_lookup.specs.Opening.{OpenFile, open_file, IsOpen, framed_in}
+use Rattle.morris_lookup.specs.Outcomes.{turned}
+use Rattle.morris_lookup.proofs.FileLookups.{exact_code}
+use Rattle.morris_lookup.proofs.OpeningLaws.{framed_file}
+use Rattle.morris_folders.specs.Files.{Files}
+use Rattle.morris_keeping.specs.Names.{name_of}
+use Rattle.morris_commands.specs.declared.fault.Fault.{Fault}
+use Rattle.morris_queries.specs.Exactness.{AreExactIn, IsExactBytes, LeadsTo, IsBestLine, HasLine, IsGame}
+use Rattle.morris_queries.specs.declared.show.Show.{Show}
+use Rattle.morris_queries.specs.declared.show.Show.TheVariants as show
+use Rattle.morris_queries.specs.Telling.{followed, with_first, Agrees, Telling, telling, best_among, same_value, outcome, told_of, told_line, told_shown, shown_line, told_value, told_outcome, told_outcomes, value_at, opened_as, table_in, stated_in}
+use Rattle.morris_queries.proofs.OpenLaws.{framed_found}
+use Rattle.morris_queries.proofs.TellingLaws.{agreed, first_there}
+
+-- ---- the pair of a position
+
+module _ (board : Shape) (few : board.points ≤ 24) (s : Sides) (position : IsPosition board s) where
+  abbrev own : ℕ
+  own = count_of s.own
+
+  abbrev other : ℕ
+  other = count_of s.other
+
+  abbrev HasCounts : Type 0
+  HasCounts = (2 ≤ own) × (own ≤ 9) × (3 ≤ other) × (other ≤ 9) × (own + other ≤ board.points)
+
+  sizes : HasCounts
+  sizes =
+      let both = and_parts (is_between 2 own 9) (is_between 3 other 9) position.sized in
+      let mine = and_parts (leb 2 own) (leb own 9) both.0 in
+      let theirs = and_parts (leb 3 other) (leb other 9) both.1 in (
+        leb-true 2 own mine.0,
+        leb-true own 9 mine.1,
+        leb-true 3 other theirs.0,
+        leb-true other 9 theirs.1,
+        counts_fit board.points (omega arith) s (placed board board.points s refl position),
+      )
+
+  abbrev IsPairOf : Counts → Type 0
+  IsPairOf c = IsPair board.points c × (is_of c s ≡ true)
+
+  or_true : (b : Bool) → (b || true) ≡ true
+  or_true true = refl
+  or_true false = refl
+
+  alike : (n : ℕ) → eqb n n ≡ true
+  alike n = eq-eqb n n refl
+
+  of_ordered : own ≢ 2 → IsPairOf (ordered own other)
+  of_ordered more = elim (cases_Bool (leb other own)) [
+    | inl low ↦
+        rw low (
+          record { most = sizes.1; ordered = leb-true other own low; least = sizes.2; fits = sizes.4 },
+          rw (alike own, alike other) refl,
+        )
+    | inr high ↦
+        let less : own < other = leb-false other own high in
+        rw high (
+          record { most = sizes.3; ordered = omega (arith, less); least = omega (arith, more, sizes.0); fits = omega (arith, sizes.4) },
+          rw (alike own, alike other) (or_true (eqb own other && eqb other own)),
+        )
+  ]
+
+  pub pair_there : (c : Counts) → pair_of s ≡ Some c → IsPairOf c
+  pair_there c e = elim (cases_eq own 2) [
+    | inl two ↦ let none : pair_of s ≡ None = rw (eq-eqb own 2 two) refl in absurd (none_some c (sym none ∙ e))
+    | inr more ↦
+        let some : pair_of s ≡ Some (ordered own other) = rw (ne_eqb own 2 more) refl in
+        let same : ordered own other ≡ c = some_same (ordered own other) c (sym some ∙ e) in
+        subst IsPairOf same (of_ordered more)
+  ]
+    where
+      none_some : (d : Counts) → None ≡ Some d → ⊥
+      none_some d e = cc
+
+      some_same : (a b : Counts) → Some a ≡ Some b → a ≡ b
+      some_same a b e = cc
+
+-- ---- values
+
+module _ (board : Shape) (few : board.points ≤ 24) (y : HasSymmetries board) (name : List ℕ) (files : Files) (exact : AreExactIn board name files) where
+  module _ (s : Sides) (position : IsPosition board s) (c : Counts) (pair : IsPair board.points c) (of : is_of c s ≡ true) where
+    from_table : (bytes : List ℕ) → IsExactBytes board c bytes → (value : Value) → followed (opened_as board c (Some bytes)) (λ file. Ok (stated_in board s file)) ≡ Ok value
+        → IsValue board s value
+    from_table bytes right value e =
+        let t : Table = right.0 in
+        let framed : framed_in board bytes ≡ Ok (t.layout, t.pair) = ap (framed_in board) right.3 ∙ framed_file board few y t (IsRaw-from_exact board t right.1) in
+        let file : OpenFile = open_file t.layout t.pair (Some bytes) in
+        let opened : opened_as board c (Some bytes) ≡ Ok file = framed_found board c t.layout t.pair bytes right.2 framed in
+        let is : Ok (stated_in board s file) ≡ Ok value = sym (ap (λ r. followed r (λ f. Ok (stated_in board s f))) opened) ∙ e in
+        let here : is_of t.pair s ≡ true = subst (λ d. is_of d s ≡ true) (sym right.2) of in
+        let lawful : IsOpen board file = record { lawful = right.1.lawful; framed = framed } in
+        let code = exact_code board board.points refl few y file lawful s position here (code_for board file bytes s) refl (t, right.1, ap (λ b. Some b) right.3)
+        ((laid board few y t.layout t.pair right.1.lawful).below s position here) in
+        subst (IsValue board s) (ok_value (stated_in board s file) value is) code
+      where
+        ok_value : (a b : Value) → ◌≡◌ {A = Result Value Fault} (Ok a) (Ok b) → a ≡ b
+        ok_value a b e = cc
+
+    at_name : (o : Option (List ℕ)) → IfSome o (IsExactBytes board c) → (value : Value) → followed (opened_as board c o) (λ file. Ok (stated_in board s file)) ≡ Ok value → IsValue board s value
+    at_name None right value e = cc
+    at_name (Some bytes) right value e = from_table bytes right value e
+
+    of_pair : (value : Value) → value_at board name files s (Some c) ≡ Ok value → IsValue board s value
+    unfolding table_in
+    of_pair value e = at_name (files (name_of name c)) (exact c pair) value e
+
+  pub exact_value : (s : Sides) → IsPosition board s → (value : Value) → told_value board name files s ≡ Ok value → IsValue board s value
+  unfolding told_value
+  exact_value s position value e = at_pair (pair_of s) refl e
+    where
+      at_pair : (o : Option Counts) → pair_of s ≡ o → value_at board name files s o ≡ Ok value → IsValue board s value
+      at_pair None is e = let lost : Lost 0 ≡ value = cc in subst (IsValue board s) lost (lost_with_two board s is)
+      at_pair (Some c) is e = let there = pair_there board few s position c is in of_pair s position c there.0 there.1 value e
+
+  -- ---- what moves lead to
+
+  module _ (s : Sides) where
+    one_leads : (m : Move) → IsPosition board (result_of s m) → (o : Outcome) → told_outcome board name files s m ≡ Ok o → (o.step ≡ m) × LeadsTo board s o
+    one_leads m position o e = from (told_value board name files (result_of s m)) refl e
+      where
+        from : (r : Result Value Fault) → told_value board name files (result_of s m) ≡ r → followed r (λ value. Ok (outcome m (turned value))) ≡ Ok o → (o.step ≡ m) × LeadsTo board s o
+        from (Ok value) is e =
+            let same : outcome m (turned value) ≡ o = cc in
+            subst (λ p. (p.step ≡ m) × LeadsTo board s p) same (refl, (value, exact_value (result_of s m) position value is, refl))
+        from (Err refused) is e = cc
+
+    all_lead : (ms : List Move) → ((m : Move) → Contains ms m → IsPosition board (result_of s m)) → (os : List Outcome) → told_outcomes board name files s ms ≡ Ok os
+        → (o : Outcome) → Contains os o → LeadsTo board s o
+    unfolding told_outcomes
+    all_lead [] positions os e o c = let none : [] ≡ os = cc in absurd (omega (arith, c.1, ap length none))
+    all_lead (m ∷ ms) positions os e o c =
+        from (λ ps rest later. all_lead ms (λ x h. positions x (Contains-tail m ms x h)) ps rest o later)
+        (told_outcome board name files s m) refl (told_outcomes board name files s ms) refl e
+      where
+        from : ((ps : List Outcome) → told_outcomes board name files s ms ≡ Ok ps → Contains ps o → LeadsTo board s o)
+            → (r : Result Outcome Fault) → told_outcome board name files s m ≡ r → (q : Result (List Outcome) Fault) → told_outcomes board name files s ms ≡ q
+            → followed r (λ p. followed q (λ ps. Ok (p ∷ ps))) ≡ Ok os → LeadsTo board s o
+        from others (Ok p) first (Ok ps) rest e =
+            let same : p ∷ ps ≡ os = cc in
+            let there : Contains (p ∷ ps) o = subst (λ xs. Contains xs o) (sym same) c in
+            elim (Contains-cons_cases p ps o there) [
+              | inl is ↦ subst (LeadsTo board s) is (one_leads m (positions m (Contains-head m ms)) p first).1
+              | inr later ↦ others ps rest later
+            ]
+        from others (Ok p) first (Err refused) rest e = cc
+        from others (Err refused) first q rest e = cc
+
+    -- and each move is one of them
+    all_valued : (ms : List Move) → ((m : Move) → Contains ms m → IsPosition board (result_of s m)) → (os : List Outcome) → told_outcomes board name files s ms ≡ Ok os
+        → HasValues board s ms
+    unfolding told_outcomes
+    all_valued [] positions os e x c = absurd (omega (arith, c.1))
+    all_valued (m ∷ ms) positions os e x c =
+        from (λ ps rest later. all_valued ms (λ z h. positions z (Contains-tail m ms z h)) ps rest x later)
+        (told_outcome board name files s m) refl (told_outcomes board name files s ms) refl e
+      where
+        from : ((ps : List Outcome) → told_outcomes board name files s ms ≡ Ok ps → Contains ms x → (w : Value) × IsValue board (result_of s x) w)
+            → (r : Result Outcome Fault) → told_outcome board name files s m ≡ r → (q : Result (List Outcome) Fault) → told_outcomes board name files s ms ≡ q
+            → followed r (λ p. followed q (λ ps. Ok (p ∷ ps))) ≡ Ok os → (w : Value) × IsValue board (result_of s x) w
+        from others (Ok p) first (Ok ps) rest e =
+            elim (Contains-cons_cases m ms x c) [
+              | inl is ↦
+                  let one = one_leads m (positions m (Contains-head m ms)) p first in
+                  let there : IsValue board (result_of s m) one.1.0 = subst (λ z. IsValue board (result_of s z) one.1.0) one.0 one.1.1 in
+                  (one.1.0, subst (λ z. IsValue board (result_of s z) one.1.0) is there)
+              | inr later ↦ others ps rest later
+            ]
+        from others (Ok p) first (Err refused) rest e = cc
+        from others (Err refused) first q rest e = cc
+
+    steps_are : (ms : List Move) → (os : List Outcome) → told_outcomes board name files s ms ≡ Ok os → map (λ (o : Outcome). o.step) os ≡ ms
+    unfolding told_outcomes
+    steps_are [] os e = let none : [] ≡ os = cc in ap (map (λ (o : Outcome). o.step)) (sym none)
+    steps_are (m ∷ ms) os e = from (λ ps rest. steps_are ms ps rest) (told_value board name files (result_of s m)) (told_outcomes board name files s ms) refl e
+      where
+        from : ((ps : List Outcome) → told_outcomes board name files s ms ≡ Ok ps → map (λ (o : Outcome). o.step) ps ≡ ms)
+            → (r : Result Value Fault) → (q : Result (List Outcome) Fault) → told_outcomes board name files s ms ≡ q
+            → followed (followed r (λ value. Ok (outcome m (turned value)))) (λ p. followed q (λ ps. Ok (p ∷ ps))) ≡ Ok os → map (λ (o : Outcome). o.step) os ≡ m ∷ ms
+        from others (Ok value) (Ok ps) rest e =
+            let same : outcome m (turned value) ∷ ps ≡ os = cc in
+            ap (map (λ (o : Outcome). o.step)) (sym same) ∙ ap (λ xs. m ∷ xs) (others ps rest)
+        from others (Ok value) (Err refused) rest e = cc
+        from others (Err refused) q rest e = cc
+
+-- ---- best moves
+
+turned-best : (found next : Value) → turned next ≡ found → after_best found ≡ Some next
+turned-best found Draw e = subst (λ v. after_best v ≡ Some Draw) e refl
+turned-best found (Won depth) e = subst (λ v. after_best v ≡ Some (Won depth)) e refl
+turned-best found (Lost depth) e = subst (λ v. after_best v ≡ Some (Lost depth)) e refl
+
+best-turned : (found next : Value) → after_best found ≡ Some next → turned next ≡ found
+best-turned Draw next e = let is : next ≡ Draw = cc in ap turned is
+best-turned (Won zero) next e = cc
+best-turned (Won (suc depth)) next e = let is : next ≡ Lost depth = cc in ap turned is
+best-turned (Lost zero) next e = cc
+best-turned (Lost (suc depth)) next e = let is : next ≡ Won depth = cc in ap turned is
+
+same_true : (v w : Value) → same_value v w ≡ true → v ≡ w
+same_true Draw Draw e = refl
+same_true (Won a) (Won b) e = ap (λ n. Won n) (eqb-true a b e)
+same_true (Lost a) (Lost b) e = ap (λ n. Lost n) (eqb-true a b e)
+same_true Draw (Won b) e = cc
+same_true Draw (Lost b) e = cc
+same_true (Won a) Draw e = cc
+same_true (Won a) (Lost b) e = cc
+same_true (Lost a) Draw e = cc
+same_true (Lost a) (Won b) e = cc
+
+same_itself : (v : Value) → same_value v v ≡ true
+same_itself Draw = refl
+same_itself (Won a) = eq-eqb a a refl
+same_itself (Lost a) = eq-eqb a a refl
+
+module _ (board : Shape) (s : Sides) (value : Value) where
+  abbrev steps : List Outcome → List Move
+  steps os = map (λ (o : Outcome). o.step) os
+
+  best_from : (seen best : List Move) (os : List Outcome) → AreBestOf board s value seen best → AllPairs Precedes (seen ++ steps os)
+      → ((o : Outcome) → Contains os o → LeadsTo board s o) → AreBestOf board s value (seen ++ steps os) (best ++ best_among value os)
+  best_from seen best [] so_far order lead = subst (λ b. AreBestOf board s value (seen ++ []) b) (sym (append-nil best)) (subst (λ m. AreBestOf board s value m best) (sym (append-nil seen)) so_far)
+  best_from seen best (o ∷ os) so_far order lead = elim (cases_Bool (same_value o.value value)) [
+    | inl alike ↦
+        let here = lead o (Contains-head o os) in
+        let on : LeadsOn board s value o.step = (here.0, turned-best value here.0 (sym here.2 ∙ same_true o.value value alike), here.1) in
+        let next : AreBestOf board s value ((seen ++ o.step ∷ []) ++ steps os) ((best ++ o.step ∷ []) ++ best_among value os) =
+        best_from (seen ++ o.step ∷ []) (best ++ o.step ∷ []) os (best_more board s value seen (steps os) best o.step so_far order on)
+        (subst (AllPairs Precedes) (sym (append_assoc seen (o.step ∷ []) (steps os))) order) (λ p c. lead p (Contains-tail o os p c)) in
+        rw alike (subst (AreBestOf board s value (seen ++ o.step ∷ steps os)) (append_assoc best (o.step ∷ []) (best_among value os))
+        (subst (λ m. AreBestOf board s value m ((best ++ o.step ∷ []) ++ best_among value os)) (append_assoc seen (o.step ∷ []) (steps os)) next))
+    | inr apart ↦
+        let here = lead o (Contains-head o os) in
+        let off : LeadsOn board s value o.step → ⊥ =
+        leads_off board s value o.step here.0 here.1 (λ e. both_ways (same_value o.value value) apart
+        (subst (λ v. same_value v value ≡ true) (sym (here.2 ∙ best-turned value here.0 e)) (same_itself value))) in
+        let next : AreBestOf board s value ((seen ++ o.step ∷ []) ++ steps os) (best ++ best_among value os) =
+        best_from (seen ++ o.step ∷ []) best os (best_same board s value seen (steps os) best o.step so_far off)
+        (subst (AllPairs Precedes) (sym (append_assoc seen (o.step ∷ []) (steps os))) order) (λ p c. lead p (Contains-tail o os p c)) in
+        rw apart (subst (λ m. AreBestOf board s value m (best ++ best_among value os)) (append_assoc seen (o.step ∷ []) (steps os)) next)
+  ]
+
+  pub best_right : (os : List Outcome) → steps os ≡ moves_of board s → ((o : Outcome) → Contains os o → LeadsTo board s o) → IsValue board s value
+      → AreBestOf board s value (moves_of board s) (best_among value os)
+  best_right os listed lead here =
+      subst (λ ms. AreBestOf board s value ms (best_among value os)) listed
+      (best_from [] [] os (best_none board s value) (subst (AllPairs Precedes) (sym listed) (moves_in_order board s)) lead)
+
+-- ---- a position and its line
+
+-- what is told of it is right
+record IsRight (board : Shape) (s : Sides) (t : Telling) : Type 0 where
+  value : IsValue board s t.value
+  lead : (o : Outcome) → Contains t.outcomes o → LeadsTo board s o
+  known : HasValues board s (moves_of board s)
+  best : AreBestOf board s t.value (moves_of board s) t.best
+
+-- where a position is won or lost in some plies, there is a best move
+never_stuck : (board : Shape) (s : Sides) (value : Value) (k : ℕ) (best : List Move) → IsValue board s value → depth_of value ≡ suc k → HasValues board s (moves_of board s)
+    → AreBestOf board s value (moves_of board s) best → 0 < length best
+unfolding is_lost
+never_stuck board s value k best here deep known all = from (moves_of board s) refl
+  where
+    from : (ms : List Move) → moves_of board s ≡ ms → 0 < length best
+    from [] none =
+        let lost : is_lost 0 board s ≡ true = rw none refl in
+        let over : IsValue board s (Lost 0) = record { lost = lost; least = λ n low. absurd (omega arith) } in
+        let same : value ≡ Lost 0 = one_value board s value (Lost 0) here over in
+        absurd (omega (arith, deep, ap depth_of same))
+    from (m ∷ ms) some = some_listed board s value best here known all m (subst (λ xs. Contains xs m) (sym some) (Contains-head m ms))
+
+one_less : (value next : Value) (k : ℕ) → depth_of value ≡ suc k → after_best value ≡ Some next → depth_of next ≡ k
+one_less Draw next k deep e = absurd (omega (arith, deep))
+one_less (Won zero) next k deep e = cc
+one_less (Won (suc d)) next k deep e = let is : Lost d ≡ next = cc in sym (ap depth_of is) ∙ omega (arith, deep)
+one_less (Lost zero) next k deep e = cc
+one_less (Lost (suc d)) next k deep e = let is : Won d ≡ next = cc in sym (ap depth_of is) ∙ omega (arith, deep)
+
+module _ (board : Shape) (few : board.points ≤ 24) (y : HasSymmetries board) (name : List ℕ) (files : Files) (exact : AreExactIn board name files) where
+  told_right : (s : Sides) → IsPosition board s → (t : Telling) → told_of board name files s ≡ Ok t → IsRight board s t
+  unfolding told_of
+  told_right s position t e = from (told_value board name files s) refl (told_outcomes board name files s (moves_of board s)) refl e
+    where
+      from : (r : Result Value Fault) → told_value board name files s ≡ r → (q : Result (List Outcome) Fault) → told_outcomes board name files s (moves_of board s) ≡ q
+          → followed r (λ value. followed q (λ os. Ok (telling value (best_among value os) os []))) ≡ Ok t → IsRight board s t
+      from (Ok value) found (Ok os) all e =
+          let same : telling value (best_among value os) os [] ≡ t = cc in
+          let positions = λ (m : Move) (c : Contains (moves_of board s) m). result-position board few s position m c in
+          let here : IsValue board s value = exact_value board few y name files exact s position value found in
+          let lead = all_lead board few y name files exact s (moves_of board s) positions os all in
+          subst (IsRight board s) same (record {
+            value = here;
+            lead = lead;
+            known = all_valued board few y name files exact s (moves_of board s) positions os all;
+            best = best_right board s value os (steps_are board few y name files exact s (moves_of board s) os all) lead here;
+          })
+      from (Ok value) found (Err refused) all e = cc
+      from (Err refused) found q all e = cc
+
+  best_line : (n : ℕ) (s : Sides) → IsPosition board s → (value : Value) → IsValue board s value → depth_of value ≡ n → (line : List (Move × Sides))
+      → told_line board name files n s ≡ Ok line → IsBestLine board s value line
+  unfolding told_line
+  best_line zero s position value here deep line e = let none : [] ≡ line = cc in subst (IsBestLine board s value) none deep
+  best_line (suc k) s position value here deep line e = from (best_line k) (told_of board name files s) refl e
+    where
+      none_here : (t : Telling) → told_of board name files s ≡ Ok t → AreBestOf board s value (moves_of board s) t.best
+      none_here t found =
+          let right = told_right s position t found in
+          subst (λ v. AreBestOf board s v (moves_of board s) t.best) (one_value board s t.value value right.value here) right.best
+
+      stuck : (t : Telling) → told_of board name files s ≡ Ok t → None ≡ slice_get t.best 0 → ⊥
+      stuck t found none =
+          let right = told_right s position t found in
+          empty t.best none (never_stuck board s value k t.best here deep right.known (none_here t found))
+        where
+          empty : (ms : List Move) → None ≡ slice_get ms 0 → 0 < length ms → ⊥
+          empty [] none low = absurd (omega (arith, low))
+          empty (m ∷ ms) none low = cc
+
+      step : ((u : Sides) → IsPosition board u → (w : Value) → IsValue board u w → depth_of w ≡ k → (l : List (Move × Sides)) → told_line board name files k u ≡ Ok l → IsBestLine board u w l)
+          → (t : Telling) → told_of board name files s ≡ Ok t → (m : Move) → Some m ≡ slice_get t.best 0 → (rest : List (Move × Sides)) → told_line board name files k (result_of s m) ≡ Ok rest
+          → IsBestLine board s value ((m, result_of s m) ∷ rest)
+      step on t found m first rest played =
+          let all = none_here t found in
+          let there = (all.each m).0 (first_there t.best m first) in
+          let leads : LeadsOn board s value m = there.1 in (
+            record { best = (there.0, (value, here, leads)); leads = refl },
+            (
+              leads.0,
+              leads.1,
+              leads.2,
+              on (result_of s m) (result-position board few s position m there.0) leads.0 leads.2 (one_less value leads.0 k deep leads.1) rest played,
+            ),
+          )
+
+      rest_of : ((u : Sides) → IsPosition board u → (w : Value) → IsValue board u w → depth_of w ≡ k → (l : List (Move × Sides)) → told_line board name files k u ≡ Ok l → IsBestLine board u w l)
+          → (t : Telling) → told_of board name files s ≡ Ok t → (m : Move) → Some m ≡ slice_get t.best 0 → (q : Result (List (Move × Sides)) Fault) → told_line board name files k (result_of s m) ≡ q
+          → followed q (λ rest. Ok ((m, result_of s m) ∷ rest)) ≡ Ok line → IsBestLine board s value line
+      rest_of on t found m first (Ok rest) played e = let same : (m, result_of s m) ∷ rest ≡ line = cc in subst (IsBestLine board s value) same (step on t found m first rest played)
+      rest_of on t found m first (Err refused) played e = cc
+
+      at_first : ((u : Sides) → IsPosition board u → (w : Value) → IsValue board u w → depth_of w ≡ k → (l : List (Move × Sides)) → told_line board name files k u ≡ Ok l → IsBestLine board u w l)
+          → (t : Telling) → told_of board name files s ≡ Ok t → (o : Option Move) → o ≡ slice_get t.best 0
+          → with_first o (Ok []) (λ m. followed (told_line board name files k (result_of s m)) (λ rest. Ok ((m, result_of s m) ∷ rest))) ≡ Ok line → IsBestLine board s value line
+      at_first on t found None first e = absurd (stuck t found first)
+      at_first on t found (Some m) first e = rest_of on t found m first (told_line board name files k (result_of s m)) refl e
+
+      from : ((u : Sides) → IsPosition board u → (w : Value) → IsValue board u w → depth_of w ≡ k → (l : List (Move × Sides)) → told_line board name files k u ≡ Ok l → IsBestLine board u w l)
+          → (r : Result Telling Fault) → told_of board name files s ≡ r
+          → followed r (λ t. with_first (slice_get t.best 0) (Ok []) (λ m. followed (told_line board name files k (result_of s m)) (λ rest. Ok ((m, result_of s m) ∷ rest)))) ≡ Ok line
+          → IsBestLine board s value line
+      from on (Ok t) found e = at_first on t found (slice_get t.best 0) refl e
+      from on (Err refused) found e = cc
+
+  -- ---- what is told
+
+  game_of : (what : Show) (s : Sides) → IsPosition board s → (t : Telling) → told_shown board name files what s ≡ Ok t → IsGame board what s t
+  unfolding told_shown
+  game_of what s position t e = from what (told_of board name files s) refl e
+    where
+      with_line : (kind : Show) (u : Telling) → told_of board name files s ≡ Ok u → (line : List (Move × Sides)) → HasLine board kind s (telling u.value u.best u.outcomes line)
+          → telling u.value u.best u.outcomes line ≡ t → IsGame board kind s t
+      with_line kind u found line played same =
+          let right = told_right s position u found in
+          subst (IsGame board kind s) same (record {
+            value = right.value;
+            best = best_all board s u.value u.best right.value right.best;
+            leads = right.lead;
+            line = played;
+          })
+
+      lined : (u : Telling) → told_of board name files s ≡ Ok u → (q : Result (List (Move × Sides)) Fault) → told_line board name files (depth_of u.value) s ≡ q
+          → followed q (λ line. Ok (telling u.value u.best u.outcomes line)) ≡ Ok t → IsGame board show.Line s t
+      lined u found (Ok line) played e =
+          let same : telling u.value u.best u.outcomes line ≡ t = cc in
+          with_line show.Line u found line (best_line (depth_of u.value) s position u.value (told_right s position u found).value refl line played) same
+      lined u found (Err refused) played e = cc
+
+      from : (kind : Show) (r : Result Telling Fault) → told_of board name files s ≡ r
+          → followed r (λ u. followed (shown_line board name files kind u.value s) (λ line. Ok (telling u.value u.best u.outcomes line))) ≡ Ok t → IsGame board kind s t
+      from show.Best (Ok u) found e = let same : telling u.value u.best u.outcomes [] ≡ t = cc in with_line show.Best u found [] refl same
+      from show.Moves (Ok u) found e = let same : telling u.value u.best u.outcomes [] ≡ t = cc in with_line show.Moves u found [] refl same
+      from show.Line (Ok u) found e = lined u found (told_line board name files (depth_of u.value) s) refl e
+      from show.Best (Err refused) found e = cc
+      from show.Moves (Err refused) found e = cc
+      from show.Line (Err refused) found e = cc
+
+  pub game_told : (what : Show) (s : Sides) → IsPosition board s → (answer : Result Telling Fault) → Agrees answer (told_shown board name files what s) → IfOk answer (IsGame board what s)
+  game_told what s position (Ok t) h = game_of what s position t (agreed t (told_shown board name files what s) h)
+  game_told what s position (Err refused) h = tt

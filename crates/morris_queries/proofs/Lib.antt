@@ -1,0 +1,5 @@
+pub mod AnswerLaws
+pub mod OpenLaws
+pub mod TellingLaws
+pub mod Pieces
+pub mod ExactLaws

@@ -1,0 +1,257 @@
+-- How the steps of an answer follow one another.
+use Rattle.std.proofs.Common.{◌≡◌, ℕ, suc, ◌≤◌, List, [], ◌∷◌, ◌++◌, map, length, Some, None, Result, Ok, Err, refl, sym, ap, ap₂, subst, ◌∙◌, inl, inr, arith, append_assoc, append-nil}
+use Rattle.std.specs.List.{Contains}
+use Rattle.std.specs.Prelude.{slice_get}
+use Rattle.std.proofs.lemmas.Bool.{cases_Bool}
+use Rattle.morris_board.specs.Boards.{Shape}
+use Rattle.morris_board.specs.Positions.{Sides}
+use Rattle.morris_folders.specs.Files.{Files}
+use Rattle.morris_moves.specs.declared.step.Move.{Move}
+use Rattle.morris_moves.specs.Rules.{moves_of, result_of}
+use Rattle.morris_moves.proofs.ListLaws.{Contains-head, Contains-tail, Contains-cons_cases}
+use Rattle.morris_table.specs.declared.value.Value.{Value}
+use Rattle.morris_lookup.specs.declared.outcomes.Outcome.{Outcome}
+use Rattle.morris_lookup.specs.Lookups.{depth_of}
+use Rattle.morris_lookup.specs.Outcomes.{turned}
+use Rattle.morris_commands.specs.declared.fault.Fault.{Fault}
+use Rattle.morris_queries.specs.Telling.{followed, with_first, Agrees, IsRefusal, IsListed, Telling, telling, outcome, best_among, same_value, told_value, told_outcome, told_outcomes, told_of, told_line, shown_line, told_shown}
+use Rattle.morris_queries.specs.declared.show.Show.{Show}
+use Rattle.morris_queries.specs.declared.show.Show.TheVariants as show
+
+-- ---- refusals, and what was found
+
+pub refusal_followed : {A B : Type 0} (refused : Fault) (wanted : Result A Fault) (next : A → Result B Fault) → IsRefusal refused wanted → IsRefusal refused (followed wanted next)
+refusal_followed refused wanted next h = elim h [
+  | inl e ↦ inl (ap (λ r. followed r next) e)
+  | inr e ↦ inr e
+]
+
+-- a refusal of what comes after what was found
+pub refusal_after : {A B : Type 0} (refused : Fault) (wanted : Result A Fault) (found : A) (next : A → Result B Fault) → wanted ≡ Ok found → IsRefusal refused (next found)
+    → IsRefusal refused (followed wanted next)
+refusal_after refused wanted found next is h = elim h [
+  | inl e ↦ inl (ap (λ r. followed r next) is ∙ e)
+  | inr e ↦ inr e
+]
+
+pub refusal_from : {A : Type 0} (refused : Fault) (wanted : Result A Fault) → Agrees (Err refused) wanted → IsRefusal refused wanted
+refusal_from refused wanted h = elim h [
+  | inl e ↦ inl e
+  | inr e ↦ inr (cc)
+]
+
+pub agrees_from : {A : Type 0} (refused : Fault) (wanted : Result A Fault) → IsRefusal refused wanted → Agrees (Err refused) wanted
+agrees_from refused wanted h = elim h [
+  | inl e ↦ inl e
+  | inr e ↦ inr (ap (λ f. Err f) e)
+]
+
+-- what agrees and isn't a refusal is what was wanted
+pub agreed : {A : Type 0} (found : A) (wanted : Result A Fault) → Agrees (Ok found) wanted → wanted ≡ Ok found
+agreed found wanted h = elim h [
+  | inl e ↦ e
+  | inr e ↦ (cc)
+]
+
+-- ---- lists that are put together one by one
+
+abbrev pub prepended : {X : Type 0} → List X → Result (List X) Fault → Result (List X) Fault
+prepended xs rest = followed rest (λ ys. Ok (xs ++ ys))
+
+pub prepended-nil : {X : Type 0} (rest : Result (List X) Fault) → rest ≡ prepended [] rest
+prepended-nil (Ok ys) = refl
+prepended-nil (Err refused) = refl
+
+-- one more
+pub prepended-more : {X : Type 0} (xs : List X) (x : X) (rest : Result (List X) Fault)
+    → prepended xs (followed rest (λ ys. Ok (x ∷ ys))) ≡ prepended (xs ++ x ∷ []) rest
+prepended-more xs x (Ok ys) = ap (λ l. Ok l) (sym (append_assoc xs (x ∷ []) ys))
+prepended-more xs x (Err refused) = refl
+
+pub refusal_prepended : {X : Type 0} (refused : Fault) (xs : List X) (all rest : Result (List X) Fault) → all ≡ prepended xs rest → IsRefusal refused rest → IsRefusal refused all
+refusal_prepended refused xs all rest is h = subst (IsRefusal refused) (sym is) (refusal_followed refused rest (λ ys. Ok (xs ++ ys)) h)
+
+-- ---- what each of the moves leads to
+
+module _ (board : Shape) (name : List ℕ) (files : Files) (s : Sides) (items : List Outcome) (left rest : List Move) (m : Move) (all : Result (List Outcome) Fault)
+    (so_far : all ≡ prepended items (told_outcomes board name files s left)) (split : left ≡ m ∷ rest) where
+  here : all ≡ prepended items (told_outcomes board name files s (m ∷ rest))
+  here = subst (λ ms. all ≡ prepended items (told_outcomes board name files s ms)) split so_far
+
+  pub outcomes_refused : (refused : Fault) → IsRefusal refused (told_value board name files (result_of s m)) → IsRefusal refused all
+  unfolding told_outcomes
+  outcomes_refused refused h =
+      refusal_prepended refused items all (told_outcomes board name files s (m ∷ rest)) here
+      (refusal_followed refused (told_outcome board name files s m) (λ o. followed (told_outcomes board name files s rest) (λ os. Ok (o ∷ os)))
+      (refusal_followed refused (told_value board name files (result_of s m)) (λ value. Ok (outcome m (turned value))) h))
+
+  pub outcomes_more : (value turned_round : Value) (pushed : List Outcome) → told_value board name files (result_of s m) ≡ Ok value → turned_round ≡ turned value
+      → pushed ≡ items ++ outcome m turned_round ∷ [] → all ≡ prepended pushed (told_outcomes board name files s rest)
+  unfolding told_outcomes
+  outcomes_more value turned_round pushed found is one =
+      let o : Outcome = outcome m turned_round in
+      let first : told_outcome board name files s m ≡ Ok o = ap (λ r. followed r (λ v. Ok (outcome m (turned v)))) found ∙ ap (λ v. Ok (outcome m v)) (sym is) in
+      here
+      ∙ ap (λ r. prepended items (followed r (λ x. followed (told_outcomes board name files s rest) (λ os. Ok (x ∷ os))))) first
+      ∙ prepended-more items o (told_outcomes board name files s rest)
+      ∙ ap (λ xs. prepended xs (told_outcomes board name files s rest)) (sym one)
+
+pub outcomes_all : (board : Shape) (name : List ℕ) (files : Files) (s : Sides) (items : List Outcome) (left : List Move) (all : Result (List Outcome) Fault)
+    → all ≡ prepended items (told_outcomes board name files s left) → left ≡ [] → all ≡ Ok items
+unfolding told_outcomes
+outcomes_all board name files s items left all so_far none =
+    subst (λ ms. all ≡ prepended items (told_outcomes board name files s ms)) none so_far ∙ ap (λ xs. Ok xs) (append-nil items)
+
+pub steps_more : (outcomes pushed : List Outcome) (seen : List Move) (m : Move) (value : Value) → map (λ (o : Outcome). o.step) outcomes ≡ seen
+    → pushed ≡ outcomes ++ outcome m value ∷ [] → map (λ (o : Outcome). o.step) pushed ≡ seen ++ m ∷ []
+steps_more outcomes pushed seen m value so_far one =
+    ap (map (λ (o : Outcome). o.step)) one ∙ mapped outcomes ∙ ap (λ ms. ms ++ m ∷ []) so_far
+  where
+    mapped : (os : List Outcome) → map (λ (o : Outcome). o.step) (os ++ outcome m value ∷ []) ≡ map (λ (o : Outcome). o.step) os ++ m ∷ []
+    mapped [] = refl
+    mapped (o ∷ os) = ap (λ ms. o.step ∷ ms) (mapped os)
+
+-- ---- what is told of a position
+
+module _ (board : Shape) (name : List ℕ) (files : Files) (s : Sides) where
+  pub told_refused_value : (refused : Fault) → IsRefusal refused (told_value board name files s) → IsRefusal refused (told_of board name files s)
+  unfolding told_of
+  told_refused_value refused h =
+      refusal_followed refused (told_value board name files s)
+      (λ value. followed (told_outcomes board name files s (moves_of board s)) (λ os. Ok (telling value (best_among value os) os []))) h
+
+  pub told_refused_outcomes : (refused : Fault) (value : Value) → told_value board name files s ≡ Ok value
+      → IsRefusal refused (told_outcomes board name files s (moves_of board s)) → IsRefusal refused (told_of board name files s)
+  unfolding told_of
+  told_refused_outcomes refused value found h =
+      refusal_after refused (told_value board name files s) value
+      (λ v. followed (told_outcomes board name files s (moves_of board s)) (λ os. Ok (telling v (best_among v os) os []))) found
+      (refusal_followed refused (told_outcomes board name files s (moves_of board s)) (λ os. Ok (telling value (best_among value os) os [])) h)
+
+  pub told_found : (value : Value) (best : List Move) (os : List Outcome) (line : List (Move × Sides)) → told_value board name files s ≡ Ok value
+      → told_outcomes board name files s (moves_of board s) ≡ Ok os → best ≡ best_among value os → line ≡ []
+      → told_of board name files s ≡ Ok (telling value best os line)
+  unfolding told_of
+  told_found value best os line found all is none =
+      ap (λ r. followed r (λ v. followed (told_outcomes board name files s (moves_of board s)) (λ xs. Ok (telling v (best_among v xs) xs [])))) found
+      ∙ ap (λ r. followed r (λ xs. Ok (telling value (best_among value xs) xs []))) all
+      ∙ ap₂ (λ b l. Ok (telling value b os l)) (sym is) (sym none)
+
+pub best_few : (value : Value) (os : List Outcome) → length (best_among value os) ≤ length os
+best_few value [] = omega arith
+best_few value (o ∷ os) = elim (cases_Bool (same_value o.value value)) [
+  | inl same ↦ rw same (omega (arith, best_few value os))
+  | inr other ↦ rw other (omega (arith, best_few value os))
+]
+
+best_listed : (value : Value) (os : List Outcome) (m : Move) → Contains (best_among value os) m → Contains (map (λ (o : Outcome). o.step) os) m
+best_listed value [] m c = c
+best_listed value (o ∷ os) m c = elim (cases_Bool (same_value o.value value)) [
+  | inl same ↦
+      let there : Contains (o.step ∷ best_among value os) m = rw same at c in
+      elim (Contains-cons_cases o.step (best_among value os) m there) [
+        | inl is ↦ subst (λ x. Contains (o.step ∷ map (λ (p : Outcome). p.step) os) x) is (Contains-head o.step (map (λ (p : Outcome). p.step) os))
+        | inr later ↦ Contains-tail o.step (map (λ (p : Outcome). p.step) os) m (best_listed value os m later)
+      ]
+  | inr other ↦
+      let there : Contains (best_among value os) m = rw other at c in
+      Contains-tail o.step (map (λ (p : Outcome). p.step) os) m (best_listed value os m there)
+]
+
+pub first_there : (moves : List Move) (m : Move) → Some m ≡ slice_get moves 0 → Contains moves m
+first_there [] m e = cc
+first_there (x ∷ moves) m e = let same : x ≡ m = cc in subst (Contains (x ∷ moves)) same (Contains-head x moves)
+
+-- the first best move is legal
+pub first_legal : (board : Shape) (s : Sides) (t : Telling) (m : Move) → IsListed board s t → Some m ≡ slice_get t.best 0 → Contains (moves_of board s) m
+first_legal board s t m listed e =
+    let there : Contains (best_among t.value t.outcomes) m = subst (λ ms. Contains ms m) listed.best (first_there t.best m e) in
+    subst (λ ms. Contains ms m) listed.legal (best_listed t.value t.outcomes m there)
+
+-- ---- the line of play
+
+module _ (board : Shape) (name : List ℕ) (files : Files) (s : Sides) (items : List (Move × Sides)) (n k : ℕ) (all : Result (List (Move × Sides)) Fault)
+    (so_far : all ≡ prepended items (told_line board name files n s)) where
+  -- one ply more is to be shown
+  module _ (one : n ≡ suc k) where
+    ply_here : all ≡ prepended items (told_line board name files (suc k) s)
+    ply_here = subst (λ i. all ≡ prepended items (told_line board name files i s)) one so_far
+
+    pub line_refused : (refused : Fault) → IsRefusal refused (told_of board name files s) → IsRefusal refused all
+    unfolding told_line
+    line_refused refused h =
+        refusal_prepended refused items all (told_line board name files (suc k) s) ply_here
+        (refusal_followed refused (told_of board name files s) (λ t. with_first (slice_get t.best 0) (Ok []) (λ m.
+        followed (told_line board name files k (result_of s m)) (λ rest. Ok ((m, result_of s m) ∷ rest)))) h)
+
+    told_here : (t : Telling) → told_of board name files s ≡ Ok t
+        → all ≡ prepended items (with_first (slice_get t.best 0) (Ok []) (λ m. followed (told_line board name files k (result_of s m)) (λ rest. Ok ((m, result_of s m) ∷ rest))))
+    unfolding told_line
+    told_here t found =
+        ply_here ∙ ap (λ r. prepended items (followed r (λ u. with_first (slice_get u.best 0) (Ok []) (λ m.
+        followed (told_line board name files k (result_of s m)) (λ rest. Ok ((m, result_of s m) ∷ rest)))))) found
+
+    pub line_ends : (t : Telling) → told_of board name files s ≡ Ok t → None ≡ slice_get t.best 0 → all ≡ Ok items
+    line_ends t found none =
+        told_here t found
+        ∙ ap (λ o. prepended items (with_first o (Ok []) (λ m. followed (told_line board name files k (result_of s m)) (λ rest. Ok ((m, result_of s m) ∷ rest))))) (sym none)
+        ∙ ap (λ xs. Ok xs) (append-nil items)
+
+    pub line_more : (t : Telling) (m : Move) (next : Sides) (pushed : List (Move × Sides)) → told_of board name files s ≡ Ok t → Some m ≡ slice_get t.best 0
+        → next ≡ result_of s m → pushed ≡ items ++ (m, next) ∷ [] → all ≡ prepended pushed (told_line board name files k next)
+    line_more t m next pushed found first leads added =
+        told_here t found
+        ∙ ap (λ o. prepended items (with_first o (Ok []) (λ x. followed (told_line board name files k (result_of s x)) (λ rest. Ok ((x, result_of s x) ∷ rest))))) (sym first)
+        ∙ ap (λ p. prepended items (followed (told_line board name files k p) (λ rest. Ok ((m, p) ∷ rest)))) (sym leads)
+        ∙ prepended-more items (m, next) (told_line board name files k next)
+        ∙ ap (λ xs. prepended xs (told_line board name files k next)) (sym added)
+
+  pub line_all : n ≡ 0 → all ≡ Ok items
+  unfolding told_line
+  line_all none = subst (λ i. all ≡ prepended items (told_line board name files i s)) none so_far ∙ ap (λ xs. Ok xs) (append-nil items)
+
+-- ---- what is shown
+
+module _ (board : Shape) (name : List ℕ) (files : Files) (s : Sides) where
+  no_line : (r : Result Value Fault) (q : Result (List Outcome) Fault) (t : Telling)
+      → followed r (λ value. followed q (λ os. Ok (telling value (best_among value os) os []))) ≡ Ok t → t.line ≡ []
+  no_line (Ok value) (Ok os) t e = let same : telling value (best_among value os) os [] ≡ t = cc in ap (λ (u : Telling). u.line) (sym same)
+  no_line (Ok value) (Err refused) t e = cc
+  no_line (Err refused) q t e = cc
+
+  pub told_of-line : (t : Telling) → told_of board name files s ≡ Ok t → t.line ≡ []
+  unfolding told_of
+  told_of-line t e = no_line (told_value board name files s) (told_outcomes board name files s (moves_of board s)) t e
+
+  pub shown_refused : (what : Show) (refused : Fault) → IsRefusal refused (told_of board name files s) → IsRefusal refused (told_shown board name files what s)
+  unfolding told_shown
+  shown_refused what refused h =
+      refusal_followed refused (told_of board name files s)
+      (λ t. followed (shown_line board name files what t.value s) (λ line. Ok (telling t.value t.best t.outcomes line))) h
+
+  pub shown_line_refused : (t : Telling) (refused : Fault) → told_of board name files s ≡ Ok t → IsRefusal refused (told_line board name files (depth_of t.value) s)
+      → IsRefusal refused (told_shown board name files show.Line s)
+  unfolding told_shown
+  shown_line_refused t refused found h =
+      refusal_after refused (told_of board name files s) t
+      (λ u. followed (told_line board name files (depth_of u.value) s) (λ line. Ok (telling u.value u.best u.outcomes line))) found
+      (refusal_followed refused (told_line board name files (depth_of t.value) s) (λ line. Ok (telling t.value t.best t.outcomes line)) h)
+
+  pub shown_with_line : (t : Telling) (line : List (Move × Sides)) → told_of board name files s ≡ Ok t → told_line board name files (depth_of t.value) s ≡ Ok line
+      → told_shown board name files show.Line s ≡ Ok (telling t.value t.best t.outcomes line)
+  unfolding told_shown
+  shown_with_line t line found played =
+      ap (λ r. followed r (λ u. followed (told_line board name files (depth_of u.value) s) (λ l. Ok (telling u.value u.best u.outcomes l)))) found
+      ∙ ap (λ r. followed r (λ l. Ok (telling t.value t.best t.outcomes l))) played
+
+  none_shown : (what : Show) (value : Value) → (what ≡ show.Line → ⊥) → shown_line board name files what value s ≡ Ok []
+  none_shown show.Best value other = refl
+  none_shown show.Moves value other = refl
+  none_shown show.Line value other = absurd (other refl)
+
+  pub shown_without : (what : Show) (t : Telling) → (what ≡ show.Line → ⊥) → told_of board name files s ≡ Ok t → told_shown board name files what s ≡ Ok t
+  unfolding told_shown
+  shown_without what t other found =
+      ap (λ r. followed r (λ u. followed (shown_line board name files what u.value s) (λ l. Ok (telling u.value u.best u.outcomes l)))) found
+      ∙ ap (λ r. followed r (λ l. Ok (telling t.value t.best t.outcomes l))) (none_shown what t.value other)
+      ∙ ap (λ l. Ok (telling t.value t.best t.outcomes l)) (sym (told_of-line t found))

@@ -1,0 +1,101 @@
+-- What is answered to texts, and what of the answers went out.
+use Rattle.std.specs.Prelude.{◌≡◌, ℕ, ◌+◌, ◌-◌, ◌^◌, ◌<◌, min, Bool, List, [], ◌∷◌, map, take, length, is_err, Option, Some, None, Result, Ok, Err, IfOk, if◌then◌else◌}
+use Rattle.std.specs.List.{flat_map, Contains}
+use Rattle.std.specs.Io.KnownBytes.{Appends, Keeps}
+use Rattle.morris_board.specs.Boards.{Shape}
+use Rattle.morris_board.specs.Positions.{Sides, read_of}
+use Rattle.morris_board.specs.declared.faults.TextFault.{TextFault}
+use Rattle.morris_folders.specs.Files.{Files}
+use Rattle.morris_commands.specs.declared.fault.Fault.{Fault}
+use Rattle.morris_commands.specs.Faults.{text_fault}
+use Rattle.morris_queries.specs.declared.answer.Answered.{Answered}
+use Rattle.morris_queries.specs.declared.texts.Tally.{Tally}
+use Rattle.morris_queries.specs.declared.fault.QueryFault.{QueryFault}
+use Rattle.morris_queries.specs.declared.fault.QueryFault.TheVariants as query
+use Rattle.morris_queries.specs.declared.show.Show.{Show}
+use Rattle.morris_queries.specs.Telling.{Telling, Agrees, IsListed, told_text}
+use Rattle.morris_queries.specs.Exactness.{AreExactIn, IsGame}
+use Rattle.morris_queries.specs.Printing.{answer_text}
+
+-- an answer to a text: what is told of its position, or a fault
+abbrev pub Answer : Type 0
+Answer = Result Telling Fault
+
+-- The answer to a text, on the board of this name. A text that is no position's is answered by its
+-- own fault. Where the files are known, the answer is what they tell, unless memory ran out; and
+-- where they are those of exact tables, it is the game's.
+pub record IsAnswer (board : Shape) (name : List ℕ) (known : Option Files) (show : Show) (text : List ℕ) (answer : Answer) : Type 0 where
+  pub refused : (fault : TextFault) → read_of board text ≡ Err fault → answer ≡ Err (text_fault fault)
+  pub listed : (s : Sides) → read_of board text ≡ Ok s → IfOk answer (IsListed board s)
+  pub told : (files : Files) → known ≡ Some files → Agrees answer (told_text board name files show text)
+  pub exact : (files : Files) → known ≡ Some files → AreExactIn board name files → (s : Sides) → read_of board text ≡ Ok s → IfOk answer (IsGame board show s)
+
+-- a count, which stops at u64::MAX
+abbrev pub counted_to : ℕ → ℕ
+counted_to n = min n (2 ^ 64 - 1)
+
+-- of what was to be printed not all went out, but its first bytes, and so many of them
+abbrev pub WentIn : Option (List ℕ) → Option (List ℕ) → List ℕ → ℕ → Type 0
+WentIn old new whole sent = (went : ℕ) × (went < length whole) × Appends old new (take went whole) × (sent ≡ counted_to went)
+
+-- what went out of a text: all of it, and the answer says how many bytes it has and whether it was
+-- a fault; or its first bytes up to the write that failed
+abbrev pub GoesOut : Option (List ℕ) → Option (List ℕ) → List ℕ → Bool → Result Answered ℕ → Type 0
+GoesOut old new whole refused (Ok done) = Appends old new whole × (done.sent ≡ length whole) × (done.is_refused ≡ refused)
+GoesOut old new whole refused (Err sent) = WentIn old new whole sent
+
+-- what the call for one text answers
+abbrev pub AnswersText : Shape → List ℕ → Option Files → Show → List ℕ → Option (List ℕ) → Option (List ℕ) → Result Answered ℕ → Type 0
+AnswersText board name known show text old new result =
+    (answer : Answer) × IsAnswer board name known show text answer × GoesOut old new (answer_text board show text answer) (is_err answer) result
+
+-- ---- many texts
+
+-- texts and their answers, in order
+abbrev pub Given : Type 0
+Given = List (List ℕ × Answer)
+
+-- these texts were answered, each with its answer
+pub record AreGiven (board : Shape) (name : List ℕ) (known : Option Files) (show : Show) (texts : List (List ℕ)) (given : Given) : Type 0 where
+  pub listed : map (λ (g : List ℕ × Answer). g.0) given ≡ texts
+  pub each : (g : List ℕ × Answer) → Contains given g → IsAnswer board name known show g.0 g.1
+
+-- what is printed of them, one after the other
+abbrev pub printed_of : Shape → Show → Given → List ℕ
+printed_of board show given = flat_map (λ (g : List ℕ × Answer). answer_text board show g.0 g.1) given
+
+-- how many of them are faults
+abbrev pub refused_in : Given → ℕ
+refused_in [] = 0
+refused_in (g ∷ given) = (if is_err g.1 then 1 else 0) + refused_in given
+
+-- What is counted after the next text: the bytes that went out, and whether it was a fault; or the
+-- bytes that went out until a write failed.
+abbrev pub IsTallied : Tally → Tally → Result Answered ℕ → Result (Unit {0}) QueryFault → Type 0
+IsTallied old new (Ok done) result =
+    (result ≡ Ok tt) × (new.sent ≡ counted_to (old.sent + done.sent))
+    × (new.refused ≡ counted_to (old.refused + (if done.is_refused then 1 else 0)))
+IsTallied old new (Err sent) result = result ≡ Err (query.Write (counted_to (old.sent + sent)))
+
+-- one failed write was counted where the answer is that a write failed, and none where it is another
+abbrev pub CountsWrites : {T : Type 0} → ℕ → ℕ → Result T QueryFault → Type 0
+CountsWrites old new (Ok done) = new ≡ old
+CountsWrites old new (Err (query.Write sent)) = new ≡ old + 1
+CountsWrites old new (Err _) = new ≡ old
+
+-- What the call for a list of texts answers: how many were answered by a fault, where all answers
+-- went out; a write that failed, of the answers to the first texts; or want of memory, before
+-- anything went out.
+abbrev pub AnswersTexts : Shape → List ℕ → Option Files → Show → List (List ℕ) → Option (List ℕ) → Option (List ℕ) → Result ℕ QueryFault → Type 0
+AnswersTexts board name known show texts old new (Ok refused) =
+    (given : Given) × AreGiven board name known show texts given × Appends old new (printed_of board show given) × (refused ≡ counted_to (refused_in given))
+AnswersTexts board name known show texts old new (Err (query.Write sent)) =
+    (n : ℕ) × (given : Given) × AreGiven board name known show (take n texts) given × WentIn old new (printed_of board show given) sent
+AnswersTexts board name known show texts old new (Err query.Memory) = Keeps old new
+AnswersTexts board name known show texts old new (Err _) = ⊥
+
+-- What the command answers: that there is no board of the name, with nothing printed; otherwise what
+-- it answers on the board.
+abbrev pub AnswersLookup : Option Shape → List ℕ → Option Files → Show → List (List ℕ) → Option (List ℕ) → Option (List ℕ) → Result ℕ QueryFault → Type 0
+AnswersLookup None name known show texts old new result = (result ≡ Err query.Board) × Keeps old new
+AnswersLookup (Some board) name known show texts old new result = AnswersTexts board name known show texts old new result

@@ -1,0 +1,6 @@
+pub mod Libraries
+pub mod Telling
+pub mod Exactness
+pub mod Printing
+pub mod Answers
+pub mod Refusals

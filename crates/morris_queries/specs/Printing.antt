@@ -1,0 +1,68 @@
+-- What is printed of an answer.
+use Rattle.std.specs.Prelude.{ℕ, ◌*◌, ◌≤◌, nat_le, List, [], ◌∷◌, ◌++◌, length, take, codes, Result, Ok, Err, if◌then◌else◌}
+use Rattle.std.specs.List.{flat_map}
+use Rattle.std.specs.Fmt.{decimal}
+use Rattle.morris_board.specs.Boards.{Shape}
+use Rattle.morris_board.specs.Positions.{Sides, text_of}
+use Rattle.morris_moves.specs.MoveText.{move_text}
+use Rattle.morris_moves.specs.declared.step.Move.{Move}
+use Rattle.morris_table.specs.declared.value.Value.{Value}
+use Rattle.morris_table.specs.declared.value.Value.TheVariants.{Draw, Won, Lost}
+use Rattle.morris_lookup.specs.declared.outcomes.Outcome.{Outcome}
+use Rattle.morris_commands.specs.declared.fault.Fault.{Fault}
+use Rattle.morris_commands.specs.Faults.{fault_line}
+use Rattle.morris_queries.specs.declared.show.Show.{Show}
+use Rattle.morris_queries.specs.declared.show.Show.TheVariants as show
+use Rattle.morris_queries.specs.Telling.{Telling}
+
+-- `draw`, `won in D` or `lost in D`
+abbrev pub value_text : Value → List ℕ
+value_text Draw = codes "draw"
+value_text (Won depth) = codes "won in " ++ decimal depth
+value_text (Lost depth) = codes "lost in " ++ decimal depth
+
+-- a move after a blank
+abbrev pub spaced : Move → List ℕ
+spaced m = codes " " ++ move_text m
+
+-- the best moves after a colon, and nothing where there are none
+abbrev pub best_text : List Move → List ℕ
+best_text [] = []
+best_text (m ∷ ms) = codes ":" ++ flat_map spaced (m ∷ ms)
+
+-- the text that was asked about: of one that is too long its first characters, and two dots
+abbrev pub shown_text : ℕ → List ℕ → List ℕ
+shown_text points text = if nat_le (length text) points then text else take points text ++ codes ".."
+
+-- the text, the value and the best moves, as a line
+unfoldable pub first_line : ℕ → List ℕ → Telling → List ℕ
+first_line points text t = shown_text points text ++ (codes " " ++ value_text t.value) ++ best_text t.best ++ (10 ∷ [])
+
+-- two blanks, a move, and the value that it leads to
+unfoldable pub outcome_line : Outcome → List ℕ
+outcome_line o = codes "  " ++ move_text o.step ++ (codes " " ++ value_text o.value) ++ (10 ∷ [])
+
+-- two blanks, a move, and the text of the position after it
+unfoldable pub ply_line : Shape → Move × Sides → List ℕ
+ply_line board ply = codes "  " ++ move_text ply.0 ++ (codes " " ++ text_of board ply.1) ++ (10 ∷ [])
+
+-- what stands below the first line
+abbrev pub below_text : Shape → Show → Telling → List ℕ
+below_text board show.Best t = []
+below_text board show.Moves t = flat_map outcome_line t.outcomes
+below_text board show.Line t = flat_map (ply_line board) t.line
+
+-- what is told of a position, below the text that was asked about
+unfoldable pub told_text : Shape → Show → List ℕ → Telling → List ℕ
+told_text board show text t = first_line board.points text t ++ below_text board show t
+
+-- the answer to a text: what is told of the position, or the line of the fault after the text
+abbrev pub answer_text : Shape → Show → List ℕ → Result Telling Fault → List ℕ
+answer_text board show text (Ok t) = told_text board show text t
+answer_text board show text (Err refused) = shown_text board.points text ++ codes ": " ++ fault_line refused
+
+-- what is told is little enough to be counted while it is printed
+pub record IsShort (t : Telling) : Type 0 where
+  pub best : length t.best ≤ 9 * 24 * 9
+  pub outcomes : length t.outcomes ≤ 9 * 24 * 9
+  pub line : length t.line ≤ 65535

@@ -1,0 +1,158 @@
+-- What the files of a folder tell of positions.
+use Rattle.std.specs.Prelude.{◌≡◌, ◌⊎◌, ℕ, zero, suc, Bool, true, false, ◌&&◌, nat_eq, List, [], ◌∷◌, map, filter, slice_get, Option, Some, None, unwrap_or, Result, Ok, Err, if◌then◌else◌}
+use Rattle.morris_board.specs.Boards.{Shape}
+use Rattle.morris_board.specs.Positions.{Sides, read_of}
+use Rattle.morris_board.specs.declared.faults.TextFault.{TextFault}
+use Rattle.morris_index.specs.Pairs.{Counts, pair_of}
+use Rattle.morris_moves.specs.declared.step.Move.{Move}
+use Rattle.morris_moves.specs.Rules.{moves_of, result_of}
+use Rattle.morris_table.specs.declared.layout.Layout.{Layout}
+use Rattle.morris_table.specs.declared.value.Value.{Value}
+use Rattle.morris_table.specs.declared.value.Value.TheVariants.{Draw, Won, Lost}
+use Rattle.morris_table.specs.declared.file_faults.ReadFault.{ReadFault}
+use Rattle.morris_table.specs.Codes.{value_in}
+use Rattle.morris_lookup.specs.declared.outcomes.Outcome.{Outcome}
+use Rattle.morris_lookup.specs.FileSets.{Files as OpenFiles, file_for}
+use Rattle.morris_lookup.specs.Lookups.{code_for, depth_of}
+use Rattle.morris_lookup.specs.Opening.{OpenFile, open_file, framed_in}
+use Rattle.morris_lookup.specs.Outcomes.{turned}
+use Rattle.morris_folders.specs.Files.{Files}
+use Rattle.morris_keeping.specs.Names.{name_of}
+use Rattle.morris_commands.specs.declared.fault.Fault.{Fault}
+use Rattle.morris_commands.specs.declared.fault.Fault.TheVariants as fault
+use Rattle.morris_commands.specs.Faults.{text_fault, needs_fault}
+use Rattle.morris_commands.specs.Verify.{read_fault}
+use Rattle.morris_queries.specs.declared.show.Show.{Show}
+use Rattle.morris_queries.specs.declared.show.Show.TheVariants as show
+
+-- ---- the steps of an answer
+
+-- what comes after a step that may have been refused
+abbrev pub followed : {A B : Type 0} → Result A Fault → (A → Result B Fault) → Result B Fault
+followed (Ok found) next = next found
+followed (Err refused) next = Err refused
+
+-- what was found is what is to be found, or memory ran out on the way
+abbrev pub Agrees : {A : Type 0} → Result A Fault → Result A Fault → Type 0
+Agrees found wanted = (wanted ≡ found) ⊎ (found ≡ Err fault.Memory)
+
+-- why a step was refused: it was to be, or memory ran out on the way
+abbrev pub IsRefusal : {A : Type 0} → Fault → Result A Fault → Type 0
+IsRefusal refused wanted = (wanted ≡ Err refused) ⊎ (refused ≡ fault.Memory)
+
+-- ---- the file of a pair
+
+abbrev pub same_counts : Counts → Counts → Bool
+same_counts c d = nat_eq c.greater d.greater && nat_eq c.lesser d.lesser
+
+-- what bytes are as the file of a pair: that of another pair isn't the one that is needed
+abbrev pub framed_as : Counts → List ℕ → Result (Layout × Counts) ReadFault → Result OpenFile Fault
+framed_as c bytes (Err refusal) = Err (read_fault refusal)
+framed_as c bytes (Ok kind) = if same_counts kind.1 c then Ok (open_file kind.0 c (Some bytes)) else Err (needs_fault c)
+
+-- what stands under the name of a pair's file: nothing, or bytes that are that file or aren't
+abbrev pub opened_as : Shape → Counts → Option (List ℕ) → Result OpenFile Fault
+opened_as board c None = Err (needs_fault c)
+opened_as board c (Some bytes) = framed_as c bytes (framed_in board bytes)
+
+-- the value that a file states for a position of its pair
+abbrev pub stated_in : Shape → Sides → OpenFile → Value
+stated_in board s file = value_in (code_for board file (unwrap_or file.bytes []) s)
+
+-- ---- best moves
+
+abbrev pub same_value : Value → Value → Bool
+same_value Draw Draw = true
+same_value (Won depth) (Won other) = nat_eq depth other
+same_value (Lost depth) (Lost other) = nat_eq depth other
+same_value _ _ = false
+
+-- of the legal moves with what they lead to, those that lead to the position's own value
+abbrev pub best_among : Value → List Outcome → List Move
+best_among value outcomes = map (λ o. o.step) (filter (λ o. same_value o.value value) outcomes)
+
+abbrev pub outcome : Move → Value → Outcome
+outcome m value = record { step = m; value = value }
+
+-- what is told of a position: its value, its best moves, what each legal move leads to, and the
+-- moves of a line of play, each with the position after it
+pub record Telling : Type 0 where
+  pub value : Value
+  pub best : List Move
+  pub outcomes : List Outcome
+  pub line : List (Move × Sides)
+
+abbrev pub telling : Value → List Move → List Outcome → List (Move × Sides) → Telling
+telling value best outcomes line = record { value = value; best = best; outcomes = outcomes; line = line }
+
+-- the legal moves are all there, in order, and the best ones are those that lead to the value
+pub record IsListed (board : Shape) (s : Sides) (t : Telling) : Type 0 where
+  pub legal : map (λ (o : Outcome). o.step) t.outcomes ≡ moves_of board s
+  pub best : t.best ≡ best_among t.value t.outcomes
+
+-- the first of a list and what comes of it, and where there is none the other
+abbrev pub with_first : {A B : Type 0} → Option A → B → (A → B) → B
+with_first None other next = other
+with_first (Some first) other next = next first
+
+-- ---- what the files of this folder tell, those of this board by its name
+
+module _ (board : Shape) (name : List ℕ) (files : Files) where
+  -- the file of a pair
+  unfoldable pub table_in : Counts → Result OpenFile Fault
+  table_in c = opened_as board c (files (name_of name c))
+
+  -- The value of a position: what the file of its pair states. A position whose player to move has
+  -- two stones is of no pair: it is lost at once.
+  abbrev pub value_at : Sides → Option Counts → Result Value Fault
+  value_at s None = Ok (Lost 0)
+  value_at s (Some c) = followed (table_in c) (λ file. Ok (stated_in board s file))
+
+  unfoldable pub told_value : Sides → Result Value Fault
+  told_value s = value_at s (pair_of s)
+
+  -- what a move leads to: the value of its result, turned round
+  abbrev pub told_outcome : Sides → Move → Result Outcome Fault
+  told_outcome s m = followed (told_value (result_of s m)) (λ value. Ok (outcome m (turned value)))
+
+  -- what each of these moves leads to, or the first fault
+  unfoldable pub told_outcomes : Sides → List Move → Result (List Outcome) Fault
+  told_outcomes s [] = Ok []
+  told_outcomes s (m ∷ ms) = followed (told_outcome s m) (λ o. followed (told_outcomes s ms) (λ os. Ok (o ∷ os)))
+
+  -- the value of a position, its best moves, and what each legal move leads to
+  unfoldable pub told_of : Sides → Result Telling Fault
+  told_of s = followed (told_value s) (λ value.
+      followed (told_outcomes s (moves_of board s)) (λ os. Ok (telling value (best_among value os) os [])))
+
+  -- The line of best play over so many plies at most: the first best move, the position after it,
+  -- and what follows from there. It ends where there is no best move.
+  unfoldable pub told_line : ℕ → Sides → Result (List (Move × Sides)) Fault
+  told_line zero s = Ok []
+  told_line (suc plies) s = followed (told_of s) (λ t. with_first (slice_get t.best 0) (Ok []) (λ m.
+      followed (told_line plies (result_of s m)) (λ rest. Ok ((m, result_of s m) ∷ rest))))
+
+  -- the line that is shown: as many plies as the value says, none at a draw
+  abbrev pub shown_line : Show → Value → Sides → Result (List (Move × Sides)) Fault
+  shown_line show.Best value s = Ok []
+  shown_line show.Moves value s = Ok []
+  shown_line show.Line value s = told_line (depth_of value) s
+
+  unfoldable pub told_shown : Show → Sides → Result Telling Fault
+  told_shown show s = followed (told_of s) (λ t.
+      followed (shown_line show t.value s) (λ line. Ok (telling t.value t.best t.outcomes line)))
+
+  -- the answer to a text
+  abbrev pub told_to : Show → Result Sides TextFault → Result Telling Fault
+  told_to show (Err refused) = Err (text_fault refused)
+  told_to show (Ok s) = told_shown show s
+
+  unfoldable pub told_text : Show → List ℕ → Result Telling Fault
+  told_text show text = told_to show (read_of board text)
+
+-- ---- files that are open
+
+-- each open file is the one that the folder has for its pair, where the folder's files are known
+abbrev pub AreOf : Shape → List ℕ → Option Files → OpenFiles → Type 0
+AreOf board name known opened =
+    (files : Files) → known ≡ Some files → (c : Counts) (file : OpenFile) → file_for opened c ≡ Some file → table_in board name files c ≡ Ok file

@@ -1,0 +1,78 @@
+//! The answers to a list of texts.
+ghost use Rattle.std.specs.Prelude.{◌≡◌, ◌-◌, ◌^◌, ◌<◌, map};
+ghost use Rattle.morris_queries.specs.Answers.{AnswersTexts, CountsWrites, IsTallied};
+
+use crate::answer::{Answered, answer_text};
+use crate::fault::QueryFault;
+use crate::library::Library;
+use crate::show::Show;
+use crate::values::no_files;
+use morris_board::board::Geometry;
+use morris_board::streams::Sink;
+use std::alloc::Global;
+
+/// How much went out so far.
+#[derive(Clone, Copy, Debug, PartialEq, Eq)]
+pub(crate) struct Tally {
+    /// How many bytes, or `u64::MAX` where they are more.
+    pub(crate) sent: u64,
+    /// How many answers were faults, or `u64::MAX` where they are more.
+    pub(crate) refused: u64,
+}
+
+impl Tally {
+    /// Nothing yet.
+    pub(crate) const NONE: Tally = Tally {
+        sent: 0,
+        refused: 0,
+    };
+
+    /// Takes in what came of the next text.
+    ///
+    /// # Errors
+    /// [`QueryFault::Write`] with the bytes that went out before and of this text, where a write
+    /// failed.
+    pub(crate) fn take(&mut self, answered: Result<Answered, u64>) -> Result<(), QueryFault>
+        ensures { IsTallied self.old self.new answered result }
+    {
+        match answered {
+            Ok(done) => {
+                self.sent = self.sent.saturating_add(done.sent);
+                self.refused = self.refused.saturating_add(u64::from(done.is_refused));
+                Ok(())
+            }
+            Err(sent) => Err(QueryFault::Write(self.sent.saturating_add(sent))),
+        }
+    }
+}
+
+/// Answers a list of texts, one after the other, as [`answer_text`] answers each, and counts those
+/// that are answered by a fault. Files are opened when a position first needs them, and stay open.
+///
+/// # Errors
+/// [`QueryFault::Memory`] where there is no room for the places of open files, before anything is
+/// answered; [`QueryFault::Write`], with the bytes that went out, at the first write that fails.
+pub fn answer_texts<B: Geometry, L: Library, O: Sink>(
+    alloc: Global,
+    board: &str,
+    library: &mut L,
+    texts: &[&str],
+    show: Show,
+    output: &mut O,
+) -> Result<u64, QueryFault>
+    requires failures { O.failures output.old < 2 ^ 64 - 1 }
+    ensures kept { L.files library.new ≡ L.files library.old }
+    ensures answer { AnswersTexts B.shape board.now (L.files library.old) show (map (λ text. text.now) texts.now) (O.contents output.old) (O.contents output.new) result }
+    ensures counted { CountsWrites (O.failures output.old) (O.failures output.new) result }
+{
+    let Ok(mut tables) = no_files::<B, L>(alloc) else {
+        return Err(QueryFault::Memory);
+    };
+    let mut tally = Tally::NONE;
+    for text in texts {
+        let bytes = text.as_bytes();
+        let answered = answer_text(alloc, board, library, &mut tables, bytes, show, output);
+        tally.take(answered)?;
+    }
+    Ok(tally.refused)
+}

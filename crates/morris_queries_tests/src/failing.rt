@@ -1,0 +1,31 @@
+// A write that fails ends the answers.
+use crate::making::files;
+use morris_board::grid::Grid;
+use morris_folders::folder::Folder;
+use morris_folders::memory::MemoryFolder;
+use morris_queries::fault::QueryFault;
+use morris_queries::memory::Held;
+use morris_queries::show::Show;
+use morris_queries::texts::answer_texts;
+use morris_table::layout::Layout;
+use std::process::Abort;
+
+#[test]
+fn a_write_that_fails_is_told(rt: HostRuntime) {
+    let (small, _) = files(&rt, rt.alloc(), Layout::Full).expect(&rt, "two files");
+    let held = [("grid-3-3.nmmt", small.as_slice())];
+    let mut held = Held { files: &held };
+    // The second write of the file fails: the first answer has 28 bytes.
+    let mut folder = MemoryFolder::new(rt.alloc(), 0, 2);
+    let mut output = folder.create("out").expect(&rt, "a file");
+    let texts = ["XXXOOO...", "XXX.OO.O."];
+    let answer = answer_texts::<Grid, _, _>(
+        rt.alloc(),
+        "grid",
+        &mut held,
+        &texts,
+        Show::Best,
+        &mut output,
+    );
+    assert!(rt; answer == Err(QueryFault::Write(28)));
+}

@@ -1,0 +1,10 @@
+//! The tests of questions to table files, apart so that the library is proved once. They are no
+//! part of the product.
+#![tactic(auto)]
+
+#[cfg(test)]
+mod asking;
+#[cfg(test)]
+mod failing;
+#[cfg(test)]
+mod making;
