@@ -1,0 +1,2 @@
+-- Lemmas on the definitions of this crate.
+pub mod CallLaws

@@ -1,0 +1,44 @@
+use Rattle.std.proofs.Common.{w32, to_z, of_z, SFits, rules, ◌≡◌, ℕ, Result, Ok, Err, refl, sym, ap, subst, ◌∙◌}
+use Rattle.std.specs.Prelude.{pos}
+use Rattle.std.proofs.lemmas.Int.{to_z-of_z}
+use Rattle.morris_views.specs.declared.fault.ViewFault.{ViewFault}
+use Rattle.morris_views.specs.declared.fault.ViewFault.TheVariants.{Room}
+use Rattle.morris_views.specs.Files.{contents}
+use Rattle.morris_c.specs.Statuses.{view_status}
+use Rattle.morris_c.specs.Calls.{ListsMoves, TellsMoves}
+use Rattle.morris_c.proofs.CallLaws.{no_fault, not_done}
+use Rattle.morris_c.proofs.calls.list_moves.Goals as goal
+
+never : (done : ℕ) → ◌≡◌ {A = Result ℕ ViewFault} (Ok done) (Err Room) → ⊥
+never done e = cc
+
+same : (fault : ViewFault) → ◌≡◌ {A = Result ℕ ViewFault} (Err fault) (Err Room) → fault ≡ Room
+same fault e = cc
+
+pub returns-in-Ok-outcomes : goal.returns-in-Ok-outcomes
+returns-in-Ok-outcomes g c =
+    subst (λ s. ListsMoves g.B.Geometry.shape c.args.words.now (contents c.args.files.now) s (pos 0) c.args.out.now c.outcomes.new.out c.args.count.now c.in-Ok-outcomes.done)
+    c.in-Ok.ensures.made
+    (record {
+      refused = λ fault r. absurd (no_fault g.B.Geometry.shape c.in-Ok.position fault c.own.ensures.lawful r);
+      room = λ position less. absurd (never c.in-Ok-outcomes.done (c.in-Ok-outcomes.ensures.room less));
+      said = λ position serve fits.
+          subst (λ r. TellsMoves r (pos 0) c.outcomes.new.out c.args.count.now c.in-Ok-outcomes.done) (sym (c.in-Ok-outcomes.ensures.said serve fits)) (refl, refl);
+      exact = λ position serve exact done. c.in-Ok-outcomes.ensures.exact serve exact;
+    })
+
+pub returns-in-Err-outcomes : goal.returns-in-Err-outcomes
+returns-in-Err-outcomes g c =
+    let fits : SFits w32 c.view_status.result = search rules in
+    let kept : to_z w32 (of_z w32 c.view_status.result) ≡ pos (view_status c.in-Err-outcomes.fault) = to_z-of_z w32 c.view_status.result fits ∙ c.view_status.ensures in
+    subst (λ s. ListsMoves g.B.Geometry.shape c.args.words.now (contents c.args.files.now) s (to_z w32 (of_z w32 c.view_status.result)) c.args.out.now c.outcomes.new.out c.args.count.now
+    c.args.count.now)
+    c.in-Ok.ensures.made
+    (record {
+      refused = λ fault r. absurd (no_fault g.B.Geometry.shape c.in-Ok.position fault c.own.ensures.lawful r);
+      room = λ position less. (kept ∙ ap (λ f. pos (view_status f)) (same c.in-Err-outcomes.fault (c.in-Err-outcomes.ensures.room less)), refl);
+      said = λ position serve fits.
+          subst (λ r. TellsMoves r (to_z w32 (of_z w32 c.view_status.result)) c.outcomes.new.out c.args.count.now c.args.count.now) (sym (c.in-Err-outcomes.ensures.refused serve fits))
+          (kept, refl);
+      exact = λ position serve exact done. absurd (not_done c.in-Err-outcomes.fault _ kept done);
+    })

@@ -1,0 +1,54 @@
+-- What calls answer, on one board: the status, and what they write where it is 0.
+use Rattle.std.specs.Prelude.{◌≡◌, ◌≢◌, ℕ, ℤ, pos, true, false, ◌<◌, ◌≤◌, List, length, take, Result, Ok, Err}
+use Rattle.morris_board.specs.Boards.{Shape}
+use Rattle.morris_board.specs.Positions.{Sides, IsPosition}
+use Rattle.morris_moves.specs.Rules.{moves_of}
+use Rattle.morris_table.specs.declared.value.Value.{Value}
+use Rattle.morris_table.specs.declared.file_faults.ReadFault.{ReadFault}
+use Rattle.morris_table.specs.Codes.{IsValue}
+use Rattle.morris_views.specs.declared.fault.ViewFault.{ViewFault}
+use Rattle.morris_views.specs.declared.fault.MaskFault.{MaskFault}
+use Rattle.morris_views.specs.declared.records.ValueRecord.{ValueRecord}
+use Rattle.morris_views.specs.declared.records.MoveRecord.{MoveRecord}
+use Rattle.morris_views.specs.declared.check.HeaderRecord.{HeaderRecord}
+use Rattle.morris_views.specs.Masks.{IsMaskRefusal}
+use Rattle.morris_views.specs.Records.{value_record}
+use Rattle.morris_views.specs.Views.{ServeAll, AreExactFiles, value_said, needs_words}
+use Rattle.morris_views.specs.Prepared.{looks_prepared}
+use Rattle.morris_views.specs.Outcomes.{outcomes_said, AreExactOutcomes}
+use Rattle.morris_c.specs.Statuses.{mask_status, read_status, view_status}
+
+-- a value is written, with status 0; or nothing, with that of the fault
+abbrev pub TellsValue : Result Value ViewFault → ℤ → ValueRecord → ValueRecord → Type 0
+TellsValue (Ok value) status old new = (status ≡ pos 0) × (new ≡ value_record value)
+TellsValue (Err fault) status old new = (status ≡ pos (view_status fault)) × (new ≡ old)
+
+-- What looking a position up answers. Masks that aren't one have the status of the fault, and
+-- nothing is written. Where the words serve the files, it is what the files say; and where these
+-- are exact, a value that is told is that of the game. From a file by classes no value is told
+-- where the words don't look prepared.
+pub record LooksUp (board : Shape) (words : List ℕ) (files : List (List ℕ)) (s : Sides) (status : ℤ) (old new : ValueRecord) : Type 0 where
+  pub refused : (fault : MaskFault) → IsMaskRefusal board s fault → (status ≡ pos (mask_status fault)) × (new ≡ old)
+  pub said : IsPosition board s → ServeAll board words files → TellsValue (value_said board files s) status old new
+  pub exact : IsPosition board s → ServeAll board words files → AreExactFiles board files → status ≡ pos 0
+      → (value : Value) × IsValue board s value × (new ≡ value_record value)
+  pub unready : IsPosition board s → needs_words files s ≡ true → looks_prepared board words ≡ false → status ≢ pos 0
+
+-- the moves are written, with status 0 and their number; or that of the fault
+abbrev pub TellsMoves : Result (List MoveRecord) ViewFault → ℤ → List MoveRecord → ℕ → ℕ → Type 0
+TellsMoves (Ok outcomes) status out old new = (status ≡ pos 0) × (take new out ≡ outcomes)
+TellsMoves (Err fault) status out old new = (status ≡ pos (view_status fault)) × (new ≡ old)
+
+-- What listing the moves answers, in the same way.
+pub record ListsMoves (board : Shape) (words : List ℕ) (files : List (List ℕ)) (s : Sides) (status : ℤ) (old new : List MoveRecord) (old_count new_count : ℕ) : Type 0 where
+  pub refused : (fault : MaskFault) → IsMaskRefusal board s fault → (status ≡ pos (mask_status fault)) × (new ≡ old) × (new_count ≡ old_count)
+  pub room : IsPosition board s → length old < length (moves_of board s) → (status ≡ pos 7) × (new_count ≡ old_count)
+  pub said : IsPosition board s → ServeAll board words files → length (moves_of board s) ≤ length old
+      → TellsMoves (outcomes_said board files s (moves_of board s)) status new old_count new_count
+  pub exact : IsPosition board s → ServeAll board words files → AreExactFiles board files → status ≡ pos 0
+      → AreExactOutcomes board s (moves_of board s) (take new_count new)
+
+-- a header is written, with status 0; or nothing, with that of the fault
+abbrev pub TellsHeader : Result HeaderRecord ReadFault → ℤ → HeaderRecord → HeaderRecord → Type 0
+TellsHeader (Ok header) status old new = (status ≡ pos 0) × (new ≡ header)
+TellsHeader (Err refusal) status old new = (status ≡ pos (read_status refusal)) × (new ≡ old)

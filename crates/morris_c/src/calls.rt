@@ -1,0 +1,93 @@
+//! The calls, for any board.
+ghost use Rattle.std.specs.Prelude.{◌≡◌, ◌<◌, ◌≤◌, pos, length};
+ghost use Rattle.morris_board.specs.Positions.{sides};
+ghost use Rattle.morris_views.specs.Checking.{header_said};
+ghost use Rattle.morris_views.specs.Files.{contents};
+ghost use Rattle.morris_views.specs.Prepared.{prepared_count, IsPrepared};
+ghost use Rattle.morris_c.specs.Calls.{LooksUp, ListsMoves, TellsHeader};
+
+use crate::statuses::{DONE, ROOM, mask_status, read_status, view_status};
+use morris_board::board::Geometry;
+use morris_views::check::{HeaderRecord, check};
+use morris_views::masks::position_of;
+use morris_views::outcomes::outcomes;
+use morris_views::prepared::prepare;
+use morris_views::records::{MoveRecord, ValueRecord, value_record};
+use morris_views::value::value;
+use morris_views::view::View;
+
+/// Prepares words.
+pub fn prepare_words<B: Geometry>(words: &mut [u32]) -> i32
+    ensures done { result ≡ pos 0 → IsPrepared B.shape words.new }
+    ensures room { prepared_count B.shape ≤ length words.old → result ≡ pos 0 }
+    ensures short { length words.old < prepared_count B.shape → result ≡ pos 7 }
+{
+    match prepare::<B>(words) {
+        Ok(_) => DONE,
+        Err(_) => ROOM,
+    }
+}
+
+/// Writes what the header of a table file says.
+pub fn check_header<B: Geometry>(bytes: &[u8], out: &mut HeaderRecord) -> i32
+    ensures { TellsHeader (header_said B.shape bytes.now) result out.old out.new }
+{
+    match check::<B>(bytes) {
+        Ok(header) => {
+            *out = header;
+            DONE
+        }
+        Err(refusal) => read_status(refusal),
+    }
+}
+
+/// Writes the value of a position.
+pub fn look_up<B: Geometry>(
+    files: &[View<'_>],
+    words: &[u32],
+    own: u32,
+    other: u32,
+    out: &mut ValueRecord,
+) -> i32
+    ensures { LooksUp B.shape words.now (contents files.now) (sides own other) result out.old out.new }
+{
+    let position = match position_of::<B>(own, other) {
+        Ok(position) => position,
+        Err(fault) => return mask_status(fault),
+    };
+    // The proof learns the rules of a position where its stones are read.
+    let _ = position.own();
+    match value(files, words, &position) {
+        Ok(value) => {
+            *out = value_record(value);
+            DONE
+        }
+        Err(fault) => view_status(fault),
+    }
+}
+
+/// Writes the legal moves of a position, and how many there are.
+pub fn list_moves<B: Geometry>(
+    files: &[View<'_>],
+    words: &[u32],
+    own: u32,
+    other: u32,
+    out: &mut [MoveRecord],
+    count: &mut usize,
+) -> i32
+    ensures { ListsMoves B.shape words.now (contents files.now) (sides own other) result out.old out.new count.old count.new }
+{
+    let position = match position_of::<B>(own, other) {
+        Ok(position) => position,
+        Err(fault) => return mask_status(fault),
+    };
+    // The proof learns the rules of a position where its stones are read.
+    let _ = position.own();
+    match outcomes(files, words, &position, out) {
+        Ok(done) => {
+            *count = done;
+            DONE
+        }
+        Err(fault) => view_status(fault),
+    }
+}

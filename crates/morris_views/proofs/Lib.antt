@@ -1,0 +1,8 @@
+-- Lemmas on the definitions of this crate.
+pub mod PreparedLaws
+pub mod BinomialTable
+pub mod EntryLaws
+pub mod FileLaws
+pub mod ViewLaws
+pub mod ExactLaws
+pub mod OutcomeLaws

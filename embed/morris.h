@@ -1,0 +1,178 @@
+/* Morris: the values of Nine Men's Morris positions, from the table files that `morris build`
+ * makes.
+ *
+ * A program maps or reads the table files into memory and hands them to each call as an array of
+ * views. The library keeps nothing: it has no state, takes no memory, opens no files and never
+ * changes what it is handed but for the results. So every call may be made from any thread at any
+ * time, with the same views and words, as long as nobody changes these meanwhile.
+ *
+ * Boards: MORRIS_NINE is the usual board, with 24 points: three rings of eight, outer, middle and
+ * inner, where point 8 * r + k is place k of ring r, clockwise from the top left corner.
+ * MORRIS_GRID is a board of three rows and three columns, for trials. A set of points is a mask:
+ * bit p stands for point p.
+ *
+ * A position is two masks: `own` has the stones of the player to move, 2 to 9, and `other` those of
+ * the opponent, 3 to 9. They have no point in common. All stones are on the board: the table files
+ * are those of the second phase of the game.
+ *
+ * Each call answers a status, MORRIS_OK or another, and writes its results only with MORRIS_OK, but
+ * where it says otherwise. Any numbers and any bytes may be handed in. What the caller owes is that
+ * each pointer is valid: not null, rightly aligned, and with as many elements behind it as are
+ * named beside it; and that results have places of their own, which overlap nothing else that is
+ * handed in. Where no elements are named, any pointer that isn't null will do. */
+#ifndef MORRIS_H
+#define MORRIS_H
+
+#include <stddef.h>
+#include <stdint.h>
+
+#ifdef __cplusplus
+extern "C" {
+#endif
+
+/* The version of this interface: raised where a program has to be changed or compiled anew. */
+#define MORRIS_INTERFACE 1
+
+/* ---- boards, kinds of values */
+
+#define MORRIS_NINE 0u
+#define MORRIS_GRID 1u
+
+#define MORRIS_DRAW 0u /* neither player can force a win */
+#define MORRIS_WON 1u  /* the player to move wins, in an odd number of plies */
+#define MORRIS_LOST 2u /* the player to move has lost, in an even number of plies */
+
+#define MORRIS_NONE 255u /* in place of a point: no stone is taken */
+
+/* No position has more legal moves. */
+#define MORRIS_MOST_MOVES 1944u
+
+/* ---- statuses */
+
+enum {
+    MORRIS_OK = 0,
+    MORRIS_NO_BOARD = 1,     /* there is no board with this number */
+    MORRIS_OFF_BOARD = 2,    /* a mask has a point that the board doesn't have */
+    MORRIS_OVERLAP = 3,      /* the masks have a point in common */
+    MORRIS_STONES = 4,       /* a player has a number of stones that no position has */
+    MORRIS_NO_TABLE = 5,     /* none of the files is that of a position that is asked for */
+    MORRIS_NOT_PREPARED = 6, /* a file is one by classes, and the words aren't prepared ones */
+    MORRIS_ROOM = 7,         /* there is too little room for the results */
+    MORRIS_SHORT = 8,        /* a file has fewer bytes than its header says, or than a header has */
+    MORRIS_MAGIC = 9,        /* a file doesn't begin with NMMT: it is no table file */
+    MORRIS_VERSION = 10,     /* the version of a file is neither 1 nor 2 */
+    MORRIS_OTHER_BOARD = 11, /* a file is that of another board */
+    MORRIS_COUNTS = 12,      /* a number of stones in a header isn't 3 to 9, or they are swapped */
+    MORRIS_CROWDED = 13,     /* a header has more stones than the board has points */
+    MORRIS_ENTRIES = 14,     /* a header states a number of entries that isn't that of its table */
+    MORRIS_TRAILING = 15,    /* a file has more bytes than its header says */
+    MORRIS_DIGEST = 16       /* the digest at the end of a file isn't that of its bytes */
+};
+
+/* ---- what is handed in and out */
+
+/* A table file, as it lies in memory. */
+typedef struct morris_view {
+    const uint8_t *bytes;
+    size_t len;
+} morris_view;
+
+/* The value of a position, for the player to move. */
+typedef struct morris_value {
+    uint16_t kind;  /* MORRIS_DRAW, MORRIS_WON or MORRIS_LOST */
+    uint16_t depth; /* in how many plies the game is over by best play, 0 at a draw */
+} morris_value;
+
+/* A legal move: a stone goes from one point to another. */
+typedef struct morris_move {
+    uint8_t from;
+    uint8_t to;
+    uint8_t taken; /* the point of the opponent's stone that is taken, or MORRIS_NONE */
+    uint8_t pad;   /* 0 */
+    morris_value value; /* what the move leads to, for the player who makes it; it is counted */
+} morris_move;
+
+/* What the header of a table file says. */
+typedef struct morris_header {
+    uint8_t version; /* 1: an entry for each position; 2: by classes, which needs prepared words */
+    uint8_t board;   /* MORRIS_NINE or MORRIS_GRID */
+    uint8_t greater; /* the pair of numbers of stones, the greater one first */
+    uint8_t lesser;
+    uint32_t pad;     /* 0 */
+    uint64_t entries; /* how many entries the table has */
+} morris_header;
+
+/* ---- once in a program */
+
+/* How many words `morris_prepare` fills for a board, of 4 bytes each: for MORRIS_NINE they are
+ * MORRIS_NINE_WORDS. 0 where there is no such board. It goes through all sets of points seven
+ * times, as the next call does: that takes some tenths of a second. A program that has the room of
+ * MORRIS_NINE_WORDS at hand needn't ask. */
+#define MORRIS_NINE_WORDS 164475u
+size_t morris_prepare_size(uint32_t board);
+
+/* Fills `words` with what files of version 2 need for a board. The words are the same each time,
+ * and on any machine of the same byte order. `room` is how many there are, at least
+ * `morris_prepare_size(board)`; those after the first ones keep what they have. A program that has
+ * files of version 1 alone needs no words, and hands in none (`m` is 0) where words are asked for.
+ *
+ * MORRIS_NO_BOARD; MORRIS_ROOM, and then some words may have changed. */
+int32_t morris_prepare(uint32_t board, uint32_t *words, size_t room);
+
+/* ---- of a file */
+
+/* Whether a file is a table file: its header, and how many bytes it has. The codes and the digest
+ * aren't looked at. Writes what the header says. For a file of version 2 it goes through all sets
+ * of its numbers of points, which takes up to a tenth of a second.
+ *
+ * MORRIS_SHORT, MORRIS_MAGIC, MORRIS_VERSION, MORRIS_OTHER_BOARD (no known board), MORRIS_COUNTS,
+ * MORRIS_CROWDED, MORRIS_ENTRIES, MORRIS_SHORT, MORRIS_TRAILING: the first that applies. */
+int32_t morris_check(const morris_view *file, morris_header *out);
+
+/* Whether the digest at the end of a file, its last 32 bytes, is the SHA-256 of all bytes before
+ * it. It reads the whole file, at some hundred megabytes a second.
+ *
+ * MORRIS_SHORT where there are fewer than 32 bytes; MORRIS_DIGEST. */
+int32_t morris_digest(const morris_view *file);
+
+/* ---- of a position */
+
+/* The value of a position: what the first of the `n` files that names its pair in its header
+ * states. A player to move with two stones has lost in 0 plies, and no file is needed. Two bytes of
+ * the file are read, and its header; a call takes less than a microsecond. The files may be of both
+ * versions, and in any order.
+ *
+ * The library believes the files: where they are those that `morris build` wrote, which
+ * `morris_digest` tells, the value is the position's value in the game. `words` are those that
+ * `morris_prepare` filled for this board, `m` of them. Only how they begin and how many they are is
+ * tested: with other words a file of version 2 may give a wrong value, and nothing worse.
+ *
+ * MORRIS_NO_BOARD; MORRIS_OFF_BOARD, MORRIS_OVERLAP, MORRIS_STONES; MORRIS_NO_TABLE; MORRIS_SHORT,
+ * MORRIS_MAGIC, MORRIS_VERSION, MORRIS_OTHER_BOARD, MORRIS_NOT_PREPARED, MORRIS_ENTRIES,
+ * MORRIS_SHORT, MORRIS_TRAILING for the file: the first that applies. */
+int32_t morris_lookup(uint32_t board, const morris_view *files, size_t n, const uint32_t *words,
+                      size_t m, uint32_t own, uint32_t other, morris_value *out);
+
+/* The legal moves of a position, in order of from, to, taken, each with the value that it leads to
+ * for the player who makes it: won in d plies where the opponent has then lost in d - 1, and so on.
+ * `out` has `room` places, of which the first `*count` are filled: MORRIS_MOST_MOVES are always
+ * enough. A position has no legal moves where the game is over.
+ *
+ * A best move is one whose value is that of the position. Captures lead to positions of lesser
+ * pairs, so the files of the pairs below are needed as well.
+ *
+ * The statuses of `morris_lookup` for the masks; MORRIS_ROOM where `room` is less than the number
+ * of legal moves; those of `morris_lookup` for the position after the first move for which one
+ * applies: then some of `out` may have changed, and `*count` hasn't. */
+int32_t morris_moves(uint32_t board, const morris_view *files, size_t n, const uint32_t *words,
+                     size_t m, uint32_t own, uint32_t other, morris_move *out, size_t room,
+                     size_t *count);
+
+/* A line of English that says what a status means, for any number. It lies in memory that lasts. */
+const char *morris_error(int32_t status);
+
+#ifdef __cplusplus
+}
+#endif
+
+#endif
