@@ -30,7 +30,10 @@ pub enum Way {
 impl Way {
     /// Whether tables are let go once no pair to come needs them.
     fn lets_go(self) -> bool {
-        matches!(self, Way::Built { all: false, .. })
+        match self {
+            Way::Built { team: _, all } => !all,
+            Way::Swept | Way::Read | Way::Verified(_) => false,
+        }
     }
 }
 
