@@ -42,6 +42,7 @@ Answers before after old new (Build board pair workers blocks all (Some folder) 
 Answers before after old new (Verify board None) result = AnswersVerify (board_of board.now) before after old new result
 Answers before after old new (Verify board (Some folder)) result = AnswersFrom (board_of board.now) None board.now old new result
 Answers before after old new (Probe board text) result = AnswersProbe (board_of board.now) text.now before after old new result
+
 -- whether the command of a task reads its input
 abbrev pub takes_input : Task → Bool
 takes_input (Verify board None) = true
