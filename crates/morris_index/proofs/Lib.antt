@@ -9,6 +9,7 @@ pub mod Following
 pub mod SumLaws
 pub mod IndexLaws
 pub mod Squeezing
+pub mod RankTables
 pub mod PairLaws
 pub mod MoveLaws
 pub mod BelowLaws

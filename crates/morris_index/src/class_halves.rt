@@ -1,6 +1,6 @@
 //! The half of a pair by classes: the positions in which the player to move and the opponent have
 //! given numbers of stones, and the player to move stands on the representative of a class.
-ghost use Rattle.std.specs.Prelude.{◌≡◌, ◌<◌, ◌≤◌, ◌^◌, true};
+ghost use Rattle.std.specs.Prelude.{◌≡◌, ◌*◌, ◌<◌, ◌≤◌, ◌^◌, true};
 ghost use Rattle.morris_board.specs.Sets.{count_of};
 ghost use Rattle.morris_board.specs.Positions.{Sides, IsPosition};
 ghost use Rattle.morris_index.specs.Classes.{symmetry_of, representative_of, class_of, AreLeading};
@@ -10,7 +10,8 @@ ghost use Rattle.morris_index.specs.Pairs.{has_counts, IsHalf};
 
 use crate::binomials::binomial;
 use crate::classes::Classes;
-use crate::ranks::{rank_outside, unrank};
+use crate::rank_tables::RankTable;
+use crate::ranks::{rank_outside_by, unrank};
 use morris_board::board::Geometry;
 use morris_board::points::Points;
 use morris_board::position::Position;
@@ -26,7 +27,11 @@ pub(crate) fn class_half_size<B: Geometry>(classes: &Classes<B>, own: u8, other:
 }
 
 /// The number of a position's entry among those with as many stones of either player.
-pub(crate) fn class_half_index<B: Geometry>(classes: &Classes<B>, position: &Position<B>) -> u64
+pub(crate) fn class_half_index<B: Geometry>(
+    classes: &Classes<B>,
+    ranks: &RankTable,
+    position: &Position<B>,
+) -> u64
     requires { classes.now ≡ count_of position.now.own }
     ensures value { result ≡ class_half_index B.shape B.POINTS position.now }
     ensures below { result < class_half_size B.shape B.POINTS (count_of position.now.own) (count_of position.now.other) }
@@ -35,7 +40,7 @@ pub(crate) fn class_half_index<B: Geometry>(classes: &Classes<B>, position: &Pos
     let other = position.other().count();
     let (start, symmetry) = class_half_start(classes, position.own(), other);
     let led = position.image(symmetry);
-    start + rank_outside(led.other(), led.own())
+    start + rank_outside_by(ranks, led.other(), led.own())
 }
 
 /// The number of the first entry in which the player to move stands on the representative of the
@@ -60,22 +65,22 @@ pub(crate) fn class_half_start<B: Geometry>(
     (u64::from(class) * choices, symmetry)
 }
 
-/// The same number of an entry, the representative, and all symmetries that lead `own` there.
+/// The same number of an entry, where there are `choices` entries for each class; the
+/// representative, and all symmetries that lead `own` there.
 pub(crate) fn class_half_leads<B: Geometry>(
     classes: &Classes<B>,
     own: Points,
-    other: u8,
+    choices: u64,
 ) -> (u64, Points, Points)
     requires classes { classes.now ≡ count_of own }
     requires within { own < 2 ^ B.POINTS }
-    requires most { other ≤ 9 }
-    ensures start { result.0 ≡ class_half_start B.shape B.POINTS own other }
+    requires few { choices < 2 ^ 21 }
+    ensures start { result.0 ≡ class_of B.shape own * choices }
     ensures representative { result.1 ≡ representative_of B.shape own }
     ensures symmetries { AreLeading B.shape own result.2 }
     ensures few { result.0 < 2 ^ 53 }
 {
     let (class, representative, symmetries) = classes.leads_of(own);
-    let choices = binomial(B::POINTS - own.count(), other);
     (u64::from(class) * choices, representative, symmetries)
 }
 

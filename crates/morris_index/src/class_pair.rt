@@ -1,8 +1,9 @@
 //! Pairs of numbers of stones, with their positions numbered by classes.
-ghost use Rattle.std.specs.Prelude.{◌≡◌, ◌≢◌, ◌↔◌, ◌+◌, ◌<◌, ◌≤◌, ◌^◌, length, true, IfOk};
+ghost use Rattle.std.specs.Prelude.{◌≡◌, ◌≢◌, ◌↔◌, ℕ, ◌+◌, ◌<◌, ◌≤◌, ◌^◌, length, map, true, false, IfOk};
 ghost use Rattle.std.specs.List.{AllPairs, Contains};
-ghost use Rattle.morris_board.specs.Sets.{count_of};
+ghost use Rattle.morris_board.specs.Sets.{has, members, count_of};
 ghost use Rattle.morris_board.specs.Positions.{Sides, sides, IsPosition};
+ghost use Rattle.morris_index.specs.Numbering.{rank_of, number_outside};
 ghost use Rattle.morris_index.specs.Pairs.{IsPair, is_of};
 ghost use Rattle.morris_index.specs.Classes.{symmetry_of, representative_of, AreLeading};
 ghost use Rattle.morris_index.specs.ClassPairs.{led, class_size_of, class_index_of};
@@ -10,6 +11,7 @@ ghost use Rattle.morris_index.specs.ClassMoves.{class_start_of};
 ghost use Rattle.morris_index.specs.Falls.{HasEntry};
 ghost use Rattle.morris_index.specs.Carried.{AreReturning};
 
+use crate::binomials::binomial;
 use crate::class_halves::{
     class_half_index, class_half_leads, class_half_position, class_half_size, class_half_start,
 };
@@ -17,6 +19,8 @@ use crate::classes::Classes;
 use crate::falls::FallsOn;
 use crate::halves::next_of_own;
 use crate::pair::Pair;
+use crate::rank_tables::RankTable;
+use crate::ranks::rank_outside_by;
 use crate::returning::{keep_returning, returning_of};
 use morris_board::board::Geometry;
 use morris_board::points::Points;
@@ -36,6 +40,14 @@ pub struct ClassPair<B: Geometry> {
     greater_returning: Vec<u32>,
     /// The same for each class of the lesser number.
     lesser_returning: Vec<u32>,
+    /// How many entries the first half has, in which the player to move has the greater number.
+    first: u64,
+    /// How many sets of the opponent's stones there are for a class of the greater number.
+    greater_choices: u64,
+    /// The same for a class of the lesser number.
+    lesser_choices: u64,
+    /// What the parts of sets add to ranks.
+    ranks: RankTable,
 }
 
 impl<B: Geometry> Model for ClassPair<B> {
@@ -43,6 +55,7 @@ impl<B: Geometry> Model for ClassPair<B> {
     ghost use Rattle.morris_index.specs.Pairs.{Counts};
     ghost use Rattle.morris_index.specs.Classes.{class_count};
     ghost use Rattle.morris_index.specs.Carried.{IsReturningKept};
+    ghost use Rattle.morris_index.specs.ClassPairs.{AreSizes};
 
     ghost Value = { Counts };
 
@@ -50,7 +63,8 @@ impl<B: Geometry> Model for ClassPair<B> {
 
     ghost invariant = { λ pair. (pair.greater ≡ pair.pair.greater) × (pair.lesser ≡ pair.pair.lesser)
         × IsReturningKept B.shape B.POINTS pair.pair.greater (class_count B.shape pair.pair.greater) pair.greater_returning.items
-        × IsReturningKept B.shape B.POINTS pair.pair.lesser (class_count B.shape pair.pair.lesser) pair.lesser_returning.items };
+        × IsReturningKept B.shape B.POINTS pair.pair.lesser (class_count B.shape pair.pair.lesser) pair.lesser_returning.items
+        × AreSizes B.shape B.POINTS pair.pair pair.first pair.greater_choices pair.lesser_choices };
 }
 
 impl<B: Geometry> ClassPair<B> {
@@ -65,12 +79,20 @@ impl<B: Geometry> ClassPair<B> {
         let lesser = Classes::make(alloc, pair.lesser())?;
         let greater_returning = keep_returning(alloc, &greater)?;
         let lesser_returning = keep_returning(alloc, &lesser)?;
+        let ranks = RankTable::make(alloc)?;
+        let first = class_half_size(&greater, pair.greater(), pair.lesser());
+        let greater_choices = binomial(B::POINTS - pair.greater(), pair.lesser());
+        let lesser_choices = binomial(B::POINTS - pair.lesser(), pair.greater());
         Ok(ClassPair {
             pair,
             greater,
             lesser,
             greater_returning,
             lesser_returning,
+            first,
+            greater_choices,
+            lesser_choices,
+            ranks,
         })
     }
 
@@ -108,10 +130,9 @@ impl<B: Geometry> ClassPair<B> {
     {
         let greater = self.pair.greater();
         if position.own().count() == greater {
-            class_half_index(&self.greater, position)
+            class_half_index(&self.greater, &self.ranks, position)
         } else {
-            let first = class_half_size(&self.greater, greater, self.pair.lesser());
-            first + class_half_index(&self.lesser, position)
+            self.first + class_half_index(&self.lesser, &self.ranks, position)
         }
     }
 
@@ -148,16 +169,25 @@ impl<B: Geometry> ClassPair<B> {
     {
         let greater = self.pair.greater();
         if own.count() == greater {
-            class_half_leads(&self.greater, own, other.count())
+            class_half_leads(&self.greater, own, self.greater_choices)
         } else {
-            let first = class_half_size(&self.greater, greater, self.pair.lesser());
             let (start, representative, symmetries) = class_half_leads(
                 &self.lesser,
                 own,
-                other.count(),
+                self.lesser_choices,
             );
-            (first + start, representative, symmetries)
+            (self.first + start, representative, symmetries)
         }
+    }
+
+    /// The rank of `set` among the sets of as many points that have none in common with `outside`.
+    pub(crate) fn rank_outside(&self, set: Points, outside: Points) -> u64
+        requires board { set < 2 ^ 24 }
+        requires few { count_of set ≤ 9 }
+        requires apart { (p : ℕ) → has set p ≡ true → has outside p ≡ false }
+        ensures { result ≡ rank_of (map (number_outside outside) (members set)) }
+    {
+        rank_outside_by(&self.ranks, set, outside)
     }
 
     /// The symmetries whose inverse is the one that leads the image of `own` under them.

@@ -15,6 +15,7 @@ mod part_tables;
 mod parts;
 pub mod predecessor_entries;
 pub mod predecessors;
+mod rank_tables;
 mod ranks;
 mod returning;
 pub mod successor_entries;

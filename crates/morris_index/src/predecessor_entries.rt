@@ -6,7 +6,6 @@ ghost use Rattle.morris_index.specs.Moves.{in_pair};
 ghost use Rattle.morris_index.specs.Carried.{entries_before, AddsEntries};
 
 use crate::class_pair::ClassPair;
-use crate::ranks::rank_outside;
 use morris_board::board::Geometry;
 use morris_board::points::Points;
 use morris_board::position::Position;
@@ -73,7 +72,7 @@ impl<'a, B: Geometry> PredecessorEntries<'a, B> {
         let carrying = leading.common(self.returning);
         for symmetry in carrying.iter() {
             let image = B::image_of(symmetry, own);
-            out.push(start + rank_outside(image, representative))?;
+            out.push(start + self.pair.rank_outside(image, representative))?;
         }
         Ok(())
     }

@@ -45,6 +45,8 @@ impl<B: Geometry> Model for PredecessorIndices<B> {
 
 impl<B: Geometry> PredecessorIndices<B> {
     /// What is to be kept of a position of the pair.
+    // Out of line, so that an enum that may hold this is made without copies where it doesn't.
+    #[inline(never)]
     pub fn of(pair: &Pair<B>, position: &Position<B>) -> PredecessorIndices<B>
         requires { is_of pair.now position.now ≡ true }
         ensures { result ≡ in_pair pair.now position.now }

@@ -17,7 +17,7 @@ pub returns-else-count-greater-clause-value : goal.returns-else-count-greater-cl
 returns-else-count-greater-clause-value g c =
     let other : count_of c.args.position.now.own ≢ c.self.inside.pair.greater =
     λ e. c.if-count-greater.false (c.count.ensures.value ∙ ap count_of c.own.ensures.points ∙ e ∙ sym c.greater-greater.ensures.value) in
-    rw (c.class_half_size-first.ensures.value, c.class_half_index-else-count-greater.ensures.value, c.greater-greater.ensures.value, c.lesser.ensures.value, ← c.self.view_is)
+    rw (c.self.invariant.4.first, c.class_half_index-else-count-greater.ensures.value, ← c.self.view_is)
     (sym (index-second g.B.Geometry.shape g.B.Geometry.POINTS (omega (arith, g.met.B.Geometry.few)) g.met.B.Geometry.point_count g.met.B.Geometry.has_symmetries c.self.inside.pair c.args.position.now other))
 
 pub returns-else-count-greater-clause-below : goal.returns-else-count-greater-clause-below
@@ -25,4 +25,4 @@ returns-else-count-greater-clause-below g c =
     rw (returns-else-count-greater-clause-value g c) (index-lt g.B.Geometry.shape g.B.Geometry.POINTS (omega (arith, g.met.B.Geometry.few)) g.met.B.Geometry.point_count g.met.B.Geometry.has_symmetries c.args.self.now c.args.position.now c.own.ensures.lawful c.requires)
 
 pub overflow_add-result : goal.overflow_add-result
-overflow_add-result g c = omega (arith, c.class_half_size-first.ensures.few, c.class_half_index-else-count-greater.ensures.few)
+overflow_add-result g c = omega (arith, c.self.invariant.4.few, c.class_half_index-else-count-greater.ensures.few)
