@@ -1,4 +1,8 @@
 -- Lemmas on the definitions of this crate.
+pub mod ListLaws
+pub mod StretchLaws
+pub mod BinomialTable
+pub mod EntryLaws
 pub mod OpeningLaws
 pub mod FileLookups
 pub mod FileSetLaws

@@ -1,3 +1,4 @@
+pub mod Representatives
 pub mod Storage
 pub mod Numberings
 pub mod Opening

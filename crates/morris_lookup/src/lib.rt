@@ -2,9 +2,14 @@
 #![tactic(auto)]
 
 pub mod best;
+mod binomials;
+pub mod class_entries;
+mod class_lists;
+mod classes;
 pub mod fault;
 mod numbering;
 pub mod opened;
 pub mod outcomes;
+pub mod representatives;
 pub mod storage;
 pub mod tables;

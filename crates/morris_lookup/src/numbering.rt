@@ -5,9 +5,9 @@ ghost use Rattle.morris_table.specs.Entries.{entry_count, entry_index};
 ghost use Rattle.morris_table.specs.FileReading.{header_at, kind_in, heading_in, IsOfBytes, IsHeadingRefusal};
 ghost use Rattle.morris_lookup.specs.Numberings.{layout_of, pair_of};
 
+use crate::class_lists::ClassLists;
 use morris_board::board::Geometry;
 use morris_board::position::Position;
-use morris_index::class_pair::ClassPair;
 use morris_index::faults::PairFault;
 use morris_index::pair::Pair;
 use morris_table::file_faults::ReadFault;
@@ -26,7 +26,7 @@ pub(crate) enum Numbering<B: Geometry> {
     /// Each position has an entry.
     Full(Pair<B>),
     /// Each position is led to one that has an entry.
-    Classes(ClassPair<B>),
+    Classes(ClassLists<B>),
 }
 
 impl<B: Geometry> Numbering<B> {
@@ -42,7 +42,7 @@ impl<B: Geometry> Numbering<B> {
     {
         match layout {
             Layout::Full => Ok(Numbering::Full(pair)),
-            Layout::Classes => Ok(Numbering::Classes(ClassPair::make(alloc, pair)?)),
+            Layout::Classes => Ok(Numbering::Classes(ClassLists::make(alloc, pair)?)),
         }
     }
 

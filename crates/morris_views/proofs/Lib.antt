@@ -1,7 +1,5 @@
 -- Lemmas on the definitions of this crate.
 pub mod PreparedLaws
-pub mod BinomialTable
-pub mod EntryLaws
 pub mod FileLaws
 pub mod ViewLaws
 pub mod ExactLaws

@@ -1,13 +1,8 @@
 -- Prepared words: the representatives of the classes of sets of 3 to 9 points, as one list of
 -- numbers of 32 bits.
-use Rattle.std.specs.Prelude.{◌≡◌, ℕ, zero, suc, ◌+◌, ◌^◌, ◌<◌, ◌≤◌, Bool, ◌&&◌, nat_eq, nat_le, List, length, filter, slice_index}
-use Rattle.std.specs.List.{range_with_len}
+use Rattle.std.specs.Prelude.{◌≡◌, ℕ, zero, suc, ◌+◌, ◌<◌, ◌≤◌, Bool, ◌&&◌, nat_eq, nat_le, List, length, slice_index}
 use Rattle.morris_board.specs.Boards.{Shape}
-use Rattle.morris_index.specs.Classes.{is_representative}
-
--- the representatives of the classes of sets of `count` points, in ascending order of their masks
-unfoldable pub representatives_of : Shape → ℕ → List ℕ
-representatives_of board count = filter (is_representative board count) (range_with_len 0 (2 ^ board.points))
+use Rattle.morris_lookup.specs.Representatives.{representatives_of}
 
 -- Where those of sets of 3 + k points begin: 9 words stand before all of them, and each number of
 -- points comes after the lesser ones.

@@ -6,7 +6,6 @@ ghost use Rattle.morris_views.specs.Files.{names_pair};
 ghost use Rattle.morris_views.specs.Prepared.{looks_prepared, IsPrepared};
 ghost use Rattle.morris_views.specs.Views.{entry_in, is_by_classes, Serves, borne_out, counted_entry};
 
-use crate::class_entries::{class_index, class_size};
 use crate::digest::DIGEST;
 use crate::fault::ViewFault;
 use crate::view::HEADER;
@@ -15,6 +14,7 @@ use morris_board::board::Geometry;
 use morris_board::position::Position;
 use morris_index::faults::PairFault;
 use morris_index::pair::Pair;
+use morris_lookup::class_entries::{class_index, class_size};
 use morris_table::file_faults::ReadFault;
 use morris_table::layout::Layout;
 

@@ -2,10 +2,7 @@
 //! no memory taken.
 #![tactic(auto)]
 
-mod binomials;
 pub mod check;
-mod class_entries;
-mod classes;
 pub mod digest;
 pub mod fault;
 mod framing;

@@ -1,6 +1,7 @@
 //! The lists of representatives in words that may be prepared ones.
 ghost use Rattle.std.specs.Prelude.{◌≡◌, ◌≤◌, ◌<◌, ◌^◌, true, length, IfOk, MatchResult};
-ghost use Rattle.morris_views.specs.Prepared.{representatives_of, looks_prepared, IsPrepared};
+ghost use Rattle.morris_lookup.specs.Representatives.{representatives_of};
+ghost use Rattle.morris_views.specs.Prepared.{looks_prepared, IsPrepared};
 
 use crate::fault::ViewFault;
 use crate::prepared::{FIRST, HEADING, LEAST};

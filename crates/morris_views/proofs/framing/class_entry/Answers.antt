@@ -1,7 +1,7 @@
 use Rattle.std.proofs.Common.{◌≡◌, ap, ◌∙◌, arith}
 use Rattle.morris_index.proofs.ClassPairLaws.{index-lt}
 use Rattle.morris_table.specs.FileReading.{header_at}
-use Rattle.morris_views.specs.Prepared.{representatives_of}
+use Rattle.morris_lookup.specs.Representatives.{representatives_of}
 use Rattle.morris_views.proofs.ViewLaws.{entry_inside}
 use Rattle.morris_views.proofs.framing.class_entry.Goals as goal
 

@@ -1,5 +1,6 @@
 use Rattle.std.proofs.Common.{ℕ, ◌≡◌, ◌≤◌, ◌<◌, ◌+◌, length, set, ◌∙◌, arith, length-set, get_or-set_other, get_or-set_same}
-use Rattle.morris_views.specs.Prepared.{representatives_of, first_word}
+use Rattle.morris_lookup.specs.Representatives.{representatives_of}
+use Rattle.morris_views.specs.Prepared.{first_word}
 use Rattle.morris_views.proofs.PreparedLaws.{start-least, start-next, prepared-none, prepared-more}
 use Rattle.morris_views.proofs.prepared.prepare.Goals as goal
 

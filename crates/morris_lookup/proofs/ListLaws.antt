@@ -1,0 +1,315 @@
+-- Laws of lists of representatives: which of them are below a mask, the class of a set by them, and
+-- how they are listed, stretch by stretch.
+use Rattle.std.proofs.Common.{◌≡◌, ℕ, zero, suc, ◌+◌, ◌-◌, ◌^◌, ◌<◌, ◌≤◌, Bool, true, false, cond, ltb, List, [], ◌∷◌, ◌++◌, length, filter, get_or, take, set, get_or-set_other, get_or-set_same, length-set, refl, sym, ap, ◌∙◌, inl, inr, subst, arith, length-append, zero-add}
+use Rattle.std.proofs.lemmas.Bool.{cases_Bool, cases_eq, cases_lt, lt-ltb, ltb-true, ltb-false}
+use Rattle.std.proofs.lemmas.List.{get_or_append_left, get_or_push, get_or-append-add, get_or-take, append-nil, ext_get_or, length-take-le}
+use Rattle.std.proofs.lemmas.List.Elements.{filter-append}
+use Rattle.std.specs.List.{range_with_len}
+use Rattle.std.specs.List.Sorted.{IsPartitionedBy, IsPartitionPoint}
+use Rattle.morris_board.specs.Boards.{Shape}
+use Rattle.morris_board.specs.Sets.{count_of}
+use Rattle.morris_board.specs.Symmetries.{HasSymmetries}
+use Rattle.morris_index.specs.Numbering.{count_below}
+use Rattle.morris_index.specs.Classes.{is_representative, representative_of, classes_below, class_of}
+use Rattle.morris_index.proofs.ClassLaws.{representative_within}
+use Rattle.morris_index.proofs.RankLaws.{passing, passing-yes, passing-no}
+use Rattle.morris_lookup.specs.Representatives.{representatives_of}
+
+-- ---- the numbers below a limit that pass a test
+
+module _ (f : ℕ → Bool) where
+  passing-under : (n k d : ℕ) → k < length (passing f n) → get_or (passing f n) k d < n
+  passing-under zero k d h = absurd (omega arith)
+  passing-under (suc n) k d h = elim (cases_Bool (f n)) [
+    | inl y ↦
+        let e : passing f (suc n) ≡ passing f n ++ n ∷ [] = passing-yes f n y in
+        subst (λ xs. get_or xs k d < suc n) (sym e) (elim (cases_lt k (length (passing f n))) [
+          | inl low ↦ rw (get_or_append_left (passing f n) (n ∷ []) d k low) (omega (arith, passing-under n k d low))
+          | inr le ↦
+              let at : length (passing f n) ≡ k = omega (arith, ap length e, length-append (passing f n) (n ∷ [])) in
+              rw (get_or_push (passing f n) n d k at) (omega arith)
+        ])
+    | inr out ↦
+        let e : passing f (suc n) ≡ passing f n = passing-no f n out in
+        subst (λ xs. get_or xs k d < suc n) (sym e) (omega (arith, passing-under n k d (omega (arith, ap length e))))
+  ]
+
+  -- those below n come first among those below more than n, and the others are n and more
+  pub record Splits (n m : ℕ) : Type 0 where
+    pub few : length (passing f n) ≤ length (passing f m)
+    pub low : (k d : ℕ) → k < length (passing f n) → get_or (passing f m) k d ≡ get_or (passing f n) k d
+    pub high : (k d : ℕ) → length (passing f n) ≤ k → k < length (passing f m) → n ≤ get_or (passing f m) k d
+
+  splits-yes : (n m : ℕ) → n ≤ m → f m ≡ true → Splits n m → Splits n (suc m)
+  splits-yes n m le y before =
+      let e : passing f (suc m) ≡ passing f m ++ m ∷ [] = passing-yes f m y in
+      let len : length (passing f (suc m)) ≡ length (passing f m) + 1 = omega (arith, ap length e, length-append (passing f m) (m ∷ [])) in
+      record {
+        few = omega (arith, len, before.few);
+        low = λ k d h.
+            ap (λ xs. get_or xs k d) e ∙ get_or_append_left (passing f m) (m ∷ []) d k (omega (arith, h, before.few)) ∙ before.low k d h;
+        high = λ k d le_k h. elim (cases_lt k (length (passing f m))) [
+          | inl under ↦
+              let at : get_or (passing f (suc m)) k d ≡ get_or (passing f m) k d = ap (λ xs. get_or xs k d) e ∙ get_or_append_left (passing f m) (m ∷ []) d k under in
+              omega (arith, at, before.high k d le_k under)
+          | inr over ↦
+              let here : length (passing f m) ≡ k = omega (arith, len) in
+              let at : get_or (passing f (suc m)) k d ≡ m = ap (λ xs. get_or xs k d) e ∙ get_or_push (passing f m) m d k here in
+              omega (arith, at)
+        ];
+      }
+
+  splits-no : (n m : ℕ) → f m ≡ false → Splits n m → Splits n (suc m)
+  splits-no n m out before =
+      let e : passing f (suc m) ≡ passing f m = passing-no f m out in
+      record {
+        few = omega (arith, ap length e, before.few);
+        low = λ k d h. ap (λ xs. get_or xs k d) e ∙ before.low k d h;
+        high = λ k d le_k h. omega (arith, ap (λ xs. get_or xs k d) e, before.high k d le_k (omega (arith, ap length e)));
+      }
+
+  splits_more : (n more : ℕ) → Splits n (n + more)
+  splits_more n zero = subst (Splits n) (omega arith) (record {
+    few = omega arith;
+    low = λ k d h. refl;
+    high = λ k d le h. absurd (omega arith);
+  })
+  splits_more n (suc more) =
+      let e : suc (n + more) ≡ n + suc more = omega arith in
+      subst (Splits n) e (elim (cases_Bool (f (n + more))) [
+        | inl y ↦ splits-yes n (n + more) (omega arith) y (splits_more n more)
+        | inr out ↦ splits-no n (n + more) out (splits_more n more)
+      ])
+
+  pub splits : (n m : ℕ) → n ≤ m → Splits n m
+  splits n m le = subst (Splits n) (omega arith) (splits_more n (m - n))
+
+  pub passing-few : (n : ℕ) → length (passing f n) ≤ n
+  passing-few zero = omega arith
+  passing-few (suc n) = elim (cases_Bool (f n)) [
+    | inl y ↦ omega (arith, passing-few n, ap length (passing-yes f n y), length-append (passing f n) (n ∷ []))
+    | inr out ↦ omega (arith, passing-few n, ap length (passing-no f n out))
+  ]
+
+-- ---- the numbers from one on that pass a test
+
+range_join : (a n m : ℕ) → range_with_len a (n + m) ≡ range_with_len a n ++ range_with_len (a + n) m
+range_join a zero m =
+    let none : 0 + m ≡ m = omega arith in
+    let same : a ≡ a + 0 = omega arith in
+    ap (range_with_len a) none ∙ ap (λ k. range_with_len k m) same
+range_join a (suc n) m =
+    let e : suc n + m ≡ suc (n + m) = omega arith in
+    let next : a + 1 + n ≡ a + suc n = omega arith in
+    ap (range_with_len a) e
+    ∙ ap (λ xs. a ∷ xs) (range_join (a + 1) n m ∙ ap (λ k. range_with_len (a + 1) n ++ range_with_len k m) next)
+
+abbrev pub between : (ℕ → Bool) → ℕ → ℕ → List ℕ
+between f a n = filter f (range_with_len a n)
+
+module _ (f : ℕ → Bool) where
+  pub between-join : (a n m : ℕ) → between f a (n + m) ≡ between f a n ++ between f (a + n) m
+  between-join a n m = ap (filter f) (range_join a n m) ∙ filter-append f (range_with_len a n) (range_with_len (a + n) m)
+
+  pub between-yes : (a n : ℕ) → f (a + n) ≡ true → between f a (n + 1) ≡ between f a n ++ (a + n) ∷ []
+  between-yes a n h = between-join a n 1 ∙ ap (λ b. between f a n ++ cond b ((a + n) ∷ []) []) h
+
+  pub between-no : (a n : ℕ) → f (a + n) ≡ false → between f a (n + 1) ≡ between f a n
+  between-no a n h = between-join a n 1 ∙ ap (λ b. between f a n ++ cond b ((a + n) ∷ []) []) h ∙ append-nil (between f a n)
+
+  pub between-none : (a n : ℕ) → ((i : ℕ) → i < n → f (a + i) ≡ false) → between f a n ≡ []
+  between-none a zero none = refl
+  between-none a (suc n) none =
+      let e : suc n ≡ n + 1 = omega arith in
+      ap (between f a) e ∙ between-no a n (none n (omega arith)) ∙ between-none a n (λ i low. none i (omega arith))
+
+  pub between-few : (a n : ℕ) → length (between f a n) ≤ n
+  between-few a zero = omega arith
+  between-few a (suc n) =
+      let e : suc n ≡ n + 1 = omega arith in
+      elim (cases_Bool (f (a + n))) [
+        | inl y ↦ omega (arith, between-few a n, ap (λ k. length (between f a k)) e, ap length (between-yes a n y), length-append (between f a n) ((a + n) ∷ []))
+        | inr out ↦ omega (arith, between-few a n, ap (λ k. length (between f a k)) e, ap length (between-no a n out))
+      ]
+
+-- ---- a list stands in words
+
+-- It stands from `start` to `end`, and before it the words are the old ones.
+pub record AreListed (list : List ℕ) (start end : ℕ) (words old : List ℕ) : Type 0 where
+  pub ends : end ≡ start + length list
+  pub within : end ≤ length words
+  pub listed : (i : ℕ) → i < length list → get_or words (start + i) 0 ≡ get_or list i 0
+  pub before : (i : ℕ) → i < start → get_or words i 0 ≡ get_or old i 0
+
+pub listed-one : (list : List ℕ) (start end mask : ℕ) (words old : List ℕ) → AreListed list start end words old → end < length words
+    → AreListed (list ++ mask ∷ []) start (end + 1) (set words end mask) old
+listed-one list start end mask words old here room =
+    let len : length (list ++ mask ∷ []) ≡ length list + 1 = length-append list (mask ∷ []) in
+    record {
+      ends = omega (arith, len, here.ends);
+      within = omega (arith, room, length-set words end mask);
+      listed = λ i h. elim (cases_lt i (length list)) [
+        | inl low ↦
+            get_or-set_other words end (start + i) mask 0 (omega (arith, here.ends))
+            ∙ here.listed i low
+            ∙ sym (get_or_append_left list (mask ∷ []) 0 i low)
+        | inr le ↦
+            let at : length list ≡ i = omega (arith, len) in
+            let place : start + i ≡ end = omega (arith, here.ends) in
+            ap (λ k. get_or (set words end mask) k 0) place
+            ∙ get_or-set_same words end mask 0 room
+            ∙ sym (get_or_push list mask 0 i at)
+      ];
+      before = λ i h. get_or-set_other words end i mask 0 (omega (arith, here.ends)) ∙ here.before i h;
+    }
+
+pub listed-join : (xs ys : List ℕ) (start mid end : ℕ) (words mids old : List ℕ) → AreListed xs start mid mids old → AreListed ys mid end words mids
+    → AreListed (xs ++ ys) start end words old
+listed-join xs ys start mid end words mids old first then =
+    let len : length (xs ++ ys) ≡ length xs + length ys = length-append xs ys in
+    record {
+      ends = omega (arith, len, first.ends, then.ends);
+      within = then.within;
+      listed = λ i h. elim (cases_lt i (length xs)) [
+        | inl low ↦ then.before (start + i) (omega (arith, first.ends)) ∙ first.listed i low ∙ sym (get_or_append_left xs ys 0 i low)
+        | inr le ↦
+            let j : ℕ = i - length xs in
+            let place : start + i ≡ mid + j = omega (arith, first.ends) in
+            let at : length xs + j ≡ i = omega arith in
+            ap (λ k. get_or words k 0) place
+            ∙ then.listed j (omega (arith, len))
+            ∙ sym (get_or-append-add xs ys j 0)
+            ∙ ap (λ k. get_or (xs ++ ys) k 0) at
+      ];
+      before = λ i h. then.before i (omega (arith, first.ends)) ∙ first.before i h;
+    }
+
+-- ---- the masks of a stretch are looked at one after the other
+
+module _ (f : ℕ → Bool) (a mask : ℕ) (from : a ≤ mask) where
+  one_more : mask - a + 1 ≡ mask + 1 - a
+  one_more = omega arith
+
+  between-yes_to : f mask ≡ true → between f a (mask + 1 - a) ≡ between f a (mask - a) ++ mask ∷ []
+  between-yes_to h =
+      let e : a + (mask - a) ≡ mask = omega arith in
+      ap (between f a) (sym one_more) ∙ between-yes f a (mask - a) (ap f e ∙ h) ∙ ap (λ m. between f a (mask - a) ++ m ∷ []) e
+
+  between-no_to : f mask ≡ false → between f a (mask + 1 - a) ≡ between f a (mask - a)
+  between-no_to h =
+      let e : a + (mask - a) ≡ mask = omega arith in
+      ap (between f a) (sym one_more) ∙ between-no f a (mask - a) (ap f e ∙ h)
+
+  pub counted-yes : f mask ≡ true → length (between f a (mask + 1 - a)) ≡ length (between f a (mask - a)) + 1
+  counted-yes h = ap length (between-yes_to h) ∙ length-append (between f a (mask - a)) (mask ∷ [])
+
+  pub counted-no : f mask ≡ false → length (between f a (mask + 1 - a)) ≡ length (between f a (mask - a))
+  counted-no h = ap length (between-no_to h)
+
+  module _ (start end : ℕ) (words old : List ℕ) (here : AreListed (between f a (mask - a)) start end words old) where
+    pub listed-yes : f mask ≡ true → end < length words → AreListed (between f a (mask + 1 - a)) start (end + 1) (set words end mask) old
+    listed-yes h room =
+        subst (λ xs. AreListed xs start (end + 1) (set words end mask) old) (sym (between-yes_to h)) (listed-one (between f a (mask - a)) start end mask words old here room)
+
+    pub listed-no : f mask ≡ false → AreListed (between f a (mask + 1 - a)) start end words old
+    listed-no h = subst (λ xs. AreListed xs start end words old) (sym (between-no_to h)) here
+
+    -- where there is no room for one more, there is none for all
+    pub listed_full : (n : ℕ) → f mask ≡ true → end ≡ length words → mask < a + n → length words < start + length (between f a n)
+    listed_full n h full low =
+        let k : ℕ = mask + 1 - a in
+        let e : k + (n - k) ≡ n = omega arith in
+        omega (
+          arith,
+          here.ends,
+          counted-yes h,
+          ap (λ m. length (between f a m)) e,
+          ap length (between-join f a k (n - k)),
+          length-append (between f a k) (between f (a + k) (n - k)),
+        )
+
+-- ---- stretches are listed one after the other
+
+module _ (f : ℕ → Bool) (a n : ℕ) where
+  join_at : between f 0 (a + n) ≡ between f 0 a ++ between f a n
+  join_at = between-join f 0 a n ∙ ap (λ k. between f 0 a ++ between f k n) (zero-add a)
+
+  pub counted-stretch : length (between f 0 (a + n)) ≡ length (between f 0 a) + length (between f a n)
+  counted-stretch = ap length join_at ∙ length-append (between f 0 a) (between f a n)
+
+  pub listed-stretch : (start mid end : ℕ) (words mids old : List ℕ) → AreListed (between f 0 a) start mid mids old → AreListed (between f a n) mid end words mids
+      → AreListed (between f 0 (a + n)) start end words old
+  listed-stretch start mid end words mids old first then =
+      subst (λ xs. AreListed xs start end words old) (sym join_at) (listed-join (between f 0 a) (between f a n) start mid end words mids old first then)
+
+  -- all have at least as many as these
+  pub counted_up : (most : ℕ) → a + n ≤ most → length (between f 0 a) + length (between f a n) ≤ length (between f 0 most)
+  counted_up most le =
+      let e : (a + n) + (most - (a + n)) ≡ most = omega arith in
+      omega (
+        arith,
+        counted-stretch,
+        ap (λ m. length (between f 0 m)) e,
+        ap length (between-join f 0 (a + n) (most - (a + n))),
+        length-append (between f 0 (a + n)) (between f (0 + (a + n)) (most - (a + n))),
+      )
+
+-- a list that stands at the beginning of words, up to where it ends
+pub listed_first : (list : List ℕ) (end : ℕ) (words : List ℕ) → end ≡ length list → end ≤ length words
+    → ((i : ℕ) → i < length list → get_or words (0 + i) 0 ≡ get_or list i 0) → take end words ≡ list
+listed_first list end words ends within listed =
+    let len : length (take end words) ≡ length list = length-take-le end words within ∙ ends in
+    ext_get_or 0 (take end words) list len (λ i h.
+    get_or-take end words i 0 (omega (arith, h, len, ends)) ∙ ap (λ k. get_or words k 0) (sym (zero-add i)) ∙ listed i (omega (arith, h, len)))
+
+-- ---- how many there are
+
+module _ (board : Shape) where
+  pub representatives-few : (count : ℕ) → length (representatives_of board count) ≤ 2 ^ board.points
+  unfolding representatives_of
+  representatives-few count = passing-few (is_representative board count) (2 ^ board.points)
+
+-- ---- the class of a set
+
+module _ (board : Shape) (few : board.points ≤ 24) (y : HasSymmetries board) (set : ℕ) (small : set < 2 ^ board.points)
+    (list : List ℕ) (is : list ≡ representatives_of board (count_of set)) (least : ℕ) (least_is : least ≡ representative_of board set) where
+  abbrev own : ℕ → Bool
+  own = is_representative board (count_of set)
+
+  parts : Splits own least (2 ^ board.points)
+  parts = splits own least (2 ^ board.points) (omega (arith, least_is, representative_within board few y set small))
+
+  is_passing : list ≡ passing own (2 ^ board.points)
+  unfolding representatives_of
+  is_passing = is
+
+  length_is : length list ≡ length (passing own (2 ^ board.points))
+  length_is = ap length is_passing
+
+  lower : (k d : ℕ) → k < length (passing own least) → get_or list k d < least
+  lower k d h = rw (is_passing, parts.low k d h) (passing-under own least k d h)
+
+  upper : (k d : ℕ) → length (passing own least) ≤ k → k < length list → least ≤ get_or list k d
+  upper k d le h = rw is_passing (parts.high k d le (omega (arith, length_is)))
+
+  -- the representatives below a mask stand before the others
+  pub partitioned : IsPartitionedBy (λ mask. ltb mask least) list
+  partitioned i j d le low h = elim (cases_lt j (length (passing own least))) [
+    | inl under ↦ lt-ltb (get_or list i d) least (lower i d (omega arith))
+    | inr over ↦ absurd (omega (arith, ltb-true (get_or list j d) least h, upper j d over low))
+  ]
+
+  -- so there are as many as where they end
+  pub class_is : (i : ℕ) → i ≤ length list → IsPartitionPoint (λ mask. ltb mask least ≡ true) (λ mask. ltb mask least ≡ false) list i → i ≡ class_of board set
+  unfolding class_of classes_below count_below
+  class_is i le point = subst (λ m. i ≡ length (passing own m)) least_is (elim (cases_lt i (length (passing own least))) [
+    | inl under ↦
+        let in_list : i < length list = omega (arith, length_is, parts.few) in
+        absurd (omega (arith, lower i 0 under, ltb-false (get_or list i 0) least (point.1 i 0 (omega arith) in_list)))
+    | inr over ↦ elim (cases_eq i (length (passing own least))) [
+      | inl e ↦ e
+      | inr d ↦
+          let at : ℕ = length (passing own least) in
+          absurd (omega (arith, upper at 0 (omega arith) (omega arith), ltb-true (get_or list at 0) least (point.0 at 0 (omega arith) (omega arith))))
+    ]
+  ])

@@ -1,0 +1,104 @@
+//! The entries of a pair by classes, by the lists of the representatives of the classes.
+ghost use Rattle.std.specs.Prelude.{◌≡◌, ◌≢◌, ◌+◌, ◌-◌, ◌*◌, ◌<◌, ◌≤◌, ◌^◌, true, length, map};
+ghost use Rattle.morris_board.specs.Sets.{members, count_of};
+ghost use Rattle.morris_index.specs.Binomials.{choose};
+ghost use Rattle.morris_index.specs.Numbering.{rank_of, number_outside};
+ghost use Rattle.morris_index.specs.Pairs.{IsHalf, is_of};
+ghost use Rattle.morris_index.specs.ClassPairs.{class_half_size, class_half_index, class_size_of, class_index_of};
+ghost use Rattle.morris_lookup.specs.Representatives.{representatives_of};
+
+use crate::binomials::binomial;
+use crate::classes::class_of;
+use morris_board::board::Geometry;
+use morris_board::position::Position;
+use morris_index::pair::Pair;
+
+/// How many entries a pair has by classes, where the representatives of the classes of sets of its
+/// greater and of its lesser number of points are listed.
+pub fn class_size<B: Geometry>(pair: Pair<B>, greater: &[u32], lesser: &[u32]) -> u64
+    requires greater { length greater.now < 2 ^ 32 }
+    requires lesser { length lesser.now < 2 ^ 32 }
+    ensures value { greater.now ≡ representatives_of B.shape pair.greater → lesser.now ≡ representatives_of B.shape pair.lesser → result ≡ class_size_of B.shape B.POINTS pair }
+    ensures few { result < 2 ^ 54 }
+{
+    let (most, least) = (pair.greater(), pair.lesser());
+    let first = class_half_size::<B>(greater, most, least);
+    if most == least {
+        first
+    } else {
+        first + class_half_size::<B>(lesser, least, most)
+    }
+}
+
+/// The entry of a position of the pair by classes, by the same lists. By other lists it is any
+/// number.
+pub fn class_index<B: Geometry>(
+    pair: Pair<B>,
+    greater: &[u32],
+    lesser: &[u32],
+    position: &Position<B>,
+) -> u64
+    requires of { is_of pair position.now ≡ true }
+    requires greater { length greater.now < 2 ^ 32 }
+    requires lesser { length lesser.now < 2 ^ 32 }
+    ensures value { greater.now ≡ representatives_of B.shape pair.greater → lesser.now ≡ representatives_of B.shape pair.lesser → result ≡ class_index_of B.shape B.POINTS pair position.now }
+    ensures few { result < 2 ^ 55 }
+{
+    let most = pair.greater();
+    if position.own().count() == most {
+        class_half_index(pair, greater, position)
+    } else {
+        class_half_size::<B>(greater, most, pair.lesser())
+            + class_half_index(pair, lesser, position)
+    }
+}
+
+/// How many entries there are for `own` stones of the player to move and `other` of the opponent.
+fn class_half_size<B: Geometry>(list: &[u32], own: u8, other: u8) -> u64
+    requires half { IsHalf B.POINTS own other }
+    requires few { length list.now < 2 ^ 32 }
+    ensures value { list.now ≡ representatives_of B.shape own → result ≡ class_half_size B.shape B.POINTS own other }
+    ensures few { result < 2 ^ 53 }
+{
+    list.len() as u64 * binomial(B::POINTS - own, other)
+}
+
+/// The number of a position's entry among those with as many stones of either player.
+fn class_half_index<B: Geometry>(pair: Pair<B>, list: &[u32], position: &Position<B>) -> u64
+    requires of { is_of pair position.now ≡ true }
+    requires few { length list.now < 2 ^ 32 }
+    ensures value { list.now ≡ representatives_of B.shape (count_of position.now.own) → result ≡ class_half_index B.shape B.POINTS position.now }
+    ensures few { result < 2 ^ 54 }
+{
+    let (own, other) = position.counts();
+    let (class, symmetry) = class_of::<B>(list, position.own());
+    let choices = binomial(B::POINTS - own, other);
+    class as u64 * choices + other_rank(pair, &position.image(symmetry))
+}
+
+/// The rank of the opponent's points among those that the player to move leaves.
+fn other_rank<B: Geometry>(pair: Pair<B>, position: &Position<B>) -> u64
+    requires { is_of pair position.now ≡ true }
+    ensures value { result ≡ rank_of (map (number_outside position.now.own) (members position.now.other)) }
+    ensures few { result < 2 ^ 21 }
+{
+    let (own, other) = (position.own().count(), position.other().count());
+    let choices = binomial(B::POINTS - own, other);
+    (pair.index(position) - start_of(pair, own, other)) % choices
+}
+
+/// How many positions of the pair stand before those with `own` stones of the player to move and
+/// `other` of the opponent.
+fn start_of<B: Geometry>(pair: Pair<B>, own: u8, other: u8) -> u64
+    requires own { own ≤ 9 }
+    requires other { other ≤ 9 }
+    requires fits { own + other ≤ B.POINTS }
+    ensures first { own ≡ pair.greater → result ≡ 0 }
+    ensures second { own ≢ pair.greater → result ≡ choose B.POINTS other * choose (B.POINTS - other) own }
+{
+    if own == pair.greater() {
+        0
+    } else {
+        binomial(B::POINTS, other) * binomial(B::POINTS - other, own)
+    }
+}
