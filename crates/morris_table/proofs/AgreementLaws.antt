@@ -1,8 +1,8 @@
 -- A list of codes in which all entries agree is exact, and an exact list agrees everywhere.
-use Rattle.std.proofs.Common.{◌≡◌, ◌↔◌, ℕ, zero, suc, ◌+◌, ◌-◌, ◌<◌, ◌≤◌, ◌%◌, Bool, true, false, not, ◌&&◌, ◌||◌, eqb, ltb, leb, List, [], ◌∷◌, ◌++◌, map, append-nil, append_assoc, filter, Option, Some, None, min, max, get_or, refl, sym, ap, ap₂, subst, ◌∙◌, inl, inr, ◌⊎◌, arith, add-suc, add-zero}
+use Rattle.std.proofs.Common.{◌≡◌, ◌↔◌, ℕ, zero, suc, ◌+◌, ◌-◌, ◌<◌, ◌≤◌, ◌%◌, Bool, true, false, not, ◌&&◌, ◌||◌, eqb, ltb, leb, List, [], ◌∷◌, ◌++◌, map, append-nil, append_assoc, filter, Option, Some, None, min, max, length, get_or, refl, sym, ap, ap₂, subst, ◌∙◌, inl, inr, ◌⊎◌, arith, add-suc, add-zero}
 use Rattle.std.proofs.lemmas.Bool.{false≢true, cases_lt, cases_Bool, both_ways, and_from, and_right, and_parts, or_cases, or_parts, or_left, or_right, le-leb, lt-leb, lt-ltb, le-ltb, leb-true, ltb-true, eq-eqb, eqb-true, ne_eqb, not-true, not_from_false, false_from_ne_true, cond-true, cond-false}
 use Rattle.std.proofs.lemmas.List.Folds.{list_all-map, list_all-append, list_any-append}
-use Rattle.std.proofs.lemmas.List.{map-append, flat_map_more}
+use Rattle.std.proofs.lemmas.List.{map-append, flat_map_more, get_or_past}
 use Rattle.std.proofs.lemmas.List.Elements.{filter-append}
 use Rattle.std.specs.List.{Contains, list_all, list_any, flat_map}
 use Rattle.morris_board.specs.Sets.{has, members}
@@ -32,6 +32,8 @@ use Rattle.morris_table.specs.Agreement.{code_above, code_from, stated_code, res
 use Rattle.morris_table.specs.FilterLaws.{list_any-map, all_parts, any_parts}
 use Rattle.morris_table.specs.NetLaws.{points_few, quiet-at, exits-at, quiet-stays, result-position, net_at-level_of}
 use Rattle.morris_wave.proofs.Summaries.{exits_of-more}
+use Rattle.morris_table.specs.Worths.{worth_of, code_of_worth, best_of, IsShort}
+use Rattle.morris_table.proofs.WorthLaws.{code-best}
 
 -- ---- depths of lost codes are even, and those of won codes odd
 
@@ -438,35 +440,20 @@ module _ (board : Shape) (t : Table) (s : Sides) where
       let f : Move → ℕ = λ x. get_or t.codes (entry_index board board.points t.layout t.pair (result_of s x)) 0 in
       ap (map f) (filter-append is_quiet ms more) ∙ map-append f (filter is_quiet ms) (filter is_quiet more)
 
-  captures_none : (u v : ℕ) (ts : List ℕ) → quiet_codes board t s (map (λ x. move u v (Some x)) ts) ≡ []
+  none_quiet : (u v : ℕ) (ts : List ℕ) → quiet_codes board t s (map (λ x. move u v (Some x)) ts) ≡ []
   unfolding quiet_codes
-  captures_none u v [] = refl
-  captures_none u v (x ∷ ts) = captures_none u v ts
+  none_quiet u v [] = refl
+  none_quiet u v (x ∷ ts) = none_quiet u v ts
 
-  -- the moves of one stone, one end after another
-  abbrev pub codes_to : ℕ → List ℕ → List ℕ
-  codes_to u vs = quiet_codes board t s (flat_map (moves_to board s u) vs)
-
-  codes_to-more : (u v : ℕ) (vs : List ℕ) → codes_to u (vs ++ v ∷ []) ≡ codes_to u vs ++ quiet_codes board t s (moves_to board s u v)
-  codes_to-more u v vs =
-      ap (quiet_codes board t s) (sym (flat_map_more (moves_to board s u) [] vs v)) ∙ quiet_codes-append (flat_map (moves_to board s u) vs) (moves_to board s u v)
-
-  pub codes_to-closing : (u v : ℕ) (vs : List ℕ) → closes board s.own u v ≡ true → codes_to u (vs ++ v ∷ []) ≡ codes_to u vs
+  -- a move that closes a mill is not quiet, and one that closes none is
+  pub captures_none : (u v : ℕ) → closes board s.own u v ≡ true → quiet_codes board t s (moves_to board s u v) ≡ []
   unfolding moves_to
-  codes_to-closing u v vs shut =
-      let none : quiet_codes board t s (moves_to board s u v) ≡ [] = rw shut (captures_none u v (members (takable board s.other))) in
-      codes_to-more u v vs ∙ ap (λ xs. codes_to u vs ++ xs) none ∙ append-nil (codes_to u vs)
+  captures_none u v shut = rw shut (none_quiet u v (members (takable board s.other)))
 
-  pub codes_to-quiet : (u v : ℕ) (vs : List ℕ) → closes board s.own u v ≡ false → (code : ℕ)
-      → code ≡ get_or t.codes (entry_index board board.points t.layout t.pair (result_of s (move u v None))) 0 → codes_to u (vs ++ v ∷ []) ≡ codes_to u vs ++ code ∷ []
+  pub quiet_codes-one : (u v : ℕ) → closes board s.own u v ≡ false
+      → quiet_codes board t s (moves_to board s u v) ≡ get_or t.codes (entry_index board board.points t.layout t.pair (result_of s (move u v None))) 0 ∷ []
   unfolding moves_to quiet_codes
-  codes_to-quiet u v vs free code is =
-      let one : quiet_codes board t s (moves_to board s u v) ≡ get_or t.codes (entry_index board board.points t.layout t.pair (result_of s (move u v None))) 0 ∷ [] = rw free refl in
-      codes_to-more u v vs ∙ ap (λ xs. codes_to u vs ++ xs) (one ∙ ap (λ x. x ∷ []) (sym is))
-
-  pub codes_to-all : (u : ℕ) → codes_to u (members (reach board s u)) ≡ quiet_codes board t s (moves_from board s u)
-  unfolding moves_from
-  codes_to-all u = refl
+  quiet_codes-one u v free = rw free refl
 
   -- the moves of all stones, one after another
   abbrev pub codes_by : List ℕ → List ℕ
@@ -530,11 +517,27 @@ module _ (board : Shape) (t : Table) (s : Sides) where
       ∙ same_from_rule (capture_codes board s ++ map (λ m. get_or t.codes (entry_index board board.points t.layout t.pair (result_of s m)) 0) (filter is_quiet (moves_of board s)))
       (result_codes board t s) (λ n. all_both (is_won_exit n)) (λ n. any_both (is_lost_exit n))
 
+  -- the same by what results are worth
+  pub best-all : (e : Exits) → e ≡ exits_of (capture_codes board s) → IsShort e → ((k : ℕ) → get_or t.codes k 0 ≤ 65535)
+      → code_of_worth (best_of (worth_of e) (quiet_codes board t s (moves_of board s))) ≡ code_from (result_codes board t s)
+  unfolding quiet_codes
+  best-all e is short small =
+      code-best (λ (m : Move). get_or t.codes (entry_index board board.points t.layout t.pair (result_of s m)) 0)
+      (λ m. small (entry_index board board.points t.layout t.pair (result_of s m))) e (filter is_quiet (moves_of board s)) short
+      ∙ added-all e is
+
   -- a capture that wins at once decides
   pub added-now : (e : Exits) → e ≡ exits_of (capture_codes board s) → e.least_lost ≡ Some 0 → code_above e ≡ code_from (result_codes board t s)
   added-now e is now =
       above-lost_now e now ∙ sym (above-lost_now (all_added e (quiet_codes board t s (moves_of board s))) (all_added-lost_now e (quiet_codes board t s (moves_of board s)) now))
       ∙ added-all e is
+
+-- numbers of 16 bits, with 0 past the last
+pub small_codes : (codes : List ℕ) → ((i : ℕ) → i < length codes → get_or codes i 0 ≤ 65535) → (k : ℕ) → get_or codes k 0 ≤ 65535
+small_codes codes small k = elim (cases_lt k (length codes)) [
+  | inl inside ↦ small k inside
+  | inr past ↦ omega (arith, get_or_past codes k 0 past)
+]
 
 -- a quiet move stays in the pair
 pub stays : (board : Shape) → is_board board ≡ true → (c : Counts) (s : Sides) → IsPosition board s → is_of c s ≡ true

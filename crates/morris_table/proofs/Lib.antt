@@ -23,6 +23,10 @@ pub mod GraphLaws
 pub mod CaptureLaws
 pub mod BuildLaws
 pub mod AgreementLaws
+pub mod WorthLaws
+pub mod EndLaws
+pub mod SharingLaws
+pub mod MarkLaws
 pub mod FileLaws
 pub mod ReadingLaws
 pub mod PlaceLaws

@@ -1,5 +1,5 @@
 -- When a stated code agrees with the codes of what the position leads to.
-use Rattle.std.specs.Prelude.{◌≡◌, ℕ, ◌+◌, ◌<◌, List, [], ◌∷◌, map, filter, Some, None, slice_index, if◌then◌else◌, true}
+use Rattle.std.specs.Prelude.{◌≡◌, ℕ, ◌+◌, ◌<◌, ◌≤◌, List, [], ◌∷◌, map, filter, Some, None, slice_index, if◌then◌else◌, true}
 use Rattle.morris_board.specs.Boards.{Shape}
 use Rattle.morris_board.specs.Positions.{Sides, IsPosition}
 use Rattle.morris_moves.specs.declared.step.Move.{Move}
@@ -56,3 +56,11 @@ pub record IsFirstToDiffer (board : Shape) (t : Table) (i : ℕ) : Type 0 where
   pub inside : i < entry_count board board.points t.layout t.pair
   pub differs : Agrees board t i → ⊥
   pub before : (k : ℕ) → k < i → Agrees board t k
+
+-- an entry of those from the first up to, not including, the end that doesn't agree, after entries
+-- of these that all agree
+pub record IsFirstIn (board : Shape) (t : Table) (first end i : ℕ) : Type 0 where
+  pub inside : i < end
+  pub from : first ≤ i
+  pub differs : Agrees board t i → ⊥
+  pub before : (k : ℕ) → first ≤ k → k < i → Agrees board t k

@@ -18,6 +18,11 @@ pub mod Graphs
 pub mod Sweeping
 pub mod ClassGraphs
 pub mod Agreement
+pub mod Marks
+pub mod OwnSets
+pub mod Sharing
+pub mod Worths
+pub mod QuietEnds
 pub mod Verifying
 pub mod Headline
 pub mod Building

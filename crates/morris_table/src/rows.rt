@@ -30,7 +30,7 @@ pub(crate) struct Row {
 }
 
 /// Whether a stone on `from` may go to `to`, where that is vacant.
-fn may_come<B: Geometry>(own: Points, from: u8, to: u8) -> bool
+pub(crate) fn may_come<B: Geometry>(own: Points, from: u8, to: u8) -> bool
     requires start { from < B.POINTS }
     requires end { to < B.POINTS }
     ensures { result ≡ goes B.shape (count_of own) from to }

@@ -1,5 +1,5 @@
 //! Tables that are looked at before they are believed.
-ghost use Rattle.std.specs.Prelude.{◌≡◌, ◌<◌, ◌↔◌, ℕ, None, IsTrue, is_ok, IfOk, IfErr, IfSome, MatchOption, MatchResult};
+ghost use Rattle.std.specs.Prelude.{◌≡◌, ◌<◌, ◌≤◌, ◌↔◌, ℕ, None, IsTrue, is_ok, IfOk, IfErr, IfSome, MatchOption, MatchResult};
 ghost use Rattle.morris_table.specs.Entries.{entry_count};
 ghost use Rattle.morris_table.specs.Tables.{IsTable};
 ghost use Rattle.morris_table.specs.Shelves.{first_missing};
@@ -11,9 +11,12 @@ use crate::agreeing::first_to_differ;
 use crate::exact::Exact;
 use crate::graph::PairGraph;
 use crate::raw::Raw;
+use crate::sharing::first_by;
 use crate::shelf::{Needs, Shelf};
 use crate::stock::Stock;
 use morris_board::board::{Board, Geometry};
+use std::alloc::Global;
+use std::thread::Threads;
 use thiserror::Error;
 
 /// Why a table isn't believed.
@@ -75,6 +78,38 @@ impl<B: Board> Raw<B> {
         };
         let differing = first_to_differ(&graph, &self);
         judged(self, differing)
+    }
+
+    /// [`verify_over`](Raw::verify_over) by so many workers, 1 to 64, who share the entries out
+    /// among them. The answer is the same for every number of them. Where memory or a thread is
+    /// refused, the caller's own thread does the work.
+    ///
+    /// # Errors
+    /// Those of [`verify`](Raw::verify), in the same order.
+    pub fn verify_by<R: Threads + Sync>(
+        self,
+        rt: &R,
+        alloc: Global,
+        stock: &Stock<B>,
+        workers: usize,
+    ) -> Result<Exact<B>, (Raw<B>, VerifyFault<B>)>
+        requires { (1 ≤ workers) × (workers ≤ 64) }
+        ensures needs { MatchResult result (λ _. first_missing stock.now self.pair ≡ None)
+            (λ refused. missing_in refused.1 ≡ first_missing stock.now self.pair) }
+        ensures exact { IsTrue (is_ok result) ↔ ((first_missing stock.now self.pair ≡ None) × IsTable B.shape self) }
+        ensures value { IfOk result (λ t. t ≡ self) }
+        ensures differs { IfErr result (λ refused. IfSome (differing_in refused.1) (IsFirstToDiffer B.shape self)) }
+        ensures given_back { IfErr result (λ refused. refused.0 ≡ self) }
+        // A table is exact where all of its entries agree, and only there.
+        ensures agreement { first_missing stock.now self.pair ≡ None
+            → (((i : ℕ) → i < entry_count B.shape B.POINTS self.layout self.pair → Agrees B.shape self i) ↔ IsTable B.shape self) }
+    {
+        let graph = match PairGraph::over(stock, self.pair()) {
+            Ok(graph) => graph,
+            Err(needs) => return Err((self, VerifyFault::Needs(needs))),
+        };
+        let found = first_by(rt, alloc, &graph, &self, workers);
+        judged(self, found)
     }
 }
 
