@@ -19,7 +19,7 @@ use Rattle.morris_queries.specs.declared.show.Show.{Show}
 use Rattle.morris_queries.specs.declared.fault.QueryFault.{QueryFault}
 use Rattle.morris_queries.specs.declared.fault.QueryFault.TheVariants as query
 use Rattle.morris_queries.specs.declared.texts.Tally.{Tally}
-use Rattle.morris_queries.specs.Answers.{Answer, IsAnswer, Given, AreGiven, AnswersText, AnswersTexts, CountsWrites, WentIn, IsTallied, counted_to, printed_of, refused_in}
+use Rattle.morris_queries.specs.Answers.{Answer, IsAnswer, Given, AreGiven, AreOut, ArePartOut, AnswersText, AnswersTexts, CountsWrites, WentIn, IsTallied, counted_to, printed_of, refused_in}
 use Rattle.morris_queries.specs.Printing.{answer_text}
 use Rattle.morris_queries.specs.Exactness.{AreExactIn, IsGame}
 use Rattle.morris_queries.specs.Telling.{Agrees, IsListed, told_to, told_text, told_shown}
@@ -80,18 +80,6 @@ part_first old new t u a part low =
     )
 
 -- ---- texts that were answered
-
--- all answers to these texts went out, and were counted
-pub record AreOut (board : Shape) (name : List ℕ) (known : Option Files) (show : Show) (texts : List (List ℕ)) (old new : Option (List ℕ)) (tally : Tally) : Type 0 where
-  pub given : Given
-  pub are : AreGiven board name known show texts given
-  pub out : Appends old new (printed_of board show given)
-  pub sent : tally.sent ≡ counted_to (length (printed_of board show given))
-  pub refused : tally.refused ≡ counted_to (refused_in given)
-
--- the answers to these texts are those that a part went out of
-abbrev pub ArePartOut : Shape → List ℕ → Option Files → Show → List (List ℕ) → Option (List ℕ) → Option (List ℕ) → ℕ → Type 0
-ArePartOut board name known show texts old new sent = (given : Given) × AreGiven board name known show texts given × WentIn old new (printed_of board show given) sent
 
 module _ (board : Shape) (name : List ℕ) (known : Option Files) (show : Show) where
   pub out_none : (old : Option (List ℕ)) (tally : Tally) → tally.sent ≡ 0 → tally.refused ≡ 0 → AreOut board name known show [] old old tally

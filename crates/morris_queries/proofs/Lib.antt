@@ -3,3 +3,5 @@ pub mod OpenLaws
 pub mod TellingLaws
 pub mod Pieces
 pub mod ExactLaws
+pub mod LineLaws
+pub mod LineAnswerLaws

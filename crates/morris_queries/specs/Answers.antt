@@ -69,6 +69,18 @@ abbrev pub refused_in : Given → ℕ
 refused_in [] = 0
 refused_in (g ∷ given) = (if is_err g.1 then 1 else 0) + refused_in given
 
+-- all answers to these texts went out, and were counted
+pub record AreOut (board : Shape) (name : List ℕ) (known : Option Files) (show : Show) (texts : List (List ℕ)) (old new : Option (List ℕ)) (tally : Tally) : Type 0 where
+  pub given : Given
+  pub are : AreGiven board name known show texts given
+  pub out : Appends old new (printed_of board show given)
+  pub sent : tally.sent ≡ counted_to (length (printed_of board show given))
+  pub refused : tally.refused ≡ counted_to (refused_in given)
+
+-- the answers to these texts are those that a part went out of
+abbrev pub ArePartOut : Shape → List ℕ → Option Files → Show → List (List ℕ) → Option (List ℕ) → Option (List ℕ) → ℕ → Type 0
+ArePartOut board name known show texts old new sent = (given : Given) × AreGiven board name known show texts given × WentIn old new (printed_of board show given) sent
+
 -- What is counted after the next text: the bytes that went out, and whether it was a fault; or the
 -- bytes that went out until a write failed.
 abbrev pub IsTallied : Tally → Tally → Result Answered ℕ → Result (Unit {0}) QueryFault → Type 0

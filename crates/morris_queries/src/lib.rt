@@ -5,6 +5,8 @@
 pub mod answer;
 pub mod fault;
 pub mod library;
+mod line;
+pub mod lines;
 pub mod lookup;
 pub mod memory;
 mod print;

@@ -3,8 +3,16 @@ ghost use Rattle.std.specs.Prelude.{◌≡◌, Option};
 ghost use Rattle.morris_folders.specs.Files.{Files};
 ghost use Rattle.morris_queries.specs.Libraries.{Opens};
 
-use morris_board::streams::Failed;
 use morris_lookup::storage::Storage;
+
+/// Why a file isn't open.
+#[derive(Clone, Copy, Debug, PartialEq, Eq)]
+pub enum Unopened {
+    /// Want of memory.
+    Memory,
+    /// The file is there, and can't be opened.
+    Failed,
+}
 
 /// Files under names, which nobody changes meanwhile.
 pub trait Library {
@@ -17,8 +25,8 @@ pub trait Library {
     /// Opens the file of this name; `None` where there isn't one.
     ///
     /// # Errors
-    /// [`Failed`] where it can't be opened.
-    fn open(&mut self, name: &str) -> Result<Option<Self::Bytes>, Failed>
+    /// Those of [`Unopened`].
+    fn open(&mut self, name: &str) -> Result<Option<Self::Bytes>, Unopened>
         ensures opened { Opens Self.Bytes.contents (files self.old) name.now result }
         ensures kept { files self.new ≡ files self.old };
 }

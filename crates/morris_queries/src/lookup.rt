@@ -1,15 +1,17 @@
-//! The command `lookup` for a list of texts.
-ghost use Rattle.std.specs.Prelude.{◌≡◌, ◌-◌, ◌^◌, ◌<◌, map};
+//! The command `lookup`, for a list of texts and for the lines of an input.
+ghost use Rattle.std.specs.Prelude.{◌≡◌, ◌-◌, ◌^◌, ◌<◌, Err, OnOk, map};
 ghost use Rattle.morris_commands.specs.Look.{board_of};
 ghost use Rattle.morris_queries.specs.Answers.{AnswersLookup, CountsWrites};
+ghost use Rattle.morris_queries.specs.LineAnswers.{AnswersInput};
 
 use crate::fault::QueryFault;
 use crate::library::Library;
+use crate::lines::answer_lines;
 use crate::show::Show;
 use crate::texts::answer_texts;
 use morris_board::grid::Grid;
 use morris_board::nine::Nine;
-use morris_board::streams::Sink;
+use morris_board::streams::{Sink, Source};
 use morris_commands::boards::{NamedBoard, read_board};
 use std::alloc::Global;
 
@@ -41,6 +43,40 @@ pub fn lookup_texts<L: Library, O: Sink>(
         }
         Ok(NamedBoard::Grid) => {
             answer_texts::<Grid, L, O>(alloc, board, library, texts, show, output)
+        }
+        Err(_) => Err(QueryFault::Board),
+    }
+}
+
+/// Answers positions on the board named `board`, one on each line of an input, each as soon as its
+/// line has come, from the table files of a library, and counts those that are answered by a fault.
+/// What a line is, [`answer_lines`] says.
+///
+/// # Errors
+/// [`QueryFault::Board`] where there is no such board, before anything is read; otherwise those of
+/// [`answer_lines`].
+pub fn lookup_lines<L: Library, I: Source, O: Sink>(
+    alloc: Global,
+    board: &str,
+    library: &mut L,
+    input: &mut I,
+    show: Show,
+    output: &mut O,
+) -> Result<u64, QueryFault>
+    requires reading { I.failures input.old < 2 ^ 64 - 1 }
+    requires writing { O.failures output.old < 2 ^ 64 - 1 }
+    ensures kept { L.files library.new ≡ L.files library.old }
+    ensures answer { AnswersInput (board_of board.now) board.now (L.files library.old) show (I.remaining input.old) (I.remaining input.new) (O.contents output.old) (O.contents output.new) result }
+    ensures unread { result ≡ Err QueryFault.Board → input.new ≡ input.old }
+    ensures unfailed { OnOk result (I.failures input.new ≡ I.failures input.old) }
+    ensures counted { CountsWrites (O.failures output.old) (O.failures output.new) result }
+{
+    match read_board(board) {
+        Ok(NamedBoard::Nine) => {
+            answer_lines::<Nine, L, I, O>(alloc, board, library, input, show, output)
+        }
+        Ok(NamedBoard::Grid) => {
+            answer_lines::<Grid, L, I, O>(alloc, board, library, input, show, output)
         }
         Err(_) => Err(QueryFault::Board),
     }

@@ -2,8 +2,7 @@
 ghost use Rattle.std.specs.Prelude.{◌≡◌, IfSome, MatchOption, None, Some};
 ghost use Rattle.morris_queries.specs.Libraries.{file_named};
 
-use crate::library::Library;
-use morris_board::streams::Failed;
+use crate::library::{Library, Unopened};
 
 /// Files in memory, each with its name. Where two have one name, the first is found.
 #[derive(Clone, Copy)]
@@ -17,7 +16,7 @@ impl<'a> Library for Held<'a> {
 
     ghost files = { λ held. Some (file_named held.files.now) };
 
-    fn open(&mut self, name: &str) -> Result<Option<&'a [u8]>, Failed> {
+    fn open(&mut self, name: &str) -> Result<Option<&'a [u8]>, Unopened> {
         Ok(find(self.files, name))
     }
 }

@@ -1,8 +1,7 @@
 //! The files of a folder of the system.
 ghost use Rattle.std.specs.Prelude.{None};
 
-use crate::library::Library;
-use morris_board::streams::Failed;
+use crate::library::{Library, Unopened};
 use std::alloc::AllocError;
 use std::fs;
 use std::fs::File;
@@ -40,14 +39,17 @@ impl<'a, R: Files<File = File> + AllocGlobal> Library for SystemLibrary<'a, R> {
 
     ghost files = { λ _. None };
 
-    fn open(&mut self, name: &str) -> Result<Option<File>, Failed> {
+    fn open(&mut self, name: &str) -> Result<Option<File>, Unopened> {
         let Ok(path) = self.path_of(name) else {
-            return Err(Failed);
+            return Err(Unopened::Memory);
         };
         match fs::open(self.rt, path.as_str()) {
             Ok(file) => Ok(Some(file)),
-            Err(fault) if fault.kind() == ErrorKind::NotFound => Ok(None),
-            Err(_) => Err(Failed),
+            Err(fault) => match fault.kind() {
+                ErrorKind::NotFound => Ok(None),
+                ErrorKind::OutOfMemory => Err(Unopened::Memory),
+                _ => Err(Unopened::Failed),
+            },
         }
     }
 }

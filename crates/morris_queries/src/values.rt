@@ -6,10 +6,9 @@ ghost use Rattle.morris_folders.specs.Files.{Files};
 ghost use Rattle.morris_queries.specs.Libraries.{IsFound};
 ghost use Rattle.morris_queries.specs.Telling.{Agrees, AreOf, IsRefusal, opened_as, table_in, told_value};
 
-use crate::library::Library;
+use crate::library::{Library, Unopened};
 use morris_board::board::Geometry;
 use morris_board::position::Position;
-use morris_board::streams::Failed;
 use morris_commands::fault::Fault;
 use morris_index::pair::Pair;
 use morris_keeping::names::file_name;
@@ -40,7 +39,8 @@ fn open_file<B: Geometry, L: Library>(
     let name = file_name(alloc, board, pair)?;
     match library.open(name.as_str()) {
         Ok(found) => open_found(alloc, found, pair),
-        Err(Failed) => Err(Fault::Read),
+        Err(Unopened::Memory) => Err(Fault::Memory),
+        Err(Unopened::Failed) => Err(Fault::Read),
     }
 }
 

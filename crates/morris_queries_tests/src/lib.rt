@@ -7,4 +7,6 @@ mod asking;
 #[cfg(test)]
 mod failing;
 #[cfg(test)]
+mod lines;
+#[cfg(test)]
 mod making;

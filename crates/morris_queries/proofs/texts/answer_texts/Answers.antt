@@ -1,6 +1,7 @@
 use Rattle.std.proofs.Common.{◌∙◌, Bor, List, ℕ, map, take, refl, sym, subst}
 use Rattle.std.proofs.lemmas.Result.{err_from_is_err_and}
-use Rattle.morris_queries.proofs.AnswerLaws.{AreOut, out_none, texts_stopped, texts_more, counts_stopped, counts_on, text_next}
+use Rattle.morris_queries.specs.Answers.{AreOut}
+use Rattle.morris_queries.proofs.AnswerLaws.{out_none, texts_stopped, texts_more, counts_stopped, counts_on, text_next}
 use Rattle.morris_queries.proofs.texts.answer_texts.Goals as goal
 
 pub loop-text-init : goal.loop-text-init

@@ -1,6 +1,6 @@
 use Rattle.std.proofs.Common.{◌≡◌, map, take}
 use Rattle.morris_queries.specs.Telling.{AreOf}
-use Rattle.morris_queries.proofs.AnswerLaws.{AreOut}
+use Rattle.morris_queries.specs.Answers.{AreOut}
 use Rattle.morris_queries.proofs.texts.answer_texts.Given as goal
 
 -- the answers to the texts so far went out, and were counted

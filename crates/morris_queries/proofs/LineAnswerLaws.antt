@@ -1,0 +1,231 @@
+-- How the answers to the lines of an input go on with each byte.
+use Rattle.std.proofs.Common.{◌≡◌, ◌≢◌, ◌⊎◌, ℕ, ◌+◌, ◌≤◌, ◌<◌, min, false, List, [], ◌∷◌, ◌++◌, take, drop, get_or, length, codes, append-nil, append_assoc, take-append-drop, Option, Result, Ok, Err, refl, sym, ap, subst, ◌∙◌, inl, inr, arith}
+use Rattle.std.specs.Prelude.{IfErr, IfOk, is_err, nat_eq, nat_le}
+use Rattle.std.specs.Io.KnownBytes.{Consumes, IsAtEnd, Keeps}
+use Rattle.std.proofs.KnownBytes.{Consumes-kept, Consumes-trans}
+use Rattle.std.proofs.lemmas.Bool.{cases_lt, lt-leb, ne_eqb}
+use Rattle.std.proofs.lemmas.List.{length-take, take-append-le, take-take, take_all, take_min, take_more}
+use Rattle.morris_board.specs.Boards.{Shape}
+use Rattle.morris_board.specs.Positions.{read_of}
+use Rattle.morris_board.specs.declared.faults.TextFault.TheVariants as fault
+use Rattle.morris_folders.specs.Files.{Files}
+use Rattle.morris_queries.specs.declared.answer.Answered.{Answered}
+use Rattle.morris_queries.specs.declared.fault.QueryFault.{QueryFault}
+use Rattle.morris_queries.specs.declared.fault.QueryFault.TheVariants as query
+use Rattle.morris_queries.specs.declared.show.Show.{Show}
+use Rattle.morris_queries.specs.declared.texts.Tally.{Tally}
+use Rattle.morris_queries.specs.Answers.{Answer, AnswersText, AnswersTexts, AreGiven, AreOut, ArePartOut, GoesOut, IsAnswer, IsTallied, counted_to}
+use Rattle.morris_queries.specs.InputLines.{begun_after, ended_by, text_in, texts_ended, texts_in, whole_lines}
+use Rattle.morris_queries.specs.LineAnswers.{AnswersLines, IsReadTo, StopsIn}
+use Rattle.morris_queries.specs.Printing.{answer_text, first_line, shown_text, told_text}
+use Rattle.morris_queries.specs.Telling.{Agrees, Telling, told_to, told_text as told_of_text}
+use Rattle.morris_queries.proofs.AnswerLaws.{out_failed, out_none, texts_more}
+use Rattle.morris_queries.proofs.LineLaws.{begun_after-byte, begun_after-feed, text_in-start, texts_ended-append, texts_ended-byte, texts_ended-feed}
+
+-- ---- the first 25 bytes of a text tell its answer
+
+module _ (board : Shape) (few : board.points ≤ 24) (k t : List ℕ) (start : take 25 k ≡ take 25 t) where
+  -- the two are one text, or both are too long for a position's
+  same_or_long : (k ≡ t) ⊎ ((24 < length k) × (24 < length t))
+  same_or_long = elim (cases_lt 24 (length k)) [
+    | inl long ↦ inr (long, omega (arith, long, ap length start, length-take 25 k, length-take 25 t))
+    | inr short ↦
+        let also : length t ≤ 24 = omega (arith, short, ap length start, length-take 25 k, length-take 25 t) in
+        inl (sym (take_all 25 k (omega (arith, short))) ∙ (start ∙ take_all 25 t (omega (arith, also))))
+  ]
+
+  read_long : (u : List ℕ) → 24 < length u → read_of board u ≡ Err fault.Length
+  read_long u long =
+      let other : nat_eq (length u) board.points ≡ false = ne_eqb _ _ (λ e. omega (arith, few, long, e)) in
+      rw other refl
+
+  read_same : read_of board k ≡ read_of board t
+  read_same = elim same_or_long [
+    | inl same ↦ ap (read_of board) same
+    | inr long ↦ read_long k long.0 ∙ sym (read_long t long.1)
+  ]
+
+  shown_long : (u : List ℕ) → 24 < length u → shown_text board.points u ≡ take board.points (take 25 u) ++ codes ".."
+  shown_long u long =
+      let past : nat_le (length u) board.points ≡ false = lt-leb _ _ (omega (arith, few, long)) in
+      rw past (ap (λ l. l ++ codes "..") (sym (take-take board.points 25 u (omega (arith, few)))))
+
+  shown_same : shown_text board.points k ≡ shown_text board.points t
+  shown_same = elim same_or_long [
+    | inl same ↦ ap (shown_text board.points) same
+    | inr long ↦ shown_long k long.0 ∙ (ap (λ l. take board.points l ++ codes "..") start ∙ sym (shown_long t long.1))
+  ]
+
+  told_same : (show : Show) (told : Telling) → told_text board show k told ≡ told_text board show t told
+  unfolding told_text first_line
+  told_same show told = rw shown_same refl
+
+  answer_same : (show : Show) (answer : Answer) → answer_text board show k answer ≡ answer_text board show t answer
+  answer_same show (Ok told) = told_same show told
+  answer_same show (Err refused) = rw shown_same refl
+
+  told_of_same : (name : List ℕ) (files : Files) (show : Show) → told_of_text board name files show k ≡ told_of_text board name files show t
+  unfolding told_of_text
+  told_of_same name files show = ap (told_to board name files show) read_same
+
+  is_answer : (name : List ℕ) (known : Option Files) (show : Show) (answer : Answer) → IsAnswer board name known show k answer → IsAnswer board name known show t answer
+  is_answer name known show answer h = record {
+    refused = λ fault is. h.refused fault (read_same ∙ is);
+    listed = λ s is. h.listed s (read_same ∙ is);
+    told = λ files there. subst (Agrees answer) (told_of_same name files show) (h.told files there);
+    exact = λ files there right s is. h.exact files there right s (read_same ∙ is);
+  }
+
+  pub answers_same : (name : List ℕ) (known : Option Files) (show : Show) (old new : Option (List ℕ)) (result : Result Answered ℕ)
+      → AnswersText board name known show k old new result → AnswersText board name known show t old new result
+  answers_same name known show old new result h =
+      (h.0, is_answer name known show h.0 h.1, subst (λ whole. GoesOut old new whole (is_err h.0) result) (answer_same show h.0) h.2)
+
+-- what is answered to the text of the first bytes of a line is answered to the line's text
+pub answers_line : (board : Shape) → board.points ≤ 24 → (line : List ℕ) (name : List ℕ) (known : Option Files) (show : Show) (old new : Option (List ℕ)) (result : Result Answered ℕ)
+    → AnswersText board name known show (text_in (take 26 line)) old new result → AnswersText board name known show (text_in line) old new result
+answers_line board few line = answers_same board few (text_in (take 26 line)) (text_in line) (text_in-start line)
+
+-- ---- from byte to byte
+
+module _ (board : Shape) (name : List ℕ) (known : Option Files) (show : Show) where
+  abbrev ReadTo : List ℕ → Option (List ℕ) → Option (List ℕ) → List ℕ → Tally → Type 0
+  ReadTo read old new line tally = IsReadTo board name known show read old new line tally
+
+  pub read_none : (old : Option (List ℕ)) (line : List ℕ) (tally : Tally) → line ≡ [] → tally.sent ≡ 0 → tally.refused ≡ 0 → ReadTo [] old old line tally
+  unfolding whole_lines begun_after
+  read_none old line tally empty none nothing = record { kept = empty; out = out_none board name known show old tally none nothing }
+
+  -- a byte that is no line feed
+  pub read_byte : (read : List ℕ) (b : ℕ) (old new : Option (List ℕ)) (line more : List ℕ) (tally : Tally) → b ≢ 10
+      → ((begun : List ℕ) → line ≡ take 26 begun → more ≡ take 26 (begun ++ b ∷ [])) → ReadTo read old new line tally
+      → ReadTo (read ++ b ∷ []) old new more tally
+  read_byte read b old new line more tally other kept h =
+      let off : nat_eq b 10 ≡ false = ne_eqb b 10 other in
+      record {
+        kept = kept (begun_after [] read) h.kept ∙ ap (take 26) (sym (begun_after-byte read b off));
+        out = subst (λ ts. AreOut board name known show ts old new tally) (sym (texts_ended-byte read b off)) h.out;
+      }
+
+  -- a line feed, and the answer to its line
+  pub read_feed : (read : List ℕ) (old mid new : Option (List ℕ)) (line more : List ℕ) (before after : Tally) (answered : Result Answered ℕ)
+      → ((whole : List ℕ) → line ≡ take 26 whole → AnswersText board name known show (text_in whole) mid new answered)
+      → IsTallied before after answered (Ok tt) → more ≡ [] → ReadTo read old mid line before
+      → ReadTo (read ++ 10 ∷ []) old new more after
+  read_feed read old mid new line more before after answered answers tallied empty h = record {
+    kept = empty ∙ ap (take 26) (sym (begun_after-feed read));
+    out =
+        subst (λ ts. AreOut board name known show ts old new after) (sym (texts_ended-feed read))
+        (texts_more board name known show (texts_ended read) (text_in (begun_after [] read)) old mid new before after answered h.out
+        (answers (begun_after [] read) h.kept) tallied);
+  }
+
+  -- a part of the answers to some texts went out
+  part_stops : (texts : List (List ℕ)) (old new : Option (List ℕ)) (sent : ℕ) → ArePartOut board name known show texts old new sent
+      → StopsIn board name known show texts old new (query.Write sent)
+  part_stops texts old new sent part =
+      (length texts, part.0, subst (λ ts. AreGiven board name known show ts part.0) (sym (take_all (length texts) texts (omega arith))) part.1, part.2)
+
+  pub feed_stops : (read : List ℕ) (old mid new : Option (List ℕ)) (line : List ℕ) (before after : Tally) (answered : Result Answered ℕ) (refusal : QueryFault)
+      → ((whole : List ℕ) → line ≡ take 26 whole → AnswersText board name known show (text_in whole) mid new answered)
+      → IsTallied before after answered (Err refusal) → ReadTo read old mid line before
+      → StopsIn board name known show (texts_ended (read ++ 10 ∷ [])) old new refusal
+  feed_stops read old mid new line before after (Ok done) refusal answers tallied h = let no : Err refusal ≡ Ok tt = tallied.0 in cc
+  feed_stops read old mid new line before after (Err sent) refusal answers tallied h =
+      let is : query.Write (counted_to (before.sent + sent)) ≡ refusal = cc in
+      let part = out_failed board name known show (texts_ended read) (text_in (begun_after [] read)) old mid new before sent h.out (answers (begun_after [] read) h.kept) in
+      let stops = part_stops (texts_ended read ++ text_in (begun_after [] read) ∷ []) old new (counted_to (before.sent + sent)) part in
+      subst (λ ts. StopsIn board name known show ts old new refusal) (sym (texts_ended-feed read))
+      (subst (StopsIn board name known show (texts_ended read ++ text_in (begun_after [] read) ∷ []) old new) is stops)
+
+  -- what stopped among some texts stopped among more
+  stops_longer : (texts more : List (List ℕ)) (old new : Option (List ℕ)) (refusal : QueryFault) → StopsIn board name known show texts old new refusal
+      → StopsIn board name known show (texts ++ more) old new refusal
+  stops_longer texts more old new (query.Write sent) h =
+      let low : min h.0 (length texts) ≤ length texts = omega arith in
+      let same : take h.0 texts ≡ take (min h.0 (length texts)) (texts ++ more) = sym (take-append-le _ texts more low ∙ take_min h.0 texts) in
+      (min h.0 (length texts), h.1, subst (λ ts. AreGiven board name known show ts h.1) same h.2, h.3)
+  stops_longer texts more old new query.Board h = absurd h
+  stops_longer texts more old new query.Memory h = absurd h
+  stops_longer texts more old new query.Read h = absurd h
+
+  pub stops_later : (read more : List ℕ) (old new : Option (List ℕ)) (refusal : QueryFault) → StopsIn board name known show (texts_ended read) old new refusal
+      → StopsIn board name known show (texts_ended (read ++ more)) old new refusal
+  stops_later read more old new refusal h =
+      subst (λ ts. StopsIn board name known show ts old new refusal) (sym (texts_ended-append read more))
+      (stops_longer (texts_ended read) _ old new refusal h)
+
+  -- ---- at the end of the input
+
+  pub stops_in : (read : List ℕ) (old new : Option (List ℕ)) (refusal : QueryFault) → StopsIn board name known show (texts_ended read) old new refusal
+      → StopsIn board name known show (texts_in read) old new refusal
+  stops_in read old new refusal h = go (begun_after [] read)
+    where
+      go : (line : List ℕ) → StopsIn board name known show (texts_ended (ended_by line read)) old new refusal
+      go [] = h
+      go (b ∷ line) = stops_later read (10 ∷ []) old new refusal h
+
+  -- the answers to all texts went out
+  pub all_out : (texts : List (List ℕ)) (old new : Option (List ℕ)) (tally : Tally) → AreOut board name known show texts old new tally
+      → AnswersTexts board name known show texts old new (Ok tally.refused)
+  all_out texts old new tally h = (h.given, h.are, h.out, h.refused)
+
+  -- a line was begun, or none
+  begun_some : (line : List ℕ) (b : ℕ) (kept : List ℕ) → take 26 line ≡ b ∷ kept → (read : List ℕ) → ended_by line read ≡ read ++ 10 ∷ []
+  begun_some [] b kept is read = cc
+  begun_some (c ∷ line) b kept is read = refl
+
+  begun_none : (line : List ℕ) → take 26 line ≡ [] → (read : List ℕ) → ended_by line read ≡ read
+  begun_none [] is read = refl
+  begun_none (c ∷ line) is read = cc
+
+  pub ends_at : (read : List ℕ) (old new : Option (List ℕ)) (line : List ℕ) (tally : Tally) → line ≡ [] → ReadTo read old new line tally
+      → AnswersTexts board name known show (texts_in read) old new (Ok tally.refused)
+  ends_at read old new line tally empty h =
+      let none = begun_none (begun_after [] read) (sym h.kept ∙ empty) read in
+      subst (λ bytes. AnswersTexts board name known show (texts_ended bytes) old new (Ok tally.refused)) (sym none) (all_out (texts_ended read) old new tally h.out)
+
+  pub texts_in-line : (read : List ℕ) (old mid : Option (List ℕ)) (line : List ℕ) (tally : Tally) → line ≢ [] → ReadTo read old mid line tally
+      → texts_in read ≡ texts_ended (read ++ 10 ∷ [])
+  texts_in-line read old mid [] tally some h = absurd (some refl)
+  texts_in-line read old mid (b ∷ line) tally some h = ap texts_ended (begun_some (begun_after [] read) b line (sym h.kept) read)
+
+  -- ---- the answer to the whole input
+
+  pub lines_ended : (before mid after : Option (List ℕ)) (old now new : Option (List ℕ)) (read line : List ℕ) (tally : Tally) (result : Result ℕ QueryFault)
+      → Consumes before mid read → Consumes mid after [] → IsAtEnd after → ReadTo read old now line tally
+      → IfOk result (λ refused. (r : List ℕ) (start : Option (List ℕ)) → ReadTo r start now line tally → AnswersTexts board name known show (texts_in r) start new (Ok refused))
+      → IfErr result (λ refusal. (r : List ℕ) (start : Option (List ℕ)) → ReadTo r start now line tally → StopsIn board name known show (texts_in r) start new refusal)
+      → AnswersLines board name known show before after old new result
+  lines_ended before mid after old now new read line tally (Ok refused) got nothing end here ended stopped =
+      (read, subst (Consumes before after) (append-nil read) (Consumes-trans before mid after read [] got nothing), end, ended read old here)
+  lines_ended before mid after old now new read line tally (Err (query.Write sent)) got nothing end here ended stopped =
+      (read, subst (Consumes before after) (append-nil read) (Consumes-trans before mid after read [] got nothing), stopped read old here)
+  lines_ended before mid after old now new read line tally (Err query.Board) got nothing end here ended stopped = absurd (stopped read old here)
+  lines_ended before mid after old now new read line tally (Err query.Memory) got nothing end here ended stopped = absurd (stopped read old here)
+  lines_ended before mid after old now new read line tally (Err query.Read) got nothing end here ended stopped = absurd (stopped read old here)
+
+  pub lines_stopped : (before mid after : Option (List ℕ)) (old new : Option (List ℕ)) (read more : List ℕ) (refusal : QueryFault) → Consumes before mid read → Consumes mid after more
+      → StopsIn board name known show (texts_ended (read ++ more)) old new refusal → AnswersLines board name known show before after old new (Err refusal)
+  lines_stopped before mid after old new read more (query.Write sent) got next stops =
+      (read ++ more, Consumes-trans before mid after read more got next, stops_in (read ++ more) old new (query.Write sent) stops)
+  lines_stopped before mid after old new read more query.Board got next stops = absurd stops
+  lines_stopped before mid after old new read more query.Memory got next stops = absurd stops
+  lines_stopped before mid after old new read more query.Read got next stops = absurd stops
+
+  pub lines_unread : (before mid after : Option (List ℕ)) (old new : Option (List ℕ)) (read line : List ℕ) (tally : Tally) → Consumes before mid read → Keeps mid after
+      → ReadTo read old new line tally → AnswersLines board name known show before after old new (Err query.Read)
+  lines_unread before mid after old new read line tally got kept here =
+      (read, Consumes-kept before mid after read got kept, (tally.refused, all_out (texts_ended read) old new tally here.out))
+
+-- ---- the bytes of a piece
+
+pub read_more : (read bytes : List ℕ) (i : ℕ) → i < length bytes → (read ++ take i bytes) ++ get_or bytes i 0 ∷ [] ≡ read ++ take (i + 1) bytes
+read_more read bytes i low = append_assoc read (take i bytes) (get_or bytes i 0 ∷ []) ∙ ap (λ l. read ++ l) (sym (take_more bytes i 0 low))
+
+pub read_rest : (read bytes : List ℕ) (i : ℕ) → (read ++ take i bytes) ++ drop i bytes ≡ read ++ bytes
+read_rest read bytes i = append_assoc read (take i bytes) (drop i bytes) ∙ ap (λ l. read ++ l) (take-append-drop i bytes)
+
+pub no_bytes : (xs : List ℕ) → length xs ≡ 0 → xs ≡ []
+no_bytes [] none = refl
+no_bytes (x ∷ xs) none = absurd (omega (arith, none))

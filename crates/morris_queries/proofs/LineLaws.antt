@@ -1,0 +1,89 @@
+-- How the lines of bytes go on with the bytes after them, and what the first bytes of a line tell of
+-- its text.
+use Rattle.std.proofs.Common.{◌≡◌, ℕ, ◌-◌, ◌≤◌, ◌<◌, Bool, true, false, List, [], ◌∷◌, ◌++◌, map, take, length, refl, sym, ap, ◌∙◌, inl, inr, arith, length-append, append-nil}
+use Rattle.std.specs.Prelude.{nat_eq, slice_index}
+use Rattle.std.proofs.lemmas.Bool.{cases_lt}
+use Rattle.std.proofs.lemmas.List.{take-take, take-append-le, take_all, length-take, map-append}
+use Rattle.morris_queries.specs.InputLines.{begun_after, texts_ended, text_in, whole_lines}
+
+-- ---- bytes after bytes
+
+pub whole_lines-append : (begun xs ys : List ℕ) → whole_lines begun (xs ++ ys) ≡ whole_lines begun xs ++ whole_lines (begun_after begun xs) ys
+unfolding whole_lines begun_after
+whole_lines-append begun [] ys = refl
+whole_lines-append begun (x ∷ xs) ys = go (nat_eq x 10) refl (whole_lines-append [] xs ys) (whole_lines-append (begun ++ x ∷ []) xs ys)
+  where
+    go : (b : Bool) → nat_eq x 10 ≡ b → whole_lines [] (xs ++ ys) ≡ whole_lines [] xs ++ whole_lines (begun_after [] xs) ys
+        → whole_lines (begun ++ x ∷ []) (xs ++ ys) ≡ whole_lines (begun ++ x ∷ []) xs ++ whole_lines (begun_after (begun ++ x ∷ []) xs) ys
+        → whole_lines begun (x ∷ xs ++ ys) ≡ whole_lines begun (x ∷ xs) ++ whole_lines (begun_after begun (x ∷ xs)) ys
+    go true e ended other = rw e (ap (λ ls. begun ∷ ls) ended)
+    go false e ended other = rw e other
+
+pub begun_after-append : (begun xs ys : List ℕ) → begun_after begun (xs ++ ys) ≡ begun_after (begun_after begun xs) ys
+unfolding begun_after
+begun_after-append begun [] ys = refl
+begun_after-append begun (x ∷ xs) ys = go (nat_eq x 10) refl (begun_after-append [] xs ys) (begun_after-append (begun ++ x ∷ []) xs ys)
+  where
+    go : (b : Bool) → nat_eq x 10 ≡ b → begun_after [] (xs ++ ys) ≡ begun_after (begun_after [] xs) ys
+        → begun_after (begun ++ x ∷ []) (xs ++ ys) ≡ begun_after (begun_after (begun ++ x ∷ []) xs) ys
+        → begun_after begun (x ∷ xs ++ ys) ≡ begun_after (begun_after begun (x ∷ xs)) ys
+    go true e ended other = rw e ended
+    go false e ended other = rw e other
+
+-- the texts of the lines that end within bytes stay the first ones
+pub texts_ended-append : (xs ys : List ℕ) → texts_ended (xs ++ ys) ≡ texts_ended xs ++ map text_in (whole_lines (begun_after [] xs) ys)
+texts_ended-append xs ys = ap (map text_in) (whole_lines-append [] xs ys) ∙ map-append text_in (whole_lines [] xs) _
+
+-- a line feed ends the line that was begun
+pub texts_ended-feed : (xs : List ℕ) → texts_ended (xs ++ 10 ∷ []) ≡ texts_ended xs ++ text_in (begun_after [] xs) ∷ []
+unfolding whole_lines
+texts_ended-feed xs = texts_ended-append xs (10 ∷ [])
+
+pub begun_after-feed : (xs : List ℕ) → begun_after [] (xs ++ 10 ∷ []) ≡ []
+unfolding begun_after
+begun_after-feed xs = begun_after-append [] xs (10 ∷ [])
+
+-- any other byte belongs to it
+pub texts_ended-byte : (xs : List ℕ) (b : ℕ) → nat_eq b 10 ≡ false → texts_ended (xs ++ b ∷ []) ≡ texts_ended xs
+unfolding whole_lines
+texts_ended-byte xs b other =
+    let none : whole_lines (begun_after [] xs) (b ∷ []) ≡ [] = rw other refl in
+    texts_ended-append xs (b ∷ []) ∙ (ap (λ ls. texts_ended xs ++ map text_in ls) none ∙ append-nil (texts_ended xs))
+
+pub begun_after-byte : (xs : List ℕ) (b : ℕ) → nat_eq b 10 ≡ false → begun_after [] (xs ++ b ∷ []) ≡ begun_after [] xs ++ b ∷ []
+unfolding begun_after
+begun_after-byte xs b other =
+    let one : begun_after (begun_after [] xs) (b ∷ []) ≡ begun_after [] xs ++ b ∷ [] = rw other refl in
+    begun_after-append [] xs (b ∷ []) ∙ one
+
+-- ---- the first bytes of a line
+
+-- another byte of the line is kept where there is room
+pub kept-short : (line : List ℕ) (b : ℕ) → length (take 26 line) < 26 → take 26 line ++ b ∷ [] ≡ take 26 (line ++ b ∷ [])
+kept-short line b low =
+    let short : length line < 26 = omega (arith, low, length-take 26 line) in
+    let both : length (line ++ b ∷ []) ≤ 26 = omega (arith, short, length-append line (b ∷ [])) in
+    ap (λ l. l ++ b ∷ []) (take_all 26 line (omega (arith, short))) ∙ sym (take_all 26 (line ++ b ∷ []) both)
+
+-- and where there is none, the first bytes stay
+pub kept-full : (line : List ℕ) (b : ℕ) → length (take 26 line) ≡ 26 → take 26 line ≡ take 26 (line ++ b ∷ [])
+kept-full line b full =
+    let long : 26 ≤ length line = omega (arith, full, length-take 26 line) in
+    sym (take-append-le 26 line (b ∷ []) long)
+
+-- a line that is long enough tells no less without its last byte
+text_in-long : (line : List ℕ) → 26 ≤ length line → take 25 (text_in line) ≡ take 25 line
+text_in-long line long = go (nat_eq (slice_index line (length line - 1)) 13) refl
+  where
+    go : (b : Bool) → nat_eq (slice_index line (length line - 1)) 13 ≡ b → take 25 (text_in line) ≡ take 25 line
+    go true e = rw e (take-take 25 (length line - 1) line (omega (arith, long)))
+    go false e = rw e refl
+
+-- the first bytes of a line tell the first bytes of its text
+pub text_in-start : (line : List ℕ) → take 25 (text_in (take 26 line)) ≡ take 25 (text_in line)
+text_in-start line = elim (cases_lt 26 (length line)) [
+  | inr short ↦ ap (λ l. take 25 (text_in l)) (take_all 26 line short)
+  | inl long ↦
+      let kept : 26 ≤ length (take 26 line) = omega (arith, long, length-take 26 line) in
+      text_in-long (take 26 line) kept ∙ (take-take 25 26 line (omega arith) ∙ sym (text_in-long line (omega (arith, long))))
+]

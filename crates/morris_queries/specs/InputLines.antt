@@ -1,0 +1,30 @@
+-- The lines of an input, and the texts that they write.
+use Rattle.std.specs.Prelude.{ℕ, ◌-◌, nat_eq, List, [], ◌∷◌, ◌++◌, length, map, take, slice_index, if◌then◌else◌}
+
+-- The lines that end within bytes, each before a line feed (10). What was begun before the bytes
+-- belongs to the first of them.
+unfoldable pub whole_lines : List ℕ → List ℕ → List (List ℕ)
+whole_lines begun [] = []
+whole_lines begun (b ∷ bytes) = if nat_eq b 10 then begun ∷ whole_lines [] bytes else whole_lines (begun ++ b ∷ []) bytes
+
+-- what is begun after them of a line that doesn't end there
+unfoldable pub begun_after : List ℕ → List ℕ → List ℕ
+begun_after begun [] = begun
+begun_after begun (b ∷ bytes) = if nat_eq b 10 then begun_after [] bytes else begun_after (begun ++ b ∷ []) bytes
+
+-- the text that a line writes: all of it but a carriage return (13) at its end
+abbrev pub text_in : List ℕ → List ℕ
+text_in line = if nat_eq (slice_index line (length line - 1)) 13 then take (length line - 1) line else line
+
+-- the texts of the lines that end within bytes
+abbrev pub texts_ended : List ℕ → List (List ℕ)
+texts_ended bytes = map text_in (whole_lines [] bytes)
+
+-- an input that is at its end: a last line that isn't empty ends there as before a line feed
+abbrev pub ended_by : List ℕ → List ℕ → List ℕ
+ended_by [] bytes = bytes
+ended_by (b ∷ line) bytes = bytes ++ 10 ∷ []
+
+-- the texts of all lines of an input
+abbrev pub texts_in : List ℕ → List (List ℕ)
+texts_in bytes = texts_ended (ended_by (begun_after [] bytes) bytes)

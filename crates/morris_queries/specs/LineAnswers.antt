@@ -1,0 +1,43 @@
+-- What is answered to the lines of an input.
+use Rattle.std.specs.Prelude.{◌≡◌, ℕ, List, [], take, Option, Some, None, Result, Ok, Err}
+use Rattle.std.specs.Io.KnownBytes.{Consumes, IsAtEnd, Keeps}
+use Rattle.morris_board.specs.Boards.{Shape}
+use Rattle.morris_folders.specs.Files.{Files}
+use Rattle.morris_queries.specs.declared.fault.QueryFault.{QueryFault}
+use Rattle.morris_queries.specs.declared.fault.QueryFault.TheVariants as query
+use Rattle.morris_queries.specs.declared.show.Show.{Show}
+use Rattle.morris_queries.specs.declared.texts.Tally.{Tally}
+use Rattle.morris_queries.specs.Answers.{AnswersTexts, AreOut}
+use Rattle.morris_queries.specs.InputLines.{begun_after, texts_ended, texts_in}
+
+-- These bytes were read: the answers to the lines that end in them went out, and the first bytes of
+-- the line that is begun after those are kept.
+pub record IsReadTo (board : Shape) (name : List ℕ) (known : Option Files) (show : Show) (read : List ℕ) (old new : Option (List ℕ)) (line : List ℕ) (tally : Tally) : Type 0 where
+  pub kept : line ≡ take 26 (begun_after [] read)
+  pub out : AreOut board name known show (texts_ended read) old new tally
+
+-- why it stops: a write failed, of the answers to the first of these texts
+abbrev pub StopsIn : Shape → List ℕ → Option Files → Show → List (List ℕ) → Option (List ℕ) → Option (List ℕ) → QueryFault → Type 0
+StopsIn board name known show texts old new (query.Write sent) = AnswersTexts board name known show texts old new (Err (query.Write sent))
+StopsIn board name known show texts old new _ = ⊥
+
+-- What the call for the lines of an input answers: of the input some bytes were read. Done: it is at
+-- its end, and the answers to all its lines went out. A read failed: the answers to all lines that
+-- end in what was read went out; since any read may fail, they do so before the next read. A write
+-- failed, of the answers to the first of those lines. Want of memory: nothing was read, and nothing
+-- went out.
+abbrev pub AnswersLines : Shape → List ℕ → Option Files → Show → Option (List ℕ) → Option (List ℕ) → Option (List ℕ) → Option (List ℕ) → Result ℕ QueryFault → Type 0
+AnswersLines board name known show before after old new (Ok refused) =
+    (read : List ℕ) × Consumes before after read × IsAtEnd after × AnswersTexts board name known show (texts_in read) old new (Ok refused)
+AnswersLines board name known show before after old new (Err query.Read) =
+    (read : List ℕ) × Consumes before after read × ((refused : ℕ) × AnswersTexts board name known show (texts_ended read) old new (Ok refused))
+AnswersLines board name known show before after old new (Err (query.Write sent)) =
+    (read : List ℕ) × Consumes before after read × AnswersTexts board name known show (texts_in read) old new (Err (query.Write sent))
+AnswersLines board name known show before after old new (Err query.Memory) = Keeps before after × Keeps old new
+AnswersLines board name known show before after old new (Err query.Board) = ⊥
+
+-- What the command answers to an input: that there is no board of the name, with nothing read and
+-- nothing printed; otherwise what it answers on the board.
+abbrev pub AnswersInput : Option Shape → List ℕ → Option Files → Show → Option (List ℕ) → Option (List ℕ) → Option (List ℕ) → Option (List ℕ) → Result ℕ QueryFault → Type 0
+AnswersInput None name known show before after old new result = (result ≡ Err query.Board) × Keeps before after × Keeps old new
+AnswersInput (Some board) name known show before after old new result = AnswersLines board name known show before after old new result

@@ -1,0 +1,28 @@
+//! One line of an input: its first bytes while it is read, and the text that it writes.
+ghost use Rattle.std.specs.Prelude.{◌≡◌, ℕ, [], ◌∷◌, ◌++◌, List, take};
+ghost use Rattle.morris_queries.specs.InputLines.{text_in};
+
+use arrayvec::ArrayVec;
+
+/// How many bytes of a line are kept: the longest text of a position, a carriage return after it, and
+/// one more, by which a line that is too long is known.
+pub(crate) const KEPT: usize = 26;
+
+/// Takes in the next byte of a line. One past those that are kept is passed over.
+pub(crate) fn take_in(line: &mut ArrayVec<u8, KEPT>, byte: u8)
+    ensures { (begun : List ℕ) → line.old.items ≡ take 26 begun → line.new.items ≡ take 26 (begun ++ byte ∷ []) }
+{
+    if !line.is_full() {
+        line.push(byte);
+    }
+}
+
+/// The text that a line writes: all of it but a carriage return at its end.
+pub(crate) fn text_of(line: &[u8]) -> &[u8]
+    ensures { result.now ≡ text_in line.now }
+{
+    match line.last() {
+        Some(b'\r') => &line[..line.len() - 1],
+        _ => line,
+    }
+}

@@ -1,0 +1,103 @@
+// What is answered to the lines of an input, over the file of 3-3 on `grid`. The values and moves
+// follow from the rules.
+use crate::making::files;
+use morris_board::streams::{FromRead, IntoWrite};
+use morris_queries::fault::QueryFault;
+use morris_queries::lookup::lookup_lines;
+use morris_queries::memory::Held;
+use morris_queries::show::Show;
+use morris_table::layout::Layout;
+use std::alloc::Global;
+use std::io;
+use std::io::{ErrorKind, Read};
+use std::process::Abort;
+
+/// Gives a byte a call, and fails at one of its calls.
+#[derive(Drop)]
+struct Drip<'a> {
+    left: &'a [u8],
+    calls: u64,
+    fails_at: u64,
+}
+
+impl Read for Drip<'_> {
+    fn read(&mut self, buffer: &mut [u8]) -> io::Result<usize> {
+        self.calls = self.calls.saturating_add(1);
+        if self.calls == self.fails_at {
+            return Err(io::Error::from(ErrorKind::Other));
+        }
+        let count = buffer.len().min(1);
+        self.left.read(&mut buffer[..count])
+    }
+}
+
+/// What is answered to what a reader gives, and how many answers are faults.
+fn answered<R: Read>(
+    alloc: Global,
+    board: &str,
+    held: &mut Held<'_>,
+    reader: R,
+) -> (Vec<u8>, Result<u64, QueryFault>)
+where
+    R: Drop,
+{
+    let mut input = FromRead::new(reader);
+    let mut output = IntoWrite::new(Vec::new(alloc));
+    let refused = lookup_lines(alloc, board, held, &mut input, Show::Best, &mut output);
+    (output.into_inner(), refused)
+}
+
+const GIVEN: &str = "XXXOOO...\nXXX.OO.O.\r\nXX.X\n\n\r\nXXXOOO...XXXOOO...XXXOOO...XXXOOO...\n\
+    XXXOOO...\r\r\nOO.OXX.X.";
+
+const ANSWERED: &str = "\
+XXXOOO... draw: 0-6 1-7 2-8
+XXX.OO.O. won in 3: 2-3
+XX.X: fault 1: text is not one character per point
+: fault 1: text is not one character per point
+: fault 1: text is not one character per point
+XXXOOO.....: fault 1: text is not one character per point
+XXXOOO.....: fault 1: text is not one character per point
+OO.OXX.X. lost in 2: 4-2 4-6 4-8 5-2 5-6 5-8 7-2 7-6 7-8
+";
+
+#[test]
+fn lines_are_answered(rt: HostRuntime) {
+    let (small, _) = files(&rt, rt.alloc(), Layout::Full).expect(&rt, "two files");
+    let held = [("grid-3-3.nmmt", small.as_slice())];
+    let mut held = Held { files: &held };
+    let (text, refused) = answered(rt.alloc(), "grid", &mut held, GIVEN.as_bytes());
+    assert!(rt; text.as_slice() == ANSWERED.as_bytes() && refused == Ok(5));
+    let drip = Drip {
+        left: GIVEN.as_bytes(),
+        calls: 0,
+        fails_at: 0,
+    };
+    let (text, refused) = answered(rt.alloc(), "grid", &mut held, drip);
+    assert!(rt; text.as_slice() == ANSWERED.as_bytes() && refused == Ok(5));
+}
+
+#[test]
+fn no_line_has_no_answer(rt: HostRuntime) {
+    let mut held = Held { files: &[] };
+    let (text, refused) = answered(rt.alloc(), "nine", &mut held, b"".as_slice());
+    assert!(rt; text.is_empty() && refused == Ok(0));
+    let (text, refused) = answered(rt.alloc(), "none", &mut held, b"X\n".as_slice());
+    assert!(rt; text.is_empty() && refused == Err(QueryFault::Board));
+}
+
+// The answer to the line before the failure is out, and the line that was begun has none.
+#[test]
+fn a_read_that_fails_ends_the_answers(rt: HostRuntime) {
+    let (small, _) = files(&rt, rt.alloc(), Layout::Full).expect(&rt, "two files");
+    let held = [("grid-3-3.nmmt", small.as_slice())];
+    let mut held = Held { files: &held };
+    let drip = Drip {
+        left: GIVEN.as_bytes(),
+        calls: 0,
+        fails_at: 12,
+    };
+    let (text, refused) = answered(rt.alloc(), "grid", &mut held, drip);
+    assert!(rt; text.as_slice() == b"XXXOOO... draw: 0-6 1-7 2-8\n".as_slice());
+    assert!(rt; refused == Err(QueryFault::Read));
+}
