@@ -1,5 +1,5 @@
 -- What the program makes of its words.
-use Rattle.std.specs.Prelude.{◌≡◌, ◌≢◌, ◌⊎◌, ℕ, Bool, true, false, List, [], String, codes, map, string_bytes, Option, Some, None, Result, Ok, Err}
+use Rattle.std.specs.Prelude.{◌≡◌, ◌≢◌, ◌⊎◌, ◌==◌, ℕ, Bool, true, false, List, [], ◌∷◌, String, codes, if◌then◌else◌, length, map, string_bytes, Option, Some, None, Result, Ok, Err}
 use Rattle.std.specs.Vec.Iter.{into_iter_items}
 use Rattle.std.specs.declared.vec.IntoIter.{IntoIter}
 use Rattle.std.specs.Io.KnownBytes.{Keeps}
@@ -13,7 +13,7 @@ use Rattle.morris_commands.specs.Progress.{TellsInOrder}
 use Rattle.morris_words.specs.Words.{AsksFor, faults_of, named_by}
 use Rattle.morris_words.specs.declared.words.Request.{Request}
 use Rattle.morris_words.specs.declared.words.Task.{Task}
-use Rattle.morris_words.specs.declared.words.Task.TheVariants.{Look, Stats, Build, Verify, Probe}
+use Rattle.morris_words.specs.declared.words.Task.TheVariants.{Look, Stats, Build, Verify, Probe, Lookup}
 use Rattle.morris_commands.specs.Look.{Looks, board_of}
 use Rattle.morris_commands.specs.Stats.{AnswersStats}
 use Rattle.morris_commands.specs.Build.{AnswersBuild, layout_asked}
@@ -21,6 +21,14 @@ use Rattle.morris_commands.specs.From.{AnswersFrom}
 use Rattle.morris_commands.specs.Into.{AnswersInto, place_of}
 use Rattle.morris_commands.specs.Probe.{AnswersProbe}
 use Rattle.morris_commands.specs.Verify.{AnswersVerify, Input}
+use Rattle.morris_queries.specs.Answers.{AnswersLookup}
+use Rattle.morris_queries.specs.LineAnswers.{AnswersInput}
+use Rattle.morris_queries.specs.Refusals.{query_fault}
+use Rattle.morris_queries.specs.declared.fault.QueryFault.{QueryFault}
+use Rattle.morris_queries.specs.declared.show.Show.{Show}
+use Rattle.morris_queries.specs.declared.show.Show.TheVariants as show
+use Rattle.morris_words.specs.declared.words.Show as words
+use Rattle.morris_words.specs.declared.words.Show.TheVariants as asked
 
 -- the words have a mistake, and not a request for help or for the version alone
 abbrev pub HasMistake : Kinds → Type 0
@@ -29,6 +37,25 @@ HasMistake kinds = (k : ErrorKind) × (k ≢ kind.DisplayHelp) × (k ≢ kind.Di
 -- the words ask for help or for the version
 abbrev pub AsksToShow : Kinds → Type 0
 AsksToShow kinds = IsAmong kind.DisplayHelp kinds ⊎ IsAmong kind.DisplayVersion kinds
+
+-- what `lookup` shows, as its words say it
+abbrev pub shown_of : words.Show → Show
+shown_of asked.Best = show.Best
+shown_of asked.Moves = show.Moves
+shown_of asked.Line = show.Line
+
+-- how `lookup` ends: texts that have no answer are a fault, which says how many they are
+abbrev pub end_of : Result ℕ QueryFault → Result (Unit {0}) Fault
+end_of (Ok unanswered) = if unanswered == 0 then Ok tt else Err (fault.Unanswered unanswered)
+end_of (Err refused) = Err (query_fault refused)
+
+-- What `lookup` answers on the board of a name: to texts, or, where there are none, to the lines of
+-- its input.
+abbrev pub AnswersQueries : List ℕ → words.Show → List (List ℕ) → Input → Input → Option (List ℕ) → Option (List ℕ) → Result (Unit {0}) Fault → Type 0
+AnswersQueries name show [] before after old new result =
+    (ended : Result ℕ QueryFault) × AnswersInput (board_of name) name None (shown_of show) before.bytes after.bytes old new ended × (result ≡ end_of ended)
+AnswersQueries name show (text ∷ texts) before after old new result =
+    (ended : Result ℕ QueryFault) × AnswersLookup (board_of name) name None (shown_of show) (text ∷ texts) old new ended × (result ≡ end_of ended)
 
 -- What the command of a task answers, of its input before and after it, and of what was printed. No
 -- contract knows what the system keeps in a folder: nothing is said of the bytes of its files.
@@ -42,11 +69,13 @@ Answers before after old new (Build board pair workers blocks all (Some folder) 
 Answers before after old new (Verify board None) result = AnswersVerify (board_of board.now) before after old new result
 Answers before after old new (Verify board (Some folder)) result = AnswersFrom (board_of board.now) None board.now old new result
 Answers before after old new (Probe board text) result = AnswersProbe (board_of board.now) text.now before after old new result
+Answers before after old new (Lookup board from show texts) result = AnswersQueries board.now show (map (λ t. t.now) texts.items) before after old new result
 
 -- whether the command of a task reads its input
 abbrev pub takes_input : Task → Bool
 takes_input (Verify board None) = true
 takes_input (Probe board text) = true
+takes_input (Lookup board from show texts) = length texts.items == 0
 takes_input _ = false
 
 -- what was told of how far the command is: nothing; or, where the words ask for it, some lines, of

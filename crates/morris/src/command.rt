@@ -1,12 +1,12 @@
 //! The command line: from its words to what goes out, and the exit status.
-ghost use Rattle.std.specs.Prelude.{◌≡◌, ◌≢◌, ◌-◌, ◌^◌, ◌<◌, ◌≤◌, [], IsTrue, false, map, if◌then◌else◌};
+ghost use Rattle.std.specs.Prelude.{◌≡◌, ◌≢◌, ◌-◌, ◌^◌, ◌<◌, ◌≤◌, ◌==◌, [], IsTrue, false, length, map, if◌then◌else◌};
 ghost use Rattle.morris_commands.specs.Faults.{Reports, ReportsFault, ReportsText};
 ghost use Rattle.morris_commands.specs.declared.fault.Fault.TheVariants as fault;
 ghost use Rattle.morris_commands.specs.Progress.{TellsInOrder};
 ghost use Rattle.morris_words.specs.Words.{IsInRange, faults_of, named_by};
 ghost use Rattle.morris_words.specs.declared.words.Task.TheVariants as task;
 ghost use Rattle.morris_commands.specs.Verify.{input_of};
-ghost use Rattle.morris.specs.Command.{Answers, AsksToRead, Ends, HasMistake, TellsProgress, not_text, status_of, takes_input};
+ghost use Rattle.morris.specs.Command.{Answers, AnswersQueries, AsksToRead, Ends, HasMistake, TellsProgress, end_of, not_text, shown_of, status_of, takes_input};
 
 use morris_board::streams::{Sink, Source};
 use morris_commands::build::build_with;
@@ -21,6 +21,11 @@ use morris_commands::stats::stats_with;
 use morris_commands::teller::Teller;
 use morris_commands::verify::verify_with;
 use morris_folders::system::SystemFolder;
+use morris_queries::fault::QueryFault;
+use morris_queries::lookup::{lookup_lines, lookup_texts};
+use morris_queries::show::Show;
+use morris_queries::system::SystemLibrary;
+use morris_words::words;
 use morris_words::words::{Refusal, Request, Task, read_words};
 use std::alloc::Global;
 use std::convert::AsStr;
@@ -39,8 +44,8 @@ use std::time::Clock;
 /// command that goes from file to file or from text to text has told until then; the fault went to
 /// `errors` as one line, `fault N: ` and its text. 2: the words name no command, or not the
 /// arguments that it takes, or two that exclude each other; what is wrong with them went to
-/// `errors`, and nothing to `output`. A fault while `errors` is written is ignored. Only `probe`
-/// and `verify` without a folder read `input`.
+/// `errors`, and nothing to `output`. A fault while `errors` is written is ignored. Only `probe`,
+/// `verify` without a folder and `lookup` without texts read `input`.
 ///
 /// Where the words ask for it, lines that begin with `progress: ` go to `errors` before all else
 /// there, first one that says how much there is to do, with the seconds by the clock of `rt`, until
@@ -173,6 +178,21 @@ fn perform<
         }
         Task::Verify { board, from } => verify(rt, alloc, board, from, input, output, teller),
         Task::Probe { board, text } => probe_with(alloc, board, text, input, output, teller),
+        Task::Lookup {
+            board,
+            from,
+            show,
+            texts,
+        } => look_up(
+            rt,
+            alloc,
+            board,
+            from,
+            show,
+            texts.as_slice(),
+            input,
+            output,
+        ),
     }
 }
 
@@ -199,6 +219,55 @@ fn verify<R: Files<File = File> + AllocGlobal, I: Source, O: Sink, T: Teller>(
             verify_from(alloc, board, folder, output, teller)
         }
         None => verify_with(alloc, board, input, output, teller),
+    }
+}
+
+/// Looks positions up in the table files of a folder: those that texts write, where there are any,
+/// and else those on the lines of `input`.
+fn look_up<R: Files<File = File> + AllocGlobal, I: Source, O: Sink>(
+    rt: &R,
+    alloc: Global,
+    board: &str,
+    from: &str,
+    show: words::Show,
+    texts: &[&str],
+    input: &mut I,
+    output: &mut O,
+) -> Result<(), Fault>
+    requires input { I.failures input.old < 2 ^ 64 - 1 }
+    requires output { O.failures output.old < 2 ^ 64 - 1 }
+    ensures answer { AnswersQueries board.now show (map (λ t. t.now) texts.now) (input_of (I.remaining input.old) (I.failures input.old))
+        (input_of (I.remaining input.new) (I.failures input.new)) (O.contents output.old) (O.contents output.new) result }
+    ensures unread { (length texts.now == 0) ≡ false → input.new ≡ input.old }
+{
+    let library = &mut SystemLibrary::new(rt, from);
+    let show = shown(show);
+    if texts.is_empty() {
+        end(lookup_lines(alloc, board, library, input, show, output))
+    } else {
+        end(lookup_texts(alloc, board, library, texts, show, output))
+    }
+}
+
+/// How `lookup` ends: texts that have no answer are a fault.
+fn end(answered: Result<u64, QueryFault>) -> Result<(), Fault>
+    ensures { result ≡ end_of answered }
+{
+    match answered {
+        Ok(0) => Ok(()),
+        Ok(unanswered) => Err(Fault::Unanswered(unanswered)),
+        Err(refused) => Err(Fault::from(refused)),
+    }
+}
+
+/// What is shown of a position, as the words say it.
+fn shown(show: words::Show) -> Show
+    ensures { result ≡ shown_of show }
+{
+    match show {
+        words::Show::Best => Show::Best,
+        words::Show::Moves => Show::Moves,
+        words::Show::Line => Show::Line,
     }
 }
 

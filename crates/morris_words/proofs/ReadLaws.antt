@@ -87,5 +87,6 @@ build_values rows named = elim named [
   | inr (inl has) ↦ absurd (differ (codes "build") (codes "stats") refl has.0)
   | inr (inr (inl has)) ↦ has.1
   | inr (inr (inr (inl has))) ↦ absurd (differ (codes "build") (codes "verify") refl has.0)
-  | inr (inr (inr (inr has))) ↦ absurd (differ (codes "build") (codes "probe") refl has.0)
+  | inr (inr (inr (inr (inl has)))) ↦ absurd (differ (codes "build") (codes "probe") refl has.0)
+  | inr (inr (inr (inr (inr has)))) ↦ absurd (differ (codes "build") (codes "lookup") refl has.0)
 ]

@@ -15,7 +15,7 @@ use Rattle.clap.specs.Walk.{Row, Rule, Text, action_of, answers_to, arg_by_id, f
 use Rattle.clap.specs.Simple.{App, Shape, argument_words, built, built_leaf, entered, filled, help_rule, inherited, label_of, marked_built, names_of, new_rule, new_shape, rows_at, with_index, with_leaf_noted, with_subcommand}
 use Rattle.clap.specs.declared.builder.action.ArgAction.TheVariants.{Append, Set, SetTrue}
 use Rattle.clap.specs.declared.builder.value_parser.ValueParser.TheVariants as parser
-use Rattle.morris_words.specs.Words.{HasBuildValues, HasLookValues, HasProbeValues, HasStatsValues, HasVerifyValues, NamesRequest, blocks_rule, build_app, depth_rule, flag_rule, look_app, morris_app, named_by, option_rule, probe_app, program, required_rule, stats_app, verify_app, workers_rule}
+use Rattle.morris_words.specs.Words.{HasBuildValues, HasLookValues, HasLookupValues, HasProbeValues, HasStatsValues, HasVerifyValues, NamesRequest, blocks_rule, build_app, depth_rule, flag_rule, look_app, lookup_app, morris_app, named_by, option_rule, probe_app, program, required_option_rule, required_rule, several_rule, stats_app, verify_app, workers_rule}
 use Rattle.morris_words.proofs.Parsed.{Each, Each-find, HasValue, IsNotHelp, IsPlainRule, Passing, arguments_there, default_fills, default_keeps, given_value, level_passes, row_value, subcommand_there, text_given}
 
 -- ---- arguments that have a value where they are left out
@@ -98,9 +98,16 @@ verify_top = record (new_shape (codes "verify")) { rules = required_rule (codes 
 abbrev probe_top : Shape
 probe_top = record (new_shape (codes "probe")) { rules = required_rule (codes "BOARD") ∷ required_rule (codes "TEXT") ∷ flag_rule (codes "progress") ∷ [] }
 
+abbrev lookup_top : Shape
+lookup_top = record (new_shape (codes "lookup")) {
+  rules = required_rule (codes "BOARD") ∷ required_option_rule (codes "from") ∷ flag_rule (codes "moves") ∷ flag_rule (codes "line")
+      ∷ several_rule (codes "TEXT") ∷ [];
+}
+
 abbrev whole : App
 whole =
-    with_subcommand (with_subcommand (with_subcommand (with_subcommand (with_subcommand program look_top) stats_top) build_top) verify_top) probe_top
+    with_subcommand (with_subcommand (with_subcommand (with_subcommand (with_subcommand (with_subcommand program look_top) stats_top) build_top) verify_top)
+    probe_top) lookup_top
 
 abbrev look : Shape
 look = built_leaf (inherited (with_leaf_noted (marked_built whole.top)) look_top)
@@ -264,6 +271,43 @@ probe_fits words none =
       progress = progress;
     }
 
+-- ---- `lookup`, as it is built
+
+abbrev folder : Rule
+folder = filled (required_option_rule (codes "from"))
+
+abbrev positions : Rule
+positions = with_index 2 (filled (several_rule (codes "TEXT")))
+
+abbrev lookup : Shape
+lookup = built_leaf (inherited (with_leaf_noted (marked_built whole.top)) lookup_top)
+
+lookup_plain : Each (IsPlainRule lookup.rules) lookup.rules
+lookup_plain = (
+  sets refl refl refl,
+  (sets refl refl refl, (stands refl refl refl, (stands refl refl refl, (appends refl refl refl, (asks refl refl, tt))))),
+)
+
+lookup_fits : (words : List Text) → level_fault lookup [] nothing_held words false [] ≡ [] → HasLookupValues (rows_after lookup.rules [] words)
+lookup_fits words none =
+    let level = level_passes lookup [] words false [] lookup_plain none in
+    let rows = rows_after lookup.rules [] words in
+    let start = (settled lookup.rules (walk lookup.rules [] nothing_held words).held).rows in
+    let missing : (not (is_given (codes "BOARD") rows) || (not (is_given (codes "from") rows) || false)) ≡ false = arguments_there lookup rows false level.checked in
+    let given = both_given _ _ missing in
+    let two = with_default (with_default start board) folder in
+    let after_line = positions ∷ help ∷ [] in
+    let first : HasValue rows board = given_value lookup.rules rows board level.rows given.0 refl in
+    let second : HasValue rows folder = given_value lookup.rules rows folder level.rows given.1 refl in
+    let moves = flag_says lookup.rules (codes "moves") (flag (codes "line") ∷ after_line) two level.rows refl in
+    let line = flag_says lookup.rules (codes "line") after_line (with_default two (flag (codes "moves"))) level.rows refl in
+    record {
+      board = ap is_some first.is_first;
+      from = ap is_some second.is_first;
+      moves = moves;
+      line = line;
+    }
+
 -- ---- the program
 
 only_left : (b : Bool) → (b || false) ≡ true → b ≡ true
@@ -285,7 +329,10 @@ all_serve = (
       inl (λ words none. inr (inr (inl (refl, build_fits words none)))),
       (
         inl (λ words none. inr (inr (inr (inl (refl, verify_fits words none))))),
-        (inl (λ words none. inr (inr (inr (inr (refl, probe_fits words none))))), (inr (refl, refl), tt)),
+        (
+          inl (λ words none. inr (inr (inr (inr (inl (refl, probe_fits words none)))))),
+          (inl (λ words none. inr (inr (inr (inr (inr (refl, lookup_fits words none)))))), (inr (refl, refl), tt)),
+        ),
       ),
     ),
   ),
@@ -338,5 +385,5 @@ program_named a words plain serves wants offers none =
     entered_named a stop serves (level.stopped offers) level.below_none (there has wanted)
 
 pub named : (words : List Text) → fault_of morris_app words ≡ [] → NamesRequest (named_by words)
-unfolding morris_app look_app stats_app build_app verify_app probe_app
+unfolding morris_app look_app stats_app build_app verify_app probe_app lookup_app
 named words none = program_named (built whole) (argument_words whole words) program_plain all_serve refl refl none

@@ -1,13 +1,14 @@
 -- The command line, as `clap` reads it, and what its words ask for.
-use Rattle.std.specs.Prelude.{◌≡◌, ◌≢◌, ◌≤◌, ◌⊎◌, ◌&&◌, ⊤, ℕ, Bool, true, false, List, [], ◌∷◌, Option, Some, None}
-use Rattle.std.specs.Prelude.{IsSomeAnd, codes, if◌then◌else◌, is_some, option_map, pos}
+use Rattle.std.specs.Prelude.{◌≡◌, ◌≢◌, ◌≤◌, ◌⊎◌, ◌&&◌, ◌||◌, ⊤, ℕ, Bool, true, false, List, [], ◌∷◌, Option, Some, None}
+use Rattle.std.specs.Prelude.{IsSomeAnd, codes, if◌then◌else◌, is_some, map, option_map, pos, unwrap_or}
 use Rattle.std.specs.Borrow.{Bor}
 use Rattle.std.specs.Option.{option_map_or}
 use Rattle.std.specs.Str.{bytes_eq}
 use Rattle.std.specs.Str.Parse.{digits_value, without_leading_plus}
 use Rattle.clap.specs.Kinds.{or_else}
+use Rattle.clap.specs.Lexer.{usize_max}
 use Rattle.clap.specs.Takes.{is_given}
-use Rattle.clap.specs.Words.{App, IsAmong, IsSignedIn, Kinds, Row, Rule, Text, app_of, fault_of, first_of, rule_of}
+use Rattle.clap.specs.Words.{App, IsAmong, IsSignedIn, Kinds, Row, Rule, Text, all_of, app_of, fault_of, first_of, rule_of}
 use Rattle.clap.specs.Words.{new_app, new_rule, one_of, subcommand_of, with_rule, with_subcommand}
 use Rattle.clap.specs.Words.{without_minus}
 use Rattle.clap.specs.Values.{bool_text}
@@ -19,8 +20,10 @@ use Rattle.clap.specs.declared.builder.value_parser.ValueParser.TheVariants as p
 use Rattle.clap.specs.declared.error.kind.ErrorKind.{ErrorKind}
 use Rattle.clap.specs.declared.error.kind.ErrorKind.TheVariants as kind
 use Rattle.morris_words.specs.declared.words.Request.{Request}
+use Rattle.morris_words.specs.declared.words.Show.{Show}
+use Rattle.morris_words.specs.declared.words.Show.TheVariants.{Best, Moves, Line}
 use Rattle.morris_words.specs.declared.words.Task.{Task}
-use Rattle.morris_words.specs.declared.words.Task.TheVariants.{Look, Stats, Build, Verify, Probe}
+use Rattle.morris_words.specs.declared.words.Task.TheVariants.{Look, Stats, Build, Verify, Probe, Lookup}
 use Rattle.morris_words.specs.declared.words.Refusal.{Refusal}
 use Rattle.morris_words.specs.declared.words.Refusal.TheVariants.{Memory, Help, Version, Wrong}
 
@@ -101,11 +104,25 @@ probe_app =
     with_rule (with_rule (with_rule (new_app (codes "probe")) (required_rule (codes "BOARD")))
     (required_rule (codes "TEXT"))) (flag_rule (codes "progress"))
 
+-- `--NAME VALUE`, an option that has to be given
+abbrev pub required_option_rule : Text → Rule
+required_option_rule name = record (option_rule name) { required = true }
+
+-- an argument that may be left out, or given several times, in its place
+abbrev pub several_rule : Text → Rule
+several_rule name = record (new_rule name) { range = Some (record { start_inclusive = 1; end_inclusive = usize_max }) }
+
+-- `lookup BOARD --from FOLDER [--moves] [--line] [TEXT]..`
+unfoldable pub lookup_app : App
+lookup_app =
+    with_rule (with_rule (with_rule (with_rule (with_rule (new_app (codes "lookup")) (required_rule (codes "BOARD")))
+    (required_option_rule (codes "from"))) (flag_rule (codes "moves"))) (flag_rule (codes "line"))) (several_rule (codes "TEXT"))
+
 -- the program `morris` with its commands
 unfoldable pub morris_app : App
 morris_app =
-    with_subcommand (with_subcommand (with_subcommand (with_subcommand (with_subcommand program look_app.top) stats_app.top)
-    build_app.top) verify_app.top) probe_app.top
+    with_subcommand (with_subcommand (with_subcommand (with_subcommand (with_subcommand (with_subcommand program look_app.top) stats_app.top)
+    build_app.top) verify_app.top) probe_app.top) lookup_app.top
 
 -- the command takes what `a` says, and none of its arguments, or of those of its own commands, is
 -- global
@@ -126,10 +143,12 @@ named_by words = subcommand_of morris_app words
 abbrev pub is_on : Text → List Row → Bool
 is_on name rows = option_map_or (λ t. bytes_eq t (codes "true")) (one_of name rows) false
 
--- two arguments of the command exclude each other: `--all` and `--into` of `build`
+-- two arguments of the command exclude each other: `--all` and `--into` of `build`, or `--moves`
+-- and `--line` of `lookup`
 abbrev pub has_clash : Text → List Row → Bool
 has_clash name rows =
-    bytes_eq name (codes "build") && (is_on (codes "all") rows && is_given (codes "into") rows)
+    (bytes_eq name (codes "build") && (is_on (codes "all") rows && is_given (codes "into") rows))
+    || (bytes_eq name (codes "lookup") && (is_on (codes "moves") rows && is_on (codes "line") rows))
 
 -- the mistake of such a command
 abbrev pub clashes : Option (Text × List Row) → Kinds
@@ -149,6 +168,12 @@ number_of text = digits_value 10 (without_leading_plus text)
 -- the text of an option: the one that was given, where it was given
 abbrev pub IsOption : Text → List Row → Option (Bor Text) → Type 0
 IsOption name rows text = (first_of name rows ≡ option_map (λ t. t.now) text) × (is_given name rows ≡ is_some text)
+
+-- what `lookup` shows of a position, as its flags say
+abbrev pub IsShown : List Row → Show → Type 0
+IsShown rows Best = (is_on (codes "moves") rows ≡ false) × (is_on (codes "line") rows ≡ false)
+IsShown rows Moves = (is_on (codes "moves") rows ≡ true) × (is_on (codes "line") rows ≡ false)
+IsShown rows Line = (is_on (codes "moves") rows ≡ false) × (is_on (codes "line") rows ≡ true)
 
 -- the task is that of the command that was named, with the values of its arguments; the value of a
 -- flag says whether it was given
@@ -170,10 +195,14 @@ AsksForTask name rows (Verify board from) =
     (name ≡ codes "verify") × (first_of (codes "BOARD") rows ≡ Some board.now) × IsOption (codes "from") rows from
 AsksForTask name rows (Probe board text) =
     (name ≡ codes "probe") × (first_of (codes "BOARD") rows ≡ Some board.now) × (first_of (codes "TEXT") rows ≡ Some text.now)
+AsksForTask name rows (Lookup board from show texts) =
+    (name ≡ codes "lookup") × (first_of (codes "BOARD") rows ≡ Some board.now) × (first_of (codes "from") rows ≡ Some from.now)
+    × IsShown rows show × (unwrap_or (all_of (codes "TEXT") rows) [] ≡ map (λ t. t.now) texts.items)
 
--- progress is to be told where `--progress` was given, which `look` doesn't take
+-- progress is to be told where `--progress` was given, which `look` and `lookup` don't take
 abbrev pub AsksToTell : Task → List Row → Bool → Type 0
 AsksToTell (Look board text depth) rows progress = progress ≡ false
+AsksToTell (Lookup board from show texts) rows progress = progress ≡ false
 AsksToTell _ rows progress = one_of (codes "progress") rows ≡ Some (bool_text progress)
 
 -- the request is for the command that was named, with the values of its arguments
@@ -242,6 +271,14 @@ pub record HasProbeValues (rows : List Row) : Type 0 where
   pub text : is_some (first_of (codes "TEXT") rows) ≡ true
   pub progress : HasFlag (codes "progress") rows
 
+-- the values of which `lookup` makes its request: board and folder are there, and so are the values
+-- of its flags
+pub record HasLookupValues (rows : List Row) : Type 0 where
+  pub board : is_some (first_of (codes "BOARD") rows) ≡ true
+  pub from : is_some (first_of (codes "from") rows) ≡ true
+  pub moves : HasFlag (codes "moves") rows
+  pub line : HasFlag (codes "line") rows
+
 -- a name and values: of a command of the program, and those of which it makes its request
 abbrev pub NamesCommand : Text × List Row → Type 0
 NamesCommand named =
@@ -249,7 +286,7 @@ NamesCommand named =
     ⊎ (((named.0 ≡ codes "stats") × HasStatsValues named.1)
     ⊎ (((named.0 ≡ codes "build") × HasBuildValues named.1)
     ⊎ (((named.0 ≡ codes "verify") × HasVerifyValues named.1)
-    ⊎ ((named.0 ≡ codes "probe") × HasProbeValues named.1))))
+    ⊎ (((named.0 ≡ codes "probe") × HasProbeValues named.1) ⊎ ((named.0 ≡ codes "lookup") × HasLookupValues named.1)))))
 
 -- such a command was named
 abbrev pub NamesRequest : Option (Text × List Row) → Type 0

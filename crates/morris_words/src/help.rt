@@ -150,7 +150,7 @@ nine.sha256 beside the files, for `sha256sum -c nine.sha256` in the folder.\n\
 \n\
 With --classes most positions that a symmetry of the board leads to one another\n\
 share an entry, so that the files are smaller. They are of version 2, which\n\
-`verify` and `probe` read as well.\n\
+`verify`, `probe` and `lookup` read as well.\n\
 \n\
 "
     PROGRESS
@@ -213,4 +213,31 @@ won in 1\n  \
 8-2x4\n  \
 8-2x5\n  \
 8-2x7"
+);
+
+/// Of `lookup`.
+pub(crate) const LOOKUP: &str = page!(
+    []
+    TEXT
+    "\
+It looks up each position in the file of its pair, of which it reads only what\n\
+it needs, and prints a line: the text, the value (`won in 3`, `lost in 2`, in\n\
+plies, or `draw`) and the best moves: those that win soonest, else those that\n\
+keep the draw, else those that lose latest. 8-2x5 is a move from point 8 to\n\
+point 2 that takes the stone on point 5. With --moves a line follows for each\n\
+legal move, with the value that it leads to; with --line one for each move of a\n\
+line of best moves to the game's end, with the position after it. A text that\n\
+has no answer is followed by its fault, and the next one is answered.\n\
+\n\
+It believes the files: it reads them as they are and checks nothing but headers.\n\
+What makes it right to is `morris verify BOARD --from FOLDER`, run once before.\n\
+\n\
+Exit status: 0 each text has an answer; 1 a fault, one line on standard error,\n\
+also where texts have no answer; 2 words that aren't allowed.\n\
+\n\
+Example:\n  \
+$ morris build grid 4-3 --into folder\n  \
+$ morris verify grid --from folder\n  \
+$ morris lookup grid --from folder XX..OO.OX\n  \
+XX..OO.OX won in 1: 8-2x4 8-2x5 8-2x7"
 );

@@ -3,11 +3,11 @@ ghost use Rattle.std.specs.Prelude.{◌≡◌, ℕ, ◌<◌, ◌≤◌, ◌^◌,
 ghost use Rattle.clap.specs.Values.{bool_text};
 ghost use Rattle.clap.specs.Words.{FailsBy, all_of, app_of, fault_of, first_of, found_of, kind_of, new_app, one_of, rows_of, subcommand_rows_of};
 ghost use Rattle.clap.specs.declared.error.kind.ErrorKind.TheVariants.{ArgumentConflict};
-ghost use Rattle.morris_words.specs.Words.{AsksFor, HasBuildValues, HasFlag, HasLookValues, HasNumber, HasOption, HasProbeValues};
-ghost use Rattle.morris_words.specs.Words.{HasStatsValues, HasVerifyValues, Is, IsAnswerTo, IsAnswerToOneOf, IsArg, IsInRange, IsOption};
+ghost use Rattle.morris_words.specs.Words.{AsksFor, HasBuildValues, HasFlag, HasLookValues, HasLookupValues, HasNumber, HasOption, HasProbeValues};
+ghost use Rattle.morris_words.specs.Words.{HasStatsValues, HasVerifyValues, Is, IsAnswerTo, IsAnswerToOneOf, IsArg, IsInRange, IsOption, IsShown};
 ghost use Rattle.morris_words.specs.Words.{NamesRequest, blocks_rule, build_app, clashes, depth_rule, faults_of, flag_rule, has_clash, look_app};
-ghost use Rattle.morris_words.specs.Words.{morris_app, named_by, number_of, option_rule, probe_app, required_rule};
-ghost use Rattle.morris_words.specs.Words.{stats_app, verify_app, workers_rule};
+ghost use Rattle.morris_words.specs.Words.{lookup_app, morris_app, named_by, number_of, option_rule, probe_app, required_option_rule, required_rule};
+ghost use Rattle.morris_words.specs.Words.{several_rule, stats_app, verify_app, workers_rule};
 
 use crate::help;
 use clap::error::ErrorKind;
@@ -20,7 +20,7 @@ use std::convert::AsStr;
 pub struct Request<'a> {
     /// What it is to do.
     pub task: Task<'a>,
-    /// Whether it is to tell on standard error how far it is, which `look` never is.
+    /// Whether it is to tell on standard error how far it is, which `look` and `lookup` never are.
     pub progress: bool,
 }
 
@@ -66,6 +66,26 @@ pub enum Task<'a> {
         board: &'a str,
         text: &'a str,
     },
+    /// Look up positions on the board named `board` in the table files of the folder `from`, and
+    /// show of each what `show` says: the positions that `texts` write, or, where there are none,
+    /// those that the lines of the input write.
+    Lookup {
+        board: &'a str,
+        from: &'a str,
+        show: Show,
+        texts: Vec<&'a str>,
+    },
+}
+
+/// What `lookup` shows of a position.
+#[derive(Clone, Copy, Debug, PartialEq, Eq)]
+pub enum Show {
+    /// Its value and its best moves.
+    Best,
+    /// Its value, and each of its moves with the value after it.
+    Moves,
+    /// Its value, and a line of best moves to the game's end.
+    Line,
 }
 
 /// Why the words make no request.
@@ -124,6 +144,14 @@ const CLASSES_HELP: &str = "Have one entry for each class of positions: files of
 
 const PROGRESS_HELP: &str = "Tell on standard error how far it is";
 
+const TABLES_HELP: &str = "The folder of the table files";
+
+const MOVES_HELP: &str = "Show each move with the value after it";
+
+const LINE_HELP: &str = "Show a line of best moves to the game's end";
+
+const POSITIONS_HELP: &str = "The positions, or else one on each line of standard input";
+
 // How `clap` ends what it says of a mistake.
 const MORE_HELP: &str = "\n\nFor more information, try '--help'.\n";
 
@@ -146,7 +174,8 @@ fn morris_command<'a>(alloc: Global) -> Result<Command<'a>, AllocError>
         .subcommand(stats_command(alloc)?)?
         .subcommand(build_command(alloc)?)?
         .subcommand(verify_command(alloc)?)?
-        .subcommand(probe_command(alloc)?)
+        .subcommand(probe_command(alloc)?)?
+        .subcommand(lookup_command(alloc)?)
 }
 
 // A command of this name, with no argument yet.
@@ -212,6 +241,18 @@ fn probe_command<'a>(alloc: Global) -> Result<Command<'a>, AllocError>
         .arg(flag_arg(alloc, "progress", PROGRESS_HELP))
 }
 
+fn lookup_command<'a>(alloc: Global) -> Result<Command<'a>, AllocError>
+    ensures { IfOk result (Is lookup_app) }
+{
+    let about = "Look up positions in the table files of a folder";
+    command_of(alloc, "lookup", about, help::LOOKUP)
+        .arg(required_arg(alloc, "BOARD", BOARD_HELP))?
+        .arg(required_option_arg(alloc, "from", "FOLDER", TABLES_HELP))?
+        .arg(flag_arg(alloc, "moves", MOVES_HELP))?
+        .arg(flag_arg(alloc, "line", LINE_HELP))?
+        .arg(several_arg(alloc, "TEXT", POSITIONS_HELP))
+}
+
 fn required_arg<'a>(alloc: Global, name: &'a str, help: &'a str) -> Arg<'a>
     ensures { IsArg (required_rule name.entry.now) result }
 {
@@ -269,6 +310,18 @@ fn option_arg<'a>(alloc: Global, name: &'a str, value: &'a str, help: &'a str) -
         .help(help)
 }
 
+fn required_option_arg<'a>(alloc: Global, name: &'a str, value: &'a str, help: &'a str) -> Arg<'a>
+    ensures { IsArg (required_option_rule name.entry.now) result }
+{
+    option_arg(alloc, name, value, help).required(true)
+}
+
+fn several_arg<'a>(alloc: Global, name: &'a str, help: &'a str) -> Arg<'a>
+    ensures { IsArg (several_rule name.entry.now) result }
+{
+    Arg::new(alloc, name).num_args(1..).help(help)
+}
+
 fn request_of<'a>(alloc: Global, matches: &ArgMatches<'a>) -> Result<Request<'a>, Refusal>
     requires { NamesRequest (subcommand_rows_of matches.now) }
     ensures taken { OnOk result (clashes (subcommand_rows_of matches.now) ≡ []) }
@@ -282,6 +335,7 @@ fn request_of<'a>(alloc: Global, matches: &ArgMatches<'a>) -> Result<Request<'a>
         Some(("build", found)) => build_request(alloc, found),
         Some(("verify", found)) => Ok(verify_request(found)),
         Some(("probe", found)) => Ok(probe_request(found)),
+        Some(("lookup", found)) => lookup_request(alloc, found),
         _ => unreachable!(),
     }
 }
@@ -368,6 +422,45 @@ fn probe_request<'a>(found: &ArgMatches<'a>) -> Request<'a>
     }
 }
 
+fn lookup_request<'a>(alloc: Global, found: &ArgMatches<'a>) -> Result<Request<'a>, Refusal>
+    requires { HasLookupValues (rows_of (found_of found.now)) }
+    ensures taken { OnOk result (clashes (Some (codes "lookup", rows_of (found_of found.now))) ≡ []) }
+    ensures request { IfOk result (AsksFor (Some (codes "lookup", rows_of (found_of found.now)))) }
+    ensures range { IfOk result (λ request. IsInRange request.task) }
+    ensures refused { IfErr result (IsAnswerToOneOf (clashes (Some (codes "lookup", rows_of (found_of found.now))))) }
+{
+    let Some(show) = shown(found) else {
+        return Err(clash(alloc, "--moves", "--line"));
+    };
+    let Ok(texts) = all_given(alloc, found, "TEXT") else {
+        return Err(Refusal::Memory);
+    };
+    Ok(Request {
+        task: Task::Lookup {
+            board: given(found, "BOARD"),
+            from: given(found, "from"),
+            show,
+            texts,
+        },
+        progress: false,
+    })
+}
+
+/// What `lookup` is to show; `None` where both flags were given.
+fn shown(found: &ArgMatches<'_>) -> Option<Show>
+    requires moves { HasFlag (codes "moves") (rows_of (found_of found.now)) }
+    requires line { HasFlag (codes "line") (rows_of (found_of found.now)) }
+    ensures show { IfSome result (IsShown (rows_of (found_of found.now))) }
+    ensures clash { result ≡ None → has_clash (codes "lookup") (rows_of (found_of found.now)) ≡ true }
+{
+    match (flag(found, "moves"), flag(found, "line")) {
+        (false, false) => Some(Show::Best),
+        (true, false) => Some(Show::Moves),
+        (false, true) => Some(Show::Line),
+        (true, true) => None,
+    }
+}
+
 /// The text of an argument that has to be given.
 fn given<'a>(found: &ArgMatches<'a>, name: &str) -> &'a str
     requires { is_some (first_of name.now (rows_of (found_of found.now))) ≡ true }
@@ -385,6 +478,20 @@ fn optional<'a>(found: &ArgMatches<'a>, name: &str) -> Option<&'a str>
     ensures { IsOption name.now (rows_of (found_of found.now)) result }
 {
     found.get_str(name)
+}
+
+/// The texts of an argument that may be given several times, in order.
+fn all_given<'a>(
+    alloc: Global,
+    found: &ArgMatches<'a>,
+    name: &str,
+) -> Result<Vec<&'a str>, AllocError>
+    ensures { IfOk result (λ texts. unwrap_or (all_of name.now (rows_of (found_of found.now))) [] ≡ map (λ t. t.now) texts.items) }
+{
+    match found.get_strs(name) {
+        Some(texts) => texts.to_vec(alloc),
+        None => Ok(Vec::new(alloc)),
+    }
 }
 
 /// The number of an argument that stands for one where it is left out.

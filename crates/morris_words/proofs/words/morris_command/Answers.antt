@@ -26,4 +26,6 @@ returns c =
     let verify = ap (λ (a : App). a.top) c.in_ok-verify_command.ensures.0 in
     let four = c.in_ok-subcommand-4.ensures.shape c.in_ok-verify_command.ensures.1 ∙ ap₂ with_subcommand three verify in
     let probe = ap (λ (a : App). a.top) c.in_ok-probe_command.ensures.0 in
-    IfOk-weaker c.subcommand-5.result _ _ (λ r h. h.shape c.in_ok-probe_command.ensures.1 ∙ ap₂ with_subcommand four probe) c.subcommand-5.ensures
+    let five = c.in_ok-subcommand-5.ensures.shape c.in_ok-probe_command.ensures.1 ∙ ap₂ with_subcommand four probe in
+    let lookup = ap (λ (a : App). a.top) c.in_ok-lookup_command.ensures.0 in
+    IfOk-weaker c.subcommand-6.result _ _ (λ r h. h.shape c.in_ok-lookup_command.ensures.1 ∙ ap₂ with_subcommand five lookup) c.subcommand-6.ensures

@@ -1,0 +1,8 @@
+use Rattle.std.proofs.Common.{codes}
+use Rattle.clap.specs.Words.{found_of, rows_of}
+use Rattle.morris_words.proofs.ReadLaws.{clash_answered}
+use Rattle.morris_words.proofs.words.lookup_request.Goals as goal
+
+pub returns-in_default-clause-refused : goal.returns-in_default-clause-refused
+returns-in_default-clause-refused c =
+    clash_answered (codes "lookup") (rows_of (found_of c.args.found.now)) c.clash.result (c.shown.ensures.clash c.in_default.is) c.clash.ensures
