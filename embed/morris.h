@@ -105,8 +105,8 @@ typedef struct morris_header {
 /* ---- once in a program */
 
 /* How many words `morris_prepare` fills for a board, of 4 bytes each: for MORRIS_NINE they are
- * MORRIS_NINE_WORDS. 0 where there is no such board. It goes through all sets of points seven
- * times, as the next call does: that takes some tenths of a second. A program that has the room of
+ * MORRIS_NINE_WORDS. 0 where there is no such board. It goes through the sets of points, as the
+ * next call does: that takes some hundredths of a second. A program that has the room of
  * MORRIS_NINE_WORDS at hand needn't ask. */
 #define MORRIS_NINE_WORDS 164475u
 size_t morris_prepare_size(uint32_t board);

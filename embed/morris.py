@@ -79,6 +79,9 @@ class _Folder(ctypes.Structure):
 
 
 _NO_WORDS = (ctypes.c_uint32 * 1)()
+# A text with these in place of its characters is the mask of a player, as binary digits.
+_OWN = str.maketrans("XO.", "100")
+_OTHER = str.maketrans("XO.", "010")
 
 
 class Fault(Exception):
@@ -179,6 +182,7 @@ class Tables:
             raise OSError(ctypes.get_errno(), os.strerror(ctypes.get_errno()), folder)
         _done(status)
         self.board = board
+        self._files = self._asked_with()
 
     def __enter__(self) -> "Tables":
         return self
@@ -189,13 +193,16 @@ class Tables:
     def close(self) -> None:
         """Gives the files back. No call may be under way; after it each call raises `Fault`."""
         _library().morris_close_folder(self._folder)
+        self._files = self._asked_with()
+
+    def _asked_with(self) -> tuple:
+        """What each call is asked with: the board, the files and the words."""
+        folder = self._folder
+        return (self.board, folder.files, folder.n, folder.words or _NO_WORDS, folder.m)
 
     def _asked(self, position: Position) -> tuple:
-        """What calls are asked with: the board, the files, the words and the two masks."""
-        folder = self._folder
-        words = folder.words or _NO_WORDS
-        masks = _masks(position, self.board)
-        return (self.board, folder.files, folder.n, words, folder.m, *masks)
+        """The same, and the two masks."""
+        return (*self._files, *_masks(position, self.board))
 
     def value(self, position: Position) -> Value:
         """The value of a position for the player to move. Raises `Fault`."""
@@ -233,9 +240,9 @@ def _masks(position: Position, board: int) -> Tuple[int, int]:
         return position
     if len(position) != _POINTS[board] or position.strip("XO."):
         raise ValueError(f"not a position: {position!r}")
-    own = sum(1 << point for point, at in enumerate(position) if at == "X")
-    other = sum(1 << point for point, at in enumerate(position) if at == "O")
-    return own, other
+    # Bit 0 is the last of the digits.
+    digits = position[::-1]
+    return int(digits.translate(_OWN), 2), int(digits.translate(_OTHER), 2)
 
 
 def open_tables(folder: str, board: str = "nine") -> Tables:

@@ -96,7 +96,7 @@ static int32_t prepare_words(morris_folder *out) {
     size_t i;
     for (i = 0; i < out->n; i++) {
         if (out->files[i].len >= HEADER && out->files[i].bytes[VERSION] == BY_CLASSES) {
-            size_t count = morris_prepare_size(out->board);
+            size_t count = out->board == MORRIS_NINE ? MORRIS_NINE_WORDS : morris_prepare_size(out->board);
             uint32_t *words = malloc(count * sizeof *words);
             if (words == NULL) {
                 return MORRIS_SYSTEM;

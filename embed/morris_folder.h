@@ -24,8 +24,8 @@ typedef struct morris_folder {
 /* Maps the table files of a board that lie in a folder, under the names that `morris build` gives
  * them: nine-3-3.nmmt, nine-4-3.nmmt and so on to nine-9-9.nmmt, or grid-3-3.nmmt and so on. Those
  * that aren't there are left out. Words are prepared where a file is of version 2, which takes some
- * tenths of a second and 4 bytes a word of memory. What the files say isn't looked at here: calls
- * that read one test its header.
+ * hundredths of a second and 4 bytes a word of memory. What the files say isn't looked at here:
+ * calls that read one test its header.
  *
  * Answers MORRIS_OK; MORRIS_NO_BOARD; MORRIS_NO_TABLE where the folder has none of these files; or
  * MORRIS_SYSTEM, and errno says why a file couldn't be opened or mapped, or memory was refused. But

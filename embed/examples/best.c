@@ -1,44 +1,44 @@
-/* Prints the value of a position and its first best move.
- * best FOLDER POSITION: as best tables XX.X...O.O.O............ */
+/* Prints the value of a position and its first best move: best FOLDER POSITION. */
 #include "morris_folder.h"
 
 #include <stdio.h>
+#include <string.h>
 
 int main(int argc, char **argv) {
-    morris_folder tables;
-    morris_value value;
-    static morris_move moves[MORRIS_MOST_MOVES];
     static const char *kinds[] = {"draw", "won", "lost"};
-    uint32_t own = 0, other = 0, point;
+    static morris_move moves[MORRIS_MOST_MOVES];
+    morris_folder t;
+    morris_value value;
+    uint32_t own = 0, other = 0, board = MORRIS_NINE, p;
     size_t count, i;
     int32_t status;
     if (argc != 3) {
         return 2;
     }
-    for (point = 0; argv[2][point] != '\0' && point < 24; point++) {
-        own |= (uint32_t)(argv[2][point] == 'X') << point;
-        other |= (uint32_t)(argv[2][point] == 'O') << point;
+    for (p = 0; argv[2][p] != '\0' && p < 24; p++) {
+        own |= (uint32_t)(argv[2][p] == 'X') << p;
+        other |= (uint32_t)(argv[2][p] == 'O') << p;
     }
-    status = morris_open_folder(argv[1], point == 9 ? MORRIS_GRID : MORRIS_NINE, &tables);
+    board = p == 9 ? MORRIS_GRID : MORRIS_NINE;
+    status = morris_open_folder(argv[1], board, &t);
     if (status == MORRIS_OK) {
-        status = morris_lookup(tables.board, tables.files, tables.n, tables.words, tables.m, own, other, &value);
+        status = morris_lookup(board, t.files, t.n, t.words, t.m, own, other, &value);
     }
     if (status == MORRIS_OK) {
-        status = morris_moves(tables.board, tables.files, tables.n, tables.words, tables.m, own, other, moves,
-                              MORRIS_MOST_MOVES, &count);
+        status = morris_moves(board, t.files, t.n, t.words, t.m, own, other, moves, MORRIS_MOST_MOVES, &count);
     }
     if (status != MORRIS_OK) {
         fprintf(stderr, "%s\n", morris_error(status));
         return 1;
     }
-    printf("%s in %u\n", kinds[value.kind], value.depth);
-    for (i = 0; i < count; i++) {
-        if (moves[i].value.kind == value.kind && moves[i].value.depth == value.depth) {
-            printf("%u-%u", moves[i].from, moves[i].to);
-            printf(moves[i].taken == MORRIS_NONE ? "\n" : "x%u\n", moves[i].taken);
-            break;
-        }
+    printf("%s", kinds[value.kind]);
+    printf(value.kind == MORRIS_DRAW ? "\n" : " in %u\n", value.depth);
+    for (i = 0; i < count && memcmp(&moves[i].value, &value, sizeof value) != 0; i++) {
     }
-    morris_close_folder(&tables);
+    if (i < count) {
+        printf("%u-%u", moves[i].from, moves[i].to);
+        printf(moves[i].taken == MORRIS_NONE ? "\n" : "x%u\n", moves[i].taken);
+    }
+    morris_close_folder(&t);
     return 0;
 }
