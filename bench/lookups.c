@@ -1,8 +1,13 @@
-/* A plain look-up of positions of the usual board in table files, to measure `morris lookup` beside:
- * it maps the files of a folder and prints, for each line of the input, the position, its value and
- * its best moves. No part of the product: nothing in it is proved, and it trusts its input.
+/* A plain look-up of positions of the usual board in table files, to measure `morris lookup` and
+ * the library of embed/ beside: it maps the files of a folder and prints, for each line of the
+ * input, the position, its value and its best moves. It was written from docs/FILE_FORMAT.md and
+ * the rules. No part of the product: nothing in it is proved, and it trusts its input.
  *
- *     cc -O2 -o lookups bench/lookups.c && ./lookups FOLDER < POSITIONS
+ *     cc -O2 -o lookups bench/lookups.c
+ *     ./lookups FOLDER < POSITIONS            prints lines as `morris lookup` does, and on standard
+ *                                             error how many codes were read
+ *     ./lookups FOLDER values < POSITIONS     without the best moves
+ *     ./lookups FOLDER time < POSITIONS       prints the nanoseconds that a value takes
  */
 #include <fcntl.h>
 #include <stdint.h>
@@ -11,6 +16,7 @@
 #include <string.h>
 #include <sys/mman.h>
 #include <sys/stat.h>
+#include <time.h>
 #include <unistd.h>
 
 enum { POINTS = 24, SYMMETRIES = 16, MOST = 9 };
@@ -20,11 +26,14 @@ static uint8_t image[SYMMETRIES][POINTS];
 /* The image of a set, from its three bytes. */
 static uint32_t led[SYMMETRIES][3][256];
 static uint64_t choose[POINTS + 1][MOST + 2];
-/* For each set of so many points, by its rank: its class and the first symmetry that leads there. */
+/* For each set of so many points, by its rank: its class and the first symmetry that leads
+ * there. */
 static uint32_t *classes[MOST + 1];
 static uint32_t count_of_classes[MOST + 1];
 static const uint8_t *files[MOST + 1][MOST + 1];
 static const char *folder;
+/* How many codes were read. */
+static unsigned long long reads;
 
 static int count(uint32_t set) { return __builtin_popcount(set); }
 
@@ -79,7 +88,7 @@ static void prepare(void)
     }
 }
 
-/* The classes of the sets of so many points, in the order of their ranks, which is that of masks. */
+/* The classes of the sets of so many points, in the order of ranks, which is that of masks. */
 static void make_classes(int stones)
 {
     uint32_t *kept = malloc(choose[POINTS][stones] * sizeof *kept);
@@ -133,6 +142,7 @@ static uint32_t squeezed(uint32_t set, uint32_t outside)
 static int code(uint32_t own, uint32_t other)
 {
     int a = count(own), b = count(other);
+    reads++;
     if (a < 3) {
         return 1;
     }
@@ -201,21 +211,63 @@ static void print_best(uint32_t own, uint32_t other, int wanted)
     }
 }
 
+/* The masks of a line. */
+static void read_line(const char *line, uint32_t *own, uint32_t *other)
+{
+    *own = *other = 0;
+    for (int p = 0; p < POINTS && line[p]; p++) {
+        *own |= line[p] == 'X' ? 1u << p : 0;
+        *other |= line[p] == 'O' ? 1u << p : 0;
+    }
+}
+
+static double now(void)
+{
+    struct timespec t;
+    clock_gettime(CLOCK_MONOTONIC, &t);
+    return t.tv_sec + 1e-9 * t.tv_nsec;
+}
+
+/* Prints how many nanoseconds the value of a position takes, where all are read before: the least
+ * of some passes over them. */
+static int print_time(void)
+{
+    static uint32_t own[1 << 20], other[1 << 20];
+    char line[64];
+    int count = 0;
+    uint64_t sum = 0;
+    double least = 1e9;
+    while (count < 1 << 20 && fgets(line, sizeof line, stdin)) {
+        read_line(line, &own[count], &other[count]);
+        count++;
+    }
+    for (int pass = 0; pass < 5; pass++) {
+        double began = now();
+        for (int i = 0; i < count; i++) {
+            sum += code(own[i], other[i]);
+        }
+        double took = now() - began;
+        least = took < least ? took : least;
+    }
+    printf("%.1f %llu\n", 1e9 * least / count, (unsigned long long)sum);
+    return 0;
+}
+
 int main(int words, char **word)
 {
     char line[64];
-    if (words < 2) {
-        fprintf(stderr, "lookups FOLDER [values]\n");
+    if (words < 2 || words > 3) {
+        fprintf(stderr, "lookups FOLDER [values | time]\n");
         return 2;
     }
     folder = word[1];
     prepare();
+    if (words == 3 && !strcmp(word[2], "time")) {
+        return print_time();
+    }
     while (fgets(line, sizeof line, stdin)) {
-        uint32_t own = 0, other = 0;
-        for (int p = 0; p < POINTS; p++) {
-            own |= line[p] == 'X' ? 1u << p : 0;
-            other |= line[p] == 'O' ? 1u << p : 0;
-        }
+        uint32_t own, other;
+        read_line(line, &own, &other);
         int found = code(own, other);
         printf("%.24s ", line);
         if (found == 0) {
@@ -228,5 +280,6 @@ int main(int words, char **word)
         }
         printf("\n");
     }
+    fprintf(stderr, "%llu\n", reads);
     return 0;
 }
