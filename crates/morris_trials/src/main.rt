@@ -6,11 +6,15 @@
 //! The words of the command line are names of calls. `ci/refused_memory` runs this program once for
 //! each request for memory of each call, and has that request refused.
 //!
+//! A word that names no call has positions, which are probed over the table files on standard
+//! input: `ci/lookups` compares what `lookup` answers with that.
+//!
 //! Its functions have no clauses: what they print is compared by the gate, with the stored output
 //! and after each refusal, and no contract can say what a terminal takes.
 #![tactic(auto)]
 
 mod engine;
+mod probes;
 mod tables;
 mod threads;
 mod told;
@@ -33,8 +37,8 @@ fn main(rt: HostRuntime) -> ExitCode {
     ExitCode::from(0)
 }
 
-/// Makes the call of this name.
-fn run<R: Print + Threads + Wait + Sync>(rt: &R, alloc: Global, name: &str) -> Option<()> {
+/// Makes the call of this name, or probes the positions that the word has.
+fn run<R: Print + Input + Threads + Wait + Sync>(rt: &R, alloc: Global, name: &str) -> Option<()> {
     match name {
         "sweep" => engine::sweeps(rt, alloc),
         "make" => engine::makes_a_block(rt, alloc),
@@ -57,6 +61,6 @@ fn run<R: Print + Threads + Wait + Sync>(rt: &R, alloc: Global, name: &str) -> O
         "report" => tables::reports(rt, alloc),
         "build" => threads::builds(rt, alloc),
         "build_classes" => threads::builds_by_classes(rt, alloc),
-        _ => None,
+        texts => probes::probes(rt, alloc, texts),
     }
 }
