@@ -14,7 +14,8 @@ use Rattle.morris_words.specs.Words.{AsksFor, faults_of, named_by}
 use Rattle.morris_words.specs.declared.words.Request.{Request}
 use Rattle.morris_words.specs.declared.words.Task.{Task}
 use Rattle.morris_words.specs.declared.words.Task.TheVariants.{Look, Stats, Build, Verify, Probe, Lookup}
-use Rattle.morris_commands.specs.Look.{Looks, board_of}
+use Rattle.morris_commands.specs.BoardNames.{board_of}
+use Rattle.morris_commands.specs.Look.{Looks}
 use Rattle.morris_commands.specs.Stats.{AnswersStats}
 use Rattle.morris_commands.specs.Build.{AnswersBuild, layout_asked}
 use Rattle.morris_commands.specs.From.{AnswersFrom}

@@ -8,9 +8,9 @@ use Rattle.morris_table.specs.declared.file_faults.ReadFault.{ReadFault}
 use Rattle.morris_table.specs.declared.file_faults.ReadFault.TheVariants as read
 use Rattle.morris_commands.specs.declared.fault.Fault.{Fault}
 use Rattle.morris_commands.specs.declared.fault.Fault.TheVariants as fault
-use Rattle.morris_commands.specs.Faults.{is_write}
+use Rattle.morris_commands.specs.Faults.{is_write, read_fault}
 use Rattle.morris_commands.specs.Probe.{IsUnfit, Joins, Loaded, Loads}
-use Rattle.morris_commands.specs.Verify.{Input, read_fault}
+use Rattle.morris_commands.specs.Verify.{Input}
 
 -- no room is wanting where something was read
 pub no_room_wanting : {A : Type 0} (x : Option Table) → Ok x ≡ Err read.Memory → A

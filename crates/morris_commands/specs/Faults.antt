@@ -12,6 +12,8 @@ use Rattle.morris_workers.specs.declared.fault.SolveFault.{SolveFault}
 use Rattle.morris_workers.specs.declared.fault.SolveFault.TheVariants as solve
 use Rattle.morris_table.specs.declared.build_fault.BuildFault.{BuildFault}
 use Rattle.morris_table.specs.declared.build_fault.BuildFault.TheVariants as build
+use Rattle.morris_table.specs.declared.file_faults.ReadFault.{ReadFault}
+use Rattle.morris_table.specs.declared.file_faults.ReadFault.TheVariants as read
 use Rattle.morris_table.specs.declared.verify.VerifyFault.{VerifyFault}
 use Rattle.morris_table.specs.declared.verify.VerifyFault.TheVariants as verify
 use Rattle.morris_probe.specs.Reports.{WentOut}
@@ -36,6 +38,20 @@ text_fault text.Stones = fault.Stones
 abbrev pub pair_fault : PairFault → Fault
 pair_fault pair.Counts = fault.Counts
 pair_fault pair.Crowded = fault.Crowded
+
+-- the fault that a refused file is answered with
+abbrev pub read_fault : ReadFault → Fault
+read_fault read.Short = fault.Short
+read_fault read.Magic = fault.Magic
+read_fault read.Version = fault.Version
+read_fault read.BoardId = fault.BoardId
+read_fault read.Counts = fault.Counts
+read_fault read.Crowded = fault.Crowded
+read_fault read.Count = fault.Count
+read_fault read.Digest = fault.Digest
+read_fault read.Trailing = fault.Trailing
+read_fault read.Read = fault.Read
+read_fault read.Memory = fault.Memory
 
 -- the fault that a missing table is answered with
 abbrev pub needs_fault : Counts → Fault

@@ -13,9 +13,9 @@ use Rattle.morris_keeping.specs.declared.kept.KeptFault.{KeptFault}
 use Rattle.morris_keeping.specs.declared.kept.KeptFault.TheVariants as kept
 use Rattle.morris_commands.specs.declared.fault.Fault.{Fault}
 use Rattle.morris_commands.specs.declared.fault.Fault.TheVariants as fault
-use Rattle.morris_commands.specs.Faults.{in_file}
+use Rattle.morris_commands.specs.Faults.{in_file, read_fault}
 use Rattle.morris_commands.specs.Probe.{IsUnfit, Joins}
-use Rattle.morris_commands.specs.Verify.{read_fault, verified_text}
+use Rattle.morris_commands.specs.Verify.{verified_text}
 
 -- whether a board has points for the stones of a pair
 abbrev pub fits : Shape → Counts → Bool

@@ -1,10 +1,10 @@
 -- What `look` prints of a position.
-use Rattle.std.specs.Prelude.{◌≡◌, ℕ, List, ◌++◌, length, codes, Option, Some, None, Result, Ok, Err, bytes_eq, if◌then◌else◌}
+use Rattle.std.specs.Prelude.{◌≡◌, ℕ, List, ◌++◌, length, codes, Option, Some, None, Result, Ok, Err}
 use Rattle.std.specs.List.{flat_map}
 use Rattle.std.specs.Fmt.{decimal}
 use Rattle.std.specs.Io.KnownBytes.{Keeps}
 use Rattle.morris_board.specs.Sets.{count_of}
-use Rattle.morris_board.specs.Boards.{Shape, grid, nine}
+use Rattle.morris_board.specs.Boards.{Shape}
 use Rattle.morris_board.specs.Positions.{Sides, text_of, read_of}
 use Rattle.morris_board.specs.declared.faults.TextFault.{TextFault}
 use Rattle.morris_moves.specs.Rules.{moves_of}
@@ -56,7 +56,3 @@ LooksOn board text n old new result = LookedAt board n old new result (read_of b
 abbrev pub Looks : {T : Type 0} → Option Shape → List ℕ → ℕ → Option (List ℕ) → Option (List ℕ) → Result T Fault → Type 0
 Looks None text n old new result = (result ≡ Err fault.Board) × Keeps old new
 Looks (Some board) text n old new result = LooksOn board text n old new result
-
--- the board of a name
-abbrev pub board_of : List ℕ → Option Shape
-board_of name = if bytes_eq name (codes "nine") then Some nine else (if bytes_eq name (codes "grid") then Some grid else None)

@@ -16,8 +16,8 @@ use Rattle.morris_probe.specs.Probing.{missing_table}
 use Rattle.morris_probe.specs.Reports.{IsReport}
 use Rattle.morris_commands.specs.declared.fault.Fault.{Fault}
 use Rattle.morris_commands.specs.declared.fault.Fault.TheVariants as fault
-use Rattle.morris_commands.specs.Faults.{Prints, text_fault}
-use Rattle.morris_commands.specs.Verify.{Input, read_fault}
+use Rattle.morris_commands.specs.Faults.{Prints, text_fault, read_fault}
+use Rattle.morris_commands.specs.Verify.{Input}
 
 -- ---- the shelf
 

@@ -11,26 +11,12 @@ use Rattle.morris_table.specs.declared.file_faults.ReadFault.{ReadFault}
 use Rattle.morris_table.specs.declared.file_faults.ReadFault.TheVariants as read
 use Rattle.morris_commands.specs.declared.fault.Fault.{Fault}
 use Rattle.morris_commands.specs.declared.fault.Fault.TheVariants as fault
-use Rattle.morris_commands.specs.Faults.{Prints}
+use Rattle.morris_commands.specs.Faults.{Prints, read_fault}
 use Rattle.morris_commands.specs.Stats.{RestsOnTooDeep}
 
 -- `verified a-b: S entries`, where S is how many entries the file has
 unfoldable pub verified_text : Counts → ℕ → List ℕ
 verified_text pair entries = codes "verified " ++ pair_text pair ++ (codes ": " ++ decimal entries) ++ codes " entries\n"
-
--- the fault that a refused file is answered with
-abbrev pub read_fault : ReadFault → Fault
-read_fault read.Short = fault.Short
-read_fault read.Magic = fault.Magic
-read_fault read.Version = fault.Version
-read_fault read.BoardId = fault.BoardId
-read_fault read.Counts = fault.Counts
-read_fault read.Crowded = fault.Crowded
-read_fault read.Count = fault.Count
-read_fault read.Digest = fault.Digest
-read_fault read.Trailing = fault.Trailing
-read_fault read.Read = fault.Read
-read_fault read.Memory = fault.Memory
 
 -- Why a table that was read isn't believed: want of memory; depths that codes can't hold, in a pair
 -- on which its own rests; or, where there are none, the first entry that isn't what the rules give

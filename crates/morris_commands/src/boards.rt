@@ -1,7 +1,6 @@
 //! The boards that the words of the command line name.
 ghost use Rattle.std.specs.Prelude.{◌≡◌, None, Some, IfErr, IfOk};
-ghost use Rattle.morris_commands.specs.Look.{board_of};
-ghost use Rattle.morris_commands.specs.BoardNames.{shape_of};
+ghost use Rattle.morris_commands.specs.BoardNames.{board_of, shape_of};
 ghost use Rattle.morris_commands.specs.declared.fault.Fault.TheVariants as fault;
 
 use crate::fault::Fault;
@@ -39,6 +38,7 @@ pub fn read_board(name: &str) -> Result<NamedBoard, Fault>
 
 /// Runs a function of a board's type on the board of a name, or answers the fault that there is
 /// none. The board's type is the first of the function's type arguments.
+#[macro_export]
 macro_rules! on_board {
     ($name:expr, $run:ident::<$($type:ty),*>($($argument:expr),* $(,)?)) => {
         match $crate::boards::read_board($name)? {
@@ -51,5 +51,3 @@ macro_rules! on_board {
         }
     };
 }
-
-pub(crate) use on_board;

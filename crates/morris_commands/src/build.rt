@@ -7,11 +7,11 @@ ghost use Rattle.morris_table.specs.Known.{IsBeyondCodes};
 ghost use Rattle.morris_table.specs.Shelves.{first_missing, table_on};
 ghost use Rattle.morris_table.specs.TableFiles.{file_of};
 ghost use Rattle.morris_commands.specs.Faults.{CountsWrites, is_write};
-ghost use Rattle.morris_commands.specs.Look.{board_of};
+ghost use Rattle.morris_commands.specs.BoardNames.{board_of};
 ghost use Rattle.morris_commands.specs.Stats.{HasTooDeep};
 ghost use Rattle.morris_commands.specs.Build.{AnswersBuild, AnswersBuildOn, AnswersFiles, HasExact, HasExactAt, HasTables, IsSpared, IsUnbuiltAt, IsUnbuiltFor, file_on, layout_asked, pairs_written, stones};
 
-use crate::boards::on_board;
+use crate::on_board;
 use crate::fault::Fault;
 use crate::pairs::read_pair;
 use crate::size::Way;
@@ -110,7 +110,7 @@ pub fn build_with<R: Threads + Wait + Sync, O: Sink, T: Teller>(
 }
 
 /// The layout of the tables, by whether entries for classes are asked for.
-pub(crate) fn layout_of(classes: bool) -> Layout
+pub fn layout_of(classes: bool) -> Layout
     ensures { result ≡ layout_asked classes }
 {
     if classes {
@@ -168,7 +168,7 @@ fn build_below<B: Board, R: Threads + Wait + Sync, T: Teller>(
 }
 
 /// Lets the tables go that neither this pair needs nor any after it, unless all are to be kept.
-pub(crate) fn spare<B: Geometry>(stock: &mut Stock<B>, all: bool, pair: Pair<B>)
+pub fn spare<B: Geometry>(stock: &mut Stock<B>, all: bool, pair: Pair<B>)
     ensures near { IsSpared stock.old stock.new pair }
     ensures all { all ≡ true → (c : Counts) → table_on stock.new c ≡ table_on stock.old c }
     ensures gone { all ≡ false → (c : Counts) → stones c + 1 < stones pair → table_on stock.new c ≡ None }
@@ -179,7 +179,7 @@ pub(crate) fn spare<B: Geometry>(stock: &mut Stock<B>, all: bool, pair: Pair<B>)
 }
 
 /// Puts the table of a pair in a layout into a stock that has those that it needs.
-pub(crate) fn build_onto<B: Board, R: Threads + Wait + Sync, T: Teller>(
+pub fn build_onto<B: Board, R: Threads + Wait + Sync, T: Teller>(
     rt: &R,
     alloc: Global,
     stock: &mut Stock<B>,

@@ -276,7 +276,7 @@ impl From<PairFault> for Fault {
 }
 
 impl From<ReadFault> for Fault {
-    ghost use Rattle.morris_commands.specs.Verify.{read_fault};
+    ghost use Rattle.morris_commands.specs.Faults.{read_fault};
 
     ghost from_gives = { λ refused e. e ≡ read_fault refused };
 

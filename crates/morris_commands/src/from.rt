@@ -6,10 +6,10 @@ ghost use Rattle.morris_commands.specs.Faults.{CountsWrites, is_write};
 ghost use Rattle.morris_commands.specs.Filling.{PrintsLine};
 ghost use Rattle.morris_commands.specs.From.{AnswersFrom, AnswersFromOn};
 ghost use Rattle.morris_commands.specs.FromSteps.{AnswersFile, TakesIn, place_is};
-ghost use Rattle.morris_commands.specs.Look.{board_of};
+ghost use Rattle.morris_commands.specs.BoardNames.{board_of};
 ghost use Rattle.morris_commands.specs.Verify.{verified_text};
 
-use crate::boards::on_board;
+use crate::on_board;
 use crate::fault::Fault;
 use crate::print::send_after;
 use crate::print_verified::Verified;

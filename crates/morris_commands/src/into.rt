@@ -5,15 +5,16 @@ ghost use Rattle.morris_commands.specs.Build.{layout_asked};
 ghost use Rattle.morris_commands.specs.Faults.{CountsWrites, is_write};
 ghost use Rattle.morris_commands.specs.Filling.{IsFilledBut, KeepsTable, PrintsLine};
 ghost use Rattle.morris_commands.specs.Into.{AnswersFolder, AnswersInto, AnswersRead, Ends, FillsFolder, IsAsked, IsAskedOf, filed_text, place_of};
-ghost use Rattle.morris_commands.specs.Look.{board_of};
+ghost use Rattle.morris_commands.specs.BoardNames.{board_of};
 ghost use Rattle.morris_commands.specs.PairText.{read_pair_of};
 ghost use Rattle.morris_keeping.specs.Digests.{digest_lines};
 
-use crate::boards::on_board;
+use crate::on_board;
 use crate::build::{build_onto, layout_of, spare};
 use crate::fault::Fault;
 use crate::pairs::read_pair;
 use crate::print::send_after;
+use crate::print_filed::Filed;
 use crate::size::Way;
 use crate::team::Team;
 use crate::teller::Teller;
@@ -232,7 +233,7 @@ fn tell_file<B: Geometry, O: Sink>(
     ensures few { IfOk result (λ now. now ≤ sent + 2 ^ 10) }
     ensures counted { CountsWrites (O.failures output.old) (O.failures output.new) result }
 {
-    match send_after(file, sent, output) {
+    match send_after(&Filed { file }, sent, output) {
         Ok(now) => Ok(now),
         Err(now) => Err(Fault::Write(now)),
     }

@@ -1,9 +1,10 @@
 //! The command `look`.
 ghost use Rattle.std.specs.Prelude.{◌≡◌, ◌-◌, ◌^◌, ◌<◌, ◌≤◌};
 ghost use Rattle.morris_commands.specs.Faults.{CountsWrites};
-ghost use Rattle.morris_commands.specs.Look.{board_of, Looks, LooksOn};
+ghost use Rattle.morris_commands.specs.BoardNames.{board_of};
+ghost use Rattle.morris_commands.specs.Look.{Looks, LooksOn};
 
-use crate::boards::on_board;
+use crate::on_board;
 use crate::fault::Fault;
 use crate::print::print;
 use crate::print_look::Looked;

@@ -12,19 +12,25 @@ use morris_board::streams::{Failed, Sink};
 use morris_keeping::table_file::Written;
 use morris_probe::print::put_count;
 
-/// The line of a file that was written.
+/// What `build` prints of a file that was written into a folder.
+#[derive(Drop)]
+pub struct Filed<'a, B: Geometry> {
+    /// The file.
+    pub file: &'a Written<B>,
+}
+
 #[tactic(auto, using(morris_board::proofs::BufferedLaws::passed_laws), unfolding(crate::specs::Into::filed_text))]
-impl<B: Geometry> Printed for Written<B> {
+impl<'a, B: Geometry> Printed for Filed<'a, B> {
     ghost use Rattle.morris_commands.specs.Into.{filed_text};
 
-    ghost bytes = { λ file. filed_text file.pair file.entries file.bytes file.digest };
+    ghost bytes = { λ filed. filed_text filed.file.now.pair filed.file.now.entries filed.file.now.bytes filed.file.now.digest };
 
     fn put_into<S: Sink>(&self, out: &mut Buffered<'_, S>) -> Result<(), Failed> {
-        put_pair(out, self.pair)?;
-        put_count(out, " ", self.entries)?;
-        put_count(out, " entries ", self.bytes)?;
+        put_pair(out, self.file.pair)?;
+        put_count(out, " ", self.file.entries)?;
+        put_count(out, " entries ", self.file.bytes)?;
         out.put(b" bytes ")?;
-        put_digest(out, &self.digest)?;
+        put_digest(out, &self.file.digest)?;
         out.put_byte(b'\n')
     }
 }

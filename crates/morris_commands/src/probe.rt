@@ -3,11 +3,11 @@ ghost use Rattle.std.specs.Prelude.{◌≡◌, ◌-◌, ◌^◌, ◌<◌, None, 
 ghost use Rattle.morris_table.specs.Shelves.{first_missing};
 ghost use Rattle.morris_table.specs.Tables.{IsTable};
 ghost use Rattle.morris_commands.specs.Faults.{CountsWrites, is_write};
-ghost use Rattle.morris_commands.specs.Look.{board_of};
+ghost use Rattle.morris_commands.specs.BoardNames.{board_of};
 ghost use Rattle.morris_commands.specs.Probe.{AnswersOnBoard, AnswersProbe, IsAsked, IsUnfit, Joins, LoadsBundle, AnswersReport};
 ghost use Rattle.morris_commands.specs.Verify.{input_of};
 
-use crate::boards::on_board;
+use crate::on_board;
 use crate::fault::Fault;
 use crate::size::Way;
 use crate::teller::Teller;
@@ -148,7 +148,7 @@ fn load_bundle<B: Board, I: Source, T: Teller>(
 
 /// Puts a table on the shelf once each of its entries is known to be right. What is told first goes
 /// by the pair `asked`, or where the position is of none by that of the first file.
-pub(crate) fn join_shelf<B: Board, T: Teller>(
+pub fn join_shelf<B: Board, T: Teller>(
     shelf: &mut Shelf<B>,
     raw: Raw<B>,
     asked: Option<&Pair<B>>,

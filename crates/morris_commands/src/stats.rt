@@ -4,10 +4,10 @@ ghost use Rattle.morris_index.specs.Pairs.{Counts, EndsIn, below_of};
 ghost use Rattle.morris_table.specs.Known.{IsBeyondCodes};
 ghost use Rattle.morris_table.specs.Shelves.{first_missing, table_on};
 ghost use Rattle.morris_commands.specs.Faults.{CountsWrites};
-ghost use Rattle.morris_commands.specs.Look.{board_of};
+ghost use Rattle.morris_commands.specs.BoardNames.{board_of};
 ghost use Rattle.morris_commands.specs.Stats.{AnswersOn, AnswersStats, HasTallies, HasTooDeep, IsRefusedAt, IsRefusedBefore, IsRefusedFor, RestsOnTooDeep};
 
-use crate::boards::on_board;
+use crate::on_board;
 use crate::fault::Fault;
 use crate::pairs::read_pair;
 use crate::print::print;

@@ -1,6 +1,6 @@
 //! The command `lookup`, for a list of texts and for the lines of an input.
 ghost use Rattle.std.specs.Prelude.{◌≡◌, ◌-◌, ◌^◌, ◌<◌, Err, OnOk, map};
-ghost use Rattle.morris_commands.specs.Look.{board_of};
+ghost use Rattle.morris_commands.specs.BoardNames.{board_of};
 ghost use Rattle.morris_queries.specs.Answers.{AnswersLookup, CountsWrites};
 ghost use Rattle.morris_queries.specs.LineAnswers.{AnswersInput};
 

@@ -5,7 +5,7 @@ use Rattle.hex.specs.Hex.{encode_lower}
 use Rattle.morris_index.specs.Pairs.{pair_text}
 use Rattle.morris_board.proofs.BufferedLaws.{PartPassed-append, PartPassed-longer, both, goes_on}
 use Rattle.morris_commands.specs.Into.{filed_text}
-use Rattle.morris_commands.proofs.print_filed.WrittenPrinted.put_into.Goals as goal
+use Rattle.morris_commands.proofs.print_filed.FiledPrinted.put_into.Goals as goal
 
 pub returns-in_err-put_pair-clause-passed : goal.returns-in_err-put_pair-clause-passed
 unfolding filed_text
@@ -13,7 +13,7 @@ returns-in_err-put_pair-clause-passed g c =
     let failed = err_from_is_err_and c.from_residual.result c.from_residual.ensures.1 in
     let contents = g.S.Sink.contents in
     let failures = g.S.Sink.failures in
-    let file = c.args.self.now in
+    let file = c.args.self.now.file.now in
     let pair = pair_text file.pair in
     let entries = codes " " ++ decimal file.entries in
     let bytes = codes " entries " ++ decimal file.bytes in
@@ -34,7 +34,7 @@ returns-in_err-put_count-clause-passed g c =
     let failed = err_from_is_err_and c.from_residual-in_err-put_count.result c.from_residual-in_err-put_count.ensures.1 in
     let contents = g.S.Sink.contents in
     let failures = g.S.Sink.failures in
-    let file = c.args.self.now in
+    let file = c.args.self.now.file.now in
     let pair = pair_text file.pair in
     let entries = codes " " ++ decimal file.entries in
     let bytes = codes " entries " ++ decimal file.bytes in
@@ -56,7 +56,7 @@ returns-in_err-put_count-2-clause-passed g c =
     let failed = err_from_is_err_and c.from_residual-in_err-put_count-2.result c.from_residual-in_err-put_count-2.ensures.1 in
     let contents = g.S.Sink.contents in
     let failures = g.S.Sink.failures in
-    let file = c.args.self.now in
+    let file = c.args.self.now.file.now in
     let pair = pair_text file.pair in
     let entries = codes " " ++ decimal file.entries in
     let bytes = codes " entries " ++ decimal file.bytes in
@@ -77,7 +77,7 @@ returns-in_err-put-clause-passed g c =
     let failed = err_from_is_err_and c.from_residual-in_err-put.result c.from_residual-in_err-put.ensures.1 in
     let contents = g.S.Sink.contents in
     let failures = g.S.Sink.failures in
-    let file = c.args.self.now in
+    let file = c.args.self.now.file.now in
     let pair = pair_text file.pair in
     let entries = codes " " ++ decimal file.entries in
     let bytes = codes " entries " ++ decimal file.bytes in
@@ -98,7 +98,7 @@ returns-in_err-put_digest-clause-passed g c =
     let failed = err_from_is_err_and c.from_residual-in_err-put_digest.result c.from_residual-in_err-put_digest.ensures.1 in
     let contents = g.S.Sink.contents in
     let failures = g.S.Sink.failures in
-    let file = c.args.self.now in
+    let file = c.args.self.now.file.now in
     let pair = pair_text file.pair in
     let entries = codes " " ++ decimal file.entries in
     let bytes = codes " entries " ++ decimal file.bytes in
