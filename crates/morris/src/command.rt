@@ -1,8 +1,8 @@
 //! The command line: from its words to what goes out, and the exit status.
 ghost use Rattle.std.specs.Prelude.{◌≡◌, ◌≢◌, ◌-◌, ◌^◌, ◌<◌, ◌≤◌, ◌==◌, [], IsTrue, false, length, map, if◌then◌else◌};
-ghost use Rattle.morris_commands.specs.Faults.{Reports, ReportsFault, ReportsText};
-ghost use Rattle.morris_commands.specs.declared.fault.Fault.TheVariants as fault;
-ghost use Rattle.morris_commands.specs.Progress.{TellsInOrder};
+ghost use Rattle.morris_faults.specs.Faults.{Reports, ReportsFault, ReportsText};
+ghost use Rattle.morris_faults.specs.declared.fault.Fault.TheVariants as fault;
+ghost use Rattle.morris_progress.specs.Progress.{TellsInOrder};
 ghost use Rattle.morris_words.specs.Words.{IsInRange, faults_of, named_by};
 ghost use Rattle.morris_words.specs.declared.words.Task.TheVariants as task;
 ghost use Rattle.morris_commands.specs.Verify.{input_of};
@@ -10,17 +10,17 @@ ghost use Rattle.morris.specs.Command.{Answers, AnswersQueries, AsksToRead, Ends
 
 use morris_board::streams::{Sink, Source};
 use morris_commands::build::build_with;
-use morris_commands::fault::Fault;
-use morris_commands::from::verify_from;
-use morris_commands::into::build_into;
 use morris_commands::look::look;
-use morris_commands::print::{print, send};
 use morris_commands::probe::probe_with;
-use morris_commands::progress::Progress;
 use morris_commands::stats::stats_with;
-use morris_commands::teller::Teller;
 use morris_commands::verify::verify_with;
+use morris_faults::fault::Fault;
+use morris_faults::print::{print, send};
+use morris_folder_commands::from::verify_from;
+use morris_folder_commands::into::build_into;
 use morris_folders::system::SystemFolder;
+use morris_progress::progress::Progress;
+use morris_progress::teller::Teller;
 use morris_queries::fault::QueryFault;
 use morris_queries::lookup::{lookup_lines, lookup_texts};
 use morris_queries::show::Show;

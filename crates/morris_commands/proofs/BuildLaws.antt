@@ -13,7 +13,7 @@ use Rattle.morris_table.specs.TableFiles.{file_of}
 use Rattle.morris_table.specs.Tables.{IsTable, Table}
 use Rattle.morris_moves.proofs.ListLaws.{Contains-cons_cases, Contains-head, Contains-tail}
 use Rattle.morris_table.proofs.ShelfLaws.{cases_pair}
-use Rattle.morris_commands.specs.declared.fault.Fault.TheVariants as fault
+use Rattle.morris_faults.specs.declared.fault.Fault.TheVariants as fault
 use Rattle.morris_commands.specs.Build.{AnswersFiles, AreTablesOf, HasExact, HasExactAt, HasTables, file_on, pairs_written}
 
 module _ (f : Counts → List ℕ) where

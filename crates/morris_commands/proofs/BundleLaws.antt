@@ -6,9 +6,9 @@ use Rattle.morris_table.specs.Shelves.{Stored}
 use Rattle.morris_table.specs.Tables.{Table}
 use Rattle.morris_table.specs.declared.file_faults.ReadFault.{ReadFault}
 use Rattle.morris_table.specs.declared.file_faults.ReadFault.TheVariants as read
-use Rattle.morris_commands.specs.declared.fault.Fault.{Fault}
-use Rattle.morris_commands.specs.declared.fault.Fault.TheVariants as fault
-use Rattle.morris_commands.specs.Faults.{is_write, read_fault}
+use Rattle.morris_faults.specs.declared.fault.Fault.{Fault}
+use Rattle.morris_faults.specs.declared.fault.Fault.TheVariants as fault
+use Rattle.morris_faults.specs.Faults.{is_write, read_fault}
 use Rattle.morris_commands.specs.Probe.{IsUnfit, Joins, Loaded, Loads}
 use Rattle.morris_commands.specs.Verify.{Input}
 

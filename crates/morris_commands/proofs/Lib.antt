@@ -3,7 +3,4 @@ pub mod StatsLaws
 pub mod TallyLaws
 mod BundleLaws
 pub mod BuildLaws
-pub mod FillLaws
-pub mod LineLaws
-pub mod FromLaws
 pub mod NearLaws

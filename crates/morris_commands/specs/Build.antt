@@ -12,10 +12,10 @@ use Rattle.morris_table.specs.Known.{IsBeyondCodes}
 use Rattle.morris_table.specs.Shelves.{Stored, table_on}
 use Rattle.morris_table.specs.TableFiles.{file_of}
 use Rattle.morris_table.specs.Tables.{IsTable, Table}
-use Rattle.morris_commands.specs.declared.fault.Fault.{Fault}
-use Rattle.morris_commands.specs.declared.fault.Fault.TheVariants as fault
-use Rattle.morris_commands.specs.Faults.{Prints, solve_fault}
-use Rattle.morris_commands.specs.PairText.{read_pair_of}
+use Rattle.morris_faults.specs.declared.fault.Fault.{Fault}
+use Rattle.morris_faults.specs.declared.fault.Fault.TheVariants as fault
+use Rattle.morris_faults.specs.Faults.{Prints, solve_fault}
+use Rattle.morris_faults.specs.PairText.{read_pair_of}
 use Rattle.morris_commands.specs.Stats.{HasTooDeep}
 
 -- ---- the files

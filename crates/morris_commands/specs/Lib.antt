@@ -1,15 +1,5 @@
-pub mod Faults
 pub mod Look
-pub mod BoardNames
-pub mod PairText
 pub mod Stats
 pub mod Verify
 pub mod Probe
 pub mod Build
-pub mod Into
-pub mod Filling
-pub mod From
-pub mod FromSteps
-pub mod Progress
-pub mod ProgressLaws
-pub mod Sizes

@@ -14,9 +14,9 @@ use Rattle.morris_table.specs.declared.file_faults.ReadFault.{ReadFault}
 use Rattle.morris_table.specs.declared.file_faults.ReadFault.TheVariants as read
 use Rattle.morris_probe.specs.Probing.{missing_table}
 use Rattle.morris_probe.specs.Reports.{IsReport}
-use Rattle.morris_commands.specs.declared.fault.Fault.{Fault}
-use Rattle.morris_commands.specs.declared.fault.Fault.TheVariants as fault
-use Rattle.morris_commands.specs.Faults.{Prints, text_fault, read_fault}
+use Rattle.morris_faults.specs.declared.fault.Fault.{Fault}
+use Rattle.morris_faults.specs.declared.fault.Fault.TheVariants as fault
+use Rattle.morris_faults.specs.Faults.{Prints, text_fault, read_fault}
 use Rattle.morris_commands.specs.Verify.{Input}
 
 -- ---- the shelf

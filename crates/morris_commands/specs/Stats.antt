@@ -9,10 +9,10 @@ use Rattle.morris_table.specs.declared.layout.Layout.TheVariants.{Full}
 use Rattle.morris_table.specs.Known.{IsBeyondCodes}
 use Rattle.morris_table.specs.Tables.{IsTable, table, tallies_of}
 use Rattle.morris_probe.specs.Lines.{number_line}
-use Rattle.morris_commands.specs.declared.fault.Fault.{Fault}
-use Rattle.morris_commands.specs.declared.fault.Fault.TheVariants as fault
-use Rattle.morris_commands.specs.Faults.{Prints}
-use Rattle.morris_commands.specs.PairText.{read_pair_of}
+use Rattle.morris_faults.specs.declared.fault.Fault.{Fault}
+use Rattle.morris_faults.specs.declared.fault.Fault.TheVariants as fault
+use Rattle.morris_faults.specs.Faults.{Prints}
+use Rattle.morris_faults.specs.PairText.{read_pair_of}
 
 -- `a-b S positions`, where S is how many positions the pair has
 abbrev pub pair_line : ℕ → Counts → List ℕ

@@ -9,9 +9,9 @@ use Rattle.morris_table.specs.Agreement.{IsFirstToDiffer}
 use Rattle.morris_table.specs.FileReading.{CountsRead, MayTakeRoom, Reads, StandsInFile, bytes_past, only_file_in}
 use Rattle.morris_table.specs.declared.file_faults.ReadFault.{ReadFault}
 use Rattle.morris_table.specs.declared.file_faults.ReadFault.TheVariants as read
-use Rattle.morris_commands.specs.declared.fault.Fault.{Fault}
-use Rattle.morris_commands.specs.declared.fault.Fault.TheVariants as fault
-use Rattle.morris_commands.specs.Faults.{Prints, read_fault}
+use Rattle.morris_faults.specs.declared.fault.Fault.{Fault}
+use Rattle.morris_faults.specs.declared.fault.Fault.TheVariants as fault
+use Rattle.morris_faults.specs.Faults.{Prints, read_fault}
 use Rattle.morris_commands.specs.Stats.{RestsOnTooDeep}
 
 -- `verified a-b: S entries`, where S is how many entries the file has

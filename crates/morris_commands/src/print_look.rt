@@ -6,11 +6,11 @@ ghost use Rattle.morris_moves.specs.Rules.{moves_of};
 ghost use Rattle.morris_probe.specs.Lines.{move_line};
 ghost use Rattle.morris_commands.specs.Look.{counts_line, value_line, head_text, list_text};
 
-use crate::print::Printed;
 use morris_board::board::Geometry;
 use morris_board::position::Position;
 use morris_board::streams::buffered::Buffered;
 use morris_board::streams::{Failed, Sink};
+use morris_faults::print::Printed;
 use morris_moves::rules::moves;
 use morris_moves::search::Within;
 use morris_probe::print::{put_count, put_move_line, put_number_line, put_position};

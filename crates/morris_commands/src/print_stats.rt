@@ -4,10 +4,10 @@ ghost use Rattle.morris_board.specs.Buffered.{Passes, sink_of, taken_of};
 ghost use Rattle.morris_index.specs.Pairs.{pair_text};
 ghost use Rattle.morris_commands.specs.Stats.{depth_line, depth_lines, draw_line, pair_line};
 
-use crate::print::Printed;
 use morris_board::board::Geometry;
 use morris_board::streams::buffered::Buffered;
 use morris_board::streams::{Failed, Sink};
+use morris_faults::print::Printed;
 use morris_index::pair::Pair;
 use morris_probe::print::{put_count, put_number_line, put_signed};
 

@@ -1,9 +1,9 @@
 //! What `verify` prints.
-use crate::print::Printed;
 use crate::print_stats::put_pair;
 use morris_board::board::Geometry;
 use morris_board::streams::buffered::Buffered;
 use morris_board::streams::{Failed, Sink};
+use morris_faults::print::Printed;
 use morris_index::pair::Pair;
 use morris_probe::print::put_count;
 

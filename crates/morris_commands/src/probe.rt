@@ -2,20 +2,20 @@
 ghost use Rattle.std.specs.Prelude.{◌≡◌, ◌-◌, ◌^◌, ◌<◌, None, Some, false, IfErr, IfOk, OnOk};
 ghost use Rattle.morris_table.specs.Shelves.{first_missing};
 ghost use Rattle.morris_table.specs.Tables.{IsTable};
-ghost use Rattle.morris_commands.specs.Faults.{CountsWrites, is_write};
-ghost use Rattle.morris_commands.specs.BoardNames.{board_of};
+ghost use Rattle.morris_faults.specs.Faults.{CountsWrites, is_write};
+ghost use Rattle.morris_faults.specs.BoardNames.{board_of};
 ghost use Rattle.morris_commands.specs.Probe.{AnswersOnBoard, AnswersProbe, IsAsked, IsUnfit, Joins, LoadsBundle, AnswersReport};
 ghost use Rattle.morris_commands.specs.Verify.{input_of};
 
-use crate::on_board;
-use crate::fault::Fault;
-use crate::size::Way;
-use crate::teller::Teller;
 use morris_board::board::Board;
 use morris_board::position::Position;
 use morris_board::streams::{Sink, Source};
+use morris_faults::fault::Fault;
+use morris_faults::on_board;
 use morris_index::pair::Pair;
 use morris_probe::report::report;
+use morris_progress::size::Way;
+use morris_progress::teller::Teller;
 use morris_table::exact::Exact;
 use morris_table::raw::Raw;
 use morris_table::reading::read_next;

@@ -3,20 +3,20 @@ ghost use Rattle.std.specs.Prelude.{◌≡◌, ◌≢◌, ◌-◌, ◌^◌, ◌<
 ghost use Rattle.morris_index.specs.Pairs.{Counts, EndsIn, below_of};
 ghost use Rattle.morris_table.specs.Known.{IsBeyondCodes};
 ghost use Rattle.morris_table.specs.Shelves.{first_missing, table_on};
-ghost use Rattle.morris_commands.specs.Faults.{CountsWrites};
-ghost use Rattle.morris_commands.specs.BoardNames.{board_of};
+ghost use Rattle.morris_faults.specs.Faults.{CountsWrites};
+ghost use Rattle.morris_faults.specs.BoardNames.{board_of};
 ghost use Rattle.morris_commands.specs.Stats.{AnswersOn, AnswersStats, HasTallies, HasTooDeep, IsRefusedAt, IsRefusedBefore, IsRefusedFor, RestsOnTooDeep};
 
-use crate::on_board;
-use crate::fault::Fault;
-use crate::pairs::read_pair;
-use crate::print::print;
 use crate::print_stats::Counted;
-use crate::size::Way;
-use crate::teller::Teller;
 use morris_board::board::Board;
 use morris_board::streams::Sink;
+use morris_faults::fault::Fault;
+use morris_faults::on_board;
+use morris_faults::pairs::read_pair;
+use morris_faults::print::print;
 use morris_index::pair::Pair;
+use morris_progress::size::Way;
+use morris_progress::teller::Teller;
 use morris_table::layout::Layout;
 use morris_table::shelf::Shelf;
 use morris_table::sweeping::sweep_pair;

@@ -1,20 +1,20 @@
 //! The command `verify`.
 ghost use Rattle.std.specs.Prelude.{◌≡◌, ◌-◌, ◌^◌, ◌<◌, None, IfErr, IfOk, OnOk};
 ghost use Rattle.morris_table.specs.Tables.{IsTable};
-ghost use Rattle.morris_commands.specs.Faults.{CountsWrites};
-ghost use Rattle.morris_commands.specs.BoardNames.{board_of};
+ghost use Rattle.morris_faults.specs.Faults.{CountsWrites};
+ghost use Rattle.morris_faults.specs.BoardNames.{board_of};
 ghost use Rattle.morris_commands.specs.Stats.{RestsOnTooDeep};
 ghost use Rattle.morris_commands.specs.Verify.{AnswersInput, AnswersVerify, IsUnverified, input_of};
 
-use crate::on_board;
-use crate::fault::Fault;
-use crate::print::print;
 use crate::print_verified::Verified;
-use crate::size::Way;
 use crate::stats::sweep_before;
-use crate::teller::Teller;
 use morris_board::board::Board;
 use morris_board::streams::{Sink, Source};
+use morris_faults::fault::Fault;
+use morris_faults::on_board;
+use morris_faults::print::print;
+use morris_progress::size::Way;
+use morris_progress::teller::Teller;
 use morris_table::exact::Exact;
 use morris_table::layout::Layout;
 use morris_table::raw::Raw;

@@ -1,6 +1,6 @@
 // The numbers and texts of faults that the program's own words and graphs don't lead to.
-use morris_commands::fault::Fault;
-use morris_commands::flaw::Flaw;
+use morris_faults::fault::Fault;
+use morris_faults::flaw::Flaw;
 use std::process::Abort;
 use std::test::Fail;
 

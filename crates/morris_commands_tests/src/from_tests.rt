@@ -1,9 +1,9 @@
 // Tables of a folder in memory that are verified.
 use crate::into_tests::build;
 use morris_board::streams::IntoWrite;
-use morris_commands::fault::Fault;
-use morris_commands::flaw::Flaw;
-use morris_commands::from::verify_from;
+use morris_faults::fault::Fault;
+use morris_faults::flaw::Flaw;
+use morris_folder_commands::from::verify_from;
 use morris_folders::folder::Folder;
 use morris_folders::memory::MemoryFolder;
 use morris_workers::Unwatched;

@@ -1,8 +1,8 @@
 // Tables that are built into a folder in memory, while its calls fail one after the other.
 use morris_board::streams::IntoWrite;
 use morris_commands::build::build_out;
-use morris_commands::fault::Fault;
-use morris_commands::into::build_into;
+use morris_faults::fault::Fault;
+use morris_folder_commands::into::build_into;
 use morris_folders::memory::MemoryFolder;
 use morris_workers::Unwatched;
 use std::process::Abort;

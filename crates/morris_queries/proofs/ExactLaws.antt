@@ -34,7 +34,7 @@ use Rattle.morris_lookup.proofs.FileLookups.{exact_code}
 use Rattle.morris_lookup.proofs.OpeningLaws.{framed_file}
 use Rattle.morris_folders.specs.Files.{Files}
 use Rattle.morris_keeping.specs.Names.{name_of}
-use Rattle.morris_commands.specs.declared.fault.Fault.{Fault}
+use Rattle.morris_faults.specs.declared.fault.Fault.{Fault}
 use Rattle.morris_queries.specs.Exactness.{AreExactIn, IsExactBytes, LeadsTo, IsBestLine, HasLine, IsGame}
 use Rattle.morris_queries.specs.declared.show.Show.{Show}
 use Rattle.morris_queries.specs.declared.show.Show.TheVariants as show

@@ -16,8 +16,8 @@ use Rattle.morris_lookup.specs.Lookups.{code_for}
 use Rattle.morris_lookup.specs.Opening.{OpenFile, open_file, framed_in, IsFramingRefusal}
 use Rattle.morris_folders.specs.Files.{Files}
 use Rattle.morris_keeping.specs.Names.{name_of}
-use Rattle.morris_commands.specs.declared.fault.Fault.{Fault}
-use Rattle.morris_commands.specs.Faults.{needs_fault, read_fault}
+use Rattle.morris_faults.specs.declared.fault.Fault.{Fault}
+use Rattle.morris_faults.specs.Faults.{needs_fault, read_fault}
 use Rattle.morris_queries.specs.Libraries.{IsFound, Opens}
 use Rattle.morris_queries.specs.Telling.{Agrees, IsRefusal, AreOf, followed, same_counts, framed_as, opened_as, table_in, stated_in, value_at, told_value}
 use Rattle.morris_queries.proofs.TellingLaws.{refusal_followed}

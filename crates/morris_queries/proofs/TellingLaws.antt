@@ -13,7 +13,7 @@ use Rattle.morris_table.specs.declared.value.Value.{Value}
 use Rattle.morris_lookup.specs.declared.outcomes.Outcome.{Outcome}
 use Rattle.morris_lookup.specs.Lookups.{depth_of}
 use Rattle.morris_lookup.specs.Outcomes.{turned}
-use Rattle.morris_commands.specs.declared.fault.Fault.{Fault}
+use Rattle.morris_faults.specs.declared.fault.Fault.{Fault}
 use Rattle.morris_queries.specs.Telling.{followed, with_first, Agrees, IsRefusal, IsListed, Telling, telling, outcome, best_among, same_value, told_value, told_outcome, told_outcomes, told_of, told_line, shown_line, told_shown}
 use Rattle.morris_queries.specs.declared.show.Show.{Show}
 use Rattle.morris_queries.specs.declared.show.Show.TheVariants as show

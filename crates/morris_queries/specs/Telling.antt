@@ -18,9 +18,9 @@ use Rattle.morris_lookup.specs.Opening.{OpenFile, open_file, framed_in}
 use Rattle.morris_lookup.specs.Outcomes.{turned}
 use Rattle.morris_folders.specs.Files.{Files}
 use Rattle.morris_keeping.specs.Names.{name_of}
-use Rattle.morris_commands.specs.declared.fault.Fault.{Fault}
-use Rattle.morris_commands.specs.declared.fault.Fault.TheVariants as fault
-use Rattle.morris_commands.specs.Faults.{text_fault, needs_fault, read_fault}
+use Rattle.morris_faults.specs.declared.fault.Fault.{Fault}
+use Rattle.morris_faults.specs.declared.fault.Fault.TheVariants as fault
+use Rattle.morris_faults.specs.Faults.{text_fault, needs_fault, read_fault}
 use Rattle.morris_queries.specs.declared.show.Show.{Show}
 use Rattle.morris_queries.specs.declared.show.Show.TheVariants as show
 

@@ -1,7 +1,7 @@
 //! The answer to one text.
 ghost use Rattle.std.specs.Prelude.{◌≡◌, ◌-◌, ◌^◌, ◌<◌, ◌≤◌, ◌++◌, codes, true, false, IfOk};
 ghost use Rattle.morris_board.specs.Streams.{CountsFailure};
-ghost use Rattle.morris_commands.specs.Faults.{fault_line};
+ghost use Rattle.morris_faults.specs.Faults.{fault_line};
 ghost use Rattle.morris_queries.specs.Answers.{AnswersText, IsAnswer, GoesOut};
 ghost use Rattle.morris_queries.specs.Printing.{shown_text, told_text, IsShort};
 ghost use Rattle.morris_queries.specs.Telling.{AreOf};
@@ -14,7 +14,7 @@ use crate::told::{Told, tell};
 use morris_board::board::Geometry;
 use morris_board::position::Position;
 use morris_board::streams::Sink;
-use morris_commands::fault::Fault;
+use morris_faults::fault::Fault;
 use morris_lookup::tables::Tables;
 use std::alloc::Global;
 

@@ -2,7 +2,7 @@
 ghost use Rattle.std.specs.Prelude.{◌≡◌};
 ghost use Rattle.morris_queries.specs.Refusals.{query_fault};
 
-use morris_commands::fault::Fault;
+use morris_faults::fault::Fault;
 use thiserror::Error;
 
 /// Why questions aren't answered to their end.

@@ -12,7 +12,7 @@ use morris_board::board::Geometry;
 use morris_board::position::Position;
 use morris_board::streams::buffered::Buffered;
 use morris_board::streams::{Failed, Sink};
-use morris_commands::print::Printed;
+use morris_faults::print::Printed;
 use morris_lookup::outcomes::Outcome;
 use morris_moves::step::Move;
 use morris_probe::print::{put_count, put_move};

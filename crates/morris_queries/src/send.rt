@@ -5,7 +5,7 @@ ghost use Rattle.morris_board.specs.Streams.{CountsFailure, HasSent};
 
 use morris_board::streams::buffered::Buffered;
 use morris_board::streams::{Failed, Sink};
-use morris_commands::print::Printed;
+use morris_faults::print::Printed;
 
 /// Sends a text to the last byte, and answers how many bytes it has; at the first write that fails,
 /// how many went out, as the refusal.

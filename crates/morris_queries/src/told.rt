@@ -13,7 +13,7 @@ use crate::show::Show;
 use crate::values::value_of;
 use morris_board::board::Geometry;
 use morris_board::position::Position;
-use morris_commands::fault::Fault;
+use morris_faults::fault::Fault;
 use morris_lookup::outcomes::{Outcome, turned};
 use morris_lookup::tables::Tables;
 use morris_moves::rules::{moves, play};

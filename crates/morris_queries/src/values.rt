@@ -9,7 +9,7 @@ ghost use Rattle.morris_queries.specs.Telling.{Agrees, AreOf, IsRefusal, opened_
 use crate::library::{Library, Unopened};
 use morris_board::board::Geometry;
 use morris_board::position::Position;
-use morris_commands::fault::Fault;
+use morris_faults::fault::Fault;
 use morris_index::pair::Pair;
 use morris_keeping::names::file_name;
 use morris_lookup::fault::{LookFault, OpenFault};

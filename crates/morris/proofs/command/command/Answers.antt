@@ -3,7 +3,7 @@ use Rattle.std.proofs.Common.{◌≡◌, Bool, false, refl, inl, inr, map, subst
 use Rattle.morris.specs.Command.{AsksToRead, TellsProgress, takes_input}
 use Rattle.morris_words.specs.Words.{IsAnswerToOneOf, faults_of, named_by}
 use Rattle.std.proofs.KnownBytes.{Keeps-refl}
-use Rattle.morris_commands.specs.declared.fault.Fault.TheVariants as fault
+use Rattle.morris_faults.specs.declared.fault.Fault.TheVariants as fault
 use Rattle.morris.proofs.command.command.Goals as goal
 
 pub returns-in-Err-Memory-clause-answer : goal.returns-in-Err-Memory-clause-answer

@@ -1,7 +1,7 @@
 -- What the command told is what the error sink got.
 use Rattle.std.proofs.Common.{rules, ◌≡◌, sym}
-use Rattle.morris_commands.specs.Progress.{sink_of}
-use Rattle.morris_commands.specs.ProgressLaws.{Becomes-in_order}
+use Rattle.morris_progress.specs.Progress.{sink_of}
+use Rattle.morris_progress.specs.ProgressLaws.{Becomes-in_order}
 use Rattle.morris.proofs.command.run.Goals as goal
 
 pub returns-clause-told : goal.returns-clause-told

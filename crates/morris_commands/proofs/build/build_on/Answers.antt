@@ -4,7 +4,7 @@ use Rattle.std.proofs.KnownBytes.{Keeps-refl}
 use Rattle.std.proofs.lemmas.Result.{err_from_is_err_and}
 use Rattle.morris_workers.specs.Ranges.{range_fault}
 use Rattle.morris_commands.specs.Build.{AnswersBuilt, AnswersRead, AnswersTeam}
-use Rattle.morris_commands.specs.PairText.{read_pair_of}
+use Rattle.morris_faults.specs.PairText.{read_pair_of}
 use Rattle.morris_commands.proofs.build.build_on.Goals as goal
 
 -- one that isn't built is refused, with nothing written

@@ -13,7 +13,7 @@ use Rattle.morris_table.specs.declared.build_fault.BuildFault.{BuildFault}
 use Rattle.morris_table.specs.declared.build_fault.BuildFault.TheVariants as build
 use Rattle.morris_table.specs.Tables.{IsTable, Table, table}
 use Rattle.morris_table.proofs.ShelfLaws.{cases_pair}
-use Rattle.morris_commands.specs.Faults.{build_fault}
+use Rattle.morris_faults.specs.Faults.{build_fault}
 use Rattle.morris_commands.specs.Stats.{IsRefusedFor}
 use Rattle.morris_commands.proofs.TallyLaws.{length-tallies_of}
 use Rattle.morris_commands.proofs.stats.count_values.Goals as goal

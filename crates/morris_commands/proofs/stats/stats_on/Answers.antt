@@ -2,8 +2,8 @@
 use Rattle.std.proofs.Common.{◌≡◌, Ok, Err, sym, ap, subst, ◌∙◌, inl, inr}
 use Rattle.std.proofs.KnownBytes.{Keeps-refl}
 use Rattle.std.proofs.lemmas.Result.{err_from_is_err_and}
-use Rattle.morris_commands.specs.Faults.{Prints}
-use Rattle.morris_commands.specs.PairText.{read_pair_of}
+use Rattle.morris_faults.specs.Faults.{Prints}
+use Rattle.morris_faults.specs.PairText.{read_pair_of}
 use Rattle.morris_commands.specs.Stats.{AnswersRead, stats_text}
 use Rattle.morris_commands.proofs.stats.stats_on.Goals as goal
 

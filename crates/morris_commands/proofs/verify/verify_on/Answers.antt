@@ -3,7 +3,7 @@ use Rattle.std.proofs.Common.{◌≡◌, Ok, Err, length, refl, ap, subst, ◌�
 use Rattle.std.proofs.KnownBytes.{Keeps-refl}
 use Rattle.std.proofs.lemmas.Result.{err_from_is_err_and}
 use Rattle.morris_table.specs.declared.file_faults.ReadFault.TheVariants as read
-use Rattle.morris_commands.specs.Faults.{Prints}
+use Rattle.morris_faults.specs.Faults.{Prints}
 use Rattle.morris_commands.specs.Verify.{verified_text}
 use Rattle.morris_commands.proofs.verify.verify_on.Goals as goal
 

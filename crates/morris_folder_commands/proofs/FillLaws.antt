@@ -1,0 +1,151 @@
+-- A folder that is filled pair by pair.
+use Rattle.std.proofs.Common.{◌≡◌, ℕ, ◌+◌, ◌≤◌, ◌<◌, ◌^◌, ◌*◌, false, List, [], ◌∷◌, ◌++◌, length, Option, Some, None, Result, Ok, Err, refl, sym, ap, subst, ◌∙◌, inl, inr, arith, length-append}
+use Rattle.std.specs.List.{flat_map}
+use Rattle.std.specs.Fmt.{decimal}
+use Rattle.std.proofs.KnownBytes.{Keeps-refl}
+use Rattle.morris_board.specs.Boards.{Shape}
+use Rattle.morris_board.specs.Streams.{AllSent}
+use Rattle.morris_index.specs.Pairs.{Counts, below_of}
+use Rattle.morris_table.specs.declared.layout.Layout.{Layout}
+use Rattle.morris_table.specs.Known.{IsBeyondCodes}
+use Rattle.morris_table.specs.Tables.{Table}
+use Rattle.morris_table.specs.TableFiles.{file_of}
+use Rattle.morris_folders.specs.Files.{Files}
+use Rattle.morris_folders.specs.Files as folder
+use Rattle.morris_folders.specs.declared.whole.Step.{Step}
+use Rattle.morris_folders.specs.declared.whole.Step.TheVariants as step
+use Rattle.sha2.specs.Sha256.{sha256}
+use Rattle.std.specs.Io.KnownBytes.{Appends}
+use Rattle.std.proofs.lemmas.Grind.{flat_map-append}
+use Rattle.std.proofs.lemmas.List.{append-nil}
+use Rattle.std.proofs.Math.Path.{ap₂}
+use Rattle.morris_board.specs.Streams.{PartSent}
+use Rattle.morris_keeping.specs.Digests.{digest_line, digest_lines}
+use Rattle.morris_keeping.specs.declared.table_file.Written.{Written}
+use Rattle.morris_faults.specs.declared.fault.Fault.{Fault}
+use Rattle.morris_faults.specs.declared.fault.Fault.TheVariants as fault
+use Rattle.morris_commands.specs.Build.{IsUnbuiltAt}
+use Rattle.morris_faults.specs.Faults.{CountsWrites, is_write}
+use Rattle.morris_folder_commands.specs.Filling.{IsOf, PrintsLine}
+use Rattle.morris_folder_commands.specs.Into.{Ends, Fills, FillsFolder, IsBuilt, IsDone, IsFiled, IsUndone, Place, StaysPut, digest_of, filed_line, filed_text, place_of}
+
+-- nothing is changed where nothing was done
+pub files_kept : (files : Option Files) → folder.Keeps files files
+files_kept None = tt
+files_kept (Some files) = λ name. refl
+
+pub stays : (here : Place) → StaysPut here here
+stays here = record { files = files_kept here.files; out = Keeps-refl here.out }
+
+-- of these faults none is that of a write
+pub unbuilt_unwritten : (board : Shape) (c : Counts) (blocks : ℕ) (f : Fault) → IsUnbuiltAt board c blocks f → is_write f ≡ false
+unbuilt_unwritten board c blocks (fault.Write sent) h = absurd h
+unbuilt_unwritten board c blocks _ h = refl
+
+-- and where no write failed, none is counted
+pub none_counted : (T : Type 0) (old new : ℕ) (f : Fault) → is_write f ≡ false → new ≡ old → CountsWrites {T = T} old new (Err f)
+none_counted T old new f not same = rw not same
+
+-- a line of which only a part went out
+pub line_cut : (text : List ℕ) (sent : ℕ) (old new : Option (List ℕ)) (f : Fault) → PrintsLine text sent old new (Err f)
+    → (now : ℕ) × (f ≡ fault.Write now) × PartSent old new sent now text
+line_cut text sent old new (fault.Write now) part = (now, refl, part)
+line_cut text sent old new _ part = absurd part
+
+-- the line is that of the table's file
+pub line_is : {B : Type 0} (board : Shape) (t : Table) (w : Written B) → IsOf board t w
+    → filed_text w.pair w.entries w.bytes w.digest ≡ filed_line board t
+line_is board t w is = rw (is.pair, is.entries, is.bytes, is.digest) refl
+
+-- the lines of the digests of files
+abbrev pub lines_of : {B : Type 0} → List ℕ → List (Written B) → List ℕ
+lines_of {B = B} name ws = digest_lines name (λ (w : Written B). w.pair) (λ (w : Written B). w.digest) ws
+
+-- one line more
+one_more : {B : Type 0} (name : List ℕ) (ws : List (Written B)) (w : Written B)
+    → lines_of name (ws ++ w ∷ []) ≡ lines_of name ws ++ digest_line name w.pair w.digest
+one_more {B = B} name ws w =
+    let f : Written B → List ℕ = λ x. digest_line name x.pair x.digest in
+    flat_map-append f ws (w ∷ []) ∙ ap (λ lines. flat_map f ws ++ lines) (append-nil (f w))
+
+-- the end, by the same files
+pub ends_with : {B : Type 0} (name : List ℕ) (us ws : List (Written B)) (before after : Place) (result : Result (Unit {0}) Fault) → us ≡ ws
+    → Ends name (lines_of name us) before after result → Ends name (lines_of name ws) before after result
+ends_with name us ws before after result same ends = subst (λ files. Ends name (lines_of name files) before after result) same ends
+
+module _ (board : Shape) (l : Layout) (name : List ℕ) (blocks : ℕ) where
+  -- Some pairs are done: what the others lead to, to that all lead.
+  abbrev pub Leads : Place → List Counts → List Counts → ℕ → List ℕ → Place → Type 0
+  Leads start all pairs sent digests here =
+      (after : Place) (result : Result (Unit {0}) Fault) → Fills board l name blocks pairs sent digests here after result
+      → Fills board l name blocks all 0 [] start after result
+
+  -- a pair that isn't built
+  pub unbuilt : (start : Place) (all pairs : List Counts) (c : Counts) (sent : ℕ) (digests : List ℕ) (here : Place) (refused : Fault)
+      → Leads start all (c ∷ pairs) sent digests here → IsUnbuiltAt board c blocks refused
+      → Fills board l name blocks all 0 [] start here (Err refused)
+  unfolding Fills
+  unbuilt start all pairs c sent digests here refused leads why = leads here (Err refused) (inl (refused, refl, why, stays here))
+
+  -- one that is built and not done
+  pub undone : (start : Place) (all pairs : List Counts) (c : Counts) (sent : ℕ) (digests : List ℕ) (here after : Place) (t : Table) (refused : Fault)
+      → Leads start all (c ∷ pairs) sent digests here → IsBuilt board l c t → ¬ IsBeyondCodes board c → IsUndone board name t sent here after refused
+      → Fills board l name blocks all 0 [] start after (Err refused)
+  unfolding Fills
+  undone start all pairs c sent digests here after t refused leads built within why =
+      leads after (Err refused) (inr (t, built, within, inl (refused, refl, why)))
+
+  -- one that is done
+  pub one_done : (start : Place) (all pairs : List Counts) (c : Counts) (sent now : ℕ) (digests more : List ℕ) (here next : Place) (t : Table)
+      → Leads start all (c ∷ pairs) sent digests here → IsBuilt board l c t → ¬ IsBeyondCodes board c → IsDone board name t here next
+      → now ≡ sent + length (filed_line board t) → more ≡ digests ++ digest_of board name t
+      → Leads start all pairs now more next
+  unfolding Fills
+  one_done start all pairs c sent now digests more here next t leads built within done counted told = λ after result goes.
+      leads after result (inr (
+        t,
+        built,
+        within,
+        inr (
+          next,
+          done,
+          subst (λ d. Fills board l name blocks pairs (sent + length (filed_line board t)) d next after result) told
+              (subst (λ n. Fills board l name blocks pairs n more next after result) counted goes),
+        ),
+      ))
+
+  -- all are done
+  pub all_done : (start : Place) (all : List Counts) (sent : ℕ) (digests : List ℕ) (here after : Place) (result : Result (Unit {0}) Fault)
+      → Leads start all [] sent digests here → Ends name digests here after result → Fills board l name blocks all 0 [] start after result
+  unfolding Fills
+  all_done start all sent digests here after result leads ends = leads after result ends
+
+  -- the start, with all pairs and no file
+  pub start_leads : {B : Type 0} (ws : List (Written B)) (start : Place) (all pairs : List Counts) → ws ≡ [] → pairs ≡ all
+      → Leads start all pairs 0 (lines_of name ws) start
+  start_leads ws start all pairs none same = λ after result goes.
+      subst (λ ps. Fills board l name blocks ps 0 [] start after result) same
+      (subst (λ us. Fills board l name blocks pairs 0 (lines_of name us) start after result) none goes)
+
+  -- the pair that comes next
+  pub next_leads : (start : Place) (all pairs after : List Counts) (c : Counts) (sent : ℕ) (digests : List ℕ) (here : Place) → pairs ≡ c ∷ after
+      → Leads start all pairs sent digests here → Leads start all (c ∷ after) sent digests here
+  next_leads start all pairs after c sent digests here split leads = subst (λ ps. Leads start all ps sent digests here) split leads
+
+  -- no pair comes next
+  pub no_leads : (start : Place) (all pairs : List Counts) (sent : ℕ) (digests : List ℕ) (here : Place) → pairs ≡ []
+      → Leads start all pairs sent digests here → Leads start all [] sent digests here
+  no_leads start all pairs sent digests here none leads = subst (λ ps. Leads start all ps sent digests here) none leads
+
+  -- a file more
+  pub done_leads : {B : Type 0} (ws more : List (Written B)) (w : Written B) (start : Place) (all pairs : List Counts) (c : Counts)
+      (sent now : ℕ) (here next : Place) (t : Table) → Leads start all (c ∷ pairs) sent (lines_of name ws) here
+      → IsBuilt board l c t → ¬ IsBeyondCodes board c → IsFiled board name t here.files next.files → IsOf board t w
+      → AllSent here.out next.out sent now (filed_text w.pair w.entries w.bytes w.digest) → more ≡ ws ++ w ∷ []
+      → Leads start all pairs now (lines_of name more) next
+  done_leads ws more w start all pairs c sent now here next t leads built within filed is printed pushed =
+      let line = line_is board t w is in
+      one_done start all pairs c sent now (lines_of name ws) (lines_of name more) here next t leads built within
+      (record { filed = filed; told = subst (Appends here.out next.out) line printed.appended })
+      (printed.count ∙ ap (λ text. sent + length text) line)
+      (ap (lines_of name) pushed ∙ one_more name ws w ∙ ap₂ (λ p d. lines_of name ws ++ digest_line name p d) is.pair is.digest)

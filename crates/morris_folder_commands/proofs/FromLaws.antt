@@ -1,0 +1,251 @@
+-- The pairs of a board one after the other, and the files of a folder that are verified so.
+use Rattle.std.proofs.Common.{◌≡◌, ℕ, zero, suc, ◌+◌, ◌-◌, ◌<◌, ◌≤◌, Bool, true, false, ◌&&◌, leb, List, [], ◌∷◌, ◌++◌, map, length, take, drop, get_or, refl, sym, ◌∙◌, ap, subst, inl, inr, arith, Option, Some, None, option_map, Result, Ok, Err, MatchResult}
+use Rattle.std.specs.List.{filter, list_all, slice_get}
+use Rattle.std.specs.Io.KnownBytes.{Appends, Keeps}
+use Rattle.std.proofs.lemmas.Bool.{and_parts, cases_Bool, both_ways}
+use Rattle.std.proofs.lemmas.List.{drop_more}
+use Rattle.std.proofs.lemmas.List.Folds.{list_all_at}
+use Rattle.std.proofs.lemmas.Option.{slice_get_within, get_or_from_slice_get, slice_get-map, slice_get-get_or}
+use Rattle.std.proofs.KnownBytes.{Keeps-refl}
+use Rattle.morris_board.specs.Boards.{Shape}
+use Rattle.morris_board.specs.Positions.{is_between}
+use Rattle.morris_board.specs.Streams.{PartSent}
+use Rattle.morris_index.specs.declared.faults.PairFault.{PairFault}
+use Rattle.morris_index.specs.declared.faults.PairFault.TheVariants as pairs
+use Rattle.morris_index.specs.Pairs.{Counts, all_pairs, counts, pair_made}
+use Rattle.morris_table.specs.Shelves.{Stored}
+use Rattle.morris_table.specs.Tables.{Table}
+use Rattle.morris_folders.specs.Files.{Files, HasNone}
+use Rattle.morris_folders.specs.Files as folder
+use Rattle.morris_keeping.specs.Kept.{AnswersKept, HasFile}
+use Rattle.morris_keeping.specs.Names.{name_of}
+use Rattle.morris_keeping.specs.declared.kept.KeptFault.{KeptFault}
+use Rattle.morris_keeping.specs.declared.kept.KeptFault.TheVariants as kept
+use Rattle.morris_faults.specs.declared.fault.Fault.{Fault}
+use Rattle.morris_faults.specs.declared.fault.Fault.TheVariants as fault
+use Rattle.morris_folder_commands.specs.declared.from.TheConstants as table
+use Rattle.morris_folder_commands.specs.From.{AtEnd, Verifies, fits, kept_fault, pairs_of, verified_line}
+use Rattle.morris_folder_commands.specs.Filling.{PrintsLine}
+use Rattle.morris_folder_commands.specs.FromSteps.{AnswersFile, IsUnfitFile, TakesIn, place_is}
+use Rattle.morris_commands.specs.Probe.{Joins}
+
+-- ---- the table of all pairs
+
+abbrev pub entry_pair : ℕ × ℕ → Counts
+entry_pair entry = counts entry.0 entry.1
+
+pairs-table : map entry_pair table.PAIRS ≡ all_pairs
+unfolding all_pairs
+pairs-table = refl
+
+length-all_pairs : length all_pairs ≡ 28
+unfolding all_pairs
+length-all_pairs = refl
+
+abbrev is_lawful : Counts → Bool
+is_lawful d = is_between 3 d.greater 9 && is_between 3 d.lesser 9 && leb d.lesser d.greater
+
+all_lawful : list_all is_lawful all_pairs ≡ true
+unfolding all_pairs
+all_lawful = refl
+
+-- what the code reads
+pub table_at : (place : ℕ) (d : ℕ × ℕ) → place < 28 → slice_get all_pairs place ≡ Some (entry_pair (get_or table.PAIRS place d))
+table_at place d low =
+    ap (λ t. slice_get t place) (sym pairs-table)
+    ∙ slice_get-map entry_pair table.PAIRS place
+    ∙ ap (option_map entry_pair) (slice_get-get_or table.PAIRS place d (omega arith))
+
+module _ (place : ℕ) (d : Counts) (is : slice_get all_pairs place ≡ Some d) where
+  within : place < length all_pairs
+  within = slice_get_within all_pairs place d is
+
+  here : get_or all_pairs place d ≡ d
+  here = get_or_from_slice_get all_pairs place d d is
+
+  lawful : is_lawful d ≡ true
+  lawful =
+      ap is_lawful (sym here) ∙ elim (cases_Bool (is_lawful (get_or all_pairs place d))) [
+        | inl h ↦ h
+        | inr h ↦ absurd (both_ways (list_all is_lawful all_pairs) (list_all_at is_lawful all_pairs place d within h) all_lawful)
+      ]
+
+  rest : (board : Shape) → filter (fits board) (drop place all_pairs) ≡ filter (fits board) (d ∷ drop (place + 1) all_pairs)
+  rest board = ap (filter (fits board)) (drop_more all_pairs place d within ∙ ap (λ x. x ∷ drop (place + 1) all_pairs) here)
+
+  pub next_fits : (board : Shape) → fits board d ≡ true
+      → filter (fits board) (drop place all_pairs) ≡ d ∷ filter (fits board) (drop (place + 1) all_pairs)
+  next_fits board h = rest board ∙ rw h refl
+
+  pub next_crowded : (board : Shape) → fits board d ≡ false
+      → filter (fits board) (drop place all_pairs) ≡ filter (fits board) (drop (place + 1) all_pairs)
+  next_crowded board h = rest board ∙ rw h refl
+
+  -- what the code makes of the two numbers
+  pub made : (board : Shape) (n : ℕ) → board.points ≡ n → (fits board d ≡ true → pair_made n d.greater d.lesser ≡ Ok d) × (fits board d ≡ false → pair_made n d.greater d.lesser ≡ Err pairs.Crowded)
+  made board n points =
+      let parts = and_parts (is_between 3 d.greater 9 && is_between 3 d.lesser 9) (leb d.lesser d.greater) lawful in
+      let numbers = parts.0 in
+      let order = parts.1 in
+      (λ h. rw (← points, numbers, h, order) refl, λ h. rw (← points, numbers, h) refl)
+
+pub made_place : (board : Shape) (n place : ℕ) (d : Counts) (r : Result Counts PairFault) → board.points ≡ n → slice_get all_pairs place ≡ Some d
+    → r ≡ pair_made n d.greater d.lesser → MatchResult r (λ c. place_is board place (Some c)) (λ _. place_is board place None)
+made_place board n place d r points is e =
+    let P : Result Counts PairFault → Type 0 = λ x. MatchResult x (λ c. place_is board place (Some c)) (λ _. place_is board place None) in
+    elim (cases_Bool (fits board d)) [
+      | inl h ↦ subst P (sym (e ∙ (made place d is board n points).0 h)) (is, h)
+      | inr h ↦ subst P (sym (e ∙ (made place d is board n points).1 h)) (d, is, h)
+    ]
+
+pub none_left : (board : Shape) (place : ℕ) → 28 ≤ place → filter (fits board) (drop place all_pairs) ≡ []
+none_left board place h = ap (filter (fits board)) (past all_pairs place (omega (arith, length-all_pairs)))
+  where
+    past : (cs : List Counts) (n : ℕ) → length cs ≤ n → drop n cs ≡ []
+    past [] zero h = refl
+    past [] (suc n) h = refl
+    past (c ∷ cs) zero h = absurd (omega arith)
+    past (c ∷ cs) (suc n) h = past cs n (omega arith)
+
+-- ---- files that are kept
+
+-- what is known of a file of a folder is so of it before calls that change no file
+pub file_before : (old new : Option Files) (name : List ℕ) (are : List ℕ → Type 0) → folder.Keeps old new → HasFile new name are → HasFile old name are
+file_before None new name are kept has = tt
+file_before (Some old) None name are kept has = absurd kept
+file_before (Some old) (Some new) name are kept has = (has.0, sym (kept name) ∙ has.1, has.2)
+
+none_before : (old new : Option Files) (name : List ℕ) → folder.Keeps old new → HasNone new name → HasNone old name
+none_before None new name kept none = tt
+none_before (Some old) None name kept none = absurd kept
+none_before (Some old) (Some new) name kept none = sym (kept name) ∙ none
+
+pub answer_before : (board : Shape) (old new : Option Files) (name : List ℕ) (c : Counts) (answer : Result (Option Table) KeptFault)
+    → folder.Keeps old new → AnswersKept board new name c answer → AnswersKept board old name c answer
+answer_before board old new name c (Ok None) kept said = none_before old new name kept said
+answer_before board old new name c (Ok (Some t)) kept said = (said.0, file_before old new name _ kept said.1)
+answer_before board old new name c (Err kept.Memory) kept said = tt
+answer_before board old new name c (Err kept.Unopened) kept said = tt
+answer_before board old new name c (Err (kept.Refused refused)) kept said = file_before old new name _ kept said
+answer_before board old new name c (Err kept.OtherPair) kept said = (said.0, said.1, file_before old new name _ kept said.2)
+
+pub kept_on : (a b c : Option Files) → folder.Keeps a b → folder.Keeps b c → folder.Keeps a c
+kept_on None b c p q = tt
+kept_on (Some a) None c p q = absurd p
+kept_on (Some a) (Some b) None p q = absurd q
+kept_on (Some a) (Some b) (Some c) p q = λ name. q name ∙ p name
+
+-- ---- the pairs one after the other
+
+module _ (board : Shape) (files : Option Files) (name : List ℕ) (start : Option (List ℕ)) (empty : Stored) where
+  -- Some pairs are done: what the others lead to, to that all lead.
+  abbrev pub Leads : List Counts → Stored → Bool → ℕ → Option (List ℕ) → Type 0
+  Leads pairs shelf found sent here =
+      (after : Option (List ℕ)) (result : Result (Unit {0}) Fault) → Verifies board files name pairs shelf found sent here after result
+      → Verifies board files name (pairs_of board) empty false 0 start after result
+
+  module _ (pairs : List Counts) (c : Counts) (shelf : Stored) (found : Bool) (sent : ℕ) (here : Option (List ℕ))
+      (leads : Leads (c ∷ pairs) shelf found sent here) where
+    -- a file that isn't had
+    pub unkept : (refused : KeptFault) (f : Fault) → AnswersKept board files (name_of name c) c (Err refused) → f ≡ kept_fault c refused
+        → Verifies board files name (pairs_of board) empty false 0 start here (Err f)
+    unfolding Verifies
+    unkept refused f said is = leads here (Err f) (Err refused, said, (ap Err is, Keeps-refl here))
+
+    -- no file
+    pub no_file : AnswersKept board files (name_of name c) c (Ok None) → Leads pairs shelf found sent here
+    unfolding Verifies
+    no_file said = λ after result goes. leads after result (Ok None, said, goes)
+
+    module _ (t : Table) (said : AnswersKept board files (name_of name c) c (Ok (Some t))) where
+      -- a table that doesn't join the shelf
+      pub unfit : (f : Fault) → IsUnfitFile board shelf t f → Verifies board files name (pairs_of board) empty false 0 start here (Err f)
+      unfolding Verifies
+      unfit f why = leads here (Err f) (Ok (Some t), said, inl (why.0, why.1, ap Err why.2, Keeps-refl here))
+
+      module _ (joined : Stored) (joins : Joins board shelf joined t) where
+        -- one that does, and whose line isn't printed
+        pub untold : (now : ℕ) (after : Option (List ℕ)) → PartSent here after sent now (verified_line t)
+            → Verifies board files name (pairs_of board) empty false 0 start after (Err (fault.Write now))
+        unfolding Verifies
+        untold now after part = leads after (Err (fault.Write now)) (Ok (Some t), said, inr (joined, joins, inl (now, refl, part)))
+
+        -- and whose line is
+        pub told : (now : ℕ) (out : Option (List ℕ)) → Appends here out (verified_line t) → now ≡ sent + length (verified_line t)
+            → Leads pairs joined true now out
+        unfolding Verifies
+        told now out printed counted = λ after result goes.
+            leads after result (
+              Ok (Some t),
+              said,
+              inr (
+                joined,
+                joins,
+                inr (
+                  out,
+                  printed,
+                  subst (λ n. Verifies board files name pairs joined true n out after result) counted goes,
+                ),
+              ),
+            )
+
+  -- no pair is left
+  pub at_end : (place : ℕ) (shelf : Stored) (found : Bool) (sent : ℕ) (here : Option (List ℕ)) (result : Result (Unit {0}) Fault) → 28 ≤ place
+      → Leads (filter (fits board) (drop place all_pairs)) shelf found sent here → AtEnd found result
+      → Verifies board files name (pairs_of board) empty false 0 start here result
+  unfolding Verifies
+  at_end place shelf found sent here result past leads end =
+      let last : Leads [] shelf found sent here = subst (λ ps. Leads ps shelf found sent here) (none_left board place past) leads in
+      last here result (end, Keeps-refl here)
+
+  -- a pair that the board has no points for, and one that it has
+  pub skip_pair : (place : ℕ) (shelf : Stored) (found : Bool) (sent : ℕ) (here : Option (List ℕ)) → place_is board place None
+      → Leads (filter (fits board) (drop place all_pairs)) shelf found sent here → Leads (filter (fits board) (drop (place + 1) all_pairs)) shelf found sent here
+  skip_pair place shelf found sent here is leads =
+      subst (λ ps. Leads ps shelf found sent here) (next_crowded place is.0 is.1 board is.2) leads
+
+  pub take_pair : (place : ℕ) (c : Counts) (shelf : Stored) (found : Bool) (sent : ℕ) (here : Option (List ℕ)) → place_is board place (Some c)
+      → Leads (filter (fits board) (drop place all_pairs)) shelf found sent here
+      → Leads (c ∷ filter (fits board) (drop (place + 1) all_pairs)) shelf found sent here
+  take_pair place c shelf found sent here is leads =
+      subst (λ ps. Leads ps shelf found sent here) (next_fits place c is.0 board is.1) leads
+
+  module _ (pairs : List Counts) (c : Counts) (shelf : Stored) (found : Bool) (sent : ℕ) (here : Option (List ℕ))
+      (leads : Leads (c ∷ pairs) shelf found sent here) (now : Option Files) (kept : folder.Keeps files now) where
+    -- a file that isn't had, by what is answered of the folder as it then is
+    pub failed_file : (f : Fault) → AnswersFile board now (name_of name c) c (Err f)
+        → Verifies board files name (pairs_of board) empty false 0 start here (Err f)
+    failed_file f said =
+        unkept pairs c shelf found sent here leads said.0 f (answer_before board files now (name_of name c) c (Err said.0) kept said.2) said.1
+
+    pub missing_file : AnswersFile board now (name_of name c) c (Ok None) → Leads pairs shelf found sent here
+    missing_file said = no_file pairs c shelf found sent here leads (answer_before board files now (name_of name c) c (Ok None) kept said)
+
+    module _ (t : Table) (answer : AnswersFile board now (name_of name c) c (Ok (Some t))) (joined : Stored) (after : Option (List ℕ)) where
+      said : AnswersKept board files (name_of name c) c (Ok (Some t))
+      said = answer_before board files now (name_of name c) c (Ok (Some t)) kept answer
+
+      line_wrong : Joins board shelf joined t → (f : Fault) → PrintsLine (verified_line t) sent here after (Err f)
+          → Verifies board files name (pairs_of board) empty false 0 start after (Err f)
+      line_wrong joins (fault.Write n) part = untold pairs c shelf found sent here leads t said joined joins n after part
+      line_wrong joins _ part = absurd part
+
+      -- a table that isn't taken in, or not told of
+      pub taken_wrong : (f : Fault) → TakesIn board shelf joined t sent here after (Err f)
+          → Verifies board files name (pairs_of board) empty false 0 start after (Err f)
+      taken_wrong f takes = elim takes [
+        | inl why ↦
+            let e = why.1 in
+            let same : why.0 ≡ f = cc in
+            subst (λ x. Verifies board files name (pairs_of board) empty false 0 start after (Err x)) same
+            (subst (λ out. Verifies board files name (pairs_of board) empty false 0 start out (Err why.0)) why.3
+            (unfit pairs c shelf found sent here leads t said why.0 why.2))
+        | inr both ↦ line_wrong both.0 f both.1
+      ]
+
+      -- one that is
+      pub taken_on : (n : ℕ) → TakesIn board shelf joined t sent here after (Ok n) → Leads pairs joined true n after
+      taken_on n takes = elim takes [
+        | inl why ↦ let e = why.1 in cc
+        | inr both ↦ told pairs c shelf found sent here leads t said joined both.0 n after both.1.appended both.1.count
+      ]

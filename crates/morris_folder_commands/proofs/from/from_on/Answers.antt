@@ -1,0 +1,141 @@
+-- The pairs are gone through one after the other.
+use Rattle.std.proofs.Common.{◌≡◌, ◌+◌, ◌*◌, ◌≤◌, true, false, List, drop, Some, None, Ok, Err, refl, sym, ap, subst, ◌∙◌, inl, inr, arith}
+use Rattle.std.specs.List.{filter}
+use Rattle.std.proofs.KnownBytes.{Keeps-refl}
+use Rattle.std.proofs.lemmas.Result.{err_from_is_err_and}
+use Rattle.morris_index.specs.Pairs.{all_pairs}
+use Rattle.morris_folder_commands.specs.From.{AtEnd, pairs_of}
+use Rattle.morris_faults.specs.declared.fault.Fault.TheVariants as fault
+use Rattle.morris_folder_commands.proofs.FillLaws.{files_kept}
+use Rattle.morris_folder_commands.proofs.FromLaws.{at_end, failed_file, kept_on, missing_file, skip_pair, take_pair, taken_on, taken_wrong}
+use Rattle.morris_folder_commands.proofs.from.from_on.Goals as goal
+
+pub loop-place-init : goal.loop-place-init
+unfolding pairs_of
+loop-place-init g c = record {
+  leads = λ after result goes. goes;
+  kept = files_kept (g.F.Folder.files c.args.folder.now);
+  few = omega arith;
+  unfailed = refl;
+  uncounted = refl;
+  told = g.met.T.Watch.stays c.args.teller.now;
+}
+
+-- a pair that the board has no points for
+pub loop-place-preserved-in_default : goal.loop-place-preserved-in_default
+loop-place-preserved-in_default g c = record {
+  leads =
+      skip_pair g.B.Geometry.shape (g.F.Folder.files c.args.folder.now) c.args.board.now (g.O.Sink.contents c.args.output.now) c.in_ok-shelf.shelf
+      c.loop-place.place c.loop-place.shelf c.loop-place.found c.loop-place.sent (g.O.Sink.contents c.loop-place.output)
+      c.in_default.ensures.pair c.loop-place.invariant.leads;
+  kept = c.loop-place.invariant.kept;
+  few = omega (arith, c.loop-place.invariant.few);
+  unfailed = c.loop-place.invariant.unfailed;
+  uncounted = c.loop-place.invariant.uncounted;
+  told = c.loop-place.invariant.told;
+}
+
+-- a file that isn't had
+pub returns-in_err-raw-clause-answer : goal.returns-in_err-raw-clause-answer
+returns-in_err-raw-clause-answer g c =
+    let failed = err_from_is_err_and c.from_residual-in_err-raw.result c.from_residual-in_err-raw.ensures.1 in
+    let board = g.B.Geometry.shape in
+    let files = g.F.Folder.files c.args.folder.now in
+    let old = g.O.Sink.contents c.args.output.now in
+    let out = g.O.Sink.contents c.loop-place.output in
+    let empty = c.in_ok-shelf.shelf in
+    let l = c.loop-place in
+    let leads = take_pair board files c.args.board.now old empty l.place c.in-Some.pair l.shelf l.found l.sent out c.in-Some.ensures.pair l.invariant.leads in
+    rw (failed.1, failed.2)
+    (inr (
+      empty,
+      c.in_ok-shelf.ensures,
+      failed_file board files c.args.board.now old empty _ c.in-Some.pair l.shelf l.found l.sent out leads (g.F.Folder.files l.folder) l.invariant.kept _
+          c.in_err-raw.ensures.answer,
+    ))
+
+-- no file
+pub loop-place-preserved-in_default-2 : goal.loop-place-preserved-in_default-2
+loop-place-preserved-in_default-2 g c =
+    let board = g.B.Geometry.shape in
+    let files = g.F.Folder.files c.args.folder.now in
+    let old = g.O.Sink.contents c.args.output.now in
+    let out = g.O.Sink.contents c.loop-place.output in
+    let empty = c.in_ok-shelf.shelf in
+    let l = c.loop-place in
+    let leads = take_pair board files c.args.board.now old empty l.place c.in-Some.pair l.shelf l.found l.sent out c.in-Some.ensures.pair l.invariant.leads in
+    record {
+      leads =
+          missing_file board files c.args.board.now old empty _ c.in-Some.pair l.shelf l.found l.sent out leads (g.F.Folder.files l.folder) l.invariant.kept
+          (rw c.in_default-2.is at c.in_ok-raw.ensures.answer);
+      kept = kept_on files (g.F.Folder.files l.folder) (g.F.Folder.files c.read_kept.new.folder) l.invariant.kept c.read_kept.ensures.kept;
+      few = omega (arith, l.invariant.few);
+      unfailed = c.in_ok-raw.ensures.unfailed ∙ l.invariant.unfailed;
+      uncounted = l.invariant.uncounted;
+      told = l.invariant.told;
+    }
+
+-- a table that isn't taken in
+pub returns-in_err-sent-clause-answer : goal.returns-in_err-sent-clause-answer
+returns-in_err-sent-clause-answer g c =
+    let failed = err_from_is_err_and c.from_residual-in_err-sent.result c.from_residual-in_err-sent.ensures.1 in
+    let board = g.B.Geometry.shape in
+    let files = g.F.Folder.files c.args.folder.now in
+    let old = g.O.Sink.contents c.args.output.now in
+    let out = g.O.Sink.contents c.loop-place.output in
+    let empty = c.in_ok-shelf.shelf in
+    let l = c.loop-place in
+    let leads = take_pair board files c.args.board.now old empty l.place c.in-Some.pair l.shelf l.found l.sent out c.in-Some.ensures.pair l.invariant.leads in
+    rw (failed.1, failed.2)
+    (inr (
+      empty,
+      c.in_ok-shelf.ensures,
+      taken_wrong board files c.args.board.now old empty _ c.in-Some.pair l.shelf l.found l.sent out leads (g.F.Folder.files l.folder) l.invariant.kept
+          c.in-Some-2.raw (rw c.in-Some-2.is at c.in_ok-raw.ensures.answer) _ _ _ c.in_err-sent.ensures.taken,
+    ))
+
+-- one that is
+pub loop-place-preserved : goal.loop-place-preserved
+loop-place-preserved g c =
+    let board = g.B.Geometry.shape in
+    let files = g.F.Folder.files c.args.folder.now in
+    let old = g.O.Sink.contents c.args.output.now in
+    let out = g.O.Sink.contents c.loop-place.output in
+    let empty = c.in_ok-shelf.shelf in
+    let l = c.loop-place in
+    let leads = take_pair board files c.args.board.now old empty l.place c.in-Some.pair l.shelf l.found l.sent out c.in-Some.ensures.pair l.invariant.leads in
+    record {
+      leads =
+          taken_on board files c.args.board.now old empty _ c.in-Some.pair l.shelf l.found l.sent out leads (g.F.Folder.files l.folder) l.invariant.kept
+          c.in-Some-2.raw (rw c.in-Some-2.is at c.in_ok-raw.ensures.answer) _ _ c.in_ok-sent.sent c.in_ok-sent.ensures.taken;
+      kept = kept_on files (g.F.Folder.files l.folder) (g.F.Folder.files c.read_kept.new.folder) l.invariant.kept c.read_kept.ensures.kept;
+      few = omega (arith, l.invariant.few, c.in_ok-sent.ensures.few);
+      unfailed = c.in_ok-raw.ensures.unfailed ∙ l.invariant.unfailed;
+      uncounted = c.in_ok-sent.ensures.counted ∙ l.invariant.uncounted;
+      told = g.met.T.Watch.joins _ _ _ l.invariant.told c.take_in.ensures.told;
+    }
+
+-- no pair is left
+pub returns-then-found-clause-answer : goal.returns-then-found-clause-answer
+returns-then-found-clause-answer g c =
+    let l = c.loop-place in
+    let out = g.O.Sink.contents l.output in
+    inr (
+      c.in_ok-shelf.shelf,
+      c.in_ok-shelf.ensures,
+      at_end g.B.Geometry.shape (g.F.Folder.files c.args.folder.now) c.args.board.now (g.O.Sink.contents c.args.output.now) c.in_ok-shelf.shelf
+          l.place l.shelf l.found l.sent out (Ok tt) c.loop-place-test.false l.invariant.leads
+          (subst (λ b. AtEnd b (Ok tt)) (sym c.if-found.true) refl),
+    )
+
+pub returns-clause-answer : goal.returns-clause-answer
+returns-clause-answer g c =
+    let l = c.loop-place in
+    let out = g.O.Sink.contents l.output in
+    inr (
+      c.in_ok-shelf.shelf,
+      c.in_ok-shelf.ensures,
+      at_end g.B.Geometry.shape (g.F.Folder.files c.args.folder.now) c.args.board.now (g.O.Sink.contents c.args.output.now) c.in_ok-shelf.shelf
+          l.place l.shelf l.found l.sent out (Err fault.NoFiles) c.loop-place-test.false l.invariant.leads
+          (subst (λ b. AtEnd b (Err fault.NoFiles)) (sym c.if-found.false) refl),
+    )

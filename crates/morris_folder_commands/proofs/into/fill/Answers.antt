@@ -1,0 +1,166 @@
+-- The pairs are done one after the other.
+use Rattle.std.proofs.Common.{rules, ◌≡◌, ◌∷◌, [], ◌++◌, Option, Ok, Err, length-append, refl, sym, ap, subst, ◌∙◌, inl, inr, arith, append_assoc}
+use Rattle.std.proofs.KnownBytes.{Keeps-refl}
+use Rattle.std.proofs.lemmas.Result.{err_from_is_err_and}
+use Rattle.morris_board.specs.Streams.{PartSent}
+use Rattle.morris_index.specs.Pairs.{below_of}
+use Rattle.morris_table.specs.Tables.{Table}
+use Rattle.morris_folder_commands.specs.Filling.{IsOf, KeepsTable}
+use Rattle.morris_folder_commands.specs.Into.{IsBuilt, IsFiled, IsUnfiled, filed_text, place_of}
+use Rattle.morris_folder_commands.proofs.FillLaws.{all_done, done_leads, line_cut, line_is, lines_of, next_leads, no_leads, start_leads, unbuilt, undone}
+use Rattle.morris_commands.proofs.NearLaws.{near-more, near-ready}
+use Rattle.morris_folder_commands.proofs.into.fill.Goals as goal
+
+pub build_onto-requires-clause-ready : goal.build_onto-requires-clause-ready
+build_onto-requires-clause-ready g c = λ κs within.
+    near-ready g.B.Geometry.shape c.args.layout c.args.pair c.loop-below.yielded c.next.new.self c.in-Some.below c.below-below-items.ensures.needs_first
+    (ap (λ rest. c.loop-below.yielded ++ rest) (sym c.in-Some.ensures.steps) ∙ c.loop-below.invariant.split)
+    c.loop-below.stock c.spare.new.stock c.loop-below.invariant.near c.spare.ensures.near
+
+pub loop-below-init : goal.loop-below-init
+loop-below-init g c =
+    let whole : c.into_iter-below-iterator.result ≡ below_of c.args.pair = search rules in
+    record {
+      split = whole;
+      near = λ other m near. absurd (omega (arith, m.1));
+      leads =
+          start_leads g.B.Geometry.shape c.args.layout c.args.board.now c.args.team.blocks c.in_ok-written.written.items
+          (place_of (g.F.Folder.files c.args.folder.now) (g.O.Sink.contents c.args.output.now)) (below_of c.args.pair)
+          c.into_iter-below-iterator.result c.in_ok-written.ensures.items whole;
+      room = c.in_ok-written.ensures.exact;
+      count = c.in_ok-written.ensures.len;
+      few = omega arith;
+      unfailed = refl;
+      uncounted = refl;
+      told = g.met.T.Watch.stays c.announce.new.self;
+    }
+
+-- a pair that isn't built
+pub returns-in_err-build_onto-clause-filled : goal.returns-in_err-build_onto-clause-filled
+returns-in_err-build_onto-clause-filled g c =
+    let failed = err_from_is_err_and c.from_residual-in_err-build_onto.result c.from_residual-in_err-build_onto.ensures.1 in
+    let board = g.B.Geometry.shape in
+    let name = c.args.board.now in
+    let blocks = c.args.team.blocks in
+    let start = place_of (g.F.Folder.files c.args.folder.now) (g.O.Sink.contents c.args.output.now) in
+    let all = below_of c.args.pair in
+    let pair = c.in-Some.below in
+    let l = c.loop-below in
+    let here = place_of (g.F.Folder.files l.folder) (g.O.Sink.contents l.output) in
+    let digests = lines_of name l.written.items in
+    let leads = next_leads board c.args.layout name blocks start all _ c.next.new.self pair l.sent digests here c.in-Some.ensures.steps l.invariant.leads in
+    rw (failed.1, failed.2)
+    (inr (unbuilt board c.args.layout name blocks start all c.next.new.self pair l.sent digests here _ leads c.in_err-build_onto.ensures.refused))
+
+-- one whose file isn't written
+pub returns-in_err-file-clause-filled : goal.returns-in_err-file-clause-filled
+returns-in_err-file-clause-filled g c =
+    let failed = err_from_is_err_and c.from_residual-in_err-file.result c.from_residual-in_err-file.ensures.1 in
+    let board = g.B.Geometry.shape in
+    let name = c.args.board.now in
+    let blocks = c.args.team.blocks in
+    let start = place_of (g.F.Folder.files c.args.folder.now) (g.O.Sink.contents c.args.output.now) in
+    let all = below_of c.args.pair in
+    let pair = c.in-Some.below in
+    let l = c.loop-below in
+    let here = place_of (g.F.Folder.files l.folder) (g.O.Sink.contents l.output) in
+    let digests = lines_of name l.written.items in
+    let leads = next_leads board c.args.layout name blocks start all _ c.next.new.self pair l.sent digests here c.in-Some.ensures.steps l.invariant.leads in
+    let exact = c.in_ok-build_onto.ensures.exact in
+    let t = exact.0 in
+    let built : IsBuilt board c.args.layout pair t = record { of_pair = exact.2; of_layout = exact.3; exact = exact.4 } in
+    let within = c.in_ok-build_onto.ensures.within in
+    let files = g.F.Folder.files c.keep_table.new.folder in
+    let after = place_of files (g.O.Sink.contents l.output) in
+    let refused = c.in_err-file.field-0.0 in
+    let unfiled : IsUnfiled board name t here.files files refused =
+    subst (λ (o : Option Table). KeepsTable {B = g.row.B.Denot} board name o here.files files (Err refused)) exact.1 c.in_err-file.ensures.kept in
+    rw (failed.1, failed.2)
+    (inr (undone board c.args.layout name blocks start all c.next.new.self pair l.sent digests here after t refused leads built within
+    (inl (unfiled, Keeps-refl here.out))))
+
+-- one whose line isn't printed
+pub returns-in_err-sent-clause-filled : goal.returns-in_err-sent-clause-filled
+returns-in_err-sent-clause-filled g c =
+    let failed = err_from_is_err_and c.from_residual-in_err-sent.result c.from_residual-in_err-sent.ensures.1 in
+    let board = g.B.Geometry.shape in
+    let name = c.args.board.now in
+    let blocks = c.args.team.blocks in
+    let start = place_of (g.F.Folder.files c.args.folder.now) (g.O.Sink.contents c.args.output.now) in
+    let all = below_of c.args.pair in
+    let pair = c.in-Some.below in
+    let l = c.loop-below in
+    let here = place_of (g.F.Folder.files l.folder) (g.O.Sink.contents l.output) in
+    let digests = lines_of name l.written.items in
+    let leads = next_leads board c.args.layout name blocks start all _ c.next.new.self pair l.sent digests here c.in-Some.ensures.steps l.invariant.leads in
+    let exact = c.in_ok-build_onto.ensures.exact in
+    let t = exact.0 in
+    let built : IsBuilt board c.args.layout pair t = record { of_pair = exact.2; of_layout = exact.3; exact = exact.4 } in
+    let within = c.in_ok-build_onto.ensures.within in
+    let files = g.F.Folder.files c.keep_table.new.folder in
+    let out = g.O.Sink.contents c.tell_file.new.output in
+    let after = place_of files out in
+    let refused = c.in_err-sent.field-0.0 in
+    let w = c.in_ok-file.file in
+    let kept : IsFiled board name t here.files files × IsOf board t w =
+    subst (λ (o : Option Table). KeepsTable board name o here.files files (Ok w)) exact.1 c.in_ok-file.ensures.kept in
+    let cut = line_cut (filed_text w.pair w.entries w.bytes w.digest) l.sent here.out out refused c.in_err-sent.ensures.printed in
+    rw (failed.1, failed.2)
+    (inr (undone board c.args.layout name blocks start all c.next.new.self pair l.sent digests here after t refused leads built within
+    (inr (cut.0, cut.1, kept.0, subst (PartSent here.out out l.sent cut.0) (line_is board t w kept.1) cut.2))))
+
+-- one that is done
+pub loop-below-preserved : goal.loop-below-preserved
+loop-below-preserved g c =
+    let board = g.B.Geometry.shape in
+    let name = c.args.board.now in
+    let blocks = c.args.team.blocks in
+    let start = place_of (g.F.Folder.files c.args.folder.now) (g.O.Sink.contents c.args.output.now) in
+    let all = below_of c.args.pair in
+    let pair = c.in-Some.below in
+    let l = c.loop-below in
+    let here = place_of (g.F.Folder.files l.folder) (g.O.Sink.contents l.output) in
+    let digests = lines_of name l.written.items in
+    let leads = next_leads board c.args.layout name blocks start all _ c.next.new.self pair l.sent digests here c.in-Some.ensures.steps l.invariant.leads in
+    let exact = c.in_ok-build_onto.ensures.exact in
+    let t = exact.0 in
+    let built : IsBuilt board c.args.layout pair t = record { of_pair = exact.2; of_layout = exact.3; exact = exact.4 } in
+    let within = c.in_ok-build_onto.ensures.within in
+    let files = g.F.Folder.files c.keep_table.new.folder in
+    let out = g.O.Sink.contents c.tell_file.new.output in
+    let next = place_of files out in
+    let w = c.in_ok-file.file in
+    let kept : IsFiled board name t here.files files × IsOf board t w =
+    subst (λ (o : Option Table). KeepsTable board name o here.files files (Ok w)) exact.1 c.in_ok-file.ensures.kept in
+    record {
+      split =
+          append_assoc l.yielded (pair ∷ []) c.next.new.self
+          ∙ (ap (λ rest. l.yielded ++ rest) (sym c.in-Some.ensures.steps) ∙ l.invariant.split);
+      near =
+          near-more board c.args.layout c.args.pair l.yielded c.next.new.self pair c.below-below-items.ensures.needs_first
+          (ap (λ rest. l.yielded ++ rest) (sym c.in-Some.ensures.steps) ∙ l.invariant.split)
+          l.stock c.spare.new.stock c.build_onto.new.stock l.invariant.near c.spare.ensures.near exact c.in_ok-build_onto.ensures.others;
+      leads =
+          done_leads board c.args.layout name blocks l.written.items c.push_reserved.new.self.items w start all c.next.new.self pair l.sent
+          c.in_ok-sent.sent here next t leads built within kept.0 kept.1 c.in_ok-sent.ensures.printed c.push_reserved.ensures.items;
+      room = c.push_reserved.ensures.capacity ∙ l.invariant.room;
+      count = omega (arith, c.push_reserved.ensures.len, l.invariant.count, length-append l.yielded (pair ∷ []));
+      few = omega (arith, c.in_ok-sent.ensures.few, l.invariant.few, length-append l.yielded (pair ∷ []));
+      unfailed = c.in_ok-file.ensures.unfailed ∙ l.invariant.unfailed;
+      uncounted = c.in_ok-sent.ensures.counted ∙ l.invariant.uncounted;
+      told = g.met.T.Watch.joins c.announce.new.self l.teller c.build_onto.new.teller l.invariant.told c.build_onto.ensures.told;
+    }
+
+-- no pair is left
+pub returns-clause-filled : goal.returns-clause-filled
+returns-clause-filled g c = λ after result ends.
+    let board = g.B.Geometry.shape in
+    let name = c.args.board.now in
+    let blocks = c.args.team.blocks in
+    let start = place_of (g.F.Folder.files c.args.folder.now) (g.O.Sink.contents c.args.output.now) in
+    let all = below_of c.args.pair in
+    let l = c.loop-below in
+    let here = place_of (g.F.Folder.files l.folder) (g.O.Sink.contents l.output) in
+    let digests = lines_of name l.written.items in
+    inr (all_done board c.args.layout name blocks start all l.sent digests here after result
+    (no_leads board c.args.layout name blocks start all _ l.sent digests here c.in-None.ensures.steps.0 l.invariant.leads) ends)

@@ -1,0 +1,38 @@
+-- The steps of `build --into`: what each leaves to do.
+use Rattle.std.specs.Prelude.{◌≡◌, ℕ, List, length, Option, Some, None, Result, Ok, Err}
+use Rattle.sha2.specs.Sha256.{sha256}
+use Rattle.morris_board.specs.Boards.{Shape}
+use Rattle.morris_board.specs.Streams.{AllSent, PartSent}
+use Rattle.morris_index.specs.Pairs.{Counts}
+use Rattle.morris_table.specs.declared.layout.Layout.{Layout}
+use Rattle.morris_table.specs.TableFiles.{file_of}
+use Rattle.morris_table.specs.Tables.{Table}
+use Rattle.morris_folders.specs.Files.{Files}
+use Rattle.morris_keeping.specs.declared.table_file.Written.{Written}
+use Rattle.morris_faults.specs.declared.fault.Fault.{Fault}
+use Rattle.morris_faults.specs.declared.fault.Fault.TheVariants as fault
+use Rattle.morris_folder_commands.specs.Into.{Ends, FillsFolder, IsFiled, IsUnfiled, Place}
+
+-- what is told of the file of a table
+pub record IsOf {B : Type 0} (board : Shape) (t : Table) (w : Written B) : Type 0 where
+  pub pair : w.pair ≡ t.pair
+  pub entries : w.entries ≡ length t.codes
+  pub bytes : w.bytes ≡ length (file_of board t)
+  pub digest : w.digest ≡ sha256 (file_of board t)
+
+-- the file of the table that a shelf has is written, and told of; or it isn't
+abbrev pub KeepsTable : {B : Type 0} → Shape → List ℕ → Option Table → Option Files → Option Files → Result (Written B) Fault → Type 0
+KeepsTable board name None old new result = ⊥
+KeepsTable board name (Some t) old new (Ok w) = IsFiled board name t old new × IsOf board t w
+KeepsTable board name (Some t) old new (Err refused) = IsUnfiled board name t old new refused
+
+-- a line is printed where `sent` bytes were before, or its first bytes are
+abbrev pub PrintsLine : List ℕ → ℕ → Option (List ℕ) → Option (List ℕ) → Result ℕ Fault → Type 0
+PrintsLine text sent old new (Ok now) = AllSent old new sent now text
+PrintsLine text sent old new (Err (fault.Write now)) = PartSent old new sent now text
+PrintsLine text sent old new (Err _) = ⊥
+
+-- once the file of digests is written, or isn't, the folder is filled
+abbrev pub IsFilledBut : Shape → Layout → List ℕ → Counts → ℕ → Place → Place → List ℕ → Type 0
+IsFilledBut board l name pair blocks before here digests =
+    (after : Place) (result : Result (Unit {0}) Fault) → Ends name digests here after result → FillsFolder board l name pair blocks before after result

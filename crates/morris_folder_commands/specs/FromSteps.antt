@@ -1,0 +1,34 @@
+-- The steps of `verify --from`.
+use Rattle.std.specs.Prelude.{◌≡◌, ℕ, ◌⊎◌, List, true, false, slice_get, Option, Some, None, Result, Ok, Err}
+use Rattle.morris_board.specs.Boards.{Shape}
+use Rattle.morris_index.specs.Pairs.{Counts, all_pairs}
+use Rattle.morris_table.specs.Shelves.{Stored}
+use Rattle.morris_table.specs.Tables.{Table}
+use Rattle.morris_folders.specs.Files.{Files}
+use Rattle.morris_keeping.specs.Kept.{AnswersKept}
+use Rattle.morris_keeping.specs.declared.kept.KeptFault.{KeptFault}
+use Rattle.morris_faults.specs.declared.fault.Fault.{Fault}
+use Rattle.morris_faults.specs.Faults.{in_file}
+use Rattle.morris_folder_commands.specs.Filling.{PrintsLine}
+use Rattle.morris_folder_commands.specs.From.{fits, kept_fault, verified_line}
+use Rattle.morris_commands.specs.Probe.{IsUnfit, Joins}
+
+-- the pair at a place of all pairs, where the board has points for it
+abbrev pub place_is : Shape → ℕ → Option Counts → Type 0
+place_is board place None = (c : Counts) × (slice_get all_pairs place ≡ Some c) × (fits board c ≡ false)
+place_is board place (Some c) = (slice_get all_pairs place ≡ Some c) × (fits board c ≡ true)
+
+-- what the reading of the file of a pair answers, with its fault
+abbrev pub AnswersFile : Shape → Option Files → List ℕ → Counts → Result (Option Table) Fault → Type 0
+AnswersFile board files name c (Ok found) = AnswersKept board files name c (Ok found)
+AnswersFile board files name c (Err f) = (refused : KeptFault) × (f ≡ kept_fault c refused) × AnswersKept board files name c (Err refused)
+
+-- why a table doesn't join a shelf, told of its file
+abbrev pub IsUnfitFile : Shape → Stored → Table → Fault → Type 0
+IsUnfitFile board shelf t f = (refused : Fault) × IsUnfit board shelf t refused × (f ≡ in_file t.pair refused)
+
+-- what becomes of a table
+abbrev pub TakesIn : Shape → Stored → Stored → Table → ℕ → Option (List ℕ) → Option (List ℕ) → Result ℕ Fault → Type 0
+TakesIn board shelf joined t sent old new result =
+    ((f : Fault) × (result ≡ Err f) × IsUnfitFile board shelf t f × (old ≡ new))
+    ⊎ (Joins board shelf joined t × PrintsLine (verified_line t) sent old new result)

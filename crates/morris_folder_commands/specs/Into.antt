@@ -1,0 +1,169 @@
+-- What `build --into` does to a folder, and what it prints.
+use Rattle.std.specs.Prelude.{◌≡◌, ◌⊎◌, ◌≤◌, ⊤, ℕ, ◌+◌, List, [], ◌∷◌, ◌++◌, length, codes, Option, Some, None, Result, Ok, Err, IsOk}
+use Rattle.std.specs.Fmt.{decimal}
+use Rattle.std.specs.Io.KnownBytes.{Appends, Keeps}
+use Rattle.sha2.specs.Sha256.{sha256}
+use Rattle.hex.specs.Hex.{encode_lower}
+use Rattle.morris_board.specs.Boards.{Shape}
+use Rattle.morris_board.specs.Streams.{PartSent}
+use Rattle.morris_index.specs.Pairs.{Counts, below_of, pair_text}
+use Rattle.morris_workers.specs.Ranges.{range_fault}
+use Rattle.morris_workers.specs.declared.fault.SolveFault.{SolveFault}
+use Rattle.morris_table.specs.declared.layout.Layout.{Layout}
+use Rattle.morris_table.specs.Known.{IsBeyondCodes}
+use Rattle.morris_table.specs.TableFiles.{file_of}
+use Rattle.morris_table.specs.Tables.{IsTable, Table}
+use Rattle.morris_folders.specs.Files.{Files, Goes}
+use Rattle.morris_folders.specs.Files as folder
+use Rattle.morris_folders.specs.Whole.{AreWhole, AreNotWhole}
+use Rattle.morris_folders.specs.declared.whole.NotWhole.{NotWhole}
+use Rattle.morris_folders.specs.declared.whole.Step.{Step}
+use Rattle.morris_folders.specs.declared.whole.Step.TheVariants as step
+use Rattle.morris_keeping.specs.Digests.{digest_line}
+use Rattle.morris_keeping.specs.Names.{digests_name_of, name_of}
+use Rattle.morris_faults.specs.declared.fault.Fault.{Fault}
+use Rattle.morris_faults.specs.declared.fault.Fault.TheVariants as fault
+use Rattle.morris_commands.specs.Build.{IsUnbuiltAt}
+use Rattle.morris_faults.specs.Faults.{solve_fault}
+use Rattle.morris_faults.specs.PairText.{read_pair_of}
+
+-- ---- what is printed
+
+-- `a-b S entries L bytes D`: the pair of a table, how many entries it has, how many bytes its file
+-- has, and the file's SHA-256 in hexadecimal digits
+unfoldable pub filed_text : Counts → ℕ → ℕ → List ℕ → List ℕ
+filed_text pair entries bytes digest =
+    pair_text pair ++ (codes " " ++ decimal entries) ++ (codes " entries " ++ decimal bytes) ++ codes " bytes " ++ encode_lower digest ++ (10 ∷ [])
+
+-- the line of the file of a table
+abbrev pub filed_line : Shape → Table → List ℕ
+filed_line board t = filed_text t.pair (length t.codes) (length (file_of board t)) (sha256 (file_of board t))
+
+-- ---- one pair
+
+-- the files of a folder and the bytes that an output has taken, where they are known
+pub record Place : Type 0 where
+  pub files : Option Files
+  pub out : Option (List ℕ)
+
+abbrev pub place_of : Option Files → Option (List ℕ) → Place
+place_of files out = record { files = files; out = out }
+
+-- no file is changed and nothing printed
+pub record StaysPut (before after : Place) : Type 0 where
+  pub files : folder.Keeps before.files after.files
+  pub out : Keeps before.out after.out
+
+-- a table of a pair in a layout, in which each code is the game's value and exact depth
+pub record IsBuilt (board : Shape) (l : Layout) (c : Counts) (t : Table) : Type 0 where
+  pub of_pair : t.pair ≡ c
+  pub of_layout : t.layout ≡ l
+  pub exact : IsTable board t
+
+-- the file of a table stands whole under the name of its pair, and each other file as it was
+abbrev pub IsFiled : Shape → List ℕ → Table → Option Files → Option Files → Type 0
+IsFiled board name t old new = Goes old new (AreWhole (name_of name t.pair) (file_of board t))
+
+-- the fault that a file which isn't written is told by
+abbrev pub unwritten_fault : Counts → Step → Fault
+unwritten_fault c step.Memory = fault.Memory
+unwritten_fault c step.Create = fault.Unwritten c.greater c.lesser
+unwritten_fault c step.Write = fault.Unwritten c.greater c.lesser
+unwritten_fault c step.Sync = fault.Unwritten c.greater c.lesser
+unwritten_fault c step.Rename = fault.Unwritten c.greater c.lesser
+
+-- the file of a table isn't written: what stood under its name stands there, or the whole file
+abbrev pub IsUnfiled : Shape → List ℕ → Table → Option Files → Option Files → Fault → Type 0
+IsUnfiled board name t old new refused =
+    (why : NotWhole) × (refused ≡ unwritten_fault t.pair why.step) × Goes old new (AreNotWhole (name_of name t.pair) (file_of board t) why)
+
+-- What is done of a pair whose table was built: its file is written and then its line printed; or
+-- the file isn't written, and nothing printed; or it is written, and not the whole line is printed.
+-- `sent` bytes were printed before.
+pub record IsDone (board : Shape) (name : List ℕ) (t : Table) (before after : Place) : Type 0 where
+  pub filed : IsFiled board name t before.files after.files
+  pub told : Appends before.out after.out (filed_line board t)
+
+abbrev pub IsUndone : Shape → List ℕ → Table → ℕ → Place → Place → Fault → Type 0
+IsUndone board name t sent before after refused =
+    (IsUnfiled board name t before.files after.files refused × Keeps before.out after.out)
+    ⊎ ((now : ℕ) × (refused ≡ fault.Write now) × IsFiled board name t before.files after.files × PartSent before.out after.out sent now (filed_line board t))
+
+-- ---- all pairs
+
+-- the fault that a file of digests which isn't written is told by
+abbrev pub digests_fault : Step → Fault
+digests_fault step.Memory = fault.Memory
+digests_fault step.Create = fault.Digests
+digests_fault step.Write = fault.Digests
+digests_fault step.Sync = fault.Digests
+digests_fault step.Rename = fault.Digests
+
+-- What is done at the end: the file of digests is written, with this text, or it isn't.
+abbrev pub Ends : List ℕ → List ℕ → Place → Place → Result (Unit {0}) Fault → Type 0
+Ends name digests before after (Ok done) =
+    Goes before.files after.files (AreWhole (digests_name_of name) digests) × Keeps before.out after.out
+Ends name digests before after (Err refused) =
+    (why : NotWhole) × (refused ≡ digests_fault why.step) × Goes before.files after.files (AreNotWhole (digests_name_of name) digests why)
+    × Keeps before.out after.out
+
+-- the line of the digest of a table's file
+abbrev pub digest_of : Shape → List ℕ → Table → List ℕ
+digest_of board name t = digest_line name t.pair (sha256 (file_of board t))
+
+-- The pairs are done one after the other: a table is built, its file written and its line printed
+-- before the next pair begins. The first refusal ends it: the pair isn't built, and all is as it
+-- was; or it is built and not done. `sent` bytes were printed before, and the files that were
+-- written before have these digests.
+unfoldable pub Fills : Shape → Layout → List ℕ → ℕ → List Counts → ℕ → List ℕ → Place → Place → Result (Unit {0}) Fault → Type 0
+Fills board l name blocks [] sent digests before after result = Ends name digests before after result
+Fills board l name blocks (c ∷ pairs) sent digests before after result =
+    ((refused : Fault) × (result ≡ Err refused) × IsUnbuiltAt board c blocks refused × StaysPut before after)
+    ⊎ ((t : Table) × IsBuilt board l c t × ¬ IsBeyondCodes board c
+    × (((refused : Fault) × (result ≡ Err refused) × IsUndone board name t sent before after refused)
+    ⊎ ((next : Place) × IsDone board name t before next
+    × Fills board l name blocks pairs (sent + length (filed_line board t)) (digests ++ digest_of board name t) next after result)))
+
+-- ---- the answer
+
+-- What it answers in a folder that is there: there is no room to begin, with nothing written;
+-- otherwise the pairs below are done, the pair's own the last.
+abbrev pub FillsFolder : Shape → Layout → List ℕ → Counts → ℕ → Place → Place → Result (Unit {0}) Fault → Type 0
+FillsFolder board l name pair blocks before after result =
+    ((result ≡ Err fault.Memory) × StaysPut before after) ⊎ Fills board l name blocks (below_of pair) 0 [] before after result
+
+-- What it answers of a pair: the folder can't be made, with nothing written; otherwise what it
+-- answers once the folder is there, with the files that it had.
+abbrev pub AnswersFolder : Shape → Layout → List ℕ → Counts → ℕ → Place → Place → Result (Unit {0}) Fault → Type 0
+AnswersFolder board l name pair blocks before after result =
+    ((result ≡ Err fault.Folder) × StaysPut before after)
+    ⊎ ((made : Place) × StaysPut before made × FillsFolder board l name pair blocks made after result)
+
+-- What it answers with so many workers and blocks: where there may not be so many, the fault that
+-- says so, with nothing written.
+abbrev pub AnswersTeam : Shape → Layout → List ℕ → Counts → ℕ → Place → Place → Result (Unit {0}) Fault → Option SolveFault → Type 0
+AnswersTeam board l name pair blocks before after result (Some refused) = (result ≡ Err (solve_fault refused)) × StaysPut before after
+AnswersTeam board l name pair blocks before after result None = AnswersFolder board l name pair blocks before after result
+
+-- What it answers on a board: the fault of a text that names no pair, with nothing written;
+-- otherwise what it answers with its workers and blocks.
+abbrev pub AnswersRead : Shape → Layout → List ℕ → ℕ → ℕ → Place → Place → Result (Unit {0}) Fault → Result Counts Fault → Type 0
+AnswersRead board l name workers blocks before after result (Err refused) = (result ≡ Err refused) × StaysPut before after
+AnswersRead board l name workers blocks before after result (Ok pair) =
+    AnswersTeam board l name pair blocks before after result (range_fault workers blocks)
+
+-- What it answers: the fault of a board that isn't there, with nothing written; otherwise what it
+-- answers on the board, whose name is that of its files.
+abbrev pub AnswersInto : Option Shape → Layout → List ℕ → List ℕ → ℕ → ℕ → Place → Place → Result (Unit {0}) Fault → Type 0
+AnswersInto None l name text workers blocks before after result = (result ≡ Err fault.Board) × StaysPut before after
+AnswersInto (Some board) l name text workers blocks before after result =
+    AnswersRead board l name workers blocks before after result (read_pair_of board.points text)
+
+-- whether a folder is touched: the board is there, the text is that of a pair, and there may be so
+-- many workers and blocks
+abbrev pub IsAskedOf : ℕ → List ℕ → ℕ → ℕ → Type 0
+IsAskedOf points text workers blocks = IsOk (read_pair_of points text) × (range_fault workers blocks ≡ None)
+
+abbrev pub IsAsked : Option Shape → List ℕ → ℕ → ℕ → Type 0
+IsAsked None text workers blocks = ⊥
+IsAsked (Some board) text workers blocks = IsAskedOf board.points text workers blocks

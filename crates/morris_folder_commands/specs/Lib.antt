@@ -1,0 +1,4 @@
+pub mod Into
+pub mod Filling
+pub mod From
+pub mod FromSteps

@@ -1,0 +1,207 @@
+//! The command `verify` over the files of a folder.
+ghost use Rattle.std.specs.Prelude.{◌≡◌, ◌+◌, ◌-◌, ◌^◌, ◌<◌, ◌≤◌, None, false, IfErr, IfOk, OnOk};
+ghost use Rattle.morris_folders.specs.Files.{Keeps};
+ghost use Rattle.morris_keeping.specs.Names.{name_of};
+ghost use Rattle.morris_faults.specs.Faults.{CountsWrites, is_write};
+ghost use Rattle.morris_folder_commands.specs.Filling.{PrintsLine};
+ghost use Rattle.morris_folder_commands.specs.From.{AnswersFrom, AnswersFromOn};
+ghost use Rattle.morris_folder_commands.specs.FromSteps.{AnswersFile, TakesIn, place_is};
+ghost use Rattle.morris_faults.specs.BoardNames.{board_of};
+ghost use Rattle.morris_commands.specs.Verify.{verified_text};
+
+use morris_board::board::{Board, Geometry};
+use morris_board::streams::Sink;
+use morris_commands::print_verified::Verified;
+use morris_commands::probe::join_shelf;
+use morris_faults::fault::Fault;
+use morris_faults::on_board;
+use morris_faults::print::send_after;
+use morris_folders::folder::Folder;
+use morris_index::pair::Pair;
+use morris_keeping::kept::{KeptFault, read_table_file};
+use morris_progress::teller::Teller;
+use morris_table::raw::Raw;
+use morris_table::shelf::Shelf;
+use std::alloc::Global;
+
+/// All pairs, the greater number first, in order of their sum and then of the greater one.
+const PAIRS: [(u8, u8); 28] = [
+    (3, 3),
+    (4, 3),
+    (4, 4),
+    (5, 3),
+    (5, 4),
+    (6, 3),
+    (5, 5),
+    (6, 4),
+    (7, 3),
+    (6, 5),
+    (7, 4),
+    (8, 3),
+    (6, 6),
+    (7, 5),
+    (8, 4),
+    (9, 3),
+    (7, 6),
+    (8, 5),
+    (9, 4),
+    (7, 7),
+    (8, 6),
+    (9, 5),
+    (8, 7),
+    (9, 6),
+    (8, 8),
+    (9, 7),
+    (9, 8),
+    (9, 9),
+];
+
+/// Goes through all pairs of the board named `board`, in order of their sum of stones and then of
+/// the greater number: reads the file of each that a folder has, under the name of its pair, and
+/// tells on `output` that the table is right as soon as each of its codes is known to be that of
+/// the game, over the tables before it. A table rests on those of the pairs that its pair needs,
+/// whose files have to be there.
+///
+/// Fewer than `u64::MAX` calls of the folder may have failed before.
+///
+/// # Errors
+/// [`Fault::Board`] where there is no such board, before the folder is touched. Else the first
+/// refusal: [`Fault::Unopened`] where a file can't be opened; [`Fault::OtherPair`] where it has the
+/// table of another pair; [`Fault::InFile`] where it has a flaw, as `read_table` of `morris_table`
+/// has it, where it needs a table that isn't there, or where an entry isn't what the rules give
+/// from the entries of its results; [`Fault::Memory`] where memory is refused; [`Fault::Write`],
+/// with all bytes that went out, at the first write to `output` that fails. Else [`Fault::NoFiles`]
+/// where the folder has none of these files.
+pub fn verify_from<F: Folder, O: Sink, T: Teller>(
+    alloc: Global,
+    board: &str,
+    folder: &mut F,
+    output: &mut O,
+    teller: &mut T,
+) -> Result<(), Fault>
+    requires folder { F.failures folder.old < 2 ^ 64 - 1 }
+    requires output { O.failures output.old < 2 ^ 64 - 1 }
+    ensures answer { AnswersFrom (board_of board.now) (F.files folder.old) board.now (O.contents output.old) (O.contents output.new) result }
+    ensures kept { Keeps (F.files folder.old) (F.files folder.new) }
+    ensures untouched { board_of board.now ≡ None → folder.new ≡ folder.old }
+    ensures unfailed { OnOk result (F.failures folder.new ≡ F.failures folder.old) }
+    ensures counted { CountsWrites (O.failures output.old) (O.failures output.new) result }
+    ensures told { T.becomes teller.old teller.new }
+{
+    on_board!(
+        board,
+        from_on::<F, O, T>(alloc, board, folder, output, teller)
+    )
+}
+
+fn from_on<B: Board, F: Folder, O: Sink, T: Teller>(
+    alloc: Global,
+    board: &str,
+    folder: &mut F,
+    output: &mut O,
+    teller: &mut T,
+) -> Result<(), Fault>
+    requires folder { F.failures folder.old < 2 ^ 64 - 1 }
+    requires output { O.failures output.old < 2 ^ 64 - 1 }
+    ensures answer { AnswersFromOn B.shape (F.files folder.old) board.now (O.contents output.old) (O.contents output.new) result }
+    ensures kept { Keeps (F.files folder.old) (F.files folder.new) }
+    ensures unfailed { OnOk result (F.failures folder.new ≡ F.failures folder.old) }
+    ensures counted { CountsWrites (O.failures output.old) (O.failures output.new) result }
+    ensures told { T.becomes teller.old teller.new }
+{
+    let mut shelf = Shelf::new(alloc)?;
+    let mut sent = 0;
+    let mut found = false;
+    for place in 0..PAIRS.len() {
+        let Some(pair) = pair_at::<B>(place) else {
+            continue;
+        };
+        let Some(raw) = read_kept(alloc, board, folder, pair)? else {
+            continue;
+        };
+        sent = take_in(&mut shelf, raw, sent, output, teller)?;
+        found = true;
+    }
+    if found { Ok(()) } else { Err(Fault::NoFiles) }
+}
+
+/// The pair at a place of the table, where the board has points for its stones.
+fn pair_at<B: Geometry>(place: usize) -> Option<Pair<B>>
+    requires { place < 28 }
+    // The caller's proof learns here that the board has as many points as its shape says.
+    ensures points { B.shape.points ≡ B.POINTS }
+    ensures pair { place_is B.shape place result }
+{
+    let (greater, lesser) = PAIRS[place];
+    match Pair::new(greater, lesser) {
+        Ok(pair) => Some(pair),
+        Err(_) => None,
+    }
+}
+
+/// The table of a pair, where a folder has its file.
+fn read_kept<B: Geometry, F: Folder>(
+    alloc: Global,
+    board: &str,
+    folder: &mut F,
+    pair: Pair<B>,
+) -> Result<Option<Raw<B>>, Fault>
+    requires { F.failures folder.old < 2 ^ 64 - 1 }
+    ensures answer { AnswersFile B.shape (F.files folder.old) (name_of board.now pair) pair result }
+    ensures kept { Keeps (F.files folder.old) (F.files folder.new) }
+    ensures unfailed { OnOk result (F.failures folder.new ≡ F.failures folder.old) }
+    ensures unwritten { IfErr result (λ refused. is_write refused ≡ false) }
+{
+    match read_table_file(alloc, folder, board, pair) {
+        Ok(found) => Ok(found),
+        Err(KeptFault::Memory) => Err(Fault::Memory),
+        Err(KeptFault::Unopened) => Err(Fault::Unopened(pair.greater(), pair.lesser())),
+        Err(KeptFault::Refused(refused)) => Err(Fault::from(refused).in_file(pair)),
+        Err(KeptFault::OtherPair) => Err(Fault::OtherPair(pair.greater(), pair.lesser())),
+    }
+}
+
+/// Puts a table on the shelf once each of its entries is known to be right over those on it, and
+/// prints its line, where so many bytes were printed before; the answer counts these as well.
+fn take_in<B: Board, O: Sink, T: Teller>(
+    shelf: &mut Shelf<B>,
+    raw: Raw<B>,
+    sent: u64,
+    output: &mut O,
+    teller: &mut T,
+) -> Result<u64, Fault>
+    requires failures { O.failures output.old < 2 ^ 64 - 1 }
+    requires room { sent < 2 ^ 32 }
+    ensures taken { TakesIn B.shape shelf.old shelf.new raw sent (O.contents output.old) (O.contents output.new) result }
+    ensures few { IfOk result (λ now. now ≤ sent + 2 ^ 10) }
+    ensures counted { CountsWrites (O.failures output.old) (O.failures output.new) result }
+    ensures told { T.becomes teller.old teller.new }
+{
+    let (pair, entries) = (raw.pair(), raw.len());
+    if let Err(refused) = join_shelf(shelf, raw, Some(&pair), teller) {
+        return Err(refused.in_file(pair));
+    }
+    tell_verified(pair, entries, sent, output)
+}
+
+/// Prints that the table of a pair, of so many entries, was verified, where so many bytes were
+/// printed before, and answers how many have then been.
+fn tell_verified<B: Geometry, O: Sink>(
+    pair: Pair<B>,
+    entries: u64,
+    sent: u64,
+    output: &mut O,
+) -> Result<u64, Fault>
+    requires failures { O.failures output.old < 2 ^ 64 - 1 }
+    requires room { sent < 2 ^ 32 }
+    ensures printed { PrintsLine (verified_text pair entries) sent (O.contents output.old) (O.contents output.new) result }
+    ensures few { IfOk result (λ now. now ≤ sent + 2 ^ 10) }
+    ensures counted { CountsWrites (O.failures output.old) (O.failures output.new) result }
+{
+    // The proof learns here that the numbers of stones are those of a pair.
+    let _ = pair.greater();
+    match send_after(&Verified { pair, entries }, sent, output) {
+        Ok(now) => Ok(now),
+        Err(now) => Err(Fault::Write(now)),
+    }
+}

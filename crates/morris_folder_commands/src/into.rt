@@ -1,0 +1,265 @@
+//! The command `build` into a folder.
+ghost use Rattle.std.specs.Prelude.{◌≡◌, ℕ, ◌+◌, ◌-◌, ◌^◌, ◌<◌, ◌≤◌, List, Option, true, false, is_some, length, Err, IfErr, IfOk, MatchResult, OnOk};
+ghost use Rattle.morris_table.specs.Shelves.{table_on};
+ghost use Rattle.morris_commands.specs.Build.{layout_asked};
+ghost use Rattle.morris_faults.specs.Faults.{CountsWrites, is_write};
+ghost use Rattle.morris_folder_commands.specs.Filling.{IsFilledBut, KeepsTable, PrintsLine};
+ghost use Rattle.morris_folder_commands.specs.Into.{AnswersFolder, AnswersInto, AnswersRead, Ends, FillsFolder, IsAsked, IsAskedOf, filed_text, place_of};
+ghost use Rattle.morris_faults.specs.BoardNames.{board_of};
+ghost use Rattle.morris_faults.specs.PairText.{read_pair_of};
+ghost use Rattle.morris_keeping.specs.Digests.{digest_lines};
+
+use crate::print_filed::Filed;
+use morris_board::board::{Board, Geometry};
+use morris_board::streams::Sink;
+use morris_commands::build::{build_onto, layout_of, spare};
+use morris_faults::fault::Fault;
+use morris_faults::on_board;
+use morris_faults::pairs::read_pair;
+use morris_faults::print::send_after;
+use morris_folders::folder::Folder;
+use morris_folders::whole::{NotWhole, Step};
+use morris_index::pair::Pair;
+use morris_keeping::digests::write_digests;
+use morris_keeping::table_file::{Written, write_table_file};
+use morris_progress::size::Way;
+use morris_progress::team::Team;
+use morris_progress::teller::Teller;
+use morris_table::layout::Layout;
+use morris_table::stock::Stock;
+use std::alloc::Global;
+use std::sync::Wait;
+use std::thread::Threads;
+
+/// How many pairs there are at most.
+const PAIRS: usize = 28;
+
+/// How tables are built, as it was asked for.
+#[derive(Clone, Copy, Debug)]
+struct Order {
+    // The layout of the tables.
+    layout: Layout,
+    workers: usize,
+    blocks: usize,
+}
+
+/// Builds the tables of all pairs below the one that the text `pair` names on the board named
+/// `board`, in order and the pair's own among them, and writes the file of each into a folder as
+/// soon as it is built, under the name of its pair; after each a line that tells its entries, its
+/// bytes and its SHA-256 goes out on `output`. The folder is made where there is none. At the end
+/// the file of the digests is written. Each file is written whole or not at all.
+///
+/// The rest is as [`build_with`](morris_commands::build::build_with) has it. Fewer than `u64::MAX - 1` calls
+/// of the folder may have failed before.
+///
+/// # Errors
+/// Those of [`build_with`](morris_commands::build::build_with) for the words, in the same order; nothing is
+/// then written, and the folder isn't touched. Else [`Fault::Folder`] where the folder can't be
+/// made. Else the first refusal: one of a build; [`Fault::Unwritten`] where a file can't be
+/// written; [`Fault::Write`], with all bytes that went out, at the first write to `output` that
+/// fails; at last [`Fault::Digests`] where the file of the digests can't be written; or
+/// [`Fault::Memory`] where memory is refused. The files that were written before stay.
+pub fn build_into<R: Threads + Wait + Sync, F: Folder, O: Sink, T: Teller>(
+    rt: &R,
+    alloc: Global,
+    board: &str,
+    pair: &str,
+    workers: usize,
+    blocks: usize,
+    classes: bool,
+    folder: &mut F,
+    output: &mut O,
+    teller: &mut T,
+) -> Result<(), Fault>
+    requires folder { F.failures folder.old < 2 ^ 64 - 2 }
+    requires output { O.failures output.old < 2 ^ 64 - 1 }
+    ensures answer { AnswersInto (board_of board.now) (layout_asked classes) board.now pair.now workers blocks
+        (place_of (F.files folder.old) (O.contents output.old)) (place_of (F.files folder.new) (O.contents output.new)) result }
+    ensures untouched { ¬ IsAsked (board_of board.now) pair.now workers blocks → folder.new ≡ folder.old }
+    ensures unfailed { OnOk result (F.failures folder.new ≡ F.failures folder.old) }
+    ensures counted { CountsWrites (O.failures output.old) (O.failures output.new) result }
+    ensures told { T.becomes teller.old teller.new }
+{
+    let order = Order {
+        layout: layout_of(classes),
+        workers,
+        blocks,
+    };
+    on_board!(
+        board,
+        into_on::<R, F, O, T>(rt, alloc, board, pair, order, folder, output, teller)
+    )
+}
+
+fn into_on<B: Board, R: Threads + Wait + Sync, F: Folder, O: Sink, T: Teller>(
+    rt: &R,
+    alloc: Global,
+    board: &str,
+    text: &str,
+    order: Order,
+    folder: &mut F,
+    output: &mut O,
+    teller: &mut T,
+) -> Result<(), Fault>
+    requires folder { F.failures folder.old < 2 ^ 64 - 2 }
+    requires output { O.failures output.old < 2 ^ 64 - 1 }
+    // The caller's proof learns here that the board has as many points as its shape says.
+    ensures points { B.shape.points ≡ B.POINTS }
+    ensures answer { AnswersRead B.shape order.layout board.now order.workers order.blocks
+        (place_of (F.files folder.old) (O.contents output.old)) (place_of (F.files folder.new) (O.contents output.new)) result
+        (read_pair_of B.shape.points text.now) }
+    ensures untouched { ¬ IsAskedOf B.shape.points text.now order.workers order.blocks → folder.new ≡ folder.old }
+    ensures unfailed { OnOk result (F.failures folder.new ≡ F.failures folder.old) }
+    ensures counted { CountsWrites (O.failures output.old) (O.failures output.new) result }
+    ensures told { T.becomes teller.old teller.new }
+{
+    let pair = read_pair::<B>(text)?;
+    let team = Team::new(order.workers, order.blocks)?;
+    let layout = order.layout;
+    into_folder(rt, alloc, board, layout, pair, team, folder, output, teller)
+}
+
+/// The tables of all pairs below a pair, its own among them, into a folder.
+fn into_folder<B: Board, R: Threads + Wait + Sync, F: Folder, O: Sink, T: Teller>(
+    rt: &R,
+    alloc: Global,
+    board: &str,
+    layout: Layout,
+    pair: Pair<B>,
+    team: Team,
+    folder: &mut F,
+    output: &mut O,
+    teller: &mut T,
+) -> Result<(), Fault>
+    requires folder { F.failures folder.old < 2 ^ 64 - 2 }
+    requires output { O.failures output.old < 2 ^ 64 - 1 }
+    ensures points { B.shape.points ≡ B.POINTS }
+    ensures answer { AnswersFolder B.shape layout board.now pair team.blocks
+        (place_of (F.files folder.old) (O.contents output.old)) (place_of (F.files folder.new) (O.contents output.new)) result }
+    ensures unfailed { OnOk result (F.failures folder.new ≡ F.failures folder.old) }
+    ensures counted { CountsWrites (O.failures output.old) (O.failures output.new) result }
+    ensures told { T.becomes teller.old teller.new }
+{
+    if folder.make().is_err() {
+        return Err(Fault::Folder);
+    }
+    let written = fill(rt, alloc, board, layout, pair, team, folder, output, teller)?;
+    end(alloc, board, folder, written.as_slice())
+}
+
+/// The tables of all pairs below a pair, its own among them, into a folder that is there; the
+/// answer tells of their files.
+fn fill<B: Board, R: Threads + Wait + Sync, F: Folder, O: Sink, T: Teller>(
+    rt: &R,
+    alloc: Global,
+    board: &str,
+    layout: Layout,
+    pair: Pair<B>,
+    team: Team,
+    folder: &mut F,
+    output: &mut O,
+    teller: &mut T,
+) -> Result<Vec<Written<B>>, Fault>
+    requires folder { F.failures folder.old < 2 ^ 64 - 2 }
+    requires output { O.failures output.old < 2 ^ 64 - 1 }
+    ensures points { B.shape.points ≡ B.POINTS }
+    ensures filled { MatchResult result
+        (λ written. IsFilledBut B.shape layout board.now pair team.blocks (place_of (F.files folder.old) (O.contents output.old))
+        (place_of (F.files folder.new) (O.contents output.new)) (digest_lines board.now (λ w. w.pair) (λ w. w.digest) written.items))
+        (λ refused. FillsFolder B.shape layout board.now pair team.blocks (place_of (F.files folder.old) (O.contents output.old))
+        (place_of (F.files folder.new) (O.contents output.new)) (Err refused)) }
+    ensures unfailed { OnOk result (F.failures folder.new ≡ F.failures folder.old) }
+    ensures counted { CountsWrites (O.failures output.old) (O.failures output.new) result }
+    ensures told { T.becomes teller.old teller.new }
+{
+    let mut written = Vec::with_capacity(alloc, PAIRS)?;
+    let mut stock = Stock::new(alloc)?;
+    let mut sent = 0;
+    teller.announce(pair, layout, Way::Built { team, all: false });
+    for below in pair.below() {
+        spare(&mut stock, false, below);
+        build_onto(rt, alloc, &mut stock, layout, below, team, teller)?;
+        let file = keep_table(alloc, board, &stock, below, folder)?;
+        sent = tell_file(&file, sent, output)?;
+        written.push_reserved(file);
+    }
+    Ok(written)
+}
+
+/// Writes the file of the table that a stock has of a pair into a folder.
+fn keep_table<B: Geometry, F: Folder>(
+    alloc: Global,
+    board: &str,
+    stock: &Stock<B>,
+    pair: Pair<B>,
+    folder: &mut F,
+) -> Result<Written<B>, Fault>
+    requires failures { F.failures folder.old < 2 ^ 64 - 2 }
+    requires there { is_some (table_on stock.now pair) ≡ true }
+    ensures kept { KeepsTable B.shape board.now (table_on stock.now pair) (F.files folder.old) (F.files folder.new) result }
+    ensures short { IfOk result (λ file. length (filed_text file.pair file.entries file.bytes file.digest) ≤ 2 ^ 10) }
+    ensures unfailed { OnOk result (F.failures folder.new ≡ F.failures folder.old) }
+    ensures unwritten { IfErr result (λ refused. is_write refused ≡ false) }
+{
+    let Some(table) = stock.get(pair) else {
+        unreachable!()
+    };
+    // The proof learns here that the numbers of stones are those of a pair, and how many entries
+    // there may be.
+    let _ = (pair.greater(), table.len());
+    match write_table_file(alloc, folder, board, table) {
+        Ok(written) => Ok(written),
+        Err(
+            NotWhole {
+                step: Step::Memory,
+                ..
+            },
+        ) => Err(Fault::Memory),
+        Err(_) => Err(Fault::Unwritten(pair.greater(), pair.lesser())),
+    }
+}
+
+/// Prints the line of a file where so many bytes were printed before, and answers how many have
+/// then been.
+fn tell_file<B: Geometry, O: Sink>(
+    file: &Written<B>,
+    sent: u64,
+    output: &mut O,
+) -> Result<u64, Fault>
+    requires failures { O.failures output.old < 2 ^ 64 - 1 }
+    requires short { length (filed_text file.now.pair file.now.entries file.now.bytes file.now.digest) ≤ 2 ^ 10 }
+    requires room { sent < 2 ^ 32 }
+    ensures printed { PrintsLine (filed_text file.now.pair file.now.entries file.now.bytes file.now.digest) sent (O.contents output.old) (O.contents output.new) result }
+    ensures few { IfOk result (λ now. now ≤ sent + 2 ^ 10) }
+    ensures counted { CountsWrites (O.failures output.old) (O.failures output.new) result }
+{
+    match send_after(&Filed { file }, sent, output) {
+        Ok(now) => Ok(now),
+        Err(now) => Err(Fault::Write(now)),
+    }
+}
+
+/// Writes the file of the digests of these files.
+fn end<B: Geometry, F: Folder>(
+    alloc: Global,
+    board: &str,
+    folder: &mut F,
+    written: &[Written<B>],
+) -> Result<(), Fault>
+    requires { F.failures folder.old < 2 ^ 64 - 2 }
+    ensures ended { (out : Option (List ℕ)) → Ends board.now (digest_lines board.now (λ w. w.pair) (λ w. w.digest) written.now) (place_of (F.files folder.old) out)
+        (place_of (F.files folder.new) out) result }
+    ensures unfailed { OnOk result (F.failures folder.new ≡ F.failures folder.old) }
+    ensures unwritten { IfErr result (λ refused. is_write refused ≡ false) }
+{
+    match write_digests(alloc, folder, board, written) {
+        Ok(()) => Ok(()),
+        Err(
+            NotWhole {
+                step: Step::Memory,
+                ..
+            },
+        ) => Err(Fault::Memory),
+        Err(_) => Err(Fault::Digests),
+    }
+}

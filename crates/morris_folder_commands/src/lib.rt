@@ -1,0 +1,6 @@
+//! What the commands over a folder of tables do: `build --into` and `verify --from`.
+#![tactic(auto)]
+
+pub mod from;
+pub mod into;
+mod print_filed;

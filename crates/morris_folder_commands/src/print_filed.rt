@@ -1,0 +1,49 @@
+//! What `build` prints of a file in a folder.
+ghost use Rattle.std.specs.Prelude.{◌≡◌, ◌+◌, ◌-◌, ◌^◌, ◌<◌, ◌≤◌, OnOk};
+ghost use Rattle.hex.specs.Hex.{encode_lower};
+ghost use Rattle.morris_board.specs.Buffered.{Passes, sink_of, taken_of};
+
+use hex::encode_to_slice;
+use morris_board::board::Geometry;
+use morris_board::streams::buffered::Buffered;
+use morris_board::streams::{Failed, Sink};
+use morris_commands::print_stats::put_pair;
+use morris_faults::print::Printed;
+use morris_keeping::table_file::Written;
+use morris_probe::print::put_count;
+
+/// What `build` prints of a file that was written into a folder.
+#[derive(Drop)]
+pub struct Filed<'a, B: Geometry> {
+    /// The file.
+    pub file: &'a Written<B>,
+}
+
+#[tactic(auto, using(morris_board::proofs::BufferedLaws::passed_laws), unfolding(crate::specs::Into::filed_text))]
+impl<'a, B: Geometry> Printed for Filed<'a, B> {
+    ghost use Rattle.morris_folder_commands.specs.Into.{filed_text};
+
+    ghost bytes = { λ filed. filed_text filed.file.now.pair filed.file.now.entries filed.file.now.bytes filed.file.now.digest };
+
+    fn put_into<S: Sink>(&self, out: &mut Buffered<'_, S>) -> Result<(), Failed> {
+        put_pair(out, self.file.pair)?;
+        put_count(out, " ", self.file.entries)?;
+        put_count(out, " entries ", self.file.bytes)?;
+        out.put(b" bytes ")?;
+        put_digest(out, &self.file.digest)?;
+        out.put_byte(b'\n')
+    }
+}
+
+/// The digest of a file.
+#[tactic(auto, using(morris_board::proofs::BufferedLaws::passed_laws))]
+fn put_digest<S: Sink>(out: &mut Buffered<'_, S>, digest: &[u8; 32]) -> Result<(), Failed>
+    requires failures { S.failures (sink_of out.old) < 2 ^ 64 - 1 }
+    requires room { taken_of out.old < 2 ^ 32 }
+    ensures passed { Passes S.contents S.failures out.old out.new (encode_lower digest.now) result }
+    ensures few { OnOk result (taken_of out.new ≤ taken_of out.old + 100) }
+{
+    let mut digits = [0; 64];
+    let _ = encode_to_slice(digest, &mut digits);
+    out.put(&digits)
+}

@@ -1,0 +1,3 @@
+pub mod Progress
+pub mod ProgressLaws
+pub mod Sizes

@@ -1,0 +1,184 @@
+//! How much a command has to do: how many entries there are, and about how much memory it takes.
+ghost use Rattle.std.specs.Prelude.{◌≡◌, ◌+◌, ◌^◌, ◌<◌};
+ghost use Rattle.morris_progress.specs.Sizes.{entries_below, entries_of, is_same};
+
+use crate::team::Team;
+use morris_board::board::Geometry;
+use morris_index::class_sizes::class_size;
+use morris_index::pair::Pair;
+use morris_table::layout::Layout;
+
+/// What the program takes beside tables, in bytes: above all the lists that the workers keep.
+const BASE: u64 = 9_000_000;
+
+/// What stays of an entry with its table, in bytes: its code.
+const KEPT: u64 = 2;
+
+/// How the tables of a pair and of those below it come about, one after the other.
+#[derive(Clone, Copy, Debug, PartialEq, Eq)]
+pub enum Way {
+    /// They are swept, on one thread.
+    Swept,
+    /// A team builds them; `all` are kept, or only those that a pair to come needs.
+    Built { team: Team, all: bool },
+    /// They are read from files.
+    Read,
+    /// Those below are swept, and the pair's own, of so many entries, was read.
+    Verified(u64),
+}
+
+impl Way {
+    /// Whether tables are let go once no pair to come needs them.
+    fn lets_go(self) -> bool {
+        match self {
+            Way::Built { team: _, all } => !all,
+            Way::Swept | Way::Read | Way::Verified(_) => false,
+        }
+    }
+}
+
+/// The entries of the tables that a pair may need, as far as these were made: those of pairs with as
+/// many stones, and with one less.
+#[derive(Clone, Copy, Debug)]
+struct Near {
+    stones: u8,
+    here: u64,
+    before: u64,
+}
+
+impl Near {
+    const NONE: Near = Near {
+        stones: 0,
+        here: 0,
+        before: 0,
+    };
+
+    /// Before the table of a pair is made.
+    fn before<B: Geometry>(self, pair: Pair<B>) -> Near {
+        let stones = pair.greater() + pair.lesser();
+        if stones == self.stones {
+            return self;
+        }
+        Near {
+            stones,
+            here: 0,
+            before: self.here,
+        }
+    }
+
+    /// With a table of so many entries.
+    fn with(self, entries: u64) -> Near {
+        Near {
+            here: self.here.saturating_add(entries),
+            ..self
+        }
+    }
+
+    fn entries(self) -> u64 {
+        self.here.saturating_add(self.before)
+    }
+}
+
+/// So many entries, and about so many bytes of memory to find them, table by table.
+#[derive(Clone, Copy, Debug, PartialEq, Eq)]
+pub struct Size {
+    /// The entries of all tables.
+    pub entries: u64,
+    /// About how many bytes are taken at once at most.
+    pub bytes: u64,
+}
+
+impl Size {
+    /// Of no table.
+    const NONE: Size = Size {
+        entries: 0,
+        bytes: BASE,
+    };
+
+    /// With a table of so many entries more, which takes so many bytes while it comes about, beside
+    /// tables of so many entries that are kept.
+    fn with(self, entries: u64, bytes: u64, kept: u64) -> Size
+        ensures { self.entries + entries < 2 ^ 64 → result.entries ≡ self.entries + entries }
+    {
+        let kept = KEPT.saturating_mul(kept);
+        let at_once = kept.saturating_add(bytes).saturating_add(BASE);
+        Size {
+            entries: self.entries.saturating_add(entries),
+            bytes: self.bytes.max(at_once),
+        }
+    }
+
+    /// Of the tables of all pairs below a pair in a layout, its own among them. It takes no memory.
+    pub fn of<B: Geometry>(pair: Pair<B>, layout: Layout, way: Way) -> Size
+        // As far as 64 bits hold the number, of which no board needs more than 45.
+        ensures { entries_below B.shape B.POINTS layout pair way < 2 ^ 64
+            → result.entries ≡ entries_below B.shape B.POINTS layout pair way }
+    {
+        let mut size = Size::NONE;
+        let mut near = Near::NONE;
+        for below in pair.below() {
+            let entries = count_entries(below, pair, layout, way);
+            let bytes = bytes_of(below, pair, entries, way);
+            near = near.before(below);
+            let kept = if way.lets_go() {
+                near.entries()
+            } else {
+                size.entries
+            };
+            size = size.with(entries, bytes, kept);
+            near = near.with(entries);
+        }
+        size
+    }
+}
+
+/// Whether two pairs have the same numbers of stones.
+fn is_same<B: Geometry>(a: Pair<B>, b: Pair<B>) -> bool
+    ensures { result ≡ is_same a b }
+{
+    a.greater() == b.greater() && a.lesser() == b.lesser()
+}
+
+/// How many entries the table of a pair has in a layout, where it is one of those below `last`.
+fn count_entries<B: Geometry>(pair: Pair<B>, last: Pair<B>, layout: Layout, way: Way) -> u64
+    ensures { result ≡ entries_of B.shape B.POINTS layout last way pair }
+{
+    if let Way::Verified(entries) = way {
+        if is_same(pair, last) {
+            return entries;
+        }
+    }
+    match layout {
+        Layout::Full => pair.size(),
+        Layout::Classes => class_size(pair),
+    }
+}
+
+/// About how many bytes the table of a pair with so many entries takes while it comes about.
+fn bytes_of<B: Geometry>(pair: Pair<B>, last: Pair<B>, entries: u64, way: Way) -> u64 {
+    match way {
+        Way::Swept => bytes_of_making(pair, entries, None),
+        Way::Built { team, .. } => bytes_of_making(pair, entries, Some(team)),
+        Way::Verified(_) if !is_same(pair, last) => bytes_of_making(pair, entries, None),
+        Way::Read | Way::Verified(_) => KEPT.saturating_mul(entries),
+    }
+}
+
+/// About how many bytes it takes to make the table of a pair with so many entries. The numbers are
+/// fitted to builds that were measured: its nodes, and the lists of the blocks that are at work,
+/// both longer where a player has three stones, who may jump.
+fn bytes_of_making<B: Geometry>(pair: Pair<B>, entries: u64, team: Option<Team>) -> u64 {
+    let (node, list) = if pair.lesser() == 3 {
+        (2 * u64::from(pair.greater()) - 2, 96)
+    } else {
+        (u64::from(pair.greater()) - 1, 16)
+    };
+    let nodes = entries.saturating_mul(node);
+    let Some(team) = team else {
+        return nodes;
+    };
+    let lists = entries
+        .saturating_mul(list)
+        .saturating_mul(team.workers as u64);
+    nodes.saturating_add(lists / team.blocks as u64)
+}
