@@ -4,3 +4,4 @@ pub mod TallyLaws
 mod BundleLaws
 pub mod BuildLaws
 pub mod NearLaws
+pub mod BeforeLaws

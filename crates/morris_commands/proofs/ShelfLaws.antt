@@ -73,7 +73,7 @@ needs_fewer c d m = elim (Contains-append_cases (option_to_list (less_lesser c))
 ]
 
 -- one below it has no more
-below_no_more : (c d : Counts) → Contains (below_of c) d → stones d ≤ stones c
+pub below_no_more : (c d : Counts) → Contains (below_of c) d → stones d ≤ stones c
 unfolding below_of
 below_no_more c d m =
     let parts = and_parts (leb d.greater c.greater) (leb d.lesser c.lesser) (filter-contains (is_below c) all_pairs d m).1 in

@@ -1,9 +1,10 @@
 -- What `verify` answers of the bytes of its input, and what it prints.
-use Rattle.std.specs.Prelude.{◌≡◌, ◌⊎◌, ⊤, ℕ, List, ◌++◌, length, codes, Option, Some, None, Result, Ok, Err}
+use Rattle.std.specs.Prelude.{◌≡◌, ◌≢◌, ◌⊎◌, ⊤, ℕ, ◌<◌, List, ◌++◌, length, codes, Option, Some, None, Result, Ok, Err}
 use Rattle.std.specs.Fmt.{decimal}
+use Rattle.std.specs.List.{Contains}
 use Rattle.std.specs.Io.KnownBytes.{Keeps}
 use Rattle.morris_board.specs.Boards.{Shape}
-use Rattle.morris_index.specs.Pairs.{Counts, pair_text}
+use Rattle.morris_index.specs.Pairs.{Counts, below_of, pair_text}
 use Rattle.morris_table.specs.Tables.{IsTable, Table}
 use Rattle.morris_table.specs.Agreement.{IsFirstToDiffer}
 use Rattle.morris_table.specs.FileReading.{CountsRead, MayTakeRoom, Reads, StandsInFile, bytes_past, only_file_in}
@@ -18,28 +19,37 @@ use Rattle.morris_commands.specs.Stats.{RestsOnTooDeep}
 unfoldable pub verified_text : Counts → ℕ → List ℕ
 verified_text pair entries = codes "verified " ++ pair_text pair ++ (codes ": " ++ decimal entries) ++ codes " entries\n"
 
--- Why a table that was read isn't believed: want of memory; depths that codes can't hold, in a pair
--- on which its own rests; or, where there are none, the first entry that isn't what the rules give
--- from those of its results.
-abbrev pub IsUnverified : Shape → Table → Fault → Type 0
-IsUnverified board t fault.Memory = ⊤
-IsUnverified board t fault.TooDeep = RestsOnTooDeep board t.pair
-IsUnverified board t (fault.Differs index) = ¬ RestsOnTooDeep board t.pair × IsFirstToDiffer board t index
-IsUnverified board t _ = ⊥
+-- another pair is below this one, so that its table is built first
+abbrev pub RestsOnAnother : Counts → Type 0
+RestsOnAnother pair = (below : Counts) × Contains (below_of pair) below × (below ≢ pair)
 
--- What `verify` answers of a table that was read: such a refusal, with nothing printed; otherwise
--- codes suffice for all depths in the pairs on which its own rests, the codes of the table are the
--- game's, and the text is printed.
-abbrev pub AnswersTable : {T : Type 0} → Shape → Table → Option (List ℕ) → Option (List ℕ) → Result T Fault → Type 0
-AnswersTable board t old new result =
-    ((refused : Fault) × (result ≡ Err refused) × IsUnverified board t refused × Keeps old new)
+-- Why the pairs below a pair but itself aren't built, by so many blocks: want of memory; a block of
+-- this number was left incomplete in one of them; or codes don't suffice for the depths of one.
+abbrev pub IsUnbuiltBefore : Shape → Counts → ℕ → Fault → Type 0
+IsUnbuiltBefore board pair blocks fault.Memory = ⊤
+IsUnbuiltBefore board pair blocks (fault.Missing number) = RestsOnAnother pair × (number < blocks)
+IsUnbuiltBefore board pair blocks fault.TooDeep = RestsOnTooDeep board pair
+IsUnbuiltBefore board pair blocks _ = ⊥
+
+-- Why a table that was read isn't believed: the pairs on which its own rests aren't built; or, where
+-- codes suffice for them, the first entry that isn't what the rules give from those of its results.
+abbrev pub IsUnverified : Shape → Table → ℕ → Fault → Type 0
+IsUnverified board t blocks (fault.Differs index) = ¬ RestsOnTooDeep board t.pair × IsFirstToDiffer board t index
+IsUnverified board t blocks refused = IsUnbuiltBefore board t.pair blocks refused
+
+-- What `verify` answers of a table that was read, with the pairs below it built by so many blocks:
+-- such a refusal, with nothing printed; otherwise codes suffice for all depths in the pairs on
+-- which its own rests, the codes of the table are the game's, and the text is printed.
+abbrev pub AnswersTable : {T : Type 0} → Shape → ℕ → Table → Option (List ℕ) → Option (List ℕ) → Result T Fault → Type 0
+AnswersTable board blocks t old new result =
+    ((refused : Fault) × (result ≡ Err refused) × IsUnverified board t blocks refused × Keeps old new)
     ⊎ (¬ RestsOnTooDeep board t.pair × IsTable board t × Prints old new (verified_text t.pair (length t.codes)) result)
 
 -- What it answers of what was read: the fault of a file that is refused, with nothing printed;
 -- otherwise what it answers of the table.
-abbrev pub AnswersFile : {T : Type 0} → Shape → Option (List ℕ) → Option (List ℕ) → Result T Fault → Result Table ReadFault → Type 0
-AnswersFile board old new result (Err refused) = (result ≡ Err (read_fault refused)) × Keeps old new
-AnswersFile board old new result (Ok t) = AnswersTable board t old new result
+abbrev pub AnswersFile : {T : Type 0} → Shape → ℕ → Option (List ℕ) → Option (List ℕ) → Result T Fault → Result Table ReadFault → Type 0
+AnswersFile board blocks old new result (Err refused) = (result ≡ Err (read_fault refused)) × Keeps old new
+AnswersFile board blocks old new result (Ok t) = AnswersTable board blocks t old new result
 
 -- an input before and after: the bytes that are still to be read, where they are known, and how
 -- many calls have failed
@@ -54,14 +64,14 @@ input_of bytes failures = record { bytes = bytes; failures = failures }
 -- the answer to that. Room is wanting in the file only where no step before room is first taken
 -- refuses it. The input stands in that file, or one byte past it where one more byte is why it is
 -- refused.
-abbrev pub AnswersInput : {T : Type 0} → Shape → Input → Input → Option (List ℕ) → Option (List ℕ) → Result T Fault → Type 0
-AnswersInput board before after old new result =
+abbrev pub AnswersInput : {T : Type 0} → Shape → ℕ → Input → Input → Option (List ℕ) → Option (List ℕ) → Result T Fault → Type 0
+AnswersInput board blocks before after old new result =
     (found : Result Table ReadFault) × Reads (only_file_in board) before.bytes after.bytes found × CountsRead before.failures after.failures found
     × (found ≡ Err read.Memory → MayTakeRoom board before.bytes)
-    × StandsInFile board (bytes_past found) before.bytes after.bytes × AnswersFile board old new result found
+    × StandsInFile board (bytes_past found) before.bytes after.bytes × AnswersFile board blocks old new result found
 
 -- What `verify` answers: the fault of a board that isn't there, with nothing printed and nothing
 -- read; otherwise what it answers on the board.
-abbrev pub AnswersVerify : {T : Type 0} → Option Shape → Input → Input → Option (List ℕ) → Option (List ℕ) → Result T Fault → Type 0
-AnswersVerify None before after old new result = (result ≡ Err fault.Board) × (after ≡ before) × Keeps old new
-AnswersVerify (Some board) before after old new result = AnswersInput board before after old new result
+abbrev pub AnswersVerify : {T : Type 0} → Option Shape → ℕ → Input → Input → Option (List ℕ) → Option (List ℕ) → Result T Fault → Type 0
+AnswersVerify None blocks before after old new result = (result ≡ Err fault.Board) × (after ≡ before) × Keeps old new
+AnswersVerify (Some board) blocks before after old new result = AnswersInput board blocks before after old new result

@@ -148,7 +148,7 @@ fn load_bundle<B: Board, I: Source, T: Teller>(
 
 /// Puts a table on the shelf once each of its entries is known to be right. What is told first goes
 /// by the pair `asked`, or where the position is of none by that of the first file.
-pub fn join_shelf<B: Board, T: Teller>(
+fn join_shelf<B: Board, T: Teller>(
     shelf: &mut Shelf<B>,
     raw: Raw<B>,
     asked: Option<&Pair<B>>,

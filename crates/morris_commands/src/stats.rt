@@ -97,7 +97,7 @@ fn count_values<B: Board, T: Teller>(
 }
 
 /// The tables of all pairs below a pair but its own, among them those that it needs.
-pub fn sweep_before<B: Board, T: Teller>(
+fn sweep_before<B: Board, T: Teller>(
     alloc: Global,
     pair: Pair<B>,
     teller: &mut T,

@@ -2,27 +2,33 @@
 ghost use Rattle.std.specs.Prelude.{◌≡◌, ◌+◌, ◌-◌, ◌^◌, ◌<◌, ◌≤◌, None, false, IfErr, IfOk, OnOk};
 ghost use Rattle.morris_folders.specs.Files.{Keeps};
 ghost use Rattle.morris_keeping.specs.Names.{name_of};
+ghost use Rattle.morris_table.specs.Shelves.{first_missing};
+ghost use Rattle.morris_table.specs.Tables.{IsTable};
 ghost use Rattle.morris_faults.specs.Faults.{CountsWrites, is_write};
 ghost use Rattle.morris_folder_commands.specs.Filling.{PrintsLine};
 ghost use Rattle.morris_folder_commands.specs.From.{AnswersFrom, AnswersFromOn};
 ghost use Rattle.morris_folder_commands.specs.FromSteps.{AnswersFile, TakesIn, place_is};
 ghost use Rattle.morris_faults.specs.BoardNames.{board_of};
+ghost use Rattle.morris_commands.specs.Probe.{IsUnfit, Joins};
 ghost use Rattle.morris_commands.specs.Verify.{verified_text};
 
 use morris_board::board::{Board, Geometry};
 use morris_board::streams::Sink;
 use morris_commands::print_verified::Verified;
-use morris_commands::probe::join_shelf;
 use morris_faults::fault::Fault;
 use morris_faults::on_board;
 use morris_faults::print::send_after;
 use morris_folders::folder::Folder;
 use morris_index::pair::Pair;
 use morris_keeping::kept::{KeptFault, read_table_file};
+use morris_progress::size::Way;
+use morris_progress::team::Team;
 use morris_progress::teller::Teller;
+use morris_table::exact::Exact;
 use morris_table::raw::Raw;
 use morris_table::shelf::Shelf;
 use std::alloc::Global;
+use std::thread::Threads;
 
 /// All pairs, the greater number first, in order of their sum and then of the greater one.
 const PAIRS: [(u8, u8); 28] = [
@@ -60,7 +66,7 @@ const PAIRS: [(u8, u8); 28] = [
 /// the greater number: reads the file of each that a folder has, under the name of its pair, and
 /// tells on `output` that the table is right as soon as each of its codes is known to be that of
 /// the game, over the tables before it. A table rests on those of the pairs that its pair needs,
-/// whose files have to be there.
+/// whose files have to be there. The workers of a team share its entries out among them.
 ///
 /// Fewer than `u64::MAX` calls of the folder may have failed before.
 ///
@@ -72,9 +78,11 @@ const PAIRS: [(u8, u8); 28] = [
 /// from the entries of its results; [`Fault::Memory`] where memory is refused; [`Fault::Write`],
 /// with all bytes that went out, at the first write to `output` that fails. Else [`Fault::NoFiles`]
 /// where the folder has none of these files.
-pub fn verify_from<F: Folder, O: Sink, T: Teller>(
+pub fn verify_from<R: Threads + Sync, F: Folder, O: Sink, T: Teller>(
+    rt: &R,
     alloc: Global,
     board: &str,
+    team: Team,
     folder: &mut F,
     output: &mut O,
     teller: &mut T,
@@ -90,13 +98,15 @@ pub fn verify_from<F: Folder, O: Sink, T: Teller>(
 {
     on_board!(
         board,
-        from_on::<F, O, T>(alloc, board, folder, output, teller)
+        from_on::<R, F, O, T>(rt, alloc, board, team, folder, output, teller)
     )
 }
 
-fn from_on<B: Board, F: Folder, O: Sink, T: Teller>(
+fn from_on<B: Board, R: Threads + Sync, F: Folder, O: Sink, T: Teller>(
+    rt: &R,
     alloc: Global,
     board: &str,
+    team: Team,
     folder: &mut F,
     output: &mut O,
     teller: &mut T,
@@ -119,7 +129,7 @@ fn from_on<B: Board, F: Folder, O: Sink, T: Teller>(
         let Some(raw) = read_kept(alloc, board, folder, pair)? else {
             continue;
         };
-        sent = take_in(&mut shelf, raw, sent, output, teller)?;
+        sent = take_in(rt, alloc, team, &mut shelf, raw, sent, output, teller)?;
         found = true;
     }
     if found { Ok(()) } else { Err(Fault::NoFiles) }
@@ -163,7 +173,10 @@ fn read_kept<B: Geometry, F: Folder>(
 
 /// Puts a table on the shelf once each of its entries is known to be right over those on it, and
 /// prints its line, where so many bytes were printed before; the answer counts these as well.
-fn take_in<B: Board, O: Sink, T: Teller>(
+fn take_in<B: Board, R: Threads + Sync, O: Sink, T: Teller>(
+    rt: &R,
+    alloc: Global,
+    team: Team,
     shelf: &mut Shelf<B>,
     raw: Raw<B>,
     sent: u64,
@@ -178,10 +191,54 @@ fn take_in<B: Board, O: Sink, T: Teller>(
     ensures told { T.becomes teller.old teller.new }
 {
     let (pair, entries) = (raw.pair(), raw.len());
-    if let Err(refused) = join_shelf(shelf, raw, Some(&pair), teller) {
+    if let Err(refused) = join(rt, alloc, team, shelf, raw, teller) {
         return Err(refused.in_file(pair));
     }
     tell_verified(pair, entries, sent, output)
+}
+
+/// Puts a table on the shelf once each of its entries is known to be right.
+fn join<B: Board, R: Threads + Sync, T: Teller>(
+    rt: &R,
+    alloc: Global,
+    team: Team,
+    shelf: &mut Shelf<B>,
+    raw: Raw<B>,
+    teller: &mut T,
+) -> Result<(), Fault>
+    ensures joined { OnOk result (Joins B.shape shelf.old shelf.new raw) }
+    ensures refused { IfErr result (IsUnfit B.shape shelf.old raw) }
+    ensures unwritten { IfErr result (λ refused. is_write refused ≡ false) }
+    ensures told { T.becomes teller.old teller.new }
+{
+    // The other files are taken to be in the layout of the first.
+    teller.announce(raw.pair(), raw.layout(), Way::Read);
+    let exact = verify_over(rt, alloc, team, shelf, raw)?;
+    teller.end_pair(&exact);
+    match shelf.put(exact) {
+        Ok(()) => Ok(()),
+        Err(_) => unreachable!(),
+    }
+}
+
+/// The table, once each of its entries is known to be right over the tables of a shelf.
+fn verify_over<B: Board, R: Threads + Sync>(
+    rt: &R,
+    alloc: Global,
+    team: Team,
+    shelf: &Shelf<B>,
+    raw: Raw<B>,
+) -> Result<Exact<B>, Fault>
+    ensures ready { OnOk result (first_missing shelf.now raw.pair ≡ None) }
+    ensures value { IfOk result (λ exact. exact ≡ raw) }
+    ensures exact { OnOk result (IsTable B.shape raw) }
+    ensures refused { IfErr result (IsUnfit B.shape shelf.now raw) }
+    ensures unwritten { IfErr result (λ refused. is_write refused ≡ false) }
+{
+    match raw.verify_by(rt, alloc, shelf.stock(), team.workers) {
+        Ok(exact) => Ok(exact),
+        Err((_raw, refused)) => Err(Fault::from(refused)),
+    }
 }
 
 /// Prints that the table of a pair, of so many entries, was verified, where so many bytes were

@@ -15,7 +15,7 @@ is_same c d = nat_eq c.greater d.greater && nat_eq c.lesser d.lesser
 -- how many entries the table of a pair has in a layout; where the table of one pair is verified,
 -- that one has so many as its file has
 abbrev pub entries_of : Shape → ℕ → Layout → Counts → Way → Counts → ℕ
-entries_of board n l pair (way.Verified entries) c = if is_same c pair then entries else entry_count board n l c
+entries_of board n l pair (way.Verified team entries) c = if is_same c pair then entries else entry_count board n l c
 entries_of board n l pair way.Swept c = entry_count board n l c
 entries_of board n l pair (way.Built team all) c = entry_count board n l c
 entries_of board n l pair way.Read c = entry_count board n l c

@@ -23,8 +23,9 @@ pub enum Way {
     Built { team: Team, all: bool },
     /// They are read from files.
     Read,
-    /// Those below are swept, and the pair's own, of so many entries, was read.
-    Verified(u64),
+    /// A team builds those below, of which only those are kept that a pair to come needs; the pair's
+    /// own, of so many entries, was read.
+    Verified { team: Team, entries: u64 },
 }
 
 impl Way {
@@ -32,7 +33,8 @@ impl Way {
     fn lets_go(self) -> bool {
         match self {
             Way::Built { team: _, all } => !all,
-            Way::Swept | Way::Read | Way::Verified(_) => false,
+            Way::Verified { .. } => true,
+            Way::Swept | Way::Read => false,
         }
     }
 }
@@ -143,7 +145,7 @@ fn is_same<B: Geometry>(a: Pair<B>, b: Pair<B>) -> bool
 fn count_entries<B: Geometry>(pair: Pair<B>, last: Pair<B>, layout: Layout, way: Way) -> u64
     ensures { result ≡ entries_of B.shape B.POINTS layout last way pair }
 {
-    if let Way::Verified(entries) = way {
+    if let Way::Verified { team: _, entries } = way {
         if is_same(pair, last) {
             return entries;
         }
@@ -159,8 +161,12 @@ fn bytes_of<B: Geometry>(pair: Pair<B>, last: Pair<B>, entries: u64, way: Way) -
     match way {
         Way::Swept => bytes_of_making(pair, entries, None),
         Way::Built { team, .. } => bytes_of_making(pair, entries, Some(team)),
-        Way::Verified(_) if !is_same(pair, last) => bytes_of_making(pair, entries, None),
-        Way::Read | Way::Verified(_) => KEPT.saturating_mul(entries),
+        // The table that was read is there from the start.
+        Way::Verified { team, entries: own } if !is_same(pair, last) => {
+            let making = bytes_of_making(pair, entries, Some(team));
+            making.saturating_add(KEPT.saturating_mul(own))
+        }
+        Way::Read | Way::Verified { .. } => KEPT.saturating_mul(entries),
     }
 }
 

@@ -1,0 +1,78 @@
+-- The tables of the pairs below a pair but its own, while those that no pair to come needs are let
+-- go.
+use Rattle.std.proofs.Common.{◌≡◌, ◌≢◌, List, [], ◌∷◌, ◌++◌, None, is_some, sym, ap, ◌∙◌, subst, inl, inr, arith}
+use Rattle.std.specs.List.{Contains}
+use Rattle.std.proofs.lemmas.List.Elements.{Contains-append_left, Contains-append_right, Contains-push_cases}
+use Rattle.morris_moves.proofs.ListLaws.{Contains-head}
+use Rattle.morris_board.specs.Boards.{Shape}
+use Rattle.morris_index.specs.Pairs.{Counts, NeedsFirst, below_of}
+use Rattle.morris_table.specs.declared.layout.Layout.{Layout}
+use Rattle.morris_table.specs.Known.{IsBeyondCodes}
+use Rattle.morris_table.specs.Shelves.{Stored, first_missing, table_on}
+use Rattle.morris_table.proofs.ShelfLaws.{cases_pair, none-missing}
+use Rattle.morris_commands.specs.Build.{HasExactAt, IsSpared, stones}
+use Rattle.morris_commands.proofs.NearLaws.{IsNear, below-rises, needs-one_less}
+use Rattle.morris_commands.proofs.ShelfLaws.{below_no_more}
+
+-- of all pairs so far but for one there are the tables that a pair to come may need, and codes
+-- suffice for them
+abbrev pub AreBuiltBut : Shape → Layout → Stored → Counts → List Counts → Type 0
+AreBuiltBut board l stock but done =
+    (d : Counts) → Contains done d → d ≢ but → (IsNear done d → HasExactAt board l stock d) × ¬ IsBeyondCodes board d
+
+push : (xs : List Counts) (x y : Counts) → Contains xs y → Contains (xs ++ x ∷ []) y
+push xs x y k = Contains-append_left xs (x ∷ []) y k
+
+module _ (board : Shape) (l : Layout) (pair : Counts) (before after : List Counts) (c : Counts) (split : before ++ (c ∷ after) ≡ below_of pair) where
+  -- the next pair finds the tables that it needs, also once those of fewer stones are let go
+  pub built-ready : (stock kept : Stored) → NeedsFirst (below_of pair) → AreBuiltBut board l stock pair before → IsSpared stock kept c → first_missing kept c ≡ None
+  built-ready stock kept order has goes = none-missing kept c (λ need m.
+      let less = needs-one_less c need m in
+      let at = (has need (order before after c need (sym split) m) (λ same. absurd (omega (arith, less, ap stones same, below_no_more pair c here)))).0
+      (λ e k. omega (arith, below-rises pair before after c e split k, less)) in
+      ap is_some (goes need (omega (arith, less)) ∙ at.1))
+    where
+      here : Contains (below_of pair) c
+      here = subst (λ cs. Contains cs c) split (Contains-append_right before (c ∷ after) c (Contains-head c after))
+
+  -- with its own table there are again all that one to come may need
+  pub built-more : (stock kept new : Stored) → AreBuiltBut board l stock pair before → IsSpared stock kept c → HasExactAt board l new c
+      → ¬ IsBeyondCodes board c → ((d : Counts) → d ≢ c → table_on new d ≡ table_on kept d) → AreBuiltBut board l new pair (before ++ c ∷ [])
+  built-more stock kept new has goes here within others = λ d m other. elim (cases_pair d c) [
+    | inl same ↦ (λ is_near. subst (HasExactAt board l new) (sym same) here, subst (λ x. ¬ IsBeyondCodes board x) (sym same) within)
+    | inr apart ↦ elim (Contains-push_cases before c d m) [
+      | inl earlier ↦
+          let was = has d earlier other in (
+            λ is_near.
+                let at = was.0 (λ e k. is_near e (push before c e k)) in
+                let enough = is_near c (Contains-append_right before (c ∷ []) c (Contains-head c [])) in
+                (at.0, others d apart ∙ (goes d enough ∙ at.1), at.2, at.3, at.4),
+            was.1,
+          )
+      | inr is ↦ absurd (apart (sym is))
+    ]
+  ]
+
+  -- that one pair needs no table of its own
+  pub built-itself : (stock kept : Stored) → AreBuiltBut board l stock pair before → IsSpared stock kept c → c ≡ pair → AreBuiltBut board l kept pair (before ++ c ∷ [])
+  built-itself stock kept has goes itself = λ d m other. elim (Contains-push_cases before c d m) [
+    | inl earlier ↦
+        let was = has d earlier other in (
+          λ is_near.
+              let at = was.0 (λ e k. is_near e (push before c e k)) in
+              let enough = is_near c (Contains-append_right before (c ∷ []) c (Contains-head c [])) in
+              (at.0, goes d enough ∙ at.1, at.2, at.3, at.4),
+          was.1,
+        )
+    | inr is ↦ absurd (other (sym is ∙ itself))
+  ]
+
+-- at the end there are the tables that the pair itself needs
+pub built-last : (board : Shape) (l : Layout) (stock : Stored) (pair : Counts) (front : List Counts) → NeedsFirst (below_of pair)
+    → below_of pair ≡ front ++ pair ∷ [] → AreBuiltBut board l stock pair (below_of pair) → first_missing stock pair ≡ None
+built-last board l stock pair front order last has = none-missing stock pair (λ need m.
+    let less = needs-one_less pair need m in
+    let there : Contains (below_of pair) need =
+    subst (λ cs. Contains cs need) (sym last) (push front pair need (order front [] pair need last m)) in
+    let at = (has need there (λ same. absurd (omega (arith, less, ap stones same)))).0 (λ e k. omega (arith, below_no_more pair e k, less)) in
+    ap is_some at.1)

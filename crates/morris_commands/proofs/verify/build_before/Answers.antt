@@ -1,0 +1,55 @@
+use Rattle.std.proofs.Common.{◌≡◌, ◌∷◌, [], ◌++◌, sym, ap, subst, ◌∙◌, append_assoc}
+use Rattle.std.specs.List.{Contains}
+use Rattle.std.proofs.lemmas.List.{append-nil}
+use Rattle.std.proofs.Math.Path.{ap₂}
+use Rattle.std.proofs.lemmas.Bool.{and_parts, eqb-true, not-false}
+use Rattle.morris_index.specs.Pairs.{below_of, counts}
+use Rattle.morris_commands.proofs.BeforeLaws.{AreBuiltBut, built-itself, built-last, built-more, built-ready}
+use Rattle.morris_commands.proofs.verify.build_before.Goals as goal
+
+pub build_onto-requires-clause-ready : goal.build_onto-requires-clause-ready
+build_onto-requires-clause-ready g c = λ κs within.
+    built-ready g.B.Geometry.shape c.args.layout c.args.pair c.loop-below.yielded c.next.new.self c.in-Some.below
+    (ap (λ rest. c.loop-below.yielded ++ rest) (sym c.in-Some.ensures.steps) ∙ c.loop-below.invariant.split)
+    c.loop-below.stock c.spare.new.stock c.below-below-items.ensures.needs_first c.loop-below.invariant.built c.spare.ensures.near
+
+pub loop-below-preserved : goal.loop-below-preserved
+loop-below-preserved g c =
+    let both = and_parts _ _ (not-false _ (sym c.ne.ensures ∙ c.if-ne.false)) in
+    let itself : c.in-Some.below ≡ c.args.pair = ap₂ counts (eqb-true _ _ both.0) (eqb-true _ _ both.1) in
+    let split : c.loop-below.yielded ++ (c.in-Some.below ∷ c.next.new.self) ≡ below_of c.args.pair =
+    ap (λ rest. c.loop-below.yielded ++ rest) (sym c.in-Some.ensures.steps) ∙ c.loop-below.invariant.split in
+    record {
+      split = append_assoc c.loop-below.yielded (c.in-Some.below ∷ []) c.next.new.self ∙ split;
+      built =
+          built-itself g.B.Geometry.shape c.args.layout c.args.pair c.loop-below.yielded c.next.new.self c.in-Some.below split
+          c.loop-below.stock c.spare.new.stock c.loop-below.invariant.built c.spare.ensures.near itself;
+      told = c.loop-below.invariant.told;
+    }
+
+pub loop-below-preserved-in-Continue-branch-2 : goal.loop-below-preserved-in-Continue-branch-2
+loop-below-preserved-in-Continue-branch-2 g c =
+    let split : c.loop-below.yielded ++ (c.in-Some.below ∷ c.next.new.self) ≡ below_of c.args.pair =
+    ap (λ rest. c.loop-below.yielded ++ rest) (sym c.in-Some.ensures.steps) ∙ c.loop-below.invariant.split in
+    record {
+      split = append_assoc c.loop-below.yielded (c.in-Some.below ∷ []) c.next.new.self ∙ split;
+      built =
+          built-more g.B.Geometry.shape c.args.layout c.args.pair c.loop-below.yielded c.next.new.self c.in-Some.below split
+          c.loop-below.stock c.spare.new.stock c.build_onto.new.stock c.loop-below.invariant.built c.spare.ensures.near
+          c.in_ok-build_onto.ensures.exact c.in_ok-build_onto.ensures.within c.in_ok-build_onto.ensures.others;
+      told = g.met.T.Watch.joins _ _ _ c.loop-below.invariant.told c.build_onto.ensures.told;
+    }
+
+pub returns-clause-ready : goal.returns-clause-ready
+returns-clause-ready g c =
+    let all : c.loop-below.yielded ≡ below_of c.args.pair =
+    sym (append-nil c.loop-below.yielded) ∙ (ap (λ rest. c.loop-below.yielded ++ rest) (sym c.in-None.ensures.steps.0) ∙ c.loop-below.invariant.split) in
+    let last = c.below-below-items.ensures.last in
+    built-last g.B.Geometry.shape c.args.layout c.loop-below.stock c.args.pair last.0 c.below-below-items.ensures.needs_first last.1
+    (subst (AreBuiltBut g.B.Geometry.shape c.args.layout c.loop-below.stock c.args.pair) all c.loop-below.invariant.built)
+
+pub returns-clause-within : goal.returns-clause-within
+returns-clause-within g c = λ deep.
+    let all : c.loop-below.yielded ≡ below_of c.args.pair =
+    sym (append-nil c.loop-below.yielded) ∙ (ap (λ rest. c.loop-below.yielded ++ rest) (sym c.in-None.ensures.steps.0) ∙ c.loop-below.invariant.split) in
+    (c.loop-below.invariant.built deep.0 (subst (λ cs. Contains cs deep.0) (sym all) deep.1) deep.2).1 deep.3
