@@ -49,14 +49,14 @@ struct Order {
 /// bytes and its SHA-256 goes out on `output`. The folder is made where there is none. At the end
 /// the file of the digests is written. Each file is written whole or not at all.
 ///
-/// The rest is as [`build_with`](morris_commands::build::build_with) has it. Fewer than `u64::MAX - 1` calls
-/// of the folder may have failed before.
+/// The rest is as [`build_with`](morris_commands::build::build_with) has it. Fewer than
+/// `u64::MAX - 1` calls of the folder may have failed before.
 ///
 /// # Errors
-/// Those of [`build_with`](morris_commands::build::build_with) for the words, in the same order; nothing is
-/// then written, and the folder isn't touched. Else [`Fault::Folder`] where the folder can't be
-/// made. Else the first refusal: one of a build; [`Fault::Unwritten`] where a file can't be
-/// written; [`Fault::Write`], with all bytes that went out, at the first write to `output` that
+/// Those of [`build_with`](morris_commands::build::build_with) for the words, in the same order;
+/// nothing is then written, and the folder isn't touched. Else [`Fault::Folder`] where the folder
+/// can't be made. Else the first refusal: one of a build; [`Fault::Unwritten`] where a file can't
+/// be written; [`Fault::Write`], with all bytes that went out, at the first write to `output` that
 /// fails; at last [`Fault::Digests`] where the file of the digests can't be written; or
 /// [`Fault::Memory`] where memory is refused. The files that were written before stay.
 pub fn build_into<R: Threads + Wait + Sync, F: Folder, O: Sink, T: Teller>(
