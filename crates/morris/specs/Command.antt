@@ -58,6 +58,10 @@ AnswersQueries name show [] before after old new result =
 AnswersQueries name show (text ∷ texts) before after old new result =
     (ended : Result ℕ QueryFault) × AnswersLookup (board_of name) name None (shown_of show) (text ∷ texts) old new ended × (result ≡ end_of ended)
 
+-- into how many blocks the entries of each pair are cut that `verify` builds
+abbrev pub verified_blocks : ℕ
+verified_blocks = 64
+
 -- What the command of a task answers, of its input before and after it, and of what was printed. No
 -- contract knows what the system keeps in a folder: nothing is said of the bytes of its files.
 abbrev pub Answers : Input → Input → Option (List ℕ) → Option (List ℕ) → Task → Result (Unit {0}) Fault → Type 0
@@ -67,14 +71,14 @@ Answers before after old new (Build board pair workers blocks all None classes) 
     AnswersBuild (board_of board.now) pair.now workers blocks all classes old new result
 Answers before after old new (Build board pair workers blocks all (Some folder) classes) result =
     AnswersInto (board_of board.now) (layout_asked classes) board.now pair.now workers blocks (place_of None old) (place_of None new) result
-Answers before after old new (Verify board None) result = AnswersVerify (board_of board.now) before after old new result
-Answers before after old new (Verify board (Some folder)) result = AnswersFrom (board_of board.now) None board.now old new result
+Answers before after old new (Verify board None workers) result = AnswersVerify (board_of board.now) verified_blocks before after old new result
+Answers before after old new (Verify board (Some folder) workers) result = AnswersFrom (board_of board.now) None board.now old new result
 Answers before after old new (Probe board text) result = AnswersProbe (board_of board.now) text.now before after old new result
 Answers before after old new (Lookup board from show texts) result = AnswersQueries board.now show (map (λ t. t.now) texts.items) before after old new result
 
 -- whether the command of a task reads its input
 abbrev pub takes_input : Task → Bool
-takes_input (Verify board None) = true
+takes_input (Verify board None workers) = true
 takes_input (Probe board text) = true
 takes_input (Lookup board from show texts) = length texts.items == 0
 takes_input _ = false

@@ -20,6 +20,7 @@ use morris_folder_commands::from::verify_from;
 use morris_folder_commands::into::build_into;
 use morris_folders::system::SystemFolder;
 use morris_progress::progress::Progress;
+use morris_progress::team::Team;
 use morris_progress::teller::Teller;
 use morris_queries::fault::QueryFault;
 use morris_queries::lookup::{lookup_lines, lookup_texts};
@@ -34,6 +35,10 @@ use std::rt::Files;
 use std::sync::Wait;
 use std::thread::Threads;
 use std::time::Clock;
+
+/// Into how many blocks the entries of each pair are cut that `verify` builds: one for each of the
+/// most workers there may be. With more blocks each worker keeps less at a time.
+const VERIFIED_BLOCKS: usize = 64;
 
 /// Reads the words of a command line, of which the first is the program's own name, runs the
 /// command that they name, and answers the exit status of the program.
@@ -176,7 +181,11 @@ fn perform<
                 )
             }
         }
-        Task::Verify { board, from } => verify(rt, alloc, board, from, input, output, teller),
+        Task::Verify {
+            board,
+            from,
+            workers,
+        } => verify(rt, alloc, board, from, workers, input, output, teller),
         Task::Probe { board, text } => probe_with(alloc, board, text, input, output, teller),
         Task::Lookup {
             board,
@@ -196,29 +205,40 @@ fn perform<
     }
 }
 
-/// Verifies the table files of a folder, where there is one, and else the one on `input`.
-fn verify<R: Files<File = File> + AllocGlobal, I: Source, O: Sink, T: Teller>(
+/// Verifies the table files of a folder, where there is one, and else the one on `input`, by so
+/// many workers.
+fn verify<
+    R: Threads + Wait + Sync + Files<File = File> + AllocGlobal,
+    I: Source,
+    O: Sink,
+    T: Teller,
+>(
     rt: &R,
     alloc: Global,
     board: &str,
     from: Option<&str>,
+    workers: u8,
     input: &mut I,
     output: &mut O,
     teller: &mut T,
 ) -> Result<(), Fault>
+    requires workers { (1 ≤ workers) × (workers ≤ 64) }
     requires input { I.failures input.old < 2 ^ 64 - 1 }
     requires output { O.failures output.old < 2 ^ 64 - 1 }
     ensures answer { Answers (input_of (I.remaining input.old) (I.failures input.old)) (input_of (I.remaining input.new) (I.failures input.new))
-        (O.contents output.old) (O.contents output.new) (task.Verify board.entry from.entry) result }
-    ensures unread { takes_input (task.Verify board.entry from.entry) ≡ false → input.new ≡ input.old }
+        (O.contents output.old) (O.contents output.new) (task.Verify board.entry from.entry workers) result }
+    ensures unread { takes_input (task.Verify board.entry from.entry workers) ≡ false → input.new ≡ input.old }
     ensures told { T.becomes teller.old teller.new }
 {
+    let Ok(team) = Team::new(usize::from(workers), VERIFIED_BLOCKS) else {
+        unreachable!()
+    };
     match from {
         Some(path) => {
             let folder = &mut SystemFolder::new(rt, path);
-            verify_from(alloc, board, folder, output, teller)
+            verify_from(rt, alloc, board, team, folder, output, teller)
         }
-        None => verify_with(alloc, board, input, output, teller),
+        None => verify_with(rt, alloc, board, team, input, output, teller),
     }
 }
 

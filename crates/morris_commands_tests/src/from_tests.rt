@@ -6,6 +6,7 @@ use morris_faults::flaw::Flaw;
 use morris_folder_commands::from::verify_from;
 use morris_folders::folder::Folder;
 use morris_folders::memory::MemoryFolder;
+use morris_progress::team::Team;
 use morris_workers::Unwatched;
 use sha2::{Digest, Sha256};
 use std::alloc::AllocError;
@@ -19,14 +20,16 @@ const FIRST: &str = "verified 3-3: 1680 entries\n";
 const BOTH: &str = "verified 3-3: 1680 entries\nverified 4-3: 2520 entries\n";
 
 fn assert_answers(
-    rt: &(impl Abort + AllocGlobal),
+    rt: &(impl Abort + AllocGlobal + Threads + Sync),
     folder: &mut MemoryFolder,
     wanted: Result<(), Fault>,
     lines: &str,
 ) {
     assert!(rt; folder.failures() == 0);
     let mut output = IntoWrite::new(Vec::new(rt.alloc()));
-    let answer = verify_from(rt.alloc(), "grid", folder, &mut output, &mut Unwatched);
+    let team = Team::new(3, 5).expect(rt, "a team");
+    let told = &mut Unwatched;
+    let answer = verify_from(rt, rt.alloc(), "grid", team, folder, &mut output, told);
     assert!(rt; answer == wanted);
     assert!(rt;
         output.into_inner().as_slice() == lines.as_bytes(),

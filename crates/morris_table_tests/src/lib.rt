@@ -25,6 +25,8 @@ mod nine;
 #[cfg(test)]
 mod probing;
 #[cfg(test)]
+mod sharing;
+#[cfg(test)]
 mod stocks;
 #[cfg(test)]
 mod texts;

@@ -93,10 +93,11 @@ build_app =
     (required_rule (codes "PAIR"))) workers_rule) blocks_rule) (flag_rule (codes "all"))) (option_rule (codes "into"))) (flag_rule (codes "classes")))
     (flag_rule (codes "progress"))
 
--- `verify BOARD [--from FOLDER] [--progress]`
+-- `verify BOARD [--from FOLDER] [--workers W] [--progress]`
 unfoldable pub verify_app : App
 verify_app =
-    with_rule (with_rule (with_rule (new_app (codes "verify")) (required_rule (codes "BOARD"))) (option_rule (codes "from"))) (flag_rule (codes "progress"))
+    with_rule (with_rule (with_rule (with_rule (new_app (codes "verify")) (required_rule (codes "BOARD"))) (option_rule (codes "from"))) workers_rule)
+    (flag_rule (codes "progress"))
 
 -- `probe BOARD TEXT [--progress]`
 unfoldable pub probe_app : App
@@ -191,8 +192,9 @@ AsksForTask name rows (Build board pair workers blocks all into classes) =
     × (one_of (codes "all") rows ≡ Some (bool_text all))
     × IsOption (codes "into") rows into
     × (one_of (codes "classes") rows ≡ Some (bool_text classes))
-AsksForTask name rows (Verify board from) =
+AsksForTask name rows (Verify board from workers) =
     (name ≡ codes "verify") × (first_of (codes "BOARD") rows ≡ Some board.now) × IsOption (codes "from") rows from
+    × (option_map number_of (one_of (codes "workers") rows) ≡ Some workers)
 AsksForTask name rows (Probe board text) =
     (name ≡ codes "probe") × (first_of (codes "BOARD") rows ≡ Some board.now) × (first_of (codes "TEXT") rows ≡ Some text.now)
 AsksForTask name rows (Lookup board from show texts) =
@@ -214,6 +216,7 @@ AsksFor (Some (name, rows)) r = AsksForTask name rows r.task × AsksToTell r.tas
 abbrev pub IsInRange : Task → Type 0
 IsInRange (Look board text depth) = depth ≤ 6
 IsInRange (Build board pair workers blocks all into classes) = ((1 ≤ workers) × (workers ≤ 64)) × ((1 ≤ blocks) × (blocks ≤ 1024))
+IsInRange (Verify board from workers) = (1 ≤ workers) × (workers ≤ 64)
 IsInRange _ = ⊤
 
 -- the argument of a name has a number from `low` to `high`
@@ -257,11 +260,12 @@ pub record HasBuildValues (rows : List Row) : Type 0 where
   pub classes : HasFlag (codes "classes") rows
   pub progress : HasFlag (codes "progress") rows
 
--- the values of which `verify` makes its request: a board is there, and so are the value of its
--- flag, and a folder where one was given
+-- the values of which `verify` makes its request: a board is there, and so are a number of workers
+-- from 1 to 64, the value of its flag, and a folder where one was given
 pub record HasVerifyValues (rows : List Row) : Type 0 where
   pub board : is_some (first_of (codes "BOARD") rows) ≡ true
   pub from : HasOption (codes "from") rows
+  pub workers : HasNumber (codes "workers") 1 64 rows
   pub progress : HasFlag (codes "progress") rows
 
 -- the values of which `probe` makes its request: board and text are there, and so is the value of

@@ -168,10 +168,11 @@ $ morris build grid 4-3 --into folder"
 pub(crate) const VERIFY: &str = page!(
     []
     "\
-It reads the file of one table, as `morris build` writes it, finds the values of\n\
-the pairs that the table's pair rests on, and compares each entry of the table\n\
-with what the rules give from the entries of its results. So nothing of the file\n\
-is believed.\n\
+It reads the file of one table, as `morris build` writes it, builds the tables\n\
+of the pairs that the table's pair rests on, and compares each entry of the\n\
+table with what the rules give from the entries of its results. So nothing of\n\
+the file is believed. The threads share the entries out among them; the answer\n\
+is the same for every number of threads.\n\
 \n\
 With --from it reads every table file of the board that a folder has, as `morris\n\
 build --into` writes them, in the order of pairs, and compares each over those\n\

@@ -55,10 +55,11 @@ pub enum Task<'a> {
         classes: bool,
     },
     /// Verify the table file on the input, of the board named `board`, or, where there is a folder
-    /// `from`, each table file of that board in it.
+    /// `from`, each table file of that board in it, with 1 to 64 `workers`.
     Verify {
         board: &'a str,
         from: Option<&'a str>,
+        workers: u8,
     },
     /// Report the position that `text` writes on the board named `board`, by the tables on the
     /// input.
@@ -155,7 +156,8 @@ const POSITIONS_HELP: &str = "The positions, or else one on each line of standar
 // How `clap` ends what it says of a mistake.
 const MORE_HELP: &str = "\n\nFor more information, try '--help'.\n";
 
-// How many workers and blocks `build` has where they are left out.
+// How many workers `build` and `verify` have, and how many blocks `build` has, where they are left
+// out.
 const DEFAULT_WORKERS: &str = "2";
 
 const DEFAULT_BLOCKS: &str = "16";
@@ -227,6 +229,7 @@ fn verify_command<'a>(alloc: Global) -> Result<Command<'a>, AllocError>
     command_of(alloc, "verify", about, help::VERIFY)
         .arg(required_arg(alloc, "BOARD", BOARD_HELP))?
         .arg(option_arg(alloc, "from", "FOLDER", FROM_HELP))?
+        .arg(workers_arg(alloc))?
         .arg(flag_arg(alloc, "progress", PROGRESS_HELP))
 }
 
@@ -403,6 +406,7 @@ fn verify_request<'a>(found: &ArgMatches<'a>) -> Request<'a>
         task: Task::Verify {
             board: given(found, "BOARD"),
             from: optional(found, "from"),
+            workers: number(found, "workers") as u8,
         },
         progress: flag(found, "progress"),
     }

@@ -8,4 +8,5 @@ unfolding verify_app
 returns c =
     let one = with_arg _ _ _ _ _ c.command_of.ensures c.required_arg.ensures c.in_ok-arg.ensures in
     let two = with_arg _ _ _ _ _ one c.option_arg.ensures c.in_ok-arg-2.ensures in
-    IfOk-weaker c.arg-3.result _ _ (λ r h. with_arg _ _ _ _ _ two c.flag_arg.ensures h) c.arg-3.ensures
+    let three = with_arg _ _ _ _ _ two c.workers_arg.ensures c.in_ok-arg-3.ensures in
+    IfOk-weaker c.arg-4.result _ _ (λ r h. with_arg _ _ _ _ _ three c.flag_arg.ensures h) c.arg-4.ensures

@@ -1,0 +1,13 @@
+use Rattle.std.proofs.Common.{arith}
+use Rattle.morris_words.proofs.words.verify_request.Goals as goal
+
+pub number-requires : goal.number-requires
+number-requires c = (1, 64, omega arith, c.requires.workers)
+
+pub overflow_cast-result : goal.overflow_cast-result
+overflow_cast-result c =
+    let range = c.number.ensures.range 1 64 (omega arith) c.requires.workers in
+    omega (arith, range.1)
+
+pub returns-clause-range : goal.returns-clause-range
+returns-clause-range c = c.number.ensures.range 1 64 (omega arith) c.requires.workers
