@@ -93,7 +93,9 @@ build_top = record (new_shape (codes "build")) {
 }
 
 abbrev verify_top : Shape
-verify_top = record (new_shape (codes "verify")) { rules = required_rule (codes "BOARD") ∷ option_rule (codes "from") ∷ flag_rule (codes "progress") ∷ [] }
+verify_top = record (new_shape (codes "verify")) {
+  rules = required_rule (codes "BOARD") ∷ option_rule (codes "from") ∷ workers_rule ∷ flag_rule (codes "progress") ∷ [];
+}
 
 abbrev probe_top : Shape
 probe_top = record (new_shape (codes "probe")) { rules = required_rule (codes "BOARD") ∷ required_rule (codes "TEXT") ∷ flag_rule (codes "progress") ∷ [] }
