@@ -143,7 +143,7 @@ const FROM_HELP: &str = "Check every table file of the board in this folder";
 
 const CLASSES_HELP: &str = "Have one entry for each class of positions: files of version 2";
 
-const PROGRESS_HELP: &str = "Tell on standard error how far it is";
+const PROGRESS_HELP: &str = "Show on standard error how much is done";
 
 const TABLES_HELP: &str = "The folder of the table files";
 
