@@ -24,7 +24,7 @@ use Rattle.morris_keeping.specs.declared.kept.KeptFault.TheVariants as kept
 use Rattle.morris_faults.specs.declared.fault.Fault.{Fault}
 use Rattle.morris_faults.specs.declared.fault.Fault.TheVariants as fault
 use Rattle.morris_folder_commands.specs.declared.from.TheConstants as table
-use Rattle.morris_folder_commands.specs.From.{AtEnd, Verifies, fits, kept_fault, pairs_of, verified_line}
+use Rattle.morris_folder_commands.specs.From.{AtEnd, KeepsNear, Verifies, fits, kept_fault, pairs_of, verified_line}
 use Rattle.morris_folder_commands.specs.Filling.{PrintsLine}
 use Rattle.morris_folder_commands.specs.FromSteps.{AnswersFile, IsUnfitFile, TakesIn, place_is}
 use Rattle.morris_commands.specs.Probe.{Joins}
@@ -140,98 +140,103 @@ kept_on (Some a) (Some b) (Some c) p q = λ name. q name ∙ p name
 module _ (board : Shape) (files : Option Files) (name : List ℕ) (start : Option (List ℕ)) (empty : Stored) where
   -- Some pairs are done: what the others lead to, to that all lead.
   abbrev pub Leads : List Counts → Stored → Bool → ℕ → Option (List ℕ) → Type 0
-  Leads pairs shelf found sent here =
-      (after : Option (List ℕ)) (result : Result (Unit {0}) Fault) → Verifies board files name pairs shelf found sent here after result
+  Leads pairs stock found sent here =
+      (after : Option (List ℕ)) (result : Result (Unit {0}) Fault) → Verifies board files name pairs stock found sent here after result
       → Verifies board files name (pairs_of board) empty false 0 start after result
 
-  module _ (pairs : List Counts) (c : Counts) (shelf : Stored) (found : Bool) (sent : ℕ) (here : Option (List ℕ))
-      (leads : Leads (c ∷ pairs) shelf found sent here) where
+  module _ (pairs : List Counts) (c : Counts) (stock : Stored) (found : Bool) (sent : ℕ) (here : Option (List ℕ))
+      (leads : Leads (c ∷ pairs) stock found sent here) (near : Stored) (goes : KeepsNear stock near c) where
     -- a file that isn't had
     pub unkept : (refused : KeptFault) (f : Fault) → AnswersKept board files (name_of name c) c (Err refused) → f ≡ kept_fault c refused
         → Verifies board files name (pairs_of board) empty false 0 start here (Err f)
     unfolding Verifies
-    unkept refused f said is = leads here (Err f) (Err refused, said, (ap Err is, Keeps-refl here))
+    unkept refused f said is = leads here (Err f) (near, goes, (Err refused, said, (ap Err is, Keeps-refl here)))
 
     -- no file
-    pub no_file : AnswersKept board files (name_of name c) c (Ok None) → Leads pairs shelf found sent here
+    pub no_file : AnswersKept board files (name_of name c) c (Ok None) → Leads pairs near found sent here
     unfolding Verifies
-    no_file said = λ after result goes. leads after result (Ok None, said, goes)
+    no_file said = λ after result follows. leads after result (near, goes, (Ok None, said, follows))
 
     module _ (t : Table) (said : AnswersKept board files (name_of name c) c (Ok (Some t))) where
-      -- a table that doesn't join the shelf
-      pub unfit : (f : Fault) → IsUnfitFile board shelf t f → Verifies board files name (pairs_of board) empty false 0 start here (Err f)
+      -- a table that doesn't join the stock
+      pub unfit : (f : Fault) → IsUnfitFile board near t f → Verifies board files name (pairs_of board) empty false 0 start here (Err f)
       unfolding Verifies
-      unfit f why = leads here (Err f) (Ok (Some t), said, inl (why.0, why.1, ap Err why.2, Keeps-refl here))
+      unfit f why = leads here (Err f) (near, goes, (Ok (Some t), said, inl (why.0, why.1, ap Err why.2, Keeps-refl here)))
 
-      module _ (joined : Stored) (joins : Joins board shelf joined t) where
+      module _ (joined : Stored) (joins : Joins board near joined t) where
         -- one that does, and whose line isn't printed
         pub untold : (now : ℕ) (after : Option (List ℕ)) → PartSent here after sent now (verified_line t)
             → Verifies board files name (pairs_of board) empty false 0 start after (Err (fault.Write now))
         unfolding Verifies
-        untold now after part = leads after (Err (fault.Write now)) (Ok (Some t), said, inr (joined, joins, inl (now, refl, part)))
+        untold now after part = leads after (Err (fault.Write now)) (near, goes, (Ok (Some t), said, inr (joined, joins, inl (now, refl, part))))
 
         -- and whose line is
         pub told : (now : ℕ) (out : Option (List ℕ)) → Appends here out (verified_line t) → now ≡ sent + length (verified_line t)
             → Leads pairs joined true now out
         unfolding Verifies
-        told now out printed counted = λ after result goes.
+        told now out printed counted = λ after result follows.
             leads after result (
-              Ok (Some t),
-              said,
-              inr (
-                joined,
-                joins,
+              near,
+              goes,
+              (
+                Ok (Some t),
+                said,
                 inr (
-                  out,
-                  printed,
-                  subst (λ n. Verifies board files name pairs joined true n out after result) counted goes,
+                  joined,
+                  joins,
+                  inr (
+                    out,
+                    printed,
+                    subst (λ n. Verifies board files name pairs joined true n out after result) counted follows,
+                  ),
                 ),
               ),
             )
 
   -- no pair is left
-  pub at_end : (place : ℕ) (shelf : Stored) (found : Bool) (sent : ℕ) (here : Option (List ℕ)) (result : Result (Unit {0}) Fault) → 28 ≤ place
-      → Leads (filter (fits board) (drop place all_pairs)) shelf found sent here → AtEnd found result
+  pub at_end : (place : ℕ) (stock : Stored) (found : Bool) (sent : ℕ) (here : Option (List ℕ)) (result : Result (Unit {0}) Fault) → 28 ≤ place
+      → Leads (filter (fits board) (drop place all_pairs)) stock found sent here → AtEnd found result
       → Verifies board files name (pairs_of board) empty false 0 start here result
   unfolding Verifies
-  at_end place shelf found sent here result past leads end =
-      let last : Leads [] shelf found sent here = subst (λ ps. Leads ps shelf found sent here) (none_left board place past) leads in
+  at_end place stock found sent here result past leads end =
+      let last : Leads [] stock found sent here = subst (λ ps. Leads ps stock found sent here) (none_left board place past) leads in
       last here result (end, Keeps-refl here)
 
   -- a pair that the board has no points for, and one that it has
-  pub skip_pair : (place : ℕ) (shelf : Stored) (found : Bool) (sent : ℕ) (here : Option (List ℕ)) → place_is board place None
-      → Leads (filter (fits board) (drop place all_pairs)) shelf found sent here → Leads (filter (fits board) (drop (place + 1) all_pairs)) shelf found sent here
-  skip_pair place shelf found sent here is leads =
-      subst (λ ps. Leads ps shelf found sent here) (next_crowded place is.0 is.1 board is.2) leads
+  pub skip_pair : (place : ℕ) (stock : Stored) (found : Bool) (sent : ℕ) (here : Option (List ℕ)) → place_is board place None
+      → Leads (filter (fits board) (drop place all_pairs)) stock found sent here → Leads (filter (fits board) (drop (place + 1) all_pairs)) stock found sent here
+  skip_pair place stock found sent here is leads =
+      subst (λ ps. Leads ps stock found sent here) (next_crowded place is.0 is.1 board is.2) leads
 
-  pub take_pair : (place : ℕ) (c : Counts) (shelf : Stored) (found : Bool) (sent : ℕ) (here : Option (List ℕ)) → place_is board place (Some c)
-      → Leads (filter (fits board) (drop place all_pairs)) shelf found sent here
-      → Leads (c ∷ filter (fits board) (drop (place + 1) all_pairs)) shelf found sent here
-  take_pair place c shelf found sent here is leads =
-      subst (λ ps. Leads ps shelf found sent here) (next_fits place c is.0 board is.1) leads
+  pub take_pair : (place : ℕ) (c : Counts) (stock : Stored) (found : Bool) (sent : ℕ) (here : Option (List ℕ)) → place_is board place (Some c)
+      → Leads (filter (fits board) (drop place all_pairs)) stock found sent here
+      → Leads (c ∷ filter (fits board) (drop (place + 1) all_pairs)) stock found sent here
+  take_pair place c stock found sent here is leads =
+      subst (λ ps. Leads ps stock found sent here) (next_fits place c is.0 board is.1) leads
 
-  module _ (pairs : List Counts) (c : Counts) (shelf : Stored) (found : Bool) (sent : ℕ) (here : Option (List ℕ))
-      (leads : Leads (c ∷ pairs) shelf found sent here) (now : Option Files) (kept : folder.Keeps files now) where
+  module _ (pairs : List Counts) (c : Counts) (stock : Stored) (found : Bool) (sent : ℕ) (here : Option (List ℕ))
+      (leads : Leads (c ∷ pairs) stock found sent here) (near : Stored) (goes : KeepsNear stock near c) (now : Option Files)
+      (kept : folder.Keeps files now) where
     -- a file that isn't had, by what is answered of the folder as it then is
     pub failed_file : (f : Fault) → AnswersFile board now (name_of name c) c (Err f)
         → Verifies board files name (pairs_of board) empty false 0 start here (Err f)
     failed_file f said =
-        unkept pairs c shelf found sent here leads said.0 f (answer_before board files now (name_of name c) c (Err said.0) kept said.2) said.1
+        unkept pairs c stock found sent here leads near goes said.0 f (answer_before board files now (name_of name c) c (Err said.0) kept said.2) said.1
 
-    pub missing_file : AnswersFile board now (name_of name c) c (Ok None) → Leads pairs shelf found sent here
-    missing_file said = no_file pairs c shelf found sent here leads (answer_before board files now (name_of name c) c (Ok None) kept said)
+    pub missing_file : AnswersFile board now (name_of name c) c (Ok None) → Leads pairs near found sent here
+    missing_file said = no_file pairs c stock found sent here leads near goes (answer_before board files now (name_of name c) c (Ok None) kept said)
 
     module _ (t : Table) (answer : AnswersFile board now (name_of name c) c (Ok (Some t))) (joined : Stored) (after : Option (List ℕ)) where
       said : AnswersKept board files (name_of name c) c (Ok (Some t))
       said = answer_before board files now (name_of name c) c (Ok (Some t)) kept answer
 
-      line_wrong : Joins board shelf joined t → (f : Fault) → PrintsLine (verified_line t) sent here after (Err f)
+      line_wrong : Joins board near joined t → (f : Fault) → PrintsLine (verified_line t) sent here after (Err f)
           → Verifies board files name (pairs_of board) empty false 0 start after (Err f)
-      line_wrong joins (fault.Write n) part = untold pairs c shelf found sent here leads t said joined joins n after part
+      line_wrong joins (fault.Write n) part = untold pairs c stock found sent here leads near goes t said joined joins n after part
       line_wrong joins _ part = absurd part
 
       -- a table that isn't taken in, or not told of
-      pub taken_wrong : (f : Fault) → TakesIn board shelf joined t sent here after (Err f)
+      pub taken_wrong : (f : Fault) → TakesIn board near joined t sent here after (Err f)
           → Verifies board files name (pairs_of board) empty false 0 start after (Err f)
       taken_wrong f takes = elim takes [
         | inl why ↦
@@ -239,13 +244,13 @@ module _ (board : Shape) (files : Option Files) (name : List ℕ) (start : Optio
             let same : why.0 ≡ f = cc in
             subst (λ x. Verifies board files name (pairs_of board) empty false 0 start after (Err x)) same
             (subst (λ out. Verifies board files name (pairs_of board) empty false 0 start out (Err why.0)) why.3
-            (unfit pairs c shelf found sent here leads t said why.0 why.2))
+            (unfit pairs c stock found sent here leads near goes t said why.0 why.2))
         | inr both ↦ line_wrong both.0 f both.1
       ]
 
       -- one that is
-      pub taken_on : (n : ℕ) → TakesIn board shelf joined t sent here after (Ok n) → Leads pairs joined true n after
+      pub taken_on : (n : ℕ) → TakesIn board near joined t sent here after (Ok n) → Leads pairs joined true n after
       taken_on n takes = elim takes [
         | inl why ↦ let e = why.1 in cc
-        | inr both ↦ told pairs c shelf found sent here leads t said joined both.0 n after both.1.appended both.1.count
+        | inr both ↦ told pairs c stock found sent here leads near goes t said joined both.0 n after both.1.appended both.1.count
       ]

@@ -1,5 +1,5 @@
 -- What `verify --from` makes of the files of a folder, and what it prints.
-use Rattle.std.specs.Prelude.{◌≡◌, ◌⊎◌, ℕ, ◌+◌, Bool, true, false, nat_le, List, [], ◌∷◌, filter, length, Option, Some, None, Result, Ok, Err}
+use Rattle.std.specs.Prelude.{◌≡◌, ◌⊎◌, ℕ, ◌+◌, ◌<◌, Bool, true, false, nat_le, List, [], ◌∷◌, filter, length, Option, Some, None, Result, Ok, Err}
 use Rattle.std.specs.Io.KnownBytes.{Appends, Keeps}
 use Rattle.morris_board.specs.Boards.{Shape}
 use Rattle.morris_board.specs.Streams.{PartSent}
@@ -14,6 +14,7 @@ use Rattle.morris_keeping.specs.declared.kept.KeptFault.TheVariants as kept
 use Rattle.morris_faults.specs.declared.fault.Fault.{Fault}
 use Rattle.morris_faults.specs.declared.fault.Fault.TheVariants as fault
 use Rattle.morris_faults.specs.Faults.{in_file, read_fault}
+use Rattle.morris_commands.specs.Build.{IsSpared, stones}
 use Rattle.morris_commands.specs.Probe.{IsUnfit, Joins}
 use Rattle.morris_commands.specs.Verify.{verified_text}
 
@@ -48,28 +49,36 @@ AfterFile c old new result next taken (Err refused) = (result ≡ Err (kept_faul
 AfterFile c old new result next taken (Ok None) = next
 AfterFile c old new result next taken (Ok (Some t)) = taken t
 
--- What becomes of a table over a shelf: it doesn't join the shelf, with no line more printed; or it
+-- At a pair's turn the tables of no more than one stone less are as they were, since it or a pair
+-- after it may need them, and no others are there.
+pub record KeepsNear (old new : Stored) (c : Counts) : Type 0 where
+  pub near : IsSpared old new c
+  pub far : (d : Counts) → stones d + 1 < stones c → table_on new d ≡ None
+
+-- What becomes of a table over a stock: it doesn't join the stock, with no line more printed; or it
 -- does, which it can only where each of its codes is the game's, and its line is printed before
 -- the next pair, or its first bytes are.
 abbrev pub AfterTable : Shape → Stored → ℕ → Option (List ℕ) → Option (List ℕ) → Result (Unit {0}) Fault → (Stored → ℕ → Option (List ℕ) → Type 0) → Table → Type 0
-AfterTable board shelf sent old new result next t =
-    ((refused : Fault) × IsUnfit board shelf t refused × (result ≡ Err (in_file t.pair refused)) × Keeps old new)
-    ⊎ ((joined : Stored) × Joins board shelf joined t
+AfterTable board stock sent old new result next t =
+    ((refused : Fault) × IsUnfit board stock t refused × (result ≡ Err (in_file t.pair refused)) × Keeps old new)
+    ⊎ ((joined : Stored) × Joins board stock joined t
     × (((now : ℕ) × (result ≡ Err (fault.Write now)) × PartSent old new sent now (verified_line t))
     ⊎ ((out : Option (List ℕ)) × Appends old out (verified_line t) × next joined (sent + length (verified_line t)) out)))
 
--- The pairs are gone through in order: the file of each is read, where the folder has it, and its
--- table taken onto the shelf before the next. `sent` bytes were printed before, and `found` says
--- whether there was a file before.
+-- The pairs are gone through in order: at the turn of each the tables are let go that no pair from
+-- it on needs, whether the folder has its file or not; the file is read where the folder has it,
+-- and its table taken into the stock before the next. `sent` bytes were printed before, and `found`
+-- says whether there was a file before.
 unfoldable pub Verifies : Shape → Option Files → List ℕ → List Counts → Stored → Bool → ℕ → Option (List ℕ) → Option (List ℕ) → Result (Unit {0}) Fault → Type 0
-Verifies board files name [] shelf found sent old new result = AtEnd found result × Keeps old new
-Verifies board files name (c ∷ pairs) shelf found sent old new result =
-    (answer : Result (Option Table) KeptFault) × AnswersKept board files (name_of name c) c answer
-    × AfterFile c old new result (Verifies board files name pairs shelf found sent old new result)
-    (AfterTable board shelf sent old new result (λ joined more out. Verifies board files name pairs joined true more out new result)) answer
+Verifies board files name [] stock found sent old new result = AtEnd found result × Keeps old new
+Verifies board files name (c ∷ pairs) stock found sent old new result =
+    (near : Stored) × KeepsNear stock near c
+    × ((answer : Result (Option Table) KeptFault) × AnswersKept board files (name_of name c) c answer
+    × AfterFile c old new result (Verifies board files name pairs near found sent old new result)
+    (AfterTable board near sent old new result (λ joined more out. Verifies board files name pairs joined true more out new result)) answer)
 
--- What it answers on a board: there is no room for a shelf, with nothing printed; otherwise what
--- comes of all pairs, on an empty one.
+-- What it answers on a board: there is no room for a stock, with nothing printed; otherwise what
+-- comes of all pairs, over an empty one.
 abbrev pub AnswersFromOn : Shape → Option Files → List ℕ → Option (List ℕ) → Option (List ℕ) → Result (Unit {0}) Fault → Type 0
 AnswersFromOn board files name old new result =
     ((result ≡ Err fault.Memory) × Keeps old new)

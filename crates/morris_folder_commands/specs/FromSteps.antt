@@ -23,12 +23,12 @@ abbrev pub AnswersFile : Shape → Option Files → List ℕ → Counts → Resu
 AnswersFile board files name c (Ok found) = AnswersKept board files name c (Ok found)
 AnswersFile board files name c (Err f) = (refused : KeptFault) × (f ≡ kept_fault c refused) × AnswersKept board files name c (Err refused)
 
--- why a table doesn't join a shelf, told of its file
+-- why a table doesn't join a stock, told of its file
 abbrev pub IsUnfitFile : Shape → Stored → Table → Fault → Type 0
-IsUnfitFile board shelf t f = (refused : Fault) × IsUnfit board shelf t refused × (f ≡ in_file t.pair refused)
+IsUnfitFile board stock t f = (refused : Fault) × IsUnfit board stock t refused × (f ≡ in_file t.pair refused)
 
 -- what becomes of a table
 abbrev pub TakesIn : Shape → Stored → Stored → Table → ℕ → Option (List ℕ) → Option (List ℕ) → Result ℕ Fault → Type 0
-TakesIn board shelf joined t sent old new result =
-    ((f : Fault) × (result ≡ Err f) × IsUnfitFile board shelf t f × (old ≡ new))
-    ⊎ (Joins board shelf joined t × PrintsLine (verified_line t) sent old new result)
+TakesIn board stock joined t sent old new result =
+    ((f : Fault) × (result ≡ Err f) × IsUnfitFile board stock t f × (old ≡ new))
+    ⊎ (Joins board stock joined t × PrintsLine (verified_line t) sent old new result)

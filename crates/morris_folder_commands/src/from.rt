@@ -6,7 +6,7 @@ ghost use Rattle.morris_table.specs.Shelves.{first_missing};
 ghost use Rattle.morris_table.specs.Tables.{IsTable};
 ghost use Rattle.morris_faults.specs.Faults.{CountsWrites, is_write};
 ghost use Rattle.morris_folder_commands.specs.Filling.{PrintsLine};
-ghost use Rattle.morris_folder_commands.specs.From.{AnswersFrom, AnswersFromOn};
+ghost use Rattle.morris_folder_commands.specs.From.{AnswersFrom, AnswersFromOn, KeepsNear};
 ghost use Rattle.morris_folder_commands.specs.FromSteps.{AnswersFile, TakesIn, place_is};
 ghost use Rattle.morris_faults.specs.BoardNames.{board_of};
 ghost use Rattle.morris_commands.specs.Probe.{IsUnfit, Joins};
@@ -14,6 +14,7 @@ ghost use Rattle.morris_commands.specs.Verify.{verified_text};
 
 use morris_board::board::{Board, Geometry};
 use morris_board::streams::Sink;
+use morris_commands::build::spare;
 use morris_commands::print_verified::Verified;
 use morris_faults::fault::Fault;
 use morris_faults::on_board;
@@ -26,7 +27,7 @@ use morris_progress::team::Team;
 use morris_progress::teller::Teller;
 use morris_table::exact::Exact;
 use morris_table::raw::Raw;
-use morris_table::shelf::Shelf;
+use morris_table::stock::Stock;
 use std::alloc::Global;
 use std::thread::Threads;
 
@@ -66,7 +67,8 @@ const PAIRS: [(u8, u8); 28] = [
 /// the greater number: reads the file of each that a folder has, under the name of its pair, and
 /// tells on `output` that the table is right as soon as each of its codes is known to be that of
 /// the game, over the tables before it. A table rests on those of the pairs that its pair needs,
-/// whose files have to be there. The workers of a team share its entries out among them.
+/// whose files have to be there; before the file of a pair is read the tables are let go that
+/// neither it needs nor any pair after it. The workers of a team share its entries out among them.
 ///
 /// Fewer than `u64::MAX` calls of the folder may have failed before.
 ///
@@ -119,17 +121,18 @@ fn from_on<B: Board, R: Threads + Sync, F: Folder, O: Sink, T: Teller>(
     ensures counted { CountsWrites (O.failures output.old) (O.failures output.new) result }
     ensures told { T.becomes teller.old teller.new }
 {
-    let mut shelf = Shelf::new(alloc)?;
+    let mut stock = Stock::new(alloc)?;
     let mut sent = 0;
     let mut found = false;
     for place in 0..PAIRS.len() {
         let Some(pair) = pair_at::<B>(place) else {
             continue;
         };
+        keep_near(&mut stock, pair);
         let Some(raw) = read_kept(alloc, board, folder, pair)? else {
             continue;
         };
-        sent = take_in(rt, alloc, team, &mut shelf, raw, sent, output, teller)?;
+        sent = take_in(rt, alloc, team, &mut stock, raw, sent, output, teller)?;
         found = true;
     }
     if found { Ok(()) } else { Err(Fault::NoFiles) }
@@ -147,6 +150,14 @@ fn pair_at<B: Geometry>(place: usize) -> Option<Pair<B>>
         Ok(pair) => Some(pair),
         Err(_) => None,
     }
+}
+
+/// Lets the tables go at a pair's turn that neither it needs nor any after it: before its file is
+/// read, and also where the folder has none.
+fn keep_near<B: Geometry>(stock: &mut Stock<B>, pair: Pair<B>)
+    ensures { KeepsNear stock.old stock.new pair }
+{
+    spare(stock, false, pair);
 }
 
 /// The table of a pair, where a folder has its file.
@@ -171,13 +182,13 @@ fn read_kept<B: Geometry, F: Folder>(
     }
 }
 
-/// Puts a table on the shelf once each of its entries is known to be right over those on it, and
+/// Puts a table into a stock once each of its entries is known to be right over those in it, and
 /// prints its line, where so many bytes were printed before; the answer counts these as well.
 fn take_in<B: Board, R: Threads + Sync, O: Sink, T: Teller>(
     rt: &R,
     alloc: Global,
     team: Team,
-    shelf: &mut Shelf<B>,
+    stock: &mut Stock<B>,
     raw: Raw<B>,
     sent: u64,
     output: &mut O,
@@ -185,57 +196,55 @@ fn take_in<B: Board, R: Threads + Sync, O: Sink, T: Teller>(
 ) -> Result<u64, Fault>
     requires failures { O.failures output.old < 2 ^ 64 - 1 }
     requires room { sent < 2 ^ 32 }
-    ensures taken { TakesIn B.shape shelf.old shelf.new raw sent (O.contents output.old) (O.contents output.new) result }
+    ensures taken { TakesIn B.shape stock.old stock.new raw sent (O.contents output.old) (O.contents output.new) result }
     ensures few { IfOk result (λ now. now ≤ sent + 2 ^ 10) }
     ensures counted { CountsWrites (O.failures output.old) (O.failures output.new) result }
     ensures told { T.becomes teller.old teller.new }
 {
     let (pair, entries) = (raw.pair(), raw.len());
-    if let Err(refused) = join(rt, alloc, team, shelf, raw, teller) {
+    if let Err(refused) = join(rt, alloc, team, stock, raw, teller) {
         return Err(refused.in_file(pair));
     }
     tell_verified(pair, entries, sent, output)
 }
 
-/// Puts a table on the shelf once each of its entries is known to be right.
+/// Puts a table into a stock once each of its entries is known to be right.
 fn join<B: Board, R: Threads + Sync, T: Teller>(
     rt: &R,
     alloc: Global,
     team: Team,
-    shelf: &mut Shelf<B>,
+    stock: &mut Stock<B>,
     raw: Raw<B>,
     teller: &mut T,
 ) -> Result<(), Fault>
-    ensures joined { OnOk result (Joins B.shape shelf.old shelf.new raw) }
-    ensures refused { IfErr result (IsUnfit B.shape shelf.old raw) }
+    ensures joined { OnOk result (Joins B.shape stock.old stock.new raw) }
+    ensures refused { IfErr result (IsUnfit B.shape stock.old raw) }
     ensures unwritten { IfErr result (λ refused. is_write refused ≡ false) }
     ensures told { T.becomes teller.old teller.new }
 {
     // The other files are taken to be in the layout of the first.
     teller.announce(raw.pair(), raw.layout(), Way::Read);
-    let exact = verify_over(rt, alloc, team, shelf, raw)?;
+    let exact = verify_over(rt, alloc, team, stock, raw)?;
     teller.end_pair(&exact);
-    match shelf.put(exact) {
-        Ok(()) => Ok(()),
-        Err(_) => unreachable!(),
-    }
+    stock.put(exact);
+    Ok(())
 }
 
-/// The table, once each of its entries is known to be right over the tables of a shelf.
+/// The table, once each of its entries is known to be right over the tables of a stock.
 fn verify_over<B: Board, R: Threads + Sync>(
     rt: &R,
     alloc: Global,
     team: Team,
-    shelf: &Shelf<B>,
+    stock: &Stock<B>,
     raw: Raw<B>,
 ) -> Result<Exact<B>, Fault>
-    ensures ready { OnOk result (first_missing shelf.now raw.pair ≡ None) }
+    ensures ready { OnOk result (first_missing stock.now raw.pair ≡ None) }
     ensures value { IfOk result (λ exact. exact ≡ raw) }
     ensures exact { OnOk result (IsTable B.shape raw) }
-    ensures refused { IfErr result (IsUnfit B.shape shelf.now raw) }
+    ensures refused { IfErr result (IsUnfit B.shape stock.now raw) }
     ensures unwritten { IfErr result (λ refused. is_write refused ≡ false) }
 {
-    match raw.verify_by(rt, alloc, shelf.stock(), team.workers) {
+    match raw.verify_by(rt, alloc, stock, team.workers) {
         Ok(exact) => Ok(exact),
         Err((_raw, refused)) => Err(Fault::from(refused)),
     }

@@ -25,8 +25,8 @@ loop-place-init g c = record {
 pub loop-place-preserved-in_default : goal.loop-place-preserved-in_default
 loop-place-preserved-in_default g c = record {
   leads =
-      skip_pair g.B.Geometry.shape (g.F.Folder.files c.args.folder.now) c.args.board.now (g.O.Sink.contents c.args.output.now) c.in_ok-shelf.shelf
-      c.loop-place.place c.loop-place.shelf c.loop-place.found c.loop-place.sent (g.O.Sink.contents c.loop-place.output)
+      skip_pair g.B.Geometry.shape (g.F.Folder.files c.args.folder.now) c.args.board.now (g.O.Sink.contents c.args.output.now) c.in_ok-stock.stock
+      c.loop-place.place c.loop-place.stock c.loop-place.found c.loop-place.sent (g.O.Sink.contents c.loop-place.output)
       c.in_default.ensures.pair c.loop-place.invariant.leads;
   kept = c.loop-place.invariant.kept;
   few = omega (arith, c.loop-place.invariant.few);
@@ -43,14 +43,14 @@ returns-in_err-raw-clause-answer g c =
     let files = g.F.Folder.files c.args.folder.now in
     let old = g.O.Sink.contents c.args.output.now in
     let out = g.O.Sink.contents c.loop-place.output in
-    let empty = c.in_ok-shelf.shelf in
+    let empty = c.in_ok-stock.stock in
     let l = c.loop-place in
-    let leads = take_pair board files c.args.board.now old empty l.place c.in-Some.pair l.shelf l.found l.sent out c.in-Some.ensures.pair l.invariant.leads in
+    let leads = take_pair board files c.args.board.now old empty l.place c.in-Some.pair l.stock l.found l.sent out c.in-Some.ensures.pair l.invariant.leads in
     rw (failed.1, failed.2)
     (inr (
       empty,
-      c.in_ok-shelf.ensures,
-      failed_file board files c.args.board.now old empty _ c.in-Some.pair l.shelf l.found l.sent out leads (g.F.Folder.files l.folder) l.invariant.kept _
+      c.in_ok-stock.ensures.none,
+      failed_file board files c.args.board.now old empty _ c.in-Some.pair l.stock l.found l.sent out leads c.keep_near.new.stock c.keep_near.ensures (g.F.Folder.files l.folder) l.invariant.kept _
           c.in_err-raw.ensures.answer,
     ))
 
@@ -61,12 +61,12 @@ loop-place-preserved-in_default-2 g c =
     let files = g.F.Folder.files c.args.folder.now in
     let old = g.O.Sink.contents c.args.output.now in
     let out = g.O.Sink.contents c.loop-place.output in
-    let empty = c.in_ok-shelf.shelf in
+    let empty = c.in_ok-stock.stock in
     let l = c.loop-place in
-    let leads = take_pair board files c.args.board.now old empty l.place c.in-Some.pair l.shelf l.found l.sent out c.in-Some.ensures.pair l.invariant.leads in
+    let leads = take_pair board files c.args.board.now old empty l.place c.in-Some.pair l.stock l.found l.sent out c.in-Some.ensures.pair l.invariant.leads in
     record {
       leads =
-          missing_file board files c.args.board.now old empty _ c.in-Some.pair l.shelf l.found l.sent out leads (g.F.Folder.files l.folder) l.invariant.kept
+          missing_file board files c.args.board.now old empty _ c.in-Some.pair l.stock l.found l.sent out leads c.keep_near.new.stock c.keep_near.ensures (g.F.Folder.files l.folder) l.invariant.kept
           (rw c.in_default-2.is at c.in_ok-raw.ensures.answer);
       kept = kept_on files (g.F.Folder.files l.folder) (g.F.Folder.files c.read_kept.new.folder) l.invariant.kept c.read_kept.ensures.kept;
       few = omega (arith, l.invariant.few);
@@ -83,14 +83,14 @@ returns-in_err-sent-clause-answer g c =
     let files = g.F.Folder.files c.args.folder.now in
     let old = g.O.Sink.contents c.args.output.now in
     let out = g.O.Sink.contents c.loop-place.output in
-    let empty = c.in_ok-shelf.shelf in
+    let empty = c.in_ok-stock.stock in
     let l = c.loop-place in
-    let leads = take_pair board files c.args.board.now old empty l.place c.in-Some.pair l.shelf l.found l.sent out c.in-Some.ensures.pair l.invariant.leads in
+    let leads = take_pair board files c.args.board.now old empty l.place c.in-Some.pair l.stock l.found l.sent out c.in-Some.ensures.pair l.invariant.leads in
     rw (failed.1, failed.2)
     (inr (
       empty,
-      c.in_ok-shelf.ensures,
-      taken_wrong board files c.args.board.now old empty _ c.in-Some.pair l.shelf l.found l.sent out leads (g.F.Folder.files l.folder) l.invariant.kept
+      c.in_ok-stock.ensures.none,
+      taken_wrong board files c.args.board.now old empty _ c.in-Some.pair l.stock l.found l.sent out leads c.keep_near.new.stock c.keep_near.ensures (g.F.Folder.files l.folder) l.invariant.kept
           c.in-Some-2.raw (rw c.in-Some-2.is at c.in_ok-raw.ensures.answer) _ _ _ c.in_err-sent.ensures.taken,
     ))
 
@@ -101,12 +101,12 @@ loop-place-preserved g c =
     let files = g.F.Folder.files c.args.folder.now in
     let old = g.O.Sink.contents c.args.output.now in
     let out = g.O.Sink.contents c.loop-place.output in
-    let empty = c.in_ok-shelf.shelf in
+    let empty = c.in_ok-stock.stock in
     let l = c.loop-place in
-    let leads = take_pair board files c.args.board.now old empty l.place c.in-Some.pair l.shelf l.found l.sent out c.in-Some.ensures.pair l.invariant.leads in
+    let leads = take_pair board files c.args.board.now old empty l.place c.in-Some.pair l.stock l.found l.sent out c.in-Some.ensures.pair l.invariant.leads in
     record {
       leads =
-          taken_on board files c.args.board.now old empty _ c.in-Some.pair l.shelf l.found l.sent out leads (g.F.Folder.files l.folder) l.invariant.kept
+          taken_on board files c.args.board.now old empty _ c.in-Some.pair l.stock l.found l.sent out leads c.keep_near.new.stock c.keep_near.ensures (g.F.Folder.files l.folder) l.invariant.kept
           c.in-Some-2.raw (rw c.in-Some-2.is at c.in_ok-raw.ensures.answer) _ _ c.in_ok-sent.sent c.in_ok-sent.ensures.taken;
       kept = kept_on files (g.F.Folder.files l.folder) (g.F.Folder.files c.read_kept.new.folder) l.invariant.kept c.read_kept.ensures.kept;
       few = omega (arith, l.invariant.few, c.in_ok-sent.ensures.few);
@@ -121,10 +121,10 @@ returns-then-found-clause-answer g c =
     let l = c.loop-place in
     let out = g.O.Sink.contents l.output in
     inr (
-      c.in_ok-shelf.shelf,
-      c.in_ok-shelf.ensures,
-      at_end g.B.Geometry.shape (g.F.Folder.files c.args.folder.now) c.args.board.now (g.O.Sink.contents c.args.output.now) c.in_ok-shelf.shelf
-          l.place l.shelf l.found l.sent out (Ok tt) c.loop-place-test.false l.invariant.leads
+      c.in_ok-stock.stock,
+      c.in_ok-stock.ensures.none,
+      at_end g.B.Geometry.shape (g.F.Folder.files c.args.folder.now) c.args.board.now (g.O.Sink.contents c.args.output.now) c.in_ok-stock.stock
+          l.place l.stock l.found l.sent out (Ok tt) c.loop-place-test.false l.invariant.leads
           (subst (λ b. AtEnd b (Ok tt)) (sym c.if-found.true) refl),
     )
 
@@ -133,9 +133,9 @@ returns-clause-answer g c =
     let l = c.loop-place in
     let out = g.O.Sink.contents l.output in
     inr (
-      c.in_ok-shelf.shelf,
-      c.in_ok-shelf.ensures,
-      at_end g.B.Geometry.shape (g.F.Folder.files c.args.folder.now) c.args.board.now (g.O.Sink.contents c.args.output.now) c.in_ok-shelf.shelf
-          l.place l.shelf l.found l.sent out (Err fault.NoFiles) c.loop-place-test.false l.invariant.leads
+      c.in_ok-stock.stock,
+      c.in_ok-stock.ensures.none,
+      at_end g.B.Geometry.shape (g.F.Folder.files c.args.folder.now) c.args.board.now (g.O.Sink.contents c.args.output.now) c.in_ok-stock.stock
+          l.place l.stock l.found l.sent out (Err fault.NoFiles) c.loop-place-test.false l.invariant.leads
           (subst (λ b. AtEnd b (Err fault.NoFiles)) (sym c.if-found.false) refl),
     )

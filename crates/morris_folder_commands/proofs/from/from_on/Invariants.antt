@@ -10,8 +10,8 @@ use Rattle.morris_folder_commands.proofs.from.from_on.Given as goal
 -- start makes up one telling
 abbrev pub invariant-loop-place : goal.invariant-loop-place
 invariant-loop-place g l = record {
-  leads : Leads g.B.Geometry.shape (g.F.Folder.files l.initial.folder) l.board (g.O.Sink.contents l.initial.output) l.initial.shelf
-      (filter (fits g.B.Geometry.shape) (drop l.place all_pairs)) l.shelf l.found l.sent (g.O.Sink.contents l.output);
+  leads : Leads g.B.Geometry.shape (g.F.Folder.files l.initial.folder) l.board (g.O.Sink.contents l.initial.output) l.initial.stock
+      (filter (fits g.B.Geometry.shape) (drop l.place all_pairs)) l.stock l.found l.sent (g.O.Sink.contents l.output);
   kept : Keeps (g.F.Folder.files l.initial.folder) (g.F.Folder.files l.folder);
   few : l.sent ≤ 2 ^ 10 * l.place;
   unfailed : g.F.Folder.failures l.folder ≡ g.F.Folder.failures l.initial.folder;
