@@ -6,13 +6,13 @@ ghost use Rattle.morris_progress.specs.Progress.{TellsInOrder};
 ghost use Rattle.morris_words.specs.Words.{IsInRange, faults_of, named_by};
 ghost use Rattle.morris_words.specs.declared.words.Task.TheVariants as task;
 ghost use Rattle.morris_commands.specs.Verify.{input_of};
-ghost use Rattle.morris.specs.Command.{Answers, AnswersQueries, AsksToRead, Ends, HasMistake, TellsProgress, end_of, not_text, shown_of, status_of, takes_input};
+ghost use Rattle.morris.specs.Command.{Answers, AnswersCount, AnswersQueries, AsksToRead, Ends, HasMistake, TellsProgress, end_of, not_text, shown_of, status_of, takes_input};
 
 use morris_board::streams::{Sink, Source};
 use morris_commands::build::build_with;
 use morris_commands::look::look;
 use morris_commands::probe::probe_with;
-use morris_commands::stats::stats_with;
+use morris_commands::stats::{stats_by_classes, stats_with};
 use morris_commands::verify::verify_with;
 use morris_faults::fault::Fault;
 use morris_faults::print::{print, send};
@@ -159,7 +159,15 @@ fn perform<
 {
     match task {
         Task::Look { board, text, depth } => look(board, text, depth, output),
-        Task::Stats { board, pair } => stats_with(alloc, board, pair, output, teller),
+        Task::Stats {
+            board,
+            pair,
+            classes,
+            workers,
+            blocks,
+        } => count(
+            rt, alloc, board, pair, classes, workers, blocks, output, teller,
+        ),
         Task::Build {
             board,
             pair,
@@ -202,6 +210,31 @@ fn perform<
             input,
             output,
         ),
+    }
+}
+
+/// Counts the values of a pair's positions: with `classes` from tables by classes, which so many
+/// workers build over so many blocks, and else on one thread.
+fn count<R: Threads + Wait + Sync, O: Sink, T: Teller>(
+    rt: &R,
+    alloc: Global,
+    board: &str,
+    pair: &str,
+    classes: bool,
+    workers: u8,
+    blocks: u16,
+    output: &mut O,
+    teller: &mut T,
+) -> Result<(), Fault>
+    requires output { O.failures output.old < 2 ^ 64 - 1 }
+    ensures answer { AnswersCount classes board.now pair.now workers blocks (O.contents output.old) (O.contents output.new) result }
+    ensures told { T.becomes teller.old teller.new }
+{
+    if classes {
+        let (workers, blocks) = (usize::from(workers), usize::from(blocks));
+        stats_by_classes(rt, alloc, board, pair, workers, blocks, output, teller)
+    } else {
+        stats_with(alloc, board, pair, output, teller)
     }
 }
 

@@ -3,3 +3,4 @@ pub mod Stats
 pub mod Verify
 pub mod Probe
 pub mod Build
+pub mod StatsByClasses

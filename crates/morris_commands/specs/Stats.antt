@@ -5,9 +5,8 @@ use Rattle.std.specs.Fmt.{decimal}
 use Rattle.std.specs.Io.KnownBytes.{Keeps}
 use Rattle.morris_board.specs.Boards.{Shape}
 use Rattle.morris_index.specs.Pairs.{Counts, below_of, pair_text, size_of}
-use Rattle.morris_table.specs.declared.layout.Layout.TheVariants.{Full}
 use Rattle.morris_table.specs.Known.{IsBeyondCodes}
-use Rattle.morris_table.specs.Tables.{IsTable, table, tallies_of}
+use Rattle.morris_census.specs.Census.{HasTallies}
 use Rattle.morris_probe.specs.Lines.{number_line}
 use Rattle.morris_faults.specs.declared.fault.Fault.{Fault}
 use Rattle.morris_faults.specs.declared.fault.Fault.TheVariants as fault
@@ -39,11 +38,6 @@ draw_line count = number_line (codes "draw: ") count
 -- draw, and any other code is one more than the depth.
 unfoldable pub stats_text : ℕ → Counts → List ℕ → List ℕ
 stats_text n pair tallies = pair_line n pair ++ depth_lines (drop 1 tallies) ++ draw_line (slice_index tallies 0)
-
--- these are how many positions of the pair have each code, where each code is the game's value and
--- exact depth
-abbrev pub HasTallies : Shape → Counts → List ℕ → Type 0
-HasTallies board pair tallies = (entries : List ℕ) × IsTable board (table Full pair entries) × (tallies ≡ tallies_of entries)
 
 -- `stats` prints the text of these
 abbrev pub PrintsStats : {T : Type 0} → Shape → Counts → Option (List ℕ) → Option (List ℕ) → Result T Fault → Type 0

@@ -5,23 +5,32 @@ ghost use Rattle.morris_table.specs.Known.{IsBeyondCodes};
 ghost use Rattle.morris_table.specs.Shelves.{first_missing, table_on};
 ghost use Rattle.morris_faults.specs.Faults.{CountsWrites};
 ghost use Rattle.morris_faults.specs.BoardNames.{board_of};
-ghost use Rattle.morris_commands.specs.Stats.{AnswersOn, AnswersStats, HasTallies, HasTooDeep, IsRefusedAt, IsRefusedBefore, IsRefusedFor, RestsOnTooDeep};
+ghost use Rattle.morris_census.specs.Census.{HasTallies};
+ghost use Rattle.morris_commands.specs.Build.{HasExactAt, IsUnbuiltFor};
+ghost use Rattle.morris_commands.specs.Stats.{AnswersOn, AnswersStats, HasTooDeep, IsRefusedAt, IsRefusedBefore, IsRefusedFor, RestsOnTooDeep};
+ghost use Rattle.morris_commands.specs.StatsByClasses.{AnswersByClasses, AnswersByClassesOn};
 
+use crate::build::{build_onto, spare};
 use crate::print_stats::Counted;
 use morris_board::board::Board;
 use morris_board::streams::Sink;
+use morris_census::counting::count_positions;
 use morris_faults::fault::Fault;
 use morris_faults::on_board;
 use morris_faults::pairs::read_pair;
 use morris_faults::print::print;
 use morris_index::pair::Pair;
 use morris_progress::size::Way;
+use morris_progress::team::Team;
 use morris_progress::teller::Teller;
 use morris_table::layout::Layout;
 use morris_table::shelf::Shelf;
+use morris_table::stock::Stock;
 use morris_table::sweeping::sweep_pair;
 use morris_workers::Unwatched;
 use std::alloc::Global;
+use std::sync::Wait;
+use std::thread::Threads;
 
 /// Counts the values of all positions of the pair that the text `pair` names on the board named
 /// `board`: how many positions there are, how many of them are lost or won in each depth that some
@@ -138,4 +147,105 @@ fn sweep_onto<B: Board, T: Teller>(
         Ok(()) => Ok(()),
         Err(_) => unreachable!(),
     }
+}
+
+/// Prints what [`stats`] prints, counted from tables with an entry for each class of positions. So
+/// many workers build each of these over so many blocks; the text is the same for every number of
+/// them. `teller` is told how far it is.
+///
+/// # Errors
+/// [`Fault::Board`] where there is no such board, else [`Fault::PairText`], [`Fault::Counts`] or
+/// [`Fault::Crowded`] where the text names no pair of the board, in this order; else
+/// [`Fault::Workers`] where there aren't 1 to 64 workers, else [`Fault::Blocks`] where there aren't
+/// 1 to 1,024 blocks; else the first refusal of a build: [`Fault::Memory`] where memory is refused,
+/// [`Fault::Missing`] with the number of a block that was left incomplete, or [`Fault::TooDeep`]
+/// where depths go past what a table can hold. Nothing is then written. Else [`Fault::Write`], with
+/// the bytes that went out, at the first write that fails.
+pub fn stats_by_classes<R: Threads + Wait + Sync, S: Sink, T: Teller>(
+    rt: &R,
+    alloc: Global,
+    board: &str,
+    pair: &str,
+    workers: usize,
+    blocks: usize,
+    output: &mut S,
+    teller: &mut T,
+) -> Result<(), Fault>
+    requires { S.failures output.old < 2 ^ 64 - 1 }
+    ensures answer { AnswersByClasses (board_of board.now) pair.now workers blocks (S.contents output.old) (S.contents output.new) result }
+    ensures counted { CountsWrites (S.failures output.old) (S.failures output.new) result }
+    ensures told { T.becomes teller.old teller.new }
+{
+    on_board!(
+        board,
+        by_classes_on::<R, S, T>(rt, alloc, pair, workers, blocks, output, teller)
+    )
+}
+
+fn by_classes_on<B: Board, R: Threads + Wait + Sync, S: Sink, T: Teller>(
+    rt: &R,
+    alloc: Global,
+    text: &str,
+    workers: usize,
+    blocks: usize,
+    output: &mut S,
+    teller: &mut T,
+) -> Result<(), Fault>
+    requires { S.failures output.old < 2 ^ 64 - 1 }
+    ensures answer { AnswersByClassesOn B.shape text.now workers blocks (S.contents output.old) (S.contents output.new) result }
+    ensures counted { CountsWrites (S.failures output.old) (S.failures output.new) result }
+    ensures told { T.becomes teller.old teller.new }
+{
+    let pair = read_pair::<B>(text)?;
+    let team = Team::new(workers, blocks)?;
+    let tallies = count_by_classes(rt, alloc, pair, team, teller)?;
+    let tallies = tallies.as_slice();
+    print(&Counted { pair, tallies }, output)
+}
+
+/// How many positions of a pair have each code, from tables by classes that a team builds.
+fn count_by_classes<B: Board, R: Threads + Wait + Sync, T: Teller>(
+    rt: &R,
+    alloc: Global,
+    pair: Pair<B>,
+    team: Team,
+    teller: &mut T,
+) -> Result<Vec<u64>, Fault>
+    // The caller's proof learns here that the board has as many points as its shape says.
+    ensures points { B.shape.points ≡ B.POINTS }
+    ensures counts { IfOk result (λ v. HasTallies B.shape pair v.items) }
+    ensures few { IfOk result (λ v. length v.items ≤ 2 ^ 16) }
+    ensures within { OnOk result (¬ HasTooDeep B.shape pair) }
+    ensures refused { IfErr result (IsUnbuiltFor B.shape pair team.blocks) }
+    ensures told { T.becomes teller.old teller.new }
+{
+    let stock = build_classes(rt, alloc, pair, team, teller)?;
+    let Some(table) = stock.get(pair) else {
+        unreachable!()
+    };
+    Ok(count_positions(alloc, table)?)
+}
+
+/// The table of a pair by classes, on a stock. Those that it rests on are let go once no pair to
+/// come needs them.
+fn build_classes<B: Board, R: Threads + Wait + Sync, T: Teller>(
+    rt: &R,
+    alloc: Global,
+    pair: Pair<B>,
+    team: Team,
+    teller: &mut T,
+) -> Result<Stock<B>, Fault>
+    ensures exact { IfOk result (λ stock. HasExactAt B.shape Layout.Classes stock pair) }
+    ensures within { OnOk result (¬ HasTooDeep B.shape pair) }
+    ensures refused { IfErr result (IsUnbuiltFor B.shape pair team.blocks) }
+    ensures told { T.becomes teller.old teller.new }
+{
+    let mut stock = Stock::new(alloc)?;
+    let all = false;
+    teller.announce(pair, Layout::Classes, Way::Built { team, all });
+    for below in pair.below() {
+        spare(&mut stock, all, below);
+        build_onto(rt, alloc, &mut stock, Layout::Classes, below, team, teller)?;
+    }
+    Ok(stock)
 }

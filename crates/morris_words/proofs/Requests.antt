@@ -84,7 +84,10 @@ abbrev look_top : Shape
 look_top = record (new_shape (codes "look")) { rules = required_rule (codes "BOARD") ∷ required_rule (codes "TEXT") ∷ depth_rule ∷ [] }
 
 abbrev stats_top : Shape
-stats_top = record (new_shape (codes "stats")) { rules = required_rule (codes "BOARD") ∷ required_rule (codes "PAIR") ∷ flag_rule (codes "progress") ∷ [] }
+stats_top = record (new_shape (codes "stats")) {
+  rules = required_rule (codes "BOARD") ∷ required_rule (codes "PAIR") ∷ flag_rule (codes "classes") ∷ workers_rule ∷ blocks_rule
+      ∷ flag_rule (codes "progress") ∷ [];
+}
 
 abbrev build_top : Shape
 build_top = record (new_shape (codes "build")) {
@@ -144,11 +147,20 @@ look_fits words none =
 abbrev pair : Rule
 pair = with_index 2 (filled (required_rule (codes "PAIR")))
 
+abbrev workers : Rule
+workers = filled workers_rule
+
+abbrev blocks : Rule
+blocks = filled blocks_rule
+
 abbrev stats : Shape
 stats = built_leaf (inherited (with_leaf_noted (marked_built whole.top)) stats_top)
 
 stats_plain : Each (IsPlainRule stats.rules) stats.rules
-stats_plain = (sets refl refl refl, (sets refl refl refl, (stands refl refl refl, (asks refl refl, tt))))
+stats_plain = (
+  sets refl refl refl,
+  (sets refl refl refl, (stands refl refl refl, (sets refl refl refl, (sets refl refl refl, (stands refl refl refl, (asks refl refl, tt)))))),
+)
 
 stats_fits : (words : List Text) → level_fault stats [] nothing_held words false [] ≡ [] → HasStatsValues (rows_after stats.rules [] words)
 stats_fits words none =
@@ -157,22 +169,28 @@ stats_fits words none =
     let start = (settled stats.rules (walk stats.rules [] nothing_held words).held).rows in
     let missing : (not (is_given (codes "BOARD") rows) || (not (is_given (codes "PAIR") rows) || false)) ≡ false = arguments_there stats rows false level.checked in
     let given = both_given _ _ missing in
+    let two = with_default (with_default start board) pair in
+    let three = with_default two (flag (codes "classes")) in
+    let four = with_default three workers in
+    let five = with_default four blocks in
+    let after_blocks = flag (codes "progress") ∷ help ∷ [] in
+    let after_workers = blocks ∷ after_blocks in
     let first : HasValue rows board = given_value stats.rules rows board level.rows given.0 refl in
     let second : HasValue rows pair = given_value stats.rules rows pair level.rows given.1 refl in
-    let progress = flag_says stats.rules (codes "progress") (help ∷ []) (with_default (with_default start board) pair) level.rows refl in
+    let classes = flag_says stats.rules (codes "classes") (workers ∷ after_workers) two level.rows refl in
+    let third : HasValue rows workers = row_value stats.rules rows workers level.rows (default_stays workers (codes "2") [] after_workers three refl) refl in
+    let fourth : HasValue rows blocks = row_value stats.rules rows blocks level.rows (default_stays blocks (codes "16") [] after_blocks four refl) refl in
+    let progress = flag_says stats.rules (codes "progress") (help ∷ []) five level.rows refl in
     record {
       board = ap is_some first.is_first;
       pair = ap is_some second.is_first;
+      classes = classes;
+      workers = record { text = third.first; read = third.read; in_range = accepts-Accepts false (parser.Signed (pos 1) (pos 64)) third.first third.passes };
+      blocks = record { text = fourth.first; read = fourth.read; in_range = accepts-Accepts false (parser.Signed (pos 1) (pos 1024)) fourth.first fourth.passes };
       progress = progress;
     }
 
 -- ---- `build`, as it is built
-
-abbrev workers : Rule
-workers = filled workers_rule
-
-abbrev blocks : Rule
-blocks = filled blocks_rule
 
 abbrev into : Rule
 into = filled (option_rule (codes "into"))

@@ -58,12 +58,6 @@ program = record (new_app (codes "morris")) {
 abbrev pub flag_rule : Text → Rule
 flag_rule name = record (new_rule name) { long = Some name; action = Some action.SetTrue }
 
--- `stats BOARD PAIR [--progress]`
-unfoldable pub stats_app : App
-stats_app =
-    with_rule (with_rule (with_rule (new_app (codes "stats")) (required_rule (codes "BOARD")))
-    (required_rule (codes "PAIR"))) (flag_rule (codes "progress"))
-
 -- `--workers W`, W a number from 1 to 64, and 2 where it is left out
 abbrev pub workers_rule : Rule
 workers_rule = record (new_rule (codes "workers")) {
@@ -81,6 +75,12 @@ blocks_rule = record (new_rule (codes "blocks")) {
   parser = Some (parser.Signed (pos 1) (pos 1024));
   defaults = codes "16" ∷ [];
 }
+
+-- `stats BOARD PAIR [--classes] [--workers W] [--blocks K] [--progress]`
+unfoldable pub stats_app : App
+stats_app =
+    with_rule (with_rule (with_rule (with_rule (with_rule (with_rule (new_app (codes "stats")) (required_rule (codes "BOARD")))
+    (required_rule (codes "PAIR"))) (flag_rule (codes "classes"))) workers_rule) blocks_rule) (flag_rule (codes "progress"))
 
 -- `--NAME VALUE`, an option that may be left out, and has no value then
 abbrev pub option_rule : Text → Rule
@@ -183,8 +183,11 @@ AsksForTask name rows (Look board text depth) =
     (name ≡ codes "look") × (first_of (codes "BOARD") rows ≡ Some board.now)
     × (first_of (codes "TEXT") rows ≡ Some text.now)
     × (option_map number_of (one_of (codes "depth") rows) ≡ Some depth)
-AsksForTask name rows (Stats board pair) =
+AsksForTask name rows (Stats board pair classes workers blocks) =
     (name ≡ codes "stats") × (first_of (codes "BOARD") rows ≡ Some board.now) × (first_of (codes "PAIR") rows ≡ Some pair.now)
+    × (one_of (codes "classes") rows ≡ Some (bool_text classes))
+    × (option_map number_of (one_of (codes "workers") rows) ≡ Some workers)
+    × (option_map number_of (one_of (codes "blocks") rows) ≡ Some blocks)
 AsksForTask name rows (Build board pair workers blocks all into classes) =
     (name ≡ codes "build") × (first_of (codes "BOARD") rows ≡ Some board.now) × (first_of (codes "PAIR") rows ≡ Some pair.now)
     × (option_map number_of (one_of (codes "workers") rows) ≡ Some workers)
@@ -215,6 +218,7 @@ AsksFor (Some (name, rows)) r = AsksForTask name rows r.task × AsksToTell r.tas
 -- a depth to look ahead is at most 6 plies; workers are 1 to 64, and blocks 1 to 1,024
 abbrev pub IsInRange : Task → Type 0
 IsInRange (Look board text depth) = depth ≤ 6
+IsInRange (Stats board pair classes workers blocks) = ((1 ≤ workers) × (workers ≤ 64)) × ((1 ≤ blocks) × (blocks ≤ 1024))
 IsInRange (Build board pair workers blocks all into classes) = ((1 ≤ workers) × (workers ≤ 64)) × ((1 ≤ blocks) × (blocks ≤ 1024))
 IsInRange (Verify board from workers) = (1 ≤ workers) × (workers ≤ 64)
 IsInRange _ = ⊤
@@ -240,11 +244,14 @@ pub record HasLookValues (rows : List Row) : Type 0 where
   pub text : is_some (first_of (codes "TEXT") rows) ≡ true
   pub depth : HasNumber (codes "depth") 0 6 rows
 
--- the values of which `stats` makes its request: board and pair are there, and so is the value of
--- its flag
+-- the values of which `stats` makes its request: board and pair are there, and so are a number of
+-- workers from 1 to 64, one of blocks from 1 to 1,024, and the values of its flags
 pub record HasStatsValues (rows : List Row) : Type 0 where
   pub board : is_some (first_of (codes "BOARD") rows) ≡ true
   pub pair : is_some (first_of (codes "PAIR") rows) ≡ true
+  pub classes : HasFlag (codes "classes") rows
+  pub workers : HasNumber (codes "workers") 1 64 rows
+  pub blocks : HasNumber (codes "blocks") 1 1024 rows
   pub progress : HasFlag (codes "progress") rows
 
 -- the values of which `build` makes its request: board and pair are there, and so are a number of

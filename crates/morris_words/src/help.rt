@@ -115,10 +115,16 @@ pub(crate) const STATS: &str = page!(
     []
     PAIR
     "\
-It finds the values of the pair and of the pairs that it rests on, on one\n\
-thread, and prints how many positions there are, how many are won and lost in\n\
-each number of plies (a ply is one player's move; the player to move is the one\n\
-who wins or loses), and how many are drawn: neither player can force a win.\n\
+It finds the values of the pair and of the pairs that it rests on, and prints\n\
+how many positions there are, how many are won and lost in each number of plies\n\
+(a ply is one player's move; the player to move is the one who wins or loses),\n\
+and how many are drawn: neither player can force a win.\n\
+\n\
+One thread finds them, with an entry for each position. With --classes most\n\
+positions that a symmetry of the board leads to one another share an entry, and\n\
+W threads build the tables over K blocks: this is faster and takes less memory.\n\
+Without --classes, --workers and --blocks change nothing. What is printed is the\n\
+same each way: an entry counts for each of its positions.\n\
 \n\
 "
     PROGRESS

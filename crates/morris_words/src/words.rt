@@ -34,10 +34,15 @@ pub enum Task<'a> {
         text: &'a str,
         depth: u8,
     },
-    /// Count the values of the positions of the pair that `pair` names on the board named `board`.
+    /// Count the values of the positions of the pair that `pair` names on the board named `board`,
+    /// with 1 to 64 `workers` and 1 to 1,024 `blocks`. Where `classes` is true the tables have an
+    /// entry for each class of positions.
     Stats {
         board: &'a str,
         pair: &'a str,
+        classes: bool,
+        workers: u8,
+        blocks: u16,
     },
     /// Build the table of the pair that `pair` names on the board named `board`, and of each pair
     /// below it, with 1 to 64 `workers` and 1 to 1,024 `blocks`. Write the table file of the pair
@@ -143,6 +148,8 @@ const FROM_HELP: &str = "Check every table file of the board in this folder";
 
 const CLASSES_HELP: &str = "Have one entry for each class of positions: files of version 2";
 
+const CLASS_TABLES_HELP: &str = "Find the values by one entry for each class of positions";
+
 const PROGRESS_HELP: &str = "Show on standard error how much is done";
 
 const TABLES_HELP: &str = "The folder of the table files";
@@ -156,8 +163,8 @@ const POSITIONS_HELP: &str = "The positions, or else one on each line of standar
 // How `clap` ends what it says of a mistake.
 const MORE_HELP: &str = "\n\nFor more information, try '--help'.\n";
 
-// How many workers `build` and `verify` have, and how many blocks `build` has, where they are left
-// out.
+// How many workers `stats`, `build` and `verify` have, and how many blocks the first two have,
+// where they are left out.
 const DEFAULT_WORKERS: &str = "2";
 
 const DEFAULT_BLOCKS: &str = "16";
@@ -204,6 +211,9 @@ fn stats_command<'a>(alloc: Global) -> Result<Command<'a>, AllocError>
     command_of(alloc, "stats", about, help::STATS)
         .arg(required_arg(alloc, "BOARD", BOARD_HELP))?
         .arg(required_arg(alloc, "PAIR", PAIR_HELP))?
+        .arg(flag_arg(alloc, "classes", CLASS_TABLES_HELP))?
+        .arg(workers_arg(alloc))?
+        .arg(blocks_arg(alloc))?
         .arg(flag_arg(alloc, "progress", PROGRESS_HELP))
 }
 
@@ -363,10 +373,14 @@ fn stats_request<'a>(found: &ArgMatches<'a>) -> Request<'a>
     ensures request { AsksFor (Some (codes "stats", rows_of (found_of found.now))) result }
     ensures range { IsInRange result.task }
 {
+    let classes = flag(found, "classes");
     Request {
         task: Task::Stats {
             board: given(found, "BOARD"),
             pair: given(found, "PAIR"),
+            classes,
+            workers: number(found, "workers") as u8,
+            blocks: number(found, "blocks"),
         },
         progress: flag(found, "progress"),
     }

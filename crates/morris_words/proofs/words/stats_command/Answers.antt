@@ -8,4 +8,7 @@ unfolding stats_app
 returns c =
     let one = with_arg _ _ _ _ _ c.command_of.ensures c.required_arg.ensures c.in_ok-arg.ensures in
     let two = with_arg _ _ _ _ _ one c.required_arg-2.ensures c.in_ok-arg-2.ensures in
-    IfOk-weaker c.arg-3.result _ _ (λ r h. with_arg _ _ _ _ _ two c.flag_arg.ensures h) c.arg-3.ensures
+    let three = with_arg _ _ _ _ _ two c.flag_arg.ensures c.in_ok-arg-3.ensures in
+    let four = with_arg _ _ _ _ _ three c.workers_arg.ensures c.in_ok-arg-4.ensures in
+    let five = with_arg _ _ _ _ _ four c.blocks_arg.ensures c.in_ok-arg-5.ensures in
+    IfOk-weaker c.arg-6.result _ _ (λ r h. with_arg _ _ _ _ _ five c.flag_arg-2.ensures h) c.arg-6.ensures
