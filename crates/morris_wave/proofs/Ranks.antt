@@ -5,7 +5,8 @@ use Rattle.std.proofs.lemmas.Bool.{cases_eq, cases_lt, cases_Bool, cond-true, co
 use Rattle.std.proofs.lemmas.List.{take_more, get_or_append_left, get_or_push, get_or_default, get_or-take, get_or-drop, drop-take, get_or-replicate, length-replicate}
 use Rattle.std.proofs.lemmas.List.Sums.{get_or-le-sum_by, sum_by-take-drop}
 use Rattle.std.proofs.lemmas.List.Folds.{list_any_at}
-use Rattle.std.proofs.lemmas.List.Sorted.{IsNonDecreasingBy-push}
+use Rattle.std.proofs.lemmas.List.Elements.{All-drop}
+use Rattle.std.proofs.lemmas.List.Sorted.{IsNonDecreasingBy-push, IsNonDecreasingBy-drop}
 use Rattle.morris_wave.specs.Nets.{times}
 use Rattle.morris_wave.specs.Exits.{is_odd, is_won_code}
 use Rattle.morris_wave.specs.Keeping.{Ranked, code_of}
@@ -33,7 +34,7 @@ times_some i xs p l e =
     let one : cond {A = ℕ} (eqb (get_or xs p 0) i) 1 0 ≡ 1 = cond-true {A = ℕ} (eqb (get_or xs p 0) i) 1 0 (eq-eqb (get_or xs p 0) i e) in
     omega (arith, le, one)
 
-module _ (first wave before here : ℕ) (codes decided : List ℕ) (h : Ranked first wave codes decided before here) where
+module _ {all : Bool} (first wave before here : ℕ) (codes decided : List ℕ) (h : Ranked all first wave codes decided before here) where
   -- a decided node has a code
   pub ranked_code : (p : ℕ) → p < length decided → 0 < code_of first codes (get_or decided p 0)
   ranked_code p l =
@@ -41,9 +42,10 @@ module _ (first wave before here : ℕ) (codes decided : List ℕ) (h : Ranked f
       let at = h.inside p 0 l in
       let back : i ≡ first + (i - first) = omega (arith, at.0) in
       let many : 0 < times (first + (i - first)) decided = times_some (first + (i - first)) decided p l back in
-      let once = h.once (i - first) (omega (arith, at.0, at.1)) in
       ⊎_elim
-      (λ z. absurd (omega (arith, many, once, cond-true {A = ℕ} (eqb (get_or codes (i - first) 0) 0) 0 1 (eq-eqb (get_or codes (i - first) 0) 0 z))))
+      (λ z.
+      let once = h.once (i - first) (omega (arith, at.0, at.1)) (λ _ pos. absurd (omega (arith, z, pos))) in
+      absurd (omega (arith, many, once, cond-true {A = ℕ} (eqb (get_or codes (i - first) 0) 0) 0 1 (eq-eqb (get_or codes (i - first) 0) 0 z))))
       (λ z. omega (arith, z))
       (cases_eq (get_or codes (i - first) 0) 0)
 
@@ -79,7 +81,7 @@ module _ (first wave before here : ℕ) (codes decided : List ℕ) (h : Ranked f
         (λ a. ⊎_elim (λ b. omega (arith, h.last p a b)) (λ b. omega (arith, h.this p b l)) (cases_lt p here))
         (cases_lt p before)
 
-    pub ranked_more : Ranked first wave (set codes place (wave + 1)) (decided ++ (first + place) ∷ []) before here
+    pub ranked_more : Ranked all first wave (set codes place (wave + 1)) (decided ++ (first + place) ∷ []) before here
     ranked_more = record {
       inside = λ p d l.
           ⊎_elim
@@ -89,22 +91,25 @@ module _ (first wave before here : ℕ) (codes decided : List ℕ) (h : Ranked f
           (λ a. let e : get_or (decided ++ (first + place) ∷ []) p d ≡ first + place = get_or_push decided (first + place) d p (omega (arith, a, l, len)) in
           (omega (arith, e), omega (arith, e, inside, length-set codes place (wave + 1))))
           (cases_lt p (length decided));
-      once = λ k l.
+      once = λ k l kept.
           let more = times-append (first + k) decided ((first + place) ∷ []) in
           let one : times (first + k) ((first + place) ∷ []) ≡ cond {A = ℕ} (eqb (first + place) (first + k)) 1 0 + 0 = count-cons (λ y. eqb y (first + k)) (first + place) [] in
-          let old = h.once k (omega (arith, l, length-set codes place (wave + 1))) in
+          let inside_old : k < length codes = omega (arith, l, length-set codes place (wave + 1)) in
           ⊎_elim
           (λ (e : place ≡ k).
           let yes_it : cond {A = ℕ} (eqb (first + place) (first + k)) 1 0 ≡ 1 = cond-true {A = ℕ} (eqb (first + place) (first + k)) 1 0 (eq-eqb (first + place) (first + k) (omega (arith, e))) in
           let was : get_or codes k 0 ≡ 0 = subst (λ x. get_or codes x 0 ≡ 0) e open_yet in
+          let old = h.once k inside_old (λ _ pos. absurd (omega (arith, was, pos))) in
           let zero_before : cond {A = ℕ} (eqb (get_or codes k 0) 0) 0 1 ≡ 0 = cond-true {A = ℕ} (eqb (get_or codes k 0) 0) 0 1 (eq-eqb (get_or codes k 0) 0 was) in
           let now : get_or (set codes place (wave + 1)) k 0 ≡ wave + 1 = subst (λ x. get_or (set codes place (wave + 1)) x 0 ≡ wave + 1) e (get_or-set_same codes place (wave + 1) 0 inside) in
           let one_now : cond {A = ℕ} (eqb (get_or (set codes place (wave + 1)) k 0) 0) 0 1 ≡ 1 = cond-false {A = ℕ} (eqb (get_or (set codes place (wave + 1)) k 0) 0) 0 1 (ne_eqb (get_or (set codes place (wave + 1)) k 0) 0 (λ z. omega (arith, now, z))) in
           omega (arith, more, one, old, yes_it, zero_before, one_now))
           (λ (ne : place ≡ k → ⊥).
           let not_it : cond {A = ℕ} (eqb (first + place) (first + k)) 1 0 ≡ 0 = cond-false {A = ℕ} (eqb (first + place) (first + k)) 1 0 (ne_eqb (first + place) (first + k) (λ z. ne (omega (arith, z)))) in
+          let code : get_or (set codes place (wave + 1)) k 0 ≡ get_or codes k 0 = get_or-set_other codes place k (wave + 1) 0 (λ z. ne (sym z)) in
           let same : cond {A = ℕ} (eqb (get_or (set codes place (wave + 1)) k 0) 0) 0 1 ≡ cond {A = ℕ} (eqb (get_or codes k 0) 0) 0 1 =
-          ap (λ x. cond {A = ℕ} (eqb x 0) 0 1) (get_or-set_other codes place k (wave + 1) 0 (λ z. ne (sym z))) in
+          ap (λ x. cond {A = ℕ} (eqb x 0) 0 1) code in
+          let old = h.once k inside_old (λ some pos. let le = kept some (omega (arith, code, pos)) in omega (arith, code, le)) in
           omega (arith, more, one, old, not_it, same))
           (cases_eq place k);
       order =
@@ -135,10 +140,10 @@ module _ (first wave before here : ℕ) (codes decided : List ℕ) (h : Ranked f
     }
 
   -- the next wave
-  pub ranked_next : Ranked first (wave + 1) codes decided here (length decided)
+  pub ranked_next : Ranked all first (wave + 1) codes decided here (length decided)
   ranked_next = record {
     inside = h.inside;
-    once = h.once;
+    once = λ k l kept. h.once k l (λ some pos. let le = kept some pos in omega (arith, le));
     order = h.order;
     starts = h.within;
     within = omega arith;
@@ -146,6 +151,49 @@ module _ (first wave before here : ℕ) (codes decided : List ℕ) (h : Ranked f
     last = λ p a b. h.this p a b;
     this = λ p a l. absurd (omega (arith, a, l));
   }
+
+  -- nodes of codes below the wave are let go, unless all are kept
+  module _ (gone : ℕ) (le : gone ≤ before) (whole : all ≡ true → gone ≡ 0) where
+    later : (p : ℕ) → get_or (drop gone decided) p 0 ≡ get_or decided (gone + p) 0
+    later p = get_or-drop gone decided p 0
+
+    left : length (drop gone decided) ≡ length decided - gone
+    left = length-drop gone decided
+
+    -- what was let go has a code below the wave
+    gone_early : (k : ℕ) → wave ≤ get_or codes k 0 → times (first + k) (take gone decided) ≡ 0
+    gone_early k late =
+        times_none (first + k) (take gone decided)
+        (λ p l z.
+        let q : p < gone = omega (arith, l, length-take gone decided) in
+        let at : get_or decided p 0 ≡ first + k = sym (get_or-take gone decided p 0 q) ∙ z in
+        let less : get_or decided p 0 - first ≡ k = omega (arith, at) in
+        let c : code_of first codes (get_or decided p 0) ≡ get_or codes k 0 = ap (λ x. get_or codes x 0) less in
+        omega (arith, h.early p (omega (arith, q, le)), c, late))
+
+    pub ranked_drop : Ranked all first wave codes (drop gone decided) (before - gone) (here - gone)
+    ranked_drop = record {
+      inside = All-drop (λ i. (first ≤ i) × (i < first + length codes)) gone decided h.inside;
+      once = λ k l kept.
+          let parts : times (first + k) (take gone decided) + times (first + k) (drop gone decided) ≡ times (first + k) decided = sum_by-take-drop (λ x. cond {A = ℕ} (eqb x (first + k)) 1 0) decided gone in
+          let old = h.once k l kept in
+          let none : times (first + k) (take gone decided) ≡ 0 =
+          ⊎_elim
+          (λ (e : get_or codes k 0 ≡ 0). omega (arith, parts, old, cond-true {A = ℕ} (eqb (get_or codes k 0) 0) 0 1 (eq-eqb (get_or codes k 0) 0 e)))
+          (λ (ne : get_or codes k 0 ≡ 0 → ⊥).
+          ⊎_elim
+          (λ (t : all ≡ true). ap (λ n. times (first + k) (take n decided)) (whole t))
+          (λ (f : all ≡ false). gone_early k (kept f (omega (arith, ne))))
+          (cases_Bool all))
+          (cases_eq (get_or codes k 0) 0) in
+          omega (arith, parts, old, none);
+      order = IsNonDecreasingBy-drop (code_of first codes) gone decided h.order;
+      starts = omega (arith, h.starts);
+      within = omega (arith, h.within, left);
+      early = λ p l. let e = ap (code_of first codes) (later p) in omega (arith, e, h.early (gone + p) (omega (arith, l)));
+      last = λ p a b. ap (code_of first codes) (later p) ∙ h.last (gone + p) (omega (arith, a)) (omega (arith, b));
+      this = λ p a l. ap (code_of first codes) (later p) ∙ h.this (gone + p) (omega (arith, a)) (omega (arith, l, left));
+    }
 
   -- the stretch of the wave has each node of its code once, and no other
   pub stretch_once : (k : ℕ) → k < length codes → times (first + k) (take (here - before) (drop before decided)) ≡ cond {A = ℕ} (ltb 0 wave && eqb (get_or codes k 0) wave) 1 0
@@ -161,7 +209,7 @@ module _ (first wave before here : ℕ) (codes decided : List ℕ) (h : Ranked f
       (λ e. let w = and_parts (ltb 0 wave) (eqb (get_or codes k 0) wave) e in
       let is : get_or codes k 0 ≡ wave = eqb-true (get_or codes k 0) wave w.1 in
       let pos : 0 < wave = ltb-true 0 wave w.0 in
-      let one : times (first + k) decided ≡ 1 = h.once k l ∙ cond-false {A = ℕ} (eqb (get_or codes k 0) 0) 0 1 (ne_eqb (get_or codes k 0) 0 (λ z. omega (arith, z, is, pos))) in
+      let one : times (first + k) decided ≡ 1 = h.once k l (λ _ _. omega (arith, is)) ∙ cond-false {A = ℕ} (eqb (get_or codes k 0) 0) 0 1 (ne_eqb (get_or codes k 0) 0 (λ z. omega (arith, z, is, pos))) in
       let none_before : times (first + k) (take before (take here decided)) ≡ 0 =
       times_none (first + k) (take before (take here decided))
       (λ p lp z. let q : p < before = omega (arith, lp, length-take before (take here decided)) in
@@ -211,7 +259,7 @@ module _ (first wave before here : ℕ) (codes decided : List ℕ) (h : Ranked f
       ∙ sym (false_from_ne_true (list_any (λ c. eqb c (wave + 1)) codes) (λ e.
       let w = some_code codes (wave + 1) e in
       let is : get_or codes w.0 0 ≡ wave + 1 = eqb-true (get_or codes w.0 0) (wave + 1) w.1.1 in
-      let one : times (first + w.0) decided ≡ 1 = h.once w.0 w.1.0 ∙ cond-false {A = ℕ} (eqb (get_or codes w.0 0) 0) 0 1 (ne_eqb (get_or codes w.0 0) 0 (λ z. omega (arith, z, is))) in
+      let one : times (first + w.0) decided ≡ 1 = h.once w.0 w.1.0 (λ _ _. omega (arith, is)) ∙ cond-false {A = ℕ} (eqb (get_or codes w.0 0) 0) 0 1 (ne_eqb (get_or codes w.0 0) 0 (λ z. omega (arith, z, is))) in
       let nowhere : times (first + w.0) decided ≡ 0 =
       times_none (first + w.0) decided
       (λ p l z. let less : get_or decided p 0 - first ≡ w.0 = omega (arith, z) in
@@ -228,20 +276,20 @@ module _ (first wave before here : ℕ) (codes decided : List ℕ) (h : Ranked f
           (λ q. let w = some_code cs n q in (suc w.0, (omega (arith, w.1.0), w.1.1)))
           (or_cases (eqb c n) (list_any (λ x. eqb x n) cs) e)
 
--- each decided node once, by any test that says which codes aren't 0
-pub ranked_once : (first wave before here : ℕ) (codes decided : List ℕ) → Ranked first wave codes decided before here → (k : ℕ) → k < length codes → (test : Bool)
+-- each decided node once where all are kept, by any test that says which codes aren't 0
+pub ranked_once : (first wave before here : ℕ) (codes decided : List ℕ) → Ranked true first wave codes decided before here → (k : ℕ) → k < length codes → (test : Bool)
     → (get_or codes k 0 ≡ 0) ↔ (test ≡ false) → times (first + k) decided ≡ cond {A = ℕ} test 1 0
 ranked_once first wave before here codes decided h k l test e =
     ⊎_elim
-    (λ t. h.once k l ∙ (cond-false {A = ℕ} (eqb (get_or codes k 0) 0) 0 1 (ne_eqb (get_or codes k 0) 0 (λ z. both_ways test (e.0 z) t)) ∙ sym (cond-true {A = ℕ} test 1 0 t)))
-    (λ t. h.once k l ∙ (cond-true {A = ℕ} (eqb (get_or codes k 0) 0) 0 1 (eq-eqb (get_or codes k 0) 0 (e.1 t)) ∙ sym (cond-false {A = ℕ} test 1 0 t)))
+    (λ t. h.once k l (λ f _. absurd (false≢true (sym f))) ∙ (cond-false {A = ℕ} (eqb (get_or codes k 0) 0) 0 1 (ne_eqb (get_or codes k 0) 0 (λ z. both_ways test (e.0 z) t)) ∙ sym (cond-true {A = ℕ} test 1 0 t)))
+    (λ t. h.once k l (λ f _. absurd (false≢true (sym f))) ∙ (cond-true {A = ℕ} (eqb (get_or codes k 0) 0) 0 1 (eq-eqb (get_or codes k 0) 0 (e.1 t)) ∙ sym (cond-false {A = ℕ} test 1 0 t)))
     (cases_Bool test)
 
 -- before the first wave nothing is decided
-pub ranked_none : (first count : ℕ) (codes : List ℕ) → codes ≡ replicate count 0 → Ranked first 0 codes [] 0 0
-ranked_none first count codes is = record {
+pub ranked_none : (first count : ℕ) (codes : List ℕ) → codes ≡ replicate count 0 → (all : Bool) → Ranked all first 0 codes [] 0 0
+ranked_none first count codes is all = record {
   inside = λ p d l. absurd (omega (arith, l));
-  once = λ k l. sym (cond-true {A = ℕ} (eqb (get_or codes k 0) 0) 0 1 (eq-eqb (get_or codes k 0) 0 (ap (λ xs. get_or xs k 0) is ∙ get_or-replicate count k 0 0 (omega (arith, l, ap length is, length-replicate {A = ℕ} count 0)))));
+  once = λ k l _. sym (cond-true {A = ℕ} (eqb (get_or codes k 0) 0) 0 1 (eq-eqb (get_or codes k 0) 0 (ap (λ xs. get_or xs k 0) is ∙ get_or-replicate count k 0 0 (omega (arith, l, ap length is, length-replicate {A = ℕ} count 0)))));
   order = λ i j d le l. absurd (omega (arith, l));
   starts = omega arith;
   within = omega arith;

@@ -70,7 +70,7 @@ module _ (g : Net) (law : IsNet g) (s : BlockState) (first : ℕ) (codes counter
     code_open = subst (λ x. (x ≡ 0) ↔ (is_decided_at g s.wave (in_applied s) i ≡ false)) (sym entry_read) (entry_open g s.wave (in_applied s) i)
 
   -- the list of the decided nodes
-  module _ (wave before here : ℕ) (decided : List ℕ) (r : Ranked first wave codes decided before here) where
+  module _ (wave before here : ℕ) (decided : List ℕ) (r : Ranked true first wave codes decided before here) where
     pub list_inside : All (IsIn s.cut s.number) decided
     list_inside p d l = let w = r.inside p d l in node_inside g law s first codes counters due last_due h (get_or decided p d) w.0 w.1
 

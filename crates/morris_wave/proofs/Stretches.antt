@@ -51,7 +51,7 @@ module _ (g : Net) (law : IsNet g) (n : ℕ) (a : ℕ → Bool) (first : ℕ) (c
       let here : first + (i - first) ≡ i = omega (arith, low) in
       h.codes_are (i - first) (omega (arith, low, high)) ∙ ap (entry_at g n a) here
 
-  module _ (wave before here : ℕ) (decided : List ℕ) (r : Ranked first wave codes decided before here) where
+  module _ (wave before here : ℕ) (decided : List ℕ) (r : Ranked true first wave codes decided before here) where
     pub decided_once : (i : ℕ) → first ≤ i → i < first + length codes → times i decided ≡ cond {A = ℕ} (is_decided_at g n a i) 1 0
     decided_once i low high =
         let at : first + (i - first) ≡ i = omega (arith, low) in

@@ -19,7 +19,7 @@ use Rattle.morris_wave.proofs.Stretches.{take_enough, take_few, take_holds, hold
 
 -- the nodes of the wave's stretch of the list are the fresh ones
 pub fresh_listed : (g : Net) (law : IsNet g) (n : ℕ) (a : ℕ → Bool) (codes counters : List ℕ) (due : List (List ℕ)) (last_due : ℕ) → StretchHolds g n a 0 codes counters due last_due → length codes ≡ g.size
-    → (decided : List ℕ) (before here : ℕ) → Ranked 0 n codes decided before here → ListsFresh g n (take (here - before) (drop before decided))
+    → {all : Bool} → (decided : List ℕ) (before here : ℕ) → Ranked all 0 n codes decided before here → ListsFresh g n (take (here - before) (drop before decided))
 fresh_listed g law n a codes counters due last_due h len decided before here r = record {
   inside = λ p d l. let w = stretch_inside 0 n before here codes decided r p d l in omega (arith, w.1, len);
   once = λ k l. fresh_once g law n a 0 codes counters due last_due h (take (here - before) (drop before decided)) (stretch_once 0 n before here codes decided r) k (omega arith) (omega (arith, l, len));

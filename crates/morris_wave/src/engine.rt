@@ -7,7 +7,7 @@ ghost use Rattle.morris_wave.specs.Waves.{entry_at, is_decided_at, is_fresh};
 
 use crate::division::Cut;
 use crate::network::{Graph, Levels};
-use crate::nodes::NodeList;
+use crate::nodes::{NodeList, WholeList};
 use crate::stretch::Stretch;
 use std::alloc::{AllocError, Global};
 use std::marker::{Model, PhantomData};
@@ -127,8 +127,9 @@ impl<N: Levels, L: NodeList> Drop for Batch<N, L> {
 ///
 /// A block keeps 3 bytes a node, or 4 where some node of it has more than 254 quiet results, and
 /// lists of the kind `L` of the nodes that are decided and of those that come due by their exits:
-/// of 8 bytes for each, or of 4 where all nodes of the graph are below 2^32. Room for all of them
-/// is taken in `make`; that of nodes which aren't decided is never used.
+/// of 8 bytes for each, or of 4 where all nodes of the graph are below 2^32. Where `L` is
+/// [`Recent`](crate::Recent), the nodes that were decided before the wave are let go. Room for all
+/// nodes is taken in `make`; what isn't filled of it is never used.
 pub struct Block<N: Levels, L: NodeList = Vec<u64>> {
     level: u64,
     pub(crate) cut: Cut,
@@ -429,16 +430,6 @@ impl<N: Levels, L: NodeList> Block<N, L> {
         Ok(())
     }
 
-    /// The list of the decided nodes of the block, each once, in ascending order of their depths.
-    pub fn decided_list(&self) -> &L
-        ensures inside { All (IsIn self.now.cut self.now.number) (L.items result.now) }
-        ensures once { (i : ℕ) → IsIn self.now.cut self.now.number i
-            → times i (L.items result.now) ≡ (if is_decided_at (N.net self.now.level) self.now.wave (in_applied self.now) i then 1 else 0) }
-        ensures order { IsNonDecreasingBy (entry_at (N.net self.now.level) self.now.wave (in_applied self.now)) (L.items result.now) }
-    {
-        &self.kept.entries.decided
-    }
-
     /// The nodes of the block that have the depth one less than its wave, each once; none at wave
     /// 0.
     ///
@@ -463,6 +454,20 @@ impl<N: Levels, L: NodeList> Block<N, L> {
             nodes,
             family: PhantomData,
         })
+    }
+}
+
+impl<N: Levels, L: WholeList> Block<N, L> {
+    ghost use Rattle.morris_wave.specs.Blocks.{in_applied, IsIn};
+
+    /// The list of the decided nodes of the block, each once, in ascending order of their depths.
+    pub fn decided_list(&self) -> &L
+        ensures inside { All (IsIn self.now.cut self.now.number) (L.items result.now) }
+        ensures once { (i : ℕ) → IsIn self.now.cut self.now.number i
+            → times i (L.items result.now) ≡ (if is_decided_at (N.net self.now.level) self.now.wave (in_applied self.now) i then 1 else 0) }
+        ensures order { IsNonDecreasingBy (entry_at (N.net self.now.level) self.now.wave (in_applied self.now)) (L.items result.now) }
+    {
+        &self.kept.entries.decided
     }
 }
 

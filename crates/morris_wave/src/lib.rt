@@ -23,5 +23,5 @@ pub use division::{Blocks, Cut};
 pub use engine::{AdvanceFault, Applied, Batch, Block, Fresh, Tallies};
 pub use gathering::{GatherFault, gather, gather_from};
 pub use network::{Exits, Graph, Levels};
-pub use nodes::NodeList;
+pub use nodes::{NodeList, Recent, WholeList};
 pub use solver::{SweepFault, sweep};

@@ -40,8 +40,9 @@ impl Counted {
 
 // The entries of the nodes from `first` on at a wave, and the decided nodes in order of their
 // codes. Those from the place `before` up to, not including, `here` have the code of the wave;
-// those behind it got theirs at this wave. There is room for every node; what isn't used of it
-// takes no memory, as long as the system hands out pages at their first use.
+// those behind it got theirs at this wave. A list that forgets has lost those before them. There
+// is room for every node; what isn't used of it takes no memory, as long as the system hands out
+// pages at their first use.
 #[derive(Drop)]
 pub(crate) struct Listed<L: NodeList> {
     pub(crate) first: u64,
@@ -50,12 +51,12 @@ pub(crate) struct Listed<L: NodeList> {
     pub(crate) decided: L,
     pub(crate) before: usize,
     pub(crate) here: usize,
-    ghost ranked: { Ranked first wave entries.codes.items (L.items decided) before here },
+    ghost ranked: { Ranked L.keeps first wave entries.codes.items (L.items decided) before here },
     ghost room: { vec_len entries.codes ≤ L.capacity decided },
     ghost ends: { first + vec_len entries.codes ≤ 2 ^ 40 },
     ghost short: { first + vec_len entries.codes ≤ L.limit },
     ghost last: { wave ≤ 65534 },
-    ghost all_counted: { length (L.items decided) ≡ entries.won + entries.lost },
+    ghost counted: { length (L.items decided) ≤ entries.won + entries.lost },
 }
 
 impl<L: NodeList> Listed<L> {
@@ -110,8 +111,9 @@ impl<L: NodeList> Listed<L> {
         ensures wave { self.new.wave ≡ self.old.wave + 1 }
         ensures codes { self.new.entries.codes ≡ self.old.entries.codes }
     {
+        let gone = self.decided.forget(self.here);
         self.wave += 1;
-        self.before = self.here;
+        self.before = self.here - gone;
         self.here = self.decided.count();
     }
 

@@ -1,5 +1,5 @@
 //! Lists of nodes.
-ghost use Rattle.std.specs.Prelude.{◌≡◌, ℕ, ◌<◌, ◌≤◌, ◌^◌, ◌++◌, ◌∷◌, [], List, length, slice_index, slice_set, OnOk, IfOk, vec_len, vec_capacity};
+ghost use Rattle.std.specs.Prelude.{◌≡◌, ℕ, ◌<◌, ◌≤◌, ◌^◌, ◌++◌, ◌∷◌, [], Bool, true, false, refl, List, drop, length, slice_index, slice_set, OnOk, IfOk, vec_len, vec_capacity};
 ghost use Rattle.morris_wave.specs.Lists.{contents, list_at};
 
 use std::alloc::{AllocError, Global};
@@ -15,6 +15,9 @@ pub trait NodeList: Drop {
 
     /// How many nodes the list has room for.
     ghost capacity: { Self → ℕ };
+
+    /// Whether `forget` lets none go.
+    ghost keeps: { Bool };
 
     /// A list of no nodes.
     fn none(alloc: Global) -> Self
@@ -49,6 +52,15 @@ pub trait NodeList: Drop {
         ensures items { items self.new ≡ items self.old ++ node ∷ [] }
         ensures room { capacity self.old ≤ capacity self.new };
 
+    /// Lets go of the first so many nodes, or of fewer, and says of how many. Their room is kept, and
+    /// no memory is taken.
+    fn forget(&mut self, count: usize) -> usize
+        requires { count ≤ length (items self.old) }
+        ensures few { result ≤ count }
+        ensures items { items self.new ≡ drop result (items self.old) }
+        ensures kept { keeps ≡ true → result ≡ 0 }
+        ensures room { capacity self.old ≤ capacity self.new };
+
     /// How many nodes there are.
     fn count(&self) -> usize
         ensures { result ≡ length (items self.now) };
@@ -62,12 +74,20 @@ pub trait NodeList: Drop {
     fn room(&self) -> usize;
 }
 
+/// A list that keeps all its nodes.
+pub trait WholeList: NodeList {
+    // It forgets none.
+    ghost whole: { Self.keeps ≡ true };
+}
+
 impl NodeList for Vec<u64> {
     ghost items = { λ v. v.items };
 
     ghost limit = { 2 ^ 64 };
 
     ghost capacity = { λ v. vec_capacity v };
+
+    ghost keeps = { true };
 
     fn none(alloc: Global) -> Vec<u64> {
         Vec::new(alloc)
@@ -93,6 +113,10 @@ impl NodeList for Vec<u64> {
         };
     }
 
+    fn forget(&mut self, _count: usize) -> usize {
+        0
+    }
+
     fn count(&self) -> usize {
         self.len()
     }
@@ -106,12 +130,18 @@ impl NodeList for Vec<u64> {
     }
 }
 
+impl WholeList for Vec<u64> {
+    ghost whole = { refl };
+}
+
 impl NodeList for Vec<u32> {
     ghost items = { λ v. v.items };
 
     ghost limit = { 2 ^ 32 };
 
     ghost capacity = { λ v. vec_capacity v };
+
+    ghost keeps = { true };
 
     fn none(alloc: Global) -> Vec<u32> {
         Vec::new(alloc)
@@ -137,6 +167,10 @@ impl NodeList for Vec<u32> {
         };
     }
 
+    fn forget(&mut self, _count: usize) -> usize {
+        0
+    }
+
     fn count(&self) -> usize {
         self.len()
     }
@@ -147,6 +181,74 @@ impl NodeList for Vec<u32> {
 
     fn room(&self) -> usize {
         self.capacity().saturating_mul(4)
+    }
+}
+
+impl WholeList for Vec<u32> {
+    ghost whole = { refl };
+}
+
+/// A list of 4 bytes a node that lets go of what it is told to forget.
+///
+/// A block with such a list keeps the nodes that were decided at its wave and at the one before,
+/// and no earlier ones, so few of its places are ever used.
+#[derive(Drop)]
+pub struct Recent {
+    nodes: Vec<u32>,
+}
+
+impl NodeList for Recent {
+    ghost items = { λ r. r.nodes.items };
+
+    ghost limit = { 2 ^ 32 };
+
+    ghost capacity = { λ r. vec_capacity r.nodes };
+
+    ghost keeps = { false };
+
+    fn none(alloc: Global) -> Recent {
+        Recent {
+            nodes: Vec::new(alloc),
+        }
+    }
+
+    fn with_room(alloc: Global, count: usize) -> Result<Recent, AllocError> {
+        let nodes = Vec::with_capacity(alloc, count)?;
+        Ok(Recent { nodes })
+    }
+
+    fn empty(&mut self) {
+        self.nodes.clear();
+    }
+
+    fn add(&mut self, node: u64) -> Result<(), AllocError> {
+        self.nodes.push(node as u32)?;
+        Ok(())
+    }
+
+    fn put_last(&mut self, node: u64) {
+        let Ok(()) = self.nodes.push(node as u32) else {
+            unreachable!()
+        };
+    }
+
+    fn forget(&mut self, count: usize) -> usize {
+        let left = self.nodes.len() - count;
+        self.nodes.copy_within(count.., 0);
+        self.nodes.truncate(left);
+        count
+    }
+
+    fn count(&self) -> usize {
+        self.nodes.len()
+    }
+
+    fn node(&self, place: usize) -> u64 {
+        u64::from(self.nodes[place])
+    }
+
+    fn room(&self) -> usize {
+        self.nodes.capacity().saturating_mul(4)
     }
 }
 

@@ -13,7 +13,7 @@ use crate::survey::survey;
 use crate::watch::{Unwatched, Watch};
 use crate::wave::run_wave;
 use crate::yard::Yard;
-use morris_wave::{Block, Cut, Graph, Levels, NodeList, gather_from};
+use morris_wave::{Block, Cut, Graph, Levels, NodeList, Recent, gather_from};
 use std::alloc::Global;
 use std::sync::Wait;
 use std::thread::Threads;
@@ -154,8 +154,8 @@ fn solve_as<
     codes_of(alloc, graph.level(), wave, cut, yard.into_blocks())
 }
 
-// The same, with lists of 32 bits a node where the graph has at most `short` nodes, and of 64 bits
-// otherwise.
+// The same, with lists of 32 bits a node that let go of the waves past where the graph has at most
+// `short` nodes, and of 64 bits otherwise.
 fn solve_in<G: Graph + Send + Sync, A: Gate, R: Threads + Wait + Sync, W: Watch>(
     rt: &R,
     alloc: Global,
@@ -175,7 +175,7 @@ fn solve_in<G: Graph + Send + Sync, A: Gate, R: Threads + Wait + Sync, W: Watch>
     ensures watched { W.becomes watch.old watch.new }
 {
     if cut.size() <= short {
-        solve_as::<Vec<u32>, G, A, R, W>(rt, alloc, graph, gate, cut, shares, watch)
+        solve_as::<Recent, G, A, R, W>(rt, alloc, graph, gate, cut, shares, watch)
     } else {
         solve_as::<Vec<u64>, G, A, R, W>(rt, alloc, graph, gate, cut, shares, watch)
     }
@@ -192,8 +192,8 @@ fn solve_in<G: Graph + Send + Sync, A: Gate, R: Threads + Wait + Sync, W: Watch>
 /// blocks are settled before the first wave is answered without any draw. A worker holds one lock
 /// at a time, and none while it looks at the graph.
 ///
-/// The blocks take what [`Block`] says, with lists of 4 bytes a node, or of 8 in a graph of more
-/// than [`SHORT_NODES`], and each worker the fresh nodes and the batches of one block at a time, of
+/// The blocks take what [`Block`] says, with lists of 4 bytes a node that let go of the waves past
+/// ([`Recent`]), or of 8 that keep all in a graph of more than [`SHORT_NODES`], and each worker the fresh nodes and the batches of one block at a time, of
 /// as many bytes for each node that leads to a fresh one. A worker keeps lists that it sent for
 /// those of the next block. At the end the answer takes 2 bytes a node, while the blocks are let go
 /// one after the other.

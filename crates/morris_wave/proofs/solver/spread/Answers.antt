@@ -40,7 +40,7 @@ take_in-requires-clause-enough g c =
     let i = c.loop-place.place - e.before in
     let listed : ListsFresh net e.wave fresh =
     fresh_listed net law e.wave none e.entries.codes.items (counts_of start.counters) start.due start.last_due c.requires.start (omega (arith, c.requires.len, e.entries.codes.ok.0))
-    (g.L.NodeList.items e.decided) e.before e.here (subst (λ (f : ℕ). Ranked f e.wave e.entries.codes.items (g.L.NodeList.items e.decided) e.before e.here) c.requires.first e.ranked) in
+    (g.L.NodeList.items e.decided) e.before e.here (subst (λ (f : ℕ). Ranked g.L.NodeList.keeps f e.wave e.entries.codes.items (g.L.NodeList.items e.decided) e.before e.here) c.requires.first e.ranked) in
     let node = c.node.result in
     let within : i < length fresh = omega (arith, fresh_length (g.L.NodeList.items e.decided) e.before e.here e.ranked.within, c.loop-place-test.true, inv.6) in
     let read : node ≡ slice_index (g.L.NodeList.items now.entries.decided) c.loop-place.place =
@@ -70,7 +70,7 @@ loop-place-preserved g c =
     let i = c.loop-place.place - e.before in
     let listed : ListsFresh net e.wave fresh =
     fresh_listed net law e.wave none e.entries.codes.items (counts_of start.counters) start.due start.last_due c.requires.start (omega (arith, c.requires.len, e.entries.codes.ok.0))
-    (g.L.NodeList.items e.decided) e.before e.here (subst (λ (f : ℕ). Ranked f e.wave e.entries.codes.items (g.L.NodeList.items e.decided) e.before e.here) c.requires.first e.ranked) in
+    (g.L.NodeList.items e.decided) e.before e.here (subst (λ (f : ℕ). Ranked g.L.NodeList.keeps f e.wave e.entries.codes.items (g.L.NodeList.items e.decided) e.before e.here) c.requires.first e.ranked) in
     let node = c.node.result in
     let within : i < length fresh = omega (arith, fresh_length (g.L.NodeList.items e.decided) e.before e.here e.ranked.within, c.loop-place-test.true, inv.6) in
     let read : node ≡ slice_index (g.L.NodeList.items now.entries.decided) c.loop-place.place =
@@ -114,7 +114,7 @@ returns-clause-done g c =
     let i = c.loop-place.place - e.before in
     let listed : ListsFresh net e.wave fresh =
     fresh_listed net law e.wave none e.entries.codes.items (counts_of start.counters) start.due start.last_due c.requires.start (omega (arith, c.requires.len, e.entries.codes.ok.0))
-    (g.L.NodeList.items e.decided) e.before e.here (subst (λ (f : ℕ). Ranked f e.wave e.entries.codes.items (g.L.NodeList.items e.decided) e.before e.here) c.requires.first e.ranked) in
+    (g.L.NodeList.items e.decided) e.before e.here (subst (λ (f : ℕ). Ranked g.L.NodeList.keeps f e.wave e.entries.codes.items (g.L.NodeList.items e.decided) e.before e.here) c.requires.first e.ranked) in
     let whole : take i fresh ≡ fresh = take_all i fresh (omega (arith, fresh_length (g.L.NodeList.items e.decided) e.before e.here e.ranked.within, c.loop-place-test.false, inv.6)) in
     spread_all net law e.wave 0 codes.items (counts_of now.counters) now.due now.last_due fresh listed
     (subst (λ (xs : List ℕ). StretchHolds net e.wave (among xs) 0 codes.items (counts_of now.counters) now.due now.last_due) whole inv.7)

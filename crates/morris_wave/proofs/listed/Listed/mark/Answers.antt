@@ -10,7 +10,7 @@ put_last-requires-clause-room g c =
     let codes = s.entries.codes.items in
     let inside : c.args.place < length codes = omega (arith, c.requires.inside, s.entries.codes.ok.0) in
     let read : slice_index codes c.args.place ≡ 0 = sym {A = ℕ} (get_or_read codes c.args.place c.index.result.now inside c.index.ensures 0) ∙ c.if-index-eq0.true in
-    omega (arith, s.room, s.all_counted, s.entries.won_counted, s.entries.lost_counted, room_left codes c.args.place inside read, s.entries.codes.ok.0)
+    omega (arith, s.room, s.counted, s.entries.won_counted, s.entries.lost_counted, room_left codes c.args.place inside read, s.entries.codes.ok.0)
 
 pub invariant_of-self-clause-ranked : goal.invariant_of-self-clause-ranked
 invariant_of-self-clause-ranked g c =
@@ -18,8 +18,8 @@ invariant_of-self-clause-ranked g c =
     let codes = s.entries.codes.items in
     let inside : c.args.place < length codes = omega (arith, c.requires.inside, s.entries.codes.ok.0) in
     let read : slice_index codes c.args.place ≡ 0 = sym {A = ℕ} (get_or_read codes c.args.place c.index.result.now inside c.index.ensures 0) ∙ c.if-index-eq0.true in
-    subst (λ (xs : List ℕ). Ranked s.first s.wave xs (g.L.NodeList.items c.put_last.new.self) s.before s.here) (sym c.put.ensures.codes)
-    (subst (λ (xs : List ℕ). Ranked s.first s.wave (set codes c.args.place (s.wave + 1)) xs s.before s.here) (sym c.put_last.ensures.items)
+    subst (λ (xs : List ℕ). Ranked g.L.NodeList.keeps s.first s.wave xs (g.L.NodeList.items c.put_last.new.self) s.before s.here) (sym c.put.ensures.codes)
+    (subst (λ (xs : List ℕ). Ranked g.L.NodeList.keeps s.first s.wave (set codes c.args.place (s.wave + 1)) xs s.before s.here) (sym c.put_last.ensures.items)
     (ranked_more s.first s.wave s.before s.here codes (g.L.NodeList.items s.decided) s.ranked c.args.place inside read))
 
 pub returns-then-index-eq0-clause-list : goal.returns-then-index-eq0-clause-list
