@@ -1,3 +1,4 @@
 pub mod Names
 pub mod Digests
 pub mod Kept
+pub mod Headers

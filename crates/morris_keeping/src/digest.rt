@@ -4,9 +4,9 @@ ghost use Rattle.sha2.specs.Hashers.{Holds256};
 ghost use Rattle.sha2.specs.Sha256.{sha256};
 ghost use Rattle.morris_table.specs.TableFiles.{code_bytes, file_of, header_of};
 
+use crate::header::header_of;
 use morris_board::board::Geometry;
 use morris_table::exact::Exact;
-use morris_table::layout::Layout;
 use sha2::{Digest, Sha256};
 
 /// How many bytes are digested at a time, at most.
@@ -31,34 +31,10 @@ pub fn digest_of_file<B: Geometry>(table: &Exact<B>) -> [u8; 32]
 }
 
 /// The header of the file of a table.
-#[tactic(auto, unfolding(morris_table::specs::TableFiles::header_of))]
 fn header<B: Geometry>(table: &Exact<B>) -> [u8; 16]
     ensures { result ≡ header_of B.shape table.now.layout table.now.pair (length table.now.codes) }
 {
-    let version = match table.layout() {
-        Layout::Full => 1,
-        Layout::Classes => 2,
-    };
-    let pair = table.pair();
-    let [a, b, c, d, e, f, g, h] = table.len().to_be_bytes();
-    [
-        b'N',
-        b'M',
-        b'M',
-        b'T',
-        version,
-        B::ID,
-        pair.greater(),
-        pair.lesser(),
-        a,
-        b,
-        c,
-        d,
-        e,
-        f,
-        g,
-        h,
-    ]
+    header_of(table.layout(), table.pair(), table.len())
 }
 
 /// Feeds the codes of a table to the hasher.

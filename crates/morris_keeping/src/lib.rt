@@ -3,6 +3,7 @@
 
 pub mod digest;
 pub mod digests;
+pub mod header;
 pub mod kept;
 pub mod names;
 pub mod table_file;

@@ -1,0 +1,132 @@
+//! The header of the file of a pair's table, and what it says of a file that a folder has.
+ghost use Rattle.std.specs.Prelude.{◌≡◌, ℕ, ◌+◌, ◌-◌, ◌<◌, ◌≤◌, ◌^◌, IfOk, length, take};
+ghost use Rattle.std.specs.Io.KnownBytes.{Consumes, IsAtEnd};
+ghost use Rattle.morris_board.specs.Streams.{CountsFailure};
+ghost use Rattle.morris_folders.specs.Files.{Keeps};
+ghost use Rattle.morris_table.specs.TableFiles.{header_of};
+ghost use Rattle.morris_keeping.specs.Headers.{AnswersHeader, header_in};
+ghost use Rattle.morris_keeping.specs.Kept.{failed_opening};
+ghost use Rattle.morris_keeping.specs.Names.{name_of};
+
+use crate::kept::KeptFault;
+use crate::names::file_name;
+use morris_board::board::Geometry;
+use morris_board::streams::{Failed, Source};
+use morris_folders::folder::Folder;
+use morris_index::class_sizes::class_size;
+use morris_index::pair::Pair;
+use morris_table::file_faults::ReadFault;
+use morris_table::layout::Layout;
+use std::alloc::Global;
+
+/// How many bytes a header has.
+const HEADER: usize = 16;
+
+/// What the header of the file of a pair's table says of the table.
+#[derive(Clone, Copy, Debug, PartialEq, Eq)]
+pub struct Header {
+    /// How the entries are laid out.
+    pub layout: Layout,
+    /// How many there are, which is as many as the pair has in that layout.
+    pub entries: u64,
+}
+
+/// Reads the header of the file that a folder has of a pair's table, under the name of the pair on
+/// the board of this name: `None` where there is no such file, or its first bytes aren't the header
+/// of a table of the pair. No more of the file is read.
+///
+/// Fewer than `u64::MAX` calls of the folder may have failed before.
+///
+/// # Errors
+/// [`KeptFault::Memory`] where memory is refused for the name, else [`KeptFault::Unopened`] where
+/// the file can't be opened, else [`KeptFault::Refused`] with `Read` where a read of it failed.
+pub fn read_header<B: Geometry, F: Folder>(
+    alloc: Global,
+    folder: &mut F,
+    board: &str,
+    pair: Pair<B>,
+) -> Result<Option<Header>, KeptFault>
+    requires { F.failures folder.old < 2 ^ 64 - 1 }
+    ensures answer { AnswersHeader B.shape B.POINTS (F.files folder.old) (name_of board.now pair) pair result }
+    ensures kept { Keeps (F.files folder.old) (F.files folder.new) }
+    ensures counted { F.failures folder.new ≡ F.failures folder.old + failed_opening result }
+{
+    let Ok(name) = file_name(alloc, board, pair) else {
+        return Err(KeptFault::Memory);
+    };
+    let mut reader = match folder.open(name.as_str()) {
+        Ok(Some(reader)) => reader,
+        Ok(None) => return Ok(None),
+        Err(Failed) => return Err(KeptFault::Unopened),
+    };
+    let mut bytes = [0; HEADER];
+    match fill(&mut reader, &mut bytes) {
+        Ok(count) => Ok(header_in(&bytes[..count], pair)),
+        Err(Failed) => Err(KeptFault::Refused(ReadFault::Read)),
+    }
+}
+
+/// What these bytes say as the header of the file of a pair's table; `None` where they are none.
+fn header_in<B: Geometry>(bytes: &[u8], pair: Pair<B>) -> Option<Header>
+    ensures { result ≡ header_in B.shape B.POINTS pair bytes.now }
+{
+    let (layout, entries) = (Layout::Full, pair.size());
+    if bytes == header_of(layout, pair, entries).as_slice() {
+        return Some(Header { layout, entries });
+    }
+    let (layout, entries) = (Layout::Classes, class_size(pair));
+    if bytes == header_of(layout, pair, entries).as_slice() {
+        return Some(Header { layout, entries });
+    }
+    None
+}
+
+/// The header of the file of a pair's table in a layout, with so many entries.
+#[tactic(auto, unfolding(morris_table::specs::TableFiles::header_of))]
+pub(crate) fn header_of<B: Geometry>(layout: Layout, pair: Pair<B>, entries: u64) -> [u8; HEADER]
+    ensures { result ≡ header_of B.shape layout pair entries }
+{
+    let version = match layout {
+        Layout::Full => 1,
+        Layout::Classes => 2,
+    };
+    let [a, b, c, d, e, f, g, h] = entries.to_be_bytes();
+    [
+        b'N',
+        b'M',
+        b'M',
+        b'T',
+        version,
+        B::ID,
+        pair.greater(),
+        pair.lesser(),
+        a,
+        b,
+        c,
+        d,
+        e,
+        f,
+        g,
+        h,
+    ]
+}
+
+/// Reads until the buffer is full or the source at its end, and answers how many bytes that are. A
+/// read that fails ends it.
+fn fill<S: Source>(source: &mut S, buffer: &mut [u8]) -> Result<usize, Failed>
+    requires { S.failures source.old < 2 ^ 64 - 1 }
+    ensures within { IfOk result (λ n. n ≤ length buffer.new) }
+    ensures bytes { IfOk result (λ n. Consumes (S.remaining source.old) (S.remaining source.new) (take n buffer.new)) }
+    ensures end { IfOk result (λ n. n < length buffer.new → IsAtEnd (S.remaining source.new)) }
+    ensures counted { CountsFailure (S.failures source.old) (S.failures source.new) result }
+{
+    let mut done = 0;
+    while done < buffer.len() {
+        match source.read(&mut buffer[done..]) {
+            Ok(0) => return Ok(done),
+            Ok(count) => done += count,
+            Err(Failed) => return Err(Failed),
+        }
+    }
+    Ok(done)
+}
