@@ -133,8 +133,32 @@ impl<'a, R: Clock, E: Sink> Progress<'a, R, E> {
 
 /// Each line is told once it is known how much there is to do.
 impl<'a, R: Clock, E: Sink> Teller for Progress<'a, R, E> {
+    /// Whether any more lines are written.
+    fn is_told(&self) -> bool
+        ensures { result ≡ tells_of self.now }
+    {
+        self.tells
+    }
+
+    /// Tells how much there is to do, unless it was told before. Nothing is told before this.
+    fn announce_size(&mut self, size: Size)
+        ensures told { Becomes E.contents E.failures self.old self.new }
+        ensures first { has_begun_of self.old ≡ false
+            → (megabytes : ℕ) × TellsLine E.contents E.failures self.old self.new (News.Whole size.entries megabytes) }
+        ensures again { has_begun_of self.old ≡ true → self.new ≡ self.old }
+    {
+        if !self.tells || self.has_begun {
+            return;
+        }
+        let Size { entries, bytes } = size;
+        self.has_begun = true;
+        self.whole = entries;
+        let megabytes = bytes.div_ceil(1_000_000);
+        self.tell(News::Whole { entries, megabytes });
+    }
+
     /// Tells how much there is to do where the tables of all pairs below a pair come about in this
-    /// way, unless it was told before. Nothing is told before this, and it takes no memory.
+    /// way, unless it was told before. It takes no memory.
     fn announce<B: Geometry>(&mut self, pair: Pair<B>, layout: Layout, way: Way)
         ensures told { Becomes E.contents E.failures self.old self.new }
         // As far as 64 bits hold the number of entries.
@@ -142,14 +166,10 @@ impl<'a, R: Clock, E: Sink> Teller for Progress<'a, R, E> {
             → (megabytes : ℕ) × TellsLine E.contents E.failures self.old self.new (News.Whole (entries_below B.shape B.POINTS layout pair way) megabytes) }
         ensures again { has_begun_of self.old ≡ true → self.new ≡ self.old }
     {
-        if !self.tells || self.has_begun {
-            return;
+        // Nothing is counted for nobody.
+        if self.tells && !self.has_begun {
+            self.announce_size(Size::of(pair, layout, way));
         }
-        let Size { entries, bytes } = Size::of(pair, layout, way);
-        self.has_begun = true;
-        self.whole = entries;
-        let megabytes = bytes.div_ceil(1_000_000);
-        self.tell(News::Whole { entries, megabytes });
     }
 
     /// A pair begins.

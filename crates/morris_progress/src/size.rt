@@ -134,6 +134,41 @@ impl Size {
     }
 }
 
+/// How much there is to do where a team verifies the tables of the files of a folder, in the order
+/// of pairs. A table is let go once no pair to come needs it.
+#[derive(Clone, Copy, Debug)]
+pub struct FolderSize {
+    /// That of the files so far.
+    pub size: Size,
+    near: Near,
+    team: Team,
+}
+
+impl FolderSize {
+    /// Of no file.
+    pub fn new(team: Team) -> FolderSize {
+        FolderSize {
+            size: Size::NONE,
+            near: Near::NONE,
+            team,
+        }
+    }
+
+    /// With the file of a pair after those so far, whose table has so many entries in this layout.
+    pub fn with<B: Geometry>(self, pair: Pair<B>, layout: Layout, entries: u64) -> FolderSize
+        // As far as 64 bits hold the number.
+        ensures { self.size.entries + entries < 2 ^ 64 → result.size.entries ≡ self.size.entries + entries }
+    {
+        let near = self.near.before(pair);
+        let bytes = bytes_of_verifying(layout, entries, self.team);
+        FolderSize {
+            size: self.size.with(entries, bytes, near.entries()),
+            near: near.with(entries),
+            team: self.team,
+        }
+    }
+}
+
 /// Whether two pairs have the same numbers of stones.
 fn is_same<B: Geometry>(a: Pair<B>, b: Pair<B>) -> bool
     ensures { result ≡ is_same a b }
@@ -187,4 +222,17 @@ fn bytes_of_making<B: Geometry>(pair: Pair<B>, entries: u64, team: Option<Team>)
         .saturating_mul(list)
         .saturating_mul(team.workers as u64);
     nodes.saturating_add(lists / team.blocks as u64)
+}
+
+/// About how many bytes it takes to verify a table with so many entries: it is read whole, and each
+/// worker marks the entries by classes that it found to agree.
+fn bytes_of_verifying(layout: Layout, entries: u64, team: Team) -> u64 {
+    let codes = KEPT.saturating_mul(entries);
+    match layout {
+        Layout::Full => codes,
+        Layout::Classes => {
+            let marks = entries.saturating_mul(team.workers as u64);
+            codes.saturating_add(marks / 8)
+        }
+    }
 }

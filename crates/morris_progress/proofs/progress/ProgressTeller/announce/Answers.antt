@@ -1,13 +1,6 @@
--- How much there is to do is told once that is known, and nothing where it is told no more or
--- again.
-use Rattle.std.proofs.Common.{refl}
-use Rattle.morris_progress.specs.ProgressLaws.{Becomes-begins, Becomes-stays}
+-- Nothing is told again.
+use Rattle.morris_progress.specs.ProgressLaws.{Becomes-stays}
 use Rattle.morris_progress.proofs.progress.ProgressTeller.announce.Goals as goal
 
-pub returns-then-not-self-clause-told : goal.returns-then-not-self-clause-told
-returns-then-not-self-clause-told g c = Becomes-stays g.E.Sink.contents g.E.Sink.failures c.args.self.now
-
-pub returns-clause-told : goal.returns-clause-told
-returns-clause-told g c =
-    Becomes-begins g.E.Sink.contents g.E.Sink.failures c.args.self.now _ c.tell.new.self _ refl refl c.if-not-self.false c.if-not-self.false
-    c.if-self.false refl c.tell.ensures
+pub returns-else-self-clause-told : goal.returns-else-self-clause-told
+returns-else-self-clause-told g c = Becomes-stays g.E.Sink.contents g.E.Sink.failures c.args.self.now
