@@ -1,13 +1,19 @@
 // Tables of a folder in memory that are verified.
 use crate::into_tests::build;
+use morris_board::board::Geometry;
 use morris_board::streams::IntoWrite;
 use morris_faults::fault::Fault;
 use morris_faults::flaw::Flaw;
 use morris_folder_commands::from::verify_from;
 use morris_folders::folder::Folder;
 use morris_folders::memory::MemoryFolder;
+use morris_index::pair::Pair;
+use morris_progress::size::{Size, Way};
 use morris_progress::team::Team;
-use morris_workers::Unwatched;
+use morris_progress::teller::Teller;
+use morris_table::exact::Exact;
+use morris_table::layout::Layout;
+use morris_workers::{Unwatched, Watch};
 use sha2::{Digest, Sha256};
 use std::alloc::AllocError;
 use std::process::Abort;
@@ -19,16 +25,62 @@ const FIRST: &str = "verified 3-3: 1680 entries\n";
 
 const BOTH: &str = "verified 3-3: 1680 entries\nverified 4-3: 2520 entries\n";
 
+/// Counts the entries that it is told.
+#[derive(Drop)]
+struct Tally {
+    whole: u64,
+    done: u64,
+}
+
+impl Watch for Tally {
+    ghost use Rattle.std.specs.Prelude.{⊤};
+
+    ghost becomes = { λ old new. ⊤ };
+
+    fn wave(&mut self, _wave: u16) {}
+
+    ghost stays = { λ told. tt };
+
+    ghost joins = { λ first midway last once again. tt };
+}
+
+impl Teller for Tally {
+    fn is_told(&self) -> bool {
+        true
+    }
+
+    fn announce_size(&mut self, size: Size) {
+        self.whole = size.entries;
+    }
+
+    fn announce<B: Geometry>(&mut self, _pair: Pair<B>, _layout: Layout, _way: Way) {}
+
+    fn begin_pair<B: Geometry>(&mut self, _pair: Pair<B>) {}
+
+    fn end_pair<B: Geometry>(&mut self, table: &Exact<B>) {
+        self.done = self.done.saturating_add(table.len());
+    }
+}
+
 fn assert_answers(
     rt: &(impl Abort + AllocGlobal + Threads + Sync),
     folder: &mut MemoryFolder,
     wanted: Result<(), Fault>,
     lines: &str,
 ) {
+    assert_tells(rt, folder, &mut Unwatched, wanted, lines);
+}
+
+fn assert_tells<T: Teller>(
+    rt: &(impl Abort + AllocGlobal + Threads + Sync),
+    folder: &mut MemoryFolder,
+    told: &mut T,
+    wanted: Result<(), Fault>,
+    lines: &str,
+) {
     assert!(rt; folder.failures() == 0);
     let mut output = IntoWrite::new(Vec::new(rt.alloc()));
     let team = Team::new(3, 5).expect(rt, "a team");
-    let told = &mut Unwatched;
     let answer = verify_from(rt, rt.alloc(), "grid", team, folder, &mut output, told);
     assert!(rt; answer == wanted);
     assert!(rt;
@@ -84,6 +136,26 @@ fn a_file_that_is_not_opened_is_named(rt: HostRuntime) -> Result<(), Fail> {
     assert_answers(&rt, &mut folder_with(&rt, 0b1, true, true)?, first, "");
     let second = Err(Fault::Unopened(4, 3));
     assert_answers(&rt, &mut folder_with(&rt, 0b10, true, true)?, second, FIRST);
+    Ok(())
+}
+
+#[test]
+fn the_entries_of_all_files_are_told_first(rt: HostRuntime) -> Result<(), Fail> {
+    let mut told = Tally { whole: 0, done: 0 };
+    let folder = &mut folder_with(&rt, 0, true, true)?;
+    assert_tells(&rt, folder, &mut told, Ok(()), BOTH);
+    assert!(rt; told.whole == 4200 && told.done == 4200);
+    Ok(())
+}
+
+// The first two calls read the headers.
+#[test]
+fn a_file_that_is_not_opened_at_first_is_not_opened_again(rt: HostRuntime) -> Result<(), Fail> {
+    let mut told = Tally { whole: 0, done: 0 };
+    let folder = &mut folder_with(&rt, 0b10, true, true)?;
+    let second = Err(Fault::Unopened(4, 3));
+    assert_tells(&rt, folder, &mut told, second, FIRST);
+    assert!(rt; told.whole == 1680 && told.done == 1680 && folder.failures() == 1);
     Ok(())
 }
 

@@ -23,7 +23,7 @@ use Rattle.morris_keeping.specs.declared.kept.KeptFault.{KeptFault}
 use Rattle.morris_keeping.specs.declared.kept.KeptFault.TheVariants as kept
 use Rattle.morris_faults.specs.declared.fault.Fault.{Fault}
 use Rattle.morris_faults.specs.declared.fault.Fault.TheVariants as fault
-use Rattle.morris_folder_commands.specs.declared.from.TheConstants as table
+use Rattle.morris_folder_commands.specs.declared.places.TheConstants as table
 use Rattle.morris_folder_commands.specs.From.{AtEnd, KeepsNear, Verifies, fits, kept_fault, pairs_of, verified_line}
 use Rattle.morris_folder_commands.specs.Filling.{PrintsLine}
 use Rattle.morris_folder_commands.specs.FromSteps.{AnswersFile, IsUnfitFile, TakesIn, place_is}
@@ -38,7 +38,7 @@ pairs-table : map entry_pair table.PAIRS ≡ all_pairs
 unfolding all_pairs
 pairs-table = refl
 
-length-all_pairs : length all_pairs ≡ 28
+pub length-all_pairs : length all_pairs ≡ 28
 unfolding all_pairs
 length-all_pairs = refl
 

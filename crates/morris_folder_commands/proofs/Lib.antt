@@ -1,3 +1,4 @@
 pub mod FillLaws
 pub mod LineLaws
 pub mod FromLaws
+pub mod SurveyLaws

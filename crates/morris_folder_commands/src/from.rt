@@ -7,11 +7,13 @@ ghost use Rattle.morris_table.specs.Tables.{IsTable};
 ghost use Rattle.morris_faults.specs.Faults.{CountsWrites, is_write};
 ghost use Rattle.morris_folder_commands.specs.Filling.{PrintsLine};
 ghost use Rattle.morris_folder_commands.specs.From.{AnswersFrom, AnswersFromOn, KeepsNear};
-ghost use Rattle.morris_folder_commands.specs.FromSteps.{AnswersFile, TakesIn, place_is};
+ghost use Rattle.morris_folder_commands.specs.FromSteps.{AnswersFile, TakesIn};
 ghost use Rattle.morris_faults.specs.BoardNames.{board_of};
 ghost use Rattle.morris_commands.specs.Probe.{IsUnfit, Joins};
 ghost use Rattle.morris_commands.specs.Verify.{verified_text};
 
+use crate::places::{PAIRS, pair_at};
+use crate::survey::look_ahead;
 use morris_board::board::{Board, Geometry};
 use morris_board::streams::Sink;
 use morris_commands::build::spare;
@@ -22,7 +24,6 @@ use morris_faults::print::send_after;
 use morris_folders::folder::Folder;
 use morris_index::pair::Pair;
 use morris_keeping::kept::{KeptFault, read_table_file};
-use morris_progress::size::Way;
 use morris_progress::team::Team;
 use morris_progress::teller::Teller;
 use morris_table::exact::Exact;
@@ -31,44 +32,14 @@ use morris_table::stock::Stock;
 use std::alloc::Global;
 use std::thread::Threads;
 
-/// All pairs, the greater number first, in order of their sum and then of the greater one.
-const PAIRS: [(u8, u8); 28] = [
-    (3, 3),
-    (4, 3),
-    (4, 4),
-    (5, 3),
-    (5, 4),
-    (6, 3),
-    (5, 5),
-    (6, 4),
-    (7, 3),
-    (6, 5),
-    (7, 4),
-    (8, 3),
-    (6, 6),
-    (7, 5),
-    (8, 4),
-    (9, 3),
-    (7, 6),
-    (8, 5),
-    (9, 4),
-    (7, 7),
-    (8, 6),
-    (9, 5),
-    (8, 7),
-    (9, 6),
-    (8, 8),
-    (9, 7),
-    (9, 8),
-    (9, 9),
-];
-
 /// Goes through all pairs of the board named `board`, in order of their sum of stones and then of
 /// the greater number: reads the file of each that a folder has, under the name of its pair, and
 /// tells on `output` that the table is right as soon as each of its codes is known to be that of
 /// the game, over the tables before it. A table rests on those of the pairs that its pair needs,
 /// whose files have to be there; before the file of a pair is read the tables are let go that
 /// neither it needs nor any pair after it. The workers of a team share its entries out among them.
+/// Where anyone is told, the header of each file is read first, so that it is known how much there
+/// is to do.
 ///
 /// Fewer than `u64::MAX` calls of the folder may have failed before.
 ///
@@ -122,6 +93,7 @@ fn from_on<B: Board, R: Threads + Sync, F: Folder, O: Sink, T: Teller>(
     ensures told { T.becomes teller.old teller.new }
 {
     let mut stock = Stock::new(alloc)?;
+    let end = look_ahead::<B, F, T>(alloc, board, team, folder, teller)?;
     let mut sent = 0;
     let mut found = false;
     for place in 0..PAIRS.len() {
@@ -129,6 +101,9 @@ fn from_on<B: Board, R: Threads + Sync, F: Folder, O: Sink, T: Teller>(
             continue;
         };
         keep_near(&mut stock, pair);
+        if place == end {
+            return Err(Fault::Unopened(pair.greater(), pair.lesser()));
+        }
         let Some(raw) = read_kept(alloc, board, folder, pair)? else {
             continue;
         };
@@ -136,20 +111,6 @@ fn from_on<B: Board, R: Threads + Sync, F: Folder, O: Sink, T: Teller>(
         found = true;
     }
     if found { Ok(()) } else { Err(Fault::NoFiles) }
-}
-
-/// The pair at a place of the table, where the board has points for its stones.
-fn pair_at<B: Geometry>(place: usize) -> Option<Pair<B>>
-    requires { place < 28 }
-    // The caller's proof learns here that the board has as many points as its shape says.
-    ensures points { B.shape.points ≡ B.POINTS }
-    ensures pair { place_is B.shape place result }
-{
-    let (greater, lesser) = PAIRS[place];
-    match Pair::new(greater, lesser) {
-        Ok(pair) => Some(pair),
-        Err(_) => None,
-    }
 }
 
 /// Lets the tables go at a pair's turn that neither it needs nor any after it: before its file is
@@ -222,8 +183,6 @@ fn join<B: Board, R: Threads + Sync, T: Teller>(
     ensures unwritten { IfErr result (λ refused. is_write refused ≡ false) }
     ensures told { T.becomes teller.old teller.new }
 {
-    // The other files are taken to be in the layout of the first.
-    teller.announce(raw.pair(), raw.layout(), Way::Read);
     let exact = verify_over(rt, alloc, team, stock, raw)?;
     teller.end_pair(&exact);
     stock.put(exact);

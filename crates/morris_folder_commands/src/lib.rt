@@ -3,4 +3,6 @@
 
 pub mod from;
 pub mod into;
+mod places;
 mod print_filed;
+mod survey;

@@ -1,24 +1,26 @@
 -- The pairs are gone through one after the other.
 use Rattle.std.proofs.Common.{◌≡◌, ◌+◌, ◌*◌, ◌≤◌, true, false, List, drop, Some, None, Ok, Err, refl, sym, ap, subst, ◌∙◌, inl, inr, arith}
 use Rattle.std.specs.List.{filter}
-use Rattle.std.proofs.KnownBytes.{Keeps-refl}
+use Rattle.std.proofs.Math.Path.{ap₂}
 use Rattle.std.proofs.lemmas.Result.{err_from_is_err_and}
 use Rattle.morris_index.specs.Pairs.{all_pairs}
 use Rattle.morris_folder_commands.specs.From.{AtEnd, pairs_of}
 use Rattle.morris_faults.specs.declared.fault.Fault.TheVariants as fault
-use Rattle.morris_folder_commands.proofs.FillLaws.{files_kept}
+use Rattle.morris_keeping.specs.declared.kept.KeptFault.TheVariants as kept
 use Rattle.morris_folder_commands.proofs.FromLaws.{at_end, failed_file, kept_on, missing_file, skip_pair, take_pair, taken_on, taken_wrong}
+use Rattle.morris_folder_commands.proofs.SurveyLaws.{all_opened, ends_later, passes}
 use Rattle.morris_folder_commands.proofs.from.from_on.Goals as goal
 
 pub loop-place-init : goal.loop-place-init
 unfolding pairs_of
 loop-place-init g c = record {
   leads = λ after result goes. goes;
-  kept = files_kept (g.F.Folder.files c.args.folder.now);
+  kept = c.look_ahead.ensures.kept;
   few = omega arith;
-  unfailed = refl;
+  ends = c.in_ok-end.ensures.end;
+  ahead = omega arith;
   uncounted = refl;
-  told = g.met.T.Watch.stays c.args.teller.now;
+  told = c.look_ahead.ensures.told;
 }
 
 -- a pair that the board has no points for
@@ -30,10 +32,30 @@ loop-place-preserved-in_default g c = record {
       c.in_default.ensures.pair c.loop-place.invariant.leads;
   kept = c.loop-place.invariant.kept;
   few = omega (arith, c.loop-place.invariant.few);
-  unfailed = c.loop-place.invariant.unfailed;
+  ends = c.loop-place.invariant.ends;
+  ahead =
+      passes g.B.Geometry.shape c.loop-place.place c.in_ok-end.end (g.F.Folder.failures c.args.folder.now) (g.F.Folder.failures c.loop-place.folder)
+      c.loop-place.invariant.ends c.in_default.ensures.pair (omega arith) c.loop-place.invariant.ahead;
   uncounted = c.loop-place.invariant.uncounted;
   told = c.loop-place.invariant.told;
 }
+
+-- a file that wasn't opened before
+pub returns-then-place-end-clause-answer : goal.returns-then-place-end-clause-answer
+returns-then-place-end-clause-answer g c =
+    let board = g.B.Geometry.shape in
+    let files = g.F.Folder.files c.args.folder.now in
+    let old = g.O.Sink.contents c.args.output.now in
+    let out = g.O.Sink.contents c.loop-place.output in
+    let empty = c.in_ok-stock.stock in
+    let l = c.loop-place in
+    let leads = take_pair board files c.args.board.now old empty l.place c.in-Some.pair l.stock l.found l.sent out c.in-Some.ensures.pair l.invariant.leads in
+    inr (
+      empty,
+      c.in_ok-stock.ensures.none,
+      failed_file board files c.args.board.now old empty _ c.in-Some.pair l.stock l.found l.sent out leads c.keep_near.new.stock c.keep_near.ensures (g.F.Folder.files l.folder) l.invariant.kept _
+          (kept.Unopened, ap₂ fault.Unopened c.greater.ensures.value c.lesser.ensures.value, tt),
+    )
 
 -- a file that isn't had
 pub returns-in_err-raw-clause-answer : goal.returns-in_err-raw-clause-answer
@@ -70,7 +92,10 @@ loop-place-preserved-in_default-2 g c =
           (rw c.in_default-2.is at c.in_ok-raw.ensures.answer);
       kept = kept_on files (g.F.Folder.files l.folder) (g.F.Folder.files c.read_kept.new.folder) l.invariant.kept c.read_kept.ensures.kept;
       few = omega (arith, l.invariant.few);
-      unfailed = c.in_ok-raw.ensures.unfailed ∙ l.invariant.unfailed;
+      ends =
+          ends_later board c.in_ok-end.end (g.F.Folder.failures c.args.folder.now) (g.F.Folder.failures l.folder)
+          (g.F.Folder.failures c.read_kept.new.folder) l.invariant.ends c.in_ok-raw.ensures.unfailed;
+      ahead = omega (arith, l.invariant.ahead, c.if-place-end.false);
       uncounted = l.invariant.uncounted;
       told = l.invariant.told;
     }
@@ -110,7 +135,10 @@ loop-place-preserved g c =
           c.in-Some-2.raw (rw c.in-Some-2.is at c.in_ok-raw.ensures.answer) _ _ c.in_ok-sent.sent c.in_ok-sent.ensures.taken;
       kept = kept_on files (g.F.Folder.files l.folder) (g.F.Folder.files c.read_kept.new.folder) l.invariant.kept c.read_kept.ensures.kept;
       few = omega (arith, l.invariant.few, c.in_ok-sent.ensures.few);
-      unfailed = c.in_ok-raw.ensures.unfailed ∙ l.invariant.unfailed;
+      ends =
+          ends_later board c.in_ok-end.end (g.F.Folder.failures c.args.folder.now) (g.F.Folder.failures l.folder)
+          (g.F.Folder.failures c.read_kept.new.folder) l.invariant.ends c.in_ok-raw.ensures.unfailed;
+      ahead = omega (arith, l.invariant.ahead, c.if-place-end.false);
       uncounted = c.in_ok-sent.ensures.counted ∙ l.invariant.uncounted;
       told = g.met.T.Watch.joins _ _ _ l.invariant.told c.take_in.ensures.told;
     }
@@ -139,3 +167,9 @@ returns-clause-answer g c =
           l.place l.stock l.found l.sent out (Err fault.NoFiles) c.loop-place-test.false l.invariant.leads
           (subst (λ b. AtEnd b (Err fault.NoFiles)) (sym c.if-found.false) refl),
     )
+
+pub returns-then-found-clause-unfailed : goal.returns-then-found-clause-unfailed
+returns-then-found-clause-unfailed g c =
+    let l = c.loop-place in
+    all_opened g.B.Geometry.shape l.place c.in_ok-end.end (g.F.Folder.failures c.args.folder.now) (g.F.Folder.failures l.folder) l.invariant.ends
+    l.invariant.ahead c.loop-place-test.false

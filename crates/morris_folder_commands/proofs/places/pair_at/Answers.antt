@@ -1,7 +1,7 @@
 -- The pair is refused where the board has too few points for it, and never for its numbers.
 use Rattle.std.proofs.Common.{Ok, Err}
 use Rattle.morris_folder_commands.proofs.FromLaws.{made_place, table_at}
-use Rattle.morris_folder_commands.proofs.from.pair_at.Goals as goal
+use Rattle.morris_folder_commands.proofs.places.pair_at.Goals as goal
 
 pub returns-in-Ok-clause-pair : goal.returns-in-Ok-clause-pair
 returns-in-Ok-clause-pair g c =

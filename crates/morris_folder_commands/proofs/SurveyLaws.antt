@@ -1,0 +1,37 @@
+-- How far the headers of the files were read, and the places that are passed before that.
+use Rattle.std.proofs.Common.{◌≡◌, ℕ, ◌+◌, ◌<◌, ◌≤◌, true, false, sym, ap, subst, ◌∙◌, inl, inr, arith, Some, None}
+use Rattle.std.specs.List.{slice_get}
+use Rattle.std.proofs.lemmas.Bool.{cases_lt}
+use Rattle.std.proofs.lemmas.Option.{slice_get_within}
+use Rattle.morris_board.specs.Boards.{Shape}
+use Rattle.morris_index.specs.Pairs.{Counts, all_pairs}
+use Rattle.morris_folder_commands.specs.From.{fits}
+use Rattle.morris_folder_commands.specs.FromSteps.{EndsAt, place_is}
+use Rattle.morris_folder_commands.proofs.FromLaws.{length-all_pairs}
+
+module _ (board : Shape) (place end old new : ℕ) (ends : EndsAt board end old new) where
+  -- whoever comes past all places came to no file that wasn't opened
+  pub all_opened : place ≤ end → 28 ≤ place → new ≡ old
+  all_opened ahead past = elim ends [
+    | inl all ↦ all.1
+    | inr one ↦ absurd (omega (arith, ahead, past, slice_get_within all_pairs end one.0 one.1.0, length-all_pairs))
+  ]
+
+  -- a place without a pair of the board isn't that of such a file
+  pub passes : place_is board place None → place < 28 → place ≤ end → place + 1 ≤ end
+  passes none low ahead = elim ends [
+    | inl all ↦ omega (arith, low, all.0)
+    | inr one ↦ elim (cases_lt place end) [
+      | inl before ↦ omega (arith, before)
+      | inr after ↦
+          let here : place ≡ end = omega (arith, ahead, after) in
+          let two : slice_get all_pairs place ≡ Some one.0 = ap (slice_get all_pairs) here ∙ one.1.0 in
+          let same : none.0 ≡ one.0 = cc in
+          let bad : false ≡ true = sym none.2 ∙ ap (fits board) same ∙ one.1.1 in
+          cc
+    ]
+  ]
+
+-- a later count of failures that is the same
+pub ends_later : (board : Shape) (end old new later : ℕ) → EndsAt board end old new → later ≡ new → EndsAt board end old later
+ends_later board end old new later ends same = subst (EndsAt board end old) (sym same) ends

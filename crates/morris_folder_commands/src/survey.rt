@@ -1,0 +1,91 @@
+//! How much there is to do in a folder, by the headers of its files.
+ghost use Rattle.std.specs.Prelude.{◌≡◌, ◌-◌, ◌^◌, ◌<◌, Err, IfErr, IfOk};
+ghost use Rattle.morris_folders.specs.Files.{Keeps};
+ghost use Rattle.morris_folder_commands.specs.FromSteps.{EndsAt};
+
+use crate::places::{PAIRS, pair_at};
+use morris_board::board::Geometry;
+use morris_faults::fault::Fault;
+use morris_folders::folder::Folder;
+use morris_keeping::header::{Header, read_header};
+use morris_keeping::kept::KeptFault;
+use morris_progress::size::{FolderSize, Size};
+use morris_progress::team::Team;
+use morris_progress::teller::Teller;
+use std::alloc::Global;
+
+/// What the headers of files say.
+struct Survey {
+    /// How much there is to do.
+    size: Size,
+    /// The place of the first pair whose file can't be opened, and past all pairs where each can.
+    end: usize,
+}
+
+/// Tells how much a team has to do in a folder, where anyone is told, and answers the place of the
+/// first pair whose file can't be opened, or how many places there are. What follows that file is
+/// left out, since its turn never comes.
+///
+/// # Errors
+/// [`Fault::Memory`] where memory is refused for the name of a file.
+pub(crate) fn look_ahead<B: Geometry, F: Folder, T: Teller>(
+    alloc: Global,
+    board: &str,
+    team: Team,
+    folder: &mut F,
+    teller: &mut T,
+) -> Result<usize, Fault>
+    requires { F.failures folder.old < 2 ^ 64 - 1 }
+    ensures end { IfOk result (λ end. EndsAt B.shape end (F.failures folder.old) (F.failures folder.new)) }
+    ensures refused { IfErr result (λ refused. refused ≡ Fault.Memory) }
+    ensures kept { Keeps (F.files folder.old) (F.files folder.new) }
+    ensures told { T.becomes teller.old teller.new }
+{
+    // Where a file isn't opened here, there has to be room for one failure more.
+    if !teller.is_told() || folder.failures() >= u64::MAX - 1 {
+        return Ok(PAIRS.len());
+    }
+    let Survey { size, end } = read_headers::<B, F>(alloc, board, team, folder)?;
+    teller.announce_size(size);
+    Ok(end)
+}
+
+/// Reads the header of each file that a folder has of a pair of the board, up to the first that
+/// can't be opened.
+///
+/// # Errors
+/// [`Fault::Memory`] where memory is refused for the name of a file.
+fn read_headers<B: Geometry, F: Folder>(
+    alloc: Global,
+    board: &str,
+    team: Team,
+    folder: &mut F,
+) -> Result<Survey, Fault>
+    requires { F.failures folder.old < 2 ^ 64 - 2 }
+    ensures end { IfOk result (λ survey. EndsAt B.shape survey.end (F.failures folder.old) (F.failures folder.new)) }
+    ensures refused { IfErr result (λ refused. refused ≡ Fault.Memory) }
+    ensures kept { Keeps (F.files folder.old) (F.files folder.new) }
+{
+    let mut so_far = FolderSize::new(team);
+    for place in 0..PAIRS.len() {
+        let Some(pair) = pair_at::<B>(place) else {
+            continue;
+        };
+        match read_header(alloc, folder, board, pair) {
+            Ok(Some(Header { layout, entries })) => so_far = so_far.with(pair, layout, entries),
+            Err(KeptFault::Memory) => return Err(Fault::Memory),
+            Err(KeptFault::Unopened) => {
+                return Ok(Survey {
+                    size: so_far.size,
+                    end: place,
+                });
+            }
+            // A file that isn't right is refused when its turn comes.
+            Ok(None) | Err(KeptFault::Refused(_) | KeptFault::OtherPair) => {}
+        }
+    }
+    Ok(Survey {
+        size: so_far.size,
+        end: PAIRS.len(),
+    })
+}
