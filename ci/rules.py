@@ -117,17 +117,31 @@ def halves(pair):
     return [pair] if pair[0] == pair[1] else [pair, pair[::-1]]
 
 
+def ranked(points, count):
+    """The sets of so many of these points, in the order of their masks."""
+    return sorted(combinations(points, count), key=lambda it: sum(1 << p for p in it))
+
+
 def positions(pair):
     """The positions of a pair of the board grid in the order of the numbering."""
-
-    def ranked(points, count):
-        return sorted(combinations(points, count), key=lambda it: sum(1 << p for p in it))
-
     for own_count, other_count in halves(pair):
         for own in ranked(GRID.points, own_count):
             rest = [it for it in GRID.points if it not in own]
             for other in ranked(rest, other_count):
                 yield frozenset(own), frozenset(other)
+
+
+def position_at(pair, index, board):
+    """The position of a pair that has this index."""
+    points = len(board.points)
+    for own_count, other_count in halves(pair):
+        beside = comb(points - own_count, other_count)
+        size = comb(points, own_count) * beside
+        if index < size:
+            own = ranked(board.points, own_count)[index // beside]
+            rest = [it for it in board.points if it not in own]
+            return frozenset(own), frozenset(ranked(rest, other_count)[index % beside])
+        index -= size
 
 
 def code_from(codes):
@@ -372,6 +386,28 @@ def stats(game, board, text):
         if code in codes:
             lines.append(f"{in_words(code)}: {codes.count(code)}")
     return "".join(f"{it}\n" for it in [*lines, f"draw: {codes.count(0)}"])
+
+
+def text_of(position, board):
+    own, other = position
+    return "".join("X" if it in own else "O" if it in other else "." for it in board.points)
+
+
+def deepest_of(codes, position, board):
+    """The lines of a deepest win and a deepest loss among the entries with these codes: the first
+    one of several. `position` gives the position of an entry."""
+    lines = []
+    for name, odd in (("win", 0), ("loss", 1)):
+        text, code = "none", max((it for it in codes if it and it % 2 == odd), default=0)
+        if code:
+            text = f"{text_of(position(codes.index(code)), board)} {in_words(code)}"
+        lines.append(f"deepest {name}: {text}\n")
+    return "".join(lines)
+
+
+def deepest(game, pair, version):
+    """These lines of a pair of the board grid, by the entries of a file of this version."""
+    return deepest_of(game.listed[pair, version], entries(pair, version).__getitem__, GRID)
 
 
 def build(game, board, text, every, version):

@@ -18,6 +18,7 @@ LOOKED = (
     b"XXX.OO.O.\nown 3 other 3\n0-3\n0-6\n0-8\n1-3\n1-6\n1-8\n2-3\n2-6\n2-8\nmoves 9\nwon in 3\n"
 )
 COUNTED = b"3-3 1680 positions\nwon in 1: 936\nlost in 2: 36\nwon in 3: 108\ndraw: 600\n"
+DEEPEST = COUNTED + b"deepest win: XXXOO.O.. won in 3\ndeepest loss: XXOX..O.O lost in 2\n"
 PROBED = b"OO.OXX.X.\nlost in 2\n4-2\n4-6\n4-8\n5-2\n5-6\n5-8\n7-2\n7-6\n7-8\n"
 # The digests at the end of its table files, as another program reckoned them, by pair and version.
 DIGESTS = {

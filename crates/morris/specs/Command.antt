@@ -60,10 +60,11 @@ AnswersQueries name show (text ∷ texts) before after old new result =
     (ended : Result ℕ QueryFault) × AnswersLookup (board_of name) name None (shown_of show) (text ∷ texts) old new ended × (result ≡ end_of ended)
 
 -- What `stats` answers on the board of a name: with `--classes` from tables by classes, which so many
--- workers build over so many blocks; without it the workers and blocks count for nothing.
-abbrev pub AnswersCount : Bool → List ℕ → List ℕ → ℕ → ℕ → Option (List ℕ) → Option (List ℕ) → Result (Unit {0}) Fault → Type 0
-AnswersCount false name text workers blocks old new result = AnswersStats (board_of name) text old new result
-AnswersCount true name text workers blocks old new result = AnswersByClasses (board_of name) text workers blocks old new result
+-- workers build over so many blocks; without it the workers and blocks count for nothing. With
+-- `--deepest` the deepest positions are shown too.
+abbrev pub AnswersCount : Bool → List ℕ → List ℕ → ℕ → ℕ → Bool → Option (List ℕ) → Option (List ℕ) → Result (Unit {0}) Fault → Type 0
+AnswersCount false name text workers blocks deepest old new result = AnswersStats (board_of name) text deepest old new result
+AnswersCount true name text workers blocks deepest old new result = AnswersByClasses (board_of name) text workers blocks deepest old new result
 
 -- into how many blocks the entries of each pair are cut that `verify` builds
 abbrev pub verified_blocks : ℕ
@@ -73,8 +74,8 @@ verified_blocks = 64
 -- contract knows what the system keeps in a folder: nothing is said of the bytes of its files.
 abbrev pub Answers : Input → Input → Option (List ℕ) → Option (List ℕ) → Task → Result (Unit {0}) Fault → Type 0
 Answers before after old new (Look board text depth) result = Looks (board_of board.now) text.now depth old new result
-Answers before after old new (Stats board pair classes workers blocks) result =
-    AnswersCount classes board.now pair.now workers blocks old new result
+Answers before after old new (Stats board pair classes workers blocks deepest) result =
+    AnswersCount classes board.now pair.now workers blocks deepest old new result
 Answers before after old new (Build board pair workers blocks all None classes) result =
     AnswersBuild (board_of board.now) pair.now workers blocks all classes old new result
 Answers before after old new (Build board pair workers blocks all (Some folder) classes) result =

@@ -165,8 +165,9 @@ fn perform<
             classes,
             workers,
             blocks,
+            deepest,
         } => count(
-            rt, alloc, board, pair, classes, workers, blocks, output, teller,
+            rt, alloc, board, pair, classes, workers, blocks, deepest, output, teller,
         ),
         Task::Build {
             board,
@@ -214,7 +215,8 @@ fn perform<
 }
 
 /// Counts the values of a pair's positions: with `classes` from tables by classes, which so many
-/// workers build over so many blocks, and else on one thread.
+/// workers build over so many blocks, and else on one thread; and with `deepest` shows the deepest
+/// positions too.
 fn count<R: Threads + Wait + Sync, O: Sink, T: Teller>(
     rt: &R,
     alloc: Global,
@@ -223,18 +225,21 @@ fn count<R: Threads + Wait + Sync, O: Sink, T: Teller>(
     classes: bool,
     workers: u8,
     blocks: u16,
+    deepest: bool,
     output: &mut O,
     teller: &mut T,
 ) -> Result<(), Fault>
     requires output { O.failures output.old < 2 ^ 64 - 1 }
-    ensures answer { AnswersCount classes board.now pair.now workers blocks (O.contents output.old) (O.contents output.new) result }
+    ensures answer { AnswersCount classes board.now pair.now workers blocks deepest (O.contents output.old) (O.contents output.new) result }
     ensures told { T.becomes teller.old teller.new }
 {
     if classes {
         let (workers, blocks) = (usize::from(workers), usize::from(blocks));
-        stats_by_classes(rt, alloc, board, pair, workers, blocks, output, teller)
+        stats_by_classes(
+            rt, alloc, board, pair, workers, blocks, deepest, output, teller,
+        )
     } else {
-        stats_with(alloc, board, pair, output, teller)
+        stats_with(alloc, board, pair, deepest, output, teller)
     }
 }
 

@@ -1,6 +1,6 @@
 -- The positions of a pair, counted by their entries.
-use Rattle.std.proofs.Common.{◌≡◌, ◌≢◌, ℕ, zero, suc, ◌+◌, ◌-◌, ◌*◌, ◌<◌, ◌≤◌, true, eqb, nat_eq, List, [], ◌∷◌, length, map, filter, get_or, slice_index, refl, sym, ap, ◌∙◌, subst, inl, inr, arith, mul-pos}
-use Rattle.std.specs.List.{Contains, count_by, range_with_len}
+use Rattle.std.proofs.Common.{◌≡◌, ◌≢◌, ℕ, zero, suc, ◌+◌, ◌-◌, ◌<◌, ◌≤◌, true, eqb, nat_eq, List, [], ◌∷◌, length, map, filter, get_or, refl, sym, ap, ◌∙◌, subst, inl, inr, arith, mul-pos}
+use Rattle.std.specs.List.{count_by, range_with_len}
 use Rattle.std.proofs.lemmas.Bool.{cases_eq, eq-eqb, eqb-true}
 use Rattle.std.proofs.lemmas.List.{length-map}
 use Rattle.std.proofs.lemmas.List.FromFn.{get_or-map-range_with_len, length-map-range_with_len}
@@ -11,7 +11,7 @@ use Rattle.morris_index.specs.Binomials.{choose}
 use Rattle.morris_index.specs.Numbering.{half_size}
 use Rattle.morris_index.specs.Classes.{representative_of, symmetry_of}
 use Rattle.morris_index.specs.ClassPairs.{class_index_of, class_size_of, led}
-use Rattle.morris_index.specs.Falls.{HasEntry, falls_from, is_led_by, taken_from}
+use Rattle.morris_index.specs.Falls.{falls_from, is_led_by, taken_from}
 use Rattle.morris_index.specs.Pairs.{Counts, IsPair, index_of, is_of, size_of}
 use Rattle.morris_index.proofs.ChooseLaws.{choose-none, choose-suc}
 use Rattle.morris_index.proofs.ClassPairLaws.{index-lt as class_index-lt, led_own}
@@ -22,12 +22,12 @@ use Rattle.morris_table.specs.Codes.{IsCodeOf}
 use Rattle.morris_table.specs.EntryLaws.{laid}
 use Rattle.morris_table.specs.NetLaws.{at_index-is}
 use Rattle.morris_table.specs.PairNets.{at_index}
-use Rattle.morris_table.specs.Tables.{IsTable, greatest_code, table, tallies_of}
+use Rattle.morris_table.specs.Tables.{IsTable, greatest_code, table}
 use Rattle.morris_table.proofs.BackLawsLists.{Ascends-from_AllPairs}
 use Rattle.morris_table.proofs.PositionLaws.{position_at, position_of_entry}
 use Rattle.morris_table.proofs.TallyLaws.{le_greatest, tallies-from_counts}
-use Rattle.morris_census.specs.Census.{HasPositions, HasTallies, IsLedTo, IsRow}
-use Rattle.morris_census.proofs.SumLaws.{falls, length-numbered, weighed, weighed-all}
+use Rattle.morris_census.specs.Census.{HasPositions, HasTallies, IsLedTo}
+use Rattle.morris_census.proofs.SumLaws.{length-numbered, weighed, weighed-all}
 
 -- the entry by classes of the position with this index among all positions of the pair
 pub entry_at : Shape → Counts → ℕ → ℕ

@@ -1,1 +1,2 @@
 pub mod Census
+pub mod Deepest

@@ -5,3 +5,4 @@ mod BundleLaws
 pub mod BuildLaws
 pub mod NearLaws
 pub mod BeforeLaws
+pub mod DeepestLaws

@@ -1,4 +1,5 @@
 pub mod Look
+pub mod Deepest
 pub mod Stats
 pub mod Verify
 pub mod Probe

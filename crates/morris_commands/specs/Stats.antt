@@ -1,5 +1,5 @@
 -- What `stats` prints of a pair.
-use Rattle.std.specs.Prelude.{◌≡◌, ◌≢◌, ◌⊎◌, ⊤, ℕ, ◌%◌, List, [], ◌++◌, nat_eq, length, drop, slice_index, codes, Option, Some, None, Result, Ok, Err, if◌then◌else◌}
+use Rattle.std.specs.Prelude.{◌≡◌, ◌≢◌, ◌⊎◌, ⊤, ℕ, ◌%◌, Bool, List, [], ◌++◌, nat_eq, length, drop, slice_index, codes, Option, Some, None, Result, Ok, Err, if◌then◌else◌}
 use Rattle.std.specs.List.{Contains, flat_map, range_with_len}
 use Rattle.std.specs.Fmt.{decimal}
 use Rattle.std.specs.Io.KnownBytes.{Keeps}
@@ -12,6 +12,7 @@ use Rattle.morris_faults.specs.declared.fault.Fault.{Fault}
 use Rattle.morris_faults.specs.declared.fault.Fault.TheVariants as fault
 use Rattle.morris_faults.specs.Faults.{Prints}
 use Rattle.morris_faults.specs.PairText.{read_pair_of}
+use Rattle.morris_commands.specs.Deepest.{ShowsDeepest}
 
 -- `a-b S positions`, where S is how many positions the pair has
 abbrev pub pair_line : ℕ → Counts → List ℕ
@@ -39,10 +40,11 @@ draw_line count = number_line (codes "draw: ") count
 unfoldable pub stats_text : ℕ → Counts → List ℕ → List ℕ
 stats_text n pair tallies = pair_line n pair ++ depth_lines (drop 1 tallies) ++ draw_line (slice_index tallies 0)
 
--- `stats` prints the text of these
-abbrev pub PrintsStats : {T : Type 0} → Shape → Counts → Option (List ℕ) → Option (List ℕ) → Result T Fault → Type 0
-PrintsStats board pair old new result =
-    (tallies : List ℕ) × HasTallies board pair tallies × Prints old new (stats_text board.points pair tallies) result
+-- `stats` prints the text of these, and the lines of deepest positions where they are asked for
+abbrev pub PrintsStats : {T : Type 0} → Shape → Counts → Bool → Option (List ℕ) → Option (List ℕ) → Result T Fault → Type 0
+PrintsStats board pair deepest old new result =
+    (tallies : List ℕ) × (lines : List ℕ) × HasTallies board pair tallies × ShowsDeepest board pair deepest lines
+    × Prints old new (stats_text board.points pair tallies ++ lines) result
 
 -- codes don't suffice for the depths of the pair, or for those of one below it, on which it rests
 abbrev pub HasTooDeep : Shape → Counts → Type 0
@@ -71,22 +73,22 @@ IsRefusedFor board pair _ = ⊥
 
 -- What `stats` answers of a pair: a refusal of memory, or of a depth that is too great, with
 -- nothing printed; otherwise codes suffice for all depths, and the pair's text is printed.
-abbrev pub AnswersPair : {T : Type 0} → Shape → Counts → Option (List ℕ) → Option (List ℕ) → Result T Fault → Type 0
-AnswersPair board pair old new result =
+abbrev pub AnswersPair : {T : Type 0} → Shape → Counts → Bool → Option (List ℕ) → Option (List ℕ) → Result T Fault → Type 0
+AnswersPair board pair deepest old new result =
     ((refused : Fault) × (result ≡ Err refused) × IsRefusedFor board pair refused × Keeps old new)
-    ⊎ (¬ HasTooDeep board pair × PrintsStats board pair old new result)
+    ⊎ (¬ HasTooDeep board pair × PrintsStats board pair deepest old new result)
 
 -- What it answers on a board: the fault of a text that names no pair, with nothing printed;
 -- otherwise what it answers of the pair.
-abbrev pub AnswersRead : {T : Type 0} → Shape → Option (List ℕ) → Option (List ℕ) → Result T Fault → Result Counts Fault → Type 0
-AnswersRead board old new result (Err refused) = (result ≡ Err refused) × Keeps old new
-AnswersRead board old new result (Ok pair) = AnswersPair board pair old new result
+abbrev pub AnswersRead : {T : Type 0} → Shape → Bool → Option (List ℕ) → Option (List ℕ) → Result T Fault → Result Counts Fault → Type 0
+AnswersRead board deepest old new result (Err refused) = (result ≡ Err refused) × Keeps old new
+AnswersRead board deepest old new result (Ok pair) = AnswersPair board pair deepest old new result
 
-abbrev pub AnswersOn : {T : Type 0} → Shape → List ℕ → Option (List ℕ) → Option (List ℕ) → Result T Fault → Type 0
-AnswersOn board text old new result = AnswersRead board old new result (read_pair_of board.points text)
+abbrev pub AnswersOn : {T : Type 0} → Shape → List ℕ → Bool → Option (List ℕ) → Option (List ℕ) → Result T Fault → Type 0
+AnswersOn board text deepest old new result = AnswersRead board deepest old new result (read_pair_of board.points text)
 
 -- What `stats` answers: the fault of a board that isn't there, with nothing printed; otherwise what
 -- it answers on the board.
-abbrev pub AnswersStats : {T : Type 0} → Option Shape → List ℕ → Option (List ℕ) → Option (List ℕ) → Result T Fault → Type 0
-AnswersStats None text old new result = (result ≡ Err fault.Board) × Keeps old new
-AnswersStats (Some board) text old new result = AnswersOn board text old new result
+abbrev pub AnswersStats : {T : Type 0} → Option Shape → List ℕ → Bool → Option (List ℕ) → Option (List ℕ) → Result T Fault → Type 0
+AnswersStats None text deepest old new result = (result ≡ Err fault.Board) × Keeps old new
+AnswersStats (Some board) text deepest old new result = AnswersOn board text deepest old new result

@@ -4,6 +4,7 @@
 
 pub mod build;
 pub mod look;
+mod print_deepest;
 mod print_look;
 pub mod print_stats;
 pub mod print_verified;

@@ -2,11 +2,13 @@
 ghost use Rattle.std.specs.Prelude.{◌≡◌, ◌+◌, ◌*◌, ◌^◌, ◌-◌, ◌<◌, ◌≤◌, length, drop, slice_index, OnOk};
 ghost use Rattle.morris_board.specs.Buffered.{Passes, sink_of, taken_of};
 ghost use Rattle.morris_index.specs.Pairs.{pair_text};
-ghost use Rattle.morris_commands.specs.Stats.{depth_line, depth_lines, draw_line, pair_line};
+ghost use Rattle.morris_commands.specs.Stats.{depth_line, depth_lines, draw_line, pair_line, stats_text};
 
+use crate::print_deepest::put_deepest;
 use morris_board::board::Geometry;
 use morris_board::streams::buffered::Buffered;
 use morris_board::streams::{Failed, Sink};
+use morris_census::deepest::Deepest;
 use morris_faults::print::Printed;
 use morris_index::pair::Pair;
 use morris_probe::print::{put_count, put_number_line, put_signed};
@@ -18,23 +20,43 @@ pub struct Counted<'a, B: Geometry> {
     pub pair: Pair<B>,
     /// How many positions have each code, from 0 up.
     pub tallies: &'a [u64],
+    /// The deepest positions, where they were asked for.
+    pub deepest: Option<Deepest<B>>,
 }
 
-#[tactic(auto, using(morris_board::proofs::BufferedLaws::passed_laws), unfolding(crate::specs::Stats::stats_text))]
+#[tactic(auto, using(morris_board::proofs::BufferedLaws::passed_laws))]
 impl<'a, B: Geometry> Printed for Counted<'a, B> {
-    ghost use Rattle.std.specs.Prelude.{◌≤◌, ◌^◌, length};
+    ghost use Rattle.std.specs.Prelude.{◌≤◌, ◌^◌, ◌++◌, length};
+    ghost use Rattle.morris_commands.specs.Deepest.{deepest_lines};
     ghost use Rattle.morris_commands.specs.Stats.{stats_text};
 
-    ghost bytes = { λ counted. stats_text B.POINTS counted.pair counted.tallies.now };
+    ghost bytes = { λ counted. stats_text B.POINTS counted.pair counted.tallies.now ++ deepest_lines B.shape counted.deepest };
 
     ghost is_short = { λ counted. length counted.tallies.now ≤ 2 ^ 16 };
 
     fn put_into<S: Sink>(&self, out: &mut Buffered<'_, S>) -> Result<(), Failed> {
-        let (draws, decided) = draws_and_decided(self.tallies);
-        put_pair_line(out, self.pair)?;
-        put_depths(out, decided)?;
-        put_draws(out, draws)
+        put_tallies(out, self.pair, self.tallies)?;
+        put_deepest(out, self.deepest)
     }
+}
+
+/// How many positions of a pair have each value. `tallies` has the numbers for the codes 0, 1, ..
+#[tactic(auto, using(morris_board::proofs::BufferedLaws::passed_laws), unfolding(crate::specs::Stats::stats_text))]
+fn put_tallies<B: Geometry, S: Sink>(
+    out: &mut Buffered<'_, S>,
+    pair: Pair<B>,
+    tallies: &[u64],
+) -> Result<(), Failed>
+    requires failures { S.failures (sink_of out.old) < 2 ^ 64 - 1 }
+    requires few { length tallies.now ≤ 2 ^ 16 }
+    requires new { taken_of out.old ≡ 0 }
+    ensures passed { Passes S.contents S.failures out.old out.new (stats_text B.POINTS pair tallies.now) result }
+    ensures few { OnOk result (taken_of out.new < 2 ^ 34) }
+{
+    let (draws, decided) = draws_and_decided(tallies);
+    put_pair_line(out, pair)?;
+    put_depths(out, decided)?;
+    put_draws(out, draws)
 }
 
 /// The numbers of a pair.

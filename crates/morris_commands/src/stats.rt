@@ -1,20 +1,22 @@
 //! The command `stats`.
-ghost use Rattle.std.specs.Prelude.{◌≡◌, ◌≢◌, ◌-◌, ◌^◌, ◌<◌, ◌≤◌, None, true, is_some, length, IfErr, IfOk, OnErr, OnOk};
+ghost use Rattle.std.specs.Prelude.{◌≡◌, ◌≢◌, ◌-◌, ◌^◌, ◌<◌, ◌≤◌, ◌++◌, None, false, true, is_some, length, IfErr, IfOk, OnErr, OnOk};
 ghost use Rattle.morris_index.specs.Pairs.{Counts, EndsIn, below_of};
 ghost use Rattle.morris_table.specs.Known.{IsBeyondCodes};
 ghost use Rattle.morris_table.specs.Shelves.{first_missing, table_on};
-ghost use Rattle.morris_faults.specs.Faults.{CountsWrites};
+ghost use Rattle.morris_faults.specs.Faults.{CountsWrites, Prints};
 ghost use Rattle.morris_faults.specs.BoardNames.{board_of};
 ghost use Rattle.morris_census.specs.Census.{HasTallies};
+ghost use Rattle.morris_census.specs.Deepest.{HasDeepest};
 ghost use Rattle.morris_commands.specs.Build.{HasExactAt, IsUnbuiltFor};
-ghost use Rattle.morris_commands.specs.Stats.{AnswersOn, AnswersStats, HasTooDeep, IsRefusedAt, IsRefusedBefore, IsRefusedFor, RestsOnTooDeep};
+ghost use Rattle.morris_commands.specs.Deepest.{deepest_lines};
+ghost use Rattle.morris_commands.specs.Stats.{AnswersOn, AnswersStats, HasTooDeep, IsRefusedAt, IsRefusedBefore, IsRefusedFor, RestsOnTooDeep, stats_text};
 ghost use Rattle.morris_commands.specs.StatsByClasses.{AnswersByClasses, AnswersByClassesOn};
 
 use crate::build::{build_onto, spare};
 use crate::print_stats::Counted;
-use morris_board::board::Board;
+use morris_board::board::{Board, Geometry};
 use morris_board::streams::Sink;
-use morris_census::counting::count_positions;
+use morris_census::census::Census;
 use morris_faults::fault::Fault;
 use morris_faults::on_board;
 use morris_faults::pairs::read_pair;
@@ -45,55 +47,87 @@ use std::thread::Threads;
 /// [`Fault::Write`], with the bytes that went out, at the first write that fails.
 pub fn stats<S: Sink>(alloc: Global, board: &str, pair: &str, output: &mut S) -> Result<(), Fault>
     requires { S.failures output.old < 2 ^ 64 - 1 }
-    ensures answer { AnswersStats (board_of board.now) pair.now (S.contents output.old) (S.contents output.new) result }
+    ensures answer { AnswersStats (board_of board.now) pair.now false (S.contents output.old) (S.contents output.new) result }
     ensures counted { CountsWrites (S.failures output.old) (S.failures output.new) result }
 {
-    stats_with(alloc, board, pair, output, &mut Unwatched)
+    stats_with(alloc, board, pair, false, output, &mut Unwatched)
 }
 
-/// The body of [`stats`], which the program runs: it tells `teller` how far it is.
+/// The body of [`stats`], which the program runs: it tells `teller` how far it is. Where `deepest`
+/// is true, two lines more show positions of the pair with the greatest depths: one that is won,
+/// and one that is lost; of several the one with the least index.
 pub fn stats_with<S: Sink, T: Teller>(
     alloc: Global,
     board: &str,
     pair: &str,
+    deepest: bool,
     output: &mut S,
     teller: &mut T,
 ) -> Result<(), Fault>
     requires { S.failures output.old < 2 ^ 64 - 1 }
-    ensures answer { AnswersStats (board_of board.now) pair.now (S.contents output.old) (S.contents output.new) result }
+    ensures answer { AnswersStats (board_of board.now) pair.now deepest (S.contents output.old) (S.contents output.new) result }
     ensures counted { CountsWrites (S.failures output.old) (S.failures output.new) result }
     ensures told { T.becomes teller.old teller.new }
 {
-    on_board!(board, stats_on::<S, T>(alloc, pair, output, teller))
+    on_board!(
+        board,
+        stats_on::<S, T>(alloc, pair, deepest, output, teller)
+    )
 }
 
 fn stats_on<B: Board, S: Sink, T: Teller>(
     alloc: Global,
     text: &str,
+    deepest: bool,
     output: &mut S,
     teller: &mut T,
 ) -> Result<(), Fault>
     requires { S.failures output.old < 2 ^ 64 - 1 }
-    ensures answer { AnswersOn B.shape text.now (S.contents output.old) (S.contents output.new) result }
+    ensures answer { AnswersOn B.shape text.now deepest (S.contents output.old) (S.contents output.new) result }
     ensures counted { CountsWrites (S.failures output.old) (S.failures output.new) result }
     ensures told { T.becomes teller.old teller.new }
 {
     let pair = read_pair::<B>(text)?;
-    let tallies = count_values(alloc, pair, teller)?;
-    let tallies = tallies.as_slice();
-    print(&Counted { pair, tallies }, output)
+    let census = count_values(alloc, pair, deepest, teller)?;
+    print_census(pair, &census, output)
 }
 
-/// How many positions of a pair have each code.
+/// Prints what was counted of a pair.
+fn print_census<B: Geometry, S: Sink>(
+    pair: Pair<B>,
+    census: &Census<B>,
+    output: &mut S,
+) -> Result<(), Fault>
+    requires failures { S.failures output.old < 2 ^ 64 - 1 }
+    requires few { length census.now.tallies.items ≤ 2 ^ 16 }
+    ensures shown { Prints (S.contents output.old) (S.contents output.new)
+        (stats_text B.POINTS pair census.now.tallies.items ++ deepest_lines B.shape census.now.deepest) result }
+    ensures counted { CountsWrites (S.failures output.old) (S.failures output.new) result }
+{
+    let tallies = census.tallies.as_slice();
+    let deepest = census.deepest;
+    print(
+        &Counted {
+            pair,
+            tallies,
+            deepest,
+        },
+        output,
+    )
+}
+
+/// How many positions of a pair have each code, and the deepest ones, where they are asked for.
 fn count_values<B: Board, T: Teller>(
     alloc: Global,
     pair: Pair<B>,
+    deepest: bool,
     teller: &mut T,
-) -> Result<Vec<u64>, Fault>
+) -> Result<Census<B>, Fault>
     // The caller's proof learns here that the board has as many points as its shape says.
     ensures points { B.shape.points ≡ B.POINTS }
-    ensures counts { IfOk result (λ v. HasTallies B.shape pair v.items) }
-    ensures few { IfOk result (λ v. length v.items ≤ 2 ^ 16) }
+    ensures counts { IfOk result (λ census. HasTallies B.shape pair census.tallies.items) }
+    ensures few { IfOk result (λ census. length census.tallies.items ≤ 2 ^ 16) }
+    ensures deepest { IfOk result (λ census. HasDeepest B.shape pair deepest census.deepest) }
     ensures within { OnOk result (¬ HasTooDeep B.shape pair) }
     ensures refused { IfErr result (IsRefusedFor B.shape pair) }
     ensures told { T.becomes teller.old teller.new }
@@ -102,7 +136,7 @@ fn count_values<B: Board, T: Teller>(
     let shelf = sweep_before(alloc, pair, teller)?;
     let table = sweep_pair(alloc, &shelf, pair)?;
     teller.end_pair(&table);
-    Ok(table.tallies(alloc)?)
+    Ok(Census::of(alloc, &table, deepest)?)
 }
 
 /// The tables of all pairs below a pair but its own, among them those that it needs.
@@ -151,7 +185,9 @@ fn sweep_onto<B: Board, T: Teller>(
 
 /// Prints what [`stats`] prints, counted from tables with an entry for each class of positions. So
 /// many workers build each of these over so many blocks; the text is the same for every number of
-/// them. `teller` is told how far it is.
+/// them. `teller` is told how far it is. Where `deepest` is true, two lines more show positions of
+/// the pair with the greatest depths: one that is won, and one that is lost; of several the one with
+/// the least index.
 ///
 /// # Errors
 /// [`Fault::Board`] where there is no such board, else [`Fault::PairText`], [`Fault::Counts`] or
@@ -168,17 +204,18 @@ pub fn stats_by_classes<R: Threads + Wait + Sync, S: Sink, T: Teller>(
     pair: &str,
     workers: usize,
     blocks: usize,
+    deepest: bool,
     output: &mut S,
     teller: &mut T,
 ) -> Result<(), Fault>
     requires { S.failures output.old < 2 ^ 64 - 1 }
-    ensures answer { AnswersByClasses (board_of board.now) pair.now workers blocks (S.contents output.old) (S.contents output.new) result }
+    ensures answer { AnswersByClasses (board_of board.now) pair.now workers blocks deepest (S.contents output.old) (S.contents output.new) result }
     ensures counted { CountsWrites (S.failures output.old) (S.failures output.new) result }
     ensures told { T.becomes teller.old teller.new }
 {
     on_board!(
         board,
-        by_classes_on::<R, S, T>(rt, alloc, pair, workers, blocks, output, teller)
+        by_classes_on::<R, S, T>(rt, alloc, pair, workers, blocks, deepest, output, teller)
     )
 }
 
@@ -188,33 +225,36 @@ fn by_classes_on<B: Board, R: Threads + Wait + Sync, S: Sink, T: Teller>(
     text: &str,
     workers: usize,
     blocks: usize,
+    deepest: bool,
     output: &mut S,
     teller: &mut T,
 ) -> Result<(), Fault>
     requires { S.failures output.old < 2 ^ 64 - 1 }
-    ensures answer { AnswersByClassesOn B.shape text.now workers blocks (S.contents output.old) (S.contents output.new) result }
+    ensures answer { AnswersByClassesOn B.shape text.now workers blocks deepest (S.contents output.old) (S.contents output.new) result }
     ensures counted { CountsWrites (S.failures output.old) (S.failures output.new) result }
     ensures told { T.becomes teller.old teller.new }
 {
     let pair = read_pair::<B>(text)?;
     let team = Team::new(workers, blocks)?;
-    let tallies = count_by_classes(rt, alloc, pair, team, teller)?;
-    let tallies = tallies.as_slice();
-    print(&Counted { pair, tallies }, output)
+    let census = count_by_classes(rt, alloc, pair, team, deepest, teller)?;
+    print_census(pair, &census, output)
 }
 
-/// How many positions of a pair have each code, from tables by classes that a team builds.
+/// How many positions of a pair have each code, and the deepest ones, where they are asked for, from
+/// tables by classes that a team builds.
 fn count_by_classes<B: Board, R: Threads + Wait + Sync, T: Teller>(
     rt: &R,
     alloc: Global,
     pair: Pair<B>,
     team: Team,
+    deepest: bool,
     teller: &mut T,
-) -> Result<Vec<u64>, Fault>
+) -> Result<Census<B>, Fault>
     // The caller's proof learns here that the board has as many points as its shape says.
     ensures points { B.shape.points ≡ B.POINTS }
-    ensures counts { IfOk result (λ v. HasTallies B.shape pair v.items) }
-    ensures few { IfOk result (λ v. length v.items ≤ 2 ^ 16) }
+    ensures counts { IfOk result (λ census. HasTallies B.shape pair census.tallies.items) }
+    ensures few { IfOk result (λ census. length census.tallies.items ≤ 2 ^ 16) }
+    ensures deepest { IfOk result (λ census. HasDeepest B.shape pair deepest census.deepest) }
     ensures within { OnOk result (¬ HasTooDeep B.shape pair) }
     ensures refused { IfErr result (IsUnbuiltFor B.shape pair team.blocks) }
     ensures told { T.becomes teller.old teller.new }
@@ -223,7 +263,7 @@ fn count_by_classes<B: Board, R: Threads + Wait + Sync, T: Teller>(
     let Some(table) = stock.get(pair) else {
         unreachable!()
     };
-    Ok(count_positions(alloc, table)?)
+    Ok(Census::of(alloc, table, deepest)?)
 }
 
 /// The table of a pair by classes, on a stock. Those that it rests on are let go once no pair to

@@ -86,7 +86,7 @@ look_top = record (new_shape (codes "look")) { rules = required_rule (codes "BOA
 abbrev stats_top : Shape
 stats_top = record (new_shape (codes "stats")) {
   rules = required_rule (codes "BOARD") ∷ required_rule (codes "PAIR") ∷ flag_rule (codes "classes") ∷ workers_rule ∷ blocks_rule
-      ∷ flag_rule (codes "progress") ∷ [];
+      ∷ flag_rule (codes "deepest") ∷ flag_rule (codes "progress") ∷ [];
 }
 
 abbrev build_top : Shape
@@ -159,7 +159,7 @@ stats = built_leaf (inherited (with_leaf_noted (marked_built whole.top)) stats_t
 stats_plain : Each (IsPlainRule stats.rules) stats.rules
 stats_plain = (
   sets refl refl refl,
-  (sets refl refl refl, (stands refl refl refl, (sets refl refl refl, (sets refl refl refl, (stands refl refl refl, (asks refl refl, tt)))))),
+  (sets refl refl refl, (stands refl refl refl, (sets refl refl refl, (sets refl refl refl, (stands refl refl refl, (stands refl refl refl, (asks refl refl, tt))))))),
 )
 
 stats_fits : (words : List Text) → level_fault stats [] nothing_held words false [] ≡ [] → HasStatsValues (rows_after stats.rules [] words)
@@ -173,20 +173,24 @@ stats_fits words none =
     let three = with_default two (flag (codes "classes")) in
     let four = with_default three workers in
     let five = with_default four blocks in
-    let after_blocks = flag (codes "progress") ∷ help ∷ [] in
+    let six = with_default five (flag (codes "deepest")) in
+    let after_deepest = flag (codes "progress") ∷ help ∷ [] in
+    let after_blocks = flag (codes "deepest") ∷ after_deepest in
     let after_workers = blocks ∷ after_blocks in
     let first : HasValue rows board = given_value stats.rules rows board level.rows given.0 refl in
     let second : HasValue rows pair = given_value stats.rules rows pair level.rows given.1 refl in
     let classes = flag_says stats.rules (codes "classes") (workers ∷ after_workers) two level.rows refl in
     let third : HasValue rows workers = row_value stats.rules rows workers level.rows (default_stays workers (codes "2") [] after_workers three refl) refl in
     let fourth : HasValue rows blocks = row_value stats.rules rows blocks level.rows (default_stays blocks (codes "16") [] after_blocks four refl) refl in
-    let progress = flag_says stats.rules (codes "progress") (help ∷ []) five level.rows refl in
+    let deepest = flag_says stats.rules (codes "deepest") after_deepest five level.rows refl in
+    let progress = flag_says stats.rules (codes "progress") (help ∷ []) six level.rows refl in
     record {
       board = ap is_some first.is_first;
       pair = ap is_some second.is_first;
       classes = classes;
       workers = record { text = third.first; read = third.read; in_range = accepts-Accepts false (parser.Signed (pos 1) (pos 64)) third.first third.passes };
       blocks = record { text = fourth.first; read = fourth.read; in_range = accepts-Accepts false (parser.Signed (pos 1) (pos 1024)) fourth.first fourth.passes };
+      deepest = deepest;
       progress = progress;
     }
 

@@ -76,11 +76,11 @@ blocks_rule = record (new_rule (codes "blocks")) {
   defaults = codes "16" ∷ [];
 }
 
--- `stats BOARD PAIR [--classes] [--workers W] [--blocks K] [--progress]`
+-- `stats BOARD PAIR [--classes] [--workers W] [--blocks K] [--deepest] [--progress]`
 unfoldable pub stats_app : App
 stats_app =
-    with_rule (with_rule (with_rule (with_rule (with_rule (with_rule (new_app (codes "stats")) (required_rule (codes "BOARD")))
-    (required_rule (codes "PAIR"))) (flag_rule (codes "classes"))) workers_rule) blocks_rule) (flag_rule (codes "progress"))
+    with_rule (with_rule (with_rule (with_rule (with_rule (with_rule (with_rule (new_app (codes "stats")) (required_rule (codes "BOARD")))
+    (required_rule (codes "PAIR"))) (flag_rule (codes "classes"))) workers_rule) blocks_rule) (flag_rule (codes "deepest"))) (flag_rule (codes "progress"))
 
 -- `--NAME VALUE`, an option that may be left out, and has no value then
 abbrev pub option_rule : Text → Rule
@@ -183,11 +183,12 @@ AsksForTask name rows (Look board text depth) =
     (name ≡ codes "look") × (first_of (codes "BOARD") rows ≡ Some board.now)
     × (first_of (codes "TEXT") rows ≡ Some text.now)
     × (option_map number_of (one_of (codes "depth") rows) ≡ Some depth)
-AsksForTask name rows (Stats board pair classes workers blocks) =
+AsksForTask name rows (Stats board pair classes workers blocks deepest) =
     (name ≡ codes "stats") × (first_of (codes "BOARD") rows ≡ Some board.now) × (first_of (codes "PAIR") rows ≡ Some pair.now)
     × (one_of (codes "classes") rows ≡ Some (bool_text classes))
     × (option_map number_of (one_of (codes "workers") rows) ≡ Some workers)
     × (option_map number_of (one_of (codes "blocks") rows) ≡ Some blocks)
+    × (one_of (codes "deepest") rows ≡ Some (bool_text deepest))
 AsksForTask name rows (Build board pair workers blocks all into classes) =
     (name ≡ codes "build") × (first_of (codes "BOARD") rows ≡ Some board.now) × (first_of (codes "PAIR") rows ≡ Some pair.now)
     × (option_map number_of (one_of (codes "workers") rows) ≡ Some workers)
@@ -218,7 +219,7 @@ AsksFor (Some (name, rows)) r = AsksForTask name rows r.task × AsksToTell r.tas
 -- a depth to look ahead is at most 6 plies; workers are 1 to 64, and blocks 1 to 1,024
 abbrev pub IsInRange : Task → Type 0
 IsInRange (Look board text depth) = depth ≤ 6
-IsInRange (Stats board pair classes workers blocks) = ((1 ≤ workers) × (workers ≤ 64)) × ((1 ≤ blocks) × (blocks ≤ 1024))
+IsInRange (Stats board pair classes workers blocks deepest) = ((1 ≤ workers) × (workers ≤ 64)) × ((1 ≤ blocks) × (blocks ≤ 1024))
 IsInRange (Build board pair workers blocks all into classes) = ((1 ≤ workers) × (workers ≤ 64)) × ((1 ≤ blocks) × (blocks ≤ 1024))
 IsInRange (Verify board from workers) = (1 ≤ workers) × (workers ≤ 64)
 IsInRange _ = ⊤
@@ -252,6 +253,7 @@ pub record HasStatsValues (rows : List Row) : Type 0 where
   pub classes : HasFlag (codes "classes") rows
   pub workers : HasNumber (codes "workers") 1 64 rows
   pub blocks : HasNumber (codes "blocks") 1 1024 rows
+  pub deepest : HasFlag (codes "deepest") rows
   pub progress : HasFlag (codes "progress") rows
 
 -- the values of which `build` makes its request: board and pair are there, and so are a number of

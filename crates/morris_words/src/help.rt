@@ -126,6 +126,10 @@ W threads build the tables over K blocks: this is faster and takes less memory.\
 Without --classes, --workers and --blocks change nothing. What is printed is the\n\
 same each way: an entry counts for each of its positions.\n\
 \n\
+With --deepest it prints two lines more: a position that is won in the greatest\n\
+number of plies, and one that is lost in the greatest number. Of several it is\n\
+the one whose entry comes first in the table.\n\
+\n\
 "
     PROGRESS
     EXIT

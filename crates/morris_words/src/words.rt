@@ -36,13 +36,15 @@ pub enum Task<'a> {
     },
     /// Count the values of the positions of the pair that `pair` names on the board named `board`,
     /// with 1 to 64 `workers` and 1 to 1,024 `blocks`. Where `classes` is true the tables have an
-    /// entry for each class of positions.
+    /// entry for each class of positions, and where `deepest` is true the deepest positions are
+    /// shown as well.
     Stats {
         board: &'a str,
         pair: &'a str,
         classes: bool,
         workers: u8,
         blocks: u16,
+        deepest: bool,
     },
     /// Build the table of the pair that `pair` names on the board named `board`, and of each pair
     /// below it, with 1 to 64 `workers` and 1 to 1,024 `blocks`. Write the table file of the pair
@@ -150,6 +152,8 @@ const CLASSES_HELP: &str = "Have one entry for each class of positions: files of
 
 const CLASS_TABLES_HELP: &str = "Find the values by one entry for each class of positions";
 
+const DEEPEST_HELP: &str = "Show a deepest win and a deepest loss too";
+
 const PROGRESS_HELP: &str = "Show on standard error how much is done";
 
 const TABLES_HELP: &str = "The folder of the table files";
@@ -214,6 +218,7 @@ fn stats_command<'a>(alloc: Global) -> Result<Command<'a>, AllocError>
         .arg(flag_arg(alloc, "classes", CLASS_TABLES_HELP))?
         .arg(workers_arg(alloc))?
         .arg(blocks_arg(alloc))?
+        .arg(flag_arg(alloc, "deepest", DEEPEST_HELP))?
         .arg(flag_arg(alloc, "progress", PROGRESS_HELP))
 }
 
@@ -381,6 +386,7 @@ fn stats_request<'a>(found: &ArgMatches<'a>) -> Request<'a>
             classes,
             workers: number(found, "workers") as u8,
             blocks: number(found, "blocks"),
+            deepest: flag(found, "deepest"),
         },
         progress: flag(found, "progress"),
     }

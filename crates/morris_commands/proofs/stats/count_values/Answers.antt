@@ -1,35 +1,36 @@
 -- The pair is swept after those below it.
-use Rattle.std.proofs.Common.{◌≡◌, None, Some, sym, ap, subst, ◌∙◌, inl, inr}
+use Rattle.std.proofs.Common.{◌≡◌, None, Some, sym, subst, ◌∙◌, inl, inr}
 use Rattle.std.specs.List.{Contains}
 use Rattle.std.proofs.lemmas.Result.{err_from_is_err_and}
 use Rattle.morris_board.specs.Boards.{Shape}
 use Rattle.std.proofs.lemmas.List.Elements.{Contains-push}
 use Rattle.morris_index.specs.Pairs.{Counts, below_of}
-use Rattle.morris_table.specs.declared.layout.Layout.TheVariants.{Full}
 use Rattle.morris_table.specs.Building.{IsUnswept}
 use Rattle.morris_table.specs.Known.{IsBeyondCodes}
 use Rattle.morris_table.specs.Shelves.{Stored, first_missing}
 use Rattle.morris_table.specs.declared.build_fault.BuildFault.{BuildFault}
 use Rattle.morris_table.specs.declared.build_fault.BuildFault.TheVariants as build
-use Rattle.morris_table.specs.Tables.{IsTable, Table, table}
 use Rattle.morris_table.proofs.ShelfLaws.{cases_pair}
+use Rattle.morris_census.specs.Census.{HasTallies}
+use Rattle.morris_census.specs.Deepest.{HasDeepest}
 use Rattle.morris_faults.specs.Faults.{build_fault}
 use Rattle.morris_commands.specs.Stats.{IsRefusedFor}
 use Rattle.morris_commands.proofs.TallyLaws.{length-tallies_of}
 use Rattle.morris_commands.proofs.stats.count_values.Goals as goal
 
--- the table is in layout Full, so that each position of the pair is counted
+-- the table is the pair's
 pub returns-clause-counts : goal.returns-clause-counts
 returns-clause-counts g c =
-    let t : Table = c.in_ok-table.table in
-    let built = c.in_ok-table.ensures.exact in
-    let laid : t ≡ table Full c.args.pair t.codes =
-    ap (λ l. table l t.pair t.codes) built.layout ∙ ap (λ p. table Full p t.codes) built.pair in
-    (t.codes, subst (IsTable g.B.Geometry.shape) laid built.exact, c.in_ok-tallies.ensures)
+    subst (λ pair. HasTallies g.B.Geometry.shape pair c.in_ok-of.field-0.tallies.items) c.in_ok-table.ensures.exact.pair c.in_ok-of.ensures.tallies
 
 pub returns-clause-few : goal.returns-clause-few
 returns-clause-few g c =
-    length-tallies_of c.in_ok-table.table.codes c.in_ok-tallies.field-0.items c.in_ok-table.ensures.exact.exact.small c.in_ok-tallies.ensures
+    let has = c.in_ok-of.ensures.tallies in
+    length-tallies_of has.0 c.in_ok-of.field-0.tallies.items has.1.small has.2
+
+pub returns-clause-deepest : goal.returns-clause-deepest
+returns-clause-deepest g c =
+    subst (λ pair. HasDeepest g.B.Geometry.shape pair c.args.deepest c.in_ok-of.field-0.deepest) c.in_ok-table.ensures.exact.pair c.in_ok-of.ensures.deepest
 
 -- codes suffice for those below the pair, and for the pair itself
 pub returns-clause-within : goal.returns-clause-within

@@ -11,4 +11,5 @@ returns c =
     let three = with_arg _ _ _ _ _ two c.flag_arg.ensures c.in_ok-arg-3.ensures in
     let four = with_arg _ _ _ _ _ three c.workers_arg.ensures c.in_ok-arg-4.ensures in
     let five = with_arg _ _ _ _ _ four c.blocks_arg.ensures c.in_ok-arg-5.ensures in
-    IfOk-weaker c.arg-6.result _ _ (λ r h. with_arg _ _ _ _ _ five c.flag_arg-2.ensures h) c.arg-6.ensures
+    let six = with_arg _ _ _ _ _ five c.flag_arg-2.ensures c.in_ok-arg-6.ensures in
+    IfOk-weaker c.arg-7.result _ _ (λ r h. with_arg _ _ _ _ _ six c.flag_arg-3.ensures h) c.arg-7.ensures

@@ -1,0 +1,27 @@
+-- The lines of what was found show a deepest win and a deepest loss.
+use Rattle.std.proofs.Common.{◌≡◌, Bool, true, false, List, Option, Some, None, ℕ, codes, refl, ap, inl, inr}
+use Rattle.morris_board.specs.Boards.{Shape}
+use Rattle.morris_index.specs.Pairs.{Counts}
+use Rattle.morris_census.specs.declared.deepest.Deep.{Deep}
+use Rattle.morris_census.specs.declared.deepest.Deepest.{Deepest}
+use Rattle.morris_census.specs.declared.deepest.Outcome.{Outcome}
+use Rattle.morris_census.specs.declared.deepest.Outcome.TheVariants.{Won, Lost}
+use Rattle.morris_census.specs.Deepest.{HasDeepest, IsDeepest}
+use Rattle.morris_commands.specs.Deepest.{Shows, ShowsDeepest, deepest_lines, found_line, loss_line, win_line}
+
+shows : {B : Type 0} (board : Shape) (c : Counts) (outcome : Outcome) (head label : List ℕ) (found : Option (Deep B)) → IsDeepest board c outcome found
+    → Shows board c outcome head label (found_line board head label found)
+shows board c outcome head label None none = inr (none, refl)
+shows board c outcome head label (Some deep) h = inl (deep.position, deep.depth, h, refl)
+
+pub shown : {B : Type 0} (board : Shape) (c : Counts) (asked : Bool) (found : Option (Deepest B)) → HasDeepest board c asked found
+    → ShowsDeepest board c asked (deepest_lines board found)
+shown board c false found h = ap (deepest_lines board) h
+shown board c true None h = absurd h
+shown board c true (Some deepest) h = (
+  win_line board deepest.win,
+  loss_line board deepest.loss,
+  shows board c Won (codes "deepest win: ") (codes " won in ") deepest.win h.0,
+  shows board c Lost (codes "deepest loss: ") (codes " lost in ") deepest.loss h.1,
+  refl,
+)
