@@ -66,6 +66,13 @@ abbrev pub AnswersCount : Bool → List ℕ → List ℕ → ℕ → ℕ → Boo
 AnswersCount false name text workers blocks deepest old new result = AnswersStats (board_of name) text deepest old new result
 AnswersCount true name text workers blocks deepest old new result = AnswersByClasses (board_of name) text workers blocks deepest old new result
 
+-- What `build` answers on the board of a name: of the files that are printed, or of those that are
+-- written into a folder, whose bytes no contract knows.
+abbrev pub AnswersTables : {A : Type 0} → List ℕ → List ℕ → ℕ → ℕ → Bool → Option A → Bool → Option (List ℕ) → Option (List ℕ) → Result (Unit {0}) Fault → Type 0
+AnswersTables name text workers blocks all None classes old new result = AnswersBuild (board_of name) text workers blocks all classes old new result
+AnswersTables name text workers blocks all (Some folder) classes old new result =
+    AnswersInto (board_of name) (layout_asked classes) name text workers blocks (place_of None old) (place_of None new) result
+
 -- into how many blocks the entries of each pair are cut that `verify` builds
 abbrev pub verified_blocks : ℕ
 verified_blocks = 64
@@ -76,10 +83,8 @@ abbrev pub Answers : Input → Input → Option (List ℕ) → Option (List ℕ)
 Answers before after old new (Look board text depth) result = Looks (board_of board.now) text.now depth old new result
 Answers before after old new (Stats board pair classes workers blocks deepest) result =
     AnswersCount classes board.now pair.now workers blocks deepest old new result
-Answers before after old new (Build board pair workers blocks all None classes) result =
-    AnswersBuild (board_of board.now) pair.now workers blocks all classes old new result
-Answers before after old new (Build board pair workers blocks all (Some folder) classes) result =
-    AnswersInto (board_of board.now) (layout_asked classes) board.now pair.now workers blocks (place_of None old) (place_of None new) result
+Answers before after old new (Build board pair workers blocks all into classes) result =
+    AnswersTables board.now pair.now workers blocks all into classes old new result
 Answers before after old new (Verify board None workers) result = AnswersVerify (board_of board.now) verified_blocks before after old new result
 Answers before after old new (Verify board (Some folder) workers) result = AnswersFrom (board_of board.now) None board.now old new result
 Answers before after old new (Probe board text) result = AnswersProbe (board_of board.now) text.now before after old new result

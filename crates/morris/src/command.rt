@@ -6,7 +6,7 @@ ghost use Rattle.morris_progress.specs.Progress.{TellsInOrder};
 ghost use Rattle.morris_words.specs.Words.{IsInRange, faults_of, named_by};
 ghost use Rattle.morris_words.specs.declared.words.Task.TheVariants as task;
 ghost use Rattle.morris_commands.specs.Verify.{input_of};
-ghost use Rattle.morris.specs.Command.{Answers, AnswersCount, AnswersQueries, AsksToRead, Ends, HasMistake, TellsProgress, end_of, not_text, shown_of, status_of, takes_input};
+ghost use Rattle.morris.specs.Command.{Answers, AnswersCount, AnswersQueries, AnswersTables, AsksToRead, Ends, HasMistake, TellsProgress, end_of, not_text, shown_of, status_of, takes_input};
 
 use morris_board::streams::{Sink, Source};
 use morris_commands::build::build_with;
@@ -177,19 +177,9 @@ fn perform<
             all,
             into,
             classes,
-        } => {
-            let (workers, blocks) = (usize::from(workers), usize::from(blocks));
-            if let Some(path) = into {
-                let folder = &mut SystemFolder::new(rt, path);
-                build_into(
-                    rt, alloc, board, pair, workers, blocks, classes, folder, output, teller,
-                )
-            } else {
-                build_with(
-                    rt, alloc, board, pair, workers, blocks, all, classes, output, teller,
-                )
-            }
-        }
+        } => build(
+            rt, alloc, board, pair, workers, blocks, all, into, classes, output, teller,
+        ),
         Task::Verify {
             board,
             from,
@@ -240,6 +230,38 @@ fn count<R: Threads + Wait + Sync, O: Sink, T: Teller>(
         )
     } else {
         stats_with(alloc, board, pair, deepest, output, teller)
+    }
+}
+
+/// Builds the tables of a pair by so many workers over so many blocks: into the files of a folder,
+/// where there is one, and else onto `output`.
+fn build<R: Threads + Wait + Sync + Files<File = File> + AllocGlobal, O: Sink, T: Teller>(
+    rt: &R,
+    alloc: Global,
+    board: &str,
+    pair: &str,
+    workers: u8,
+    blocks: u16,
+    all: bool,
+    into: Option<&str>,
+    classes: bool,
+    output: &mut O,
+    teller: &mut T,
+) -> Result<(), Fault>
+    requires output { O.failures output.old < 2 ^ 64 - 1 }
+    ensures answer { AnswersTables board.now pair.now workers blocks all into.entry classes (O.contents output.old) (O.contents output.new) result }
+    ensures told { T.becomes teller.old teller.new }
+{
+    let (workers, blocks) = (usize::from(workers), usize::from(blocks));
+    if let Some(path) = into {
+        let folder = &mut SystemFolder::new(rt, path);
+        build_into(
+            rt, alloc, board, pair, workers, blocks, classes, folder, output, teller,
+        )
+    } else {
+        build_with(
+            rt, alloc, board, pair, workers, blocks, all, classes, output, teller,
+        )
     }
 }
 
