@@ -54,8 +54,7 @@ const VERIFIED_BLOCKS: usize = 64;
 ///
 /// Where the words ask for it, lines that begin with `progress: ` go to `errors` before all else
 /// there, first one that says how much there is to do, with the seconds by the clock of `rt`, until
-/// one of them can't be written. Nothing else changes by it: it takes no memory of its own, but for
-/// the names of a folder's files, whose headers `verify` reads first.
+/// one of them can't be written. Nothing else changes by it: it takes no memory of its own.
 pub fn command<
     R: Threads + Wait + Clock + Sync + Files<File = File> + AllocGlobal,
     W: AsStr,
