@@ -65,7 +65,7 @@ passing-same f g (suc n) same = elim (cases_Bool (g n)) [
 ]
 
 -- its members are the numbers that pass
-members-listed : (test : ℕ → Bool) (x n : ℕ) → n ≤ 32 → ((s : ℕ) → has x s ≡ (ltb s n && test s)) → members x ≡ filter test (range_with_len 0 n)
+pub members-listed : (test : ℕ → Bool) (x n : ℕ) → n ≤ 32 → ((s : ℕ) → has x s ≡ (ltb s n && test s)) → members x ≡ filter test (range_with_len 0 n)
 unfolding members
 members-listed test x n low is =
     let e : 32 ≡ (32 - n) + n = omega arith in
@@ -84,13 +84,14 @@ pub split_after : (before whole : List ℕ) (p : ℕ) (after left : List ℕ) �
 split_after before whole p after left step split = append_assoc before (p ∷ []) after ∙ ap (λ t. before ++ t) (sym step) ∙ split
 
 -- one result more at the end of a list
-pub pushed : (f : ℕ → ℕ) (old yielded out : List ℕ) (s x : ℕ) → out ≡ old ++ map f yielded → x ≡ f s → out ++ x ∷ [] ≡ old ++ map f (yielded ++ s ∷ [])
+pub pushed : {X : Type 0} (f : ℕ → X) (old : List X) (yielded : List ℕ) (out : List X) (s : ℕ) (x : X) → out ≡ old ++ map f yielded → x ≡ f s
+    → out ++ x ∷ [] ≡ old ++ map f (yielded ++ s ∷ [])
 pushed f old yielded out s x e is =
     ap₂ (λ a b. a ++ b ∷ []) e is
     ∙ append_assoc old (map f yielded) (f s ∷ [])
     ∙ ap (λ t. old ++ t) (sym (map-append f yielded (s ∷ [])))
 
-both_and : (a b c : Bool) → ((a && b) && (a && c)) ≡ (a && (b && c))
+pub both_and : (a b c : Bool) → ((a && b) && (a && c)) ≡ (a && (b && c))
 both_and true b c = refl
 both_and false b c = refl
 
@@ -119,20 +120,20 @@ module _ (board : Shape) (n : ℕ) (few : n ≤ 24) (points : board.points ≡ n
     carried_apart : IsApart board carried
     carried_apart = IsApart-image board low _ _ one q apart
 
-    carried_placed : IsPlaced n carried
+    pub carried_placed : IsPlaced n carried
     carried_placed = record {
       own_within = off_board carried.own carried_apart.own_within;
       other_within = off_board carried.other carried_apart.other_within;
       apart = carried_apart.apart;
     }
 
-    carried_own : carried.own ≡ representative_of board q.own
+    pub carried_own : carried.own ≡ representative_of board q.own
     carried_own = led_least board q.own t t_low leads
 
-    own_same : count_of carried.own ≡ count_of q.own
+    pub own_same : count_of carried.own ≡ count_of q.own
     own_same = count_of-image board.points low _ _ one q.own apart.own_within
 
-    other_same : count_of carried.other ≡ count_of q.other
+    pub other_same : count_of carried.other ≡ count_of q.other
     other_same = count_of-image board.points low _ _ one q.other apart.other_within
 
     itself : led board carried ≡ carried
@@ -154,10 +155,10 @@ module _ (board : Shape) (n : ℕ) (few : n ≤ 24) (points : board.points ≡ n
         ap (λ (s : Sides). rank_of (map (number_outside s.own) (members s.other))) itself
         ∙ ap (λ o. rank_of (map (number_outside o) (members carried.other))) carried_own
 
-    carried_entry : (c : Counts) → class_start_of board n c q.own (count_of q.other) + carried_rank ≡ class_index_of board n c carried
+    pub carried_entry : (c : Counts) → class_start_of board n c q.own (count_of q.other) + carried_rank ≡ class_index_of board n c carried
     carried_entry c = sym (entry-parts board n few points y c carried ∙ ap₂ (λ a b. a + b) (same_start c) rank_same)
 
-    carried_few : count_of q.other ≤ 9 → carried_rank ≤ 1307504
+    pub carried_few : count_of q.other ≤ 9 → carried_rank ≤ 1307504
     carried_few most =
         omega (
           arith,

@@ -24,3 +24,4 @@ pub mod ReturningLaws
 pub mod ClassCounts
 pub mod FallLaws
 mod StepLaws
+pub mod FacingLaws

@@ -74,7 +74,7 @@ module _ (board : Shape) (n : ℕ) (few : n ≤ 24) (points : board.points ≡ n
     forth_back q own other = ap₂ sides (image_of-undone board.points low f _ one q.own own) (image_of-undone board.points low f _ one q.other other)
 
     -- a set that is taken to a representative is led there
-    leads_from : (set : ℕ) → set < 2 ^ board.points → representative_of board (image_of f set) ≡ image_of f set → is_leading board set s ≡ true
+    pub leads_from : (set : ℕ) → set < 2 ^ board.points → representative_of board (image_of f set) ≡ image_of f set → is_leading board set s ≡ true
     unfolding is_leading representative_of
     leads_from set small own =
         all_range (λ t. leb (image_of f set) (image_of (board.image t) set)) 0 board.symmetries (λ t t_in.

@@ -9,3 +9,4 @@ pub mod ClassPairs
 pub mod ClassMoves
 pub mod Falls
 pub mod Carried
+pub mod Facing

@@ -49,7 +49,7 @@ const BINOMIALS: [[u32; 11]; 25] = [
 
 /// How many subsets of `k` things a set of `n` things has, for at most 24 things and subsets of at
 /// most 10.
-pub(crate) fn binomial(n: u8, k: u8) -> u64
+pub fn binomial(n: u8, k: u8) -> u64
     requires things { n ≤ 24 }
     requires chosen { k ≤ 10 }
     ensures value { result ≡ choose n k }

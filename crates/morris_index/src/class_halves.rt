@@ -66,12 +66,12 @@ pub(crate) fn class_half_start<B: Geometry>(
 }
 
 /// The same number of an entry, where there are `choices` entries for each class; the
-/// representative, and all symmetries that lead `own` there.
+/// representative, all symmetries that lead `own` there, and the class.
 pub(crate) fn class_half_leads<B: Geometry>(
     classes: &Classes<B>,
     own: Points,
     choices: u64,
-) -> (u64, Points, Points)
+) -> (u64, Points, Points, u32)
     requires classes { classes.now ≡ count_of own }
     requires within { own < 2 ^ B.POINTS }
     requires few { choices < 2 ^ 21 }
@@ -81,7 +81,12 @@ pub(crate) fn class_half_leads<B: Geometry>(
     ensures few { result.0 < 2 ^ 53 }
 {
     let (class, representative, symmetries) = classes.leads_of(own);
-    (u64::from(class) * choices, representative, symmetries)
+    (
+        u64::from(class) * choices,
+        representative,
+        symmetries,
+        class,
+    )
 }
 
 /// The position of the entry with this number among those with `own` stones of the player to move

@@ -157,8 +157,9 @@ impl<B: Geometry> ClassPair<B> {
         }
     }
 
-    /// The same first entry, the representative, and all symmetries that lead `own` there.
-    pub(crate) fn leads_of(&self, own: Points, other: Points) -> (u64, Points, Points)
+    /// The same first entry, the representative, all symmetries that lead `own` there, and the
+    /// class.
+    pub(crate) fn leads_of(&self, own: Points, other: Points) -> (u64, Points, Points, u32)
         requires within { own < 2 ^ B.POINTS }
         requires counts { is_of self.now (sides own other) ≡ true }
         ensures start { result.0 ≡ class_start_of B.shape B.POINTS self.now own (count_of other) }
@@ -171,12 +172,12 @@ impl<B: Geometry> ClassPair<B> {
         if own.count() == greater {
             class_half_leads(&self.greater, own, self.greater_choices)
         } else {
-            let (start, representative, symmetries) = class_half_leads(
+            let (start, representative, symmetries, class) = class_half_leads(
                 &self.lesser,
                 own,
                 self.lesser_choices,
             );
-            (self.first + start, representative, symmetries)
+            (self.first + start, representative, symmetries, class)
         }
     }
 

@@ -57,7 +57,7 @@ fn class_count<B: Geometry>(count: u8) -> u32
 }
 
 /// Whether a set has `count` points and no image with a lesser mask.
-fn is_representative<B: Geometry>(count: u8, set: Points) -> bool
+pub fn is_representative<B: Geometry>(count: u8, set: Points) -> bool
     requires { set < 2 ^ B.POINTS }
     ensures { result ≡ is_representative B.shape count set }
 {

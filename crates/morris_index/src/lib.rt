@@ -2,11 +2,12 @@
 #![tactic(auto)]
 
 pub mod below;
-mod binomials;
+pub mod binomials;
 mod class_halves;
 pub mod class_pair;
 pub mod class_sizes;
 pub mod classes;
+pub mod facing;
 pub mod falls;
 pub mod faults;
 mod halves;

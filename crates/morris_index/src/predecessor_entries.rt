@@ -68,7 +68,7 @@ impl<'a, B: Geometry> PredecessorEntries<'a, B> {
     {
         let own = self.position.own();
         let mover = self.position.other().without(to).with(from);
-        let (start, representative, leading) = self.pair.leads_of(mover, own);
+        let (start, representative, leading, _) = self.pair.leads_of(mover, own);
         let carrying = leading.common(self.returning);
         for symmetry in carrying.iter() {
             let image = B::image_of(symmetry, own);

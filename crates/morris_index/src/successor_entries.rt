@@ -3,6 +3,7 @@ ghost use Rattle.std.specs.Prelude.{◌≡◌, ◌<◌, ◌||◌, not, true};
 ghost use Rattle.morris_board.specs.Sets.{has};
 ghost use Rattle.morris_index.specs.Pairs.{is_of};
 ghost use Rattle.morris_index.specs.Moves.{in_pair, moved_on};
+ghost use Rattle.morris_index.specs.ClassMoves.{IsLedOn};
 ghost use Rattle.morris_index.specs.ClassPairs.{class_index_of};
 
 use crate::class_pair::ClassPair;
@@ -56,6 +57,34 @@ impl<B: Geometry> SuccessorEntries<B> {
             led: position.image(symmetry),
             start,
         }
+    }
+
+    /// The same of a position whose image under the symmetry of the opponent's stones is known, and
+    /// the first entry in which the player to move has the stones that the opponent has there.
+    pub(crate) fn led_by(
+        pair: &ClassPair<B>,
+        position: Position<B>,
+        symmetry: u8,
+        led: Position<B>,
+        start: u64,
+    ) -> SuccessorEntries<B>
+        requires { IsLedOn B.shape B.POINTS (in_pair pair.now position) symmetry led start }
+        ensures { result ≡ in_pair pair.now position }
+    {
+        SuccessorEntries {
+            pair: pair.pair(),
+            position,
+            symmetry,
+            led,
+            start,
+        }
+    }
+
+    /// The position.
+    pub(crate) fn position(&self) -> Position<B>
+        ensures { result ≡ self.now.position }
+    {
+        self.position
     }
 
     /// The entry of the position after a quiet move from `from` to `to`: a stone of the player to

@@ -1,0 +1,309 @@
+-- The positions that face a set: what their entries are, how the results of their moves are led,
+-- and that each position with an entry of its own is one of them.
+use Rattle.std.proofs.Common.{◌≡◌, ℕ, ◌+◌, ◌^◌, ◌<◌, ◌≤◌, true, false, eqb, ltb, ◌&&◌, List, [], ◌++◌, map, filter, refl, sym, ◌∙◌, ap, ap₂, subst, inl, inr, arith}
+use Rattle.std.specs.List.{range_with_len, All, Contains}
+use Rattle.std.proofs.lemmas.Bool.{cases_lt, ltb-true, eq-eqb, eqb-true, and_parts, and_from}
+use Rattle.std.proofs.lemmas.List.Elements.{All-nil, All-append, All-contains_itself, All-weaker, Contains-append_left, Contains-append_right}
+use Rattle.morris_board.specs.Boards.{Shape}
+use Rattle.morris_board.specs.Sets.{has, members, count_of}
+use Rattle.morris_board.specs.Positions.{Sides, sides, IsPosition}
+use Rattle.morris_board.specs.Symmetries.{image_of, image_sides, inverse_of, HasSymmetries}
+use Rattle.morris_board.proofs.ImageLaws.{IsOneToOne, one_to_one, IsPosition-image, count_of-image, image_of-undone, image_sides-undone}
+use Rattle.morris_index.specs.Numbering.{rank_of, number_outside}
+use Rattle.morris_index.specs.Classes.{is_leading, symmetry_of, representative_of, classes_below, class_of, AreLeading}
+use Rattle.morris_index.specs.ClassMoves.{class_start_of, IsLedOn}
+use Rattle.morris_index.specs.ClassPairs.{led, class_index_of, class_size_of}
+use Rattle.morris_index.specs.Moves.{InPair, in_pair}
+use Rattle.morris_index.specs.Pairs.{Counts, IsPair, is_of}
+use Rattle.morris_index.specs.Carried.{carries, AreReturning}
+use Rattle.morris_index.specs.Facing.{turned, facing, IsFaced, AreFaces}
+use Rattle.morris_index.proofs.IndexLaws.{IsPlaced, placed, other_apart, within_24, halves_of, is_of-first, is_of-second}
+use Rattle.morris_index.proofs.PairLaws.{from_between, own_count, other_count}
+use Rattle.morris_index.proofs.ClassLaws.{representative_twice, symmetry_within}
+use Rattle.morris_index.proofs.ClassPairLaws.{led_position, led_own, led_own_count, led_other_count, led_itself, led_alone, index-lt}
+use Rattle.morris_index.proofs.CarriedLaws.{both_and, members-listed, carried_placed, carried_own, carried_entry, carried_few, other_same}
+use Rattle.morris_index.proofs.StepLaws.{leads_from}
+use Rattle.morris_index.proofs.FallLaws.{kept-from, kept-has}
+
+-- the other player has as many stones as the pair allows
+pub turned_of : (c : Counts) (p : Sides) → is_of c p ≡ true → is_of c (turned p) ≡ true
+turned_of c p of = elim (halves_of c p of) [
+  | inl a ↦ is_of-second c (turned p) (and_from _ _ (eq-eqb (count_of p.other) c.lesser a.1) (eq-eqb (count_of p.own) c.greater a.0))
+  | inr a ↦ is_of-first c (turned p) (and_from _ _ (eq-eqb (count_of p.other) c.greater a.2) (eq-eqb (count_of p.own) c.lesser a.1))
+]
+
+-- positions of a pair with the same stones of the player to move have as many of the other's
+pub same_others : (c : Counts) (s t : Sides) → is_of c s ≡ true → is_of c t ≡ true → s.own ≡ t.own → count_of s.other ≡ count_of t.other
+same_others c s t s_of t_of own = elim (halves_of c s s_of) [
+  | inl a ↦ elim (halves_of c t t_of) [
+    | inl b ↦ a.1 ∙ sym b.1
+    | inr b ↦ absurd (b.0 (sym a.0 ∙ ap count_of own ∙ b.1))
+  ]
+  | inr a ↦ elim (halves_of c t t_of) [
+    | inl b ↦ absurd (a.0 (sym b.0 ∙ ap count_of (sym own) ∙ a.1))
+    | inr b ↦ a.2 ∙ sym b.2
+  ]
+]
+
+-- the symmetries that lead the player to move and return from the images of the other
+module _ (board : Shape) (p : Sides) (leading returning carrying : ℕ) (leads : AreLeading board p.other leading) (returns : AreReturning board p.own returning)
+    (common : (t : ℕ) → has carrying t ≡ (has leading t && has returning t)) where
+  pub both_carry : (t : ℕ) → has carrying t ≡ (ltb t board.symmetries && carries board p p.other t)
+  both_carry t =
+      common t
+      ∙ ap₂ (λ a b. a && b) (leads t) (returns t)
+      ∙ both_and (ltb t board.symmetries) (is_leading board p.other t) (eqb (symmetry_of board (image_of (board.image t) p.own)) (inverse_of t))
+
+module _ (board : Shape) (p : Sides) (carrying : ℕ) (carry : (t : ℕ) → has carrying t ≡ (ltb t board.symmetries && carries board p p.other t)) where
+  pub carrying_members : board.symmetries ≤ 32 → members carrying ≡ filter (carries board p p.other) (range_with_len 0 board.symmetries)
+  carrying_members most = members-listed (carries board p p.other) carrying board.symmetries most carry
+
+  pub one_carries : (t : ℕ) → has carrying t ≡ true → (t < board.symmetries) × (carries board p p.other t ≡ true)
+  one_carries t inside =
+      let both = and_parts (ltb t board.symmetries) (carries board p p.other t) (sym (carry t) ∙ inside) in
+      (ltb-true t board.symmetries both.0, both.1)
+
+module _ (board : Shape) (n : ℕ) (few : n ≤ 24) (points : board.points ≡ n) (y : HasSymmetries board) (c : Counts) (pair : IsPair n c) where
+  low : board.points ≤ 24
+  low = omega arith
+
+  one : (s : ℕ) → s < board.symmetries → IsOneToOne board.points (board.image s) (board.image (inverse_of s))
+  one s s_in = one_to_one board _ _ (y.symmetry s s_in)
+
+  -- ---- the other player is to move
+
+  module _ (p : Sides) (h : IsPosition board p) (of : is_of c p ≡ true) where
+    own_most : count_of p.own ≤ 9
+    own_most = (own_count p h.sized).1
+
+    other_most : count_of p.other ≤ 9
+    other_most = (other_count p h.sized).1
+
+    own_least : 3 ≤ count_of p.own
+    own_least = elim (halves_of c p of) [
+      | inl a ↦ omega (arith, a.0, pair.least, pair.ordered)
+      | inr a ↦ omega (arith, a.1, pair.least)
+    ]
+
+    pub turned_position : IsPosition board (turned p)
+    turned_position = record {
+      stones = record {
+        own_within = h.stones.other_within;
+        other_within = h.stones.own_within;
+        apart = other_apart n (omega arith) p (placed board n p points h);
+      };
+      sized = and_from _ _ (from_between 2 (count_of p.other) 9 (omega (arith, (other_count p h.sized).0)) other_most)
+          (from_between 3 (count_of p.own) 9 own_least own_most);
+    }
+
+    turned_placed : IsPlaced n (turned p)
+    turned_placed = placed board n (turned p) points turned_position
+
+    -- ---- carried by a symmetry
+
+    module _ (own : representative_of board p.own ≡ p.own) (s : ℕ) (s_in : s < board.symmetries) (k : carries board p p.other s ≡ true) where
+      abbrev pub faced : Sides
+      faced = image_sides (board.image s) (turned p)
+
+      parts : (is_leading board p.other s ≡ true) × (eqb (symmetry_of board (image_of (board.image s) p.own)) (inverse_of s) ≡ true)
+      parts = and_parts _ _ k
+
+      faced_position : IsPosition board faced
+      faced_position = IsPosition-image board low _ _ (one s s_in) (turned p) turned_position
+
+      faced_of : is_of c faced ≡ true
+      faced_of = rw (
+        count_of-image board.points low _ _ (one s s_in) p.other h.stones.other_within,
+        count_of-image board.points low _ _ (one s s_in) p.own h.stones.own_within,
+      ) (turned_of c p of)
+
+      faced_own : faced.own ≡ representative_of board p.other
+      faced_own = carried_own board n few points y (turned p) turned_placed s s_in parts.0
+
+      faced_least : representative_of board faced.own ≡ faced.own
+      faced_least = ap (representative_of board) faced_own ∙ representative_twice board low y p.other h.stones.other_within ∙ sym faced_own
+
+      -- the numbers of the first entry and of the rank after it
+      abbrev pub faced_rank : ℕ
+      faced_rank = rank_of (map (number_outside faced.own) (members faced.other))
+
+      rank_same : faced_rank ≡ rank_of (map (number_outside (representative_of board p.other)) (members faced.other))
+      rank_same = ap (λ o. rank_of (map (number_outside o) (members faced.other))) faced_own
+
+      pub faced_entry : class_start_of board n c p.other (count_of p.own) + faced_rank ≡ class_index_of board n c faced
+      faced_entry =
+          ap (λ r. class_start_of board n c p.other (count_of p.own) + r) rank_same
+          ∙ carried_entry board n few points y (turned p) turned_placed s s_in parts.0 c
+
+      pub faced_few : faced_rank ≤ 1307504
+      faced_few = omega (arith, rank_same, carried_few board n few points y (turned p) turned_placed s s_in parts.0 own_most)
+
+      pub faced_24 : faced.other < 2 ^ 24
+      faced_24 = within_24 _ n (carried_placed board n few points y (turned p) turned_placed s s_in parts.0).other_within few
+
+      pub faced_apart : (q : ℕ) → has faced.other q ≡ true → has faced.own q ≡ false
+      faced_apart = other_apart n (omega arith) _ (carried_placed board n few points y (turned p) turned_placed s s_in parts.0)
+
+      pub faced_others : count_of faced.other ≤ 9
+      faced_others = omega (arith, other_same board n few points y (turned p) turned_placed s s_in parts.0, own_most)
+
+      pub is_faced : (entry : ℕ) → entry ≡ class_index_of board n c faced → IsFaced board n (in_pair c faced) entry
+      is_faced entry e = record {
+        counts = faced_of;
+        lawful = faced_position;
+        own = faced_least;
+        at = sym e;
+        inside = subst (λ k. k < class_size_of board n c) (sym e) (index-lt board n few points y c faced faced_position faced_of);
+      }
+
+      -- ---- how its results are led
+
+      returns : symmetry_of board faced.other ≡ inverse_of s
+      returns = eqb-true _ _ parts.1
+
+      back_own : image_of (board.image (inverse_of s)) faced.other ≡ p.own
+      back_own = image_of-undone board.points low _ _ (one s s_in) p.own h.stones.own_within
+
+      same_least : representative_of board faced.other ≡ representative_of board p.own
+      unfolding representative_of
+      same_least = ap (λ t. image_of (board.image t) faced.other) returns ∙ back_own ∙ sym own
+
+      same_class : class_of board faced.other ≡ class_of board p.own
+      unfolding class_of
+      same_class = ap₂ (classes_below board) (count_of-image board.points low _ _ (one s s_in) p.own h.stones.own_within) same_least
+
+      same_start : class_start_of board n c faced.other (count_of faced.own) ≡ class_start_of board n c p.own (count_of p.other)
+      same_start = rw (
+        count_of-image board.points low _ _ (one s s_in) p.other h.stones.other_within,
+        count_of-image board.points low _ _ (one s s_in) p.own h.stones.own_within,
+        same_class,
+      ) refl
+
+      pub faced_led : (first : ℕ) → first ≡ class_start_of board n c p.own (count_of p.other) → first ≤ 2 ^ 54
+          → IsLedOn board n (in_pair c faced) (inverse_of s) (turned p) first
+      faced_led first e small = record {
+        counts = faced_of;
+        lawful = faced_position;
+        pair = pair;
+        leads = sym returns;
+        led = sym (image_sides-undone board low _ _ (one s s_in) (turned p) turned_position.stones);
+        start = e ∙ sym same_start;
+        few = small;
+      }
+
+  -- ---- each position with an entry of its own faces a set
+
+  pub record IsCovered (x : Sides) : Type 0 where
+    pub facing_it : Sides
+    pub lawful : IsPosition board facing_it
+    pub counts : is_of c facing_it ≡ true
+    pub own : representative_of board facing_it.own ≡ facing_it.own
+    pub listed : Contains (facing board c facing_it) (in_pair c x)
+
+  module _ (x : Sides) (h : IsPosition board x) (of : is_of c x ≡ true) (own : representative_of board x.own ≡ x.own) where
+    abbrev t : Sides
+    t = turned x
+
+    t_position : IsPosition board t
+    t_position = turned_position x h of
+
+    abbrev g : ℕ
+    g = symmetry_of board x.other
+
+    g_in : g < board.symmetries
+    g_in = symmetry_within board low y x.other h.stones.other_within
+
+    abbrev p : Sides
+    p = led board t
+
+    abbrev back : ℕ
+    back = inverse_of g
+
+    back_in : back < board.symmetries
+    back_in = y.inverse_within g g_in
+
+    p_is : p ≡ image_sides (board.image g) t
+    unfolding led
+    p_is = refl
+
+    p_position : IsPosition board p
+    p_position = led_position board n few points y t t_position
+
+    p_of : is_of c p ≡ true
+    p_of = rw (led_own_count board n few points y t t_position, led_other_count board n few points y t t_position) (turned_of c x of)
+
+    p_least : representative_of board p.own ≡ p.own
+    p_least =
+        ap (representative_of board) (led_own board n few points y t t_position)
+        ∙ representative_twice board low y x.other h.stones.other_within
+        ∙ sym (led_own board n few points y t t_position)
+
+    undone : image_sides (board.image back) p ≡ t
+    undone = ap (image_sides (board.image back)) p_is ∙ image_sides-undone board low _ _ (one g g_in) t t_position.stones
+
+    back_other : image_of (board.image back) p.other ≡ x.own
+    back_other = ap (λ (s : Sides). s.other) undone
+
+    back_own_is : image_of (board.image back) p.own ≡ x.other
+    back_own_is = ap (λ (s : Sides). s.own) undone
+
+    carried_there : carries board p p.other back ≡ true
+    carried_there =
+        and_from _ _
+        (leads_from board n few points y back back_in p.other p_position.stones.other_within
+        (ap (representative_of board) back_other ∙ own ∙ sym back_other))
+        (eq-eqb _ _ (ap (symmetry_of board) back_own_is ∙ sym (y.inverse_twice g g_in)))
+
+    there : in_pair c (image_sides (board.image back) (turned p)) ≡ in_pair c x
+    there = ap₂ (λ a b. in_pair c (sides a b)) back_other back_own_is
+
+    pub covered : IsCovered x
+    unfolding facing
+    covered = record {
+      facing_it = p;
+      lawful = p_position;
+      counts = p_of;
+      own = p_least;
+      listed =
+          subst (Contains (map (λ s. in_pair c (image_sides (board.image s) (turned p))) (filter (carries board p p.other) (range_with_len 0 board.symmetries)))) there
+          (kept-has (λ s. in_pair c (image_sides (board.image s) (turned p))) (carries board p p.other) 0 board.symmetries back (omega arith) (omega (arith, back_in)) carried_there);
+    }
+
+  -- ---- all that face the positions of some entries
+
+  facing_pairs : (p : Sides) → All (λ (q : InPair). q.pair ≡ c) (facing board c p)
+  unfolding facing
+  facing_pairs p =
+      let all : List InPair = map (λ s. in_pair c (image_sides (board.image s) (turned p))) (filter (carries board p p.other) (range_with_len 0 board.symmetries)) in
+      All-weaker (Contains all) (λ (q : InPair). q.pair ≡ c)
+      (λ q m.
+      let r = kept-from (λ s. in_pair c (image_sides (board.image s) (turned p))) (carries board p p.other) 0 board.symmetries q m in
+      ap (λ (x : InPair). x.pair) (sym r.4))
+      all (All-contains_itself all)
+
+  -- a position with an entry of its own is the only one
+  own_alone : (s t : Sides) → IsPosition board s → IsPosition board t → is_of c s ≡ true → is_of c t ≡ true
+      → representative_of board s.own ≡ s.own → representative_of board t.own ≡ t.own
+      → class_index_of board n c s ≡ class_index_of board n c t → s ≡ t
+  own_alone s t h k s_of t_of s_own t_own same =
+      sym (led_itself board n few points y s.own s.other (placed board n s points h).own_within (placed board n s points h).other_within s_own)
+      ∙ led_alone board n few points y c s t h k s_of t_of same
+      ∙ led_itself board n few points y t.own t.other (placed board n t points k).own_within (placed board n t points k).other_within t_own
+
+  pub faces-none : (first : ℕ) → AreFaces board n c first first []
+  faces-none first = record {
+    pairs = All-nil (λ (q : InPair). q.pair ≡ c);
+    each = λ p h of own from to q m. absurd (omega arith);
+  }
+
+  pub faces-more : (first k : ℕ) (faces : List InPair) (p : Sides) → IsPosition board p → is_of c p ≡ true → representative_of board p.own ≡ p.own
+      → class_index_of board n c p ≡ k → AreFaces board n c first k faces → AreFaces board n c first (k + 1) (faces ++ facing board c p)
+  faces-more first k faces p h of own at before = record {
+    pairs = All-append (λ (q : InPair). q.pair ≡ c) faces (facing board c p) before.pairs (facing_pairs p);
+    each = λ s s_h s_of s_own from to q m. elim (cases_lt (class_index_of board n c s) k) [
+      | inl l ↦ Contains-append_left faces (facing board c p) q (before.each s s_h s_of s_own from l q m)
+      | inr g ↦
+          let same : s ≡ p = own_alone s p s_h h s_of of s_own own (omega (arith, at)) in
+          Contains-append_right faces (facing board c p) q (subst (λ (x : Sides). Contains (facing board c x) q) same m)
+    ];
+  }

@@ -1,0 +1,38 @@
+-- The stones of the player to move in the turned position are the opponent's.
+use Rattle.std.proofs.Common.{◌≡◌, ◌&&◌, ltb, true, sym, ap, ap₂, subst, ◌∙◌}
+use Rattle.morris_board.specs.Sets.{count_of}
+use Rattle.morris_board.specs.Positions.{Sides}
+use Rattle.morris_index.specs.Carried.{carries, AreReturning}
+use Rattle.morris_index.specs.Classes.{AreLeading}
+use Rattle.morris_index.specs.ClassMoves.{class_start_of}
+use Rattle.morris_index.specs.Moves.{InPair}
+use Rattle.morris_index.specs.Pairs.{is_of}
+use Rattle.morris_index.proofs.IndexLaws.{placed}
+use Rattle.morris_index.proofs.FacingLaws.{turned_of, both_carry}
+use Rattle.morris_index.proofs.facing.Facing.carrying.Goals as goal
+
+pub leads_of-start-requires-clause-within : goal.leads_of-start-requires-clause-within
+leads_of-start-requires-clause-within g c =
+    rw c.own.ensures.points (placed g.B.Geometry.shape g.B.Geometry.POINTS c.args.from.now g.met.B.Geometry.point_count c.own.ensures.lawful).own_within
+
+pub leads_of-start-requires-clause-counts : goal.leads_of-start-requires-clause-counts
+leads_of-start-requires-clause-counts g c =
+    let of : is_of c.self.inside.pair.now c.args.position.now ≡ true =
+    subst (λ (q : InPair). is_of q.pair c.args.position.now ≡ true) (sym c.self.view_is) c.requires.counts in
+    rw (c.own.ensures.points, c.other.ensures.points, c.requires.from) (turned_of c.self.inside.pair.now c.args.position.now of)
+
+pub returns-clause-start : goal.returns-clause-start
+returns-clause-start g c =
+    rw (← c.self.view_is) (c.leads_of-start.ensures.start
+    ∙ ap₂ (λ a b. class_start_of g.B.Geometry.shape g.B.Geometry.POINTS c.self.inside.pair.now a (count_of b))
+    (c.own.ensures.points ∙ ap (λ (s : Sides). s.own) c.requires.from) (c.other.ensures.points ∙ ap (λ (s : Sides). s.other) c.requires.from))
+
+pub returns-clause-carrying : goal.returns-clause-carrying
+returns-clause-carrying g c =
+    let leads : AreLeading g.B.Geometry.shape c.args.position.now.other c.leads_of-start.result.2 =
+    subst (λ x. AreLeading g.B.Geometry.shape x c.leads_of-start.result.2) (c.own.ensures.points ∙ ap (λ (s : Sides). s.own) c.requires.from) c.leads_of-start.ensures.symmetries in
+    let same : c.self.inside.position.own ≡ c.args.position.now.own = ap (λ (q : InPair). q.position.own) c.self.view_is ∙ sym c.requires.same in
+    let returns : AreReturning g.B.Geometry.shape c.args.position.now.own c.self.inside.returning =
+    subst (λ x. AreReturning g.B.Geometry.shape x c.self.inside.returning) same c.self.invariant.returns in
+    λ t. both_carry g.B.Geometry.shape c.args.position.now c.leads_of-start.result.2 c.self.inside.returning c.common.result leads returns c.common.ensures t
+    ∙ ap (λ n. ltb t n && carries g.B.Geometry.shape c.args.position.now c.args.position.now.other t) g.met.B.Geometry.symmetry_count

@@ -1,0 +1,275 @@
+//! The positions that face a set of the opponent's stones, where they are numbered by classes.
+ghost use Rattle.std.specs.Prelude.{◌≡◌, ℕ, ◌+◌, ◌<◌, ◌≤◌, ◌^◌, ◌&&◌, ◌++◌, nat_lt, true, OnOk};
+ghost use Rattle.morris_board.specs.Sets.{has, count_of};
+ghost use Rattle.morris_board.specs.Positions.{IsPosition};
+ghost use Rattle.morris_board.specs.Symmetries.{image_sides};
+ghost use Rattle.morris_index.specs.Carried.{carries};
+ghost use Rattle.morris_index.specs.Classes.{representative_of};
+ghost use Rattle.morris_index.specs.ClassMoves.{class_start_of};
+ghost use Rattle.morris_index.specs.ClassPairs.{class_index_of, class_size_of};
+ghost use Rattle.morris_index.specs.Facing.{turned, facing, AreFaces};
+ghost use Rattle.morris_index.specs.Moves.{in_pair};
+ghost use Rattle.morris_index.specs.Pairs.{is_of};
+
+use crate::class_pair::ClassPair;
+use crate::successor_entries::SuccessorEntries;
+use morris_board::board::Geometry;
+use morris_board::points::Points;
+use morris_board::position::Position;
+use std::alloc::AllocError;
+use std::marker::Model;
+
+/// A position that has an entry of its own, with this entry and what the entries after it need.
+#[derive(Drop)]
+#[derive_where(Debug)]
+pub struct Faced<B: Geometry> {
+    /// What is kept of the position for the entries after it.
+    after: SuccessorEntries<B>,
+    /// Its entry.
+    entry: u64,
+    /// The class of the stones of the player to move.
+    class: u32,
+}
+
+impl<B: Geometry> Model for Faced<B> {
+    ghost use Rattle.morris_index.specs.Facing.{IsFaced};
+    ghost use Rattle.morris_index.specs.Moves.{InPair};
+
+    ghost Value = { InPair };
+
+    ghost view = { λ faced. faced.after };
+
+    ghost invariant = { λ faced. IsFaced B.shape B.POINTS faced.after faced.entry };
+}
+
+impl<B: Geometry> Faced<B> {
+    /// The position.
+    pub fn position(&self) -> Position<B>
+        ensures value { result ≡ self.now.position }
+        ensures lawful { IsPosition B.shape self.now.position }
+        ensures counts { is_of self.now.pair self.now.position ≡ true }
+        ensures own { representative_of B.shape self.now.position.own ≡ self.now.position.own }
+    {
+        self.after.position()
+    }
+
+    /// Its entry.
+    pub fn entry(&self) -> u64
+        ensures value { result ≡ class_index_of B.shape B.POINTS self.now.pair self.now.position }
+        ensures below { result < class_size_of B.shape B.POINTS self.now.pair }
+    {
+        self.entry
+    }
+
+    /// The number of the class of the stones of the player to move.
+    pub fn class(&self) -> u32 {
+        self.class
+    }
+
+    /// What is kept of the position for the entries after it.
+    pub fn after(&self) -> &SuccessorEntries<B>
+        ensures { result.now ≡ self.now }
+    {
+        &self.after
+    }
+}
+
+/// The position with the same stones in which the other player is to move. Both have at least three
+/// stones.
+fn turned<B: Geometry>(pair: &ClassPair<B>, position: &Position<B>) -> Position<B>
+    requires { is_of pair.now position.now ≡ true }
+    ensures { result ≡ turned position.now }
+{
+    // The proof learns here that the stones are those of a position, and the numbers those of a
+    // pair.
+    let _ = pair.pair();
+    match Position::new(position.other(), position.own()) {
+        Ok(turned) => turned,
+        Err(_) => unreachable!(),
+    }
+}
+
+/// The position that has an entry for its own.
+fn own_position<B: Geometry>(pair: &ClassPair<B>, entry: u64) -> Position<B>
+    requires { entry < class_size_of B.shape B.POINTS pair.now }
+    ensures entry { class_index_of B.shape B.POINTS pair.now result ≡ entry }
+    ensures counts { is_of pair.now result ≡ true }
+    ensures lawful { IsPosition B.shape result }
+    ensures own { representative_of B.shape result.own ≡ result.own }
+{
+    pair.position(entry)
+}
+
+/// The same, where the position of the entry before is at hand.
+fn own_following<B: Geometry>(pair: &ClassPair<B>, before: &Position<B>, entry: u64) -> Position<B>
+    requires counts { is_of pair.now before.now ≡ true }
+    requires own { representative_of B.shape before.now.own ≡ before.now.own }
+    requires before { class_index_of B.shape B.POINTS pair.now before.now + 1 ≡ entry }
+    requires inside { entry < class_size_of B.shape B.POINTS pair.now }
+    ensures entry { class_index_of B.shape B.POINTS pair.now result ≡ entry }
+    ensures counts { is_of pair.now result ≡ true }
+    ensures lawful { IsPosition B.shape result }
+    ensures own { representative_of B.shape result.own ≡ result.own }
+{
+    pair.following(before, entry)
+}
+
+/// What is kept of the stones of the player to move in positions of a pair, so that the positions
+/// that face them are found by one look-up of the opponent's stones.
+#[derive(Drop)]
+pub struct Facing<'a, B: Geometry> {
+    /// The pair that the positions are of, with its classes.
+    pair: &'a ClassPair<B>,
+    /// One of the positions.
+    position: Position<B>,
+    /// The symmetries whose inverse is the one that leads the image of the stones under them.
+    returning: Points,
+    /// The first entry in which the player to move has these stones.
+    start: u64,
+}
+
+impl<'a, B: Geometry> Model for Facing<'a, B> {
+    ghost use Rattle.morris_index.specs.Facing.{IsFacing};
+    ghost use Rattle.morris_index.specs.Moves.{InPair, in_pair};
+
+    ghost Value = { InPair };
+
+    ghost view = { λ facing. in_pair facing.pair.now facing.position };
+
+    ghost invariant = { λ facing. IsFacing B.shape B.POINTS (in_pair facing.pair.now facing.position) facing.returning facing.start };
+}
+
+impl<'a, B: Geometry> Facing<'a, B> {
+    /// What is to be kept of the stones of the player to move in a position of the pair.
+    pub fn of(pair: &'a ClassPair<B>, position: &Position<B>) -> Facing<'a, B>
+        requires { is_of pair.now position.now ≡ true }
+        ensures { result ≡ in_pair pair.now position.now }
+    {
+        let (start, _) = pair.start_of(position.own(), position.other());
+        // The proof learns here that the numbers of stones are those of a pair.
+        let _ = pair.pair();
+        Facing {
+            pair,
+            position: *position,
+            returning: pair.returning_of(position.own(), position.other()),
+            start,
+        }
+    }
+
+    /// Goes on to what is kept of the stones of the player to move in another position of the pair,
+    /// where they are others.
+    pub fn follow(&mut self, position: &Position<B>)
+        requires { is_of self.old.pair position.now ≡ true }
+        ensures pair { self.new.pair ≡ self.old.pair }
+        ensures own { self.new.position.own ≡ position.now.own }
+    {
+        if position.own() != self.position.own() {
+            *self = Facing::of(self.pair, position);
+        }
+    }
+
+    /// The first entry in which the player to move stands on the representative of the class of the
+    /// opponent's stones, this class, and the symmetries that carry `from`, the position with the
+    /// other player to move.
+    fn carrying(&self, position: &Position<B>, from: &Position<B>) -> (u64, u32, Points)
+        requires counts { is_of self.now.pair position.now ≡ true }
+        requires same { position.now.own ≡ self.now.position.own }
+        requires from { from.now ≡ turned position.now }
+        ensures start { result.0 ≡ class_start_of B.shape B.POINTS self.now.pair position.now.other (count_of position.now.own) }
+        ensures few { result.0 ≤ 2 ^ 54 }
+        ensures carrying { (t : ℕ) → has result.2 t ≡ (nat_lt t B.SYMMETRIES && carries B.shape position.now position.now.other t) }
+    {
+        let (start, _, leading, class) = self.pair.leads_of(from.own(), from.other());
+        (start, class, leading.common(self.returning))
+    }
+
+    /// The position to which a symmetry carries the one in which the other player is to move.
+    fn faced(
+        &self,
+        position: &Position<B>,
+        from: &Position<B>,
+        start: u64,
+        class: u32,
+        symmetry: u8,
+    ) -> Faced<B>
+        requires counts { is_of self.now.pair position.now ≡ true }
+        requires same { position.now.own ≡ self.now.position.own }
+        requires own { representative_of B.shape position.now.own ≡ position.now.own }
+        requires from { from.now ≡ turned position.now }
+        requires start { start ≡ class_start_of B.shape B.POINTS self.now.pair position.now.other (count_of position.now.own) }
+        requires few { start ≤ 2 ^ 54 }
+        requires symmetry { symmetry < B.SYMMETRIES }
+        requires carries { carries B.shape position.now position.now.other symmetry ≡ true }
+        ensures { result ≡ in_pair self.now.pair (image_sides (B.shape.image symmetry) (turned position.now)) }
+    {
+        // The proof learns the rules of a position where its stones are read.
+        let _ = position.own();
+        let faced = from.image(symmetry);
+        let entry = start + self.pair.rank_outside(faced.other(), faced.own());
+        Faced {
+            after: SuccessorEntries::led_by(
+                self.pair,
+                faced,
+                B::inverse(symmetry),
+                *from,
+                self.start,
+            ),
+            entry,
+            class,
+        }
+    }
+
+    /// Adds the positions that face a position with these stones of the player to move, which are
+    /// the representative of their class: those to which the symmetries carry the position with the
+    /// other player to move that lead this player's stones, and by whose inverse the results of the
+    /// quiet moves are led back. Of all positions of the pair, each that has an entry of its own
+    /// faces one.
+    ///
+    /// # Errors
+    /// [`AllocError`] where memory runs out. Then some of them may have been added.
+    pub fn add(&self, position: &Position<B>, out: &mut Vec<Faced<B>>) -> Result<(), AllocError>
+        requires counts { is_of self.now.pair position.now ≡ true }
+        requires same { position.now.own ≡ self.now.position.own }
+        requires own { representative_of B.shape position.now.own ≡ position.now.own }
+        ensures { OnOk result (out.new.items ≡ out.old.items ++ facing B.shape self.now.pair position.now) }
+    {
+        let from = turned(self.pair, position);
+        let (start, class, carrying) = self.carrying(position, &from);
+        for symmetry in carrying.iter() {
+            out.push(self.faced(position, &from, start, class, symmetry))?;
+        }
+        Ok(())
+    }
+}
+
+/// Lists the positions that face those of the entries from `first` up to, not including, `end`, in
+/// place of what the list had.
+///
+/// # Errors
+/// [`AllocError`] where memory runs out.
+pub fn list_faced<B: Geometry>(
+    pair: &ClassPair<B>,
+    first: u64,
+    end: u64,
+    out: &mut Vec<Faced<B>>,
+) -> Result<(), AllocError>
+    requires { end ≤ class_size_of B.shape B.POINTS pair.now }
+    ensures { OnOk result (AreFaces B.shape B.POINTS pair.now first end out.new.items) }
+{
+    out.clear();
+    if first >= end {
+        return Ok(());
+    }
+    // The proof learns here that the numbers of stones are those of a pair.
+    let _ = pair.pair();
+    let mut position = own_position(pair, first);
+    let mut facing = Facing::of(pair, &position);
+    for entry in first..end {
+        facing.add(&position, out)?;
+        if entry + 1 < end {
+            position = own_following(pair, &position, entry + 1);
+            facing.follow(&position);
+        }
+    }
+    Ok(())
+}
