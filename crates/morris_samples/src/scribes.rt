@@ -1,12 +1,12 @@
 //! A watch that writes down what it is told.
 ghost use Rattle.std.specs.Prelude.{◌≡◌, ◌≤◌, refl, vec_len};
 
-use morris_workers::Watch;
+use morris_wave::Watch;
 
 /// Writes down what it is told, in a list that is somebody else's.
 #[derive(Drop)]
 pub struct Scribe<'a> {
-    /// The waves that were told.
+    /// The waves that were told. Of entries nothing is written down.
     pub told: &'a mut Vec<u16>,
 }
 
@@ -19,6 +19,8 @@ impl<'a> Watch for Scribe<'a> {
         // A number for which memory is refused is missing in the list, which a test sees.
         let _ = self.told.push(wave);
     }
+
+    fn entries(&mut self, _done: u64) {}
 
     ghost stays = { λ watch. (refl, omega arith) };
 

@@ -1,5 +1,5 @@
 -- The steps of a block.
-use Rattle.std.proofs.Common.{◌≡◌, ℕ, ◌+◌, ◌-◌, ◌*◌, ◌<◌, ◌≤◌, Bool, true, false, ◌&&◌, ◌||◌, eqb, List, ◌++◌, length, get_or, set, take, drop, replicate, refl, sym, ap, ap₂, ◌∙◌, subst, ⊎_elim, arith, get_or-set_same, get_or-set_other, length-set, append-nil, take_all}
+use Rattle.std.proofs.Common.{◌≡◌, ℕ, ◌+◌, ◌-◌, ◌*◌, ◌<◌, ◌≤◌, Bool, true, false, ◌&&◌, ◌||◌, eqb, List, [], ◌++◌, length, get_or, set, take, drop, replicate, refl, sym, ap, ap₂, ◌∙◌, subst, ⊎_elim, arith, get_or-set_same, get_or-set_other, length-set, append-nil, take_all}
 use Rattle.std.specs.List.{count_by, All}
 use Rattle.std.proofs.Math.Nat.{div-lt_iff_lt-mul, mul-le-mul_right}
 use Rattle.std.proofs.lemmas.Bool.{and_parts, or_right, eqb-true, eq-eqb, ne_eqb, cases_eq, cases_lt}
@@ -138,7 +138,7 @@ module _ (g : Net) (law : IsNet g) (s : BlockState) (first : ℕ) (codes counter
 
     pub advance_holds : s.wave < 65534 → (codes' counters' : List ℕ) → length codes' ≡ length codes → length counters' ≡ length counters
         → ((k : ℕ) → k < length counters' → get_or counters' k 0 < 65536) → Takes (s.wave + 1) first (list_at due (s.wave + 1)) codes codes' counters counters'
-        → BlockHolds g (next_wave_of s) first codes' counters' due last_due most
+        → BlockHolds g (next_wave_of s) first codes' counters' (set due (s.wave + 1) []) last_due most
     advance_holds last codes' counters' codes_len counters_len small comes = record {
       cut = h.cut;
       size = h.size;
@@ -147,7 +147,7 @@ module _ (g : Net) (law : IsNet g) (s : BlockState) (first : ℕ) (codes counter
       wave = omega (arith, last);
       first_is = h.first_is;
       count_is = codes_len ∙ h.count_is;
-      kept = holds_same g law (s.wave + 1) none first codes' counters' due last_due
+      kept = holds_same g law (s.wave + 1) none first codes' counters' (set due (s.wave + 1) []) last_due
           (next_holds g law s.wave first codes counters due last_due complete_holds last codes' counters' codes_len counters_len small comes)
           (in_applied (next_wave_of s))
           (λ j l. known_won_cong g (s.wave + 1) none (in_applied (next_wave_of s)) j (none_applied j)) (λ j l. known_lost_cong g (s.wave + 1) none (in_applied (next_wave_of s)) j (none_applied j));

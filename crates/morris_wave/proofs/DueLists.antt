@@ -1,7 +1,8 @@
--- One node more in the lists of what comes due.
-use Rattle.std.proofs.Common.{◌≡◌, ℕ, ◌+◌, ◌<◌, ◌≤◌, false, ◌&&◌, cond, eqb, ltb, List, [], ◌∷◌, ◌++◌, length, set, refl, sym, ap, ap₂, ◌∙◌, subst, ⊎_elim, arith, get_or-set_same, get_or-set_other}
+-- One node more in the lists of what comes due, and a list that is let go.
+use Rattle.std.proofs.Common.{◌≡◌, ℕ, ◌+◌, ◌<◌, ◌≤◌, false, ◌&&◌, cond, eqb, ltb, List, [], ◌∷◌, ◌++◌, length, set, refl, sym, ap, ap₂, ◌∙◌, subst, ⊎_elim, arith, get_or-set_same, get_or-set_other, length-set}
 use Rattle.std.specs.List.{All}
-use Rattle.std.proofs.lemmas.Bool.{cases_eq, and_left, and_right, and_from, cond-true, cond-false, eq-eqb, ne_eqb, lt-ltb, le-ltb}
+use Rattle.std.proofs.lemmas.Bool.{cases_eq, cases_lt, and_left, and_right, and_from, cond-true, cond-false, eq-eqb, ne_eqb, lt-ltb, le-ltb}
+use Rattle.std.proofs.lemmas.List.{get_or_past}
 use Rattle.std.proofs.lemmas.List.Elements.{All-push, All-nil}
 use Rattle.std.proofs.lemmas.List.Sums.{sum_by_push}
 use Rattle.morris_wave.specs.Nets.{times}
@@ -16,23 +17,23 @@ past first count nodes inside = times_none (first + count) nodes (λ p l e. omeg
 further : (first count : ℕ) (nodes : List ℕ) → All (λ i. (first ≤ i) × (i < first + count)) nodes → All (λ i. (first ≤ i) × (i < first + (count + 1))) nodes
 further first count nodes inside p d l = let w = inside p d l in (w.0, omega (arith, w.1))
 
-pub due_none : (f : ℕ → ℕ) (first : ℕ) (due : List (List ℕ)) → ((n : ℕ) → list_at due n ≡ []) → ListsDue f first 0 due
+pub due_none : (f : ℕ → ℕ) (first : ℕ) (due : List (List ℕ)) → ((n : ℕ) → list_at due n ≡ []) → ListsDue f 0 first 0 due
 due_none f first due empty = record {
   inside = λ n. subst (λ xs. All (λ i. (first ≤ i) × (i < first + 0)) xs) (sym (empty n)) (All-nil (λ i. (first ≤ i) × (i < first + 0)));
-  once = λ n k l. absurd (omega (arith, l));
+  once = λ n k s l. absurd (omega (arith, l));
 }
 
-module _ (f : ℕ → ℕ) (first count : ℕ) (due : List (List ℕ)) (h : ListsDue f first count due) where
+module _ (f : ℕ → ℕ) (first count : ℕ) (due : List (List ℕ)) (h : ListsDue f 0 first count due) where
   -- a node that never comes due
-  pub due_skip : f count ≡ 0 → ListsDue f first (count + 1) due
+  pub due_skip : f count ≡ 0 → ListsDue f 0 first (count + 1) due
   due_skip never = record {
     inside = λ n. further first count (list_at due n) (h.inside n);
-    once = λ n k l.
+    once = λ n k s l.
         ⊎_elim
         (λ e. subst (λ x. times (first + x) (list_at due n) ≡ cond {A = ℕ} (ltb 0 n && eqb (f x) n) 1 0) e
         (past first count (list_at due n) (h.inside n)
         ∙ sym (cond-false {A = ℕ} (ltb 0 n && eqb (f count) n) 1 0 (not_due n))))
-        (λ e. h.once n k (omega (arith, l, e)))
+        (λ e. h.once n k s (omega (arith, l, e)))
         (cases_eq count k);
   }
     where
@@ -44,7 +45,7 @@ module _ (f : ℕ → ℕ) (first count : ℕ) (due : List (List ℕ)) (h : List
           (cases_eq n 0)
 
   -- one that does, put at the end of its wave's list
-  pub due_more : 0 < f count → f count < length due → ListsDue f first (count + 1) (set due (f count) (list_at due (f count) ++ (first + count) ∷ []))
+  pub due_more : 0 < f count → f count < length due → ListsDue f 0 first (count + 1) (set due (f count) (list_at due (f count) ++ (first + count) ∷ []))
   due_more some within = record {
     inside = λ n.
         ⊎_elim
@@ -53,7 +54,7 @@ module _ (f : ℕ → ℕ) (first count : ℕ) (due : List (List ℕ)) (h : List
         (All-push (λ i. (first ≤ i) × (i < first + (count + 1))) (list_at due (f count)) (first + count) (further first count (list_at due (f count)) (h.inside (f count))) (omega arith, omega arith))))
         (λ e. subst (λ xs. All (λ i. (first ≤ i) × (i < first + (count + 1))) xs) (sym (other n e)) (further first count (list_at due n) (h.inside n)))
         (cases_eq (f count) n);
-    once = λ n k l.
+    once = λ n k s l.
         ⊎_elim
         (λ at. subst (λ x. times (first + k) (list_at new x) ≡ cond {A = ℕ} (ltb 0 x && eqb (f k) x) 1 0) at (here k l))
         (λ at. ap (times (first + k)) (other n at)
@@ -61,7 +62,7 @@ module _ (f : ℕ → ℕ) (first count : ℕ) (due : List (List ℕ)) (h : List
         (λ e. subst (λ x. times (first + x) (list_at due n) ≡ cond {A = ℕ} (ltb 0 n && eqb (f x) n) 1 0) e
         (past first count (list_at due n) (h.inside n)
         ∙ sym (cond-false {A = ℕ} (ltb 0 n && eqb (f count) n) 1 0 (and_right (ltb 0 n) (eqb (f count) n) (ne_eqb (f count) n at)))))
-        (λ e. h.once n k (omega (arith, l, e)))
+        (λ e. h.once n k s (omega (arith, l, e)))
         (cases_eq count k))
         (cases_eq (f count) n);
   }
@@ -87,5 +88,31 @@ module _ (f : ℕ → ℕ) (first count : ℕ) (due : List (List ℕ)) (h : List
           (ap₂ (λ a b. a + b) (past first count (list_at due (f count)) (h.inside (f count))) (cond-true {A = ℕ} (eqb (first + count) (first + count)) 1 0 (eq-eqb (first + count) (first + count) refl))
           ∙ sym (cond-true {A = ℕ} (ltb 0 (f count) && eqb (f count) (f count)) 1 0 (and_from (ltb 0 (f count)) (eqb (f count) (f count)) (lt-ltb 0 (f count) some) (eq-eqb (f count) (f count) refl)))))
           (λ e. let nothing : cond {A = ℕ} (eqb (first + count) (first + k)) 1 0 ≡ 0 = cond-false {A = ℕ} (eqb (first + count) (first + k)) 1 0 (ne_eqb (first + count) (first + k) (λ z. e (omega (arith, z)))) in
-          omega (arith, nothing, h.once (f count) k (omega (arith, l, e))))
+          omega (arith, nothing, h.once (f count) k (omega arith) (omega (arith, l, e))))
           (cases_eq count k))
+
+-- the list of a wave is let go
+module _ (due : List (List ℕ)) (t : ℕ) where
+  gone_same : list_at (set due t []) t ≡ []
+  gone_same =
+      ⊎_elim
+      (λ (l : t < length due). get_or-set_same due t [] [] l)
+      (λ (l : length due ≤ t). get_or_past (set due t []) t [] (omega (arith, length-set due t [], l)))
+      (cases_lt t (length due))
+
+  gone_other : (n : ℕ) → (t ≡ n → ⊥) → list_at (set due t []) n ≡ list_at due n
+  gone_other n ne = get_or-set_other due t n [] [] (λ z. ne (sym z))
+
+  -- what is so of no nodes and of each list is so of the lists that are left
+  pub gone_keeps : (P : List ℕ → Type 0) → P [] → (n : ℕ) → P (list_at due n) → P (list_at (set due t []) n)
+  gone_keeps P none n some =
+      ⊎_elim
+      (λ e. subst (λ x. P (list_at (set due t []) x)) e (subst P (sym gone_same) none))
+      (λ e. subst P (sym (gone_other n e)) some)
+      (cases_eq t n)
+
+  pub due_gone : (f : ℕ → ℕ) (first count : ℕ) → ListsDue f t first count due → ListsDue f (t + 1) first count (set due t [])
+  due_gone f first count h = record {
+    inside = λ n. gone_keeps (λ xs. All (λ i. (first ≤ i) × (i < first + count)) xs) (All-nil (λ i. (first ≤ i) × (i < first + count))) n (h.inside n);
+    once = λ n k s l. ap (times (first + k)) (gone_other n (λ e. omega (arith, e, s))) ∙ h.once n k (omega (arith, s)) l;
+  }

@@ -83,15 +83,15 @@ module _ (g : Net) (first place : ℕ) (codes counters waves : List ℕ) (last :
   }
 
 -- equal waves are listed alike
-lists_alike : (f h : ℕ → ℕ) (first count : ℕ) (due : List (List ℕ)) → ((k : ℕ) → k < count → f k ≡ h k) → ListsDue f first count due → ListsDue h first count due
+lists_alike : (f h : ℕ → ℕ) (first count : ℕ) (due : List (List ℕ)) → ((k : ℕ) → k < count → f k ≡ h k) → ListsDue f 0 first count due → ListsDue h 1 first count due
 lists_alike f h first count due same l = record {
   inside = l.inside;
-  once = λ n k q. subst (λ x. times (first + k) (list_at due n) ≡ cond {A = ℕ} (ltb 0 n && eqb x n) 1 0) (same k q) (l.once n k q);
+  once = λ n k s q. subst (λ x. times (first + k) (list_at due n) ≡ cond {A = ℕ} (ltb 0 n && eqb x n) 1 0) (same k q) (l.once n k (omega arith) q);
 }
 
 -- what was read of every node
 pub read_all : (g : Net) (first : ℕ) (codes counters waves : List ℕ) (due : List (List ℕ)) (last : ℕ) → HasRead g first (length codes) codes counters waves last
-    → first + length codes ≤ g.size → length counters ≡ length codes → length waves ≡ length codes → ListsDue (λ k. get_or waves k 0) first (length waves) due
+    → first + length codes ≤ g.size → length counters ≡ length codes → length waves ≡ length codes → ListsDue (λ k. get_or waves k 0) 0 first (length waves) due
     → StretchHolds g 0 every first codes counters due last
 read_all g first codes counters waves due last h in_graph counters_len waves_len listed = record {
   in_graph = in_graph;
@@ -99,14 +99,14 @@ read_all g first codes counters waves due last h in_graph counters_len waves_len
   codes_are = h.codes_are;
   counters_are = h.counters_are;
   due_are = lists_alike (λ k. get_or waves k 0) (λ k. due_within (due_wave (exits_of (g.exits (first + k))))) first (length codes) due h.waves_are
-      (subst (λ n. ListsDue (λ k. get_or waves k 0) first n due) waves_len listed);
+      (subst (λ n. ListsDue (λ k. get_or waves k 0) 0 first n due) waves_len listed);
   bound = h.bound;
   reached = h.reached;
 }
 
 -- a node comes due once at most
-pub due_once : (f : ℕ → ℕ) (first count : ℕ) (due : List (List ℕ)) → ListsDue f first count due → (n k : ℕ) → k < count → times (first + k) (list_at due n) ≤ 1
-due_once f first count due h n k l = omega (arith, h.once n k l, at_most (ltb 0 n && eqb (f k) n))
+pub due_once : (f : ℕ → ℕ) (first count : ℕ) (due : List (List ℕ)) → ListsDue f 0 first count due → (n k : ℕ) → k < count → times (first + k) (list_at due n) ≤ 1
+due_once f first count due h n k l = omega (arith, h.once n k (omega arith) l, at_most (ltb 0 n && eqb (f k) n))
   where
     at_most : (t : Bool) → cond {A = ℕ} t 1 0 ≤ 1
     at_most true = omega arith

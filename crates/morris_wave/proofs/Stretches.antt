@@ -1,5 +1,5 @@
 -- A stretch of nodes goes from wave to wave.
-use Rattle.std.proofs.Common.{◌≡◌, ℕ, suc, ◌+◌, ◌-◌, ◌%◌, ◌<◌, ◌≤◌, ◌↔◌, Bool, true, false, not, ◌&&◌, ◌||◌, cond, eqb, ltb, List, [], ◌∷◌, length, get_or, refl, sym, ap, ap₂, ◌∙◌, subst, ⊎_elim, inl, ◌⊎◌, arith}
+use Rattle.std.proofs.Common.{◌≡◌, ℕ, suc, ◌+◌, ◌-◌, ◌%◌, ◌<◌, ◌≤◌, ◌↔◌, Bool, true, false, not, ◌&&◌, ◌||◌, cond, eqb, ltb, List, [], ◌∷◌, length, get_or, set, refl, sym, ap, ap₂, ◌∙◌, subst, ⊎_elim, inl, ◌⊎◌, arith}
 use Rattle.std.specs.List.{count_by, list_any}
 use Rattle.std.specs.List.Sorted.{IsNonDecreasingBy}
 use Rattle.std.proofs.lemmas.Bool.{false≢true, and_parts, and_from, both_ways, or_cases, not-true, not_from_false, cases_Bool, cases_lt, cond-true, cond-false, ne_eqb, lt-ltb, le-ltb, ltb-true}
@@ -13,6 +13,7 @@ use Rattle.morris_wave.specs.Waves.{known_won, known_lost, is_decided_at, entry_
 use Rattle.morris_wave.specs.Solving.{among, every, none}
 use Rattle.morris_wave.specs.Keeping.{StretchHolds, Ranked, code_of, Takes, ListsDue, due_wave, due_within, pending_at, waits, left_of}
 use Rattle.morris_wave.proofs.Tests.{some_counted}
+use Rattle.morris_wave.proofs.DueLists.{due_gone}
 use Rattle.morris_wave.proofs.Known.{entry_open, entry_same, open_same}
 use Rattle.morris_wave.proofs.Applying.{odd_entry}
 use Rattle.morris_wave.proofs.Advancing.{entry_all}
@@ -166,14 +167,14 @@ module _ (g : Net) (law : IsNet g) (n : ℕ) (a : ℕ → Bool) (first : ℕ) (c
       }
         where
           ListsDueOf : List (List ℕ) → ℕ → Type 0
-          ListsDueOf xs count = ListsDue (λ k. due_within (due_wave (exits_of (g.exits (first + k))))) first count xs
+          ListsDueOf xs count = ListsDue (λ k. due_within (due_wave (exits_of (g.exits (first + k))))) (n + 1) first count xs
 
 -- from a complete wave to the next
 module _ (g : Net) (law : IsNet g) (n first : ℕ) (codes counters : List ℕ) (due : List (List ℕ)) (last_due : ℕ) (h : StretchHolds g n every first codes counters due last_due)
     (last : n < 65534) where
   often_due : (k : ℕ) → k < length codes → times (first + k) (list_at due (n + 1)) ≡ cond {A = ℕ} (eqb (due_wave (exits_of (g.exits (first + k)))) (suc n)) 1 0
   often_due k l =
-      h.due_are.once (n + 1) k l
+      h.due_are.once (n + 1) k (omega arith) l
       ∙ ap (λ (t : Bool). cond {A = ℕ} t 1 0)
       (ap (λ t. t && eqb (due_within (due_wave (exits_of (g.exits (first + k))))) (n + 1)) (lt-ltb 0 (n + 1) (omega arith))
       ∙ (due_same (due_wave (exits_of (g.exits (first + k)))) (n + 1) (omega (arith, last)) (omega arith)
@@ -260,19 +261,20 @@ module _ (g : Net) (law : IsNet g) (n first : ℕ) (codes counters : List ℕ) (
         ))
         (cases_Bool (is_odd (n + 1)))
 
-    pub next_holds : StretchHolds g (n + 1) none first codes' counters' due last_due
+    -- the list of the wave is let go once it was taken in
+    pub next_holds : StretchHolds g (n + 1) none first codes' counters' (set due (n + 1) []) last_due
     next_holds = record {
       in_graph = omega (arith, codes_len, h.in_graph);
       counters_len = counters_len ∙ (h.counters_len ∙ sym codes_len);
       codes_are = λ k l. new_code k (omega (arith, codes_len, l)) ∙ ap (λ m. entry_at g m none (first + k)) (sym (plus_one n));
       counters_are = λ k l. new_counter k (omega (arith, codes_len, l)) ∙ ap (λ x. x % 65536) (ap (λ m. pending_at g m none (first + k)) (sym (plus_one n)));
-      due_are = subst (ListsDueOf due) (sym codes_len) h.due_are;
+      due_are = subst ListsDueOf (sym codes_len) (due_gone due (n + 1) (λ k. due_within (due_wave (exits_of (g.exits (first + k))))) first (length codes) h.due_are);
       bound = λ k l. h.bound k (omega (arith, codes_len, l));
       reached = λ some. let w = h.reached some in (w.0, (omega (arith, w.1.0, codes_len), w.1.1));
     }
       where
-        ListsDueOf : List (List ℕ) → ℕ → Type 0
-        ListsDueOf xs count = ListsDue (λ k. due_within (due_wave (exits_of (g.exits (first + k))))) first count xs
+        ListsDueOf : ℕ → Type 0
+        ListsDueOf count = ListsDue (λ k. due_within (due_wave (exits_of (g.exits (first + k))))) (n + 1 + 1) first count (set due (n + 1) [])
 
 -- before the first wave nothing is known, whatever is applied
 none_won : (g : Net) (a b : ℕ → Bool) (j : ℕ) → known_won g 0 a j ≡ known_won g 0 b j

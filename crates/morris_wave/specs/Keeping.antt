@@ -41,11 +41,11 @@ pub record Ranked (all : Bool) (first wave : ℕ) (codes decided : List ℕ) (be
   pub last : (p : ℕ) → before ≤ p → p < here → code_of first codes (slice_index decided p) ≡ wave
   pub this : (p : ℕ) → here ≤ p → p < length decided → code_of first codes (slice_index decided p) ≡ wave + 1
 
--- The nodes from `first` on whose wave is n stand once each in the list of n; the list of 0 is
--- empty.
-pub record ListsDue (f : ℕ → ℕ) (first count : ℕ) (due : List (List ℕ)) : Type 0 where
+-- The nodes from `first` on whose wave is n stand once each in the list of n, for each n from
+-- `since` on; the list of 0 is empty. Earlier lists may be gone.
+pub record ListsDue (f : ℕ → ℕ) (since first count : ℕ) (due : List (List ℕ)) : Type 0 where
   pub inside : (n : ℕ) → All (λ i. (first ≤ i) × (i < first + count)) (list_at due n)
-  pub once : (n k : ℕ) → k < count → times (first + k) (list_at due n) ≡ (if nat_lt 0 n && (f k == n) then 1 else 0)
+  pub once : (n k : ℕ) → since ≤ n → k < count → times (first + k) (list_at due n) ≡ (if nat_lt 0 n && (f k == n) then 1 else 0)
 
 -- so many falls until a counter of 16 bits is spent: one that reads 0 stands for 65,536
 abbrev pub left_of : ℕ → ℕ
@@ -68,14 +68,14 @@ abbrev pub due_within : ℕ → ℕ
 due_within wave = if nat_lt wave 65535 then wave else 0
 
 -- What is kept of the nodes from `first` on at a wave, of which the nodes that pass a test are
--- applied: their codes, what they wait for, which of them come due by their exits, and when the
--- last exit does.
+-- applied: their codes, what they wait for, which of them come due by their exits at later waves,
+-- and when the last exit does.
 pub record StretchHolds (g : Net) (n : ℕ) (applied : ℕ → Bool) (first : ℕ) (codes counters : List ℕ) (due : List (List ℕ)) (last_due : ℕ) : Type 0 where
   pub in_graph : first + length codes ≤ g.size
   pub counters_len : length counters ≡ length codes
   pub codes_are : (k : ℕ) → k < length codes → slice_index codes k ≡ entry_at g n applied (first + k)
   pub counters_are : (k : ℕ) → k < length codes → slice_index counters k ≡ pending_at g n applied (first + k) % 65536
-  pub due_are : ListsDue (λ k. due_within (due_wave (exits_of (g.exits (first + k))))) first (length codes) due
+  pub due_are : ListsDue (λ k. due_within (due_wave (exits_of (g.exits (first + k))))) (n + 1) first (length codes) due
   pub bound : (k : ℕ) → k < length codes → last_due_of (exits_of (g.exits (first + k))) ≤ last_due
   pub reached : 0 < last_due → (k : ℕ) × ((k < length codes) × (last_due_of (exits_of (g.exits (first + k))) ≡ last_due))
 

@@ -1,5 +1,5 @@
 //! The nodes that come due by their exits, in one list for each wave.
-ghost use Rattle.std.specs.Prelude.{◌≡◌, ℕ, ◌+◌, ◌<◌, ◌≤◌, ◌^◌, [], IfOk, length, slice_index, vec_len};
+ghost use Rattle.std.specs.Prelude.{◌≡◌, ℕ, ◌+◌, ◌<◌, ◌≤◌, ◌^◌, [], IfOk, length, slice_index, slice_set, vec_len};
 ghost use Rattle.std.specs.List.{All};
 ghost use Rattle.morris_wave.specs.Lists.{contents, list_at};
 ghost use Rattle.morris_wave.specs.Keeping.{ListsDue};
@@ -8,9 +8,11 @@ use crate::nodes::{NodeList, put_into};
 use std::alloc::{AllocError, Global};
 use std::marker::Model;
 
-// The nodes that come due at wave 0, 1, .. up to the last such wave, in a list for each.
+// The nodes that come due at wave 0, 1, .. up to the last such wave, in a list for each. A list can
+// be let go once it was read.
 #[derive(Drop)]
 pub(crate) struct Due<L: NodeList> {
+    alloc: Global,
     waves: Vec<L>,
     // What stands for the list of a later wave.
     none: L,
@@ -32,7 +34,7 @@ impl<L: NodeList> Due<L> {
     pub(crate) fn of(alloc: Global, first: u64, waves: &[u16]) -> Result<Due<L>, AllocError>
         requires small { first + length waves.now ≤ 2 ^ 40 }
         requires short { first + length waves.now ≤ L.limit }
-        ensures { IfOk result (λ d. ListsDue (λ k. slice_index waves.now k) first (length waves.now) d) }
+        ensures { IfOk result (λ d. ListsDue (λ k. slice_index waves.now k) 0 first (length waves.now) d) }
     {
         let counts = count_due(alloc, waves)?;
         let mut lists = empty_lists(alloc, &counts)?;
@@ -42,6 +44,7 @@ impl<L: NodeList> Due<L> {
             }
         }
         Ok(Due {
+            alloc,
             waves: lists,
             none: L::none(alloc),
         })
@@ -54,6 +57,16 @@ impl<L: NodeList> Due<L> {
         match self.waves.get(usize::from(wave)) {
             Some(nodes) => nodes,
             None => &self.none,
+        }
+    }
+
+    // Lets go of the nodes that came due at a wave. It takes no memory.
+    pub(crate) fn let_go(&mut self, wave: u16)
+        ensures { self.new ≡ slice_set self.old wave [] }
+    {
+        let place = usize::from(wave);
+        if place < self.waves.len() {
+            self.waves[place] = L::none(self.alloc);
         }
     }
 }

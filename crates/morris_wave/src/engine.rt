@@ -129,7 +129,8 @@ impl<N: Levels, L: NodeList> Drop for Batch<N, L> {
 /// lists of the kind `L` of the nodes that are decided and of those that come due by their exits:
 /// of 8 bytes for each, or of 4 where all nodes of the graph are below 2^32. Where `L` is
 /// [`Recent`](crate::Recent), the nodes that were decided before the wave are let go. Room for all
-/// nodes is taken in `make`; what isn't filled of it is never used.
+/// nodes is taken in `make`; what isn't filled of it is never used. The nodes that come due at a
+/// wave are let go, with their room, as it begins.
 pub struct Block<N: Levels, L: NodeList = Vec<u64>> {
     level: u64,
     pub(crate) cut: Cut,

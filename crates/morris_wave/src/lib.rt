@@ -1,7 +1,7 @@
 //! Exact depths of win and loss over any graph with exits.
 //!
 //! The crate knows no game. A [`Graph`] gives each node's results, and [`sweep`] the code of each
-//! node.
+//! node. A [`Watch`] is told how far such work is.
 #![tactic(auto)]
 
 mod counters;
@@ -17,6 +17,7 @@ mod nodes;
 mod reading;
 mod solver;
 mod stretch;
+mod watch;
 
 pub use delivery::{scatter, scatter_reusing};
 pub use division::{Blocks, Cut};
@@ -24,4 +25,5 @@ pub use engine::{AdvanceFault, Applied, Batch, Block, Fresh, Tallies};
 pub use gathering::{GatherFault, gather, gather_from};
 pub use network::{Exits, Graph, Levels};
 pub use nodes::{NodeList, Recent, WholeList};
-pub use solver::{SweepFault, sweep};
+pub use solver::{SweepFault, sweep, sweep_watched};
+pub use watch::{Unwatched, Watch};

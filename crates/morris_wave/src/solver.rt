@@ -9,6 +9,7 @@ ghost use Rattle.morris_wave.specs.Counts.{counts_of, most_of, AreFew};
 use crate::network::Graph;
 use crate::nodes::NodeList;
 use crate::stretch::Stretch;
+use crate::watch::{Unwatched, Watch};
 use std::alloc::{AllocError, Global};
 use thiserror::Error;
 
@@ -84,11 +85,13 @@ fn next_wave<G: Graph, L: NodeList>(
     spread(graph, whole, back)
 }
 
-// Goes from wave to wave until nothing more is to come, and says whether it got so far.
-fn run<G: Graph, L: NodeList>(
+// Goes from wave to wave until nothing more is to come, and says whether it got so far. The watch
+// is told of each wave before it begins.
+fn run<G: Graph, L: NodeList, W: Watch>(
     alloc: Global,
     graph: &G,
     whole: &mut Stretch<L>,
+    watch: &mut W,
 ) -> Result<bool, AllocError>
     requires first { whole.old.entries.first ≡ 0 }
     requires wave { whole.old.entries.wave ≡ 0 }
@@ -102,12 +105,14 @@ fn run<G: Graph, L: NodeList>(
     ensures quiet { IfOk result (λ quiet. quiet ≡ (nat_le whole.new.last_due whole.new.entries.wave
         && not (list_any (λ c. c == (whole.new.entries.wave + 1)) whole.new.entries.entries.codes.items))) }
     ensures last { IfOk result (λ quiet. quiet ≡ false → whole.new.entries.wave ≡ 65534) }
+    ensures watched { W.becomes watch.old watch.new }
 {
     let mut back = Vec::new(alloc);
     for done in 0..LAST_WAVE {
         if whole.is_quiet() {
             return Ok(true);
         }
+        watch.wave(done + 1);
         next_wave(graph, whole, &mut back)?;
     }
     Ok(whole.is_quiet())
@@ -140,8 +145,35 @@ pub fn sweep<G: Graph>(alloc: Global, graph: &G) -> Result<Vec<u16>, SweepFault>
     // And it tells who wins: codes of lost nodes are odd, those of won nodes even.
     ensures outcome { CodeRules (G.Name.net (G.level graph.now)) }
 {
+    sweep_watched(alloc, graph, &mut Unwatched)
+}
+
+/// [`sweep`], which tells `watch` of each wave as it begins: of waves 1, 2, .. and of no wave where
+/// nothing is to come before the first one. Wave `n` goes back from the nodes of depth `n - 1`.
+///
+/// # Errors
+///
+/// Those of [`sweep`]. Where memory is refused as the graph is read, the watch is told nothing. A
+/// wave that was told may still be refused.
+#[tactic(auto, using(crate::proofs::Plies::ply_rules, crate::proofs::Plies::code_rules))]
+pub fn sweep_watched<G: Graph, W: Watch>(
+    alloc: Global,
+    graph: &G,
+    watch: &mut W,
+) -> Result<Vec<u16>, SweepFault>
+    ensures len { IfOk result (λ v. vec_len v ≡ (G.Name.net (G.level graph.now)).size) }
+    ensures codes { IfOk result (λ v. (i : ℕ) → i < (G.Name.net (G.level graph.now)).size
+        → HasCode (G.Name.net (G.level graph.now)) i (slice_index v.items i)) }
+    ensures not_too_deep { OnOk result (¬ IsTooDeep (G.Name.net (G.level graph.now))) }
+    ensures too_deep { result ≡ Err SweepFault.TooDeep → IsTooDeep (G.Name.net (G.level graph.now)) }
+    // The rules of [`sweep`].
+    ensures plies { PlyRules (G.Name.net (G.level graph.now)) }
+    ensures outcome { CodeRules (G.Name.net (G.level graph.now)) }
+    // The watch is as it may be after it was told, whatever the answer.
+    ensures watched { W.becomes watch.old watch.new }
+{
     let mut whole: Stretch<Vec<u64>> = Stretch::read(alloc, graph, 0, graph.size())?;
-    if run(alloc, graph, &mut whole)? {
+    if run(alloc, graph, &mut whole, watch)? {
         Ok(whole.entries.entries.codes)
     } else {
         Err(SweepFault::TooDeep)

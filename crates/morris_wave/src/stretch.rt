@@ -1,5 +1,5 @@
 //! A stretch of nodes of a graph, which goes from wave to wave.
-ghost use Rattle.std.specs.Prelude.{◌≡◌, ℕ, ◌+◌, ◌-◌, ◌*◌, ◌<◌, ◌≤◌, ◌&&◌, ◌==◌, ◌^◌, Bool, true, false, not, nat_le, length, take, slice_index, vec_len};
+ghost use Rattle.std.specs.Prelude.{◌≡◌, ℕ, ◌+◌, ◌-◌, ◌*◌, ◌<◌, ◌≤◌, ◌&&◌, ◌==◌, ◌^◌, Bool, true, false, not, nat_le, [], length, take, slice_index, slice_set, vec_len};
 ghost use Rattle.std.specs.List.{All, list_any};
 ghost use Rattle.morris_wave.specs.Nets.{times};
 ghost use Rattle.morris_wave.specs.Lists.{list_at};
@@ -15,7 +15,8 @@ use crate::nodes::NodeList;
 
 // Nodes in their order, from the first one of the entries on. For each there is its entry and a
 // counter of the results that it waits for; its exits count as one of these until all of them are
-// won. A node whose exits decide stands once in `due`, in the list of the wave at which they do.
+// won. A node whose exits decide stands once in `due`, in the list of the wave at which they do,
+// until that wave has begun.
 #[derive(Drop)]
 pub(crate) struct Stretch<L: NodeList> {
     pub(crate) entries: Listed<L>,
@@ -49,7 +50,7 @@ impl<L: NodeList> Stretch<L> {
         falls::take_in(&mut self.entries, &mut self.counters, nodes);
     }
 
-    // Goes on to the next wave, and takes in what comes due at it.
+    // Goes on to the next wave, takes in what comes due at it, and lets go of that list.
     pub(crate) fn next_wave(&mut self)
         requires last { self.old.entries.wave < 65534 }
         requires enough { is_odd (self.old.entries.wave + 1) ≡ false → (k : ℕ) → k < vec_len self.old.entries.entries.codes
@@ -57,7 +58,7 @@ impl<L: NodeList> Stretch<L> {
         ensures len { vec_len self.new.entries.entries.codes ≡ vec_len self.old.entries.entries.codes }
         ensures first { self.new.entries.first ≡ self.old.entries.first }
         ensures wave { self.new.entries.wave ≡ self.old.entries.wave + 1 }
-        ensures due { self.new.due ≡ self.old.due }
+        ensures due { self.new.due ≡ slice_set self.old.due (self.old.entries.wave + 1) [] }
         ensures last_due { self.new.last_due ≡ self.old.last_due }
         ensures most { most_of self.new.counters ≡ most_of self.old.counters }
         ensures comes { Takes (self.old.entries.wave + 1) self.old.entries.first (list_at self.old.due (self.old.entries.wave + 1))
@@ -66,6 +67,7 @@ impl<L: NodeList> Stretch<L> {
         self.entries.next_wave();
         let nodes = self.due.at(self.entries.wave);
         falls::take_in(&mut self.entries, &mut self.counters, nodes);
+        self.due.let_go(self.entries.wave);
     }
 
     // Whether all exits are due, and no node got its code at this wave.

@@ -12,13 +12,12 @@ mod making;
 mod solver;
 mod survey;
 mod tickets;
-mod watch;
 mod wave;
 mod yard;
 
 pub use fault::SolveFault;
 pub use gate::{Gate, OpenGate, Turn};
+pub use morris_wave::{Unwatched, Watch};
 pub use solver::{SHORT_NODES, check_numbers, solve, solve_with};
 pub use tickets::{Drawn, TicketSeat, Tickets};
-pub use watch::{Unwatched, Watch};
 pub use yard::Yard;

@@ -10,8 +10,8 @@ pub invariant_of-result : goal.invariant_of-result
 invariant_of-result g c =
     let r = c.read_exits.new.reading in
     let due = c.in_ok-due.due in
-    let listed : ListsDue (λ k. slice_index r.waves.items k) c.args.first (length r.waves.items) due =
-    subst (λ (xs : List ℕ). ListsDue (λ k. slice_index xs k) c.args.first (length xs) due) c.deref.ensures.value c.in_ok-due.ensures in
+    let listed : ListsDue (λ k. slice_index r.waves.items k) 0 c.args.first (length r.waves.items) due =
+    subst (λ (xs : List ℕ). ListsDue (λ k. slice_index xs k) 0 c.args.first (length xs) due) c.deref.ensures.value c.in_ok-due.ensures in
     let many : length r.waves.items ≡ vec_len r.entries.entries.codes = omega (arith, r.waved, r.waves.ok.0) in
     let first : r.entries.first ≡ c.args.first = c.read_exits.ensures.first ∙ c.in_ok-reading.ensures.first in
     let net = g.G.Name.Levels.net (g.G.Graph.level c.args.graph.now) in
@@ -39,8 +39,8 @@ returns-clause-holds g c =
     let r = c.read_exits.new.reading in
     let codes = r.entries.entries.codes in
     let due = c.in_ok-due.due in
-    let listed : ListsDue (λ k. slice_index r.waves.items k) c.args.first (length r.waves.items) due =
-    subst (λ (xs : List ℕ). ListsDue (λ k. slice_index xs k) c.args.first (length xs) due) c.deref.ensures.value c.in_ok-due.ensures in
+    let listed : ListsDue (λ k. slice_index r.waves.items k) 0 c.args.first (length r.waves.items) due =
+    subst (λ (xs : List ℕ). ListsDue (λ k. slice_index xs k) 0 c.args.first (length xs) due) c.deref.ensures.value c.in_ok-due.ensures in
     let len : vec_len before.entries.entries.codes ≡ length codes.items = omega (arith, c.read_exits.ensures.len, codes.ok.0) in
     let read : HasRead net c.args.first (length codes.items) codes.items (g.C.CounterList.counts r.counters) r.waves.items r.last_due =
     subst (λ (n : ℕ). HasRead net c.args.first n codes.items (g.C.CounterList.counts r.counters) r.waves.items r.last_due) len

@@ -1,8 +1,8 @@
-use Rattle.std.proofs.Common.{◌≡◌, ℕ, ◌+◌, ◌<◌, ◌≤◌, List, length, sym, subst, arith}
+use Rattle.std.proofs.Common.{◌≡◌, ℕ, ◌+◌, ◌<◌, ◌≤◌, List, [], length, set, sym, subst, arith}
 use Rattle.morris_wave.specs.Lists.{list_at}
 use Rattle.morris_wave.specs.Solving.{none}
 use Rattle.morris_wave.specs.Keeping.{StretchHolds, Takes}
-use Rattle.morris_wave.specs.Counts.{counts_of, most_of, left_at}
+use Rattle.morris_wave.specs.Counts.{counts_of, left_at}
 use Rattle.morris_wave.specs.Nets.{times}
 use Rattle.morris_wave.proofs.Widths.{left_enough}
 use Rattle.morris_wave.proofs.Stretches.{next_holds, due_enough, due_few}
@@ -24,7 +24,7 @@ spread-requires-clause-start g c = λ _ _.
     (subst (λ (f : ℕ). Takes (old.entries.wave + 1) f (list_at old.due (old.entries.wave + 1)) codes.items codes'.items (counts_of old.counters) (counts_of new.counters)) c.requires.first made.comes) in
     subst (λ (w : ℕ). StretchHolds net w none 0 codes'.items (counts_of new.counters) new.due new.last_due) (sym made.wave)
     (subst (λ (xs : List (List ℕ)). StretchHolds net (old.entries.wave + 1) none 0 codes'.items (counts_of new.counters) xs new.last_due) (sym made.due)
-    (subst (λ (d : ℕ). StretchHolds net (old.entries.wave + 1) none 0 codes'.items (counts_of new.counters) old.due d) (sym made.last_due) holds))
+    (subst (λ (d : ℕ). StretchHolds net (old.entries.wave + 1) none 0 codes'.items (counts_of new.counters) (set old.due (old.entries.wave + 1) []) d) (sym made.last_due) holds))
 
 pub next_wave-requires-clause-enough : goal.next_wave-requires-clause-enough
 next_wave-requires-clause-enough g c =

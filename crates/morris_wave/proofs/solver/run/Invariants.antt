@@ -11,3 +11,4 @@ invariant-loop-done g l =
     × (vec_len l.whole.entries.entries.codes ≡ vec_len l.initial.whole.entries.entries.codes)
     × StretchHolds (g.G.Name.Levels.net (g.G.Graph.level l.graph)) l.whole.entries.wave every 0 l.whole.entries.entries.codes.items (counts_of l.whole.counters) l.whole.due l.whole.last_due
     × (most_of l.whole.counters ≡ most_of l.initial.whole.counters)
+    × g.W.Watch.becomes l.initial.watch l.watch

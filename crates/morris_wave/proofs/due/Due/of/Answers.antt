@@ -31,12 +31,12 @@ loop-place-preserved g c =
             c.in_ok-counts.ensures place 0 c.loop-place-test.true,
           ) in (
             omega (arith, ap (λ v. length v.items) w.lists-is, w.put_into.ensures.len, w.put_into.new.lists.ok.0, c.loop-place.lists.ok.0, inv.0),
-            subst (λ (xs : List (List ℕ)). ListsDue f c.args.first (place + 1) xs) (sym (ap (λ v. contents g.L.NodeList.items v.items) w.lists-is ∙ put))
+            subst (λ (xs : List (List ℕ)). ListsDue f 0 c.args.first (place + 1) xs) (sym (ap (λ v. contents g.L.NodeList.items v.items) w.lists-is ∙ put))
                 (due_more f c.args.first place old inv.1 w.if-wave-gt0.true within),
           )
       | else-wave-gt0 w ↦ (
         ap (λ v. length v.items) w.lists-is ∙ inv.0,
-        subst (λ (xs : List (List ℕ)). ListsDue f c.args.first (place + 1) xs) (sym (ap (λ v. contents g.L.NodeList.items v.items) w.lists-is))
+        subst (λ (xs : List (List ℕ)). ListsDue f 0 c.args.first (place + 1) xs) (sym (ap (λ v. contents g.L.NodeList.items v.items) w.lists-is))
             (due_skip f c.args.first place old inv.1 (omega (arith, w.if-wave-gt0.false))),
       )
     ]

@@ -1,4 +1,4 @@
-use Rattle.std.proofs.Common.{◌≡◌, ◌<◌, ℕ, ◌+◌, Bool, false, true, List, length, replicate, sym, ap, subst, ◌∙◌, arith}
+use Rattle.std.proofs.Common.{◌≡◌, ◌<◌, ℕ, ◌+◌, Bool, false, true, List, [], length, set, replicate, sym, ap, subst, ◌∙◌, arith}
 use Rattle.morris_wave.specs.Blocks.{BlockState, BlockHolds, is_complete}
 use Rattle.morris_wave.specs.Counts.{counts_of, most_of}
 use Rattle.morris_wave.specs.Nets.{times}
@@ -25,13 +25,14 @@ invariant_of-self g c =
     (omega (arith, after.counted, kept.counted, made.len)) after.small made.comes in
     let none : c.clear.new.applied.items ≡ replicate inside.cut.blocks false =
     c.clear.ensures ∙ ap (λ (n : ℕ). replicate n false) (inside.applied.ok.0 ∙ c.self.invariant.sources) in
+    let left : List (List ℕ) = set kept.due (kept.entries.wave + 1) [] in
     let now : ℕ → List Bool → BlockState = λ w xs. record { level = inside.level; cut = inside.cut; number = inside.number; wave = w; applied = xs } in
     subst (λ (w : ℕ). BlockHolds net (now w c.clear.new.applied.items) after.entries.first new.items (counts_of after.counters) after.due after.last_due (most_of after.counters)) (sym made.wave)
     (subst (λ (f : ℕ). BlockHolds net (now (kept.entries.wave + 1) c.clear.new.applied.items) f new.items (counts_of after.counters) after.due after.last_due (most_of after.counters)) (sym made.first)
     (subst (λ (xs : List (List ℕ)). BlockHolds net (now (kept.entries.wave + 1) c.clear.new.applied.items) kept.entries.first new.items (counts_of after.counters) xs after.last_due (most_of after.counters)) (sym made.due)
-    (subst (λ (d : ℕ). BlockHolds net (now (kept.entries.wave + 1) c.clear.new.applied.items) kept.entries.first new.items (counts_of after.counters) kept.due d (most_of after.counters)) (sym made.last_due)
-    (subst (λ (m : ℕ). BlockHolds net (now (kept.entries.wave + 1) c.clear.new.applied.items) kept.entries.first new.items (counts_of after.counters) kept.due kept.last_due m) (sym made.most)
-    (subst (λ (xs : List Bool). BlockHolds net (now (kept.entries.wave + 1) xs) kept.entries.first new.items (counts_of after.counters) kept.due kept.last_due (most_of kept.counters)) (sym none) holds)))))
+    (subst (λ (d : ℕ). BlockHolds net (now (kept.entries.wave + 1) c.clear.new.applied.items) kept.entries.first new.items (counts_of after.counters) left d (most_of after.counters)) (sym made.last_due)
+    (subst (λ (m : ℕ). BlockHolds net (now (kept.entries.wave + 1) c.clear.new.applied.items) kept.entries.first new.items (counts_of after.counters) left kept.last_due m) (sym made.most)
+    (subst (λ (xs : List Bool). BlockHolds net (now (kept.entries.wave + 1) xs) kept.entries.first new.items (counts_of after.counters) left kept.last_due (most_of kept.counters)) (sym none) holds)))))
 
 pub next_wave-requires-clause-enough : goal.next_wave-requires-clause-enough
 next_wave-requires-clause-enough g c =

@@ -1,8 +1,10 @@
 use Rattle.std.proofs.Common.{◌≡◌, ◌<◌, ◌≤◌, ℕ, ◌+◌, List, length, slice_index_or, sym, ap, subst, ◌∙◌, vec_len, arith}
+use Rattle.std.specs.List.{All}
 use Rattle.morris_wave.specs.Nets.{times}
 use Rattle.morris_wave.specs.Lists.{list_at}
 use Rattle.morris_wave.specs.Exits.{is_odd}
 use Rattle.morris_wave.specs.Counts.{left_at}
+use Rattle.morris_wave.proofs.DueLists.{gone_keeps}
 use Rattle.morris_wave.proofs.stretch.Stretch.next_wave.Goals as goal
 
 pub take_in-requires-clause-inside : goal.take_in-requires-clause-inside
@@ -32,6 +34,13 @@ invariant_of-self g c =
     record {
       counted = omega (arith, made.counters_len, len, s.counted);
       small = made.small;
-      inside = λ n p d l. let w = s.inside n p d l in (omega (arith, w.0, first), omega (arith, w.1, first, len));
-      once = λ n k l. subst (λ (f : ℕ). times (f + k) (list_at s.due n) ≤ 1) (sym first) (s.once n k (omega (arith, l, len)));
+      inside = λ n.
+          subst (λ (xs : List (List ℕ)). All (λ i. (c.take_in.new.entries.first ≤ i) × (i < c.take_in.new.entries.first + vec_len c.take_in.new.entries.entries.codes)) (list_at xs n)) (sym c.let_go.ensures)
+          (gone_keeps s.due _ (λ xs. All (λ i. (c.take_in.new.entries.first ≤ i) × (i < c.take_in.new.entries.first + vec_len c.take_in.new.entries.entries.codes)) xs)
+          (λ p d l. absurd (omega (arith, l))) n
+          (λ p d l. let w = s.inside n p d l in (omega (arith, w.0, first), omega (arith, w.1, first, len))));
+      once = λ n k l.
+          subst (λ (xs : List (List ℕ)). times (c.take_in.new.entries.first + k) (list_at xs n) ≤ 1) (sym c.let_go.ensures)
+          (gone_keeps s.due _ (λ xs. times (c.take_in.new.entries.first + k) xs ≤ 1) (omega arith) n
+          (subst (λ (f : ℕ). times (f + k) (list_at s.due n) ≤ 1) (sym first) (s.once n k (omega (arith, l, len)))));
     }

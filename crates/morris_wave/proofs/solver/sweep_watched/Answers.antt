@@ -4,7 +4,7 @@ use Rattle.std.proofs.lemmas.Bool.{and_parts, and_cases, leb-true, leb-false, no
 use Rattle.morris_wave.specs.Counts.{counts_of}
 use Rattle.morris_wave.proofs.Stretches.{last_deep}
 use Rattle.morris_wave.proofs.Sweeping.{finished, finished_shallow}
-use Rattle.morris_wave.proofs.solver.sweep.Goals as goal
+use Rattle.morris_wave.proofs.solver.sweep_watched.Goals as goal
 
 pub returns-then-branch-clause-codes : goal.returns-then-branch-clause-codes
 returns-then-branch-clause-codes g c =
