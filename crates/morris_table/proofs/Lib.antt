@@ -26,7 +26,7 @@ pub mod AgreementLaws
 pub mod WorthLaws
 pub mod EndLaws
 pub mod SharingLaws
-pub mod MarkLaws
+pub mod FaceLaws
 pub mod FileLaws
 pub mod ReadingLaws
 pub mod PlaceLaws

@@ -18,7 +18,7 @@ pub mod Graphs
 pub mod Sweeping
 pub mod ClassGraphs
 pub mod Agreement
-pub mod Marks
+pub mod Faces
 pub mod OwnSets
 pub mod Sharing
 pub mod Worths

@@ -1,5 +1,5 @@
 //! Which entries of a table agree with the entries that their moves lead to.
-ghost use Rattle.std.specs.Prelude.{◌≡◌, ℕ, ◌+◌, ◌<◌, ◌≤◌, ◌↔◌, ◌&&◌, true, not, None, IsTrue, MatchOption};
+ghost use Rattle.std.specs.Prelude.{◌≡◌, ℕ, ◌+◌, ◌<◌, ◌≤◌, ◌↔◌, ◌&&◌, true, not, None, slice_index, IfSome, IsTrue, MatchOption};
 ghost use Rattle.std.specs.List.{Contains};
 ghost use Rattle.morris_board.specs.Sets.{has};
 ghost use Rattle.morris_board.specs.Positions.{IsPosition};
@@ -30,7 +30,7 @@ use morris_wave::Exits;
 /// The entry of the position that a quiet move leads to.
 fn entry_after<B: Geometry>(
     raw: &Raw<B>,
-    successors: &Successors<B>,
+    successors: &Successors<'_, B>,
     position: &Position<B>,
     from: u8,
     to: u8,
@@ -53,7 +53,7 @@ fn entry_after<B: Geometry>(
 /// of the stone on `from` to `ends`, as the table states them.
 fn best_from<B: Geometry>(
     raw: &Raw<B>,
-    successors: &Successors<B>,
+    successors: &Successors<'_, B>,
     position: &Position<B>,
     from: u8,
     ends: Points,
@@ -84,8 +84,53 @@ fn wins_at_once(captures: Exits) -> bool
 }
 
 /// What the best result of a position is worth, from the summary of its captures and the stated
-/// codes of the others. Where a capture wins at once the others are left out, since none can do
-/// better.
+/// codes of the others.
+fn best_after<B: Geometry>(
+    raw: &Raw<B>,
+    successors: &Successors<'_, B>,
+    position: &Position<B>,
+    ends: &QuietEnds,
+    captures: Exits,
+) -> u32
+    requires counts { is_of raw.now.pair position.now ≡ true }
+    requires layout { layout_after successors.now ≡ raw.now.layout }
+    requires position { position_before successors.now ≡ in_pair raw.now.pair position.now }
+    requires own { ends.now.own ≡ position.now.own }
+    requires ends { AreEnds B.shape B.POINTS ends.now }
+    requires captures { captures ≡ exits_of (capture_codes B.shape position.now) }
+    ensures { code_of_worth result ≡ code_from (result_codes B.shape raw.now position.now) }
+{
+    // The proof learns here that codes have 16 bits.
+    let _ = raw.pair();
+    let mut best = worth_of(captures);
+    for from in position.own().iter() {
+        best = best_from(
+            raw,
+            successors,
+            position,
+            from,
+            ends.from(position, from),
+            best,
+        );
+    }
+    best
+}
+
+/// What the captures of a position are worth that wins at once by one of them. Then the other
+/// results are left out, since none can do better.
+fn best_at_once<B: Geometry>(raw: &Raw<B>, position: &Position<B>, captures: Exits) -> Option<u32>
+    requires { captures ≡ exits_of (capture_codes B.shape position.now) }
+    ensures { IfSome result (λ best. code_of_worth best ≡ code_from (result_codes B.shape raw.now position.now)) }
+{
+    if wins_at_once(captures) {
+        Some(worth_of(captures))
+    } else {
+        None
+    }
+}
+
+/// What the best result of a position is worth, from the summary of its captures and the stated
+/// codes of the others.
 fn best_result<B: Geometry>(
     raw: &Raw<B>,
     position: &Position<B>,
@@ -98,24 +143,40 @@ fn best_result<B: Geometry>(
     requires captures { captures ≡ exits_of (capture_codes B.shape position.now) }
     ensures { code_of_worth result ≡ code_from (result_codes B.shape raw.now position.now) }
 {
-    // The proof learns here that codes have 16 bits.
-    let _ = raw.pair();
-    let mut best = worth_of(captures);
-    if wins_at_once(captures) {
+    if let Some(best) = best_at_once(raw, position, captures) {
         return best;
     }
     let successors = Successors::of(raw.numbering(), position);
-    for from in position.own().iter() {
-        best = best_from(
-            raw,
-            &successors,
-            position,
-            from,
-            ends.from(position, from),
-            best,
-        );
-    }
-    best
+    best_after(raw, &successors, position, ends, captures)
+}
+
+/// Whether `code`, which the table states for a position that has an entry for its own, agrees,
+/// where what the entries after the position need is kept.
+pub(crate) fn agrees_after<B: Geometry>(
+    raw: &Raw<B>,
+    code: u16,
+    successors: &Successors<'_, B>,
+    position: &Position<B>,
+    ends: &QuietEnds,
+    captures: Exits,
+) -> bool
+    requires code { code ≡ slice_index raw.now.codes (entry_index B.shape B.POINTS raw.now.layout raw.now.pair position.now) }
+    requires counts { is_of raw.now.pair position.now ≡ true }
+    requires lawful { IsPosition B.shape position.now }
+    requires own { has_own_entry B.shape raw.now.layout position.now ≡ true }
+    requires layout { layout_after successors.now ≡ raw.now.layout }
+    requires position { position_before successors.now ≡ in_pair raw.now.pair position.now }
+    requires stones { ends.now.own ≡ position.now.own }
+    requires ends { AreEnds B.shape B.POINTS ends.now }
+    requires captures { captures ≡ exits_of (capture_codes B.shape position.now) }
+    ensures { IsTrue result ↔ Agrees B.shape raw.now (entry_index B.shape B.POINTS raw.now.layout raw.now.pair position.now) }
+{
+    let _ = raw.pair();
+    let best = match best_at_once(raw, position, captures) {
+        Some(best) => best,
+        None => best_after(raw, successors, position, ends, captures),
+    };
+    u32::from(code) == code_of_worth(best)
 }
 
 /// Whether the entry `index` of the table agrees, which `position` has for its own.

@@ -121,8 +121,9 @@ impl<B: Geometry> Exact<B> {
     }
 }
 
-/// The value that a code says.
-fn value_of_code(code: u16) -> Value
+/// The value that a code says: 0 is a draw, and any other is one more than the depth in plies. At
+/// an even depth the player to move has lost, at an odd one won.
+pub fn value_of_code(code: u16) -> Value
     ensures { result ≡ value_in code }
 {
     if code == 0 {

@@ -131,16 +131,18 @@ impl<B: Geometry> Numbering<B> {
 /// What is kept of a position, so that the entry of each position after a quiet move from it is
 /// found in constant time.
 #[derive(Drop)]
-pub(crate) enum Successors<B: Geometry> {
+pub(crate) enum Successors<'a, B: Geometry> {
     /// Among the entries of all positions.
     Full(SuccessorIndices<B>),
     /// Among those of classes.
     Classes(SuccessorEntries<B>),
+    /// Among those of classes, where it is kept already.
+    Kept(&'a SuccessorEntries<B>),
 }
 
-impl<B: Geometry> Successors<B> {
+impl<'a, B: Geometry> Successors<'a, B> {
     /// What is to be kept of a position of the pair.
-    pub(crate) fn of(numbering: &Numbering<B>, position: &Position<B>) -> Successors<B>
+    pub(crate) fn of(numbering: &Numbering<B>, position: &Position<B>) -> Successors<'a, B>
         requires { is_of (pair_of numbering.now) position.now ≡ true }
         ensures layout { layout_after result ≡ layout_of numbering.now }
         ensures position { position_before result ≡ in_pair (pair_of numbering.now) position.now }
@@ -164,6 +166,7 @@ impl<B: Geometry> Successors<B> {
         match self {
             Successors::Full(indices) => indices.index(from, to),
             Successors::Classes(entries) => entries.entry(from, to),
+            Successors::Kept(entries) => entries.entry(from, to),
         }
     }
 }

@@ -10,7 +10,7 @@ use crate::layout::Layout;
 use crate::shelf::Shelf;
 use morris_board::board::Board;
 use morris_index::pair::Pair;
-use morris_wave::sweep;
+use morris_wave::{Unwatched, Watch, sweep_watched};
 use std::alloc::Global;
 
 /// The exact table of a pair, over the tables of the pairs that it needs.
@@ -28,7 +28,27 @@ pub fn sweep_pair<B: Board>(
     ensures exact { IfOk result (IsBuilt B.shape Layout.Full pair) }
     ensures refused { IfErr result (IsUnswept B.shape shelf.now pair) }
 {
+    sweep_pair_watched(alloc, shelf, pair, &mut Unwatched)
+}
+
+/// [`sweep_pair`], which tells `watch` of each wave as it begins (see [`Watch`]).
+///
+/// # Errors
+/// Those of [`sweep_pair`], in the same order. The watch is told nothing before the graph of the
+/// pair is made.
+pub fn sweep_pair_watched<B: Board, W: Watch>(
+    alloc: Global,
+    shelf: &Shelf<B>,
+    pair: Pair<B>,
+    watch: &mut W,
+) -> Result<Exact<B>, BuildFault<B>>
+    ensures ready { OnOk result (first_missing shelf.now pair ≡ None) }
+    ensures exact { IfOk result (IsBuilt B.shape Layout.Full pair) }
+    ensures refused { IfErr result (IsUnswept B.shape shelf.now pair) }
+    // The watch is as it may be after it was told, whatever the answer.
+    ensures watched { W.becomes watch.old watch.new }
+{
     let graph = PairGraph::new(shelf, pair)?;
-    let codes = sweep(alloc, &graph)?;
+    let codes = sweep_watched(alloc, &graph, watch)?;
     Ok(graph.into_table(codes))
 }

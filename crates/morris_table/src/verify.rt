@@ -1,20 +1,21 @@
 //! Tables that are looked at before they are believed.
-ghost use Rattle.std.specs.Prelude.{◌≡◌, ◌<◌, ◌≤◌, ◌↔◌, ℕ, None, IsTrue, is_ok, IfOk, IfErr, IfSome, MatchOption, MatchResult};
+ghost use Rattle.std.specs.Prelude.{◌≡◌, ◌<◌, ◌≤◌, ◌↔◌, ℕ, None, IsTrue, is_ok, IfOk, IfErr, IfSome, MatchOption};
 ghost use Rattle.morris_table.specs.Entries.{entry_count};
 ghost use Rattle.morris_table.specs.Tables.{IsTable};
 ghost use Rattle.morris_table.specs.Shelves.{first_missing};
 ghost use Rattle.morris_table.specs.Graphs.{HasGameValues};
 ghost use Rattle.morris_table.specs.Agreement.{Agrees, IsFirstToDiffer};
-ghost use Rattle.morris_table.specs.Verifying.{missing_in, differing_in};
+ghost use Rattle.morris_table.specs.Verifying.{missing_in, differing_in, Verifies};
 
 use crate::agreeing::first_to_differ;
 use crate::exact::Exact;
 use crate::graph::PairGraph;
 use crate::raw::Raw;
-use crate::sharing::first_by;
+use crate::rounds::first_by;
 use crate::shelf::{Needs, Shelf};
 use crate::stock::Stock;
 use morris_board::board::{Board, Geometry};
+use morris_wave::{Unwatched, Watch};
 use std::alloc::Global;
 use std::thread::Threads;
 use thiserror::Error;
@@ -44,15 +45,7 @@ impl<B: Board> Raw<B> {
     /// doesn't agree. Some entry is wrong then, maybe another one: an entry may agree with its
     /// equally wrong results.
     pub fn verify(self, shelf: &Shelf<B>) -> Result<Exact<B>, (Raw<B>, VerifyFault<B>)>
-        ensures needs { MatchResult result (λ _. first_missing shelf.now self.pair ≡ None)
-            (λ refused. missing_in refused.1 ≡ first_missing shelf.now self.pair) }
-        ensures exact { IsTrue (is_ok result) ↔ ((first_missing shelf.now self.pair ≡ None) × IsTable B.shape self) }
-        ensures value { IfOk result (λ t. t ≡ self) }
-        ensures differs { IfErr result (λ refused. IfSome (differing_in refused.1) (IsFirstToDiffer B.shape self)) }
-        ensures given_back { IfErr result (λ refused. refused.0 ≡ self) }
-        // A table is exact where all of its entries agree, and only there.
-        ensures agreement { first_missing shelf.now self.pair ≡ None
-            → (((i : ℕ) → i < entry_count B.shape B.POINTS self.layout self.pair → Agrees B.shape self i) ↔ IsTable B.shape self) }
+        ensures { Verifies B.shape B.POINTS (first_missing shelf.now self.pair) self result }
     {
         self.verify_over(shelf.stock())
     }
@@ -62,15 +55,7 @@ impl<B: Board> Raw<B> {
     /// # Errors
     /// Those of [`verify`](Raw::verify), in the same order.
     pub fn verify_over(self, stock: &Stock<B>) -> Result<Exact<B>, (Raw<B>, VerifyFault<B>)>
-        ensures needs { MatchResult result (λ _. first_missing stock.now self.pair ≡ None)
-            (λ refused. missing_in refused.1 ≡ first_missing stock.now self.pair) }
-        ensures exact { IsTrue (is_ok result) ↔ ((first_missing stock.now self.pair ≡ None) × IsTable B.shape self) }
-        ensures value { IfOk result (λ t. t ≡ self) }
-        ensures differs { IfErr result (λ refused. IfSome (differing_in refused.1) (IsFirstToDiffer B.shape self)) }
-        ensures given_back { IfErr result (λ refused. refused.0 ≡ self) }
-        // A table is exact where all of its entries agree, and only there.
-        ensures agreement { first_missing stock.now self.pair ≡ None
-            → (((i : ℕ) → i < entry_count B.shape B.POINTS self.layout self.pair → Agrees B.shape self i) ↔ IsTable B.shape self) }
+        ensures { Verifies B.shape B.POINTS (first_missing stock.now self.pair) self result }
     {
         let graph = match PairGraph::over(stock, self.pair()) {
             Ok(graph) => graph,
@@ -94,21 +79,37 @@ impl<B: Board> Raw<B> {
         workers: usize,
     ) -> Result<Exact<B>, (Raw<B>, VerifyFault<B>)>
         requires { (1 ≤ workers) × (workers ≤ 64) }
-        ensures needs { MatchResult result (λ _. first_missing stock.now self.pair ≡ None)
-            (λ refused. missing_in refused.1 ≡ first_missing stock.now self.pair) }
-        ensures exact { IsTrue (is_ok result) ↔ ((first_missing stock.now self.pair ≡ None) × IsTable B.shape self) }
-        ensures value { IfOk result (λ t. t ≡ self) }
-        ensures differs { IfErr result (λ refused. IfSome (differing_in refused.1) (IsFirstToDiffer B.shape self)) }
-        ensures given_back { IfErr result (λ refused. refused.0 ≡ self) }
-        // A table is exact where all of its entries agree, and only there.
-        ensures agreement { first_missing stock.now self.pair ≡ None
-            → (((i : ℕ) → i < entry_count B.shape B.POINTS self.layout self.pair → Agrees B.shape self i) ↔ IsTable B.shape self) }
+        ensures { Verifies B.shape B.POINTS (first_missing stock.now self.pair) self result }
+    {
+        self.verify_watched(rt, alloc, stock, workers, &mut Unwatched)
+    }
+
+    /// [`verify_by`](Raw::verify_by), which tells `watch` how many entries are done, after each
+    /// 4,194,304 of them and after the last one (see [`Watch`]). Where an entry of a table by
+    /// classes doesn't agree, or memory for its lists is refused, the entries are gone through a
+    /// second time, in order, and the watch is told of them from the first one on again.
+    ///
+    /// # Errors
+    /// Those of [`verify`](Raw::verify), in the same order. The watch is told nothing where the
+    /// table of a pair is missing.
+    pub fn verify_watched<R: Threads + Sync, W: Watch>(
+        self,
+        rt: &R,
+        alloc: Global,
+        stock: &Stock<B>,
+        workers: usize,
+        watch: &mut W,
+    ) -> Result<Exact<B>, (Raw<B>, VerifyFault<B>)>
+        requires { (1 ≤ workers) × (workers ≤ 64) }
+        ensures verified { Verifies B.shape B.POINTS (first_missing stock.now self.pair) self result }
+        // The watch is as it may be after it was told, whatever the answer.
+        ensures watched { W.becomes watch.old watch.new }
     {
         let graph = match PairGraph::over(stock, self.pair()) {
             Ok(graph) => graph,
             Err(needs) => return Err((self, VerifyFault::Needs(needs))),
         };
-        let found = first_by(rt, alloc, &graph, &self, workers);
+        let found = first_by(rt, alloc, &graph, &self, workers, watch);
         judged(self, found)
     }
 }

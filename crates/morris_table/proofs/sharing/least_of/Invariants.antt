@@ -3,4 +3,4 @@ use Rattle.morris_table.specs.Sharing.{IsLeastBelow}
 use Rattle.morris_table.proofs.sharing.least_of.Given as goal
 
 abbrev pub invariant-loop-place : goal.invariant-loop-place
-invariant-loop-place g l = MatchOption l.least ((k : ℕ) → k < l.place → slice_index_or l.found k None ≡ None) (IsLeastBelow l.found l.place)
+invariant-loop-place l = MatchOption l.least ((k : ℕ) → k < l.place → slice_index_or l.found k None ≡ None) (IsLeastBelow l.found l.place)

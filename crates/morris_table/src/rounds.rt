@@ -1,0 +1,176 @@
+//! The entries of a table gone through round by round, so that it is told how far that is.
+ghost use Rattle.std.specs.Prelude.{◌≡◌, ℕ, ◌<◌, ◌≤◌, true, IfOk, MatchOption};
+ghost use Rattle.std.specs.Int.{div_ceil};
+ghost use Rattle.morris_table.specs.Agreement.{Agrees, IsFirstToDiffer};
+ghost use Rattle.morris_table.specs.Entries.{entry_count};
+ghost use Rattle.morris_table.specs.Faces.{FacesAgree};
+
+use crate::by_result::OwnSets;
+use crate::graph::PairGraph;
+use crate::layout::Layout;
+use crate::numbering::Numbering;
+use crate::raw::Raw;
+use crate::sharing::{faces_agree_shared, first_shared};
+use morris_board::board::{Board, Geometry};
+use morris_index::class_pair::ClassPair;
+use morris_wave::Watch;
+use std::alloc::{AllocError, Global};
+use std::thread::Threads;
+
+/// How many entries a round has, after which it is told how many are done: a multiple of
+/// [`STRETCH`](crate::sharing::STRETCH), and so many that it doesn't matter that the workers wait
+/// for one another at its end.
+const ROUND: u64 = 4_194_304;
+
+/// In how many rounds the entries of a table are gone through.
+fn round_count<B: Geometry>(raw: &Raw<B>) -> u64
+    ensures count { result ≡ div_ceil (entry_count B.shape B.POINTS raw.now.layout raw.now.pair) 4194304 }
+    // The caller's proof learns here that the board has as many points as its shape says.
+    ensures points { B.shape.points ≡ B.POINTS }
+{
+    raw.len().div_ceil(ROUND)
+}
+
+/// The first entry that doesn't agree, by so many workers.
+fn first_of_rounds<B: Board, R: Threads + Sync, W: Watch>(
+    rt: &R,
+    alloc: Global,
+    graph: &PairGraph<B>,
+    raw: &Raw<B>,
+    workers: usize,
+    watch: &mut W,
+) -> Option<u64>
+    requires pair { graph.now ≡ raw.now.pair }
+    requires workers { (1 ≤ workers) × (workers ≤ 64) }
+    ensures first { MatchOption result ((k : ℕ) → k < entry_count B.shape B.POINTS raw.now.layout raw.now.pair → Agrees B.shape raw.now k) (IsFirstToDiffer B.shape raw.now) }
+    ensures watched { W.becomes watch.old watch.new }
+{
+    let count = raw.len();
+    for round in 0..round_count(raw) {
+        let first = round * ROUND;
+        let end = first + ROUND.min(count - first);
+        if let Some(index) = first_shared(rt, alloc, graph, raw, first, end, workers) {
+            return Some(index);
+        }
+        watch.entries(end);
+    }
+    None
+}
+
+/// Whether the entries of all positions are known to agree that face some, by so many workers.
+///
+/// # Errors
+/// [`AllocError`] where memory is refused.
+fn rounds_agree<B: Board, R: Threads + Sync, W: Watch>(
+    rt: &R,
+    alloc: Global,
+    sets: &OwnSets<B>,
+    classes: &ClassPair<B>,
+    graph: &PairGraph<B>,
+    raw: &Raw<B>,
+    workers: usize,
+    watch: &mut W,
+) -> Result<bool, AllocError>
+    requires pair { graph.now ≡ raw.now.pair }
+    requires classes { classes.now ≡ raw.now.pair }
+    requires layout { raw.now.layout ≡ Layout.Classes }
+    requires workers { (1 ≤ workers) × (workers ≤ 64) }
+    ensures agree { IfOk result (λ yes. yes ≡ true → (k : ℕ) → k < entry_count B.shape B.POINTS raw.now.layout raw.now.pair → FacesAgree B.shape raw.now k) }
+    ensures watched { W.becomes watch.old watch.new }
+{
+    let count = raw.len();
+    for round in 0..round_count(raw) {
+        let first = round * ROUND;
+        let end = first + ROUND.min(count - first);
+        if !faces_agree_shared(rt, alloc, sets, classes, graph, raw, first, end, workers)? {
+            return Ok(false);
+        }
+        watch.entries(end);
+    }
+    Ok(true)
+}
+
+/// Whether the entries of all positions are known to agree that face one, by so many workers.
+///
+/// # Errors
+/// [`AllocError`] where memory is refused.
+fn faces_agree<B: Board, R: Threads + Sync, W: Watch>(
+    rt: &R,
+    alloc: Global,
+    classes: &ClassPair<B>,
+    graph: &PairGraph<B>,
+    raw: &Raw<B>,
+    workers: usize,
+    watch: &mut W,
+) -> Result<bool, AllocError>
+    requires pair { graph.now ≡ raw.now.pair }
+    requires classes { classes.now ≡ raw.now.pair }
+    requires layout { raw.now.layout ≡ Layout.Classes }
+    requires workers { (1 ≤ workers) × (workers ≤ 64) }
+    ensures faces { IfOk result (λ yes. yes ≡ true → (k : ℕ) → k < entry_count B.shape B.POINTS raw.now.layout raw.now.pair → FacesAgree B.shape raw.now k) }
+    ensures watched { W.becomes watch.old watch.new }
+{
+    let sets = OwnSets::make(alloc, raw.pair())?;
+    rounds_agree(rt, alloc, &sets, classes, graph, raw, workers, watch)
+}
+
+/// Whether all entries are known to agree, by what is known of those of all positions that face
+/// one: they are all entries.
+fn all_agree<B: Geometry>(raw: &Raw<B>, faces: Result<bool, AllocError>) -> bool
+    requires layout { raw.now.layout ≡ Layout.Classes }
+    requires faces { IfOk faces (λ yes. yes ≡ true → (k : ℕ) → k < entry_count B.shape B.POINTS raw.now.layout raw.now.pair → FacesAgree B.shape raw.now k) }
+    ensures { result ≡ true → (k : ℕ) → k < entry_count B.shape B.POINTS raw.now.layout raw.now.pair → Agrees B.shape raw.now k }
+{
+    // The proof learns here that the numbers of stones are those of a pair.
+    let _ = raw.pair();
+    match faces {
+        Ok(agree) => agree,
+        Err(_) => false,
+    }
+}
+
+/// Whether all entries are known to agree, by so many workers. It isn't asked where they aren't
+/// those of classes.
+fn are_known<B: Board, R: Threads + Sync, W: Watch>(
+    rt: &R,
+    alloc: Global,
+    graph: &PairGraph<B>,
+    raw: &Raw<B>,
+    workers: usize,
+    watch: &mut W,
+) -> bool
+    requires pair { graph.now ≡ raw.now.pair }
+    requires workers { (1 ≤ workers) × (workers ≤ 64) }
+    ensures agree { result ≡ true → (k : ℕ) → k < entry_count B.shape B.POINTS raw.now.layout raw.now.pair → Agrees B.shape raw.now k }
+    ensures watched { W.becomes watch.old watch.new }
+{
+    match raw.numbering() {
+        Numbering::Full(_) => false,
+        Numbering::Classes(classes) => {
+            let faces = faces_agree(rt, alloc, classes, graph, raw, workers, watch);
+            all_agree(raw, faces)
+        }
+    }
+}
+
+/// The first entry that doesn't agree, by so many workers. The watch is told after each round how
+/// many entries are done, from the first one on where the entries have to be gone through a second
+/// time. Where memory is refused, the caller goes through all entries.
+pub(crate) fn first_by<B: Board, R: Threads + Sync, W: Watch>(
+    rt: &R,
+    alloc: Global,
+    graph: &PairGraph<B>,
+    raw: &Raw<B>,
+    workers: usize,
+    watch: &mut W,
+) -> Option<u64>
+    requires pair { graph.now ≡ raw.now.pair }
+    requires workers { (1 ≤ workers) × (workers ≤ 64) }
+    ensures first { MatchOption result ((k : ℕ) → k < entry_count B.shape B.POINTS raw.now.layout raw.now.pair → Agrees B.shape raw.now k) (IsFirstToDiffer B.shape raw.now) }
+    ensures watched { W.becomes watch.old watch.new }
+{
+    if are_known(rt, alloc, graph, raw, workers, watch) {
+        return None;
+    }
+    first_of_rounds(rt, alloc, graph, raw, workers, watch)
+}
