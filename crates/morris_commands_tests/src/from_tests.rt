@@ -39,6 +39,8 @@ impl Watch for Tally {
 
     fn wave(&mut self, _wave: u16) {}
 
+    fn entries(&mut self, _done: u64) {}
+
     ghost stays = { λ told. tt };
 
     ghost joins = { λ first midway last once again. tt };

@@ -6,7 +6,7 @@ use crate::gates::ShutGate;
 use crate::lones::LoneGraph;
 use crate::pairs::PairGraph;
 use crate::scribes::Scribe;
-use morris_wave::Graph;
+use morris_wave::{Graph, sweep_watched};
 use morris_workers::{Gate, OpenGate, SHORT_NODES, SolveFault, solve_with};
 use std::alloc::Global;
 use std::process::Abort;
@@ -83,6 +83,17 @@ fn each_wave_is_told_once_in_order(rt: HostRuntime) {
     ends(&rt, rt.alloc(), &PAIR, 2, 2, 43, codes);
     ends(&rt, rt.alloc(), &PAIR, 1, 5, 43, codes);
     ends(&rt, rt.alloc(), &PAIR, 7, 3, 43, codes);
+}
+
+#[test]
+fn each_wave_of_a_sweep_is_told_once_in_order(rt: HostRuntime) {
+    let mut told = Vec::new(rt.alloc());
+    let mut scribe = Scribe { told: &mut told };
+    match sweep_watched(rt.alloc(), &PAIR, &mut scribe) {
+        Ok(codes) => same_codes(&rt, &codes, &[43, 42], "codes"),
+        Err(fault) => panic!(rt; "{fault}"),
+    }
+    are_waves_to(&rt, &told, 43);
 }
 
 #[test]
