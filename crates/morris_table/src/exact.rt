@@ -1,5 +1,5 @@
 //! Tables of the game's values.
-ghost use Rattle.std.specs.Prelude.{◌≡◌, ℕ, ◌+◌, ◌<◌, ◌≤◌, ◌^◌, true, length, slice_index, vec_len, IfOk};
+ghost use Rattle.std.specs.Prelude.{◌≡◌, ℕ, ◌+◌, ◌<◌, ◌≤◌, ◌^◌, ◌↔◌, true, length, slice_index, vec_len, IfOk, IsTrue};
 ghost use Rattle.morris_board.specs.Positions.{Sides, IsPosition};
 ghost use Rattle.morris_index.specs.Pairs.{is_of};
 ghost use Rattle.morris_wave.specs.Nets.{times};
@@ -101,6 +101,20 @@ impl<B: Geometry> Exact<B> {
         // The proof learns the rules of a position where its stones are read.
         let _ = position.own();
         value_of_code(self.code_of(position))
+    }
+
+    /// The codes of the entries in their order.
+    fn codes(&self) -> &[u16]
+        ensures { result.now ≡ self.now.codes }
+    {
+        &self.codes
+    }
+
+    /// Whether a table that was read has the same pair, layout and codes.
+    pub fn is_same(&self, raw: &Raw<B>) -> bool
+        ensures { IsTrue result ↔ (raw.now ≡ self.now) }
+    {
+        self.pair() == raw.pair() && self.layout() == raw.layout() && self.codes() == raw.codes()
     }
 
     /// The same pair, layout and codes, to be judged again by whoever gets them.

@@ -114,6 +114,13 @@ impl<B: Geometry> Raw<B> {
         self.codes[i as usize]
     }
 
+    /// The codes that the entries state, in their order.
+    pub(crate) fn codes(&self) -> &[u16]
+        ensures { result.now ≡ self.now.codes }
+    {
+        &self.codes
+    }
+
     /// How the entries are numbered, and the codes.
     pub(crate) fn into_parts(self) -> (Numbering<B>, Vec<u16>)
         ensures layout { layout_of result.0 ≡ self.layout }
