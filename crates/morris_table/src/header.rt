@@ -18,26 +18,32 @@ use sha2::{Digest, Sha256};
 use std::alloc::Global;
 
 /// How many bytes a header has.
-pub(crate) const HEADER: usize = 16;
+pub const HEADER: usize = 16;
 
 /// What each file begins with.
-const MAGIC: [u8; 4] = *b"NMMT";
+pub const MAGIC: [u8; 4] = *b"NMMT";
 
 /// The fields of a header, as they stand in a file. They may be those of no table.
 #[derive(Clone, Copy)]
-pub(crate) struct Header {
-    magic: [u8; 4],
-    version: u8,
-    board: u8,
-    greater: u8,
-    lesser: u8,
-    entries: u64,
+pub struct Header {
+    /// [`MAGIC`] in every table file.
+    pub magic: [u8; 4],
+    /// 1 for a table in layout `Full`, 2 for one in layout `Classes`.
+    pub version: u8,
+    /// The number of the board, [`Geometry::ID`].
+    pub board: u8,
+    /// The greater number of stones of the pair.
+    pub greater: u8,
+    /// The lesser number of stones.
+    pub lesser: u8,
+    /// How many entries the table has.
+    pub entries: u64,
 }
 
 impl Header {
     /// The header of the file of a table.
     #[tactic(auto, unfolding(crate::specs::TableFiles::header_of, crate::specs::Headers::header_bytes))]
-    pub(crate) fn of<B: Geometry>(table: &Exact<B>) -> Header
+    pub fn of<B: Geometry>(table: &Exact<B>) -> Header
         ensures value { header_bytes result ≡ header_of B.shape table.now.layout table.now.pair (length table.now.codes) }
         ensures few { length table.now.codes ≤ 2 ^ 40 }
         ensures lawful { IsTable B.shape table.now }
@@ -54,7 +60,7 @@ impl Header {
     }
 
     /// The header that stands in these bytes.
-    pub(crate) fn from_bytes(bytes: &[u8; HEADER]) -> Header
+    pub fn from_bytes(bytes: &[u8; HEADER]) -> Header
         ensures { result ≡ header_at bytes.now }
     {
         Header {
@@ -72,7 +78,7 @@ impl Header {
 
     /// The bytes of the header.
     #[tactic(auto, unfolding(crate::specs::Headers::header_bytes))]
-    pub(crate) fn to_bytes(self) -> [u8; HEADER]
+    pub fn to_bytes(self) -> [u8; HEADER]
         ensures { result ≡ header_bytes self }
     {
         let mut bytes = [0; HEADER];
@@ -108,7 +114,7 @@ impl Header {
     /// # Errors
     /// The first of `Magic`, `Version`, `BoardId`, `Counts` and `Crowded` that applies.
     #[tactic(auto, unfolding(crate::specs::FileReading::kind_in))]
-    fn kind<B: Geometry>(&self) -> Result<(Layout, Pair<B>), ReadFault>
+    pub fn kind<B: Geometry>(&self) -> Result<(Layout, Pair<B>), ReadFault>
         ensures value { result ≡ kind_in B.shape self.now }
         ensures refused { IfErr result IsOfBytes }
     {
@@ -134,8 +140,8 @@ impl Header {
     }
 }
 
-/// The version of the files of a layout.
-fn version_of(layout: Layout) -> u8
+/// The version of the files of a layout: 1 or 2.
+pub fn version_of(layout: Layout) -> u8
     ensures { result ≡ version_of layout }
 {
     match layout {

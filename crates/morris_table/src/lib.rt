@@ -10,7 +10,7 @@ pub mod class_graph;
 pub mod exact;
 pub mod file_faults;
 pub mod graph;
-mod header;
+pub mod header;
 pub mod layout;
 pub mod levels;
 mod numbering;

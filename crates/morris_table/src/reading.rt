@@ -20,7 +20,7 @@ use std::alloc::Global;
 const PIECE: usize = 4096;
 
 /// How many bytes a digest has.
-const DIGEST: usize = 32;
+pub const DIGEST: usize = 32;
 
 /// Reads a table from its file, after which the source has to end. The codes may be wrong.
 ///
@@ -166,9 +166,13 @@ fn push_codes(codes: &mut Vec<u16>, bytes: &[u8])
     }
 }
 
-/// Reads until the buffer is full or the source at its end, and answers how many bytes that are. A
-/// read that fails ends it, and then the buffer wasn't full.
-fn fill<S: Source>(source: &mut S, buffer: &mut [u8]) -> Result<usize, Failed>
+/// Reads until the buffer is full or the source at its end, and answers how many bytes that are.
+///
+/// Fewer than `u64::MAX` calls of the source may have failed before.
+///
+/// # Errors
+/// [`Failed`] at the first read that failed, which isn't tried again. Then the buffer wasn't full.
+pub fn fill<S: Source>(source: &mut S, buffer: &mut [u8]) -> Result<usize, Failed>
     requires { S.failures source.old < 2 ^ 64 - 1 }
     ensures within { IfOk result (λ n. n ≤ length buffer.new) }
     ensures bytes { IfOk result (λ n. Consumes (S.remaining source.old) (S.remaining source.new) (take n buffer.new)) }
