@@ -3,3 +3,4 @@ pub mod SumLaws
 pub mod EntryCounts
 pub mod DeepLaws
 pub mod EntryOrder
+pub mod TallyLaws

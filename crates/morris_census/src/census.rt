@@ -1,5 +1,5 @@
 //! What is counted of a pair.
-ghost use Rattle.std.specs.Prelude.{IfOk};
+ghost use Rattle.std.specs.Prelude.{◌^◌, ◌≤◌, length, IfOk};
 ghost use Rattle.morris_census.specs.Census.{HasTallies};
 ghost use Rattle.morris_census.specs.Deepest.{HasDeepest};
 
@@ -24,6 +24,7 @@ impl<B: Geometry> Census<B> {
     /// # Errors
     /// [`AllocError`] where memory runs out.
     pub fn of(alloc: Global, table: &Exact<B>, deepest: bool) -> Result<Census<B>, AllocError>
+        ensures few { IfOk result (λ census. length census.tallies.items ≤ 2 ^ 16) }
         ensures tallies { IfOk result (λ census. HasTallies B.shape table.now.pair census.tallies.items) }
         ensures deepest { IfOk result (λ census. HasDeepest B.shape table.now.pair deepest census.deepest) }
     {

@@ -10,7 +10,7 @@ use Rattle.morris_table.specs.declared.layout.Layout.{Layout}
 use Rattle.morris_table.specs.Known.{IsBeyondCodes}
 use Rattle.morris_table.specs.Shelves.{Stored, first_missing, table_on}
 use Rattle.morris_table.proofs.ShelfLaws.{cases_pair, none-missing}
-use Rattle.morris_commands.specs.Build.{HasExactAt, IsSpared, stones}
+use Rattle.morris_commands.specs.Build.{HasExactAt, HasExactBut, IsSpared, stones}
 use Rattle.morris_commands.proofs.NearLaws.{IsNear, below-rises, needs-one_less}
 use Rattle.morris_commands.proofs.ShelfLaws.{below_no_more}
 
@@ -66,6 +66,25 @@ module _ (board : Shape) (l : Layout) (pair : Counts) (before after : List Count
         )
     | inr is ↦ absurd (other (sym is ∙ itself))
   ]
+
+-- where all are kept there are those of all pairs so far but for one, also with its own table
+pub every-more : (board : Shape) (l : Layout) (stock kept new : Stored) (but : Counts) (before : List Counts) (c : Counts) → HasExactBut board l stock but before
+    → ((d : Counts) → table_on kept d ≡ table_on stock d) → HasExactAt board l new c → ((d : Counts) → d ≢ c → table_on new d ≡ table_on kept d)
+    → HasExactBut board l new but (before ++ c ∷ [])
+every-more board l stock kept new but before c has all here others = λ d m other. elim (cases_pair d c) [
+  | inl same ↦ subst (HasExactAt board l new) (sym same) here
+  | inr apart ↦ elim (Contains-push_cases before c d m) [
+    | inl earlier ↦ let at = has d earlier other in (at.0, others d apart ∙ (all d ∙ at.1), at.2, at.3, at.4)
+    | inr is ↦ absurd (apart (sym is))
+  ]
+]
+
+pub every-itself : (board : Shape) (l : Layout) (stock kept : Stored) (but : Counts) (before : List Counts) (c : Counts) → HasExactBut board l stock but before
+    → ((d : Counts) → table_on kept d ≡ table_on stock d) → c ≡ but → HasExactBut board l kept but (before ++ c ∷ [])
+every-itself board l stock kept but before c has all itself = λ d m other. elim (Contains-push_cases before c d m) [
+  | inl earlier ↦ let at = has d earlier other in (at.0, all d ∙ at.1, at.2, at.3, at.4)
+  | inr is ↦ absurd (other (sym is ∙ itself))
+]
 
 -- at the end there are the tables that the pair itself needs
 pub built-last : (board : Shape) (l : Layout) (stock : Stored) (pair : Counts) (front : List Counts) → NeedsFirst (below_of pair)

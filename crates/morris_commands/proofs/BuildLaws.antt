@@ -1,18 +1,17 @@
 -- The files that are written of the tables on a shelf.
-use Rattle.std.proofs.Common.{◌≡◌, ◌≢◌, ℕ, Bool, true, false, List, [], ◌∷◌, ◌++◌, Option, Some, None, is_some, Ok, Err, take, ◌-◌, refl, sym, ap, ap₂, subst, ◌∙◌, inl, inr, arith, append_assoc, append-nil}
+use Rattle.std.proofs.Common.{◌≡◌, ℕ, Bool, true, false, List, [], ◌∷◌, ◌++◌, Option, Some, None, is_some, Ok, Err, take, ◌-◌, refl, sym, ap, ap₂, subst, ◌∙◌, inl, inr, arith, append_assoc, append-nil}
 use Rattle.std.specs.List.{flat_map}
 use Rattle.std.proofs.lemmas.Grind.{flat_map-append}
-use Rattle.std.proofs.lemmas.List.Elements.{All-cons, All-nil, Contains-push_cases}
+use Rattle.std.proofs.lemmas.List.Elements.{All-cons, All-nil}
 use Rattle.std.specs.Io.KnownBytes.{Appends}
 use Rattle.morris_board.specs.Boards.{Shape}
 use Rattle.morris_board.specs.Streams.{PartSent}
 use Rattle.morris_index.specs.Pairs.{Counts, below_of}
 use Rattle.morris_table.specs.declared.layout.Layout.{Layout}
-use Rattle.morris_table.specs.Shelves.{Stored, table_on}
+use Rattle.morris_table.specs.Shelves.{Stored}
 use Rattle.morris_table.specs.TableFiles.{file_of}
 use Rattle.morris_table.specs.Tables.{IsTable, Table}
 use Rattle.morris_moves.proofs.ListLaws.{Contains-cons_cases, Contains-head, Contains-tail}
-use Rattle.morris_table.proofs.ShelfLaws.{cases_pair}
 use Rattle.morris_faults.specs.declared.fault.Fault.TheVariants as fault
 use Rattle.morris_commands.specs.Build.{AnswersFiles, AreTablesOf, HasExact, HasExactAt, HasTables, file_on, pairs_written}
 
@@ -52,25 +51,6 @@ module _ (board : Shape) (l : Layout) (shelf : Stored) where
 -- where there is an exact table of each pair, there is a table of each
 pub has_tables : (board : Shape) (l : Layout) (shelf : Stored) (pairs : List Counts) → HasExact board l shelf pairs → HasTables shelf pairs
 has_tables board l shelf pairs there = λ c m. let here = there c m in ap is_some here.1
-
--- with its table the shelf has one pair more
-pub one_exact_more : (board : Shape) (l : Layout) (old new : Stored) (before : List Counts) (c : Counts) → HasExact board l old before
-    → HasExactAt board l new c → ((d : Counts) → d ≢ c → table_on new d ≡ table_on old d) → HasExact board l new (before ++ c ∷ [])
-one_exact_more board l old new before c there here others = λ d m.
-    elim (cases_pair d c) [
-      | inl same ↦ subst (HasExactAt board l new) (sym same) here
-      | inr other ↦ elim (Contains-push_cases before c d m) [
-        | inl earlier ↦
-            let e = there d earlier in
-            (e.0, others d other ∙ e.1, e.2, e.3, e.4)
-        | inr is ↦ absurd (other (sym is))
-      ]
-    ]
-
--- where nothing is let go, all is there as before
-pub still_exact : (board : Shape) (l : Layout) (old new : Stored) (pairs : List Counts) → HasExact board l old pairs
-    → ((c : Counts) → table_on new c ≡ table_on old c) → HasExact board l new pairs
-still_exact board l old new pairs there same = λ d m. let e = there d m in (e.0, same d ∙ e.1, e.2, e.3, e.4)
 
 -- the tables whose files are written: all, or the last
 pub written_exact : (board : Shape) (l : Layout) (stock : Stored) (pair : Counts) (all : Bool) → (all ≡ true → HasExact board l stock (below_of pair))

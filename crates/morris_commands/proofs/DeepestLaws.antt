@@ -1,5 +1,5 @@
 -- The lines of what was found show a deepest win and a deepest loss.
-use Rattle.std.proofs.Common.{◌≡◌, Bool, true, false, List, Option, Some, None, ℕ, codes, refl, ap, inl, inr}
+use Rattle.std.proofs.Common.{Bool, true, false, List, Option, Some, None, ℕ, codes, refl, ap, inl, inr}
 use Rattle.morris_board.specs.Boards.{Shape}
 use Rattle.morris_index.specs.Pairs.{Counts}
 use Rattle.morris_census.specs.declared.deepest.Deep.{Deep}

@@ -1,6 +1,5 @@
 pub mod ShelfLaws
 pub mod StatsLaws
-pub mod TallyLaws
 mod BundleLaws
 pub mod BuildLaws
 pub mod NearLaws

@@ -124,16 +124,6 @@ module _ (board : Shape) (l : Layout) (pair : Counts) (before after : List Count
       Contains-push : (xs : List Counts) (x y : Counts) → Contains xs y → Contains (xs ++ x ∷ []) y
       Contains-push xs x y k = Contains-append_left xs (x ∷ []) y k
 
--- the table of the last pair is there at the end
-pub near-last : (board : Shape) (l : Layout) (stock : Stored) (pair : Counts) (front : List Counts) → below_of pair ≡ front ++ pair ∷ [] → HasNear board l stock (below_of pair)
-    → HasExactAt board l stock pair
-near-last board l stock pair front last has =
-    has pair (subst (λ cs. Contains cs pair) (sym last) (Contains-append_right front (pair ∷ []) pair (Contains-head pair [])))
-    (λ e k. elim (Contains-push_cases front pair e (subst (λ cs. Contains cs e) last k)) [
-      | inl earlier ↦ let fewer = below-rises pair front [] pair e (sym last) earlier in omega (arith, fewer)
-      | inr is ↦ let same = ap stones is in omega (arith, same)
-    ])
-
 -- letting tables go by their numbers of stones
 module _ (old new : Stored) (c : Counts) (goes : (d : Counts) → table_on new d ≡ kept_from (stones c - 1) old d) where
   pub let_go-spares : IsSpared old new c

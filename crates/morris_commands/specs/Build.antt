@@ -1,5 +1,5 @@
 -- What `build` writes.
-use Rattle.std.specs.Prelude.{◌≡◌, ◌⊎◌, ⊤, ℕ, ◌+◌, ◌<◌, ◌≤◌, Bool, true, List, [], ◌∷◌, map, Option, Some, None, is_some, Result, Ok, Err, if◌then◌else◌}
+use Rattle.std.specs.Prelude.{◌≡◌, ◌≢◌, ◌⊎◌, ⊤, ℕ, ◌+◌, ◌<◌, ◌≤◌, Bool, true, List, [], ◌∷◌, map, Option, Some, None, is_some, Result, Ok, Err, if◌then◌else◌}
 use Rattle.std.specs.List.{All, Contains, flat_map}
 use Rattle.std.specs.Io.KnownBytes.{Keeps}
 use Rattle.morris_board.specs.Boards.{Shape}
@@ -57,6 +57,10 @@ HasExactAt board l shelf c = (t : Table) × (table_on shelf c ≡ Some t) × (t.
 -- it has such a table of each of these pairs
 abbrev pub HasExact : Shape → Layout → Stored → List Counts → Type 0
 HasExact board l shelf pairs = (c : Counts) → Contains pairs c → HasExactAt board l shelf c
+
+-- it has such a table of each of them but one
+abbrev pub HasExactBut : Shape → Layout → Stored → Counts → List Counts → Type 0
+HasExactBut board l shelf but pairs = (c : Counts) → Contains pairs c → c ≢ but → HasExactAt board l shelf c
 
 -- how many stones a pair has
 abbrev pub stones : Counts → ℕ

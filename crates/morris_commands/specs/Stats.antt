@@ -46,6 +46,12 @@ PrintsStats board pair deepest old new result =
     (tallies : List ℕ) × (lines : List ℕ) × HasTallies board pair tallies × ShowsDeepest board pair deepest lines
     × Prints old new (stats_text board.points pair tallies ++ lines) result
 
+-- What is answered over a table of the pair: want of memory, with nothing printed; otherwise the text
+-- is printed.
+abbrev pub AnswersCounts : {T : Type 0} → Shape → Counts → Bool → Option (List ℕ) → Option (List ℕ) → Result T Fault → Type 0
+AnswersCounts board pair deepest old new result =
+    ((result ≡ Err fault.Memory) × Keeps old new) ⊎ PrintsStats board pair deepest old new result
+
 -- codes don't suffice for the depths of the pair, or for those of one below it, on which it rests
 abbrev pub HasTooDeep : Shape → Counts → Type 0
 HasTooDeep board pair = (below : Counts) × Contains (below_of pair) below × IsBeyondCodes board below

@@ -2,14 +2,15 @@
 ghost use Rattle.std.specs.Prelude.{◌≡◌, ◌≢◌, ◌+◌, ◌-◌, ◌^◌, ◌<◌, ◌≤◌, None, true, false, is_some, length, IfErr, IfOk, OnOk};
 ghost use Rattle.std.specs.List.{flat_map};
 ghost use Rattle.morris_board.specs.Streams.{CountsFailure, HasSent};
-ghost use Rattle.morris_index.specs.Pairs.{Counts, below_of};
+ghost use Rattle.morris_index.specs.Pairs.{Counts, EndsIn, below_of};
 ghost use Rattle.morris_table.specs.Known.{IsBeyondCodes};
 ghost use Rattle.morris_table.specs.Shelves.{first_missing, table_on};
 ghost use Rattle.morris_table.specs.TableFiles.{file_of};
 ghost use Rattle.morris_faults.specs.Faults.{CountsWrites, is_write};
 ghost use Rattle.morris_faults.specs.BoardNames.{board_of};
-ghost use Rattle.morris_commands.specs.Stats.{HasTooDeep};
-ghost use Rattle.morris_commands.specs.Build.{AnswersBuild, AnswersBuildOn, AnswersFiles, HasExact, HasExactAt, HasTables, IsSpared, IsUnbuiltAt, IsUnbuiltFor, file_on, layout_asked, pairs_written, stones};
+ghost use Rattle.morris_commands.specs.Stats.{HasTooDeep, RestsOnTooDeep};
+ghost use Rattle.morris_commands.specs.Build.{AnswersBuild, AnswersBuildOn, AnswersFiles, HasExact, HasExactAt, HasExactBut, HasTables, IsSpared, IsUnbuiltAt, IsUnbuiltFor, file_on, layout_asked, pairs_written, stones};
+ghost use Rattle.morris_commands.specs.Verify.{IsUnbuiltBefore};
 
 use morris_board::board::{Board, Geometry};
 use morris_board::streams::Sink;
@@ -141,7 +142,7 @@ fn build_on<B: Board, R: Threads + Wait + Sync, O: Sink, T: Teller>(
 
 /// The tables of all pairs below a pair, its own among them, in a layout; or, but for `all`, its own
 /// alone: the others are let go once no pair to come needs them.
-fn build_below<B: Board, R: Threads + Wait + Sync, T: Teller>(
+pub(crate) fn build_below<B: Board, R: Threads + Wait + Sync, T: Teller>(
     rt: &R,
     alloc: Global,
     layout: Layout,
@@ -153,16 +154,42 @@ fn build_below<B: Board, R: Threads + Wait + Sync, T: Teller>(
     // The caller's proof learns here that the board has as many points as its shape says.
     ensures points { B.shape.points ≡ B.POINTS }
     ensures exact { IfOk result (λ stock. HasExact B.shape layout stock (pairs_written all pair)) }
+    ensures own { IfOk result (λ stock. HasExactAt B.shape layout stock pair) }
     ensures within { OnOk result (¬ HasTooDeep B.shape pair) }
     ensures refused { IfErr result (IsUnbuiltFor B.shape pair team.blocks) }
     ensures unwritten { IfErr result (λ refused. is_write refused ≡ false) }
     ensures told { T.becomes teller.old teller.new }
 {
-    let mut stock = Stock::new(alloc)?;
     teller.announce(pair, layout, Way::Built { team, all });
+    let mut stock = build_before(rt, alloc, layout, all, pair, team, teller)?;
+    build_onto(rt, alloc, &mut stock, layout, pair, team, teller)?;
+    Ok(stock)
+}
+
+/// The tables that a pair needs, in a layout: those of all pairs below it but its own are built in
+/// order. But for `all` they are let go once no pair to come needs them.
+pub(crate) fn build_before<B: Board, R: Threads + Wait + Sync, T: Teller>(
+    rt: &R,
+    alloc: Global,
+    layout: Layout,
+    all: bool,
+    pair: Pair<B>,
+    team: Team,
+    teller: &mut T,
+) -> Result<Stock<B>, Fault>
+    ensures ready { IfOk result (λ stock. first_missing stock pair ≡ None) }
+    ensures every { IfOk result (λ stock. all ≡ true → HasExactBut B.shape layout stock pair (below_of pair)) }
+    ensures last { OnOk result (EndsIn (below_of pair) pair) }
+    ensures within { OnOk result (¬ RestsOnTooDeep B.shape pair) }
+    ensures refused { IfErr result (IsUnbuiltBefore B.shape pair team.blocks) }
+    ensures told { T.becomes teller.old teller.new }
+{
+    let mut stock = Stock::new(alloc)?;
     for below in pair.below() {
         spare(&mut stock, all, below);
-        build_onto(rt, alloc, &mut stock, layout, below, team, teller)?;
+        if below != pair {
+            build_onto(rt, alloc, &mut stock, layout, below, team, teller)?;
+        }
     }
     Ok(stock)
 }

@@ -9,9 +9,10 @@ use morris_board::board::Geometry;
 use morris_board::streams::buffered::Buffered;
 use morris_board::streams::{Failed, Sink};
 use morris_census::deepest::Deepest;
+use morris_faults::pairs::put_stones;
 use morris_faults::print::Printed;
 use morris_index::pair::Pair;
-use morris_probe::print::{put_count, put_number_line, put_signed};
+use morris_probe::print::{put_count, put_number_line};
 
 /// What `stats` prints of a pair.
 #[derive(Drop)]
@@ -70,8 +71,7 @@ pub fn put_pair<B: Geometry, S: Sink>(
     ensures passed { Passes S.contents S.failures out.old out.new (pair_text pair) result }
     ensures few { OnOk result (taken_of out.new ≤ taken_of out.old + 41) }
 {
-    out.put_number(u64::from(pair.greater()))?;
-    put_signed(out, b'-', pair.lesser())
+    put_stones(out, pair.greater(), pair.lesser())
 }
 
 /// A pair and how many positions it has.

@@ -20,7 +20,6 @@ use morris_table::exact::Exact;
 use morris_table::raw::Raw;
 use morris_table::reading::read_next;
 use morris_table::shelf::Shelf;
-use morris_workers::Unwatched;
 use std::alloc::Global;
 
 /// How many table files are taken from the input at most.
@@ -29,7 +28,8 @@ const MOST_FILES: u8 = 64;
 /// Reports the position that `text` writes on the board named `board`: its value and its best
 /// moves, as the tables on the input have them. The input is a bundle, table files one after the
 /// other to its end, at most 64 of them. A table comes after those of the pairs that its pair
-/// needs; each is verified as it comes, and takes the place of an earlier one of its pair.
+/// needs; each is verified as it comes, and takes the place of an earlier one of its pair. `teller`
+/// is told how far it is.
 ///
 /// # Errors
 /// [`Fault::Board`] where there is no such board, else [`Fault::Length`], [`Fault::Character`] or
@@ -41,24 +41,6 @@ const MOST_FILES: u8 = 64;
 /// of the position, where its table isn't there. [`Fault::Memory`] where memory is refused. In all
 /// these cases nothing is written. Else [`Fault::Write`], with the bytes that went out, at the
 /// first write that fails.
-pub fn probe_in<I: Source, O: Sink>(
-    alloc: Global,
-    board: &str,
-    text: &str,
-    input: &mut I,
-    output: &mut O,
-) -> Result<(), Fault>
-    requires input { I.failures input.old < 2 ^ 64 - 1 }
-    requires output { O.failures output.old < 2 ^ 64 - 1 }
-    ensures answer { AnswersProbe (board_of board.now) text.now (input_of (I.remaining input.old) (I.failures input.old))
-        (input_of (I.remaining input.new) (I.failures input.new)) (O.contents output.old) (O.contents output.new) result }
-    ensures unread { ¬ IsAsked (board_of board.now) text.now → input.new ≡ input.old }
-    ensures counted { CountsWrites (O.failures output.old) (O.failures output.new) result }
-{
-    probe_with(alloc, board, text, input, output, &mut Unwatched)
-}
-
-/// The body of [`probe_in`], which the program runs: it tells `teller` how far it is.
 pub fn probe_with<I: Source, O: Sink, T: Teller>(
     alloc: Global,
     board: &str,

@@ -1,18 +1,14 @@
 //! The command `stats`.
-ghost use Rattle.std.specs.Prelude.{◌≡◌, ◌≢◌, ◌-◌, ◌^◌, ◌<◌, ◌≤◌, ◌++◌, None, false, true, is_some, length, IfErr, IfOk, OnErr, OnOk};
+ghost use Rattle.std.specs.Prelude.{◌≡◌, ◌≢◌, ◌-◌, ◌^◌, ◌<◌, None, true, is_some, IfErr, IfOk, OnErr, OnOk};
 ghost use Rattle.morris_index.specs.Pairs.{Counts, EndsIn, below_of};
 ghost use Rattle.morris_table.specs.Known.{IsBeyondCodes};
 ghost use Rattle.morris_table.specs.Shelves.{first_missing, table_on};
-ghost use Rattle.morris_faults.specs.Faults.{CountsWrites, Prints};
+ghost use Rattle.morris_faults.specs.Faults.{CountsWrites};
 ghost use Rattle.morris_faults.specs.BoardNames.{board_of};
-ghost use Rattle.morris_census.specs.Census.{HasTallies};
-ghost use Rattle.morris_census.specs.Deepest.{HasDeepest};
-ghost use Rattle.morris_commands.specs.Build.{HasExactAt, IsUnbuiltFor};
-ghost use Rattle.morris_commands.specs.Deepest.{deepest_lines};
-ghost use Rattle.morris_commands.specs.Stats.{AnswersOn, AnswersStats, HasTooDeep, IsRefusedAt, IsRefusedBefore, IsRefusedFor, RestsOnTooDeep, stats_text};
+ghost use Rattle.morris_commands.specs.Stats.{AnswersCounts, AnswersOn, AnswersStats, HasTooDeep, IsRefusedAt, IsRefusedBefore, IsRefusedFor, RestsOnTooDeep};
 ghost use Rattle.morris_commands.specs.StatsByClasses.{AnswersByClasses, AnswersByClassesOn};
 
-use crate::build::{build_onto, spare};
+use crate::build::build_below;
 use crate::print_stats::Counted;
 use morris_board::board::{Board, Geometry};
 use morris_board::streams::Sink;
@@ -25,11 +21,10 @@ use morris_index::pair::Pair;
 use morris_progress::size::Way;
 use morris_progress::team::Team;
 use morris_progress::teller::Teller;
+use morris_table::exact::Exact;
 use morris_table::layout::Layout;
 use morris_table::shelf::Shelf;
-use morris_table::stock::Stock;
-use morris_table::sweeping::sweep_pair;
-use morris_workers::Unwatched;
+use morris_table::sweeping::sweep_pair_watched;
 use std::alloc::Global;
 use std::sync::Wait;
 use std::thread::Threads;
@@ -37,7 +32,9 @@ use std::thread::Threads;
 /// Counts the values of all positions of the pair that the text `pair` names on the board named
 /// `board`: how many positions there are, how many of them are lost or won in each depth that some
 /// position has, in ascending order, and how many are draws. The pairs below it are swept first, in
-/// order, since the values of a pair rest on theirs.
+/// order, since the values of a pair rest on theirs. `teller` is told how far it is. Where `deepest`
+/// is true, two lines more show positions of the pair with the greatest depths: one that is won,
+/// and one that is lost; of several the one with the least index.
 ///
 /// # Errors
 /// [`Fault::Board`] where there is no such board, else [`Fault::PairText`], [`Fault::Counts`] or
@@ -45,17 +42,6 @@ use std::thread::Threads;
 /// [`Fault::Memory`] where memory is refused, or [`Fault::TooDeep`] where depths in the pair, or in
 /// one that it rests on, go past what a table can hold. Nothing is then written. Else
 /// [`Fault::Write`], with the bytes that went out, at the first write that fails.
-pub fn stats<S: Sink>(alloc: Global, board: &str, pair: &str, output: &mut S) -> Result<(), Fault>
-    requires { S.failures output.old < 2 ^ 64 - 1 }
-    ensures answer { AnswersStats (board_of board.now) pair.now false (S.contents output.old) (S.contents output.new) result }
-    ensures counted { CountsWrites (S.failures output.old) (S.failures output.new) result }
-{
-    stats_with(alloc, board, pair, false, output, &mut Unwatched)
-}
-
-/// The body of [`stats`], which the program runs: it tells `teller` how far it is. Where `deepest`
-/// is true, two lines more show positions of the pair with the greatest depths: one that is won,
-/// and one that is lost; of several the one with the least index.
 pub fn stats_with<S: Sink, T: Teller>(
     alloc: Global,
     board: &str,
@@ -88,55 +74,47 @@ fn stats_on<B: Board, S: Sink, T: Teller>(
     ensures told { T.becomes teller.old teller.new }
 {
     let pair = read_pair::<B>(text)?;
-    let census = count_values(alloc, pair, deepest, teller)?;
-    print_census(pair, &census, output)
+    let table = sweep_below(alloc, pair, teller)?;
+    print_counts(alloc, &table, deepest, output)
 }
 
-/// Prints what was counted of a pair.
-fn print_census<B: Geometry, S: Sink>(
-    pair: Pair<B>,
-    census: &Census<B>,
+/// Prints how many positions of a table's pair have each value, and the deepest ones, where they are
+/// asked for.
+fn print_counts<B: Geometry, S: Sink>(
+    alloc: Global,
+    table: &Exact<B>,
+    deepest: bool,
     output: &mut S,
 ) -> Result<(), Fault>
-    requires failures { S.failures output.old < 2 ^ 64 - 1 }
-    requires few { length census.now.tallies.items ≤ 2 ^ 16 }
-    ensures shown { Prints (S.contents output.old) (S.contents output.new)
-        (stats_text B.POINTS pair census.now.tallies.items ++ deepest_lines B.shape census.now.deepest) result }
+    requires { S.failures output.old < 2 ^ 64 - 1 }
+    ensures answer { AnswersCounts B.shape table.now.pair deepest (S.contents output.old) (S.contents output.new) result }
     ensures counted { CountsWrites (S.failures output.old) (S.failures output.new) result }
 {
-    let tallies = census.tallies.as_slice();
-    let deepest = census.deepest;
-    print(
-        &Counted {
-            pair,
-            tallies,
-            deepest,
-        },
-        output,
-    )
+    let census = Census::of(alloc, table, deepest)?;
+    let counted = Counted {
+        pair: table.pair(),
+        tallies: census.tallies.as_slice(),
+        deepest: census.deepest,
+    };
+    print(&counted, output)
 }
 
-/// How many positions of a pair have each code, and the deepest ones, where they are asked for.
-fn count_values<B: Board, T: Teller>(
+/// The table of a pair, swept after those of all pairs below it.
+fn sweep_below<B: Board, T: Teller>(
     alloc: Global,
     pair: Pair<B>,
-    deepest: bool,
     teller: &mut T,
-) -> Result<Census<B>, Fault>
+) -> Result<Exact<B>, Fault>
     // The caller's proof learns here that the board has as many points as its shape says.
     ensures points { B.shape.points ≡ B.POINTS }
-    ensures counts { IfOk result (λ census. HasTallies B.shape pair census.tallies.items) }
-    ensures few { IfOk result (λ census. length census.tallies.items ≤ 2 ^ 16) }
-    ensures deepest { IfOk result (λ census. HasDeepest B.shape pair deepest census.deepest) }
+    ensures pair { IfOk result (λ table. table.pair ≡ pair) }
     ensures within { OnOk result (¬ HasTooDeep B.shape pair) }
     ensures refused { IfErr result (IsRefusedFor B.shape pair) }
     ensures told { T.becomes teller.old teller.new }
 {
     teller.announce(pair, Layout::Full, Way::Swept);
     let shelf = sweep_before(alloc, pair, teller)?;
-    let table = sweep_pair(alloc, &shelf, pair)?;
-    teller.end_pair(&table);
-    Ok(Census::of(alloc, &table, deepest)?)
+    sweep_over(alloc, &shelf, pair, teller)
 }
 
 /// The tables of all pairs below a pair but its own, among them those that it needs.
@@ -175,15 +153,33 @@ fn sweep_onto<B: Board, T: Teller>(
     ensures refused { IfErr result (IsRefusedAt B.shape pair) }
     ensures told { T.becomes teller.old teller.new }
 {
-    let table = sweep_pair(alloc, shelf, pair)?;
-    teller.end_pair(&table);
+    let table = sweep_over(alloc, shelf, pair, teller)?;
     match shelf.put(table) {
         Ok(()) => Ok(()),
         Err(_) => unreachable!(),
     }
 }
 
-/// Prints what [`stats`] prints, counted from tables with an entry for each class of positions. So
+/// The table of a pair, over a shelf that has those that it needs.
+fn sweep_over<B: Board, T: Teller>(
+    alloc: Global,
+    shelf: &Shelf<B>,
+    pair: Pair<B>,
+    teller: &mut T,
+) -> Result<Exact<B>, Fault>
+    requires { first_missing shelf.now pair ≡ None }
+    ensures pair { IfOk result (λ table. table.pair ≡ pair) }
+    ensures within { OnOk result (¬ IsBeyondCodes B.shape pair) }
+    ensures refused { IfErr result (IsRefusedAt B.shape pair) }
+    ensures told { T.becomes teller.old teller.new }
+{
+    teller.begin_pair(pair);
+    let table = sweep_pair_watched(alloc, shelf, pair, teller)?;
+    teller.end_pair(&table);
+    Ok(table)
+}
+
+/// Prints what [`stats_with`] prints, counted from tables with an entry for each class of positions. So
 /// many workers build each of these over so many blocks; the text is the same for every number of
 /// them. `teller` is told how far it is. Where `deepest` is true, two lines more show positions of
 /// the pair with the greatest depths: one that is won, and one that is lost; of several the one with
@@ -236,56 +232,11 @@ fn by_classes_on<B: Board, R: Threads + Wait + Sync, S: Sink, T: Teller>(
 {
     let pair = read_pair::<B>(text)?;
     let team = Team::new(workers, blocks)?;
-    let census = count_by_classes(rt, alloc, pair, team, deepest, teller)?;
-    print_census(pair, &census, output)
-}
-
-/// How many positions of a pair have each code, and the deepest ones, where they are asked for, from
-/// tables by classes that a team builds.
-fn count_by_classes<B: Board, R: Threads + Wait + Sync, T: Teller>(
-    rt: &R,
-    alloc: Global,
-    pair: Pair<B>,
-    team: Team,
-    deepest: bool,
-    teller: &mut T,
-) -> Result<Census<B>, Fault>
-    // The caller's proof learns here that the board has as many points as its shape says.
-    ensures points { B.shape.points ≡ B.POINTS }
-    ensures counts { IfOk result (λ census. HasTallies B.shape pair census.tallies.items) }
-    ensures few { IfOk result (λ census. length census.tallies.items ≤ 2 ^ 16) }
-    ensures deepest { IfOk result (λ census. HasDeepest B.shape pair deepest census.deepest) }
-    ensures within { OnOk result (¬ HasTooDeep B.shape pair) }
-    ensures refused { IfErr result (IsUnbuiltFor B.shape pair team.blocks) }
-    ensures told { T.becomes teller.old teller.new }
-{
-    let stock = build_classes(rt, alloc, pair, team, teller)?;
+    // Those that the pair's rests on are let go once no pair to come needs them.
+    let all = false;
+    let stock = build_below(rt, alloc, Layout::Classes, all, pair, team, teller)?;
     let Some(table) = stock.get(pair) else {
         unreachable!()
     };
-    Ok(Census::of(alloc, table, deepest)?)
-}
-
-/// The table of a pair by classes, on a stock. Those that it rests on are let go once no pair to
-/// come needs them.
-fn build_classes<B: Board, R: Threads + Wait + Sync, T: Teller>(
-    rt: &R,
-    alloc: Global,
-    pair: Pair<B>,
-    team: Team,
-    teller: &mut T,
-) -> Result<Stock<B>, Fault>
-    ensures exact { IfOk result (λ stock. HasExactAt B.shape Layout.Classes stock pair) }
-    ensures within { OnOk result (¬ HasTooDeep B.shape pair) }
-    ensures refused { IfErr result (IsUnbuiltFor B.shape pair team.blocks) }
-    ensures told { T.becomes teller.old teller.new }
-{
-    let mut stock = Stock::new(alloc)?;
-    let all = false;
-    teller.announce(pair, Layout::Classes, Way::Built { team, all });
-    for below in pair.below() {
-        spare(&mut stock, all, below);
-        build_onto(rt, alloc, &mut stock, Layout::Classes, below, team, teller)?;
-    }
-    Ok(stock)
+    print_counts(alloc, table, deepest, output)
 }

@@ -1,30 +1,25 @@
 //! The command `verify`.
 ghost use Rattle.std.specs.Prelude.{◌≡◌, ◌-◌, ◌^◌, ◌<◌, None, IfErr, IfOk, OnOk};
-ghost use Rattle.morris_table.specs.Shelves.{first_missing};
 ghost use Rattle.morris_table.specs.Tables.{IsTable};
 ghost use Rattle.morris_faults.specs.Faults.{CountsWrites};
 ghost use Rattle.morris_faults.specs.BoardNames.{board_of};
 ghost use Rattle.morris_commands.specs.Stats.{RestsOnTooDeep};
-ghost use Rattle.morris_commands.specs.Verify.{AnswersInput, AnswersVerify, IsUnbuiltBefore, IsUnverified, input_of};
+ghost use Rattle.morris_commands.specs.Verify.{AnswersInput, AnswersVerify, IsUnverified, input_of};
 
-use crate::build::{build_onto, spare};
+use crate::build::build_before;
 use crate::print_verified::Verified;
 use morris_board::board::Board;
 use morris_board::streams::{Sink, Source};
 use morris_faults::fault::Fault;
 use morris_faults::on_board;
 use morris_faults::print::print;
-use morris_index::pair::Pair;
 use morris_progress::size::Way;
 use morris_progress::team::Team;
 use morris_progress::teller::Teller;
 use morris_table::exact::Exact;
-use morris_table::layout::Layout;
 use morris_table::raw::Raw;
 use morris_table::reading::read_table;
-use morris_table::stock::Stock;
 use morris_table::verify::VerifyFault;
-use morris_workers::Unwatched;
 use std::alloc::Global;
 use std::sync::Wait;
 use std::thread::Threads;
@@ -32,7 +27,8 @@ use std::thread::Threads;
 /// Reads the file of one table from `input`, which ends with it, for the board named `board`, and
 /// tells whether each of its codes is that of the game. The pairs below that of the file are built
 /// first, in order and in the layout of the file, since the values of a pair rest on theirs. A team
-/// builds them, and its workers share the entries of the file out among them.
+/// builds them, and its workers share the entries of the file out among them. `teller` is told how
+/// far it is.
 ///
 /// # Errors
 /// [`Fault::Board`] where there is no such board, before anything is read; else the fault of the
@@ -42,25 +38,6 @@ use std::thread::Threads;
 /// rests, go past what a table can hold; else [`Fault::Differs`] with the index of the first entry
 /// that isn't what the rules give from the entries of its results. Nothing is then written. Else
 /// [`Fault::Write`], with the bytes that went out, at the first write that fails.
-pub fn verify_in<R: Threads + Wait + Sync, I: Source, O: Sink>(
-    rt: &R,
-    alloc: Global,
-    board: &str,
-    team: Team,
-    input: &mut I,
-    output: &mut O,
-) -> Result<(), Fault>
-    requires input { I.failures input.old < 2 ^ 64 - 1 }
-    requires output { O.failures output.old < 2 ^ 64 - 1 }
-    ensures answer { AnswersVerify (board_of board.now) team.blocks (input_of (I.remaining input.old) (I.failures input.old)) (input_of (I.remaining input.new) (I.failures input.new))
-        (O.contents output.old) (O.contents output.new) result }
-    ensures unread { board_of board.now ≡ None → input.new ≡ input.old }
-    ensures counted { CountsWrites (O.failures output.old) (O.failures output.new) result }
-{
-    verify_with(rt, alloc, board, team, input, output, &mut Unwatched)
-}
-
-/// The body of [`verify_in`], which the program runs: it tells `teller` how far it is.
 pub fn verify_with<R: Threads + Wait + Sync, I: Source, O: Sink, T: Teller>(
     rt: &R,
     alloc: Global,
@@ -128,8 +105,9 @@ fn believe<B: Board, R: Threads + Wait + Sync, T: Teller>(
             entries: raw.len(),
         },
     );
-    let stock = build_before(rt, alloc, layout, pair, team, teller)?;
-    match raw.verify_by(rt, alloc, &stock, team.workers) {
+    let stock = build_before(rt, alloc, layout, false, pair, team, teller)?;
+    teller.begin_pair(pair);
+    match raw.verify_watched(rt, alloc, &stock, team.workers, teller) {
         Ok(exact) => {
             teller.end_pair(&exact);
             Ok(exact)
@@ -137,29 +115,4 @@ fn believe<B: Board, R: Threads + Wait + Sync, T: Teller>(
         Err((_, VerifyFault::Differs(index))) => Err(Fault::Differs(index)),
         Err((_, VerifyFault::Needs(_))) => unreachable!(),
     }
-}
-
-/// The tables that a pair needs, in a layout: those of all pairs below it but its own are built in
-/// order, and let go once no pair to come needs them.
-fn build_before<B: Board, R: Threads + Wait + Sync, T: Teller>(
-    rt: &R,
-    alloc: Global,
-    layout: Layout,
-    pair: Pair<B>,
-    team: Team,
-    teller: &mut T,
-) -> Result<Stock<B>, Fault>
-    ensures ready { IfOk result (λ stock. first_missing stock pair ≡ None) }
-    ensures within { OnOk result (¬ RestsOnTooDeep B.shape pair) }
-    ensures refused { IfErr result (IsUnbuiltBefore B.shape pair team.blocks) }
-    ensures told { T.becomes teller.old teller.new }
-{
-    let mut stock = Stock::new(alloc)?;
-    for below in pair.below() {
-        spare(&mut stock, false, below);
-        if below != pair {
-            build_onto(rt, alloc, &mut stock, layout, below, team, teller)?;
-        }
-    }
-    Ok(stock)
 }

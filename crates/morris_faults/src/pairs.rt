@@ -1,10 +1,15 @@
-//! The pairs that the words of the command line name.
-ghost use Rattle.std.specs.Prelude.{◌≡◌};
+//! Pairs as texts: those that the words of the command line name, and how one is printed.
+ghost use Rattle.std.specs.Prelude.{◌≡◌, ◌+◌, ◌-◌, ◌^◌, ◌<◌, ◌≤◌, OnOk};
+ghost use Rattle.morris_board.specs.Buffered.{Passes, sink_of, taken_of};
+ghost use Rattle.morris_faults.specs.Faults.{stones_text};
 ghost use Rattle.morris_faults.specs.PairText.{read_pair_of};
 
 use crate::fault::Fault;
 use morris_board::board::Geometry;
+use morris_board::streams::buffered::Buffered;
+use morris_board::streams::{Failed, Sink};
 use morris_index::pair::Pair;
+use morris_probe::print::put_signed;
 
 /// The pair that a text names: a digit, a hyphen and a digit, as `4-3`, in either order.
 ///
@@ -20,4 +25,19 @@ pub fn read_pair<B: Geometry>(text: &str) -> Result<Pair<B>, Fault>
         }
         _ => Err(Fault::PairText),
     }
+}
+
+/// Puts numbers of stones, with a hyphen between them, into a buffer.
+///
+/// # Errors
+/// [`Failed`] at the first write that fails.
+#[tactic(auto, using(morris_board::proofs::BufferedLaws::passed_laws))]
+pub fn put_stones<S: Sink>(out: &mut Buffered<'_, S>, greater: u8, lesser: u8) -> Result<(), Failed>
+    requires failures { S.failures (sink_of out.old) < 2 ^ 64 - 1 }
+    requires room { taken_of out.old < 2 ^ 63 }
+    ensures passed { Passes S.contents S.failures out.old out.new (stones_text greater lesser) result }
+    ensures few { OnOk result (taken_of out.new ≤ taken_of out.old + 41) }
+{
+    out.put_number(u64::from(greater))?;
+    put_signed(out, b'-', lesser)
 }

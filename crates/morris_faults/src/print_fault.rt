@@ -1,14 +1,15 @@
 //! What is printed of a fault.
 ghost use Rattle.std.specs.Prelude.{◌≡◌, ◌+◌, ◌-◌, ◌^◌, ◌<◌, ◌≤◌, OnOk};
 ghost use Rattle.morris_board.specs.Buffered.{Passes, sink_of, taken_of};
-ghost use Rattle.morris_faults.specs.Faults.{length_around, length_worded, said, stones_text, worded};
+ghost use Rattle.morris_faults.specs.Faults.{length_around, length_worded, said, worded};
 
 use crate::fault::Fault;
+use crate::pairs::put_stones;
 use crate::print::Printed;
 use crate::wording::{Wording, Words};
 use morris_board::streams::buffered::Buffered;
 use morris_board::streams::{Failed, Sink};
-use morris_probe::print::{put_count, put_signed};
+use morris_probe::print::put_count;
 
 /// The line of the fault.
 #[tactic(auto, using(morris_board::proofs::BufferedLaws::passed_laws), unfolding(crate::specs::Faults::fault_line))]
@@ -66,16 +67,4 @@ fn put_words<S: Sink>(out: &mut Buffered<'_, S>, words: Words) -> Result<(), Fai
             out.put(after.as_bytes())
         }
     }
-}
-
-/// Numbers of stones, with a hyphen between them.
-#[tactic(auto, using(morris_board::proofs::BufferedLaws::passed_laws))]
-fn put_stones<S: Sink>(out: &mut Buffered<'_, S>, greater: u8, lesser: u8) -> Result<(), Failed>
-    requires failures { S.failures (sink_of out.old) < 2 ^ 64 - 1 }
-    requires room { taken_of out.old < 2 ^ 63 }
-    ensures passed { Passes S.contents S.failures out.old out.new (stones_text greater lesser) result }
-    ensures few { OnOk result (taken_of out.new ≤ taken_of out.old + 41) }
-{
-    out.put_number(u64::from(greater))?;
-    put_signed(out, b'-', lesser)
 }

@@ -1,8 +1,9 @@
 -- What is told of how far a command is.
-use Rattle.std.specs.Prelude.{◌≡◌, ⊤, ℕ, ◌+◌, ◌-◌, ◌^◌, ◌<◌, ◌≤◌, max, Bool, true, false, List, [], ◌∷◌, ◌++◌, codes, Option, Result, is_ok}
+use Rattle.std.specs.Prelude.{◌≡◌, ◌⊎◌, ⊤, ℕ, ◌+◌, ◌-◌, ◌^◌, ◌<◌, ◌≤◌, max, Bool, true, false, List, [], ◌∷◌, ◌++◌, codes, Option, Result, is_ok}
 use Rattle.std.specs.Borrow.{GName}
 use Rattle.std.specs.Fmt.{decimal}
 use Rattle.morris_board.specs.Streams.{CountsFailure}
+use Rattle.morris_index.specs.Pairs.{Counts, counts}
 use Rattle.morris_probe.specs.Reports.{WentOut}
 use Rattle.morris_progress.specs.declared.progress.News.{News}
 use Rattle.morris_progress.specs.declared.progress.News.TheVariants as news
@@ -28,10 +29,12 @@ so_far_text s = labelled (codes ", ") s.done ++ labelled (codes " of ") s.whole 
 abbrev pub whole_line : ℕ → ℕ → List ℕ
 whole_line entries megabytes = labelled (codes "progress: ") entries ++ labelled (codes " entries, about ") megabytes ++ codes " MB of memory\n"
 
--- what is told: how much there is to do; the wave of a pair that begins; the pair that is done
+-- what is told: how much there is to do; the wave of a pair that begins; how many entries are done
+-- in the midst of a pair; the pair that is done
 abbrev pub news_line : News → List ℕ
 news_line (news.Whole entries megabytes) = whole_line entries megabytes
 news_line (news.Wave greater lesser wave so_far) = stones_text greater lesser ++ labelled (codes " wave ") wave ++ so_far_text so_far
+news_line (news.Part greater lesser so_far) = stones_text greater lesser ++ so_far_text so_far
 news_line (news.Done greater lesser so_far) = stones_text greater lesser ++ codes " done" ++ so_far_text so_far
 
 -- ---- what was told
@@ -55,6 +58,7 @@ abbrev pub IsWholeFirst : List News → Type 0
 IsWholeFirst [] = ⊤
 IsWholeFirst (news.Whole entries megabytes ∷ rest) = ⊤
 IsWholeFirst (news.Wave greater lesser wave so_far ∷ rest) = ⊥
+IsWholeFirst (news.Part greater lesser so_far ∷ rest) = ⊥
 IsWholeFirst (news.Done greater lesser so_far ∷ rest) = ⊥
 
 -- such lines were told
@@ -75,7 +79,8 @@ sink_of p = p.errors.now
 abbrev pub tells_of : {R E : Type 0} → Progress R E → Bool
 tells_of p = p.tells
 
--- whether it is known how much there is to do; how many entries that is, and how many are done
+-- whether it is known how much there is to do; how many entries that is, and how many are those of
+-- the pairs that are done
 abbrev pub has_begun_of : {R E : Type 0} → Progress R E → Bool
 has_begun_of p = p.has_begun
 
@@ -85,12 +90,20 @@ whole_of p = p.whole
 abbrev pub done_of : {R E : Type 0} → Progress R E → ℕ
 done_of p = p.done
 
+-- the numbers of stones of the pair at work, and how many of its entries are done
+abbrev pub at_work_of : {R E : Type 0} → Progress R E → Counts
+at_work_of p = counts p.greater p.lesser
+
+abbrev pub part_of : {R E : Type 0} → Progress R E → ℕ
+part_of p = p.part
+
 -- The lines of who begins to tell: first how much there is to do, of as many entries as there are;
 -- none before that is known, or where nothing is told any more.
 abbrev pub BeginsWithWhole : Bool → Bool → ℕ → List News → Type 0
 BeginsWithWhole has_begun tells whole [] = has_begun ≡ true → tells ≡ false
 BeginsWithWhole has_begun tells whole (news.Whole entries megabytes ∷ rest) = (has_begun ≡ true) × (entries ≡ whole)
 BeginsWithWhole has_begun tells whole (news.Wave greater lesser wave so_far ∷ rest) = ⊥
+BeginsWithWhole has_begun tells whole (news.Part greater lesser so_far ∷ rest) = ⊥
 BeginsWithWhole has_begun tells whole (news.Done greater lesser so_far ∷ rest) = ⊥
 
 -- So are the lines that make the one who tells what they are then, where it wasn't known before how
@@ -127,6 +140,7 @@ pub record Speaks {R E : Type 0} (contents : E → Option (List ℕ)) (failures 
   pub begun : has_begun_of new ≡ has_begun_of old
   pub whole : whole_of new ≡ whole_of old
   pub done : done_of new ≡ done_of old
+  pub part : part_of new ≡ part_of old
   pub silent : tells_of old ≡ false → (tells_of new ≡ false) × (sink_of new ≡ sink_of old)
   pub early : has_begun_of old ≡ false → (tells_of new ≡ tells_of old) × (sink_of new ≡ sink_of old)
   pub cramped : tells_of old ≡ true → has_begun_of old ≡ true → 2 ^ 64 - 3 ≤ failures (sink_of old)
@@ -138,6 +152,10 @@ pub record Speaks {R E : Type 0} (contents : E → Option (List ℕ)) (failures 
 abbrev pub TellsLine : {R E : Type 0} → (E → Option (List ℕ)) → (E → ℕ) → Progress R E → Progress R E → News → Type 0
 TellsLine contents failures old new n =
     tells_of old ≡ true → failures (sink_of old) < 2 ^ 64 - 3 → ReportsText contents failures (sink_of old) (sink_of new) (news_line n)
+
+-- that line, or none
+abbrev pub MayTell : {R E : Type 0} → (E → Option (List ℕ)) → (E → ℕ) → Progress R E → Progress R E → News → Type 0
+MayTell contents failures old new n = (sink_of new ≡ sink_of old) ⊎ TellsLine contents failures old new n
 
 -- how far it is where n more entries are done, as far as 64 bits hold the number
 abbrev pub CountsMore : {R E : Type 0} → Progress R E → ℕ → SoFar → Type 0

@@ -6,7 +6,7 @@ use Rattle.morris_progress.specs.declared.progress.News.TheVariants as news
 use Rattle.morris_progress.specs.declared.progress.Progress.{Progress}
 use Rattle.morris_board.specs.Streams.{CountsFailure}
 use Rattle.morris_probe.specs.Reports.{WentOut}
-use Rattle.morris_progress.specs.Progress.{Becomes, BeginsWithWhole, IsWholeFirst, SaysLine, Speaks, Tells, TellsInOrder, TellsLine, TellsWholeFirst, Told, has_begun_of, lent_of, news_line, sink_of, tells_of, whole_of}
+use Rattle.morris_progress.specs.Progress.{Becomes, BeginsWithWhole, IsWholeFirst, MayTell, SaysLine, Speaks, Tells, TellsInOrder, TellsLine, TellsWholeFirst, Told, has_begun_of, lent_of, news_line, sink_of, tells_of, whole_of}
 
 module _ {E : Type 0} (contents : E → Option (List ℕ)) (failures : E → ℕ) where
   pub Told-append : (a b c : E) (first second : List News) → Told contents failures a b first → Told contents failures b c second
@@ -39,6 +39,7 @@ whole_first : (b t : Bool) (whole : ℕ) (lines : List News) → BeginsWithWhole
 whole_first b t whole [] h = tt
 whole_first b t whole (news.Whole entries megabytes ∷ rest) h = tt
 whole_first b t whole (news.Wave greater lesser wave so_far ∷ rest) h = absurd h
+whole_first b t whole (news.Part greater lesser so_far ∷ rest) h = absurd h
 whole_first b t whole (news.Done greater lesser so_far ∷ rest) h = absurd h
 
 then_more : (a b t u : Bool) (whole more : ℕ) (lines rest : List News) → BeginsWithWhole a t whole lines → t ≡ true → a ≡ true
@@ -48,6 +49,7 @@ then_more a b t u whole more [] rest h tells begun still kept =
     cc
 then_more a b t u whole more (news.Whole entries megabytes ∷ lines) rest h tells begun still kept = (still, h.1 ∙ sym kept)
 then_more a b t u whole more (news.Wave greater lesser wave so_far ∷ lines) rest h tells begun still kept = absurd h
+then_more a b t u whole more (news.Part greater lesser so_far ∷ lines) rest h tells begun still kept = absurd h
 then_more a b t u whole more (news.Done greater lesser so_far ∷ lines) rest h tells begun still kept = absurd h
 
 none_before : (a b t u : Bool) (whole more : ℕ) (lines rest : List News) → BeginsWithWhole a t whole lines → a ≡ false
@@ -57,6 +59,7 @@ none_before a b t u whole more (news.Whole entries megabytes ∷ lines) rest h n
     let bad : true ≡ false = sym h.0 ∙ none in
     cc
 none_before a b t u whole more (news.Wave greater lesser wave so_far ∷ lines) rest h none begins = absurd h
+none_before a b t u whole more (news.Part greater lesser so_far ∷ lines) rest h none begins = absurd h
 none_before a b t u whole more (news.Done greater lesser so_far ∷ lines) rest h none begins = absurd h
 
 no_more : (a b t u : Bool) (whole more : ℕ) (lines : List News) → BeginsWithWhole a t whole lines → u ≡ false
@@ -64,6 +67,7 @@ no_more : (a b t u : Bool) (whole more : ℕ) (lines : List News) → BeginsWith
 no_more a b t u whole more [] h none kept = λ begun. none
 no_more a b t u whole more (news.Whole entries megabytes ∷ lines) h none kept = ((kept h.0).0, h.1 ∙ sym (kept h.0).1)
 no_more a b t u whole more (news.Wave greater lesser wave so_far ∷ lines) h none kept = absurd h
+no_more a b t u whole more (news.Part greater lesser so_far ∷ lines) h none kept = absurd h
 no_more a b t u whole more (news.Done greater lesser so_far ∷ lines) h none kept = absurd h
 
 module _ {R E : Type 0} (p q : Progress R E) (lines : List News) where
@@ -193,6 +197,15 @@ module _ {R E : Type 0} (contents : E → Option (List ℕ)) (failures : E → �
   TellsLine-speaks p r q n sink tells begun speaks = λ e room.
       let said = same_said p r q n sink (speaks.said (tells ∙ e) begun (omega (arith, room, ap failures sink))) in
       (said.0, said.1, said.2)
+
+  -- that line, or none where it isn't known yet how much there is to do
+  pub MayTell-speaks : (p r q : Progress R E) (n : News) → sink_of r ≡ sink_of p → tells_of r ≡ tells_of p → Speaks contents failures r q n
+      → MayTell contents failures p q n
+  MayTell-speaks p r q n sink tells speaks = go (has_begun_of r) refl
+    where
+      go : (b : Bool) → has_begun_of r ≡ b → MayTell contents failures p q n
+      go true e = inr (TellsLine-speaks p r q n sink tells e speaks)
+      go false e = inl ((speaks.early e).1 ∙ sink)
 
   pub Becomes-in_order : (p q : Progress R E) → has_begun_of p ≡ false → Becomes contents failures p q → TellsInOrder contents failures (sink_of p) (sink_of q)
   Becomes-in_order p q new h = (h.told, whole_first (has_begun_of q) (tells_of q) (whole_of q) h.told.lines (begins_of p q h.told.lines h.first new))

@@ -80,6 +80,14 @@ impl Printed for News {
                 put_labelled(out, " wave ", u64::from(wave))?;
                 put_so_far(out, so_far)
             }
+            News::Part {
+                greater,
+                lesser,
+                so_far,
+            } => {
+                put_stones(out, greater, lesser)?;
+                put_so_far(out, so_far)
+            }
             News::Done {
                 greater,
                 lesser,

@@ -1,6 +1,6 @@
 //! How far a command is, told line by line.
 ghost use Rattle.std.specs.Prelude.{◌≡◌, ℕ, ◌-◌, ◌^◌, ◌<◌, true, false, length, max};
-ghost use Rattle.morris_progress.specs.Progress.{Becomes, CountsMore, Speaks, TellsLine, done_of, has_begun_of, lent_of, sink_of, tells_of, whole_of};
+ghost use Rattle.morris_progress.specs.Progress.{Becomes, CountsMore, MayTell, Speaks, TellsLine, at_work_of, has_begun_of, lent_of, part_of, sink_of, tells_of};
 ghost use Rattle.morris_progress.specs.Sizes.{entries_below};
 
 use crate::size::{Size, Way};
@@ -30,6 +30,12 @@ pub enum News {
         wave: u16,
         so_far: SoFar,
     },
+    /// So many entries are done, in the midst of the pair of these numbers of stones.
+    Part {
+        greater: u8,
+        lesser: u8,
+        so_far: SoFar,
+    },
     /// The pair of these numbers of stones is done.
     Done {
         greater: u8,
@@ -41,7 +47,7 @@ pub enum News {
 /// How far it is.
 #[derive(Clone, Copy, Debug, PartialEq, Eq)]
 pub struct SoFar {
-    /// How many entries are done: those of the pairs that are.
+    /// How many entries are done: those of the pairs that are, and those of the pair at work.
     pub done: u64,
     /// How many there are in all.
     pub whole: u64,
@@ -51,8 +57,8 @@ pub struct SoFar {
 
 /// Tells on a sink how far a command is, a line at a time, or nothing where nobody asked.
 ///
-/// A line of a wave comes at most once a second; one of a pair that is done always. After a line
-/// that couldn't be written nothing more is told, and nothing else changes.
+/// A line of a wave or of entries comes at most once a second; one of a pair that is done always.
+/// After a line that couldn't be written nothing more is told, and nothing else changes.
 #[derive(Drop)]
 pub struct Progress<'a, R, E> {
     clock: &'a R,
@@ -60,13 +66,15 @@ pub struct Progress<'a, R, E> {
     tells: bool,
     // Nothing where the clock can't be read: then all is told at second 0.
     began: Option<Instant>,
-    // When the last line of a wave or of a pair was told.
+    // When the last line of a pair was told: of a wave, of its entries or of its end.
     last_second: u64,
     has_begun: bool,
     // The pair that is at work.
     greater: u8,
     lesser: u8,
-    // How many entries are done, and how many there are.
+    // How many of its entries are done; how many those of the pairs that are done have, and how many
+    // entries there are.
+    part: u64,
     done: u64,
     whole: u64,
 }
@@ -88,18 +96,19 @@ impl<'a, R: Clock, E: Sink> Progress<'a, R, E> {
             has_begun: false,
             greater: 0,
             lesser: 0,
+            part: 0,
             done: 0,
             whole: 0,
         }
     }
 
     fn so_far(&self) -> SoFar
-        ensures done { result.done ≡ done_of self.now }
-        ensures whole { result.whole ≡ max (whole_of self.now) (done_of self.now) }
+        ensures { CountsMore self.now (part_of self.now) result }
     {
+        let done = self.done.saturating_add(self.part);
         SoFar {
-            done: self.done,
-            whole: self.whole.max(self.done),
+            done,
+            whole: self.whole.max(done),
             seconds: self.seconds(),
         }
     }
@@ -128,6 +137,19 @@ impl<'a, R: Clock, E: Sink> Progress<'a, R, E> {
             return;
         }
         self.tells = send(&news, self.errors).is_ok();
+    }
+
+    /// Tells one of the news of this second, where none was told in it.
+    fn tell_in_time(&mut self, news: News, second: u64)
+        ensures told { Becomes E.contents E.failures self.old self.new }
+        ensures part { part_of self.new ≡ part_of self.old }
+        ensures line { MayTell E.contents E.failures self.old self.new news }
+    {
+        if second <= self.last_second {
+            return;
+        }
+        self.last_second = second;
+        self.tell(news);
     }
 }
 
@@ -172,12 +194,15 @@ impl<'a, R: Clock, E: Sink> Teller for Progress<'a, R, E> {
         }
     }
 
-    /// A pair begins.
+    /// A pair begins, of which no entry is done.
     fn begin_pair<B: Geometry>(&mut self, pair: Pair<B>)
         ensures told { Becomes E.contents E.failures self.old self.new }
+        ensures pair { at_work_of self.new ≡ pair }
+        ensures part { part_of self.new ≡ 0 }
     {
         self.greater = pair.greater();
         self.lesser = pair.lesser();
+        self.part = 0;
     }
 
     /// Tells that the pair of an exact table is done, with all entries of the table.
@@ -187,6 +212,7 @@ impl<'a, R: Clock, E: Sink> Teller for Progress<'a, R, E> {
             × TellsLine E.contents E.failures self.old self.new (News.Done table.now.pair.greater table.now.pair.lesser so_far) }
     {
         let pair = table.pair();
+        self.part = 0;
         self.done = self.done.saturating_add(table.len());
         let so_far = self.so_far();
         self.last_second = so_far.seconds;
@@ -198,26 +224,40 @@ impl<'a, R: Clock, E: Sink> Teller for Progress<'a, R, E> {
     }
 }
 
-/// Waves are told at most once a second.
+/// Waves and entries are told at most once a second.
 impl<'a, R: Clock, E: Sink> Watch for Progress<'a, R, E> {
-    ghost use Rattle.morris_progress.specs.Progress.{Becomes};
+    ghost use Rattle.std.specs.Prelude.{◌≡◌, max};
+    ghost use Rattle.morris_progress.specs.Progress.{Becomes, CountsMore, MayTell, at_work_of, part_of};
     ghost use Rattle.morris_progress.specs.ProgressLaws.{Becomes-joins, Becomes-stays};
 
     ghost becomes = { λ old new. Becomes E.contents E.failures old new };
 
-    #[tactic(auto, using(crate::specs::ProgressLaws::told_laws))]
     fn wave(&mut self, wave: u16) {
         let so_far = self.so_far();
-        if so_far.seconds <= self.last_second {
-            return;
-        }
-        self.last_second = so_far.seconds;
-        self.tell(News::Wave {
+        let news = News::Wave {
             greater: self.greater,
             lesser: self.lesser,
             wave,
             so_far,
-        });
+        };
+        self.tell_in_time(news, so_far.seconds);
+    }
+
+    /// So many entries of the pair at work are done. Where more were told of before, they still are.
+    fn entries(&mut self, done: u64)
+        ensures told { Becomes E.contents E.failures self.old self.new }
+        ensures part { part_of self.new ≡ max (part_of self.old) done }
+        ensures line { (so_far : SoFar) × CountsMore self.old (max (part_of self.old) done) so_far
+            × MayTell E.contents E.failures self.old self.new (News.Part (at_work_of self.old).greater (at_work_of self.old).lesser so_far) }
+    {
+        self.part = self.part.max(done);
+        let so_far = self.so_far();
+        let news = News::Part {
+            greater: self.greater,
+            lesser: self.lesser,
+            so_far,
+        };
+        self.tell_in_time(news, so_far.seconds);
     }
 
     ghost stays = { λ told. Becomes-stays E.contents E.failures told };

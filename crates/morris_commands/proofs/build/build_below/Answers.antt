@@ -1,64 +1,66 @@
-use Rattle.std.proofs.Common.{rules, arith, ◌≡◌, ◌∷◌, [], ◌++◌, sym, ap, subst, ◌∙◌, append_assoc}
+-- The pair is built after those below it.
+use Rattle.std.proofs.Common.{◌≡◌, ℕ, ◌∙◌, true, sym, subst, inl, inr}
 use Rattle.std.specs.List.{Contains}
-use Rattle.std.proofs.lemmas.List.{append-nil}
-use Rattle.morris_index.specs.Pairs.{below_of}
-use Rattle.morris_commands.specs.Build.{HasExact}
-use Rattle.morris_commands.proofs.BuildLaws.{one_exact_more, still_exact, written_exact}
-use Rattle.morris_commands.proofs.NearLaws.{HasNear, near-last, near-more, near-ready}
-use Rattle.morris_commands.proofs.ShelfLaws.{one_within_more}
+use Rattle.std.proofs.lemmas.List.Elements.{Contains-push}
+use Rattle.std.proofs.lemmas.Result.{err_from_is_err_and}
+use Rattle.morris_board.specs.Boards.{Shape}
+use Rattle.morris_index.specs.Pairs.{Counts, EndsIn, below_of}
+use Rattle.morris_table.specs.Known.{IsBeyondCodes}
+use Rattle.morris_table.proofs.ShelfLaws.{cases_pair}
+use Rattle.morris_faults.specs.declared.fault.Fault.{Fault}
+use Rattle.morris_faults.specs.declared.fault.Fault.TheVariants as fault
+use Rattle.morris_commands.specs.Build.{HasExact, HasExactAt, IsUnbuiltAt, IsUnbuiltFor}
+use Rattle.morris_commands.specs.Verify.{IsUnbuiltBefore}
+use Rattle.morris_commands.proofs.BuildLaws.{written_exact}
 use Rattle.morris_commands.proofs.build.build_below.Goals as goal
 
-pub build_onto-requires-clause-ready : goal.build_onto-requires-clause-ready
-build_onto-requires-clause-ready g c = λ κs within.
-    near-ready g.B.Geometry.shape c.args.layout c.args.pair c.loop-below.yielded c.next.new.self c.in-Some.below c.below-below-items.ensures.needs_first
-    (ap (λ rest. c.loop-below.yielded ++ rest) (sym c.in-Some.ensures.steps) ∙ c.loop-below.invariant.split)
-    c.loop-below.stock c.spare.new.stock c.loop-below.invariant.near c.spare.ensures.near
+itself : (pair : Counts) → EndsIn (below_of pair) pair → Contains (below_of pair) pair
+itself pair last = subst (λ cs. Contains cs pair) (sym last.1) (Contains-push last.0 pair)
 
-pub loop-below-preserved : goal.loop-below-preserved
-loop-below-preserved g c =
-    let split : c.loop-below.yielded ++ (c.in-Some.below ∷ c.next.new.self) ≡ below_of c.args.pair =
-    ap (λ rest. c.loop-below.yielded ++ rest) (sym c.in-Some.ensures.steps) ∙ c.loop-below.invariant.split in
-    record {
-      split = append_assoc c.loop-below.yielded (c.in-Some.below ∷ []) c.next.new.self ∙ split;
-      near =
-          near-more g.B.Geometry.shape c.args.layout c.args.pair c.loop-below.yielded c.next.new.self c.in-Some.below c.below-below-items.ensures.needs_first split
-          c.loop-below.stock c.spare.new.stock c.build_onto.new.stock c.loop-below.invariant.near c.spare.ensures.near
-          c.in_ok-build_onto.ensures.exact c.in_ok-build_onto.ensures.others;
-      every = λ all.
-          one_exact_more g.B.Geometry.shape c.args.layout c.spare.new.stock c.build_onto.new.stock c.loop-below.yielded c.in-Some.below
-          (still_exact g.B.Geometry.shape c.args.layout c.loop-below.stock c.spare.new.stock c.loop-below.yielded (c.loop-below.invariant.every all) (c.spare.ensures.all all))
-          c.in_ok-build_onto.ensures.exact c.in_ok-build_onto.ensures.others;
-      within =
-          one_within_more g.B.Geometry.shape c.loop-below.yielded c.in-Some.below c.loop-below.invariant.within c.in_ok-build_onto.ensures.within;
-      told =
-          g.met.T.Watch.joins c.announce.new.self c.loop-below.teller c.build_onto.new.teller c.loop-below.invariant.told
-          c.build_onto.ensures.told;
-    }
-
+-- all tables are there where all are kept, and the pair's own is
 pub returns-clause-exact : goal.returns-clause-exact
 returns-clause-exact g c =
-    let all : c.loop-below.yielded ≡ below_of c.args.pair =
-    sym (append-nil c.loop-below.yielded) ∙ (ap (λ rest. c.loop-below.yielded ++ rest) (sym c.in-None.ensures.steps.0) ∙ c.loop-below.invariant.split) in
-    let last = c.below-below-items.ensures.last in
-    written_exact g.B.Geometry.shape c.args.layout c.loop-below.stock c.args.pair c.args.all
-    (λ every. subst (HasExact g.B.Geometry.shape c.args.layout c.loop-below.stock) all (c.loop-below.invariant.every every))
-    (near-last g.B.Geometry.shape c.args.layout c.loop-below.stock c.args.pair last.0 last.1
-    (subst (HasNear g.B.Geometry.shape c.args.layout c.loop-below.stock) all c.loop-below.invariant.near))
+    let board = g.B.Geometry.shape in
+    let new = c.build_onto.new.stock in
+    let here = c.in_ok-build_onto.ensures.exact in
+    let every : c.args.all ≡ true → HasExact board c.args.layout new (below_of c.args.pair) =
+    λ all d m. elim (cases_pair d c.args.pair) [
+      | inl same ↦ subst (HasExactAt board c.args.layout new) (sym same) here
+      | inr apart ↦
+          let at = c.in_ok-stock.ensures.every all d m apart in
+          (at.0, c.in_ok-build_onto.ensures.others d apart ∙ at.1, at.2, at.3, at.4)
+    ] in
+    written_exact board c.args.layout new c.args.pair c.args.all every here
 
+-- codes suffice for those below the pair, and for the pair itself
 pub returns-clause-within : goal.returns-clause-within
 returns-clause-within g c = λ deep.
-    let all : c.loop-below.yielded ≡ below_of c.args.pair =
-    sym (append-nil c.loop-below.yielded) ∙ (ap (λ rest. c.loop-below.yielded ++ rest) (sym c.in-None.ensures.steps.0) ∙ c.loop-below.invariant.split) in
-    c.loop-below.invariant.within deep.0 (subst (λ cs. Contains cs deep.0) (sym all) deep.1) deep.2
+    elim (cases_pair deep.0 c.args.pair) [
+      | inl same ↦ c.in_ok-build_onto.ensures.within (subst (λ (d : Counts). IsBeyondCodes g.B.Geometry.shape d) same deep.2)
+      | inr other ↦ c.in_ok-stock.ensures.within (deep.0, deep.1, other, deep.2)
+    ]
 
-pub returns-clause-told : goal.returns-clause-told
-returns-clause-told g c = g.met.T.Watch.joins _ _ _ c.announce.ensures.told c.loop-below.invariant.told
+-- why those below it aren't built, or the pair itself where those that it needs are there
+before : (board : Shape) (pair : Counts) (blocks : ℕ) (e : Fault) → IsUnbuiltBefore board pair blocks e → IsUnbuiltFor board pair blocks e
+before board pair blocks fault.Memory h = tt
+before board pair blocks (fault.Missing number) h = h.1
+before board pair blocks fault.TooDeep h = (h.0, h.1, h.3)
+before board pair blocks _ h = absurd h
 
-pub loop-below-init : goal.loop-below-init
-loop-below-init g c = record {
-  split = search rules;
-  near = λ other m near. absurd (omega (arith, m.1));
-  every = λ all other m. absurd (omega (arith, m.1));
-  within = λ other m. absurd (omega (arith, m.1));
-  told = g.met.T.Watch.stays c.announce.new.self;
-}
+at_last : (board : Shape) (pair : Counts) (blocks : ℕ) → Contains (below_of pair) pair → (e : Fault) → IsUnbuiltAt board pair blocks e
+    → IsUnbuiltFor board pair blocks e
+at_last board pair blocks last fault.Memory h = tt
+at_last board pair blocks last (fault.Missing number) h = h
+at_last board pair blocks last fault.TooDeep h = (pair, last, h)
+at_last board pair blocks last _ h = absurd h
+
+pub returns-in_err-stock-clause-refused : goal.returns-in_err-stock-clause-refused
+returns-in_err-stock-clause-refused g c =
+    let failed = err_from_is_err_and c.from_residual.result c.from_residual.ensures.1 in
+    rw (failed.1, failed.2) (before g.B.Geometry.shape c.args.pair c.args.team.blocks _ c.in_err-stock.ensures.refused)
+
+pub returns-in_err-build_onto-clause-refused : goal.returns-in_err-build_onto-clause-refused
+returns-in_err-build_onto-clause-refused g c =
+    let failed = err_from_is_err_and c.from_residual-in_err-build_onto.result c.from_residual-in_err-build_onto.ensures.1 in
+    rw (failed.1, failed.2)
+    (at_last g.B.Geometry.shape c.args.pair c.args.team.blocks (itself c.args.pair c.in_ok-stock.ensures.last) _ c.in_err-build_onto.ensures.refused)

@@ -1,8 +1,7 @@
 -- A pair is built where the words name it and there may be such a team.
-use Rattle.std.proofs.Common.{◌≡◌, Ok, Err, None, ap, sym, subst, ◌∙◌, inl, inr}
+use Rattle.std.proofs.Common.{◌≡◌, Ok, Err, ap, sym, subst, ◌∙◌, inl, inr}
 use Rattle.std.proofs.KnownBytes.{Keeps-refl}
 use Rattle.std.proofs.lemmas.Result.{err_from_is_err_and}
-use Rattle.morris_workers.specs.Ranges.{range_fault}
 use Rattle.morris_commands.specs.Build.{AnswersBuilt, AnswersRead, AnswersTeam}
 use Rattle.morris_faults.specs.PairText.{read_pair_of}
 use Rattle.morris_commands.proofs.build.build_on.Goals as goal

@@ -1,4 +1,3 @@
-use Rattle.std.proofs.Common.{arith}
 use Rattle.morris_commands.proofs.NearLaws.{let_go-gone, let_go-spares}
 use Rattle.morris_commands.proofs.build.spare.Goals as goal
 

@@ -1,45 +1,37 @@
--- What is printed of the tallies of the pair that the text names.
-use Rattle.std.proofs.Common.{◌≡◌, ◌++◌, Ok, Err, sym, ap, subst, ◌∙◌, inl, inr}
+-- What is printed of the pair that the text names.
+use Rattle.std.proofs.Common.{◌≡◌, Ok, Err, sym, ap, subst, ◌∙◌, inl, inr}
 use Rattle.std.proofs.KnownBytes.{Keeps-refl}
 use Rattle.std.proofs.lemmas.Result.{err_from_is_err_and}
-use Rattle.morris_faults.specs.Faults.{Prints}
 use Rattle.morris_faults.specs.PairText.{read_pair_of}
-use Rattle.morris_commands.specs.Deepest.{deepest_lines}
-use Rattle.morris_commands.specs.Stats.{AnswersRead, stats_text}
-use Rattle.morris_commands.proofs.DeepestLaws.{shown}
+use Rattle.morris_faults.specs.declared.fault.Fault.TheVariants as fault
+use Rattle.morris_commands.specs.Stats.{AnswersCounts, AnswersPair, AnswersRead}
 use Rattle.morris_commands.proofs.stats.stats_on.Goals as goal
 
 pub returns-clause-answer : goal.returns-clause-answer
 returns-clause-answer g c =
     let board = g.B.Geometry.shape in
-    let points : board.points ≡ g.B.Geometry.POINTS = c.in_ok-census.ensures.points in
     let pair = c.in_ok-pair.pair in
-    let tallies = c.in_ok-census.census.tallies.items in
-    let lines = deepest_lines board c.in_ok-census.census.deepest in
     let old = g.S.Sink.contents c.args.output.now in
-    let new = g.S.Sink.contents c.print_census.new.output in
-    let r = c.print_census.result in
+    let new = g.S.Sink.contents c.print_counts.new.output in
+    let r = c.print_counts.result in
     let read : read_pair_of board.points c.args.text.now ≡ Ok pair =
-    ap (λ n. read_pair_of n c.args.text.now) points ∙ sym c.in_ok-pair.ensures in
-    subst (λ found. AnswersRead board c.args.deepest old new r found) (sym read)
-    (inr (
-      c.in_ok-census.ensures.within,
-      (
-        tallies,
-        lines,
-        c.in_ok-census.ensures.counts,
-        shown board pair c.args.deepest c.in_ok-census.census.deepest c.in_ok-census.ensures.deepest,
-        subst (λ n. Prints old new (stats_text n pair tallies ++ lines) r) (sym points) c.print_census.ensures.shown,
-      ),
-    ))
+    ap (λ n. read_pair_of n c.args.text.now) c.in_ok-table.ensures.points ∙ sym c.in_ok-pair.ensures in
+    let counts : AnswersCounts board pair c.args.deepest old new r =
+    subst (λ d. AnswersCounts board d c.args.deepest old new r) c.in_ok-table.ensures.pair c.print_counts.ensures.answer in
+    let answer : AnswersPair board pair c.args.deepest old new r =
+    elim counts [
+      | inl lacks ↦ inl (fault.Memory, lacks.0, tt, lacks.1)
+      | inr prints ↦ inr (c.in_ok-table.ensures.within, prints)
+    ] in
+    subst (λ found. AnswersRead board c.args.deepest old new r found) (sym read) answer
 
 -- nothing is printed where a pair isn't swept
-pub returns-in_err-census-clause-answer : goal.returns-in_err-census-clause-answer
-returns-in_err-census-clause-answer g c =
+pub returns-in_err-table-clause-answer : goal.returns-in_err-table-clause-answer
+returns-in_err-table-clause-answer g c =
     let board = g.B.Geometry.shape in
     let old = g.S.Sink.contents c.args.output.now in
-    let failed = err_from_is_err_and c.from_residual-in_err-census.result c.from_residual-in_err-census.ensures.1 in
+    let failed = err_from_is_err_and c.from_residual-in_err-table.result c.from_residual-in_err-table.ensures.1 in
     let read : read_pair_of board.points c.args.text.now ≡ Ok c.in_ok-pair.pair =
-    ap (λ n. read_pair_of n c.args.text.now) c.in_err-census.ensures.points ∙ sym c.in_ok-pair.ensures in
-    subst (λ found. AnswersRead board c.args.deepest old old c.from_residual-in_err-census.result found) (sym read)
-    (inl (_, failed.1 ∙ ap Err failed.2, c.in_err-census.ensures.refused, Keeps-refl old))
+    ap (λ n. read_pair_of n c.args.text.now) c.in_err-table.ensures.points ∙ sym c.in_ok-pair.ensures in
+    subst (λ found. AnswersRead board c.args.deepest old old c.from_residual-in_err-table.result found) (sym read)
+    (inl (_, failed.1 ∙ ap Err failed.2, c.in_err-table.ensures.refused, Keeps-refl old))

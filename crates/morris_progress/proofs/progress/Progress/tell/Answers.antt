@@ -8,6 +8,7 @@ returns g c = record {
   begun = refl;
   whole = refl;
   done = refl;
+  part = refl;
   silent = λ e.
       let bad : true ≡ false = sym c.if-not-self.false ∙ e in
       cc;

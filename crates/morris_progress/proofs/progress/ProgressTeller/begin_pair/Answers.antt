@@ -3,5 +3,5 @@ use Rattle.std.proofs.Common.{refl}
 use Rattle.morris_progress.specs.ProgressLaws.{Becomes-same}
 use Rattle.morris_progress.proofs.progress.ProgressTeller.begin_pair.Goals as goal
 
-pub returns : goal.returns
-returns g c = record { told = Becomes-same g.E.Sink.contents g.E.Sink.failures c.args.self.now _ refl refl refl refl refl }
+pub returns-clause-told : goal.returns-clause-told
+returns-clause-told g c = Becomes-same g.E.Sink.contents g.E.Sink.failures c.args.self.now _ refl refl refl refl refl

@@ -4,8 +4,9 @@ use Rattle.std.proofs.lemmas.List.{append-nil}
 use Rattle.std.proofs.Math.Path.{ap₂}
 use Rattle.std.proofs.lemmas.Bool.{and_parts, eqb-true, not-false}
 use Rattle.morris_index.specs.Pairs.{below_of, counts}
-use Rattle.morris_commands.proofs.BeforeLaws.{AreBuiltBut, built-itself, built-last, built-more, built-ready}
-use Rattle.morris_commands.proofs.verify.build_before.Goals as goal
+use Rattle.morris_commands.specs.Build.{HasExactBut}
+use Rattle.morris_commands.proofs.BeforeLaws.{AreBuiltBut, built-itself, built-last, built-more, built-ready, every-itself, every-more}
+use Rattle.morris_commands.proofs.build.build_before.Goals as goal
 
 pub build_onto-requires-clause-ready : goal.build_onto-requires-clause-ready
 build_onto-requires-clause-ready g c = λ κs within.
@@ -24,6 +25,9 @@ loop-below-preserved g c =
       built =
           built-itself g.B.Geometry.shape c.args.layout c.args.pair c.loop-below.yielded c.next.new.self c.in-Some.below split
           c.loop-below.stock c.spare.new.stock c.loop-below.invariant.built c.spare.ensures.near itself;
+      every = λ all.
+          every-itself g.B.Geometry.shape c.args.layout c.loop-below.stock c.spare.new.stock c.args.pair c.loop-below.yielded c.in-Some.below
+          (c.loop-below.invariant.every all) (c.spare.ensures.all all) itself;
       told = c.loop-below.invariant.told;
     }
 
@@ -37,6 +41,9 @@ loop-below-preserved-in-Continue-branch-2 g c =
           built-more g.B.Geometry.shape c.args.layout c.args.pair c.loop-below.yielded c.next.new.self c.in-Some.below split
           c.loop-below.stock c.spare.new.stock c.build_onto.new.stock c.loop-below.invariant.built c.spare.ensures.near
           c.in_ok-build_onto.ensures.exact c.in_ok-build_onto.ensures.within c.in_ok-build_onto.ensures.others;
+      every = λ all.
+          every-more g.B.Geometry.shape c.args.layout c.loop-below.stock c.spare.new.stock c.build_onto.new.stock c.args.pair c.loop-below.yielded
+          c.in-Some.below (c.loop-below.invariant.every all) (c.spare.ensures.all all) c.in_ok-build_onto.ensures.exact c.in_ok-build_onto.ensures.others;
       told = g.met.T.Watch.joins _ _ _ c.loop-below.invariant.told c.build_onto.ensures.told;
     }
 
@@ -53,3 +60,9 @@ returns-clause-within g c = λ deep.
     let all : c.loop-below.yielded ≡ below_of c.args.pair =
     sym (append-nil c.loop-below.yielded) ∙ (ap (λ rest. c.loop-below.yielded ++ rest) (sym c.in-None.ensures.steps.0) ∙ c.loop-below.invariant.split) in
     (c.loop-below.invariant.built deep.0 (subst (λ cs. Contains cs deep.0) (sym all) deep.1) deep.2).1 deep.3
+
+pub returns-clause-every : goal.returns-clause-every
+returns-clause-every g c = λ every.
+    let all : c.loop-below.yielded ≡ below_of c.args.pair =
+    sym (append-nil c.loop-below.yielded) ∙ (ap (λ rest. c.loop-below.yielded ++ rest) (sym c.in-None.ensures.steps.0) ∙ c.loop-below.invariant.split) in
+    subst (HasExactBut g.B.Geometry.shape c.args.layout c.loop-below.stock c.args.pair) all (c.loop-below.invariant.every every)
