@@ -1,5 +1,5 @@
 //! The command `verify`.
-ghost use Rattle.std.specs.Prelude.{◌≡◌, ◌-◌, ◌^◌, ◌<◌, None, IfErr, IfOk, OnOk};
+ghost use Rattle.std.specs.Prelude.{◌≡◌, ◌-◌, ◌^◌, ◌<◌, None, IfErr, IfOk, IfSome, OnOk};
 ghost use Rattle.morris_table.specs.Tables.{IsTable};
 ghost use Rattle.morris_faults.specs.Faults.{CountsWrites};
 ghost use Rattle.morris_faults.specs.BoardNames.{board_of};
@@ -16,19 +16,21 @@ use morris_faults::print::print;
 use morris_progress::size::Way;
 use morris_progress::team::Team;
 use morris_progress::teller::Teller;
+use morris_table::building::build_watched;
 use morris_table::exact::Exact;
 use morris_table::raw::Raw;
 use morris_table::reading::read_table;
 use morris_table::verify::VerifyFault;
+use morris_workers::OpenGate;
 use std::alloc::Global;
 use std::sync::Wait;
 use std::thread::Threads;
 
 /// Reads the file of one table from `input`, which ends with it, for the board named `board`, and
-/// tells whether each of its codes is that of the game. The pairs below that of the file are built
-/// first, in order and in the layout of the file, since the values of a pair rest on theirs. A team
-/// builds them, and its workers share the entries of the file out among them. `teller` is told how
-/// far it is.
+/// tells whether each of its codes is that of the game. A team builds the pairs below that of the
+/// file first, in order and in the layout of the file, since the values of a pair rest on theirs,
+/// and then the pair itself. Where that table isn't the same, its workers share the entries of the
+/// file out among them to find the first that is wrong. `teller` is told how far it is.
 ///
 /// # Errors
 /// [`Fault::Board`] where there is no such board, before anything is read; else the fault of the
@@ -107,6 +109,10 @@ fn believe<B: Board, R: Threads + Wait + Sync, T: Teller>(
     );
     let stock = build_before(rt, alloc, layout, false, pair, team, teller)?;
     teller.begin_pair(pair);
+    if let Some(exact) = build_alike(rt, alloc, team, &stock, &raw, teller) {
+        teller.end_pair(&exact);
+        return Ok(exact);
+    }
     match raw.verify_watched(rt, alloc, &stock, team.workers, teller) {
         Ok(exact) => {
             teller.end_pair(&exact);
@@ -114,5 +120,31 @@ fn believe<B: Board, R: Threads + Wait + Sync, T: Teller>(
         }
         Err((_, VerifyFault::Differs(index))) => Err(Fault::Differs(index)),
         Err((_, VerifyFault::Needs(_))) => unreachable!(),
+    }
+}
+
+/// The table of a pair as the team builds it over those of a stock, where it is the same as one that
+/// was read. `None` where it isn't, or where the build is refused.
+///
+/// Where few positions are decided, a table is built in less time than all results of its positions
+/// are looked at.
+fn build_alike<B: Board, R: Threads + Wait + Sync, T: Teller>(
+    rt: &R,
+    alloc: Global,
+    team: Team,
+    stock: &Stock<B>,
+    raw: &Raw<B>,
+    teller: &mut T,
+) -> Option<Exact<B>>
+    ensures same { IfSome result (λ exact. exact ≡ raw.now) }
+    ensures told { T.becomes teller.old teller.new }
+{
+    let (pair, layout, gate) = (raw.pair(), raw.layout(), &OpenGate);
+    let (workers, blocks) = (team.workers, team.blocks);
+    match build_watched(
+        rt, alloc, stock, pair, layout, gate, teller, workers, blocks,
+    ) {
+        Ok(built) if built.is_same(raw) => Some(built),
+        Ok(_) | Err(_) => None,
     }
 }

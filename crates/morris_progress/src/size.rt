@@ -23,8 +23,8 @@ pub enum Way {
     Built { team: Team, all: bool },
     /// They are read from files.
     Read,
-    /// A team builds those below, of which only those are kept that a pair to come needs; the pair's
-    /// own, of so many entries, was read.
+    /// A team builds them, of which only those are kept that a pair to come needs; the pair's own, of
+    /// so many entries, was read.
     Verified { team: Team, entries: u64 },
 }
 
@@ -120,7 +120,7 @@ impl Size {
         let mut near = Near::NONE;
         for below in pair.below() {
             let entries = count_entries(below, pair, layout, way);
-            let bytes = bytes_of(below, pair, entries, way);
+            let bytes = bytes_of(below, entries, way);
             near = near.before(below);
             let kept = if way.lets_go() {
                 near.entries()
@@ -134,37 +134,32 @@ impl Size {
     }
 }
 
-/// How much there is to do where a team verifies the tables of the files of a folder, in the order
-/// of pairs. A table is let go once no pair to come needs it.
+/// How much there is to do where the tables of the files of a folder are verified in the order of
+/// pairs. A table is let go once no pair to come needs it.
 #[derive(Clone, Copy, Debug)]
 pub struct FolderSize {
     /// That of the files so far.
     pub size: Size,
     near: Near,
-    team: Team,
 }
 
 impl FolderSize {
     /// Of no file.
-    pub fn new(team: Team) -> FolderSize {
-        FolderSize {
-            size: Size::NONE,
-            near: Near::NONE,
-            team,
-        }
-    }
+    pub const NONE: FolderSize = FolderSize {
+        size: Size::NONE,
+        near: Near::NONE,
+    };
 
-    /// With the file of a pair after those so far, whose table has so many entries in this layout.
-    pub fn with<B: Geometry>(self, pair: Pair<B>, layout: Layout, entries: u64) -> FolderSize
+    /// With the file of a pair after those so far, whose table has so many entries.
+    pub fn with<B: Geometry>(self, pair: Pair<B>, entries: u64) -> FolderSize
         // As far as 64 bits hold the number.
         ensures { self.size.entries + entries < 2 ^ 64 → result.size.entries ≡ self.size.entries + entries }
     {
         let near = self.near.before(pair);
-        let bytes = bytes_of_verifying(layout, entries, self.team);
+        let bytes = KEPT.saturating_mul(entries);
         FolderSize {
             size: self.size.with(entries, bytes, near.entries()),
             near: near.with(entries),
-            team: self.team,
         }
     }
 }
@@ -192,16 +187,16 @@ fn count_entries<B: Geometry>(pair: Pair<B>, last: Pair<B>, layout: Layout, way:
 }
 
 /// About how many bytes the table of a pair with so many entries takes while it comes about.
-fn bytes_of<B: Geometry>(pair: Pair<B>, last: Pair<B>, entries: u64, way: Way) -> u64 {
+fn bytes_of<B: Geometry>(pair: Pair<B>, entries: u64, way: Way) -> u64 {
     match way {
         Way::Swept => bytes_of_making(pair, entries, None),
         Way::Built { team, .. } => bytes_of_making(pair, entries, Some(team)),
-        // The table that was read is there from the start.
-        Way::Verified { team, entries: own } if !is_same(pair, last) => {
+        // The table that was read is there from the start, also while its pair is built beside it.
+        Way::Verified { team, entries: own } => {
             let making = bytes_of_making(pair, entries, Some(team));
             making.saturating_add(KEPT.saturating_mul(own))
         }
-        Way::Read | Way::Verified { .. } => KEPT.saturating_mul(entries),
+        Way::Read => KEPT.saturating_mul(entries),
     }
 }
 
@@ -222,17 +217,4 @@ fn bytes_of_making<B: Geometry>(pair: Pair<B>, entries: u64, team: Option<Team>)
         .saturating_mul(list)
         .saturating_mul(team.workers as u64);
     nodes.saturating_add(lists / team.blocks as u64)
-}
-
-/// About how many bytes it takes to verify a table with so many entries: it is read whole, and each
-/// worker marks the entries by classes that it found to agree.
-fn bytes_of_verifying(layout: Layout, entries: u64, team: Team) -> u64 {
-    let codes = KEPT.saturating_mul(entries);
-    match layout {
-        Layout::Full => codes,
-        Layout::Classes => {
-            let marks = entries.saturating_mul(team.workers as u64);
-            codes.saturating_add(marks / 8)
-        }
-    }
 }
