@@ -42,6 +42,12 @@ AnswersKept board files name pair (Err kept.Unopened) = ⊤
 AnswersKept board files name pair (Err (kept.Refused refused)) = HasFile files name (AreRefused board refused)
 AnswersKept board files name pair (Err kept.OtherPair) = (t : Table) × (t.pair ≢ pair) × HasFile files name (λ bytes. bytes ≡ file_of board t)
 
+-- why there is nothing to read: memory was refused for the name, or the file can't be opened
+abbrev pub IsUnopened : KeptFault → Type 0
+IsUnopened kept.Memory = ⊤
+IsUnopened kept.Unopened = ⊤
+IsUnopened refused = ⊥
+
 -- one call of the folder failed where the file can't be opened, and none elsewhere
 abbrev pub failed_opening : {T : Type 0} → Result T KeptFault → ℕ
 failed_opening (Err kept.Unopened) = 1

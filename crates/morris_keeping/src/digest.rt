@@ -1,12 +1,13 @@
 //! The digest of the file of a table.
-ghost use Rattle.std.specs.Prelude.{◌≡◌, ℕ, ◌+◌, ◌*◌, ◌/◌, ◌%◌, ◌≤◌, ◌++◌, List, length, take, drop};
+ghost use Rattle.std.specs.Prelude.{◌≡◌, ℕ, ◌++◌, List};
 ghost use Rattle.sha2.specs.Hashers.{Holds256};
 ghost use Rattle.sha2.specs.Sha256.{sha256};
-ghost use Rattle.morris_table.specs.TableFiles.{code_bytes, file_of, header_of};
+ghost use Rattle.morris_table.specs.TableFiles.{code_bytes, file_of};
 
-use crate::header::header_of;
 use morris_board::board::Geometry;
 use morris_table::exact::Exact;
+use morris_table::header::Header;
+use morris_table::writing::copy_codes;
 use sha2::{Digest, Sha256};
 
 /// How many bytes are digested at a time, at most.
@@ -21,20 +22,13 @@ pub fn digest_of_file<B: Geometry>(table: &Exact<B>) -> [u8; 32]
     ensures { result ≡ sha256 (file_of B.shape table.now) }
 {
     let mut hasher = Sha256::new();
-    hasher.update(&header(table));
+    hasher.update(&Header::of(table).to_bytes());
     digest_codes(table, &mut hasher);
     let Ok(content) = hasher.clone() else {
         unreachable!()
     };
     hasher.update(&content.finalize());
     hasher.finalize()
-}
-
-/// The header of the file of a table.
-fn header<B: Geometry>(table: &Exact<B>) -> [u8; 16]
-    ensures { result ≡ header_of B.shape table.now.layout table.now.pair (length table.now.codes) }
-{
-    header_of(table.layout(), table.pair(), table.len())
 }
 
 /// Feeds the codes of a table to the hasher.
@@ -50,20 +44,5 @@ fn digest_codes<B: Geometry>(table: &Exact<B>, hasher: &mut Sha256)
         copy_codes(table, first, bytes);
         hasher.update(&*bytes);
         first += codes;
-    }
-}
-
-/// Fills `piece` with the codes of a table from the entry `first` on, which the table has.
-fn copy_codes<B: Geometry>(table: &Exact<B>, first: u64, piece: &mut [u8])
-    requires even { length piece.old % 2 ≡ 0 }
-    requires inside { 2 * first + length piece.old ≤ 2 * length table.now.codes }
-    ensures { piece.new ≡ code_bytes (take (length piece.old / 2) (drop first table.now.codes)) }
-{
-    // The proof learns here how many entries there are.
-    let _ = table.len();
-    for i in 0..piece.len() / 2 {
-        let [high, low] = table.code(first + i as u64).to_be_bytes();
-        piece[2 * i] = high;
-        piece[2 * i + 1] = low;
     }
 }

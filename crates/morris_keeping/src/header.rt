@@ -1,26 +1,22 @@
 //! The header of the file of a pair's table, and what it says of a file that a folder has.
-ghost use Rattle.std.specs.Prelude.{◌≡◌, ℕ, ◌+◌, ◌-◌, ◌<◌, ◌≤◌, ◌^◌, IfOk, length, take};
-ghost use Rattle.std.specs.Io.KnownBytes.{Consumes, IsAtEnd};
-ghost use Rattle.morris_board.specs.Streams.{CountsFailure};
+ghost use Rattle.std.specs.Prelude.{◌≡◌, ℕ, ◌+◌, ◌-◌, ◌<◌, ◌^◌};
 ghost use Rattle.morris_folders.specs.Files.{Keeps};
 ghost use Rattle.morris_table.specs.TableFiles.{header_of};
 ghost use Rattle.morris_keeping.specs.Headers.{AnswersHeader, header_in};
 ghost use Rattle.morris_keeping.specs.Kept.{failed_opening};
 ghost use Rattle.morris_keeping.specs.Names.{name_of};
 
-use crate::kept::KeptFault;
-use crate::names::file_name;
+use crate::kept::{KeptFault, open_table_file};
 use morris_board::board::Geometry;
-use morris_board::streams::{Failed, Source};
+use morris_board::streams::Failed;
 use morris_folders::folder::Folder;
 use morris_index::class_sizes::class_size;
 use morris_index::pair::Pair;
 use morris_table::file_faults::ReadFault;
+use morris_table::header::{HEADER, Header as Fields, MAGIC, version_of};
 use morris_table::layout::Layout;
+use morris_table::reading::fill;
 use std::alloc::Global;
-
-/// How many bytes a header has.
-const HEADER: usize = 16;
 
 /// What the header of the file of a pair's table says of the table.
 #[derive(Clone, Copy, Debug, PartialEq, Eq)]
@@ -51,13 +47,8 @@ pub fn read_header<B: Geometry, F: Folder>(
     ensures kept { Keeps (F.files folder.old) (F.files folder.new) }
     ensures counted { F.failures folder.new ≡ F.failures folder.old + failed_opening result }
 {
-    let Ok(name) = file_name(alloc, board, pair) else {
-        return Err(KeptFault::Memory);
-    };
-    let mut reader = match folder.open(name.as_str()) {
-        Ok(Some(reader)) => reader,
-        Ok(None) => return Ok(None),
-        Err(Failed) => return Err(KeptFault::Unopened),
+    let Some(mut reader) = open_table_file(alloc, folder, board, pair)? else {
+        return Ok(None);
     };
     let mut bytes = [0; HEADER];
     match fill(&mut reader, &mut bytes) {
@@ -82,51 +73,17 @@ fn header_in<B: Geometry>(bytes: &[u8], pair: Pair<B>) -> Option<Header>
 }
 
 /// The header of the file of a pair's table in a layout, with so many entries.
-#[tactic(auto, unfolding(morris_table::specs::TableFiles::header_of))]
-pub(crate) fn header_of<B: Geometry>(layout: Layout, pair: Pair<B>, entries: u64) -> [u8; HEADER]
+#[tactic(auto, unfolding(morris_table::specs::TableFiles::header_of, morris_table::specs::Headers::header_bytes))]
+fn header_of<B: Geometry>(layout: Layout, pair: Pair<B>, entries: u64) -> [u8; HEADER]
     ensures { result ≡ header_of B.shape layout pair entries }
 {
-    let version = match layout {
-        Layout::Full => 1,
-        Layout::Classes => 2,
+    let fields = Fields {
+        magic: MAGIC,
+        version: version_of(layout),
+        board: B::ID,
+        greater: pair.greater(),
+        lesser: pair.lesser(),
+        entries,
     };
-    let [a, b, c, d, e, f, g, h] = entries.to_be_bytes();
-    [
-        b'N',
-        b'M',
-        b'M',
-        b'T',
-        version,
-        B::ID,
-        pair.greater(),
-        pair.lesser(),
-        a,
-        b,
-        c,
-        d,
-        e,
-        f,
-        g,
-        h,
-    ]
-}
-
-/// Reads until the buffer is full or the source at its end, and answers how many bytes that are. A
-/// read that fails ends it.
-fn fill<S: Source>(source: &mut S, buffer: &mut [u8]) -> Result<usize, Failed>
-    requires { S.failures source.old < 2 ^ 64 - 1 }
-    ensures within { IfOk result (λ n. n ≤ length buffer.new) }
-    ensures bytes { IfOk result (λ n. Consumes (S.remaining source.old) (S.remaining source.new) (take n buffer.new)) }
-    ensures end { IfOk result (λ n. n < length buffer.new → IsAtEnd (S.remaining source.new)) }
-    ensures counted { CountsFailure (S.failures source.old) (S.failures source.new) result }
-{
-    let mut done = 0;
-    while done < buffer.len() {
-        match source.read(&mut buffer[done..]) {
-            Ok(0) => return Ok(done),
-            Ok(count) => done += count,
-            Err(Failed) => return Err(Failed),
-        }
-    }
-    Ok(done)
+    fields.to_bytes()
 }

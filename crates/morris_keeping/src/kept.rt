@@ -1,7 +1,7 @@
 //! The tables that a folder keeps.
-ghost use Rattle.std.specs.Prelude.{◌≡◌, ℕ, ◌+◌, ◌-◌, ◌^◌, ◌<◌};
-ghost use Rattle.morris_folders.specs.Files.{Keeps};
-ghost use Rattle.morris_keeping.specs.Kept.{AnswersKept, failed_opening};
+ghost use Rattle.std.specs.Prelude.{◌≡◌, ℕ, ◌+◌, ◌-◌, ◌^◌, ◌<◌, IfErr};
+ghost use Rattle.morris_folders.specs.Files.{IsOpened, Keeps};
+ghost use Rattle.morris_keeping.specs.Kept.{AnswersKept, IsUnopened, failed_opening};
 ghost use Rattle.morris_keeping.specs.Names.{name_of};
 
 use crate::names::file_name;
@@ -53,13 +53,8 @@ pub fn read_table_file<B: Geometry, F: Folder>(
     ensures kept { Keeps (F.files folder.old) (F.files folder.new) }
     ensures counted { F.failures folder.new ≡ F.failures folder.old + failed_opening result }
 {
-    let Ok(name) = file_name(alloc, board, pair) else {
-        return Err(KeptFault::Memory);
-    };
-    let mut reader = match folder.open(name.as_str()) {
-        Ok(Some(reader)) => reader,
-        Ok(None) => return Ok(None),
-        Err(Failed) => return Err(KeptFault::Unopened),
+    let Some(mut reader) = open_table_file(alloc, folder, board, pair)? else {
+        return Ok(None);
     };
     let raw = match read_table::<B, F::Reader>(alloc, &mut reader) {
         Ok(raw) => raw,
@@ -69,4 +64,31 @@ pub fn read_table_file<B: Geometry, F: Folder>(
         return Err(KeptFault::OtherPair);
     }
     Ok(Some(raw))
+}
+
+/// Opens the file that a folder has of a pair's table, under the name of the pair on the board of
+/// this name; `None` where there is no such file.
+///
+/// # Errors
+/// [`KeptFault::Memory`] where memory is refused for the name, else [`KeptFault::Unopened`] where
+/// the file can't be opened.
+pub(crate) fn open_table_file<B: Geometry, F: Folder>(
+    alloc: Global,
+    folder: &mut F,
+    board: &str,
+    pair: Pair<B>,
+) -> Result<Option<F::Reader>, KeptFault>
+    requires { F.failures folder.old < 2 ^ 64 - 1 }
+    ensures opened { IsOpened F.Reader.remaining F.Reader.failures (F.files folder.old) (name_of board.now pair) result }
+    ensures refused { IfErr result IsUnopened }
+    ensures kept { Keeps (F.files folder.old) (F.files folder.new) }
+    ensures counted { F.failures folder.new ≡ F.failures folder.old + failed_opening result }
+{
+    let Ok(name) = file_name(alloc, board, pair) else {
+        return Err(KeptFault::Memory);
+    };
+    match folder.open(name.as_str()) {
+        Ok(opened) => Ok(opened),
+        Err(Failed) => Err(KeptFault::Unopened),
+    }
 }

@@ -1,7 +1,6 @@
 -- Lemmas on the definitions of this crate.
 pub mod ListLaws
 pub mod StretchLaws
-pub mod BinomialTable
 pub mod EntryLaws
 pub mod OpeningLaws
 pub mod FileLookups

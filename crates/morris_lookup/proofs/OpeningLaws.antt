@@ -17,6 +17,7 @@ use Rattle.morris_table.specs.Entries.{entry_count}
 use Rattle.morris_table.specs.Tables.{Table, table}
 use Rattle.morris_table.specs.Raws.{IsRaw}
 use Rattle.morris_table.specs.TableFiles.{file_of}
+use Rattle.morris_table.specs.declared.header.Header.{Header}
 use Rattle.morris_table.specs.FileReading.{unless, and_then, header_at, kind_in, counted_in, heading_in, roomless_in, header_in, codes_in, body_in, file_in, IsOfBytes, IsHeadingRefusal}
 use Rattle.morris_table.specs.declared.file_faults.ReadFault.{ReadFault}
 use Rattle.morris_table.specs.declared.file_faults.ReadFault.TheVariants as fault
@@ -29,12 +30,12 @@ use Rattle.morris_lookup.specs.Opening.{file_size, measured_in, framed_in, IsFra
 -- ---- a header
 
 -- a header that states another number of entries
-pub count_refused : (board : Shape) (n : ℕ) → board.points ≡ n → (header : List ℕ) (kind : Layout × Counts) → Ok kind ≡ kind_in board (header_at header)
-    → ((header_at header).entries ≡ entry_count board n kind.0 kind.1 → ⊥) → heading_in board (header_at header) ≡ Err fault.Count
+pub count_refused : (board : Shape) (n : ℕ) → board.points ≡ n → (header : Header) (kind : Layout × Counts) → Ok kind ≡ kind_in board header
+    → (header.entries ≡ entry_count board n kind.0 kind.1 → ⊥) → heading_in board header ≡ Err fault.Count
 unfolding heading_in counted_in
 count_refused board n points header kind named other =
-    let differ : (header_at header).entries ≡ entry_count board board.points kind.0 kind.1 → ⊥ = λ e. other (e ∙ ap (λ m. entry_count board m kind.0 kind.1) points) in
-    rw (← named, ne_eqb (header_at header).entries (entry_count board board.points kind.0 kind.1) differ) refl
+    let differ : header.entries ≡ entry_count board board.points kind.0 kind.1 → ⊥ = λ e. other (e ∙ ap (λ m. entry_count board m kind.0 kind.1) points) in
+    rw (← named, ne_eqb header.entries (entry_count board board.points kind.0 kind.1) differ) refl
 
 -- ---- bytes by their header and number
 

@@ -7,10 +7,10 @@ ghost use Rattle.morris_index.specs.Pairs.{IsHalf, is_of};
 ghost use Rattle.morris_index.specs.ClassPairs.{class_half_size, class_half_index, class_size_of, class_index_of};
 ghost use Rattle.morris_lookup.specs.Representatives.{representatives_of};
 
-use crate::binomials::binomial;
 use crate::classes::class_of;
 use morris_board::board::Geometry;
 use morris_board::position::Position;
+use morris_index::binomials::binomial;
 use morris_index::pair::Pair;
 
 /// How many entries a pair has by classes, where the representatives of the classes of sets of its

@@ -1,7 +1,7 @@
 //! The class of a set of points, by the list of the representatives.
 ghost use Rattle.std.specs.Prelude.{◌≡◌, ◌≤◌, ◌<◌, ◌^◌, length};
 ghost use Rattle.morris_board.specs.Sets.{count_of};
-ghost use Rattle.morris_index.specs.Classes.{symmetry_of, representative_of, is_representative, class_of};
+ghost use Rattle.morris_index.specs.Classes.{symmetry_of, representative_of, class_of};
 ghost use Rattle.morris_lookup.specs.Representatives.{representatives_of};
 
 use morris_board::board::Geometry;
@@ -40,20 +40,4 @@ fn least_image<B: Geometry>(set: Points) -> (Points, u8)
         }
     }
     (least, symmetry)
-}
-
-/// Whether a set has `count` points and no image with a lesser mask.
-pub(crate) fn is_representative<B: Geometry>(count: u8, set: Points) -> bool
-    requires { set < 2 ^ B.POINTS }
-    ensures { result ≡ is_representative B.shape count set }
-{
-    if set.count() != count {
-        return false;
-    }
-    for symmetry in 1..B::SYMMETRIES {
-        if B::image_of(symmetry, set).mask() < set.mask() {
-            return false;
-        }
-    }
-    true
 }

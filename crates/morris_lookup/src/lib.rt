@@ -2,7 +2,6 @@
 #![tactic(auto)]
 
 pub mod best;
-mod binomials;
 pub mod class_entries;
 mod class_lists;
 mod classes;

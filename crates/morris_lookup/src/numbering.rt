@@ -1,24 +1,18 @@
-//! How the entries of a file are numbered, and what its header says of that.
+//! How the entries of a file are numbered, by its header.
 ghost use Rattle.std.specs.Prelude.{◌≡◌, ◌<◌, ◌≤◌, ◌^◌, true, IfOk, IfErr, IsOk, Ok};
 ghost use Rattle.morris_index.specs.Pairs.{IsPair, is_of};
 ghost use Rattle.morris_table.specs.Entries.{entry_count, entry_index};
-ghost use Rattle.morris_table.specs.FileReading.{header_at, kind_in, heading_in, IsOfBytes, IsHeadingRefusal};
+ghost use Rattle.morris_table.specs.FileReading.{heading_in, IsHeadingRefusal};
 ghost use Rattle.morris_lookup.specs.Numberings.{layout_of, pair_of};
 
 use crate::class_lists::ClassLists;
 use morris_board::board::Geometry;
 use morris_board::position::Position;
-use morris_index::faults::PairFault;
 use morris_index::pair::Pair;
 use morris_table::file_faults::ReadFault;
+use morris_table::header::Header;
 use morris_table::layout::Layout;
 use std::alloc::{AllocError, Global};
-
-/// How many bytes a header has.
-pub(crate) const HEADER: usize = 16;
-
-/// What each file begins with.
-const MAGIC: [u8; 4] = *b"NMMT";
 
 /// How the entries of a pair are numbered, by their layout.
 #[derive(Drop)]
@@ -52,13 +46,13 @@ impl<B: Geometry> Numbering<B> {
     /// The first of `Magic`, `Version`, `BoardId`, `Counts` and `Crowded` that applies; then
     /// `Memory` where there is no room for the classes; then `Count`.
     #[tactic(auto, unfolding(morris_table::specs::FileReading::heading_in, morris_table::specs::FileReading::counted_in))]
-    pub(crate) fn of_header(alloc: Global, header: &[u8; HEADER]) -> Result<Numbering<B>, ReadFault>
-        ensures found { IfOk result (λ made. heading_in B.shape (header_at header.now) ≡ Ok (layout_of made, pair_of made)) }
-        ensures refused { IfErr result (IsHeadingRefusal B.shape (header_at header.now)) }
+    pub(crate) fn of_header(alloc: Global, header: Header) -> Result<Numbering<B>, ReadFault>
+        ensures found { IfOk result (λ made. heading_in B.shape header ≡ Ok (layout_of made, pair_of made)) }
+        ensures refused { IfErr result (IsHeadingRefusal B.shape header) }
     {
-        let (layout, pair) = kind_of(header)?;
+        let (layout, pair) = header.kind()?;
         let numbering = Numbering::make(alloc, pair, layout)?;
-        if entries_of(header) != numbering.count() {
+        if header.entries != numbering.count() {
             return Err(ReadFault::Count);
         }
         Ok(numbering)
@@ -112,45 +106,5 @@ impl<B: Geometry> Numbering<B> {
             Numbering::Full(pair) => pair.index(position),
             Numbering::Classes(classes) => classes.index(position),
         }
-    }
-}
-
-/// The number of entries that a header states.
-fn entries_of(header: &[u8; HEADER]) -> u64
-    ensures { result ≡ (header_at header.now).entries }
-{
-    u64::from_be_bytes([
-        header[8], header[9], header[10], header[11], header[12], header[13], header[14],
-        header[15],
-    ])
-}
-
-/// The layout and the pair of the table that a header stands before.
-///
-/// # Errors
-/// The first of `Magic`, `Version`, `BoardId`, `Counts` and `Crowded` that applies.
-#[tactic(auto, unfolding(morris_table::specs::FileReading::kind_in))]
-fn kind_of<B: Geometry>(header: &[u8; HEADER]) -> Result<(Layout, Pair<B>), ReadFault>
-    ensures value { result ≡ kind_in B.shape (header_at header.now) }
-    ensures refused { IfErr result IsOfBytes }
-{
-    if [header[0], header[1], header[2], header[3]] != MAGIC {
-        return Err(ReadFault::Magic);
-    }
-    let layout = match header[4] {
-        1 => Layout::Full,
-        2 => Layout::Classes,
-        _ => return Err(ReadFault::Version),
-    };
-    if header[5] != B::ID {
-        return Err(ReadFault::BoardId);
-    }
-    if header[6] < header[7] {
-        return Err(ReadFault::Counts);
-    }
-    match Pair::new(header[6], header[7]) {
-        Ok(pair) => Ok((layout, pair)),
-        Err(PairFault::Counts) => Err(ReadFault::Counts),
-        Err(PairFault::Crowded) => Err(ReadFault::Crowded),
     }
 }

@@ -11,20 +11,20 @@ ghost use Rattle.morris_lookup.specs.Opening.{measured_in, framed_in, IsFramingR
 ghost use Rattle.morris_lookup.specs.Lookups.{code_for, depth_of, IsExactFile};
 
 use crate::fault::OpenFault;
-use crate::numbering::{HEADER, Numbering};
+use crate::numbering::Numbering;
 use crate::storage::Storage;
 use morris_board::board::Geometry;
 use morris_board::position::Position;
 use morris_board::streams::Failed;
 use morris_index::pair::Pair;
+use morris_table::exact::value_of_code;
 use morris_table::file_faults::ReadFault;
+use morris_table::header::{HEADER, Header};
 use morris_table::layout::Layout;
+use morris_table::reading::DIGEST;
 use morris_table::value::Value;
 use std::alloc::Global;
 use std::marker::Model;
-
-/// How many bytes the digest has, which stands after the codes.
-const DIGEST: u64 = 32;
 
 /// The file of a pair's table, whose bytes stay where they lie. Its header and its length were
 /// found to be right; its codes and its digest weren't looked at.
@@ -145,7 +145,7 @@ fn frame<B: Geometry, S: Storage>(alloc: Global, storage: &S) -> Result<Numberin
     }
     let mut header = [0; HEADER];
     storage.read_at(0, &mut header)?;
-    let numbering = Numbering::of_header(alloc, &header)?;
+    let numbering = Numbering::of_header(alloc, Header::from_bytes(&header))?;
     measure(&numbering, length)?;
     Ok(numbering)
 }
@@ -159,7 +159,7 @@ fn measure<B: Geometry>(numbering: &Numbering<B>, length: u64) -> Result<(), Rea
     ensures right { IfOk result (λ _. measured_in B.shape length (layout_of numbering.now, pair_of numbering.now) ≡ Ok (layout_of numbering.now, pair_of numbering.now)) }
     ensures refused { IfErr result (λ fault. (measured_in B.shape length (layout_of numbering.now, pair_of numbering.now) ≡ Err fault) × IsOfBytes fault) }
 {
-    let size = HEADER as u64 + 2 * numbering.count() + DIGEST;
+    let size = HEADER as u64 + 2 * numbering.count() + DIGEST as u64;
     if length < size {
         return Err(ReadFault::Short);
     }
@@ -167,20 +167,4 @@ fn measure<B: Geometry>(numbering: &Numbering<B>, length: u64) -> Result<(), Rea
         return Err(ReadFault::Trailing);
     }
     Ok(())
-}
-
-/// The value that a code says.
-fn value_of_code(code: u16) -> Value
-    ensures value { result ≡ value_in code }
-    ensures few { depth_of result ≤ 65534 }
-{
-    if code == 0 {
-        return Value::Draw;
-    }
-    let depth = code - 1;
-    if depth % 2 == 0 {
-        Value::Lost(depth)
-    } else {
-        Value::Won(depth)
-    }
 }

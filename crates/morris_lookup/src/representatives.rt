@@ -4,10 +4,10 @@ ghost use Rattle.morris_board.specs.Sets.{is_within};
 ghost use Rattle.morris_index.specs.Classes.{is_representative};
 ghost use Rattle.morris_lookup.specs.Representatives.{representatives_of, representatives_at, stretch_size};
 
-use crate::binomials::binomial;
-use crate::classes::is_representative;
 use morris_board::board::Geometry;
 use morris_board::points::Points;
+use morris_index::binomials::binomial;
+use morris_index::class_sizes::is_representative;
 use std::alloc::{AllocError, Global};
 
 /// The representatives of the classes of sets of `count` points, in ascending order of their masks.

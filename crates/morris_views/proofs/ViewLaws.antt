@@ -1,7 +1,8 @@
 -- Laws of what files in memory say.
-use Rattle.std.proofs.Common.{◌≡◌, ℕ, suc, ◌+◌, ◌*◌, ◌^◌, ◌<◌, ◌≤◌, true, false, List, [], ◌∷◌, length, take, drop, get_or, Some, None, Result, Ok, Err, refl, sym, ap, ap₂, ◌∙◌, inl, inr, arith}
+use Rattle.std.proofs.Common.{◌≡◌, ℕ, suc, ◌+◌, ◌*◌, ◌^◌, ◌<◌, ◌≤◌, Bool, true, false, List, [], ◌∷◌, length, take, drop, get_or, Some, None, Result, Ok, Err, refl, sym, ap, ap₂, ◌∙◌, inl, inr, arith}
 use Rattle.std.proofs.Math.Seq.{drop-cons}
 use Rattle.std.specs.Prelude.{nat_eq, nat_le, IfOk}
+use Rattle.std.specs.Str.{bytes_eq}
 use Rattle.std.proofs.lemmas.Bool.{cases_Bool, cases_eq, leb-true, le-leb, lt-leb, eqb-true, and_parts, false≢true}
 use Rattle.morris_board.specs.Boards.{Shape}
 use Rattle.morris_board.specs.Positions.{Sides}
@@ -18,7 +19,9 @@ use Rattle.morris_table.specs.declared.file_faults.ReadFault.{ReadFault}
 use Rattle.morris_table.specs.declared.file_faults.ReadFault.TheVariants as fault
 use Rattle.morris_table.specs.Entries.{entry_count}
 use Rattle.morris_table.specs.declared.layout.Layout.TheVariants.{Full, Classes}
-use Rattle.morris_table.specs.FileReading.{header_at, layout_in, kind_in, counted_in, heading_in, header_in}
+use Rattle.morris_table.specs.TableFiles.{magic}
+use Rattle.morris_table.specs.declared.header.Header.{Header}
+use Rattle.morris_table.specs.FileReading.{unless, are_counts, is_version, header_at, layout_in, kind_in, counted_in, heading_in, header_in}
 use Rattle.morris_lookup.specs.Opening.{framed_in, measured_in}
 use Rattle.morris_views.specs.declared.fault.ViewFault.TheVariants as view
 use Rattle.morris_views.specs.Views.{entry_in, borne_out, counted_entry, is_by_classes, value_of_bytes, value_said, needs_words}
@@ -102,31 +105,51 @@ not_by_classes version e y = other (rw y at e)
     other : Classes ≡ Full → ⊥
     other h = cc
 
-module _ (bytes header : List ℕ) (is : header ≡ take 16 bytes) where
-  same_byte : (i : ℕ) → i < 16 → get_or header i 0 ≡ get_or bytes i 0
-  same_byte i low = ap (λ h. get_or h i 0) is ∙ get_or-take 16 bytes i 0 low
+-- what no step of a header refuses is what its fields say
+passed : {A : Type 0} (test : Bool) (refusal : ReadFault) (next : Result A ReadFault) (x : A) → Ok x ≡ unless test refusal next → Ok x ≡ next
+passed true refusal next x e = e
+passed false refusal next x e = cc
 
-  pub read_by_classes : (layout : Layout) → layout ≡ layout_in (get_or header 4 0) → layout ≡ Classes → is_by_classes bytes ≡ true
-  read_by_classes layout e classes = by_classes (get_or bytes 4 0) (ap layout_in (sym (same_byte 4 (omega arith))) ∙ sym e ∙ classes)
+kind_says : (board : Shape) (h : Header) (kind : Layout × Counts) → Ok kind ≡ kind_in board h → kind ≡ (layout_in h.version, counts h.greater h.lesser)
+unfolding kind_in
+kind_says board h kind e =
+    let all : ◌≡◌ {A = Result (Layout × Counts) ReadFault} (Ok kind) (Ok (layout_in h.version, counts h.greater h.lesser)) =
+    passed (nat_le (h.greater + h.lesser) board.points) fault.Crowded _ kind (passed (are_counts h.greater h.lesser) fault.Counts _ kind
+    (passed (nat_eq h.board board.id) fault.BoardId _ kind (passed (is_version h.version) fault.Version _ kind
+    (passed (bytes_eq h.magic magic) fault.Magic _ kind e)))) in
+    cc
 
-  pub read_in_full : (layout : Layout) → layout ≡ layout_in (get_or header 4 0) → layout ≡ Full → is_by_classes bytes ≡ true → ⊥
-  read_in_full layout e full = not_by_classes (get_or bytes 4 0) (ap layout_in (sym (same_byte 4 (omega arith))) ∙ sym e ∙ full)
+module _ (board : Shape) (bytes : List ℕ) (header : Header) (is : header ≡ header_at (take 16 bytes)) (found : Layout) (pair : Counts)
+    (known : Ok (found, pair) ≡ kind_in board header) where
+  version_is : found ≡ layout_in (get_or bytes 4 0)
+  version_is =
+      ap (λ (k : Layout × Counts). k.0) (kind_says board header (found, pair) known)
+      ∙ ap (λ (h : Header). layout_in h.version) is ∙ ap layout_in (get_or-take 16 bytes 4 0 (omega arith))
 
-  module _ (board : Shape) (n : ℕ) (points : board.points ≡ n) (s : Sides) (c : Counts) (long : 16 ≤ length bytes) (named : names_pair c bytes ≡ true) where
-    pair_is : counts (get_or header 6 0) (get_or header 7 0) ≡ c
+  pub read_by_classes : found ≡ Classes → is_by_classes bytes ≡ true
+  read_by_classes classes = by_classes (get_or bytes 4 0) (sym version_is ∙ classes)
+
+  pub read_in_full : found ≡ Full → is_by_classes bytes ≡ true → ⊥
+  read_in_full full = not_by_classes (get_or bytes 4 0) (sym version_is ∙ full)
+
+  module _ (n : ℕ) (points : board.points ≡ n) (s : Sides) (c : Counts) (long : 16 ≤ length bytes) (named : names_pair c bytes ≡ true) where
+    pair_is : pair ≡ c
     pair_is =
         let parts = and_parts (nat_eq (get_or bytes 6 0) c.greater) (nat_eq (get_or bytes 7 0) c.lesser) (and_parts (nat_le 16 (length bytes)) _ named).1 in
-        ap₂ counts (same_byte 6 (omega arith) ∙ eqb-true (get_or bytes 6 0) c.greater parts.0) (same_byte 7 (omega arith) ∙ eqb-true (get_or bytes 7 0) c.lesser parts.1)
+        ap (λ (k : Layout × Counts). k.1) (kind_says board header (found, pair) known)
+        ∙ ap (λ (h : Header). counts h.greater h.lesser) is
+        ∙ ap₂ counts
+        (get_or-take 16 bytes 6 0 (omega arith) ∙ eqb-true (get_or bytes 6 0) c.greater parts.0)
+        (get_or-take 16 bytes 7 0 (omega arith) ∙ eqb-true (get_or bytes 7 0) c.lesser parts.1)
 
     -- the entry of a position in the file of its pair
-    pub entry-named : (layout found : Layout) (pair : Counts) → Ok (found, pair) ≡ kind_in board (header_at header) → pair ≡ counts (get_or header 6 0) (get_or header 7 0)
-        → found ≡ layout → counted_entry board n (header_at header).entries (length bytes) layout c s ≡ entry_in board s bytes
-    entry-named layout found pair e pair_of kind =
-        let known : Ok (layout, c) ≡ kind_in board (header_at (take 16 bytes)) =
-        ap₂ (λ l p. Ok (l, p)) (sym kind) (sym (pair_of ∙ pair_is)) ∙ e ∙ ap (λ h. kind_in board (header_at h)) is in
-        ap (λ h. counted_entry board n (header_at h).entries (length bytes) layout c s) is
+    pub entry-named : (layout : Layout) → found ≡ layout → counted_entry board n header.entries (length bytes) layout c s ≡ entry_in board s bytes
+    entry-named layout kind =
+        let here : Ok (layout, c) ≡ kind_in board (header_at (take 16 bytes)) =
+        ap₂ (λ l p. Ok (l, p)) (sym kind) (sym pair_is) ∙ known ∙ ap (kind_in board) is in
+        ap (λ (h : Header). counted_entry board n h.entries (length bytes) layout c s) is
         ∙ ap (λ m. counted_entry board m (header_at (take 16 bytes)).entries (length bytes) layout c s) (sym points)
-        ∙ sym (entry-counted board s bytes long layout c known)
+        ∙ sym (entry-counted board s bytes long layout c here)
 
 -- ---- answers
 
@@ -196,17 +219,17 @@ module _ (board : Shape) (bytes : List ℕ) where
           | inr other ↦ rw (le-leb 16 (length bytes) long, ← e, other) refl
         ]
 
-    module _ (header : List ℕ) (is : header ≡ take 16 bytes) (kind : Layout × Counts) (known : Ok kind ≡ kind_in board (header_at header)) (count : ℕ)
+    module _ (header : Header) (is : header ≡ header_at (take 16 bytes)) (kind : Layout × Counts) (known : Ok kind ≡ kind_in board header) (count : ℕ)
         (counted : count ≡ entry_count board board.points kind.0 kind.1) where
-      parts : header_said board bytes ≡ left (borne_out (header_at header).entries (length bytes) count) kind
+      parts : header_said board bytes ≡ left (borne_out header.entries (length bytes) count) kind
       parts =
-          header-counted kind (known ∙ ap (λ h. kind_in board (header_at h)) is)
-          ∙ ap₂ (λ h n. left (borne_out (header_at h).entries (length bytes) n) kind) (sym is) (sym counted)
+          header-counted kind (known ∙ ap (kind_in board) is)
+          ∙ ap₂ (λ (h : Header) n. left (borne_out h.entries (length bytes) n) kind) (sym is) (sym counted)
 
-      pub header-not_borne : (refusal : ReadFault) → Err refusal ≡ borne_out (header_at header).entries (length bytes) count → header_said board bytes ≡ Err refusal
+      pub header-not_borne : (refusal : ReadFault) → Err refusal ≡ borne_out header.entries (length bytes) count → header_said board bytes ≡ Err refusal
       header-not_borne refusal e = parts ∙ ap (λ r. left r kind) (sym e)
 
-      pub header-found : (done : Unit {0}) → Ok done ≡ borne_out (header_at header).entries (length bytes) count → header_said board bytes ≡ Ok (header_record board kind)
+      pub header-found : (done : Unit {0}) → Ok done ≡ borne_out header.entries (length bytes) count → header_said board bytes ≡ Ok (header_record board kind)
       header-found done e = parts ∙ ap (λ r. left r kind) (sym e)
 
 -- a table has fewer entries than fill a number

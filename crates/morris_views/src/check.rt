@@ -3,13 +3,13 @@ ghost use Rattle.std.specs.Prelude.{◌≡◌, ◌<◌, ◌^◌};
 ghost use Rattle.morris_index.specs.Pairs.{IsPair};
 ghost use Rattle.morris_table.specs.Entries.{entry_count};
 ghost use Rattle.morris_views.specs.Checking.{header_said};
-ghost use Rattle.morris_table.specs.TableFiles.{version_of};
 
-use crate::framing::{bear_out, header_of, kind_of};
+use crate::framing::{bear_out, header_of};
 use morris_board::board::Geometry;
 use morris_index::class_sizes::class_size;
 use morris_index::pair::Pair;
 use morris_table::file_faults::ReadFault;
+use morris_table::header::version_of;
 use morris_table::layout::Layout;
 
 /// What the header of a table file says, as numbers that other languages read.
@@ -42,9 +42,9 @@ pub fn check<B: Geometry>(bytes: &[u8]) -> Result<HeaderRecord, ReadFault>
     ensures { result ≡ header_said B.shape bytes.now }
 {
     let header = header_of(bytes)?;
-    let (layout, pair) = kind_of::<B>(&header)?;
+    let (layout, pair) = header.kind::<B>()?;
     let entries = count_of(pair, layout);
-    bear_out(&header, bytes.len() as u64, entries)?;
+    bear_out(header.entries, bytes.len() as u64, entries)?;
     Ok(HeaderRecord {
         version: version_of(layout),
         board: B::ID,
@@ -65,15 +65,5 @@ fn count_of<B: Geometry>(pair: Pair<B>, layout: Layout) -> u64
     match layout {
         Layout::Full => pair.size(),
         Layout::Classes => class_size(pair),
-    }
-}
-
-/// The version of the files of a layout.
-fn version_of(layout: Layout) -> u8
-    ensures { result ≡ version_of layout }
-{
-    match layout {
-        Layout::Full => 1,
-        Layout::Classes => 2,
     }
 }

@@ -2,10 +2,8 @@
 ghost use Rattle.std.specs.Prelude.{◌≡◌};
 ghost use Rattle.morris_views.specs.Digests.{has_digest};
 
+use morris_table::reading::DIGEST;
 use sha2::{Digest, Sha256};
-
-/// How many bytes a digest has.
-pub(crate) const DIGEST: usize = 32;
 
 /// Whether the last 32 bytes are the SHA-256 of all bytes before them. All bytes are read.
 #[tactic(auto, unfolding(crate::specs::Digests::has_digest))]

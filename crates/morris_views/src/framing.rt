@@ -1,25 +1,21 @@
 //! What the header of a table file says, and the number of its bytes bears out.
-ghost use Rattle.std.specs.Prelude.{◌≡◌, ◌+◌, ◌*◌, ◌≤◌, ◌<◌, ◌^◌, true, length, take, slice_index, IfOk, IfErr, MatchResult};
-ghost use Rattle.morris_index.specs.Pairs.{counts, is_of};
-ghost use Rattle.morris_table.specs.FileReading.{header_at, kind_in, layout_in};
+ghost use Rattle.std.specs.Prelude.{◌≡◌, ◌+◌, ◌*◌, ◌≤◌, ◌<◌, ◌^◌, true, length, take, IfOk, MatchResult};
+ghost use Rattle.morris_index.specs.Pairs.{is_of};
+ghost use Rattle.morris_table.specs.FileReading.{header_at};
 ghost use Rattle.morris_views.specs.Files.{names_pair};
 ghost use Rattle.morris_views.specs.Prepared.{looks_prepared, IsPrepared};
 ghost use Rattle.morris_views.specs.Views.{entry_in, is_by_classes, Serves, borne_out, counted_entry};
 
-use crate::digest::DIGEST;
 use crate::fault::ViewFault;
-use crate::view::HEADER;
 use crate::words::representatives;
 use morris_board::board::Geometry;
 use morris_board::position::Position;
-use morris_index::faults::PairFault;
 use morris_index::pair::Pair;
 use morris_lookup::class_entries::{class_index, class_size};
 use morris_table::file_faults::ReadFault;
+use morris_table::header::{HEADER, Header};
 use morris_table::layout::Layout;
-
-/// What each file begins with.
-const MAGIC: [u8; 4] = *b"NMMT";
+use morris_table::reading::DIGEST;
 
 /// The entry of a position in the file of its pair.
 ///
@@ -43,48 +39,49 @@ pub(crate) fn entry_of<B: Geometry>(
     ensures few { IfOk result (λ entry. entry < 2 ^ 55) }
 {
     let header = header_of(bytes)?;
-    let (layout, _) = kind_of::<B>(&header)?;
+    let (layout, _) = header.kind::<B>()?;
     match layout {
-        Layout::Full => full_entry(&header, bytes.len() as u64, pair, position),
-        Layout::Classes => class_entry(&header, bytes.len() as u64, words, pair, position),
+        Layout::Full => full_entry(header.entries, bytes.len() as u64, pair, position),
+        Layout::Classes => class_entry(header.entries, bytes.len() as u64, words, pair, position),
     }
 }
 
-/// The entry of a position in a file with an entry for each position, that has this header and so
-/// many bytes.
+/// The entry of a position in a file with an entry for each position, whose header states so many
+/// entries, and that has so many bytes.
 ///
 /// # Errors
 /// [`ViewFault::File`] with the first of `Count`, `Short` and `Trailing` that applies.
 fn full_entry<B: Geometry>(
-    header: &[u8; HEADER],
+    stated: u64,
     length: u64,
     pair: Pair<B>,
     position: &Position<B>,
 ) -> Result<u64, ViewFault>
     requires { is_of pair position.now ≡ true }
-    ensures said { result ≡ counted_entry B.shape B.POINTS (header_at header.now).entries length Layout.Full pair position.now }
+    ensures said { result ≡ counted_entry B.shape B.POINTS stated length Layout.Full pair position.now }
     ensures inside { IfOk result (λ entry. 16 + 2 * entry + 2 ≤ length) }
     ensures few { IfOk result (λ entry. entry < 2 ^ 55) }
 {
     let count = pair.size();
-    bear_out(header, length, count)?;
+    bear_out(stated, length, count)?;
     Ok(pair.index(position))
 }
 
-/// The entry of a position in a file by classes that has this header and so many bytes.
+/// The entry of a position in a file by classes, whose header states so many entries, and that has
+/// so many bytes.
 ///
 /// # Errors
 /// [`ViewFault::Words`]; then [`ViewFault::File`] with the first of `Count`, `Short` and `Trailing`
 /// that applies.
 fn class_entry<B: Geometry>(
-    header: &[u8; HEADER],
+    stated: u64,
     length: u64,
     words: &[u32],
     pair: Pair<B>,
     position: &Position<B>,
 ) -> Result<u64, ViewFault>
     requires { is_of pair position.now ≡ true }
-    ensures said { IsPrepared B.shape words.now → result ≡ counted_entry B.shape B.POINTS (header_at header.now).entries length Layout.Classes pair position.now }
+    ensures said { IsPrepared B.shape words.now → result ≡ counted_entry B.shape B.POINTS stated length Layout.Classes pair position.now }
     ensures inside { IsPrepared B.shape words.now → IfOk result (λ entry. 16 + 2 * entry + 2 ≤ length) }
     ensures unready { IfOk result (λ _. looks_prepared B.shape words.now ≡ true) }
     ensures few { IfOk result (λ entry. entry < 2 ^ 55) }
@@ -94,7 +91,7 @@ fn class_entry<B: Geometry>(
     let greater = representatives::<B>(words, pair.greater())?;
     let lesser = representatives::<B>(words, pair.lesser())?;
     let count = class_size(pair, greater, lesser);
-    bear_out(header, length, count)?;
+    bear_out(stated, length, count)?;
     Ok(class_index(pair, greater, lesser, position))
 }
 
@@ -102,27 +99,28 @@ fn class_entry<B: Geometry>(
 ///
 /// # Errors
 /// `Short` where there are fewer bytes than a header has.
-pub(crate) fn header_of(bytes: &[u8]) -> Result<[u8; HEADER], ReadFault>
-    ensures { MatchResult result (λ header. (16 ≤ length bytes.now) × (header ≡ take 16 bytes.now)) (λ refusal. (length bytes.now < 16) × (refusal ≡ ReadFault.Short)) }
+pub(crate) fn header_of(bytes: &[u8]) -> Result<Header, ReadFault>
+    ensures { MatchResult result (λ header. (16 ≤ length bytes.now) × (header ≡ header_at (take 16 bytes.now))) (λ refusal. (length bytes.now < 16) × (refusal ≡ ReadFault.Short)) }
 {
     if bytes.len() < HEADER {
         return Err(ReadFault::Short);
     }
     let mut header = [0; HEADER];
     header.copy_from_slice(&bytes[..HEADER]);
-    Ok(header)
+    Ok(Header::from_bytes(&header))
 }
 
-/// Holds what a header states and how many bytes there are against a table of `count` entries.
+/// Holds how many entries a header states, and how many bytes there are, against a table of `count`
+/// entries.
 ///
 /// # Errors
 /// The first of `Count`, `Short` and `Trailing` that applies.
 #[tactic(auto, unfolding(crate::specs::Views::borne_out))]
-pub(crate) fn bear_out(header: &[u8; HEADER], length: u64, count: u64) -> Result<(), ReadFault>
+pub(crate) fn bear_out(stated: u64, length: u64, count: u64) -> Result<(), ReadFault>
     requires { count < 2 ^ 56 }
-    ensures { result ≡ borne_out (header_at header.now).entries length count }
+    ensures { result ≡ borne_out stated length count }
 {
-    if entries_of(header) != count {
+    if stated != count {
         return Err(ReadFault::Count);
     }
     let size = HEADER as u64 + 2 * count + DIGEST as u64;
@@ -133,45 +131,4 @@ pub(crate) fn bear_out(header: &[u8; HEADER], length: u64, count: u64) -> Result
         return Err(ReadFault::Trailing);
     }
     Ok(())
-}
-
-/// The number of entries that a header states.
-fn entries_of(header: &[u8; HEADER]) -> u64
-    ensures { result ≡ (header_at header.now).entries }
-{
-    u64::from_be_bytes([
-        header[8], header[9], header[10], header[11], header[12], header[13], header[14],
-        header[15],
-    ])
-}
-
-/// The layout and the pair of the table that a header stands before.
-///
-/// # Errors
-/// The first of `Magic`, `Version`, `BoardId`, `Counts` and `Crowded` that applies.
-#[tactic(auto, unfolding(morris_table::specs::FileReading::kind_in))]
-pub(crate) fn kind_of<B: Geometry>(header: &[u8; HEADER]) -> Result<(Layout, Pair<B>), ReadFault>
-    ensures value { result ≡ kind_in B.shape (header_at header.now) }
-    ensures layout { IfOk result (λ kind. kind.0 ≡ layout_in (slice_index header.now 4)) }
-    ensures pair { IfOk result (λ kind. kind.1 ≡ counts (slice_index header.now 6) (slice_index header.now 7)) }
-{
-    if [header[0], header[1], header[2], header[3]] != MAGIC {
-        return Err(ReadFault::Magic);
-    }
-    let layout = match header[4] {
-        1 => Layout::Full,
-        2 => Layout::Classes,
-        _ => return Err(ReadFault::Version),
-    };
-    if header[5] != B::ID {
-        return Err(ReadFault::BoardId);
-    }
-    if header[6] < header[7] {
-        return Err(ReadFault::Counts);
-    }
-    match Pair::new(header[6], header[7]) {
-        Ok(pair) => Ok((layout, pair)),
-        Err(PairFault::Counts) => Err(ReadFault::Counts),
-        Err(PairFault::Crowded) => Err(ReadFault::Crowded),
-    }
 }

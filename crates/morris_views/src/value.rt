@@ -1,7 +1,7 @@
 //! The value of a position, by table files in memory.
 ghost use Rattle.std.specs.Prelude.{◌≡◌, ◌+◌, ◌*◌, ◌<◌, ◌≤◌, ◌^◌, true, length, IfOk, MatchOption};
 ghost use Rattle.morris_index.specs.Pairs.{is_of};
-ghost use Rattle.morris_table.specs.Codes.{IsValue, value_in};
+ghost use Rattle.morris_table.specs.Codes.{IsValue};
 ghost use Rattle.morris_lookup.specs.Lookups.{code_at, depth_of};
 ghost use Rattle.morris_views.specs.Files.{contents, names_pair};
 ghost use Rattle.morris_views.specs.Prepared.{looks_prepared};
@@ -9,10 +9,12 @@ ghost use Rattle.morris_views.specs.Views.{value_said, value_of_bytes, is_by_cla
 
 use crate::fault::ViewFault;
 use crate::framing::entry_of;
-use crate::view::{HEADER, View, file_of_pair};
+use crate::view::{View, file_of_pair};
 use morris_board::board::Geometry;
 use morris_board::position::Position;
 use morris_index::pair::Pair;
+use morris_table::exact::value_of_code;
+use morris_table::header::HEADER;
 use morris_table::value::Value;
 
 /// The value that files state for a position: that of the first file that names its pair in the
@@ -82,20 +84,4 @@ fn code_at(bytes: &[u8], entry: u64) -> Option<u16>
         return None;
     }
     Some(u16::from_be_bytes([bytes[place], bytes[place + 1]]))
-}
-
-/// The value that a code says.
-fn value_of_code(code: u16) -> Value
-    ensures value { result ≡ value_in code }
-    ensures few { depth_of result ≤ 65534 }
-{
-    if code == 0 {
-        return Value::Draw;
-    }
-    let depth = code - 1;
-    if depth % 2 == 0 {
-        Value::Lost(depth)
-    } else {
-        Value::Won(depth)
-    }
 }

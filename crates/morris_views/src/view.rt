@@ -5,9 +5,7 @@ ghost use Rattle.morris_views.specs.Files.{names_pair, file_of_pair, contents};
 
 use morris_board::board::Geometry;
 use morris_index::pair::Pair;
-
-/// How many bytes a header has.
-pub(crate) const HEADER: usize = 16;
+use morris_table::header::HEADER;
 
 /// The bytes of a table file, which somebody else keeps and nobody changes meanwhile.
 #[repr(C)]

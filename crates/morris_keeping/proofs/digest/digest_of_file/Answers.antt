@@ -19,10 +19,10 @@ fed board t header digest same found =
 pub returns : goal.returns
 returns g c =
     let t = c.args.table.now in
-    let header = c.header.result in
+    let header = c.to_bytes.result in
     let front = header ++ code_bytes t.codes in
     let holds : Holds256 c.digest_codes.new.hasher front = c.digest_codes.ensures header (c.update.ensures [] c.new-hasher.ensures) in
     let digest : c.finalize.result ≡ sha256 front =
     c.finalize.ensures front (subst (λ h. Holds256 h front) (sym c.in-Ok.ensures.cases) holds) in
     c.finalize-2.ensures (front ++ c.finalize.result) (c.update-2.ensures front holds)
-    ∙ ap sha256 (fed g.B.Geometry.shape t header c.finalize.result c.header.ensures digest)
+    ∙ ap sha256 (fed g.B.Geometry.shape t header c.finalize.result (c.to_bytes.ensures ∙ c.of.ensures.value) digest)

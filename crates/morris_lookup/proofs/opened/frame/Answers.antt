@@ -1,5 +1,6 @@
-use Rattle.std.proofs.Common.{◌≡◌, ◌≤◌, length, arith}
+use Rattle.std.proofs.Common.{◌≡◌, ◌≤◌, ◌∙◌, length, sym, ap, subst, arith}
 use Rattle.std.proofs.lemmas.Result.{err_from_is_err_and}
+use Rattle.morris_table.specs.FileReading.{heading_in, IsHeadingRefusal}
 use Rattle.morris_lookup.specs.Numberings.{layout_of, pair_of}
 use Rattle.morris_lookup.proofs.OpeningLaws.{frame_short, frame_header, frame_measure, frame_found}
 use Rattle.morris_lookup.proofs.opened.frame.Goals as goal
@@ -15,7 +16,8 @@ returns-in_err-numbering-clause-refused g c =
     let enough : 16 ≤ c.in_ok-length.length = omega (arith, c.if-length.false) in
     rw (failed.1, failed.2)
     (frame_header g.B.Geometry.shape c.in_ok-length.length _ _ _ c.read_at.new.out _ long enough (g.S.Storage.contents c.args.storage.now) c.in_ok-length.ensures
-    c.in_ok-read_at.ensures.bytes c.in_err-numbering.field-0.0 c.in_err-numbering.ensures.refused)
+    c.in_ok-read_at.ensures.bytes c.in_err-numbering.field-0.0
+    (subst (λ header. IsHeadingRefusal g.B.Geometry.shape header c.in_err-numbering.field-0.0) c.from_bytes.ensures c.in_err-numbering.ensures.refused))
 
 pub returns-in_err-measure-clause-refused : goal.returns-in_err-measure-clause-refused
 returns-in_err-measure-clause-refused g c =
@@ -24,7 +26,7 @@ returns-in_err-measure-clause-refused g c =
     let enough : 16 ≤ c.in_ok-length.length = omega (arith, c.if-length.false) in
     rw (failed.1, failed.2)
     (frame_measure g.B.Geometry.shape c.in_ok-length.length _ _ _ c.read_at.new.out _ long enough (layout_of c.in_ok-numbering.numbering, pair_of c.in_ok-numbering.numbering)
-    c.in_ok-numbering.ensures.found (g.S.Storage.contents c.args.storage.now) c.in_ok-length.ensures
+    (ap (heading_in g.B.Geometry.shape) (sym c.from_bytes.ensures) ∙ c.in_ok-numbering.ensures.found) (g.S.Storage.contents c.args.storage.now) c.in_ok-length.ensures
     c.in_ok-read_at.ensures.bytes c.in_err-measure.field-0.0 c.in_err-measure.ensures.refused)
 
 pub returns-clause-found : goal.returns-clause-found
@@ -32,5 +34,5 @@ returns-clause-found g c =
     let long : length c.read_at.new.out ≡ 16 = omega (arith, c.read_at.ensures.size) in
     let enough : 16 ≤ c.in_ok-length.length = omega (arith, c.if-length.false) in
     frame_found g.B.Geometry.shape c.in_ok-length.length _ _ _ c.read_at.new.out _ long enough (layout_of c.in_ok-numbering.numbering, pair_of c.in_ok-numbering.numbering)
-    c.in_ok-numbering.ensures.found (g.S.Storage.contents c.args.storage.now) c.in_ok-length.ensures
+    (ap (heading_in g.B.Geometry.shape) (sym c.from_bytes.ensures) ∙ c.in_ok-numbering.ensures.found) (g.S.Storage.contents c.args.storage.now) c.in_ok-length.ensures
     c.in_ok-read_at.ensures.bytes c.in_ok-measure.ensures.right

@@ -1,7 +1,7 @@
 use Rattle.std.proofs.Common.{◌≡◌, ◌∙◌, ap, sym}
 use Rattle.std.proofs.lemmas.Result.{err_from_is_err_and}
 use Rattle.morris_table.specs.Entries.{entry_count}
-use Rattle.morris_table.specs.FileReading.{header_at, kind_in}
+use Rattle.morris_table.specs.FileReading.{kind_in}
 use Rattle.morris_views.proofs.ViewLaws.{header-short, header-refused, header-not_borne, header-found}
 use Rattle.morris_views.proofs.check.check.Goals as goal
 
@@ -15,7 +15,7 @@ returns-in_err-layout g c =
     let failed = err_from_is_err_and c.from_residual-in_err-layout.result c.from_residual-in_err-layout.ensures.1 in
     rw (failed.1, failed.2)
     (sym (header-refused g.B.Geometry.shape c.args.bytes.now c.in_ok-header.ensures.0 c.in_err-layout.field-0.0
-    (c.in_err-layout.ensures.value ∙ ap (λ h. kind_in g.B.Geometry.shape (header_at h)) c.in_ok-header.ensures.1)))
+    (c.in_err-layout.ensures.value ∙ ap (kind_in g.B.Geometry.shape) c.in_ok-header.ensures.1)))
 
 pub returns-in_err-bear_out : goal.returns-in_err-bear_out
 returns-in_err-bear_out g c =

@@ -1,7 +1,7 @@
 use Rattle.std.proofs.Common.{◌∙◌, sym, ap}
 use Rattle.std.proofs.lemmas.Result.{err_from_is_err_and}
 use Rattle.morris_table.specs.declared.layout.Layout.TheVariants.{Full, Classes}
-use Rattle.morris_table.specs.FileReading.{header_at, kind_in}
+use Rattle.morris_table.specs.FileReading.{kind_in}
 use Rattle.morris_views.proofs.ViewLaws.{entry-short, entry-refused, entry-named, read_by_classes, read_in_full, ok_always, ok_maps}
 use Rattle.morris_views.proofs.framing.entry_of.Goals as goal
 
@@ -30,7 +30,7 @@ returns-in_err-layout-clause-said g c =
     let failed = err_from_is_err_and c.from_residual-in_err-layout.result c.from_residual-in_err-layout.ensures.1 in
     λ serves. rw (failed.1, failed.2)
     (sym (entry-refused g.B.Geometry.shape c.args.position.now c.args.bytes.now c.in_ok-header.ensures.0 c.in_err-layout.field-0.0
-    (c.in_err-layout.ensures.value ∙ ap (λ h. kind_in g.B.Geometry.shape (header_at h)) c.in_ok-header.ensures.1)))
+    (c.in_err-layout.ensures.value ∙ ap (kind_in g.B.Geometry.shape) c.in_ok-header.ensures.1)))
 
 pub returns-in_err-layout-clause-inside : goal.returns-in_err-layout-clause-inside
 returns-in_err-layout-clause-inside g c =
@@ -49,7 +49,7 @@ returns-in_err-layout-clause-few g c =
 
 pub returns-in-Full-clause-said : goal.returns-in-Full-clause-said
 returns-in-Full-clause-said g c =
-    λ serves. c.full_entry.ensures.said ∙ entry-named c.args.bytes.now c.in_ok-header.header c.in_ok-header.ensures.1 g.B.Geometry.shape g.B.Geometry.POINTS g.met.B.Geometry.point_count c.args.position.now c.args.pair c.in_ok-header.ensures.0 c.requires.named Full c.in_ok-layout.layout c.in_ok-layout.field-0-1 c.in_ok-layout.ensures.value c.in_ok-layout.ensures.pair c.in-Full.is
+    λ serves. c.full_entry.ensures.said ∙ entry-named g.B.Geometry.shape c.args.bytes.now c.in_ok-header.header c.in_ok-header.ensures.1 c.in_ok-layout.layout c.in_ok-layout.field-0-1 c.in_ok-layout.ensures.value g.B.Geometry.POINTS g.met.B.Geometry.point_count c.args.position.now c.args.pair c.in_ok-header.ensures.0 c.requires.named Full c.in-Full.is
 
 pub returns-in-Full-clause-inside : goal.returns-in-Full-clause-inside
 returns-in-Full-clause-inside g c =
@@ -58,7 +58,7 @@ returns-in-Full-clause-inside g c =
 pub returns-in-Full-clause-unready : goal.returns-in-Full-clause-unready
 returns-in-Full-clause-unready g c =
     ok_always c.full_entry.result
-    (λ classes. absurd (read_in_full c.args.bytes.now c.in_ok-header.header c.in_ok-header.ensures.1 c.in_ok-layout.layout c.in_ok-layout.ensures.layout c.in-Full.is classes))
+    (λ classes. absurd (read_in_full g.B.Geometry.shape c.args.bytes.now c.in_ok-header.header c.in_ok-header.ensures.1 c.in_ok-layout.layout c.in_ok-layout.field-0-1 c.in_ok-layout.ensures.value c.in-Full.is classes))
 
 pub returns-in-Full-clause-few : goal.returns-in-Full-clause-few
 returns-in-Full-clause-few g c =
@@ -66,11 +66,11 @@ returns-in-Full-clause-few g c =
 
 pub returns-in-Classes-clause-said : goal.returns-in-Classes-clause-said
 returns-in-Classes-clause-said g c =
-    λ serves. c.class_entry.ensures.said (serves (read_by_classes c.args.bytes.now c.in_ok-header.header c.in_ok-header.ensures.1 c.in_ok-layout.layout c.in_ok-layout.ensures.layout c.in-Classes.is)) ∙ entry-named c.args.bytes.now c.in_ok-header.header c.in_ok-header.ensures.1 g.B.Geometry.shape g.B.Geometry.POINTS g.met.B.Geometry.point_count c.args.position.now c.args.pair c.in_ok-header.ensures.0 c.requires.named Classes c.in_ok-layout.layout c.in_ok-layout.field-0-1 c.in_ok-layout.ensures.value c.in_ok-layout.ensures.pair c.in-Classes.is
+    λ serves. c.class_entry.ensures.said (serves (read_by_classes g.B.Geometry.shape c.args.bytes.now c.in_ok-header.header c.in_ok-header.ensures.1 c.in_ok-layout.layout c.in_ok-layout.field-0-1 c.in_ok-layout.ensures.value c.in-Classes.is)) ∙ entry-named g.B.Geometry.shape c.args.bytes.now c.in_ok-header.header c.in_ok-header.ensures.1 c.in_ok-layout.layout c.in_ok-layout.field-0-1 c.in_ok-layout.ensures.value g.B.Geometry.POINTS g.met.B.Geometry.point_count c.args.position.now c.args.pair c.in_ok-header.ensures.0 c.requires.named Classes c.in-Classes.is
 
 pub returns-in-Classes-clause-inside : goal.returns-in-Classes-clause-inside
 returns-in-Classes-clause-inside g c =
-    λ serves. c.class_entry.ensures.inside (serves (read_by_classes c.args.bytes.now c.in_ok-header.header c.in_ok-header.ensures.1 c.in_ok-layout.layout c.in_ok-layout.ensures.layout c.in-Classes.is))
+    λ serves. c.class_entry.ensures.inside (serves (read_by_classes g.B.Geometry.shape c.args.bytes.now c.in_ok-header.header c.in_ok-header.ensures.1 c.in_ok-layout.layout c.in_ok-layout.field-0-1 c.in_ok-layout.ensures.value c.in-Classes.is))
 
 pub returns-in-Classes-clause-unready : goal.returns-in-Classes-clause-unready
 returns-in-Classes-clause-unready g c =

@@ -26,4 +26,4 @@ returns-in-None-clause-said g c = λ serves. absurd (omega (arith, c.in-None.ens
 pub returns-in-Some-clause-said : goal.returns-in-Some-clause-said
 unfolding value_of_bytes
 returns-in-Some-clause-said g c = λ serves.
-    ap (λ v. Ok v) (c.value_of_code.ensures.value ∙ ap value_in c.in-Some.ensures) ∙ ap (value_at c.args.bytes.now) (c.in_ok-entry.ensures.said serves)
+    ap (λ v. Ok v) (c.value_of_code.ensures ∙ ap value_in c.in-Some.ensures) ∙ ap (value_at c.args.bytes.now) (c.in_ok-entry.ensures.said serves)

@@ -13,13 +13,13 @@ returns-in_err-numbering-clause-refused g c =
     (room_refused g.B.Geometry.shape _ c.in_ok-layout.layout c.in_ok-layout.pair c.in_ok-layout.ensures.value
     (λ full. false≢true (c.in_err-numbering.ensures.full full)))
 
-pub returns-then-entries_of-count-clause-refused : goal.returns-then-entries_of-count-clause-refused
-returns-then-entries_of-count-clause-refused g c = (
+pub returns-then-header-count-clause-refused : goal.returns-then-header-count-clause-refused
+returns-then-header-count-clause-refused g c = (
   count_refused g.B.Geometry.shape g.B.Geometry.POINTS g.met.B.Geometry.point_count _ (c.in_ok-layout.layout, c.in_ok-layout.pair) c.in_ok-layout.ensures.value
       (λ e.
       let counted : c.count.result ≡ entry_count g.B.Geometry.shape g.B.Geometry.POINTS c.in_ok-layout.layout c.in_ok-layout.pair =
       rw (← c.in_ok-numbering.ensures.layout, ← c.in_ok-numbering.ensures.pair) c.count.ensures.value in
-      let same : c.entries_of.result ≡ c.count.result = c.entries_of.ensures ∙ e ∙ sym counted in
-      omega (arith, same, c.if-entries_of-count.true)),
+      let same : c.args.header.entries ≡ c.count.result = e ∙ sym counted in
+      omega (arith, same, c.if-header-count.true)),
   tt,
 )
