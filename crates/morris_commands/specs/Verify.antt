@@ -31,6 +31,12 @@ IsUnbuiltBefore board pair blocks (fault.Missing number) = RestsOnAnother pair �
 IsUnbuiltBefore board pair blocks fault.TooDeep = RestsOnTooDeep board pair
 IsUnbuiltBefore board pair blocks _ = ⊥
 
+-- why it isn't where those are built: the first entry that isn't what the rules give from those of
+-- its results
+abbrev pub IsWrong : Shape → Table → Fault → Type 0
+IsWrong board t (fault.Differs index) = IsFirstToDiffer board t index
+IsWrong board t _ = ⊥
+
 -- Why a table that was read isn't believed: the pairs on which its own rests aren't built; or, where
 -- codes suffice for them, the first entry that isn't what the rules give from those of its results.
 abbrev pub IsUnverified : Shape → Table → ℕ → Fault → Type 0

@@ -1,10 +1,11 @@
 //! The command `verify`.
 ghost use Rattle.std.specs.Prelude.{◌≡◌, ◌-◌, ◌^◌, ◌<◌, None, IfErr, IfOk, IfSome, OnOk};
+ghost use Rattle.morris_table.specs.Shelves.{first_missing};
 ghost use Rattle.morris_table.specs.Tables.{IsTable};
 ghost use Rattle.morris_faults.specs.Faults.{CountsWrites};
 ghost use Rattle.morris_faults.specs.BoardNames.{board_of};
 ghost use Rattle.morris_commands.specs.Stats.{RestsOnTooDeep};
-ghost use Rattle.morris_commands.specs.Verify.{AnswersInput, AnswersVerify, IsUnverified, input_of};
+ghost use Rattle.morris_commands.specs.Verify.{AnswersInput, AnswersVerify, IsUnverified, IsWrong, input_of};
 
 use crate::build::build_before;
 use crate::print_verified::Verified;
@@ -20,6 +21,7 @@ use morris_table::building::build_watched;
 use morris_table::exact::Exact;
 use morris_table::raw::Raw;
 use morris_table::reading::read_table;
+use morris_table::stock::Stock;
 use morris_table::verify::VerifyFault;
 use morris_workers::OpenGate;
 use std::alloc::Global;
@@ -109,15 +111,32 @@ fn believe<B: Board, R: Threads + Wait + Sync, T: Teller>(
     );
     let stock = build_before(rt, alloc, layout, false, pair, team, teller)?;
     teller.begin_pair(pair);
-    if let Some(exact) = build_alike(rt, alloc, team, &stock, &raw, teller) {
-        teller.end_pair(&exact);
+    let exact = judge(rt, alloc, team, &stock, raw, teller)?;
+    teller.end_pair(&exact);
+    Ok(exact)
+}
+
+/// The table that was read, once each of its entries is known to be right over the tables of a stock
+/// that has those that its pair needs.
+fn judge<B: Board, R: Threads + Wait + Sync, T: Teller>(
+    rt: &R,
+    alloc: Global,
+    team: Team,
+    stock: &Stock<B>,
+    raw: Raw<B>,
+    teller: &mut T,
+) -> Result<Exact<B>, Fault>
+    requires ready { first_missing stock.now raw.pair ≡ None }
+    ensures exact { IfOk result (λ exact. IsTable B.shape raw) }
+    ensures value { IfOk result (λ exact. exact ≡ raw) }
+    ensures refused { IfErr result (IsWrong B.shape raw) }
+    ensures told { T.becomes teller.old teller.new }
+{
+    if let Some(exact) = build_alike(rt, alloc, team, stock, &raw, teller) {
         return Ok(exact);
     }
-    match raw.verify_watched(rt, alloc, &stock, team.workers, teller) {
-        Ok(exact) => {
-            teller.end_pair(&exact);
-            Ok(exact)
-        }
+    match raw.verify_watched(rt, alloc, stock, team.workers, teller) {
+        Ok(exact) => Ok(exact),
         Err((_, VerifyFault::Differs(index))) => Err(Fault::Differs(index)),
         Err((_, VerifyFault::Needs(_))) => unreachable!(),
     }

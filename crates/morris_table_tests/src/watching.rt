@@ -156,10 +156,20 @@ fn told_of_verifying<R: Threads + Wait + Sync>(
         return None;
     }
     let stock = Stock::new(alloc).ok()?;
-    let table = build_as(rt, alloc, &Shelf::new(alloc).ok()?, pair(3, 3)?, layout, &OpenGate, 2, 5);
+    let table = build_as(
+        rt,
+        alloc,
+        &Shelf::new(alloc).ok()?,
+        pair(3, 3)?,
+        layout,
+        &OpenGate,
+        2,
+        5,
+    );
     let raw = table.ok()?.into_raw();
     let mut scribe = Scribe::new(alloc);
-    raw.verify_watched(rt, alloc, &stock, workers, &mut scribe).ok()?;
+    raw.verify_watched(rt, alloc, &stock, workers, &mut scribe)
+        .ok()?;
     scribe.told.is_empty().then_some(scribe.done)
 }
 
