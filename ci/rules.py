@@ -239,8 +239,9 @@ class Refused(Exception):
     """A fault by its text."""
 
 
-def fault(text):
-    raise Refused(text)
+def fault(text, told=""):
+    """Refuses with this text, after what was told before."""
+    raise Refused(text, told)
 
 
 def read_file(data, board):
@@ -285,7 +286,7 @@ def order_of(pair, version):
     return ORDER[pair, version]
 
 
-def check_codes(pair, version, codes, game):
+def check_codes(pair, version, codes, game, where=""):
     """Refuses a table at the first entry that isn't what the entries of its results give."""
     if list(codes) == game.listed[pair, version]:
         return
@@ -294,7 +295,7 @@ def check_codes(pair, version, codes, game):
     for i, (_, results) in enumerate(order):
         of_results = [stated[led] if led in stated else game.code(it) for it, led in results]
         if code_from(of_results) != codes[i]:
-            fault(f"14: entry {i} differs")
+            fault(f"14: entry {i} differs{where}")
 
 
 def in_words(code):
@@ -333,7 +334,41 @@ def verify(game, board, given):
     if rest:
         fault("21: bytes after the table")
     check_codes(pair, version, codes, game)
+    return verified(pair, codes)
+
+
+def verified(pair, codes):
     return f"verified {pair[0]}-{pair[1]}: {len(codes)} entries\n"
+
+
+def verify_all(game, board, given):
+    """Verifies files one after the other. At a file's turn those tables are kept whose pairs have at
+    most one stone less than its own."""
+    stock, files, told = set(), 0, ""
+    while given:
+        try:
+            pair, version, codes, given = read_file(given, board)
+            files += 1
+            if files > MOST_FILES:
+                fault("27: more than 64 tables")
+            stock = {it for it in stock if sum(it) + 1 >= sum(pair)}
+            check_table(pair, version, codes, game, stock, f", in the file of {pair[0]}-{pair[1]}")
+        except Refused as refused:
+            fault(refused.args[0], told)
+        stock.add(pair)
+        told += verified(pair, codes)
+    if not files:
+        fault("32: no table files")
+    return told
+
+
+def check_table(pair, version, codes, game, known, where=""):
+    """Refuses a table that needs one of another pair than those that are known, or whose codes are
+    wrong."""
+    for need in needs(pair):
+        if need not in known:
+            fault(f"13: needs {need[0]}-{need[1]}{where}")
+    check_codes(pair, version, codes, game, where)
 
 
 def probe(game, board, text, given):
@@ -344,10 +379,7 @@ def probe(game, board, text, given):
         files += 1
         if files > MOST_FILES:
             fault("27: more than 64 tables")
-        for need in needs(pair):
-            if need not in shelf:
-                fault(f"13: needs {need[0]}-{need[1]}")
-        check_codes(pair, version, codes, game)
+        check_table(pair, version, codes, game, shelf)
         shelf.add(pair)
     counts = tuple(sorted((len(own), len(other)), reverse=True))
     if len(own) > 2 and counts not in shelf:
@@ -421,5 +453,6 @@ def answer_of(made):
     try:
         text = made()
     except Refused as refused:
-        return 1, b"", f"fault {refused}\n".encode()
+        text, told = refused.args
+        return 1, told.encode(), f"fault {text}\n".encode()
     return 0, text if isinstance(text, bytes) else text.encode(), b""

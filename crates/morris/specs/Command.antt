@@ -19,6 +19,7 @@ use Rattle.morris_commands.specs.Look.{Looks}
 use Rattle.morris_commands.specs.Stats.{AnswersStats}
 use Rattle.morris_commands.specs.StatsByClasses.{AnswersByClasses}
 use Rattle.morris_commands.specs.Build.{AnswersBuild, layout_asked}
+use Rattle.morris_folder_commands.specs.Bundle.{AnswersBundle}
 use Rattle.morris_folder_commands.specs.From.{AnswersFrom}
 use Rattle.morris_folder_commands.specs.Into.{AnswersInto, place_of}
 use Rattle.morris_commands.specs.Probe.{AnswersProbe}
@@ -85,14 +86,15 @@ Answers before after old new (Stats board pair classes workers blocks deepest) r
     AnswersCount classes board.now pair.now workers blocks deepest old new result
 Answers before after old new (Build board pair workers blocks all into classes) result =
     AnswersTables board.now pair.now workers blocks all into classes old new result
-Answers before after old new (Verify board None workers) result = AnswersVerify (board_of board.now) verified_blocks before after old new result
-Answers before after old new (Verify board (Some folder) workers) result = AnswersFrom (board_of board.now) None board.now old new result
+Answers before after old new (Verify board false None workers) result = AnswersVerify (board_of board.now) verified_blocks before after old new result
+Answers before after old new (Verify board true None workers) result = AnswersBundle (board_of board.now) before after old new result
+Answers before after old new (Verify board all (Some folder) workers) result = AnswersFrom (board_of board.now) None board.now old new result
 Answers before after old new (Probe board text) result = AnswersProbe (board_of board.now) text.now before after old new result
 Answers before after old new (Lookup board from show texts) result = AnswersQueries board.now show (map (λ t. t.now) texts.items) before after old new result
 
 -- whether the command of a task reads its input
 abbrev pub takes_input : Task → Bool
-takes_input (Verify board None workers) = true
+takes_input (Verify board all None workers) = true
 takes_input (Probe board text) = true
 takes_input (Lookup board from show texts) = length texts.items == 0
 takes_input _ = false

@@ -16,6 +16,7 @@ use morris_commands::stats::{stats_by_classes, stats_with};
 use morris_commands::verify::verify_with;
 use morris_faults::fault::Fault;
 use morris_faults::print::{print, send};
+use morris_folder_commands::bundle::verify_bundle;
 use morris_folder_commands::from::verify_from;
 use morris_folder_commands::into::build_into;
 use morris_folders::system::SystemFolder;
@@ -182,9 +183,10 @@ fn perform<
         ),
         Task::Verify {
             board,
+            all,
             from,
             workers,
-        } => verify(rt, alloc, board, from, workers, input, output, teller),
+        } => verify(rt, alloc, board, all, from, workers, input, output, teller),
         Task::Probe { board, text } => probe_with(alloc, board, text, input, output, teller),
         Task::Lookup {
             board,
@@ -265,8 +267,8 @@ fn build<R: Threads + Wait + Sync + Files<File = File> + AllocGlobal, O: Sink, T
     }
 }
 
-/// Verifies the table files of a folder, where there is one, and else the one on `input`, by so
-/// many workers.
+/// Verifies the table files of a folder, where there is one, and else those on `input` with `all`,
+/// or the one on it, by so many workers.
 fn verify<
     R: Threads + Wait + Sync + Files<File = File> + AllocGlobal,
     I: Source,
@@ -276,6 +278,7 @@ fn verify<
     rt: &R,
     alloc: Global,
     board: &str,
+    all: bool,
     from: Option<&str>,
     workers: u8,
     input: &mut I,
@@ -286,8 +289,8 @@ fn verify<
     requires input { I.failures input.old < 2 ^ 64 - 1 }
     requires output { O.failures output.old < 2 ^ 64 - 1 }
     ensures answer { Answers (input_of (I.remaining input.old) (I.failures input.old)) (input_of (I.remaining input.new) (I.failures input.new))
-        (O.contents output.old) (O.contents output.new) (task.Verify board.entry from.entry workers) result }
-    ensures unread { takes_input (task.Verify board.entry from.entry workers) ≡ false → input.new ≡ input.old }
+        (O.contents output.old) (O.contents output.new) (task.Verify board.entry all from.entry workers) result }
+    ensures unread { takes_input (task.Verify board.entry all from.entry workers) ≡ false → input.new ≡ input.old }
     ensures told { T.becomes teller.old teller.new }
 {
     let Ok(team) = Team::new(usize::from(workers), VERIFIED_BLOCKS) else {
@@ -298,6 +301,7 @@ fn verify<
             let folder = &mut SystemFolder::new(rt, path);
             verify_from(rt, alloc, board, team, folder, output, teller)
         }
+        None if all => verify_bundle(rt, alloc, board, team, input, output, teller),
         None => verify_with(rt, alloc, board, team, input, output, teller),
     }
 }

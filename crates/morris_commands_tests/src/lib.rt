@@ -6,6 +6,8 @@
 #[cfg(test)]
 mod build_tests;
 #[cfg(test)]
+mod bundle_tests;
+#[cfg(test)]
 mod fault_tests;
 #[cfg(test)]
 mod from_tests;

@@ -2,3 +2,4 @@ pub mod Into
 pub mod Filling
 pub mod From
 pub mod FromSteps
+pub mod Bundle

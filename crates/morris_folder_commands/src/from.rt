@@ -93,7 +93,7 @@ fn from_on<B: Board, R: Threads + Sync, F: Folder, O: Sink, T: Teller>(
     ensures told { T.becomes teller.old teller.new }
 {
     let mut stock = Stock::new(alloc)?;
-    let end = look_ahead::<B, F, T>(alloc, board, team, folder, teller)?;
+    let end = look_ahead::<B, F, T>(alloc, board, folder, teller)?;
     let mut sent = 0;
     let mut found = false;
     for place in 0..PAIRS.len() {
@@ -113,9 +113,9 @@ fn from_on<B: Board, R: Threads + Sync, F: Folder, O: Sink, T: Teller>(
     if found { Ok(()) } else { Err(Fault::NoFiles) }
 }
 
-/// Lets the tables go at a pair's turn that neither it needs nor any after it: before its file is
-/// read, and also where the folder has none.
-fn keep_near<B: Geometry>(stock: &mut Stock<B>, pair: Pair<B>)
+/// Lets the tables go at a pair's turn that neither it needs nor any after it: in a folder before
+/// its file is read, and also where there is none.
+pub(crate) fn keep_near<B: Geometry>(stock: &mut Stock<B>, pair: Pair<B>)
     ensures { KeepsNear stock.old stock.new pair }
 {
     spare(stock, false, pair);
@@ -145,7 +145,7 @@ fn read_kept<B: Geometry, F: Folder>(
 
 /// Puts a table into a stock once each of its entries is known to be right over those in it, and
 /// prints its line, where so many bytes were printed before; the answer counts these as well.
-fn take_in<B: Board, R: Threads + Sync, O: Sink, T: Teller>(
+pub(crate) fn take_in<B: Board, R: Threads + Sync, O: Sink, T: Teller>(
     rt: &R,
     alloc: Global,
     team: Team,
@@ -183,27 +183,30 @@ fn join<B: Board, R: Threads + Sync, T: Teller>(
     ensures unwritten { IfErr result (λ refused. is_write refused ≡ false) }
     ensures told { T.becomes teller.old teller.new }
 {
-    let exact = verify_over(rt, alloc, team, stock, raw)?;
+    teller.begin_pair(raw.pair());
+    let exact = verify_over(rt, alloc, team, stock, raw, teller)?;
     teller.end_pair(&exact);
     stock.put(exact);
     Ok(())
 }
 
 /// The table, once each of its entries is known to be right over the tables of a stock.
-fn verify_over<B: Board, R: Threads + Sync>(
+fn verify_over<B: Board, R: Threads + Sync, T: Teller>(
     rt: &R,
     alloc: Global,
     team: Team,
     stock: &Stock<B>,
     raw: Raw<B>,
+    teller: &mut T,
 ) -> Result<Exact<B>, Fault>
     ensures ready { OnOk result (first_missing stock.now raw.pair ≡ None) }
     ensures value { IfOk result (λ exact. exact ≡ raw) }
     ensures exact { OnOk result (IsTable B.shape raw) }
     ensures refused { IfErr result (IsUnfit B.shape stock.now raw) }
     ensures unwritten { IfErr result (λ refused. is_write refused ≡ false) }
+    ensures told { T.becomes teller.old teller.new }
 {
-    match raw.verify_by(rt, alloc, stock, team.workers) {
+    match raw.verify_watched(rt, alloc, stock, team.workers, teller) {
         Ok(exact) => Ok(exact),
         Err((_raw, refused)) => Err(Fault::from(refused)),
     }

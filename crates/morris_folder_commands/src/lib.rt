@@ -1,6 +1,8 @@
-//! What the commands over a folder of tables do: `build --into` and `verify --from`.
+//! What the commands over many table files do: over those of a folder `build --into` and
+//! `verify --from`, and over those of an input `verify --all`.
 #![tactic(auto)]
 
+pub mod bundle;
 pub mod from;
 pub mod into;
 mod places;

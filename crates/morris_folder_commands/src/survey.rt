@@ -10,7 +10,6 @@ use morris_folders::folder::Folder;
 use morris_keeping::header::{Header, read_header};
 use morris_keeping::kept::KeptFault;
 use morris_progress::size::{FolderSize, Size};
-use morris_progress::team::Team;
 use morris_progress::teller::Teller;
 use std::alloc::Global;
 
@@ -22,7 +21,7 @@ struct Survey {
     end: usize,
 }
 
-/// Tells how much a team has to do in a folder, where anyone is told, and answers the place of the
+/// Tells how much there is to do in a folder, where anyone is told, and answers the place of the
 /// first pair whose file can't be opened, or how many places there are. What follows that file is
 /// left out, since its turn never comes.
 ///
@@ -31,7 +30,6 @@ struct Survey {
 pub(crate) fn look_ahead<B: Geometry, F: Folder, T: Teller>(
     alloc: Global,
     board: &str,
-    team: Team,
     folder: &mut F,
     teller: &mut T,
 ) -> Result<usize, Fault>
@@ -45,7 +43,7 @@ pub(crate) fn look_ahead<B: Geometry, F: Folder, T: Teller>(
     if !teller.is_told() || folder.failures() >= u64::MAX - 1 {
         return Ok(PAIRS.len());
     }
-    let Survey { size, end } = read_headers::<B, F>(alloc, board, team, folder)?;
+    let Survey { size, end } = read_headers::<B, F>(alloc, board, folder)?;
     teller.announce_size(size);
     Ok(end)
 }
@@ -58,7 +56,6 @@ pub(crate) fn look_ahead<B: Geometry, F: Folder, T: Teller>(
 fn read_headers<B: Geometry, F: Folder>(
     alloc: Global,
     board: &str,
-    team: Team,
     folder: &mut F,
 ) -> Result<Survey, Fault>
     requires { F.failures folder.old < 2 ^ 64 - 2 }
@@ -66,13 +63,13 @@ fn read_headers<B: Geometry, F: Folder>(
     ensures refused { IfErr result (λ refused. refused ≡ Fault.Memory) }
     ensures kept { Keeps (F.files folder.old) (F.files folder.new) }
 {
-    let mut so_far = FolderSize::new(team);
+    let mut so_far = FolderSize::NONE;
     for place in 0..PAIRS.len() {
         let Some(pair) = pair_at::<B>(place) else {
             continue;
         };
         match read_header(alloc, folder, board, pair) {
-            Ok(Some(Header { layout, entries })) => so_far = so_far.with(pair, layout, entries),
+            Ok(Some(Header { entries, .. })) => so_far = so_far.with(pair, entries),
             Err(KeptFault::Memory) => return Err(Fault::Memory),
             Err(KeptFault::Unopened) => {
                 return Ok(Survey {

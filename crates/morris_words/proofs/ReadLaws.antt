@@ -15,7 +15,7 @@ use Rattle.clap.specs.declared.parser.matches.ArgMatches.TheViews.{out-SubComman
 use Rattle.clap.specs.declared.parser.matches.Found.{Found}
 use Rattle.clap.specs.declared.parser.matches.SubCommand.{SubCommand}
 use Rattle.clap.specs.declared.error.kind.ErrorKind.TheVariants.{ArgumentConflict}
-use Rattle.morris_words.specs.Words.{HasBuildValues, HasStatsValues, Is, IsAnswerTo, IsAnswerToOneOf, IsArg, NamesCommand, clashes, has_clash, is_on}
+use Rattle.morris_words.specs.Words.{HasBuildValues, HasStatsValues, HasVerifyValues, Is, IsAnswerTo, IsAnswerToOneOf, IsArg, NamesCommand, clashes, has_clash, is_on}
 use Rattle.morris_words.specs.declared.words.Refusal.{Refusal}
 use Rattle.morris_words.specs.declared.words.Refusal.TheVariants.{Memory, Help, Version, Wrong}
 
@@ -100,4 +100,15 @@ stats_values rows named = elim named [
   | inr (inr (inr (inl has))) ↦ absurd (differ (codes "stats") (codes "verify") refl has.0)
   | inr (inr (inr (inr (inl has)))) ↦ absurd (differ (codes "stats") (codes "probe") refl has.0)
   | inr (inr (inr (inr (inr has)))) ↦ absurd (differ (codes "stats") (codes "lookup") refl has.0)
+]
+
+-- the values of `verify`, where that was named
+pub verify_values : (rows : List Row) → NamesCommand (codes "verify", rows) → HasVerifyValues rows
+verify_values rows named = elim named [
+  | inl has ↦ absurd (differ (codes "verify") (codes "look") refl has.0)
+  | inr (inl has) ↦ absurd (differ (codes "verify") (codes "stats") refl has.0)
+  | inr (inr (inl has)) ↦ absurd (differ (codes "verify") (codes "build") refl has.0)
+  | inr (inr (inr (inl has))) ↦ has.1
+  | inr (inr (inr (inr (inl has)))) ↦ absurd (differ (codes "verify") (codes "probe") refl has.0)
+  | inr (inr (inr (inr (inr has)))) ↦ absurd (differ (codes "verify") (codes "lookup") refl has.0)
 ]

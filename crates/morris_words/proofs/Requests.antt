@@ -97,7 +97,7 @@ build_top = record (new_shape (codes "build")) {
 
 abbrev verify_top : Shape
 verify_top = record (new_shape (codes "verify")) {
-  rules = required_rule (codes "BOARD") ∷ option_rule (codes "from") ∷ workers_rule ∷ flag_rule (codes "progress") ∷ [];
+  rules = required_rule (codes "BOARD") ∷ flag_rule (codes "all") ∷ option_rule (codes "from") ∷ workers_rule ∷ flag_rule (codes "progress") ∷ [];
 }
 
 abbrev probe_top : Shape
@@ -251,7 +251,10 @@ abbrev verify : Shape
 verify = built_leaf (inherited (with_leaf_noted (marked_built whole.top)) verify_top)
 
 verify_plain : Each (IsPlainRule verify.rules) verify.rules
-verify_plain = (sets refl refl refl, (sets refl refl refl, (sets refl refl refl, (stands refl refl refl, (asks refl refl, tt)))))
+verify_plain = (
+  sets refl refl refl,
+  (stands refl refl refl, (sets refl refl refl, (sets refl refl refl, (stands refl refl refl, (asks refl refl, tt))))),
+)
 
 one_given : (p : Bool) → (not p || false) ≡ false → p ≡ true
 one_given true h = refl
@@ -263,13 +266,16 @@ verify_fits words none =
     let rows = rows_after verify.rules [] words in
     let start = (settled verify.rules (walk verify.rules [] nothing_held words).held).rows in
     let missing : (not (is_given (codes "BOARD") rows) || false) ≡ false = arguments_there verify rows false level.checked in
-    let two = with_default (with_default start board) from in
+    let one = with_default start board in
+    let three = with_default (with_default one (flag (codes "all"))) from in
     let after_workers = flag (codes "progress") ∷ help ∷ [] in
     let first : HasValue rows board = given_value verify.rules rows board level.rows (one_given _ missing) refl in
-    let third : HasValue rows workers = row_value verify.rules rows workers level.rows (default_stays workers (codes "2") [] after_workers two refl) refl in
-    let progress = flag_says verify.rules (codes "progress") (help ∷ []) (with_default two workers) level.rows refl in
+    let all = flag_says verify.rules (codes "all") (from ∷ workers ∷ after_workers) one level.rows refl in
+    let third : HasValue rows workers = row_value verify.rules rows workers level.rows (default_stays workers (codes "2") [] after_workers three refl) refl in
+    let progress = flag_says verify.rules (codes "progress") (help ∷ []) (with_default three workers) level.rows refl in
     record {
       board = ap is_some first.is_first;
+      all = all;
       from = text_given verify.rules rows from level.rows refl refl;
       workers = record { text = third.first; read = third.read; in_range = accepts-Accepts false (parser.Signed (pos 1) (pos 64)) third.first third.passes };
       progress = progress;

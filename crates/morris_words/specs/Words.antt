@@ -93,11 +93,11 @@ build_app =
     (required_rule (codes "PAIR"))) workers_rule) blocks_rule) (flag_rule (codes "all"))) (option_rule (codes "into"))) (flag_rule (codes "classes")))
     (flag_rule (codes "progress"))
 
--- `verify BOARD [--from FOLDER] [--workers W] [--progress]`
+-- `verify BOARD [--all] [--from FOLDER] [--workers W] [--progress]`
 unfoldable pub verify_app : App
 verify_app =
-    with_rule (with_rule (with_rule (with_rule (new_app (codes "verify")) (required_rule (codes "BOARD"))) (option_rule (codes "from"))) workers_rule)
-    (flag_rule (codes "progress"))
+    with_rule (with_rule (with_rule (with_rule (with_rule (new_app (codes "verify")) (required_rule (codes "BOARD"))) (flag_rule (codes "all")))
+    (option_rule (codes "from"))) workers_rule) (flag_rule (codes "progress"))
 
 -- `probe BOARD TEXT [--progress]`
 unfoldable pub probe_app : App
@@ -144,12 +144,13 @@ named_by words = subcommand_of morris_app words
 abbrev pub is_on : Text → List Row → Bool
 is_on name rows = option_map_or (λ t. bytes_eq t (codes "true")) (one_of name rows) false
 
--- two arguments of the command exclude each other: `--all` and `--into` of `build`, or `--moves`
--- and `--line` of `lookup`
+-- two arguments of the command exclude each other: `--all` and `--into` of `build`, `--all` and
+-- `--from` of `verify`, or `--moves` and `--line` of `lookup`
 abbrev pub has_clash : Text → List Row → Bool
 has_clash name rows =
     (bytes_eq name (codes "build") && (is_on (codes "all") rows && is_given (codes "into") rows))
-    || (bytes_eq name (codes "lookup") && (is_on (codes "moves") rows && is_on (codes "line") rows))
+    || ((bytes_eq name (codes "verify") && (is_on (codes "all") rows && is_given (codes "from") rows))
+    || (bytes_eq name (codes "lookup") && (is_on (codes "moves") rows && is_on (codes "line") rows)))
 
 -- the mistake of such a command
 abbrev pub clashes : Option (Text × List Row) → Kinds
@@ -196,8 +197,10 @@ AsksForTask name rows (Build board pair workers blocks all into classes) =
     × (one_of (codes "all") rows ≡ Some (bool_text all))
     × IsOption (codes "into") rows into
     × (one_of (codes "classes") rows ≡ Some (bool_text classes))
-AsksForTask name rows (Verify board from workers) =
-    (name ≡ codes "verify") × (first_of (codes "BOARD") rows ≡ Some board.now) × IsOption (codes "from") rows from
+AsksForTask name rows (Verify board all from workers) =
+    (name ≡ codes "verify") × (first_of (codes "BOARD") rows ≡ Some board.now)
+    × (one_of (codes "all") rows ≡ Some (bool_text all))
+    × IsOption (codes "from") rows from
     × (option_map number_of (one_of (codes "workers") rows) ≡ Some workers)
 AsksForTask name rows (Probe board text) =
     (name ≡ codes "probe") × (first_of (codes "BOARD") rows ≡ Some board.now) × (first_of (codes "TEXT") rows ≡ Some text.now)
@@ -221,7 +224,7 @@ abbrev pub IsInRange : Task → Type 0
 IsInRange (Look board text depth) = depth ≤ 6
 IsInRange (Stats board pair classes workers blocks deepest) = ((1 ≤ workers) × (workers ≤ 64)) × ((1 ≤ blocks) × (blocks ≤ 1024))
 IsInRange (Build board pair workers blocks all into classes) = ((1 ≤ workers) × (workers ≤ 64)) × ((1 ≤ blocks) × (blocks ≤ 1024))
-IsInRange (Verify board from workers) = (1 ≤ workers) × (workers ≤ 64)
+IsInRange (Verify board all from workers) = (1 ≤ workers) × (workers ≤ 64)
 IsInRange _ = ⊤
 
 -- the argument of a name has a number from `low` to `high`
@@ -270,9 +273,10 @@ pub record HasBuildValues (rows : List Row) : Type 0 where
   pub progress : HasFlag (codes "progress") rows
 
 -- the values of which `verify` makes its request: a board is there, and so are a number of workers
--- from 1 to 64, the value of its flag, and a folder where one was given
+-- from 1 to 64, the values of its flags, and a folder where one was given
 pub record HasVerifyValues (rows : List Row) : Type 0 where
   pub board : is_some (first_of (codes "BOARD") rows) ≡ true
+  pub all : HasFlag (codes "all") rows
   pub from : HasOption (codes "from") rows
   pub workers : HasNumber (codes "workers") 1 64 rows
   pub progress : HasFlag (codes "progress") rows

@@ -184,9 +184,14 @@ table with what the rules give from the entries of its results. So nothing of\n\
 the file is believed. The threads share the entries out among them; the answer\n\
 is the same for every number of threads.\n\
 \n\
-With --from it reads every table file of the board that a folder has, as `morris\n\
-build --into` writes them, in the order of pairs, and compares each over those\n\
-before it. Of these nothing is believed either.\n\
+With --all it reads up to 64 table files, one after the other, as `morris build\n\
+--all` writes them: each after those of the pairs that its pair needs, with\n\
+those of fewer stones first. It compares each over those before it, tells of it\n\
+before it reads the next, and stops at the first that isn't right. As no one\n\
+knows what follows, the first line of --progress counts the first file alone.\n\
+\n\
+With --from it does the same with every table file of the board that a folder\n\
+has, as `morris build --into` writes them. Nothing is believed in either case.\n\
 \n\
 "
     PROGRESS
@@ -198,6 +203,9 @@ from 0; 2 words that aren't allowed.\n\
 Example:\n  \
 $ morris build grid 3-3 | morris verify grid\n  \
 verified 3-3: 1680 entries\n  \
+$ morris build grid 4-3 --all | morris verify grid --all\n  \
+verified 3-3: 1680 entries\n  \
+verified 4-3: 2520 entries\n  \
 $ morris verify grid --from folder"
 );
 

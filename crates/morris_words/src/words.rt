@@ -61,10 +61,12 @@ pub enum Task<'a> {
         into: Option<&'a str>,
         classes: bool,
     },
-    /// Verify the table file on the input, of the board named `board`, or, where there is a folder
-    /// `from`, each table file of that board in it, with 1 to 64 `workers`.
+    /// Verify the table file on the input, of the board named `board`, or where `all` is true each
+    /// of those on it; or, where there is a folder `from`, each table file of that board in it, in
+    /// which case `all` is false. 1 to 64 `workers` do it.
     Verify {
         board: &'a str,
+        all: bool,
         from: Option<&'a str>,
         workers: u8,
     },
@@ -147,6 +149,8 @@ const ALL_HELP: &str = "Write the files of the pairs below it too, one after the
 const INTO_HELP: &str = "Write each pair's file into this folder, under a name of its own";
 
 const FROM_HELP: &str = "Check every table file of the board in this folder";
+
+const BUNDLE_HELP: &str = "Check all table files on standard input, each over those before it";
 
 const CLASSES_HELP: &str = "Have one entry for each class of positions: files of version 2";
 
@@ -240,9 +244,10 @@ fn build_command<'a>(alloc: Global) -> Result<Command<'a>, AllocError>
 fn verify_command<'a>(alloc: Global) -> Result<Command<'a>, AllocError>
     ensures { IfOk result (Is verify_app) }
 {
-    let about = "Check each entry of the table file on standard input, or of those in a folder";
+    let about = "Check each entry of the table files on standard input or in a folder";
     command_of(alloc, "verify", about, help::VERIFY)
         .arg(required_arg(alloc, "BOARD", BOARD_HELP))?
+        .arg(flag_arg(alloc, "all", BUNDLE_HELP))?
         .arg(option_arg(alloc, "from", "FOLDER", FROM_HELP))?
         .arg(workers_arg(alloc))?
         .arg(flag_arg(alloc, "progress", PROGRESS_HELP))
@@ -351,7 +356,7 @@ fn request_of<'a>(alloc: Global, matches: &ArgMatches<'a>) -> Result<Request<'a>
         Some(("look", found)) => Ok(look_request(found)),
         Some(("stats", found)) => Ok(stats_request(found)),
         Some(("build", found)) => build_request(alloc, found),
-        Some(("verify", found)) => Ok(verify_request(found)),
+        Some(("verify", found)) => verify_request(alloc, found),
         Some(("probe", found)) => Ok(probe_request(found)),
         Some(("lookup", found)) => lookup_request(alloc, found),
         _ => unreachable!(),
@@ -417,19 +422,26 @@ fn build_request<'a>(alloc: Global, found: &ArgMatches<'a>) -> Result<Request<'a
     })
 }
 
-fn verify_request<'a>(found: &ArgMatches<'a>) -> Request<'a>
+fn verify_request<'a>(alloc: Global, found: &ArgMatches<'a>) -> Result<Request<'a>, Refusal>
     requires { HasVerifyValues (rows_of (found_of found.now)) }
-    ensures request { AsksFor (Some (codes "verify", rows_of (found_of found.now))) result }
-    ensures range { IsInRange result.task }
+    ensures taken { OnOk result (clashes (Some (codes "verify", rows_of (found_of found.now))) ≡ []) }
+    ensures request { IfOk result (AsksFor (Some (codes "verify", rows_of (found_of found.now)))) }
+    ensures range { IfOk result (λ request. IsInRange request.task) }
+    ensures refused { IfErr result (IsAnswerToOneOf (clashes (Some (codes "verify", rows_of (found_of found.now))))) }
 {
-    Request {
+    let (all, from) = (flag(found, "all"), optional(found, "from"));
+    if all && from.is_some() {
+        return Err(clash(alloc, "--all", "--from <FOLDER>"));
+    }
+    Ok(Request {
         task: Task::Verify {
             board: given(found, "BOARD"),
-            from: optional(found, "from"),
+            all,
+            from,
             workers: number(found, "workers") as u8,
         },
         progress: flag(found, "progress"),
-    }
+    })
 }
 
 fn probe_request<'a>(found: &ArgMatches<'a>) -> Request<'a>

@@ -1,4 +1,8 @@
-use Rattle.std.proofs.Common.{arith}
+use Rattle.std.proofs.Common.{◌≡◌, ◌∙◌, arith, codes, refl, sym, true}
+use Rattle.clap.specs.Takes.{is_given}
+use Rattle.clap.specs.Words.{found_of, rows_of}
+use Rattle.morris_words.specs.Words.{has_clash, is_on}
+use Rattle.morris_words.proofs.ReadLaws.{clash_answered, flag_on}
 use Rattle.morris_words.proofs.words.verify_request.Goals as goal
 
 pub number-requires : goal.number-requires
@@ -11,3 +15,11 @@ overflow_cast-result c =
 
 pub returns-clause-range : goal.returns-clause-range
 returns-clause-range c = c.number.ensures.range 1 64 (omega arith) c.requires.workers
+
+pub returns-then-is_some-clause-refused : goal.returns-then-is_some-clause-refused
+returns-then-is_some-clause-refused c =
+    let rows = rows_of (found_of c.args.found.now) in
+    let on : is_on (codes "all") rows ≡ true = flag_on (codes "all") rows c.flag-all.result c.flag-all.ensures ∙ c.if-all.true in
+    let given : is_given (codes "from") rows ≡ true = c.optional-from.ensures.1 ∙ (sym c.is_some.ensures ∙ c.if-is_some.true) in
+    let both : has_clash (codes "verify") rows ≡ true = rw (on, given) refl in
+    clash_answered (codes "verify") rows c.clash.result both c.clash.ensures

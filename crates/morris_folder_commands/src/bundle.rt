@@ -1,0 +1,131 @@
+//! The command `verify` over the table files of one input.
+ghost use Rattle.std.specs.Prelude.{◌≡◌, ◌+◌, ◌-◌, ◌^◌, ◌<◌, ◌≤◌, None, IfOk};
+ghost use Rattle.morris_faults.specs.Faults.{CountsWrites};
+ghost use Rattle.morris_faults.specs.BoardNames.{board_of};
+ghost use Rattle.morris_folder_commands.specs.Bundle.{AnswersBundle, AnswersBundleOn, TakesNear};
+ghost use Rattle.morris_folder_commands.specs.From.{AtEnd};
+ghost use Rattle.morris_commands.specs.Verify.{input_of};
+
+use crate::from::{keep_near, take_in};
+use morris_board::board::Board;
+use morris_board::streams::{Sink, Source};
+use morris_faults::fault::Fault;
+use morris_faults::on_board;
+use morris_progress::size::FolderSize;
+use morris_progress::team::Team;
+use morris_progress::teller::Teller;
+use morris_table::raw::Raw;
+use morris_table::reading::read_next;
+use morris_table::stock::Stock;
+use std::alloc::Global;
+use std::thread::Threads;
+
+/// How many table files are taken from the input at most, as by `probe`.
+const MOST_FILES: u8 = 64;
+
+/// Reads table files of the board named `board` from `input`, one after the other to its end, at
+/// most 64 of them, in either version; and tells of each on `output`, before it reads the next,
+/// that its table is right: that each of its codes is known to be that of the game, over the tables
+/// before it. A table rests on those of the pairs that its pair needs, whose files have to come
+/// before it. Once a file is read, the tables are let go that neither its pair needs nor one of
+/// more stones: so the files come in order of the stones of their pairs, as `build` writes all of
+/// them. The workers of a team share the entries of a table out among them.
+///
+/// Who is told how far it is hears of the entries of the first file at first, since no one knows
+/// how many files follow.
+///
+/// Fewer than `u64::MAX` calls of either stream may have failed before.
+///
+/// # Errors
+/// [`Fault::Board`] where there is no such board, before anything is read. Else the first refusal,
+/// after which nothing is read: that of a file, as `read_next` of `morris_table` has it;
+/// [`Fault::InFile`], with the file's pair, where its table needs one that isn't there, or where an
+/// entry isn't what the rules give from the entries of its results; [`Fault::TooMany`] where a 65th
+/// file was read; [`Fault::Memory`] where memory is refused; [`Fault::Write`], with all bytes that
+/// went out, at the first write to `output` that fails. Else [`Fault::NoFiles`] where the input was
+/// empty.
+pub fn verify_bundle<R: Threads + Sync, I: Source, O: Sink, T: Teller>(
+    rt: &R,
+    alloc: Global,
+    board: &str,
+    team: Team,
+    input: &mut I,
+    output: &mut O,
+    teller: &mut T,
+) -> Result<(), Fault>
+    requires input { I.failures input.old < 2 ^ 64 - 1 }
+    requires output { O.failures output.old < 2 ^ 64 - 1 }
+    ensures answer { AnswersBundle (board_of board.now) (input_of (I.remaining input.old) (I.failures input.old)) (input_of (I.remaining input.new) (I.failures input.new))
+        (O.contents output.old) (O.contents output.new) result }
+    ensures unread { board_of board.now ≡ None → input.new ≡ input.old }
+    ensures counted { CountsWrites (O.failures output.old) (O.failures output.new) result }
+    ensures told { T.becomes teller.old teller.new }
+{
+    on_board!(
+        board,
+        bundle_on::<R, I, O, T>(rt, alloc, team, input, output, teller)
+    )
+}
+
+fn bundle_on<B: Board, R: Threads + Sync, I: Source, O: Sink, T: Teller>(
+    rt: &R,
+    alloc: Global,
+    team: Team,
+    input: &mut I,
+    output: &mut O,
+    teller: &mut T,
+) -> Result<(), Fault>
+    requires input { I.failures input.old < 2 ^ 64 - 1 }
+    requires output { O.failures output.old < 2 ^ 64 - 1 }
+    ensures answer { AnswersBundleOn B.shape (input_of (I.remaining input.old) (I.failures input.old)) (input_of (I.remaining input.new) (I.failures input.new))
+        (O.contents output.old) (O.contents output.new) result }
+    ensures counted { CountsWrites (O.failures output.old) (O.failures output.new) result }
+    ensures told { T.becomes teller.old teller.new }
+{
+    let mut stock = Stock::new(alloc)?;
+    let (mut sent, mut found) = (0, false);
+    for _ in 0..MOST_FILES {
+        let Some(raw) = read_next::<B, I>(alloc, input)? else {
+            return end(found);
+        };
+        sent = take_next(rt, alloc, team, &mut stock, raw, sent, output, teller)?;
+        found = true;
+    }
+    match read_next::<B, I>(alloc, input)? {
+        Some(_) => Err(Fault::TooMany),
+        None => end(found),
+    }
+}
+
+/// The end of a bundle, by whether it had a file.
+fn end(found: bool) -> Result<(), Fault>
+    ensures { AtEnd found result }
+{
+    if found { Ok(()) } else { Err(Fault::NoFiles) }
+}
+
+/// Lets the tables go that neither the pair of a table needs nor one of more stones, and then takes
+/// the table in, where so many bytes were printed before; the answer counts its line as well.
+fn take_next<B: Board, R: Threads + Sync, O: Sink, T: Teller>(
+    rt: &R,
+    alloc: Global,
+    team: Team,
+    stock: &mut Stock<B>,
+    raw: Raw<B>,
+    sent: u64,
+    output: &mut O,
+    teller: &mut T,
+) -> Result<u64, Fault>
+    requires failures { O.failures output.old < 2 ^ 64 - 1 }
+    requires room { sent < 2 ^ 32 }
+    ensures taken { TakesNear B.shape stock.old stock.new raw sent (O.contents output.old) (O.contents output.new) result }
+    ensures few { IfOk result (λ now. now ≤ sent + 2 ^ 10) }
+    ensures counted { CountsWrites (O.failures output.old) (O.failures output.new) result }
+    ensures told { T.becomes teller.old teller.new }
+{
+    let (pair, entries) = (raw.pair(), raw.len());
+    // What was told before isn't told again.
+    teller.announce_size(FolderSize::NONE.with(pair, entries).size);
+    keep_near(stock, pair);
+    take_in(rt, alloc, team, stock, raw, sent, output, teller)
+}
