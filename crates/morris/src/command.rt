@@ -55,7 +55,8 @@ const VERIFIED_BLOCKS: usize = 64;
 ///
 /// Where the words ask for it, lines that begin with `progress: ` go to `errors` before all else
 /// there, first one that says how much there is to do, with the seconds by the clock of `rt`, until
-/// one of them can't be written. Nothing else changes by it: it takes no memory of its own.
+/// one of them can't be written. Nothing else changes by it, and it takes no memory but for the
+/// names of the files whose headers `verify --from` reads first.
 pub fn command<
     R: Threads + Wait + Clock + Sync + Files<File = File> + AllocGlobal,
     W: AsStr,
