@@ -236,7 +236,11 @@ def sealed(content):
 
 
 class Refused(Exception):
-    """A fault by its text."""
+    """A fault by its text, and what was told before it."""
+
+    def __init__(self, text, told=""):
+        super().__init__(text)
+        self.told = told
 
 
 def fault(text, told=""):
@@ -354,7 +358,7 @@ def verify_all(game, board, given):
             stock = {it for it in stock if sum(it) + 1 >= sum(pair)}
             check_table(pair, version, codes, game, stock, f", in the file of {pair[0]}-{pair[1]}")
         except Refused as refused:
-            fault(refused.args[0], told)
+            fault(str(refused), told)
         stock.add(pair)
         told += verified(pair, codes)
     if not files:
@@ -453,6 +457,5 @@ def answer_of(made):
     try:
         text = made()
     except Refused as refused:
-        text, told = refused.args
-        return 1, told.encode(), f"fault {text}\n".encode()
+        return 1, refused.told.encode(), f"fault {refused}\n".encode()
     return 0, text if isinstance(text, bytes) else text.encode(), b""
