@@ -6,7 +6,7 @@ use morris_faults::flaw::Flaw;
 use morris_folder_commands::bundle::verify_bundle;
 use morris_progress::team::Team;
 use morris_workers::Unwatched;
-use std::alloc::AllocError;
+use std::alloc::{AllocError, Global};
 use std::process::Abort;
 use std::sync::Wait;
 use std::test::Fail;
@@ -29,19 +29,22 @@ fn files(
     ))
 }
 
-/// A bundle of some files is answered with this, after these lines, by one worker and by three.
+/// The bytes of two files or bundles, one after the other.
+fn joined(alloc: Global, first: &[u8], second: &[u8]) -> Result<Vec<u8>, AllocError> {
+    let mut bundle = Vec::from_slice(alloc, first)?;
+    bundle.extend_from_slice(second)?;
+    Ok(bundle)
+}
+
+/// A bundle is answered with this, after these lines, by one worker and by three.
 fn assert_answers(
     rt: &(impl Abort + AllocGlobal + Threads + Sync),
-    files: &[&[u8]],
+    bundle: &[u8],
     wanted: Result<(), Fault>,
     lines: &str,
-) -> Result<(), AllocError> {
-    let mut bundle = Vec::new(rt.alloc());
-    for file in files {
-        bundle.extend_from_slice(file)?;
-    }
+) {
     for workers in [1, 3] {
-        let mut input = FromRead::new(bundle.as_slice());
+        let mut input = FromRead::new(bundle);
         let mut output = IntoWrite::new(Vec::new(rt.alloc()));
         let team = Team::new(workers, 5).expect(rt, "a team");
         let told = &mut Unwatched;
@@ -52,47 +55,50 @@ fn assert_answers(
             "{lines}"
         );
     }
-    Ok(())
 }
 
 #[test]
 fn each_table_of_a_bundle_is_told(rt: HostRuntime) -> Result<(), Fail> {
     let (low, high) = files(&rt)?;
-    let (low, high) = (low.as_slice(), high.as_slice());
-    assert_answers(&rt, &[low, high], Ok(()), BOTH)?;
-    assert_answers(&rt, &[low], Ok(()), FIRST)?;
-    let none = Err(Fault::NoFiles);
-    assert_answers(&rt, &[], none, "")?;
+    let both = joined(rt.alloc(), low.as_slice(), high.as_slice())?;
+    assert_answers(&rt, both.as_slice(), Ok(()), BOTH);
+    assert_answers(&rt, low.as_slice(), Ok(()), FIRST);
+    assert_answers(&rt, b"", Err(Fault::NoFiles), "");
     Ok(())
 }
 
 #[test]
 fn files_out_of_order_are_refused(rt: HostRuntime) -> Result<(), Fail> {
     let (low, high) = files(&rt)?;
-    let (low, high) = (low.as_slice(), high.as_slice());
+    let turned = joined(rt.alloc(), high.as_slice(), low.as_slice())?;
     let needs = Err(Fault::InFile(4, 3, Flaw::Needs(3, 3)));
-    assert_answers(&rt, &[high, low], needs, "")?;
+    assert_answers(&rt, turned.as_slice(), needs, "");
     // A pair may come twice, as long as those that it needs are there.
-    let again = format!(in rt.alloc(); "{FIRST}{BOTH}verified 4-3: 2520 entries\n")?;
-    assert_answers(&rt, &[low, low, high, high], Ok(()), again.as_str())?;
+    let twice = joined(rt.alloc(), low.as_slice(), low.as_slice())?;
+    let thrice = joined(rt.alloc(), twice.as_slice(), high.as_slice())?;
+    let lines = format!(in rt.alloc(); "{FIRST}{BOTH}")?;
+    assert_answers(&rt, thrice.as_slice(), Ok(()), lines.as_str());
     Ok(())
 }
 
 #[test]
 fn the_first_file_that_is_wrong_ends_it(rt: HostRuntime) -> Result<(), Fail> {
     let (low, high) = files(&rt)?;
-    let (low, whole) = (low.as_slice(), high.as_slice());
+    let whole = joined(rt.alloc(), low.as_slice(), high.as_slice())?;
     let mut wrong = high.clone()?;
     if let Some(byte) = wrong.get_mut(100) {
         *byte ^= 1;
     }
-    let digest = Err(Fault::Digest);
-    assert_answers(&rt, &[low, wrong.as_slice(), whole], digest, FIRST)?;
+    let digest = joined(rt.alloc(), low.as_slice(), wrong.as_slice())?;
+    let bundle = joined(rt.alloc(), digest.as_slice(), high.as_slice())?;
+    assert_answers(&rt, bundle.as_slice(), Err(Fault::Digest), FIRST);
     let _ = wrong.pop();
-    assert_answers(&rt, &[low, wrong.as_slice()], Err(Fault::Short), FIRST)?;
-    assert_answers(&rt, &[low, whole, b"more"], Err(Fault::Short), BOTH)?;
-    let more = b"sixteen bytes or more";
-    assert_answers(&rt, &[low, whole, more], Err(Fault::Magic), BOTH)?;
+    let short = joined(rt.alloc(), low.as_slice(), wrong.as_slice())?;
+    assert_answers(&rt, short.as_slice(), Err(Fault::Short), FIRST);
+    let more = joined(rt.alloc(), whole.as_slice(), b"more")?;
+    assert_answers(&rt, more.as_slice(), Err(Fault::Short), BOTH);
+    let more = joined(rt.alloc(), whole.as_slice(), b"sixteen bytes or more")?;
+    assert_answers(&rt, more.as_slice(), Err(Fault::Magic), BOTH);
     Ok(())
 }
 
@@ -104,13 +110,8 @@ fn a_65th_file_is_one_too_many(rt: HostRuntime) -> Result<(), Fail> {
         bundle.extend_from_slice(low.as_slice())?;
         lines.push_str(FIRST)?;
     }
-    assert_answers(&rt, &[bundle.as_slice()], Ok(()), lines.as_str())?;
-    let many = Err(Fault::TooMany);
-    assert_answers(
-        &rt,
-        &[bundle.as_slice(), low.as_slice()],
-        many,
-        lines.as_str(),
-    )?;
+    assert_answers(&rt, bundle.as_slice(), Ok(()), lines.as_str());
+    bundle.extend_from_slice(low.as_slice())?;
+    assert_answers(&rt, bundle.as_slice(), Err(Fault::TooMany), lines.as_str());
     Ok(())
 }
