@@ -1,5 +1,5 @@
 -- The tables by parts are what they say, by one computation over each.
-use Rattle.std.proofs.Common.{◌≡◌, ℕ, zero, suc, ◌+◌, ◌*◌, ◌<◌, ◌≤◌, Bool, true, false, not, ◌||◌, List, [], get_or, eqb, leb, ltb, refl, sym, ◌∙◌, inl, inr, cond, arith}
+use Rattle.std.proofs.Common.{◌≡◌, ℕ, zero, suc, ◌+◌, ◌*◌, ◌^◌, ◌<◌, ◌≤◌, Bool, true, false, not, ◌||◌, [], get_or, eqb, leb, ltb, refl, sym, ◌∙◌, inl, inr, cond, arith}
 use Rattle.std.specs.List.{range_with_len, list_all}
 use Rattle.std.proofs.lemmas.Bool.{cases_Bool, eqb-true, le-leb, ltb-true, both_ways}
 use Rattle.morris_board.specs.Sets.{has}
@@ -13,15 +13,6 @@ use Rattle.morris_index.specs.declared.part_tables.TheConstants as table
 use Rattle.morris_index.proofs.BinomialTable.{binomial_of}
 use Rattle.morris_index.proofs.RankLaws.{count_below, count-yes, count-no}
 use Rattle.morris_index.proofs.Moving.{total-zero, total-suc}
-
--- ---- the numbers of points
-
-sizes_right : list_all (λ s. eqb (get_or table.SIZES s 0) (count_below (has s) 6)) (range_with_len 0 64) ≡ true
-unfolding has count_below
-sizes_right = refl
-
-pub size_at : (s : ℕ) → s < 64 → get_or table.SIZES s 0 ≡ count_below (has s) 6
-size_at s low = eqb-true _ _ (below (λ k. eqb (get_or table.SIZES k 0) (count_below (has k) 6)) 64 sizes_right s low)
 
 -- ---- what is left of a part
 
@@ -85,7 +76,7 @@ sum_by_looks part place s (suc i) low end few = elim (cases_Bool (has s i)) [
     total-less n rest = rw (total-suc, n) (omega (arith, rest))
 
 pub ranked_at : (part place s : ℕ) → part < 4 → s < 64 → place + count_below (has s) 6 ≤ 9
-    → get_or (get_or (get_or table.RANKS part []) place []) s 0 ≡ part_rank part place s
+    → get_or (get_or (get_or table.RANKS part []) place []) s 0 ≡ part_rank (6 * part) 6 place s
 unfolding part_rank
 ranked_at part place s part_low s_low few =
     eqb-true _ _ (chosen (leb (place + count_below (has s) 6) 9) _ (le-leb _ _ few) tested)
@@ -113,3 +104,18 @@ squeezed_few o s o_low s_low = ltb-true _ _ (rw (← squeezed_at o s o_low s_low
     tested =
         below (λ m. ltb (get_or (get_or table.SQUEEZED o []) m 0) 64) 64
         (below (λ k. list_all (λ m. ltb (get_or (get_or table.SQUEEZED k []) m 0) 64) (range_with_len 0 64)) 64 fits o o_low) s s_low
+
+abbrev is_ranked_few : ℕ → ℕ → ℕ → Bool
+is_ranked_few part place s = ltb (get_or (get_or (get_or table.RANKS part []) place []) s 0) 2147483648
+
+pub ranked_few : (part place s : ℕ) → part < 4 → place < 10 → s < 64 → get_or (get_or (get_or table.RANKS part []) place []) s 0 < 2 ^ 31
+ranked_few part place s part_low place_low s_low = ltb-true _ _ tested
+  where
+    fits : list_all (λ p. list_all (λ k. list_all (is_ranked_few p k) (range_with_len 0 64)) (range_with_len 0 10)) (range_with_len 0 4) ≡ true
+    fits = refl
+
+    tested : is_ranked_few part place s ≡ true
+    tested =
+        below (is_ranked_few part place) 64
+        (below (λ k. list_all (is_ranked_few part k) (range_with_len 0 64)) 10
+        (below (λ p. list_all (λ k. list_all (is_ranked_few p k) (range_with_len 0 64)) (range_with_len 0 10)) 4 fits part part_low) place place_low) s s_low

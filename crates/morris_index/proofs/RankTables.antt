@@ -1,109 +1,114 @@
--- Ranks of sets outside others, part by part: what a part adds is the sum over its squeezed points,
--- numbered from the number of its first point on.
-use Rattle.std.proofs.Common.{◌≡◌, ℕ, zero, suc, ◌+◌, ◌-◌, ◌*◌, ◌/◌, ◌%◌, ◌^◌, ◌<◌, ◌≤◌, Bool, true, false, eqb, map, sym, ◌∙◌, ap, ap₂, inl, inr, subst, arith, zero-add}
-use Rattle.std.proofs.lemmas.Bool.{cases_Bool, cases_lt, both_ways}
-use Rattle.std.proofs.lemmas.Nat.Bits.{bit_at_cat_low, bit_at_cat_high}
-use Rattle.std.proofs.Math.Nat.{mod-lt, pow-le-pow_right}
-use Rattle.std.specs.Int.{bit_at}
-use Rattle.morris_board.specs.Sets.{has, members, count_of}
-use Rattle.morris_board.proofs.PointsLaws.{has-above}
-use Rattle.morris_index.specs.Numbering.{rank_of, number_outside}
+-- Ranks by halves of twelve points: a half adds what its two parts of six points add.
+use Rattle.std.proofs.Common.{◌≡◌, ℕ, zero, suc, ◌+◌, ◌/◌, ◌%◌, ◌^◌, ◌<◌, ◌≤◌, Bool, cond, refl, sym, ◌∙◌, ap, ap₂, inl, inr, arith}
+use Rattle.std.proofs.lemmas.Bool.{cases_Bool}
+use Rattle.std.proofs.Math.Nat.{mod-eq_of_lt}
+use Rattle.morris_board.specs.Sets.{has, count_of}
+use Rattle.morris_index.specs.Binomials.{choose}
 use Rattle.morris_index.specs.Sums.{total, term}
-use Rattle.morris_index.specs.Parts.{squeezed_below, rank_from_number}
-use Rattle.morris_index.proofs.RankLaws.{count_below, count-yes, count-no, number-count, rank_below}
+use Rattle.morris_index.specs.Parts.{part_rank}
+use Rattle.morris_index.proofs.RankLaws.{count_below, count-none, rank_below}
+use Rattle.morris_index.proofs.Moving.{total-zero, total-suc, alike, rank-zero}
 use Rattle.morris_index.proofs.SetLaws.{count_of-below}
-use Rattle.morris_index.proofs.Following.{count-same, rank-same_below, rank_set}
-use Rattle.morris_index.proofs.Squeezing.{has-part, rank-part, number-next, squeezed-is, squeezed-next, squeezed-24}
+use Rattle.morris_index.proofs.Following.{count-same}
+use Rattle.morris_index.proofs.Squeezing.{has-low, has-from, count-part, count-from, rank-from}
 
--- no fewer points stand below a greater number
-pub count-le : (f : ℕ → Bool) (m k : ℕ) → count_below f m ≤ count_below f (k + m)
-count-le f m zero = let e : 0 + m ≡ m = zero-add m in rw e (omega arith)
-count-le f m (suc k) =
-    let e : suc k + m ≡ suc (k + m) = omega arith in
-    rw e (elim (cases_Bool (f (k + m))) [
-      | inl y ↦ omega (arith, count-le f m k, count-yes f (k + m) y)
-      | inr y ↦ omega (arith, count-le f m k, count-no f (k + m) y)
-    ])
+-- ---- a sum over the points of a set, which are those of two others
 
-module _ (outside set : ℕ) (apart : (p : ℕ) → has set p ≡ true → has outside p ≡ false) (part : ℕ) (low : part < 4) where
-  abbrev o : ℕ
-  o = outside / 2 ^ (6 * part) % 64
+module _ (f g h : ℕ → Bool) (n w : ℕ) (low : (i : ℕ) → i < n → f i ≡ g i) (high : (i : ℕ) → i < w → h i ≡ f (n + i)) (start first : ℕ) where
+  whole : ℕ → ℕ
+  whole i = total (term f (λ k. start + k) first) i
 
-  abbrev s : ℕ
-  s = set / 2 ^ (6 * part) % 64
+  upper : ℕ → ℕ
+  upper i = total (term h (λ k. (start + n) + k) (count_below g n + first)) i
 
-  abbrev t : ℕ
-  t = squeezed_below o s 6
+  counted : count_below f n ≡ count_below g n
+  counted = count-same f g n low
 
-  part_apart : (p : ℕ) → has s p ≡ true → has o p ≡ false
-  part_apart p h = elim (cases_lt p 6) [
-    | inl l ↦ has-part outside (6 * part) p l ∙ apart (6 * part + p) (sym (has-part set (6 * part) p l) ∙ h)
-    | inr g ↦ absurd (both_ways (has s p) (has-above s 6 p (mod-lt (set / 2 ^ (6 * part)) (omega arith)) g) h)
-  ]
-
-  -- the squeezed part fits six bits, and has as many points
-  pub part_few : t < 64
-  part_few =
+  sum-lower : whole n ≡ total (term g (λ k. start + k) first) n
+  unfolding whole
+  sum-lower =
       omega (
         arith,
-        (squeezed-is o s part_apart 6).within,
-        pow-le-pow_right {n = 2} (omega arith) {i = number_outside o 6} {j = 6} (omega (arith, number-count o 6)),
+        alike (term f (λ k. start + k) first) (term g (λ k. start + k) first) 0 n (omega arith)
+            (λ p from to. ap₂ (λ b k. cond b (choose (start + p) (k + first)) 0) (low p to) (count-same f g p (λ q l. low q (omega arith)))),
+        total-zero (term f (λ k. start + k) first),
+        total-zero (term g (λ k. start + k) first),
       )
 
-  pub part_count : count_below (has t) 6 ≡ count_below (has s) 6
-  part_count =
-      sym (count_of-below t 6 part_few (omega arith))
-      ∙ count_of-below t (number_outside o 6) (squeezed-is o s part_apart 6).within (omega (arith, number-count o 6))
-      ∙ (squeezed-is o s part_apart 6).counted
+  sum-upper : (i : ℕ) → i ≤ w → whole (n + i) ≡ whole n + upper i
+  unfolding whole upper
+  sum-upper zero small =
+      let e : n + 0 ≡ n = omega arith in
+      omega (arith, ap (total (term f (λ k. start + k) first)) e, total-zero (term h (λ k. (start + n) + k) (count_below g n + first)))
+  sum-upper (suc i) small =
+      let e : n + suc i ≡ suc (n + i) = omega arith in
+      let before = sum-upper i (omega arith) in
+      let step = total-suc (term h (λ k. (start + n) + k) (count_below g n + first)) i in
+      let whole_step = total-suc (term f (λ k. start + k) first) (n + i) in
+      ap (total (term f (λ k. start + k) first)) e ∙ elim (cases_Bool (h i)) [
+        | inl y ↦
+            let place : count_below f (n + i) + first ≡ count_below h i + (count_below g n + first) = omega (arith, count-part f h n w high i (omega arith), counted) in
+            let here : term h (λ k. (start + n) + k) (count_below g n + first) i ≡ choose ((start + n) + i) (count_below h i + (count_below g n + first)) = rw y refl in
+            let there : term f (λ k. start + k) first (n + i) ≡ choose (start + (n + i)) (count_below f (n + i) + first) = rw (sym (high i (omega arith)) ∙ y) refl in
+            let point : start + (n + i) ≡ (start + n) + i = omega arith in
+            omega (arith, before, step, whole_step, here, there, ap₂ choose point place)
+        | inr y ↦
+            let here : term h (λ k. (start + n) + k) (count_below g n + first) i ≡ 0 = rw y refl in
+            let there : term f (λ k. start + k) first (n + i) ≡ 0 = rw (sym (high i (omega arith)) ∙ y) refl in
+            omega (arith, before, step, whole_step, here, there)
+      ]
 
-  abbrev x : ℕ
-  x = squeezed_below outside set (6 * part)
+  sum-parts : total (term f (λ k. start + k) first) (n + w)
+      ≡ total (term g (λ k. start + k) first) n + total (term h (λ k. (start + n) + k) (count_below g n + first)) w
+  unfolding whole upper
+  sum-parts = omega (arith, sum-upper w (omega arith), sum-lower)
 
-  abbrev y : ℕ
-  y = squeezed_below outside set (6 * (part + 1))
+-- ---- twelve points as two parts of six
 
-  abbrev f : ℕ
-  f = number_outside outside (6 * part)
+module _ (points : ℕ) where
+  low_six : (i : ℕ) → i < 6 → has points i ≡ has (points % 64) i
+  low_six i l = sym (has-low points 6 i l)
 
-  abbrev g : ℕ
-  g = number_outside outside (6 * (part + 1))
+  high_six : (i : ℕ) → i < 6 → has (points / 64) i ≡ has points (6 + i)
+  high_six i l = has-from points 6 i
 
-  y_is : y ≡ t * 2 ^ f + x
-  y_is = omega (arith, squeezed-next outside set part)
+  pub count-twelve : count_below (has points) 12 ≡ count_below (has (points % 64)) 6 + count_below (has (points / 64)) 6
+  count-twelve =
+      omega (
+        arith,
+        count-part (has points) (has (points / 64)) 6 6 high_six 6 (omega arith),
+        count-same (has points) (has (points % 64)) 6 low_six,
+      )
 
-  x_within : x < 2 ^ f
-  x_within = (squeezed-is outside set apart (6 * part)).within
+  pub rank-twelve : (start place : ℕ) → part_rank start 12 place points
+      ≡ part_rank start 6 place (points % 64) + part_rank (start + 6) 6 (place + count_below (has (points % 64)) 6) (points / 64)
+  unfolding part_rank
+  rank-twelve start place =
+      let first : count_below (has (points % 64)) 6 + (place + 1) ≡ (place + count_below (has (points % 64)) 6) + 1 = omega arith in
+      sum-parts (has points) (has (points % 64)) (has (points / 64)) 6 6 low_six high_six start (place + 1)
+      ∙ ap (λ k. total (term (has (points % 64)) (λ i. start + i) (place + 1)) 6 + total (term (has (points / 64)) (λ i. (start + 6) + i) k) 6) first
 
-  y_within : y < 2 ^ g
-  y_within = (squeezed-is outside set apart (6 * (part + 1))).within
+-- ---- the two halves of a board
 
-  same_low : (p : ℕ) → p < f → has y p ≡ has x p
-  unfolding has
-  same_low p h = ap (λ k. eqb k 1) (ap (λ k. bit_at k p) y_is ∙ bit_at_cat_low t f x p h)
+module _ (set : ℕ) (within : set < 2 ^ 24) where
+  lower_is : set / 2 ^ 0 % 2 ^ 12 ≡ set % 4096
+  lower_is = omega arith
 
-  same_high : (i : ℕ) → has t i ≡ has y (f + i)
-  unfolding has
-  same_high i =
-      let back : (f + i) - f ≡ i = omega arith in
-      sym (ap (λ k. eqb k 1) (ap (λ k. bit_at k (f + i)) y_is ∙ bit_at_cat_high t f x (f + i) x_within (omega arith) ∙ ap (bit_at t) back))
+  upper_is : set / 2 ^ 12 % 2 ^ 12 ≡ set / 4096
+  upper_is = mod-eq_of_lt (omega arith)
 
-  numbers : (f ≤ 18) × (g ≤ f + 6)
-  numbers = (omega (arith, number-count outside (6 * part)), omega (arith, number-next outside part))
+  pub rank-halves : rank_below 0 (has set) 24 ≡ part_rank 0 12 0 (set % 4096) + part_rank 12 12 (count_below (has set) 12) (set / 4096)
+  rank-halves =
+      let lower : part_rank 0 12 (count_below (has set) 0) (set / 2 ^ 0 % 2 ^ 12) ≡ part_rank 0 12 0 (set % 4096) =
+      ap₂ (part_rank 0 12) (count-none (has set)) lower_is in
+      let upper : part_rank 12 12 (count_below (has set) 12) (set / 2 ^ 12 % 2 ^ 12) ≡ part_rank 12 12 (count_below (has set) 12) (set / 4096) =
+      ap (part_rank 12 12 (count_below (has set) 12)) upper_is in
+      omega (arith, rank-from set 12 12, rank-from set 0 12, lower, upper, rank-zero 0 (has set))
 
-  ends : rank_below 0 (has y) (f + 6) ≡ rank_below 0 (has y) g
-  ends =
-      sym (rank_set (f + 6) 0 (omega (arith, numbers)) y
-      (omega (arith, y_within, pow-le-pow_right {n = 2} (omega arith) {i = g} {j = f + 6} (omega (arith, numbers)))))
-      ∙ rank_set g 0 (omega (arith, numbers)) y y_within
+  module _ (few : count_of set ≤ 9) where
+    pub few_halves : count_below (has set) 12 + count_below (has (set / 4096)) 12 ≤ 9
+    few_halves =
+        omega (arith, count-from set 12 12, ap (λ k. count_below (has k) 12) upper_is, count_of-below set 24 within (omega arith), few)
 
-  pub rank_squeezed-next : rank_below outside (has set) (6 * (part + 1))
-      ≡ rank_below outside (has set) (6 * part) + rank_from_number f (count_below (has set) (6 * part)) t
-  unfolding rank_from_number
-  rank_squeezed-next =
-      let counted : count_below (has y) f ≡ count_below (has set) (6 * part) =
-      count-same (has y) (has x) f same_low ∙ (squeezed-is outside set apart (6 * part)).counted in
-      sym (squeezed-is outside set apart (6 * (part + 1))).ranked
-      ∙ sym ends
-      ∙ rank-part (has y) (has t) f 6 (λ i l. same_high i) 6 (omega arith)
-      ∙ ap₂ (λ a b. a + total (term (has t) (λ k. f + k) (b + 1)) 6)
-      (rank-same_below 0 (has y) (has x) f same_low ∙ (squeezed-is outside set apart (6 * part)).ranked) counted
+    pub few_lower : count_below (has (set % 4096)) 12 ≤ 9
+    few_lower = omega (arith, few_halves, count-from set 0 12, ap (λ k. count_below (has k) 12) lower_is, count-none (has set))

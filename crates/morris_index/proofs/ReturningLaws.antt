@@ -1,10 +1,10 @@
 -- Laws of what is kept of the symmetries that return from representatives.
-use Rattle.std.proofs.Common.{◌≡◌, ℕ, ◌+◌, ◌^◌, ◌<◌, List, [], ◌∷◌, ◌++◌, length, slice_index, sym, ◌∙◌, ap, subst, inl, inr, arith, length-append}
+use Rattle.std.proofs.Common.{◌≡◌, ℕ, ◌+◌, ◌<◌, List, [], ◌∷◌, ◌++◌, length, slice_index, sym, ◌∙◌, subst, inl, inr, arith, length-append}
 use Rattle.std.proofs.lemmas.Bool.{cases_eq}
 use Rattle.std.proofs.lemmas.List.{get_or_push, get_or_append_left}
 use Rattle.morris_board.specs.Boards.{Shape}
 use Rattle.morris_board.specs.Sets.{count_of}
-use Rattle.morris_index.specs.Classes.{representative_of, class_of, classes_below}
+use Rattle.morris_index.specs.Classes.{representative_of, class_of}
 use Rattle.morris_index.specs.Carried.{AreReturning, IsReturningKept}
 use Rattle.morris_index.proofs.ClassLaws.{test_from, class_alone}
 

@@ -25,7 +25,7 @@ power_some (suc k) = omega (arith, power_some k, pow-suc 2 k)
 -- ---- the points of a part
 
 -- the bits from n on
-has-from : (m n i : ℕ) → has (m / 2 ^ n) i ≡ has m (n + i)
+pub has-from : (m n i : ℕ) → has (m / 2 ^ n) i ≡ has m (n + i)
 unfolding has
 has-from m n i =
     let back : (n + i) - n ≡ i = omega arith in
@@ -33,13 +33,13 @@ has-from m n i =
     ∙ bit_at_cat_high (m / 2 ^ n) n (m % 2 ^ n) (n + i) (mod-lt m (power_some n)) (omega arith)
     ∙ ap (bit_at (m / 2 ^ n)) back))
 
--- the lowest six bits
-has-six : (m i : ℕ) → i < 6 → has (m % 64) i ≡ has m i
+-- the lowest bits
+pub has-low : (m w i : ℕ) → i < w → has (m % 2 ^ w) i ≡ has m i
 unfolding has
-has-six m i low = ap (λ k. eqb k 1) (sym (bit_at_cat_low (m / 2 ^ 6) 6 (m % 2 ^ 6) i low) ∙ ap (λ k. bit_at k i) (div-add-mod' m (2 ^ 6)))
+has-low m w i low = ap (λ k. eqb k 1) (sym (bit_at_cat_low (m / 2 ^ w) w (m % 2 ^ w) i low) ∙ ap (λ k. bit_at k i) (div-add-mod' m (2 ^ w)))
 
-pub has-part : (m n i : ℕ) → i < 6 → has (m / 2 ^ n % 64) i ≡ has m (n + i)
-has-part m n i low = has-six (m / 2 ^ n) i low ∙ has-from m n i
+pub has-part : (m n w i : ℕ) → i < w → has (m / 2 ^ n % 2 ^ w) i ≡ has m (n + i)
+has-part m n w i low = has-low (m / 2 ^ n) w i low ∙ has-from m n i
 
 -- ---- what grows by a part: f from n on is g
 
@@ -231,6 +231,16 @@ module _ (outside set : ℕ) where
 
 -- ---- the four parts of a board
 
+-- what the points from a start on add
+module _ (set start width : ℕ) where
+  pub count-from : count_below (has set) (start + width) ≡ count_below (has set) start + count_below (has (set / 2 ^ start % 2 ^ width)) width
+  count-from = count-part (has set) (has (set / 2 ^ start % 2 ^ width)) start width (has-part set start width) width (omega arith)
+
+  pub rank-from : rank_below 0 (has set) (start + width)
+      ≡ rank_below 0 (has set) start + part_rank start width (count_below (has set) start) (set / 2 ^ start % 2 ^ width)
+  unfolding part_rank
+  rank-from = rank-part (has set) (has (set / 2 ^ start % 2 ^ width)) start width (has-part set start width) width (omega arith)
+
 -- what a part adds
 module _ (set part : ℕ) where
   abbrev points : ℕ
@@ -240,17 +250,17 @@ module _ (set part : ℕ) where
   next = omega arith
 
   pub count-next : count_below (has set) (6 * (part + 1)) ≡ count_below (has set) (6 * part) + count_below (has points) 6
-  count-next = ap (count_below (has set)) (sym next) ∙ count-part (has set) (has points) (6 * part) 6 (has-part set (6 * part)) 6 (omega arith)
+  count-next = ap (count_below (has set)) (sym next) ∙ count-from set (6 * part) 6
 
-  pub rank-next : rank_below 0 (has set) (6 * (part + 1)) ≡ rank_below 0 (has set) (6 * part) + part_rank part (count_below (has set) (6 * part)) points
-  unfolding part_rank
-  rank-next = ap (rank_below 0 (has set)) (sym next) ∙ rank-part (has set) (has points) (6 * part) 6 (has-part set (6 * part)) 6 (omega arith)
+  pub rank-next : rank_below 0 (has set) (6 * (part + 1))
+      ≡ rank_below 0 (has set) (6 * part) + part_rank (6 * part) 6 (count_below (has set) (6 * part)) points
+  rank-next = ap (rank_below 0 (has set)) (sym next) ∙ rank-from set (6 * part) 6
 
   pub number-next : number_outside set (6 * (part + 1)) ≡ number_outside set (6 * part) + (6 - count_below (has points) 6)
   number-next =
       omega (
         arith,
-        ap (number_outside set) (sym next) ∙ number-part set points (6 * part) 6 (has-part set (6 * part)) 6 (omega arith),
+        ap (number_outside set) (sym next) ∙ number-part set points (6 * part) 6 (has-part set (6 * part) 6) 6 (omega arith),
         number-count points 6,
       )
 
@@ -259,7 +269,7 @@ pub squeezed-next : (outside set part : ℕ)
     ≡ squeezed_below outside set (6 * part) + squeezed_below (points outside part) (points set part) 6 * 2 ^ number_outside outside (6 * part)
 squeezed-next outside set part =
     ap (squeezed_below outside set) (sym (next set part))
-    ∙ squeezed-part outside (points outside part) (6 * part) 6 (has-part outside (6 * part)) set (points set part) (has-part set (6 * part)) 6 (omega arith)
+    ∙ squeezed-part outside (points outside part) (6 * part) 6 (has-part outside (6 * part) 6) set (points set part) (has-part set (6 * part) 6) 6 (omega arith)
 
 -- no more points stand in the parts so far than the set has
 pub few_so_far : (set part : ℕ) → set < 2 ^ 24 → count_of set ≤ 9 → part < 4 → count_below (has set) (6 * part) + count_below (has (points set part)) 6 ≤ 9

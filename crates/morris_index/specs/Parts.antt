@@ -1,4 +1,4 @@
--- Sets of points read part by part, six points at a time.
+-- Sets of points read part by part, six or twelve points at a time.
 use Rattle.std.specs.Prelude.{◌≡◌, ℕ, ◌+◌, ◌*◌, ◌^◌, ◌<◌, ◌≤◌, ◌&&◌, not, if◌then◌else◌, List, length, slice_index}
 use Rattle.morris_board.specs.Sets.{has}
 use Rattle.morris_index.specs.Numbering.{count_below, number_outside}
@@ -13,19 +13,16 @@ weight outside set p = if has set p && not (has outside p) then 2 ^ number_outsi
 unfoldable pub squeezed_below : ℕ → ℕ → ℕ → ℕ
 squeezed_below outside set n = total (weight outside set) n
 
--- What the points of a part add to a rank, where the part's point i is the point 6 * part + i and
--- `place` points of the set stand below the part.
-unfoldable pub part_rank : ℕ → ℕ → ℕ → ℕ
-part_rank part place points = sum_below points (λ i. 6 * part + i) (place + 1) 6
+-- What the points of a part add to a rank, where the part has `width` points, its point i is the
+-- point start + i of the board, and `place` points of the set stand below the part.
+unfoldable pub part_rank : ℕ → ℕ → ℕ → ℕ → ℕ
+part_rank start width place points = sum_below points (λ i. start + i) (place + 1) width
 
--- The same where the part's point i is numbered `number + i`.
-unfoldable pub rank_from_number : ℕ → ℕ → ℕ → ℕ
-rank_from_number number place points = sum_below points (λ i. number + i) (place + 1) 6
-
--- A table of these: for each number up to 18, from which a part's points may be numbered, each
--- number of points below it and each part, what the part adds, where no more than nine points stand
--- up to its end.
+-- A table of these for the halves of a board of 24 points: first, for each half, what it adds as
+-- the points 0 to 11; then, for each number of points below it and each half, what it adds as the
+-- points 12 to 23. What stands where a set would have more than nine points is of no use.
 pub record IsRankTable (sums : List ℕ) : Type 0 where
-  pub len : length sums ≡ 12160
-  pub each : (number place points : ℕ) → number ≤ 18 → points < 64 → place + count_below (has points) 6 ≤ 9
-      → slice_index sums ((number * 10 + place) * 64 + points) ≡ rank_from_number number place points
+  pub len : length sums ≡ 45056
+  pub lower : (points : ℕ) → points < 4096 → count_below (has points) 12 ≤ 9 → slice_index sums points ≡ part_rank 0 12 0 points
+  pub upper : (place points : ℕ) → points < 4096 → place + count_below (has points) 12 ≤ 9
+      → slice_index sums ((1 + place) * 4096 + points) ≡ part_rank 12 12 place points

@@ -69,6 +69,7 @@ pub(crate) fn class_half_start<B: Geometry>(
 /// representative, all symmetries that lead `own` there, and the class.
 pub(crate) fn class_half_leads<B: Geometry>(
     classes: &Classes<B>,
+    ranks: &RankTable,
     own: Points,
     choices: u64,
 ) -> (u64, Points, Points, u32)
@@ -80,7 +81,7 @@ pub(crate) fn class_half_leads<B: Geometry>(
     ensures symmetries { AreLeading B.shape own result.2 }
     ensures few { result.0 < 2 ^ 53 }
 {
-    let (class, representative, symmetries) = classes.leads_of(own);
+    let (class, representative, symmetries) = classes.leads_of(ranks, own);
     (
         u64::from(class) * choices,
         representative,

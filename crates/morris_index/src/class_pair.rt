@@ -46,7 +46,7 @@ pub struct ClassPair<B: Geometry> {
     greater_choices: u64,
     /// The same for a class of the lesser number.
     lesser_choices: u64,
-    /// What the parts of sets add to ranks.
+    /// What the halves of sets add to ranks.
     ranks: RankTable,
 }
 
@@ -170,10 +170,11 @@ impl<B: Geometry> ClassPair<B> {
     {
         let greater = self.pair.greater();
         if own.count() == greater {
-            class_half_leads(&self.greater, own, self.greater_choices)
+            class_half_leads(&self.greater, &self.ranks, own, self.greater_choices)
         } else {
             let (start, representative, symmetries, class) = class_half_leads(
                 &self.lesser,
+                &self.ranks,
                 own,
                 self.lesser_choices,
             );

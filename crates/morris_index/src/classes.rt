@@ -7,6 +7,7 @@ ghost use Rattle.morris_index.specs.Numbering.{IsRanked};
 ghost use Rattle.morris_index.specs.Classes.{symmetry_of, representative_of, is_representative, classes_below, class_of, class_count, AreLeading, IsKept, classes_in, leading_in};
 
 use crate::binomials::binomial;
+use crate::rank_tables::RankTable;
 use crate::ranks::{self, following, least};
 use morris_board::board::Geometry;
 use morris_board::points::Points;
@@ -109,14 +110,14 @@ impl<B: Geometry> Classes<B> {
 
     /// The class of a set of as many points as the classes are of, its representative, and all
     /// symmetries that lead the set there.
-    pub(crate) fn leads_of(&self, set: Points) -> (u32, Points, Points)
+    pub(crate) fn leads_of(&self, ranks: &RankTable, set: Points) -> (u32, Points, Points)
         requires within { set < 2 ^ B.POINTS }
         requires count { count_of set ≡ self.now }
         ensures class { result.0 ≡ class_of B.shape set }
         ensures representative { result.1 ≡ representative_of B.shape set }
         ensures symmetries { AreLeading B.shape set result.2 }
     {
-        let lead = self.kept.leads[ranks::rank(set) as usize];
+        let lead = self.kept.leads[ranks.rank(set) as usize];
         let symmetries = Points::from_mask(lead.leading);
         (lead.class, self.representative(lead.class), symmetries)
     }

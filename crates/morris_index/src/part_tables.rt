@@ -2,12 +2,6 @@
 //!
 //! A part of a set is a number below 64: bit `i` stands for the part's point `i`.
 
-/// How many points each part has.
-pub(crate) const SIZES: [u8; 64] = [
-    0, 1, 1, 2, 1, 2, 2, 3, 1, 2, 2, 3, 2, 3, 3, 4, 1, 2, 2, 3, 2, 3, 3, 4, 2, 3, 3, 4, 3, 4, 4, 5,
-    1, 2, 2, 3, 2, 3, 3, 4, 2, 3, 3, 4, 3, 4, 4, 5, 2, 3, 3, 4, 3, 4, 4, 5, 3, 4, 4, 5, 4, 5, 5, 6,
-];
-
 /// In row `outside` what is left of each part where the points of `outside` are taken from the
 /// board: the other points move down, in their order, so that none is vacant below them.
 pub(crate) const SQUEEZED: [[u8; 64]; 64] = [

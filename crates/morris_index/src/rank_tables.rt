@@ -1,47 +1,40 @@
-//! The table of what parts of sets add to ranks, from every number of their first point.
-ghost use Rattle.std.specs.Prelude.{◌≡◌, ℕ, ◌+◌, ◌/◌, ◌%◌, ◌<◌, ◌≤◌, ◌^◌, IfOk};
-ghost use Rattle.morris_board.specs.Sets.{has};
-ghost use Rattle.morris_index.specs.Numbering.{count_below};
-ghost use Rattle.morris_index.specs.Parts.{rank_from_number, IsRankTable};
+//! The table of ranks: what each half of the board's points adds to the rank of a set.
+ghost use Rattle.std.specs.Prelude.{◌≡◌, ◌+◌, ◌*◌, ◌<◌, ◌≤◌, ◌^◌, map, IfOk};
+ghost use Rattle.morris_board.specs.Sets.{has, members, count_of};
+ghost use Rattle.morris_index.specs.Numbering.{count_below, rank_of, number_outside};
+ghost use Rattle.morris_index.specs.Parts.{part_rank, IsRankTable};
 
-use crate::binomials::binomial;
-use crate::parts::part_size;
+use crate::parts::{part_rank, part_size};
 use morris_board::points::Points;
 use std::alloc::{AllocError, Global};
 
-/// How many sums the table has: for each number from which the points of a part may be numbered, 0
-/// to 18, each number of points below it, 0 to 9, and each part.
-const SUMS: u32 = 12160;
+/// How many sums the table has: eleven rows of 4,096, one sum for each half of a set.
+const SUMS: u32 = 45056;
 
-/// What each part adds to a rank, from each number and place. It is made once, so that the rank of
-/// a set outside another takes one look-up a part.
+/// What each half of a set adds to its rank: in the first row that of the points 0 to 11, and in
+/// each further one that of the points 12 to 23, with 0, 1, .. 9 points of the set below them. It is
+/// made once, so that the rank of a set takes two look-ups.
 #[derive(Drop)]
 pub(crate) struct RankTable {
     sums: Vec<u32>,
     ghost full: { IsRankTable sums.items },
 }
 
-/// What a part adds to a rank, where its points are numbered from `number` on, and `place` points
-/// stand below it; 0 where more than nine points stand up to its end.
-fn sum_of(number: u8, place: u8, points: u32) -> u32
-    requires number { number ≤ 18 }
-    requires points { points < 64 }
+/// What a half adds to a rank, where `place` points of the set stand below it; 0 where more than
+/// nine points stand up to its end.
+fn half_rank(half: u8, place: u8, points: u32) -> u32
+    requires half { half < 2 }
+    requires points { points < 4096 }
     requires place { place ≤ 9 }
-    ensures { place + count_below (has points) 6 ≤ 9 → result ≡ rank_from_number number place points }
+    ensures { place + count_below (has points) 12 ≤ 9 → result ≡ part_rank (12 * half) 12 place points }
 {
-    if place + part_size(points) > 9 {
+    let lower = points % 64;
+    let upper = points / 64;
+    let placed = place + part_size(lower);
+    if placed + part_size(upper) > 9 {
         return 0;
     }
-    let part = Points::from_mask(points);
-    let mut placed = place;
-    let mut sum = 0;
-    for point in 0..6 {
-        if part.has(point) {
-            placed += 1;
-            sum += binomial(number + point, placed) as u32;
-        }
-    }
-    sum
+    (part_rank(2 * half, place, lower) + part_rank(2 * half + 1, placed, upper)) as u32
 }
 
 impl RankTable {
@@ -52,21 +45,25 @@ impl RankTable {
     pub(crate) fn make(alloc: Global) -> Result<RankTable, AllocError> {
         let mut sums = Vec::with_capacity(alloc, SUMS as usize)?;
         for at in 0..SUMS {
-            let row = at / 64;
-            sums.push(sum_of((row / 10) as u8, (row % 10) as u8, at % 64))?;
+            let sum = if at < 4096 {
+                half_rank(0, 0, at)
+            } else {
+                half_rank(1, (at / 4096 - 1) as u8, at % 4096)
+            };
+            sums.push(sum)?;
         }
         Ok(RankTable { sums })
     }
 
-    /// What a part adds to a rank, where its points are numbered from `row / 10` on, and `row % 10`
-    /// points of the set stand below it.
-    pub(crate) fn sum(&self, row: usize, points: u32) -> u64
-        requires number { row / 10 ≤ 18 }
-        requires points { points < 64 }
-        requires few { row % 10 + count_below (has points) 6 ≤ 9 }
-        ensures value { result ≡ rank_from_number (row / 10) (row % 10) points }
-        ensures small { result < 2 ^ 32 }
+    /// The rank of `set` among the sets of as many points.
+    pub(crate) fn rank(&self, set: Points) -> u64
+        requires board { set < 2 ^ 24 }
+        requires few { count_of set ≤ 9 }
+        ensures { result ≡ rank_of (map (number_outside 0) (members set)) }
     {
-        u64::from(self.sums[row * 64 + points as usize])
+        let lower = set.mask() % 4096;
+        let upper = set.mask() / 4096;
+        let row = 1 + u32::from(set.count_below(12));
+        u64::from(self.sums[lower as usize]) + u64::from(self.sums[(row * 4096 + upper) as usize])
     }
 }

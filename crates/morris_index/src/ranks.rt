@@ -36,23 +36,14 @@ pub(crate) fn rank_outside(set: Points, outside: Points) -> u64
     rank(squeezed(set, outside))
 }
 
-/// [`rank_outside`], where the table of the parts' sums is at hand.
+/// [`rank_outside`], where the table of ranks is at hand.
 pub(crate) fn rank_outside_by(table: &RankTable, set: Points, outside: Points) -> u64
     requires board { set < 2 ^ 24 }
     requires few { count_of set ≤ 9 }
     requires apart { (p : ℕ) → has set p ≡ true → has outside p ≡ false }
     ensures { result ≡ rank_of (map (number_outside outside) (members set)) }
 {
-    // Ten for each free point below the part, and one for each point of the set there.
-    let mut row = 0;
-    let mut rank = 0;
-    for part in 0..4_u8 {
-        let points = (set.mask() >> (6 * part)) % 64;
-        let taken = (outside.mask() >> (6 * part)) % 64;
-        rank += table.sum(row, squeezed_part(taken, points));
-        row += (6 - usize::from(part_size(taken))) * 10 + usize::from(part_size(points));
-    }
-    rank
+    table.rank(squeezed(set, outside))
 }
 
 /// The set of the numbers of the points of `set` that aren't in `outside`, see [`number_outside`].

@@ -29,9 +29,9 @@ pub loop-part-preserved : goal.loop-part-preserved
 loop-part-preserved c =
     let size : c.part_size-place.result ≡ count_below (has (c.args.set / 2 ^ (6 * c.loop-part.part) % 64)) 6 =
     c.part_size-place.ensures ∙ ap (λ m. count_below (has (m / 2 ^ (6 * c.loop-part.part) % 64)) 6) c.mask.ensures in
-    let added : c.part_rank-rank.result ≡ part_rank c.loop-part.part (count_below (has c.args.set) (6 * c.loop-part.part)) (c.args.set / 2 ^ (6 * c.loop-part.part) % 64) =
+    let added : c.part_rank-rank.result ≡ part_rank (6 * c.loop-part.part) 6 (count_below (has c.args.set) (6 * c.loop-part.part)) (c.args.set / 2 ^ (6 * c.loop-part.part) % 64) =
     c.part_rank-rank.ensures.value
-    ∙ ap₂ (λ p m. part_rank c.loop-part.part p (m / 2 ^ (6 * c.loop-part.part) % 64)) c.loop-part.invariant.placed c.mask.ensures in
+    ∙ ap₂ (λ p m. part_rank (6 * c.loop-part.part) 6 p (m / 2 ^ (6 * c.loop-part.part) % 64)) c.loop-part.invariant.placed c.mask.ensures in
     record {
       placed = omega (arith, size, c.loop-part.invariant.placed, count-next c.args.set c.loop-part.part);
       ranked = omega (arith, added, c.loop-part.invariant.ranked, rank-next c.args.set c.loop-part.part);

@@ -1,5 +1,3 @@
-use Rattle.std.proofs.Common.{◌≡◌, sym, subst, ◌∙◌, arith}
-use Rattle.morris_index.specs.Carried.{IsReturningKept, AreReturning}
 use Rattle.morris_index.proofs.ReturningLaws.{returning-none, returning-more}
 use Rattle.morris_index.proofs.returning.keep_returning.Goals as goal
 
