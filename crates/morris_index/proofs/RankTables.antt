@@ -106,9 +106,9 @@ module _ (set : ℕ) (within : set < 2 ^ 24) where
       omega (arith, rank-from set 12 12, rank-from set 0 12, lower, upper, rank-zero 0 (has set))
 
   module _ (few : count_of set ≤ 9) where
-    pub few_halves : count_below (has set) 12 + count_below (has (set / 4096)) 12 ≤ 9
-    few_halves =
-        omega (arith, count-from set 12 12, ap (λ k. count_below (has k) 12) upper_is, count_of-below set 24 within (omega arith), few)
+    pub count-halves : count_of set ≡ count_below (has set) 12 + count_below (has (set / 4096)) 12
+    count-halves =
+        omega (arith, count-from set 12 12, ap (λ k. count_below (has k) 12) upper_is, count_of-below set 24 within (omega arith))
 
     pub few_lower : count_below (has (set % 4096)) 12 ≤ 9
-    few_lower = omega (arith, few_halves, count-from set 0 12, ap (λ k. count_below (has k) 12) lower_is, count-none (has set))
+    few_lower = omega (arith, count-halves, few, count-from set 0 12, ap (λ k. count_below (has k) 12) lower_is, count-none (has set))

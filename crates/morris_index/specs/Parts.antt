@@ -1,5 +1,5 @@
 -- Sets of points read part by part, six or twelve points at a time.
-use Rattle.std.specs.Prelude.{◌≡◌, ℕ, ◌+◌, ◌*◌, ◌^◌, ◌<◌, ◌≤◌, ◌&&◌, not, if◌then◌else◌, List, length, slice_index}
+use Rattle.std.specs.Prelude.{◌≡◌, ℕ, ◌+◌, ◌-◌, ◌*◌, ◌^◌, ◌<◌, ◌≤◌, ◌&&◌, not, if◌then◌else◌, List, length, slice_index}
 use Rattle.morris_board.specs.Sets.{has}
 use Rattle.morris_index.specs.Numbering.{count_below, number_outside}
 use Rattle.morris_index.specs.Sums.{total, sum_below}
@@ -19,10 +19,10 @@ unfoldable pub part_rank : ℕ → ℕ → ℕ → ℕ → ℕ
 part_rank start width place points = sum_below points (λ i. start + i) (place + 1) width
 
 -- A table of these for the halves of a board of 24 points: first, for each half, what it adds as
--- the points 0 to 11; then, for each number of points below it and each half, what it adds as the
--- points 12 to 23. What stands where a set would have more than nine points is of no use.
+-- the points 0 to 11; then, for each number of points of a set and each half that has no more, what
+-- it adds as the points 12 to 23 of the set.
 pub record IsRankTable (sums : List ℕ) : Type 0 where
   pub len : length sums ≡ 45056
   pub lower : (points : ℕ) → points < 4096 → count_below (has points) 12 ≤ 9 → slice_index sums points ≡ part_rank 0 12 0 points
-  pub upper : (place points : ℕ) → points < 4096 → place + count_below (has points) 12 ≤ 9
-      → slice_index sums ((1 + place) * 4096 + points) ≡ part_rank 12 12 place points
+  pub upper : (count points : ℕ) → count ≤ 9 → points < 4096 → count_below (has points) 12 ≤ count
+      → slice_index sums ((1 + count) * 4096 + points) ≡ part_rank 12 12 (count - count_below (has points) 12) points

@@ -1,5 +1,5 @@
 //! The table of ranks: what each half of the board's points adds to the rank of a set.
-ghost use Rattle.std.specs.Prelude.{◌≡◌, ◌+◌, ◌*◌, ◌<◌, ◌≤◌, ◌^◌, map, IfOk};
+ghost use Rattle.std.specs.Prelude.{◌≡◌, ◌+◌, ◌-◌, ◌*◌, ◌<◌, ◌≤◌, ◌^◌, map, IfOk};
 ghost use Rattle.morris_board.specs.Sets.{has, members, count_of};
 ghost use Rattle.morris_index.specs.Numbering.{count_below, rank_of, number_outside};
 ghost use Rattle.morris_index.specs.Parts.{part_rank, IsRankTable};
@@ -11,9 +11,9 @@ use std::alloc::{AllocError, Global};
 /// How many sums the table has: eleven rows of 4,096, one sum for each half of a set.
 const SUMS: u32 = 45056;
 
-/// What each half of a set adds to its rank: in the first row that of the points 0 to 11, and in
-/// each further one that of the points 12 to 23, with 0, 1, .. 9 points of the set below them. It is
-/// made once, so that the rank of a set takes two look-ups.
+/// What each half of a set adds to its rank: in the first row that of the points 0 to 11, and in the
+/// further ones that of the points 12 to 23 of sets of 0, 1, .. 9 points. It is made once, so that
+/// the rank of a set takes two look-ups, and for sets of as many points always in the same two rows.
 #[derive(Drop)]
 pub(crate) struct RankTable {
     sums: Vec<u32>,
@@ -37,6 +37,19 @@ fn half_rank(half: u8, place: u8, points: u32) -> u32
     (part_rank(2 * half, place, lower) + part_rank(2 * half + 1, placed, upper)) as u32
 }
 
+/// What the points 12 to 23 of a set of `count` points add to its rank; 0 where they are more.
+fn upper_rank(count: u8, points: u32) -> u32
+    requires count { count ≤ 9 }
+    requires points { points < 4096 }
+    ensures { count_below (has points) 12 ≤ count → result ≡ part_rank 12 12 (count - count_below (has points) 12) points }
+{
+    let own = Points::from_mask(points).count();
+    if own > count {
+        return 0;
+    }
+    half_rank(1, count - own, points)
+}
+
 impl RankTable {
     /// The table.
     ///
@@ -48,7 +61,7 @@ impl RankTable {
             let sum = if at < 4096 {
                 half_rank(0, 0, at)
             } else {
-                half_rank(1, (at / 4096 - 1) as u8, at % 4096)
+                upper_rank((at / 4096 - 1) as u8, at % 4096)
             };
             sums.push(sum)?;
         }
@@ -63,7 +76,7 @@ impl RankTable {
     {
         let lower = set.mask() % 4096;
         let upper = set.mask() / 4096;
-        let row = 1 + u32::from(set.count_below(12));
+        let row = 1 + u32::from(set.count());
         u64::from(self.sums[lower as usize]) + u64::from(self.sums[(row * 4096 + upper) as usize])
     }
 }
