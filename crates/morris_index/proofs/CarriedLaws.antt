@@ -1,5 +1,5 @@
 -- The moves that a move is carried to: the entries from which they lead, symmetry by symmetry.
-use Rattle.std.proofs.Common.{◌≡◌, ◌≢◌, ℕ, zero, suc, ◌+◌, ◌-◌, ◌^◌, ◌<◌, ◌≤◌, Bool, true, false, not, ◌&&◌, ◌||◌, eqb, ltb, List, [], ◌∷◌, ◌++◌, map, filter, refl, sym, ◌∙◌, ap, ap₂, subst, inl, inr, arith, append_assoc}
+use Rattle.std.proofs.Common.{◌≡◌, ◌≢◌, ℕ, zero, suc, ◌+◌, ◌-◌, ◌^◌, ◌<◌, ◌≤◌, Bool, true, false, not, ◌&&◌, ◌||◌, eqb, ltb, List, [], ◌∷◌, ◌++◌, map, filter, slice_index, refl, sym, ◌∙◌, ap, ap₂, subst, inl, inr, arith, append_assoc}
 use Rattle.std.specs.List.{range_with_len, list_all}
 use Rattle.std.proofs.lemmas.Bool.{cases_Bool, cases_eq, cases_lt, eq-eqb, ne_eqb, lt-ltb, le-ltb, ltb-true, and_parts, and_from, and_right}
 use Rattle.std.proofs.lemmas.List.{map-append}
@@ -17,6 +17,7 @@ use Rattle.morris_index.specs.ClassMoves.{class_start_of}
 use Rattle.morris_index.specs.Pairs.{Counts, is_of}
 use Rattle.morris_index.specs.Moves.{InPair, taken_back}
 use Rattle.morris_index.specs.Carried.{carries, IsCarriedBack}
+use Rattle.morris_index.specs.declared.returning.Returning.{Returning}
 use Rattle.morris_index.proofs.BinomialTable.{choose_small}
 use Rattle.morris_index.proofs.RankLaws.{passing, passing-yes, passing-no, passing-above}
 use Rattle.morris_index.proofs.IndexLaws.{IsPlaced, placed, within_24, other_apart, other_rank-lt, halves_of, is_of-first, is_of-second}
@@ -169,7 +170,7 @@ module _ (board : Shape) (n : ℕ) (few : n ≤ 24) (points : board.points ≡ n
 
   -- ---- the position before a quiet move
 
-  module _ (q : InPair) (returning : ℕ) (k : IsCarriedBack board q returning) (u v : ℕ) (u_in : u < n)
+  module _ (q : InPair) (returning : Returning) (k : IsCarriedBack board q returning) (u v : ℕ) (u_in : u < n)
       (vacant : not (has q.position.own u || has q.position.other u) ≡ true) (here : has q.position.other v ≡ true) where
     abbrev s : Sides
     s = q.position
@@ -199,11 +200,11 @@ module _ (board : Shape) (n : ℕ) (few : n ≤ 24) (points : board.points ≡ n
           is_of-first q.pair before (and_from _ _ (eq-eqb (count_of before.own) q.pair.greater (mover_count ∙ a.2)) (eq-eqb (count_of before.other) q.pair.lesser a.1))
     ]
 
-    module _ (leading carrying : ℕ) (leads : AreLeading board before.own leading) (common : (t : ℕ) → has carrying t ≡ (has leading t && has returning t)) where
+    module _ (leading carrying : ℕ) (leads : AreLeading board before.own leading) (common : (t : ℕ) → has carrying t ≡ (has leading t && has returning.symmetries t)) where
       carrying_is : (t : ℕ) → has carrying t ≡ (ltb t board.symmetries && carries board s before.own t)
       carrying_is t =
           common t
-          ∙ ap₂ (λ a b. a && b) (leads t) (k.returns t)
+          ∙ ap₂ (λ a b. a && b) (leads t) (k.returns.symmetries t)
           ∙ both_and (ltb t board.symmetries) (is_leading board before.own t) (eqb (symmetry_of board (image_of (board.image t) s.own)) (inverse_of t))
 
       -- the symmetries that carry the move
@@ -216,6 +217,9 @@ module _ (board : Shape) (n : ℕ) (few : n ≤ 24) (points : board.points ≡ n
 
         pub carrying_low : t < board.symmetries
         carrying_low = ltb-true t board.symmetries both.0
+
+        pub image_kept : slice_index returning.images t ≡ image_of (board.image t) s.own
+        image_kept = k.returns.images t carrying_low
 
         leading_too : is_leading board before.own t ≡ true
         leading_too = (and_parts _ _ both.1).0

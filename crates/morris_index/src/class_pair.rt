@@ -9,7 +9,7 @@ ghost use Rattle.morris_index.specs.Classes.{symmetry_of, representative_of, Are
 ghost use Rattle.morris_index.specs.ClassPairs.{led, class_size_of, class_index_of};
 ghost use Rattle.morris_index.specs.ClassMoves.{class_start_of};
 ghost use Rattle.morris_index.specs.Falls.{HasEntry};
-ghost use Rattle.morris_index.specs.Carried.{AreReturning};
+ghost use Rattle.morris_index.specs.Carried.{IsReturning};
 
 use crate::binomials::binomial;
 use crate::class_halves::{
@@ -21,7 +21,7 @@ use crate::halves::next_of_own;
 use crate::pair::Pair;
 use crate::rank_tables::RankTable;
 use crate::ranks::rank_outside_by;
-use crate::returning::{keep_returning, returning_of};
+use crate::returning::{Returning, keep_returning, returning_of};
 use morris_board::board::Geometry;
 use morris_board::points::Points;
 use morris_board::position::Position;
@@ -35,11 +35,11 @@ pub struct ClassPair<B: Geometry> {
     pair: Pair<B>,
     greater: Classes<B>,
     lesser: Classes<B>,
-    /// For each class of the greater number, the symmetries that return from its representative:
-    /// their inverse is the one that leads the image under them.
-    greater_returning: Vec<u32>,
+    /// For each class of the greater number, the images of its representative, and the symmetries
+    /// that return from them: their inverse is the one that leads the image.
+    greater_returning: Vec<Returning>,
     /// The same for each class of the lesser number.
-    lesser_returning: Vec<u32>,
+    lesser_returning: Vec<Returning>,
     /// How many entries the first half has, in which the player to move has the greater number.
     first: u64,
     /// How many sets of the opponent's stones there are for a class of the greater number.
@@ -192,16 +192,16 @@ impl<B: Geometry> ClassPair<B> {
         rank_outside_by(&self.ranks, set, outside)
     }
 
-    /// The symmetries whose inverse is the one that leads the image of `own` under them.
-    pub(crate) fn returning_of(&self, own: Points, other: Points) -> Points
+    /// The images of `own`, and the symmetries whose inverse is the one that leads the image.
+    pub(crate) fn returning_of(&self, own: Points, other: Points) -> Returning
         requires within { own < 2 ^ B.POINTS }
         requires counts { is_of self.now (sides own other) ≡ true }
-        ensures { AreReturning B.shape own result }
+        ensures { IsReturning B.shape own result }
     {
         if own.count() == self.pair.greater() {
-            returning_of(&self.greater, &self.greater_returning, own)
+            returning_of(&self.greater, &self.ranks, &self.greater_returning, own)
         } else {
-            returning_of(&self.lesser, &self.lesser_returning, own)
+            returning_of(&self.lesser, &self.ranks, &self.lesser_returning, own)
         }
     }
 

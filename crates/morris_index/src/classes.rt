@@ -114,6 +114,7 @@ impl<B: Geometry> Classes<B> {
         requires within { set < 2 ^ B.POINTS }
         requires count { count_of set ≡ self.now }
         ensures class { result.0 ≡ class_of B.shape set }
+        ensures below { result.0 < class_count B.shape self.now }
         ensures representative { result.1 ≡ representative_of B.shape set }
         ensures symmetries { AreLeading B.shape set result.2 }
     {

@@ -151,7 +151,9 @@ impl<'a, B: Geometry> Facing<'a, B> {
         Facing {
             pair,
             position: *position,
-            returning: pair.returning_of(position.own(), position.other()),
+            returning: pair
+                .returning_of(position.own(), position.other())
+                .symmetries,
             start,
         }
     }

@@ -6,8 +6,8 @@ ghost use Rattle.morris_index.specs.Moves.{in_pair};
 ghost use Rattle.morris_index.specs.Carried.{entries_before, AddsEntries};
 
 use crate::class_pair::ClassPair;
+use crate::returning::Returning;
 use morris_board::board::Geometry;
-use morris_board::points::Points;
 use morris_board::position::Position;
 use std::alloc::AllocError;
 use std::marker::Model;
@@ -20,9 +20,9 @@ pub struct PredecessorEntries<'a, B: Geometry> {
     pair: &'a ClassPair<B>,
     /// The position.
     position: Position<B>,
-    /// The symmetries whose inverse is the one that leads the image of the stones of the player to
-    /// move under them.
-    returning: Points,
+    /// The images of the stones of the player to move, and the symmetries whose inverse is the one
+    /// that leads the image under them.
+    returning: Returning,
 }
 
 impl<'a, B: Geometry> Model for PredecessorEntries<'a, B> {
@@ -69,9 +69,9 @@ impl<'a, B: Geometry> PredecessorEntries<'a, B> {
         let own = self.position.own();
         let mover = self.position.other().without(to).with(from);
         let (start, representative, leading, _) = self.pair.leads_of(mover, own);
-        let carrying = leading.common(self.returning);
+        let carrying = leading.common(self.returning.symmetries);
         for symmetry in carrying.iter() {
-            let image = B::image_of(symmetry, own);
+            let image = self.returning.image(symmetry);
             out.push(start + self.pair.rank_outside(image, representative))?;
         }
         Ok(())

@@ -1,4 +1,4 @@
-use Rattle.std.proofs.Common.{◌≡◌, ◌+◌, ◌-◌, ◌≤◌, ◌∙◌, ap, arith}
+use Rattle.std.proofs.Common.{◌≡◌, ◌-◌, ◌∙◌, ap, arith}
 use Rattle.morris_board.specs.Sets.{has, count_of}
 use Rattle.morris_index.specs.Parts.{part_rank}
 use Rattle.morris_index.proofs.RankLaws.{count_below}

@@ -33,3 +33,7 @@ pub returns-clause-symmetries : goal.returns-clause-symmetries
 returns-clause-symmetries g c =
     rw c.from_mask-symmetries.ensures
     (lead_leads g.B.Geometry.shape g.B.Geometry.POINTS c.self.inside.count (omega (arith, g.met.B.Geometry.few)) g.met.B.Geometry.point_count g.met.B.Geometry.has_symmetries c.self.inside.kept.leads.items c.self.inside.kept.representatives.items c.self.invariant c.args.set c.rank.result c.requires.within (c.requires.count ∙ sym c.self.view_is) c.rank.ensures c.index-lead.result.now c.index-lead.ensures)
+
+pub returns-clause-below : goal.returns-clause-below
+returns-clause-below g c =
+    rw (returns-clause-class g c, ← c.self.view_is) (class_of-lt g.B.Geometry.shape g.B.Geometry.POINTS c.self.inside.count (omega (arith, g.met.B.Geometry.few)) g.met.B.Geometry.point_count g.met.B.Geometry.has_symmetries (classes_in c.self.inside.kept.leads.items) (leading_in c.self.inside.kept.leads.items) c.self.inside.kept.representatives.items c.self.invariant c.args.set c.requires.within (c.requires.count ∙ sym c.self.view_is))

@@ -11,7 +11,7 @@ use Rattle.morris_index.specs.Pairs.{IsPair, is_of}
 use Rattle.morris_board.specs.Positions.{IsPosition}
 use Rattle.morris_index.proofs.StepLaws.{adds_entries}
 use Rattle.morris_index.proofs.MoveLaws.{other_lt}
-use Rattle.morris_index.proofs.CarriedLaws.{member_has, split_after, pushed, before_here, before_of, members_are, carrying_low, image_24, image_few, image_apart, entry_few, entry_is}
+use Rattle.morris_index.proofs.CarriedLaws.{member_has, split_after, pushed, before_here, before_of, members_are, carrying_low, image_kept, image_24, image_few, image_apart, entry_few, entry_is}
 use Rattle.morris_index.proofs.predecessor_entries.PredecessorEntries.add.Goals as goal
 
 pub without-requires : goal.without-requires
@@ -40,8 +40,8 @@ leads_of-start-requires-clause-counts g c =
 pub loop-symmetry-init : goal.loop-symmetry-init
 loop-symmetry-init g c = record { split = refl; added = sym (append-nil _) }
 
-pub image_of-image-requires-clause-symmetry : goal.image_of-image-requires-clause-symmetry
-image_of-image-requires-clause-symmetry g c =
+pub image-image-requires : goal.image-image-requires
+image-image-requires g c =
     let end : has c.self.inside.position.other c.args.to ≡ true = ap (λ (q : InPair). has q.position.other c.args.to) c.self.view_is ∙ c.requires.end in
     let vacant : not (has c.self.inside.position.own c.args.from || has c.self.inside.position.other c.args.from) ≡ true =
     ap (λ (q : InPair). not (has q.position.own c.args.from || has q.position.other c.args.from)) c.self.view_is ∙ c.requires.vacant in
@@ -51,7 +51,7 @@ image_of-image-requires-clause-symmetry g c =
     let items : c.into_iter-symmetry-iterator.result ≡ c.common-carrying.result = c.into_iter-symmetry-iterator.ensures.into_iter_gives ∙ c.iter-symmetry-items.ensures.points in
     let inside : has c.common-carrying.result c.in-Some.symmetry ≡ true =
     member_has c.common-carrying.result c.in-Some.symmetry c.loop-symmetry.yielded _ _ (c.loop-symmetry.invariant.split ∙ ap members items) c.in-Some.ensures.steps in
-    omega (arith, carrying_low g.B.Geometry.shape g.B.Geometry.POINTS (omega (arith, g.met.B.Geometry.few)) g.met.B.Geometry.point_count g.met.B.Geometry.has_symmetries (in_pair c.self.inside.pair.now c.self.inside.position) c.self.inside.returning c.self.invariant c.args.from c.args.to c.requires.start vacant end c.leads_of-start.result.2 c.common-carrying.result leads c.common-carrying.ensures c.in-Some.symmetry inside, g.met.B.Geometry.symmetry_count, g.met.B.Geometry.few_symmetries)
+    omega (arith, carrying_low g.B.Geometry.shape g.B.Geometry.POINTS (omega (arith, g.met.B.Geometry.few)) g.met.B.Geometry.point_count g.met.B.Geometry.has_symmetries (in_pair c.self.inside.pair.now c.self.inside.position) c.self.inside.returning c.self.invariant c.args.from c.args.to c.requires.start vacant end c.leads_of-start.result.2 c.common-carrying.result leads c.common-carrying.ensures c.in-Some.symmetry inside, g.met.B.Geometry.symmetry_count, g.met.B.Geometry.few_symmetries, c.self.invariant.returns.len)
 
 pub rank_outside-requires-clause-board : goal.rank_outside-requires-clause-board
 rank_outside-requires-clause-board g c =
@@ -64,8 +64,9 @@ rank_outside-requires-clause-board g c =
     let items : c.into_iter-symmetry-iterator.result ≡ c.common-carrying.result = c.into_iter-symmetry-iterator.ensures.into_iter_gives ∙ c.iter-symmetry-items.ensures.points in
     let inside : has c.common-carrying.result c.in-Some.symmetry ≡ true =
     member_has c.common-carrying.result c.in-Some.symmetry c.loop-symmetry.yielded _ _ (c.loop-symmetry.invariant.split ∙ ap members items) c.in-Some.ensures.steps in
-    let at : c.image_of-image.result ≡ image_of (g.B.Geometry.shape.image c.in-Some.symmetry) c.self.inside.position.own =
-    c.image_of-image.ensures ∙ ap (image_of (g.B.Geometry.shape.image c.in-Some.symmetry)) c.own-own.ensures.points in
+    let at : c.image-image.result ≡ image_of (g.B.Geometry.shape.image c.in-Some.symmetry) c.self.inside.position.own =
+    c.image-image.ensures
+    ∙ image_kept g.B.Geometry.shape g.B.Geometry.POINTS (omega (arith, g.met.B.Geometry.few)) g.met.B.Geometry.point_count g.met.B.Geometry.has_symmetries (in_pair c.self.inside.pair.now c.self.inside.position) c.self.inside.returning c.self.invariant c.args.from c.args.to c.requires.start vacant end c.leads_of-start.result.2 c.common-carrying.result leads c.common-carrying.ensures c.in-Some.symmetry inside in
     rw at (image_24 g.B.Geometry.shape g.B.Geometry.POINTS (omega (arith, g.met.B.Geometry.few)) g.met.B.Geometry.point_count g.met.B.Geometry.has_symmetries (in_pair c.self.inside.pair.now c.self.inside.position) c.self.inside.returning c.self.invariant c.args.from c.args.to c.requires.start vacant end c.leads_of-start.result.2 c.common-carrying.result leads c.common-carrying.ensures c.in-Some.symmetry inside)
 
 pub rank_outside-requires-clause-few : goal.rank_outside-requires-clause-few
@@ -79,8 +80,9 @@ rank_outside-requires-clause-few g c =
     let items : c.into_iter-symmetry-iterator.result ≡ c.common-carrying.result = c.into_iter-symmetry-iterator.ensures.into_iter_gives ∙ c.iter-symmetry-items.ensures.points in
     let inside : has c.common-carrying.result c.in-Some.symmetry ≡ true =
     member_has c.common-carrying.result c.in-Some.symmetry c.loop-symmetry.yielded _ _ (c.loop-symmetry.invariant.split ∙ ap members items) c.in-Some.ensures.steps in
-    let at : c.image_of-image.result ≡ image_of (g.B.Geometry.shape.image c.in-Some.symmetry) c.self.inside.position.own =
-    c.image_of-image.ensures ∙ ap (image_of (g.B.Geometry.shape.image c.in-Some.symmetry)) c.own-own.ensures.points in
+    let at : c.image-image.result ≡ image_of (g.B.Geometry.shape.image c.in-Some.symmetry) c.self.inside.position.own =
+    c.image-image.ensures
+    ∙ image_kept g.B.Geometry.shape g.B.Geometry.POINTS (omega (arith, g.met.B.Geometry.few)) g.met.B.Geometry.point_count g.met.B.Geometry.has_symmetries (in_pair c.self.inside.pair.now c.self.inside.position) c.self.inside.returning c.self.invariant c.args.from c.args.to c.requires.start vacant end c.leads_of-start.result.2 c.common-carrying.result leads c.common-carrying.ensures c.in-Some.symmetry inside in
     rw at (image_few g.B.Geometry.shape g.B.Geometry.POINTS (omega (arith, g.met.B.Geometry.few)) g.met.B.Geometry.point_count g.met.B.Geometry.has_symmetries (in_pair c.self.inside.pair.now c.self.inside.position) c.self.inside.returning c.self.invariant c.args.from c.args.to c.requires.start vacant end c.leads_of-start.result.2 c.common-carrying.result leads c.common-carrying.ensures c.in-Some.symmetry inside)
 
 pub rank_outside-requires-clause-apart : goal.rank_outside-requires-clause-apart
@@ -94,8 +96,9 @@ rank_outside-requires-clause-apart g c =
     let items : c.into_iter-symmetry-iterator.result ≡ c.common-carrying.result = c.into_iter-symmetry-iterator.ensures.into_iter_gives ∙ c.iter-symmetry-items.ensures.points in
     let inside : has c.common-carrying.result c.in-Some.symmetry ≡ true =
     member_has c.common-carrying.result c.in-Some.symmetry c.loop-symmetry.yielded _ _ (c.loop-symmetry.invariant.split ∙ ap members items) c.in-Some.ensures.steps in
-    let at : c.image_of-image.result ≡ image_of (g.B.Geometry.shape.image c.in-Some.symmetry) c.self.inside.position.own =
-    c.image_of-image.ensures ∙ ap (image_of (g.B.Geometry.shape.image c.in-Some.symmetry)) c.own-own.ensures.points in
+    let at : c.image-image.result ≡ image_of (g.B.Geometry.shape.image c.in-Some.symmetry) c.self.inside.position.own =
+    c.image-image.ensures
+    ∙ image_kept g.B.Geometry.shape g.B.Geometry.POINTS (omega (arith, g.met.B.Geometry.few)) g.met.B.Geometry.point_count g.met.B.Geometry.has_symmetries (in_pair c.self.inside.pair.now c.self.inside.position) c.self.inside.returning c.self.invariant c.args.from c.args.to c.requires.start vacant end c.leads_of-start.result.2 c.common-carrying.result leads c.common-carrying.ensures c.in-Some.symmetry inside in
     rw (at, c.leads_of-start.ensures.representative, mover) (image_apart g.B.Geometry.shape g.B.Geometry.POINTS (omega (arith, g.met.B.Geometry.few)) g.met.B.Geometry.point_count g.met.B.Geometry.has_symmetries (in_pair c.self.inside.pair.now c.self.inside.position) c.self.inside.returning c.self.invariant c.args.from c.args.to c.requires.start vacant end c.leads_of-start.result.2 c.common-carrying.result leads c.common-carrying.ensures c.in-Some.symmetry inside)
 
 pub overflow_add-start : goal.overflow_add-start
@@ -109,8 +112,9 @@ overflow_add-start g c =
     let items : c.into_iter-symmetry-iterator.result ≡ c.common-carrying.result = c.into_iter-symmetry-iterator.ensures.into_iter_gives ∙ c.iter-symmetry-items.ensures.points in
     let inside : has c.common-carrying.result c.in-Some.symmetry ≡ true =
     member_has c.common-carrying.result c.in-Some.symmetry c.loop-symmetry.yielded _ _ (c.loop-symmetry.invariant.split ∙ ap members items) c.in-Some.ensures.steps in
-    let at : c.image_of-image.result ≡ image_of (g.B.Geometry.shape.image c.in-Some.symmetry) c.self.inside.position.own =
-    c.image_of-image.ensures ∙ ap (image_of (g.B.Geometry.shape.image c.in-Some.symmetry)) c.own-own.ensures.points in
+    let at : c.image-image.result ≡ image_of (g.B.Geometry.shape.image c.in-Some.symmetry) c.self.inside.position.own =
+    c.image-image.ensures
+    ∙ image_kept g.B.Geometry.shape g.B.Geometry.POINTS (omega (arith, g.met.B.Geometry.few)) g.met.B.Geometry.point_count g.met.B.Geometry.has_symmetries (in_pair c.self.inside.pair.now c.self.inside.position) c.self.inside.returning c.self.invariant c.args.from c.args.to c.requires.start vacant end c.leads_of-start.result.2 c.common-carrying.result leads c.common-carrying.ensures c.in-Some.symmetry inside in
     rw (c.rank_outside.ensures, at, c.leads_of-start.ensures.representative, mover)
     (omega (arith, c.leads_of-start.ensures.few, entry_few g.B.Geometry.shape g.B.Geometry.POINTS (omega (arith, g.met.B.Geometry.few)) g.met.B.Geometry.point_count g.met.B.Geometry.has_symmetries (in_pair c.self.inside.pair.now c.self.inside.position) c.self.inside.returning c.self.invariant c.args.from c.args.to c.requires.start vacant end c.leads_of-start.result.2 c.common-carrying.result leads c.common-carrying.ensures c.in-Some.symmetry inside))
 
@@ -125,8 +129,9 @@ loop-symmetry-preserved g c =
     let items : c.into_iter-symmetry-iterator.result ≡ c.common-carrying.result = c.into_iter-symmetry-iterator.ensures.into_iter_gives ∙ c.iter-symmetry-items.ensures.points in
     let inside : has c.common-carrying.result c.in-Some.symmetry ≡ true =
     member_has c.common-carrying.result c.in-Some.symmetry c.loop-symmetry.yielded _ _ (c.loop-symmetry.invariant.split ∙ ap members items) c.in-Some.ensures.steps in
-    let at : c.image_of-image.result ≡ image_of (g.B.Geometry.shape.image c.in-Some.symmetry) c.self.inside.position.own =
-    c.image_of-image.ensures ∙ ap (image_of (g.B.Geometry.shape.image c.in-Some.symmetry)) c.own-own.ensures.points in
+    let at : c.image-image.result ≡ image_of (g.B.Geometry.shape.image c.in-Some.symmetry) c.self.inside.position.own =
+    c.image-image.ensures
+    ∙ image_kept g.B.Geometry.shape g.B.Geometry.POINTS (omega (arith, g.met.B.Geometry.few)) g.met.B.Geometry.point_count g.met.B.Geometry.has_symmetries (in_pair c.self.inside.pair.now c.self.inside.position) c.self.inside.returning c.self.invariant c.args.from c.args.to c.requires.start vacant end c.leads_of-start.result.2 c.common-carrying.result leads c.common-carrying.ensures c.in-Some.symmetry inside in
     let entry : c.leads_of-start.result.0 + c.rank_outside.result ≡ class_index_of g.B.Geometry.shape g.B.Geometry.POINTS c.self.inside.pair.now (image_sides (g.B.Geometry.shape.image c.in-Some.symmetry) (taken_back c.self.inside.position c.args.from c.args.to)) =
     rw (c.rank_outside.ensures, at, c.leads_of-start.ensures.start, c.leads_of-start.ensures.representative, c.own-own.ensures.points, mover)
     (entry_is g.B.Geometry.shape g.B.Geometry.POINTS (omega (arith, g.met.B.Geometry.few)) g.met.B.Geometry.point_count g.met.B.Geometry.has_symmetries (in_pair c.self.inside.pair.now c.self.inside.position) c.self.inside.returning c.self.invariant c.args.from c.args.to c.requires.start vacant end c.leads_of-start.result.2 c.common-carrying.result leads c.common-carrying.ensures c.in-Some.symmetry inside) in
