@@ -10,6 +10,7 @@ pub mod SumLaws
 pub mod IndexLaws
 pub mod Squeezing
 pub mod RankTables
+pub mod Spreading
 pub mod PairLaws
 pub mod MoveLaws
 pub mod BelowLaws

@@ -18,7 +18,7 @@ use Rattle.morris_index.proofs.SetLaws.{count_of-below}
 use Rattle.morris_index.proofs.IndexLaws.{number_outside-none}
 use Rattle.morris_index.proofs.Following.{count-same, rank-same_below, rank_set}
 
-power_some : (k : ℕ) → 0 < 2 ^ k
+pub power_some : (k : ℕ) → 0 < 2 ^ k
 power_some zero = lit< tt
 power_some (suc k) = omega (arith, power_some k, pow-suc 2 k)
 

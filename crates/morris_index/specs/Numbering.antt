@@ -1,5 +1,5 @@
 -- The numbering of sets of points, and of the positions with given numbers of stones.
-use Rattle.std.specs.Prelude.{◌≡◌, ◌<◌, ◌^◌, true, false, Bool, ℕ, suc, ◌+◌, ◌-◌, ◌*◌, not, List, [], ◌∷◌, map, filter, length}
+use Rattle.std.specs.Prelude.{◌≡◌, ◌<◌, ◌^◌, true, false, Bool, ℕ, suc, ◌+◌, ◌-◌, ◌*◌, not, List, [], ◌∷◌, map, filter, length, slice_index}
 use Rattle.std.specs.List.{range_with_len}
 use Rattle.morris_board.specs.Sets.{has, members, count_of}
 use Rattle.morris_board.specs.Positions.{Sides}
@@ -38,3 +38,8 @@ pub record IsRanked (n outside count rank set : ℕ) : Type 0 where
   pub apart : (p : ℕ) → has set p ≡ true → has outside p ≡ false
   pub counted : count_of set ≡ count
   pub ranked : rank_of (map (number_outside outside) (members set)) ≡ rank
+
+-- a list of all sets of `count` points below n, each at its rank
+pub record AreRanked (n count : ℕ) (sets : List ℕ) : Type 0 where
+  pub len : length sets ≡ choose n count
+  pub each : (rank : ℕ) → rank < choose n count → IsRanked n 0 count rank (slice_index sets rank)

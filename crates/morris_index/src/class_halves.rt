@@ -1,6 +1,6 @@
 //! The half of a pair by classes: the positions in which the player to move and the opponent have
 //! given numbers of stones, and the player to move stands on the representative of a class.
-ghost use Rattle.std.specs.Prelude.{◌≡◌, ◌*◌, ◌<◌, ◌≤◌, ◌^◌, true};
+ghost use Rattle.std.specs.Prelude.{◌≡◌, ◌-◌, ◌*◌, ◌<◌, ◌≤◌, ◌^◌, true};
 ghost use Rattle.morris_board.specs.Sets.{count_of};
 ghost use Rattle.morris_board.specs.Positions.{Sides, IsPosition};
 ghost use Rattle.morris_index.specs.Classes.{symmetry_of, representative_of, class_of, AreLeading};
@@ -11,7 +11,8 @@ ghost use Rattle.morris_index.specs.Pairs.{has_counts, IsHalf};
 use crate::binomials::binomial;
 use crate::classes::Classes;
 use crate::rank_tables::RankTable;
-use crate::ranks::{rank_outside_by, unrank};
+use crate::ranks::rank_outside_by;
+use crate::set_lists::SetList;
 use morris_board::board::Geometry;
 use morris_board::points::Points;
 use morris_board::position::Position;
@@ -91,15 +92,19 @@ pub(crate) fn class_half_leads<B: Geometry>(
 }
 
 /// The position of the entry with this number among those with `own` stones of the player to move
-/// and `other` of the opponent. The player to move stands on the representative of a class.
+/// and `other` of the opponent. The player to move stands on the representative of a class. The
+/// sets of `other` of the points that are free then are listed in `sets`.
 pub(crate) fn class_half_position<B: Geometry>(
     classes: &Classes<B>,
+    sets: &SetList,
     own: u8,
     other: u8,
     index: u64,
 ) -> Position<B>
     requires half { IsHalf B.POINTS own other }
     requires classes { classes.now ≡ own }
+    requires points { sets.now.points ≡ B.POINTS - own }
+    requires count { sets.now.count ≡ other }
     requires small { index < class_half_size B.shape B.POINTS own other }
     ensures index { class_half_index B.shape B.POINTS result ≡ index }
     ensures counts { has_counts own other result ≡ true }
@@ -110,7 +115,7 @@ pub(crate) fn class_half_position<B: Geometry>(
     let _ = classes.count();
     let choices = binomial(B::POINTS - own, other);
     let own_points = classes.representative((index / choices) as u32);
-    let other_points = unrank(B::POINTS, own_points, other, index % choices);
+    let other_points = sets.free_set::<B>(own_points, index % choices);
     match Position::new(own_points, other_points) {
         Ok(position) => position,
         Err(_) => unreachable!(),

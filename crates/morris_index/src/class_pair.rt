@@ -22,6 +22,7 @@ use crate::pair::Pair;
 use crate::rank_tables::RankTable;
 use crate::ranks::rank_outside_by;
 use crate::returning::{Returning, keep_returning, returning_of};
+use crate::set_lists::SetList;
 use morris_board::board::Geometry;
 use morris_board::points::Points;
 use morris_board::position::Position;
@@ -46,12 +47,16 @@ pub struct ClassPair<B: Geometry> {
     greater_choices: u64,
     /// The same for a class of the lesser number.
     lesser_choices: u64,
+    /// The sets of the greater number of the points that a set of the lesser number leaves free.
+    greater_sets: SetList,
+    /// The sets of the lesser number of the points that a set of the greater number leaves free.
+    lesser_sets: SetList,
     /// What the halves of sets add to ranks.
     ranks: RankTable,
 }
 
 impl<B: Geometry> Model for ClassPair<B> {
-    ghost use Rattle.std.specs.Prelude.{◌≡◌};
+    ghost use Rattle.std.specs.Prelude.{◌≡◌, ◌-◌};
     ghost use Rattle.morris_index.specs.Pairs.{Counts};
     ghost use Rattle.morris_index.specs.Classes.{class_count};
     ghost use Rattle.morris_index.specs.Carried.{IsReturningKept};
@@ -64,7 +69,9 @@ impl<B: Geometry> Model for ClassPair<B> {
     ghost invariant = { λ pair. (pair.greater ≡ pair.pair.greater) × (pair.lesser ≡ pair.pair.lesser)
         × IsReturningKept B.shape B.POINTS pair.pair.greater (class_count B.shape pair.pair.greater) pair.greater_returning.items
         × IsReturningKept B.shape B.POINTS pair.pair.lesser (class_count B.shape pair.pair.lesser) pair.lesser_returning.items
-        × AreSizes B.shape B.POINTS pair.pair pair.first pair.greater_choices pair.lesser_choices };
+        × AreSizes B.shape B.POINTS pair.pair pair.first pair.greater_choices pair.lesser_choices
+        × (pair.greater_sets.points ≡ B.POINTS - pair.pair.lesser) × (pair.greater_sets.count ≡ pair.pair.greater)
+        × (pair.lesser_sets.points ≡ B.POINTS - pair.pair.greater) × (pair.lesser_sets.count ≡ pair.pair.lesser) };
 }
 
 impl<B: Geometry> ClassPair<B> {
@@ -79,6 +86,8 @@ impl<B: Geometry> ClassPair<B> {
         let lesser = Classes::make(alloc, pair.lesser())?;
         let greater_returning = keep_returning(alloc, &greater)?;
         let lesser_returning = keep_returning(alloc, &lesser)?;
+        let greater_sets = SetList::make(alloc, B::POINTS - pair.lesser(), pair.greater())?;
+        let lesser_sets = SetList::make(alloc, B::POINTS - pair.greater(), pair.lesser())?;
         let ranks = RankTable::make(alloc)?;
         let first = class_half_size(&greater, pair.greater(), pair.lesser());
         let greater_choices = binomial(B::POINTS - pair.greater(), pair.lesser());
@@ -92,6 +101,8 @@ impl<B: Geometry> ClassPair<B> {
             first,
             greater_choices,
             lesser_choices,
+            greater_sets,
+            lesser_sets,
             ranks,
         })
     }
@@ -217,9 +228,15 @@ impl<B: Geometry> ClassPair<B> {
         let (greater, lesser) = (self.pair.greater(), self.pair.lesser());
         let first = class_half_size(&self.greater, greater, lesser);
         if index < first {
-            class_half_position(&self.greater, greater, lesser, index)
+            class_half_position(&self.greater, &self.lesser_sets, greater, lesser, index)
         } else {
-            class_half_position(&self.lesser, lesser, greater, index - first)
+            class_half_position(
+                &self.lesser,
+                &self.greater_sets,
+                lesser,
+                greater,
+                index - first,
+            )
         }
     }
 

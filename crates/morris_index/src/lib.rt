@@ -19,6 +19,8 @@ pub mod predecessors;
 mod rank_tables;
 mod ranks;
 mod returning;
+mod set_lists;
+mod spread_tables;
 pub mod successor_entries;
 pub mod successors;
 mod sums;

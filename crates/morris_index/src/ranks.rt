@@ -6,7 +6,7 @@ ghost use Rattle.morris_index.specs.Numbering.{rank_of, number_outside, IsRanked
 ghost use Rattle.morris_index.specs.Parts.{squeezed_below};
 
 use crate::binomials::binomial;
-use crate::parts::{part_rank, part_size, squeezed_part};
+use crate::parts::{part_rank, part_size, spread_part, squeezed_part};
 use crate::rank_tables::RankTable;
 use morris_board::points::Points;
 
@@ -60,6 +60,25 @@ fn squeezed(set: Points, outside: Points) -> Points
         number += 6 - part_size(taken);
     }
     Points::from_mask(squeezed)
+}
+
+/// The set of the points outside `outside` that have these numbers there: what [`squeezed`] makes of
+/// it.
+pub(crate) fn spread(numbers: Points, outside: Points) -> Points
+    requires { numbers < 2 ^ number_outside outside 24 }
+    ensures within { result < 2 ^ 24 }
+    ensures apart { (p : ℕ) → has result p ≡ true → has outside p ≡ false }
+    ensures squeezed { squeezed_below outside result 24 ≡ numbers }
+{
+    let mut spread = 0;
+    let mut left = numbers.mask();
+    for part in 0..4_u8 {
+        let taken = (outside.mask() >> (6 * part)) % 64;
+        let free = 6 - part_size(taken);
+        spread += spread_part(taken, left % (1 << free)) << (6 * part);
+        left >>= free;
+    }
+    Points::from_mask(spread)
 }
 
 /// The number of `point` among the points that aren't in `outside`, in ascending order.

@@ -1,0 +1,60 @@
+//! Lists of all sets of a number of points.
+ghost use Rattle.std.specs.Prelude.{◌≡◌, ◌<◌, ◌≤◌, ◌^◌, IfOk};
+ghost use Rattle.morris_index.specs.Binomials.{choose};
+ghost use Rattle.morris_index.specs.Numbering.{number_outside, IsRanked, AreRanked};
+
+use crate::binomials::binomial;
+use crate::ranks::{following, least, spread};
+use morris_board::board::Geometry;
+use morris_board::points::Points;
+use std::alloc::{AllocError, Global};
+
+/// The masks of the sets of `count` of the points below `points`, in the order of their ranks. It
+/// is made once, so that a set of free points is found from its rank in constant time.
+#[derive(Drop)]
+pub(crate) struct SetList {
+    points: u8,
+    count: u8,
+    sets: Vec<u32>,
+    ghost listed: { AreRanked points count sets.items },
+}
+
+impl SetList {
+    /// The sets of `count` of the points below `points`.
+    ///
+    /// # Errors
+    /// [`AllocError`] where memory runs out. No other call takes memory.
+    pub(crate) fn make(alloc: Global, points: u8, count: u8) -> Result<SetList, AllocError>
+        requires board { points ≤ 24 }
+        requires few { count ≤ 9 }
+        requires fits { count ≤ points }
+        ensures points { IfOk result (λ list. list.points ≡ points) }
+        ensures count { IfOk result (λ list. list.count ≡ count) }
+    {
+        let all = binomial(points, count);
+        let mut sets = Vec::with_capacity(alloc, all as usize)?;
+        let mut set = least(points, Points::EMPTY, count);
+        for _index in 0..all {
+            sets.push(set.mask())?;
+            if let Some(next) = following(points, Points::EMPTY, set) {
+                set = next;
+            }
+        }
+        Ok(SetList {
+            points,
+            count,
+            sets,
+        })
+    }
+
+    /// The set of points of the board outside `outside` with this rank, where as many points are
+    /// free as the list is of.
+    pub(crate) fn free_set<B: Geometry>(&self, outside: Points, rank: u64) -> Points
+        requires within { outside < 2 ^ B.POINTS }
+        requires free { number_outside outside B.POINTS ≡ self.now.points }
+        requires small { rank < choose self.now.points self.now.count }
+        ensures { IsRanked B.POINTS outside self.now.count rank result }
+    {
+        spread(Points::from_mask(self.sets[rank as usize]), outside)
+    }
+}
