@@ -25,4 +25,5 @@ pub mod ReturningLaws
 pub mod ClassCounts
 pub mod FallLaws
 mod StepLaws
+pub mod StandingLaws
 pub mod FacingLaws

@@ -10,3 +10,4 @@ pub mod ClassMoves
 pub mod Falls
 pub mod Carried
 pub mod Facing
+pub mod Standings

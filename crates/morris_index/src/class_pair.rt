@@ -10,10 +10,11 @@ ghost use Rattle.morris_index.specs.ClassPairs.{led, class_size_of, class_index_
 ghost use Rattle.morris_index.specs.ClassMoves.{class_start_of};
 ghost use Rattle.morris_index.specs.Falls.{HasEntry};
 ghost use Rattle.morris_index.specs.Carried.{IsReturning};
+ghost use Rattle.morris_index.specs.Standings.{are_of};
 
 use crate::binomials::binomial;
 use crate::class_halves::{
-    class_half_index, class_half_leads, class_half_position, class_half_size, class_half_start,
+    class_half_index, class_half_leads, class_half_position, class_half_size,
 };
 use crate::classes::Classes;
 use crate::falls::FallsOn;
@@ -158,13 +159,27 @@ impl<B: Geometry> ClassPair<B> {
         ensures one { result.1 < B.SYMMETRIES }
         ensures few { result.0 ≤ 2 ^ 54 }
     {
-        let greater = self.pair.greater();
-        if own.count() == greater {
-            class_half_start(&self.greater, own, other.count())
+        self.start_by(own, other.count())
+    }
+
+    /// The same, where the opponent has `other` stones.
+    pub(crate) fn start_by(&self, own: Points, other: u8) -> (u64, u8)
+        requires within { own < 2 ^ B.POINTS }
+        requires counts { are_of self.now (count_of own) other ≡ true }
+        ensures start { result.0 ≡ class_start_of B.shape B.POINTS self.now own other }
+        ensures symmetry { result.1 ≡ symmetry_of B.shape own }
+        ensures one { result.1 < B.SYMMETRIES }
+        ensures few { result.0 ≤ 2 ^ 54 }
+    {
+        if own.count() == self.pair.greater() {
+            let (class, symmetry) = self.greater.class_of(own);
+            (u64::from(class) * self.greater_choices, symmetry)
         } else {
-            let first = class_half_size(&self.greater, greater, self.pair.lesser());
-            let (start, symmetry) = class_half_start(&self.lesser, own, other.count());
-            (first + start, symmetry)
+            let (class, symmetry) = self.lesser.class_of(own);
+            (
+                self.first + u64::from(class) * self.lesser_choices,
+                symmetry,
+            )
         }
     }
 

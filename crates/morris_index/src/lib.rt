@@ -21,6 +21,7 @@ mod ranks;
 mod returning;
 mod set_lists;
 mod spread_tables;
+pub mod standing;
 pub mod successor_entries;
 pub mod successors;
 mod sums;

@@ -1,0 +1,119 @@
+-- The entries of positions with given stones of the player to move, from what is kept of these.
+use Rattle.std.proofs.Common.{◌≡◌, ℕ, ◌+◌, ◌-◌, ◌*◌, ◌^◌, ◌<◌, ◌≤◌, true, false, map, refl, sym, ◌∙◌, ap, ap₂, arith}
+use Rattle.std.proofs.Math.Nat.{mul-le-mul_left}
+use Rattle.std.proofs.lemmas.Bool.Decides.{nat_tests}
+use Rattle.morris_board.specs.Boards.{Shape}
+use Rattle.morris_board.specs.Sets.{has, members, count_of}
+use Rattle.morris_board.specs.Positions.{Sides, sides, IsPosition}
+use Rattle.morris_board.specs.Symmetries.{image_of, HasSymmetries}
+use Rattle.morris_index.specs.Binomials.{choose}
+use Rattle.morris_index.specs.Numbering.{rank_of, number_outside, half_index}
+use Rattle.morris_index.specs.Classes.{representative_of}
+use Rattle.morris_index.specs.ClassPairs.{led, class_size_of, class_index_of}
+use Rattle.morris_index.specs.Moves.{start_of}
+use Rattle.morris_index.specs.Pairs.{Counts, IsPair, size_of, index_of}
+use Rattle.morris_index.specs.Standings.{are_of, IsStanding, IsLedStanding}
+use Rattle.morris_index.specs.declared.standing.Standing.{Standing}
+use Rattle.morris_index.proofs.BinomialTable.{choose_small}
+use Rattle.morris_index.proofs.ClassLaws.{symmetry_within}
+use Rattle.morris_index.proofs.ClassMoveLaws.{entry-parts}
+use Rattle.morris_index.proofs.ClassPairLaws.{led_position, led_rank-lt, index-lt}
+use Rattle.morris_index.proofs.MoveLaws.{start-few, index-parts, regrouped}
+use Rattle.morris_index.proofs.PairLaws.{own_count, other_count}
+use Rattle.morris_index.proofs.IndexLaws.{placed, within_24, other_apart, number_outside-none, rank_outside-lt, half_index-few}
+use Rattle.morris_index.proofs.IndexLaws.{index-lt as position-lt}
+use Rattle.morris_board.proofs.PointsLaws.{has-none}
+
+-- ---- the indices of all positions
+
+counts_few : (n : ℕ) (c : Counts) (own other : ℕ) → IsPair n c → are_of c own other ≡ true → own ≤ 9
+counts_few n c own other pair of = grind (arith, nat_tests)
+
+pub product_few : (x y : ℕ) → x ≤ 1307504 → y < 2097152 → x * y < 2742070124545
+product_few x y h k = omega (arith, mul-le-mul_left {m = x} {n = 1307504} y h)
+
+pub own_rank-few : (n own other : ℕ) (c : Counts) → n ≤ 24 → own < 2 ^ n → IsPair n c → are_of c (count_of own) other ≡ true → rank_of (map (number_outside 0) (members own)) ≤ 1307504
+own_rank-few n own other c low within pair of =
+    let few : count_of own ≤ 9 = counts_few n c (count_of own) other pair of in
+    let below = rw number_outside-none at (rank_outside-lt n 0 (omega arith) own within (λ p h. has-none p)) in
+    omega (arith, below, choose_small n (count_of own) (omega arith) (omega arith))
+
+module _ (board : Shape) (n : ℕ) (few : n ≤ 24) (points : board.points ≡ n) (c : Counts) (standing : Standing) (other : ℕ) (k : IsStanding n c (count_of other) standing)
+    (h : IsPosition board (sides standing.own other)) where
+  abbrev s : Sides
+  s = sides standing.own other
+
+  -- what the code adds up
+  abbrev rank : ℕ
+  rank = rank_of (map (number_outside standing.place) (members other))
+
+  ranks : rank_of (members standing.own) * choose (n - count_of standing.own) (count_of other) + rank ≡ half_index n s
+  unfolding half_index
+  ranks = rw k.place refl
+
+  pub index-is : standing.start + rank ≡ index_of n c s
+  index-is = ap (λ x. x + rank) k.start ∙ regrouped _ _ _ ∙ ap (λ x. start_of n c (count_of standing.own) + x) ranks ∙ sym (index-parts n c s)
+
+  pub index_below : standing.start + rank < size_of n c
+  index_below = rw index-is (position-lt n c (omega arith) s (placed board n s points h) k.counts)
+
+  pub index_few : standing.start + rank < 2 ^ 60
+  index_few = omega (
+    arith,
+    index-is,
+    index-parts n c s,
+    start-few n c (count_of standing.own) few k.pair,
+    half_index-few n s few (placed board n s points h) (own_count s h.sized).1 (other_count s h.sized).1,
+  )
+
+-- ---- the entries by classes
+
+module _ (board : Shape) (n : ℕ) (few : n ≤ 24) (points : board.points ≡ n) (y : HasSymmetries board) (c : Counts) (standing : Standing) (other : ℕ)
+    (k : IsLedStanding board n c (count_of other) standing) (h : IsPosition board (sides standing.own other)) where
+  abbrev led_from : Sides
+  led_from = sides standing.own other
+
+  pub leading_within : standing.symmetry < board.symmetries
+  leading_within = rw k.symmetry (symmetry_within board (omega arith) y standing.own h.stones.own_within)
+
+  abbrev image : ℕ
+  image = image_of (board.image standing.symmetry) other
+
+  -- the position is led to the one with these images
+  led_is : led board led_from ≡ sides standing.place image
+  unfolding led representative_of
+  led_is = ap₂ sides (sym k.place) (ap (λ t. image_of (board.image t) other) (sym k.symmetry))
+
+  led_lawful : IsPosition board (sides standing.place image)
+  led_lawful = rw led_is at (led_position board n few points y led_from h)
+
+  pub image_24 : image < 2 ^ 24
+  image_24 = within_24 image n (placed board n (sides standing.place image) points led_lawful).other_within few
+
+  pub image_few : count_of image ≤ 9
+  image_few = (other_count (sides standing.place image) led_lawful.sized).1
+
+  pub image_apart : (p : ℕ) → has image p ≡ true → has standing.place p ≡ false
+  image_apart = other_apart n (omega arith) (sides standing.place image) (placed board n (sides standing.place image) points led_lawful)
+
+  -- what the code adds up
+  abbrev image_rank : ℕ
+  image_rank = rank_of (map (number_outside standing.place) (members image))
+
+  image_ranks : rank_of (map (number_outside (led board led_from).own) (members (led board led_from).other)) ≡ image_rank
+  image_ranks = ap (λ (t : Sides). rank_of (map (number_outside t.own) (members t.other))) led_is
+
+  pub entry-is : standing.start + image_rank ≡ class_index_of board n c led_from
+  entry-is = sym (entry-parts board n few points y c led_from ∙ ap₂ (λ a b. a + b) (sym k.start) image_ranks)
+
+  pub entry_below : standing.start + image_rank < class_size_of board n c
+  entry_below = rw entry-is (index-lt board n few points y c led_from h k.counts)
+
+  pub entry_few : standing.start + image_rank < 2 ^ 60
+  entry_few = omega (
+    arith,
+    k.few,
+    image_ranks,
+    led_rank-lt board n few points y led_from h,
+    choose_small (n - count_of standing.own) (count_of other) (omega arith) (omega (arith, (other_count led_from h.sized).1)),
+  )

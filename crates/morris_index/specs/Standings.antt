@@ -1,0 +1,35 @@
+-- What is kept of the stones of the player to move in positions of a pair, so that their entries are
+-- found from the opponent's stones alone.
+use Rattle.std.specs.Prelude.{◌≡◌, ℕ, ◌+◌, ◌-◌, ◌*◌, ◌^◌, ◌≤◌, Bool, true, ◌&&◌, ◌||◌, nat_eq}
+use Rattle.morris_board.specs.Boards.{Shape}
+use Rattle.morris_board.specs.Sets.{members, count_of}
+use Rattle.morris_index.specs.Binomials.{choose}
+use Rattle.morris_index.specs.Numbering.{rank_of}
+use Rattle.morris_index.specs.Pairs.{Counts, IsPair}
+use Rattle.morris_index.specs.Moves.{start_of}
+use Rattle.morris_index.specs.Classes.{symmetry_of, representative_of}
+use Rattle.morris_index.specs.ClassMoves.{class_start_of}
+use Rattle.morris_index.specs.declared.standing.Standing.{Standing}
+
+-- whether the pair has positions with so many stones of the player to move and of the opponent
+abbrev pub are_of : Counts → ℕ → ℕ → Bool
+are_of c own other = (nat_eq own c.greater && nat_eq other c.lesser) || (nat_eq own c.lesser && nat_eq other c.greater)
+
+-- What is kept, on n points, where the opponent has `other` stones and each position has an entry:
+-- the first entry with these own stones, and these stones, outside which the opponent's are ranked.
+pub record IsStanding (n : ℕ) (c : Counts) (other : ℕ) (standing : Standing) : Type 0 where
+  pub pair : IsPair n c
+  pub counts : are_of c (count_of standing.own) other ≡ true
+  pub place : standing.place ≡ standing.own
+  pub start : standing.start
+      ≡ start_of n c (count_of standing.own) + rank_of (members standing.own) * choose (n - count_of standing.own) other
+
+-- What is kept where the entries are numbered by classes: the symmetry that leads the own stones to
+-- the representative, this representative, outside which the images of the opponent's stones are
+-- ranked, and the first entry with it.
+pub record IsLedStanding (board : Shape) (n : ℕ) (c : Counts) (other : ℕ) (standing : Standing) : Type 0 where
+  pub counts : are_of c (count_of standing.own) other ≡ true
+  pub symmetry : standing.symmetry ≡ symmetry_of board standing.own
+  pub place : standing.place ≡ representative_of board standing.own
+  pub start : standing.start ≡ class_start_of board n c standing.own other
+  pub few : standing.start ≤ 2 ^ 54

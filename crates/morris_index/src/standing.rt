@@ -1,0 +1,100 @@
+//! Where the entries stand of the positions in which the player to move has given stones.
+ghost use Rattle.std.specs.Prelude.{◌≡◌, ◌<◌, ◌^◌, true};
+ghost use Rattle.morris_board.specs.Sets.{count_of};
+ghost use Rattle.morris_board.specs.Positions.{sides, IsPosition};
+ghost use Rattle.morris_index.specs.Pairs.{size_of, index_of};
+ghost use Rattle.morris_index.specs.ClassPairs.{class_size_of, class_index_of};
+ghost use Rattle.morris_index.specs.Standings.{are_of, IsStanding, IsLedStanding};
+
+use crate::binomials::binomial;
+use crate::class_pair::ClassPair;
+use crate::pair::Pair;
+use crate::ranks::{rank, rank_outside};
+use morris_board::board::Geometry;
+use morris_board::points::Points;
+
+/// Where the entries stand of the positions in which the player to move has given stones and the
+/// opponent a given number of stones. It is of one pair and of one of its numberings.
+#[derive(Clone, Copy, Debug)]
+pub struct Standing {
+    /// The stones of the player to move.
+    own: Points,
+    /// The first entry of these positions.
+    start: u64,
+    /// The symmetry that leads the positions to those with entries of their own.
+    symmetry: u8,
+    /// The images of the stones of the player to move under it.
+    place: Points,
+}
+
+impl Standing {
+    /// What is put where nothing is known.
+    pub const NOWHERE: Standing = Standing {
+        own: Points::EMPTY,
+        start: 0,
+        symmetry: 0,
+        place: Points::EMPTY,
+    };
+}
+
+impl<B: Geometry> Pair<B> {
+    /// Where the indices stand of the positions in which the player to move has the stones `own`
+    /// and the opponent `other` stones.
+    pub fn standing(&self, own: Points, other: u8) -> Standing
+        requires within { own < 2 ^ B.POINTS }
+        requires counts { are_of self.now (count_of own) other ≡ true }
+        ensures own { result.own ≡ own }
+        ensures stands { IsStanding B.POINTS self.now other result }
+    {
+        let count = own.count();
+        let start = self.start_of(count);
+        Standing {
+            own,
+            start: start + rank(own) * binomial(B::POINTS - count, other),
+            symmetry: 0,
+            place: own,
+        }
+    }
+
+    /// The index of the position with these own stones in which the opponent has the stones
+    /// `other`, below [`Pair::size`]. They are as many as the standing was asked for.
+    pub fn index_at(&self, standing: &Standing, other: Points) -> u64
+        requires stands { IsStanding B.POINTS self.now (count_of other) standing.now }
+        requires lawful { IsPosition B.shape (sides standing.now.own other) }
+        ensures value { result ≡ index_of B.POINTS self.now (sides standing.now.own other) }
+        ensures below { result < size_of B.POINTS self.now }
+    {
+        standing.start + rank_outside(other, standing.place)
+    }
+}
+
+impl<B: Geometry> ClassPair<B> {
+    /// Where the entries stand of the positions in which the player to move has the stones `own`
+    /// and the opponent `other` stones. Their class is looked up once for all of these positions.
+    pub fn standing(&self, own: Points, other: u8) -> Standing
+        requires within { own < 2 ^ B.POINTS }
+        requires counts { are_of self.now (count_of own) other ≡ true }
+        ensures own { result.own ≡ own }
+        ensures stands { IsLedStanding B.shape B.POINTS self.now other result }
+    {
+        let (start, symmetry) = self.start_by(own, other);
+        Standing {
+            own,
+            start,
+            symmetry,
+            place: B::image_of(symmetry, own),
+        }
+    }
+
+    /// The entry of the position with these own stones in which the opponent has the stones
+    /// `other`, below [`ClassPair::size`]. They are as many as the standing was asked for.
+    pub fn entry_at(&self, standing: &Standing, other: Points) -> u64
+        requires stands { IsLedStanding B.shape B.POINTS self.now (count_of other) standing.now }
+        requires lawful { IsPosition B.shape (sides standing.now.own other) }
+        ensures value { result ≡ class_index_of B.shape B.POINTS self.now (sides standing.now.own other) }
+        ensures below { result < class_size_of B.shape B.POINTS self.now }
+    {
+        let image = B::image_of(standing.symmetry, other);
+        standing.start + self.rank_outside(image, standing.place)
+    }
+}
