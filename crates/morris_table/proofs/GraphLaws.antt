@@ -24,7 +24,7 @@ use Rattle.morris_table.specs.Codes.{IsCodeOf, code_to}
 use Rattle.morris_table.specs.PairNets.{is_capture, is_quiet, quiet_results, capture_codes, pair_net, level_of, net_at}
 use Rattle.morris_table.specs.Tables.{Table}
 use Rattle.morris_wave.specs.Summaries.{added}
-use Rattle.morris_table.specs.Graphs.{IsTableOf, IsNeeded, IsPairGraph, IsLedTo, exits_by, HasGameValues}
+use Rattle.morris_table.specs.Graphs.{IsTableOf, IsNeeded, IsPairGraph, exits_by, HasGameValues}
 use Rattle.morris_table.specs.Known.{IsTabled, IsKnown, IsBeyondCodes}
 use Rattle.morris_table.specs.FilterLaws.{filter-yes, filter-no}
 use Rattle.morris_table.specs.NetLaws.{points_few, capture-leads, quiet-at, exits-at, size-pair_net, net_at-level_of}
@@ -42,13 +42,6 @@ pub code_there : (board : Shape) (n : ℕ) (t : Table) (d : Counts) (s : Sides) 
 code_there board n t d s points h position of index code at is =
     code_at board n t points h.exact s position (subst (λ e. is_of e s ≡ true) (sym h.of) of) code
     (is ∙ ap (λ i. get_or t.codes i 0) at)
-
--- a position of no pair has two stones of the player to move, who has lost
-pub code_of_none : (board : Shape) (s : Sides) → pair_of s ≡ None → IsCodeOf board s 1
-code_of_none board s e = elim (cases_eq (count_of s.own) 2) [
-  | inl two ↦ code_of_stuck board s (omega arith)
-  | inr other ↦ absurd (none-some (ordered (count_of s.own) (count_of s.other)) (sym e ∙ rw (ne_eqb (count_of s.own) 2 other) refl))
-]
 
 -- ---- the pairs that a pair needs
 
@@ -72,18 +65,6 @@ IsPair-needed n c d h need = elim (needed_cases c d need) [
       let w = cond_some (ltb c.lesser c.greater) (counts (c.greater - 1) c.lesser) d g in
       let less : c.lesser < c.greater = ltb-true c.lesser c.greater w.0 in
       subst (IsPair n) w.1 (record { most = omega (arith, h.most); ordered = omega arith; least = h.least; fits = omega (arith, h.fits) })
-]
-
--- ---- the captures of a position
-
-none_of_two : (s : Sides) → count_of s.own ≡ 2 → pair_of s ≡ None
-none_of_two s two = rw two refl
-
-pub capture_led_to : (board : Shape) → board.points ≤ 24 → (c : Counts) → IsPair board.points c → (s : Sides) → IsPosition board s → is_of c s ≡ true
-    → (m : Move) → Contains (moves_of board s) m → is_some m.taken ≡ true → IsLedTo c (result_of s m)
-capture_led_to board few c pair s h of m listed takes = elim (capture-leads board few s h m listed c pair of (ap not takes)) [
-  | inl two ↦ subst (λ o. IfSome o (λ d. Contains (needed c) d)) (sym (none_of_two (result_of s m) two)) tt
-  | inr there ↦ subst (λ o. IfSome o (λ d. Contains (needed c) d)) (sym (pair_of-is_of board.points there.0 (result_of s m) (IsPair-needed board.points c there.0 pair there.1) there.2)) there.1
 ]
 
 -- ---- the summary of the captures

@@ -21,6 +21,7 @@ pub mod QuietLaws
 pub mod RowLaws
 pub mod GraphLaws
 pub mod CaptureLaws
+pub mod CapturedLaws
 pub mod BuildLaws
 pub mod AgreementLaws
 pub mod WorthLaws

@@ -1,11 +1,10 @@
 -- What the graph of a pair reads of the tables of other pairs.
-use Rattle.std.specs.Prelude.{◌≡◌, ℕ, ◌↔◌, true, Option, Some, None, List, filter, map, IfSome}
-use Rattle.std.specs.List.{Contains}
+use Rattle.std.specs.Prelude.{◌≡◌, ℕ, ◌↔◌, true, Option, Some, None, List, filter, map}
 use Rattle.morris_board.specs.Boards.{Shape}
 use Rattle.morris_board.specs.Positions.{Sides, IsPosition}
 use Rattle.morris_moves.specs.declared.step.Move.{Move}
 use Rattle.morris_moves.specs.Rules.{result_of}
-use Rattle.morris_index.specs.Pairs.{Counts, IsPair, pair_of, is_of, less_lesser, less_greater, needed}
+use Rattle.morris_index.specs.Pairs.{Counts, IsPair, is_of, less_lesser, less_greater}
 use Rattle.morris_wave.specs.declared.network.Exits.{Exits}
 use Rattle.morris_wave.specs.Exits.{exits_of}
 use Rattle.morris_wave.specs.Values.{HasCode}
@@ -31,11 +30,6 @@ pub record IsPairGraph (board : Shape) (c : Counts) (of_lesser of_greater : Opti
   pub lawful : IsPair board.points c
   pub lesser : IsNeeded board (less_lesser c) of_lesser
   pub greater : IsNeeded board (less_greater c) of_greater
-
--- A position that a capture from the pair may lead to is of a pair that this one needs, or of no
--- pair, since the player to move has two stones.
-abbrev pub IsLedTo : Counts → Sides → Type 0
-IsLedTo c s = IfSome (pair_of s) (λ d. Contains (needed c) d)
 
 -- the summary of the captures of a list of moves of a position
 unfoldable pub exits_by : Shape → Sides → List Move → Exits

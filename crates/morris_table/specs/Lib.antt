@@ -15,6 +15,7 @@ pub mod FileReading
 pub mod Headers
 pub mod Shelves
 pub mod Graphs
+pub mod Captured
 pub mod Sweeping
 pub mod ClassGraphs
 pub mod Agreement

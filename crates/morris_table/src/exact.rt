@@ -1,20 +1,25 @@
 //! Tables of the game's values.
 ghost use Rattle.std.specs.Prelude.{◌≡◌, ℕ, ◌+◌, ◌<◌, ◌≤◌, ◌^◌, ◌↔◌, true, length, slice_index, vec_len, IfOk, IsTrue};
-ghost use Rattle.morris_board.specs.Positions.{Sides, IsPosition};
+ghost use Rattle.morris_board.specs.Positions.{Sides, sides, IsPosition};
+ghost use Rattle.morris_board.specs.Sets.{count_of};
 ghost use Rattle.morris_index.specs.Pairs.{is_of};
+ghost use Rattle.morris_index.specs.Standings.{are_of};
 ghost use Rattle.morris_wave.specs.Nets.{times};
 ghost use Rattle.morris_table.specs.Codes.{IsValue, value_in};
 ghost use Rattle.morris_table.specs.Entries.{entry_count, entry_index};
 ghost use Rattle.morris_table.specs.Numberings.{layout_of, pair_of};
 ghost use Rattle.morris_table.specs.Tables.{table, IsTable, greatest_code, tallies_of};
+ghost use Rattle.morris_table.specs.Captured.{IsStandingIn};
 
 use crate::layout::Layout;
 use crate::numbering::Numbering;
 use crate::raw::Raw;
 use crate::value::Value;
 use morris_board::board::Geometry;
+use morris_board::points::Points;
 use morris_board::position::Position;
 use morris_index::pair::Pair;
+use morris_index::standing::Standing;
 use std::alloc::{AllocError, Global};
 use std::marker::Model;
 
@@ -90,6 +95,27 @@ impl<B: Geometry> Exact<B> {
         ensures lawful { IsTable B.shape self.now }
     {
         self.code(self.numbering.entry(position))
+    }
+
+    /// Where the entries stand of the positions of the pair in which the player to move has the
+    /// stones `own` and the opponent `other` stones.
+    pub(crate) fn standing(&self, own: Points, other: u8) -> Standing
+        requires within { own < 2 ^ B.POINTS }
+        requires counts { are_of self.now.pair (count_of own) other ≡ true }
+        ensures own { result.own ≡ own }
+        ensures stands { IsStandingIn B.shape B.POINTS self.now.layout self.now.pair other result }
+    {
+        self.numbering.standing(own, other)
+    }
+
+    /// The code of the position with these own stones in which the opponent has the stones `other`,
+    /// as many as the standing was asked for.
+    pub(crate) fn code_at(&self, standing: &Standing, other: Points) -> u16
+        requires stands { IsStandingIn B.shape B.POINTS self.now.layout self.now.pair (count_of other) standing.now }
+        requires lawful { IsPosition B.shape (sides standing.now.own other) }
+        ensures { result ≡ slice_index self.now.codes (entry_index B.shape B.POINTS self.now.layout self.now.pair (sides standing.now.own other)) }
+    {
+        self.code(self.numbering.entry_at(standing, other))
     }
 
     /// The value of a position of the pair.

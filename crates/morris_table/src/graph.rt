@@ -1,18 +1,17 @@
 //! The graph of a pair.
 ghost use Rattle.std.specs.Prelude.{◌≡◌, ℕ, ◌+◌, ◌*◌, ◌<◌, ◌≤◌, ◌↔◌, true, Some, None, List, ◌++◌, length, slice_index, vec_len, is_some, IfOk, OnOk, IfSome, MatchResult};
-ghost use Rattle.std.specs.List.{Contains, flat_map};
+ghost use Rattle.std.specs.List.{flat_map};
 ghost use Rattle.std.specs.Option.{option_copied};
 ghost use Rattle.morris_board.specs.Positions.{IsPosition};
-ghost use Rattle.morris_board.specs.Sets.{has, members};
+ghost use Rattle.morris_board.specs.Sets.{has, members, count_of};
 ghost use Rattle.morris_moves.specs.declared.step.Move.{Move};
 ghost use Rattle.morris_moves.specs.Rules.{closes, reach, takable, moves_to};
-ghost use Rattle.morris_index.specs.Pairs.{IsPair, is_of, less_lesser, less_greater, needed};
+ghost use Rattle.morris_index.specs.Pairs.{IsPair, is_of, less_lesser, less_greater};
 ghost use Rattle.morris_table.specs.Rows.{IsRow};
 ghost use Rattle.morris_wave.specs.Blocks.{BlockState};
 ghost use Rattle.morris_wave.specs.Solving.{exits_at};
 ghost use Rattle.morris_wave.specs.Exits.{exits_of};
 ghost use Rattle.morris_wave.specs.Values.{HasCode, IsTooDeep};
-ghost use Rattle.morris_table.specs.Codes.{IsCodeOf};
 ghost use Rattle.morris_table.specs.Entries.{entry_count};
 ghost use Rattle.morris_table.specs.Numberings.{layout_of, pair_of};
 ghost use Rattle.morris_table.specs.PairNets.{capture_codes, level_of, net_at};
@@ -20,7 +19,8 @@ ghost use Rattle.morris_table.specs.Known.{IsBeyondCodes};
 ghost use Rattle.morris_table.specs.Tables.{table};
 ghost use Rattle.morris_table.specs.Shelves.{table_on, first_missing};
 ghost use Rattle.morris_table.specs.Headline.{IsBlockOf, TellsTheGame};
-ghost use Rattle.morris_table.specs.Graphs.{IsTableOf, IsNeeded, IsLedTo, exits_by, HasGameValues};
+ghost use Rattle.morris_table.specs.Captured.{captured_pair, IsCaptured};
+ghost use Rattle.morris_table.specs.Graphs.{IsTableOf, IsNeeded, exits_by, HasGameValues};
 
 use crate::backward::list_entries_before;
 use crate::exact::Exact;
@@ -34,8 +34,8 @@ use morris_board::board::{Board, Geometry};
 use morris_board::points::Points;
 use morris_board::position::Position;
 use morris_index::pair::Pair;
-use morris_moves::rules::{closes, play, reach, takable};
-use morris_moves::step::Move;
+use morris_index::standing::Standing;
+use morris_moves::rules::{closes, reach, takable};
 use morris_wave::{Exits, Graph};
 use std::alloc::AllocError;
 use std::marker::Model;
@@ -91,6 +91,84 @@ fn needed_table<'a, B: Geometry>(stock: &'a Stock<B>, need: Option<Pair<B>>) -> 
     ensures { IsNeeded B.shape need (option_copied result) }
 {
     stock.get(need?)
+}
+
+/// Where the results of the captures of a position stand in their table: at the point of the stone
+/// that is taken, which is one of `takes`. A result has the stones of the player to move that are
+/// left, whatever move takes the stone.
+fn standings_of<B: Geometry>(
+    table: &Exact<B>,
+    position: &Position<B>,
+    takes: Points,
+) -> [Standing; 24]
+    requires table { IsTableOf B.shape (captured_pair position.now) table.now }
+    requires lawful { IsPosition B.shape position.now }
+    requires takes { takes ≡ takable B.shape position.now.other }
+    ensures { IsCaptured B.shape B.POINTS position.now table.now result }
+{
+    let other = position.other();
+    let facing = position.own().count();
+    let mut standings = [Standing::NOWHERE; 24];
+    for taken in takes.iter() {
+        standings[taken as usize] = table.standing(other.without(taken), facing);
+    }
+    standings
+}
+
+/// Goes on with the summary `known`: each capture of a stone of `takes` by the move from `from` to
+/// `to`.
+fn with_captures<B: Geometry>(
+    table: &Exact<B>,
+    standings: &[Standing; 24],
+    position: &Position<B>,
+    from: u8,
+    to: u8,
+    takes: Points,
+    known: Exits,
+) -> Exits
+    requires captured { IsCaptured B.shape B.POINTS position.now table.now standings.now }
+    requires lawful { IsPosition B.shape position.now }
+    requires start { has position.now.own from ≡ true }
+    requires end { has (reach B.shape position.now from) to ≡ true }
+    requires closing { closes B.shape position.now.own from to ≡ true }
+    requires takes { takes ≡ takable B.shape position.now.other }
+    ensures { (done : List Move) → known ≡ exits_by B.shape position.now done
+        → result ≡ exits_by B.shape position.now (done ++ moves_to B.shape position.now from to) }
+{
+    let facing = position.own().without(from).with(to);
+    let mut exits = known;
+    for taken in takes.iter() {
+        exits = exits.with(table.code_at(&standings[taken as usize], facing));
+    }
+    exits
+}
+
+/// Goes on with the summary `known`: each capture by a move of the stone on `from` to one of
+/// `ends`, which are in its reach.
+fn with_captures_from<B: Geometry>(
+    table: &Exact<B>,
+    standings: &[Standing; 24],
+    position: &Position<B>,
+    from: u8,
+    ends: Points,
+    takes: Points,
+    known: Exits,
+) -> Exits
+    requires captured { IsCaptured B.shape B.POINTS position.now table.now standings.now }
+    requires lawful { IsPosition B.shape position.now }
+    requires start { has position.now.own from ≡ true }
+    requires ends { (v : ℕ) → has ends v ≡ true → has (reach B.shape position.now from) v ≡ true }
+    requires takes { takes ≡ takable B.shape position.now.other }
+    ensures { (done : List Move) → known ≡ exits_by B.shape position.now done
+        → result ≡ exits_by B.shape position.now (done ++ flat_map (moves_to B.shape position.now from) (members ends)) }
+{
+    let mut exits = known;
+    for to in ends.iter() {
+        if closes::<B>(position.own(), from, to) {
+            exits = with_captures(table, standings, position, from, to, takes, exits);
+        }
+    }
+    exits
 }
 
 impl<'a, B: Geometry> PairGraph<'a, B> {
@@ -156,12 +234,14 @@ impl<'a, B: Geometry> PairGraph<'a, B> {
         Exact::new(numbering, codes)
     }
 
-    /// The table of a pair that this one needs.
-    fn table_of(&self, need: Pair<B>) -> &Exact<B>
-        requires { Contains (needed self.now) need }
-        ensures { IsTableOf B.shape need result.now }
+    /// The table of the results of the captures of a position of the pair, in which the opponent has
+    /// more than three stones.
+    fn captured_table(&self, position: &Position<B>) -> &Exact<B>
+        requires counts { is_of self.now position.now ≡ true }
+        requires above { 3 < count_of position.now.other }
+        ensures { IsTableOf B.shape (captured_pair position.now) result.now }
     {
-        let table = if need.greater() == self.pair.greater() {
+        let table = if position.other().count() == self.pair.lesser() {
             self.less_lesser
         } else {
             self.less_greater
@@ -170,80 +250,6 @@ impl<'a, B: Geometry> PairGraph<'a, B> {
             Some(table) => table,
             None => unreachable!(),
         }
-    }
-
-    /// The code of a position that a capture from the pair leads to. A player to move with two
-    /// stones has lost.
-    fn code_of(&self, position: &Position<B>) -> u16
-        requires { IsLedTo self.now position.now }
-        ensures { IsCodeOf B.shape position.now result }
-    {
-        // The proof learns here that the stones are those of a position.
-        let _ = position.own();
-        match Pair::of(position) {
-            Some(pair) => self.table_of(pair).code_of(position),
-            None => 1,
-        }
-    }
-
-    /// Goes on with the summary `known`: each capture of a stone of `takes` by the move from `from`
-    /// to `to`.
-    fn with_captures(
-        &self,
-        position: &Position<B>,
-        from: u8,
-        to: u8,
-        takes: Points,
-        known: Exits,
-    ) -> Exits
-        requires counts { is_of self.now position.now ≡ true }
-        requires lawful { IsPosition B.shape position.now }
-        requires start { has position.now.own from ≡ true }
-        requires end { has (reach B.shape position.now from) to ≡ true }
-        requires closing { closes B.shape position.now.own from to ≡ true }
-        requires takes { takes ≡ takable B.shape position.now.other }
-        ensures { (done : List Move) → known ≡ exits_by B.shape position.now done
-            → result ≡ exits_by B.shape position.now (done ++ moves_to B.shape position.now from to) }
-    {
-        // The proof learns here that the graph's numbers of stones are those of a pair.
-        let _ = &self.pair;
-        let mut exits = known;
-        for taken in takes.iter() {
-            let capture = Move {
-                from,
-                to,
-                taken: Some(taken),
-            };
-            exits = exits.with(self.code_of(&play(position, capture)));
-        }
-        exits
-    }
-
-    /// Goes on with the summary `known`: each capture by a move of the stone on `from` to one of
-    /// `ends`, which are in its reach.
-    fn with_captures_from(
-        &self,
-        position: &Position<B>,
-        from: u8,
-        ends: Points,
-        takes: Points,
-        known: Exits,
-    ) -> Exits
-        requires counts { is_of self.now position.now ≡ true }
-        requires lawful { IsPosition B.shape position.now }
-        requires start { has position.now.own from ≡ true }
-        requires ends { (v : ℕ) → has ends v ≡ true → has (reach B.shape position.now from) v ≡ true }
-        requires takes { takes ≡ takable B.shape position.now.other }
-        ensures { (done : List Move) → known ≡ exits_by B.shape position.now done
-            → result ≡ exits_by B.shape position.now (done ++ flat_map (moves_to B.shape position.now from) (members ends)) }
-    {
-        let mut exits = known;
-        for to in ends.iter() {
-            if closes::<B>(position.own(), from, to) {
-                exits = self.with_captures(position, from, to, takes, exits);
-            }
-        }
-        exits
     }
 
     /// The summary of what the captures of a position of the pair lead to, from what is kept of its
@@ -262,11 +268,13 @@ impl<'a, B: Geometry> PairGraph<'a, B> {
         if position.other().count() == 3 {
             return LOST_AT_ONCE;
         }
+        let table = self.captured_table(position);
         let takes = takable::<B>(position.other());
+        let standings = standings_of(table, position, takes);
         let mut exits = Exits::NONE;
         for from in position.own().iter() {
             let ends = reach(position, from).common(row.closing);
-            exits = self.with_captures_from(position, from, ends, takes, exits);
+            exits = with_captures_from(table, &standings, position, from, ends, takes, exits);
         }
         exits
     }

@@ -1,20 +1,24 @@
 //! The entries of a table: how many there are, and which positions they are of.
 ghost use Rattle.std.specs.Prelude.{◌≡◌, ◌+◌, ◌<◌, ◌≤◌, ◌^◌, ◌||◌, ◌++◌, not, true, IfOk, OnOk, IsOk};
-ghost use Rattle.morris_board.specs.Sets.{has};
-ghost use Rattle.morris_board.specs.Positions.{IsPosition};
+ghost use Rattle.morris_board.specs.Sets.{has, count_of};
+ghost use Rattle.morris_board.specs.Positions.{sides, IsPosition};
 ghost use Rattle.morris_index.specs.Pairs.{IsPair, is_of};
 ghost use Rattle.morris_index.specs.Moves.{in_pair, moved_on};
+ghost use Rattle.morris_index.specs.Standings.{are_of};
 ghost use Rattle.morris_table.specs.Entries.{entry_count, entry_index, has_own_entry};
 ghost use Rattle.morris_table.specs.Numberings.{layout_of, pair_of, layout_after, position_before, layout_before, position_after};
 ghost use Rattle.morris_table.specs.Backward.{leads_from};
+ghost use Rattle.morris_table.specs.Captured.{IsStandingIn};
 
 use crate::layout::Layout;
 use morris_board::board::Geometry;
+use morris_board::points::Points;
 use morris_board::position::Position;
 use morris_index::class_pair::ClassPair;
 use morris_index::pair::Pair;
 use morris_index::predecessor_entries::PredecessorEntries;
 use morris_index::predecessors::PredecessorIndices;
+use morris_index::standing::Standing;
 use morris_index::successor_entries::SuccessorEntries;
 use morris_index::successors::SuccessorIndices;
 use std::alloc::{AllocError, Global};
@@ -93,6 +97,34 @@ impl<B: Geometry> Numbering<B> {
         match self {
             Numbering::Full(pair) => pair.index(position),
             Numbering::Classes(classes) => classes.index(position),
+        }
+    }
+
+    /// Where the entries stand of the positions of the pair in which the player to move has the
+    /// stones `own` and the opponent `other` stones.
+    pub(crate) fn standing(&self, own: Points, other: u8) -> Standing
+        requires within { own < 2 ^ B.POINTS }
+        requires counts { are_of (pair_of self.now) (count_of own) other ≡ true }
+        ensures own { result.own ≡ own }
+        ensures stands { IsStandingIn B.shape B.POINTS (layout_of self.now) (pair_of self.now) other result }
+    {
+        match self {
+            Numbering::Full(pair) => pair.standing(own, other),
+            Numbering::Classes(classes) => classes.standing(own, other),
+        }
+    }
+
+    /// The entry of the position with these own stones in which the opponent has the stones
+    /// `other`, as many as the standing was asked for.
+    pub(crate) fn entry_at(&self, standing: &Standing, other: Points) -> u64
+        requires stands { IsStandingIn B.shape B.POINTS (layout_of self.now) (pair_of self.now) (count_of other) standing.now }
+        requires lawful { IsPosition B.shape (sides standing.now.own other) }
+        ensures value { result ≡ entry_index B.shape B.POINTS (layout_of self.now) (pair_of self.now) (sides standing.now.own other) }
+        ensures below { result < entry_count B.shape B.POINTS (layout_of self.now) (pair_of self.now) }
+    {
+        match self {
+            Numbering::Full(pair) => pair.index_at(standing, other),
+            Numbering::Classes(classes) => classes.entry_at(standing, other),
         }
     }
 

@@ -1,7 +1,7 @@
 use Rattle.std.proofs.Common.{◌≡◌, ◌++◌}
 use Rattle.morris_board.specs.Sets.{members}
 use Rattle.morris_table.proofs.CaptureLaws.{GoesOn, to_ends}
-use Rattle.morris_table.proofs.graph.PairGraph.with_captures_from.Given as goal
+use Rattle.morris_table.proofs.graph.with_captures_from.Given as goal
 
 abbrev pub invariant-loop-to : goal.invariant-loop-to
 invariant-loop-to g l = record {

@@ -6,7 +6,7 @@ use Rattle.morris_moves.proofs.SetLaws.{point_lt}
 use Rattle.morris_moves.proofs.MaskLaws.{reach-lt}
 use Rattle.morris_table.proofs.BackLawsLoops.{end_of, next_points}
 use Rattle.morris_table.proofs.CaptureLaws.{GoesOn, to_ends, goes_none, goes_more, goes_quiet}
-use Rattle.morris_table.proofs.graph.PairGraph.with_captures_from.Goals as goal
+use Rattle.morris_table.proofs.graph.with_captures_from.Goals as goal
 
 pub loop-to-init : goal.loop-to-init
 loop-to-init g c = record {

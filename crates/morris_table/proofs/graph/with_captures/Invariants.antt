@@ -2,7 +2,7 @@ use Rattle.std.proofs.Common.{◌≡◌, ◌++◌, Some, map}
 use Rattle.morris_board.specs.Sets.{members}
 use Rattle.morris_moves.specs.Rules.{move}
 use Rattle.morris_table.proofs.CaptureLaws.{GoesOn}
-use Rattle.morris_table.proofs.graph.PairGraph.with_captures.Given as goal
+use Rattle.morris_table.proofs.graph.with_captures.Given as goal
 
 abbrev pub invariant-loop-taken : goal.invariant-loop-taken
 invariant-loop-taken g l = record {
