@@ -93,26 +93,25 @@ fn needed_table<'a, B: Geometry>(stock: &'a Stock<B>, need: Option<Pair<B>>) -> 
     stock.get(need?)
 }
 
-/// Where the results of the captures of a position stand in their table: at the point of the stone
-/// that is taken, which is one of `takes`. A result has the stones of the player to move that are
-/// left, whatever move takes the stone.
-fn standings_of<B: Geometry>(
+/// Puts where the results of the captures of a position stand in their table: at the point of the
+/// stone that is taken, which is one of `takes`. In a result the player to move has the stones that
+/// are left, whatever move took the stone.
+fn put_standings<B: Geometry>(
     table: &Exact<B>,
     position: &Position<B>,
     takes: Points,
-) -> [Standing; 24]
+    standings: &mut [Standing; 24],
+)
     requires table { IsTableOf B.shape (captured_pair position.now) table.now }
     requires lawful { IsPosition B.shape position.now }
     requires takes { takes ≡ takable B.shape position.now.other }
-    ensures { IsCaptured B.shape B.POINTS position.now table.now result }
+    ensures { IsCaptured B.shape B.POINTS position.now table.now standings.new }
 {
     let other = position.other();
     let facing = position.own().count();
-    let mut standings = [Standing::NOWHERE; 24];
     for taken in takes.iter() {
         standings[taken as usize] = table.standing(other.without(taken), facing);
     }
-    standings
 }
 
 /// Goes on with the summary `known`: each capture of a stone of `takes` by the move from `from` to
@@ -270,7 +269,8 @@ impl<'a, B: Geometry> PairGraph<'a, B> {
         }
         let table = self.captured_table(position);
         let takes = takable::<B>(position.other());
-        let standings = standings_of(table, position, takes);
+        let mut standings = [Standing::NOWHERE; 24];
+        put_standings(table, position, takes, &mut standings);
         let mut exits = Exits::NONE;
         for from in position.own().iter() {
             let ends = reach(position, from).common(row.closing);

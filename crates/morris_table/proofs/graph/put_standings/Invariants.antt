@@ -3,7 +3,7 @@ use Rattle.std.specs.List.{Contains}
 use Rattle.morris_board.specs.Sets.{members}
 use Rattle.morris_index.specs.declared.standing.Standing.{Standing}
 use Rattle.morris_table.specs.Captured.{IsLeft}
-use Rattle.morris_table.proofs.graph.standings_of.Given as goal
+use Rattle.morris_table.proofs.graph.put_standings.Given as goal
 
 abbrev pub invariant-loop-taken : goal.invariant-loop-taken
 invariant-loop-taken g l = record {

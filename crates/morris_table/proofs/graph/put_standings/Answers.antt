@@ -8,7 +8,7 @@ use Rattle.morris_index.specs.Standings.{are_of}
 use Rattle.morris_table.specs.Captured.{IsStandingIn}
 use Rattle.morris_table.proofs.BackLawsLoops.{end_of, next_points}
 use Rattle.morris_table.proofs.CapturedLaws.{one_more, taken_in, left_within, left_counts}
-use Rattle.morris_table.proofs.graph.standings_of.Goals as goal
+use Rattle.morris_table.proofs.graph.put_standings.Goals as goal
 
 pub without-requires : goal.without-requires
 without-requires g c =
