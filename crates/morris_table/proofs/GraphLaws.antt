@@ -1,19 +1,17 @@
 -- The graph of a pair: the codes of what captures lead to, and their summary.
-use Rattle.std.proofs.Common.{◌≡◌, ◌↔◌, ℕ, ◌-◌, ◌<◌, ◌≤◌, true, false, not, List, [], ◌∷◌, ◌++◌, Option, Some, None, is_some, map, refl, sym, ap, subst, ◌∙◌, inl, inr, ◌⊎◌, arith, IfSome, get_or, ltb, length, append-nil}
+use Rattle.std.proofs.Common.{◌≡◌, ◌↔◌, ℕ, ◌-◌, ◌<◌, ◌≤◌, true, false, not, List, [], ◌∷◌, ◌++◌, Option, Some, None, is_some, map, refl, sym, ap, subst, ◌∙◌, inl, inr, ◌⊎◌, arith, get_or, ltb, length, append-nil}
 use Rattle.std.specs.List.{All, Contains, filter}
-use Rattle.std.proofs.lemmas.Bool.{cases_eq, ne_eqb, ltb-true}
-use Rattle.std.proofs.lemmas.Option.{cond_some, none-some}
+use Rattle.std.proofs.lemmas.Bool.{ltb-true}
+use Rattle.std.proofs.lemmas.Option.{cond_some}
 use Rattle.std.specs.Option.{option_to_list}
 use Rattle.std.proofs.lemmas.List.{map-append, length-map}
 use Rattle.std.proofs.lemmas.List.Elements.{filter-append, Contains-append_cases}
 use Rattle.morris_board.specs.Boards.{Shape, is_board}
-use Rattle.morris_board.specs.Sets.{count_of}
 use Rattle.morris_board.specs.Positions.{Sides, IsPosition}
 use Rattle.morris_board.specs.Symmetries.{HasSymmetries}
 use Rattle.morris_moves.specs.declared.step.Move.{Move}
 use Rattle.morris_moves.specs.Rules.{moves_of, result_of}
-use Rattle.morris_index.specs.Pairs.{Counts, counts, IsPair, pair_of, ordered, is_of, needed, less_lesser, less_greater}
-use Rattle.morris_index.proofs.ResultLaws.{pair_of-is_of}
+use Rattle.morris_index.specs.Pairs.{Counts, counts, IsPair, is_of, needed, less_lesser, less_greater}
 use Rattle.morris_wave.specs.Nets.{Net, times}
 use Rattle.morris_wave.specs.Exits.{exits_of}
 use Rattle.morris_wave.specs.Values.{HasCode, IsTooDeep}
@@ -27,8 +25,8 @@ use Rattle.morris_wave.specs.Summaries.{added}
 use Rattle.morris_table.specs.Graphs.{IsTableOf, IsNeeded, IsPairGraph, exits_by, HasGameValues}
 use Rattle.morris_table.specs.Known.{IsTabled, IsKnown, IsBeyondCodes}
 use Rattle.morris_table.specs.FilterLaws.{filter-yes, filter-no}
-use Rattle.morris_table.specs.NetLaws.{points_few, capture-leads, quiet-at, exits-at, size-pair_net, net_at-level_of}
-use Rattle.morris_table.proofs.CodeLaws.{code_of_stuck, code_to-is}
+use Rattle.morris_table.specs.NetLaws.{points_few, quiet-at, exits-at, size-pair_net, net_at-level_of}
+use Rattle.morris_table.proofs.CodeLaws.{code_to-is}
 use Rattle.morris_table.proofs.NodeLaws.{known_by_tables, node_code, code_node}
 use Rattle.morris_table.proofs.DepthLaws.{too_deep_game, game_too_deep}
 use Rattle.morris_table.proofs.TableLaws.{code_at}

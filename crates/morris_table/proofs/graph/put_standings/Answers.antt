@@ -4,7 +4,6 @@ use Rattle.std.specs.List.{Contains}
 use Rattle.morris_board.specs.Sets.{has, members, count_of, without_point}
 use Rattle.morris_moves.specs.Rules.{takable}
 use Rattle.morris_moves.proofs.SetLaws.{member-has}
-use Rattle.morris_index.specs.Standings.{are_of}
 use Rattle.morris_table.specs.Captured.{IsStandingIn}
 use Rattle.morris_table.proofs.BackLawsLoops.{end_of, next_points}
 use Rattle.morris_table.proofs.CapturedLaws.{one_more, taken_in, left_within, left_counts}

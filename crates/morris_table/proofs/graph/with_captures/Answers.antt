@@ -1,4 +1,4 @@
-use Rattle.std.proofs.Common.{◌≡◌, ◌≤◌, ◌++◌, true, List, ℕ, get_or, sym, ap, ◌∙◌, arith, refl}
+use Rattle.std.proofs.Common.{◌≡◌, ◌++◌, true, List, ℕ, get_or, sym, ap, ◌∙◌, arith, refl}
 use Rattle.std.proofs.lemmas.List.{append-nil}
 use Rattle.morris_board.specs.Sets.{has, members, with_point, without_point}
 use Rattle.morris_moves.specs.Rules.{takable}
