@@ -48,12 +48,12 @@ fn summaries_take_one_exit_after_another(rt: HostRuntime) {
 #[test]
 fn stretches_are_read_as_single_nodes_are(rt: HostRuntime) {
     let mut counts = [7u16; 2];
-    PAIR.read_counts(0, &mut counts);
+    let mut exits = [Exits::NONE.with(3); 2];
+    PAIR.read_nodes(0, &mut counts, &mut exits);
     same_codes(&rt, &counts, &[1, 0], "quiet results");
-    let mut exits = [Exits::NONE; 1];
-    PAIR.read_exits(1, &mut exits);
-    holds(&rt, exits[0].least_lost == Some(40), "least lost");
-    holds(&rt, exits[0].drawn, "one drawn");
+    holds(&rt, exits[0] == Exits::NONE, "no exits");
+    holds(&rt, exits[1].least_lost == Some(40), "least lost");
+    holds(&rt, exits[1].drawn, "one drawn");
 }
 
 // The nodes that are fresh in a block.

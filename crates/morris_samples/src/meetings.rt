@@ -9,8 +9,8 @@ use std::alloc::AllocError;
 /// In which call whoever looks at node 0 waits for the one who looks at the other nodes.
 #[derive(Clone, Copy, PartialEq, Eq)]
 pub enum Meeting {
-    /// While exits are read, which is where blocks are made.
-    ReadExits,
+    /// While nodes are read, which is where blocks are made.
+    ReadNodes,
     /// While the nodes before a node are listed, which is where a block is sent from.
     Back,
 }
@@ -68,9 +68,9 @@ impl Graph for MeetingGraph {
         self.bare.exits(i)
     }
 
-    fn read_exits(&self, first: u64, exits: &mut [Exits]) {
-        self.come(Meeting::ReadExits, first == 0);
-        self.bare.read_exits(first, exits);
+    fn read_nodes(&self, first: u64, counts: &mut [u16], exits: &mut [Exits]) {
+        self.come(Meeting::ReadNodes, first == 0);
+        self.bare.read_nodes(first, counts, exits);
     }
 
     fn back(&self, i: u64, out: &mut Vec<u64>) -> Result<(), AllocError> {

@@ -176,7 +176,7 @@ fn want_of_memory_comes_before_what_it_leaves_undone(rt: HostRuntime) {
 
 #[test]
 fn two_workers_make_blocks_side_by_side(rt: HostRuntime) {
-    let graph = MeetingGraph::new(Meeting::ReadExits);
+    let graph = MeetingGraph::new(Meeting::ReadNodes);
     solves(&rt, rt.alloc(), &graph, &OpenGate, 2, 2, &[1, 1]);
     holds(&rt, graph.have_met(), "met");
 }

@@ -17,7 +17,7 @@ use crate::graph::PairGraph;
 use crate::layout::Layout;
 use crate::levels::PairLevels;
 use crate::numbering::Numbering;
-use crate::rows::{Row, read_counts};
+use crate::rows::Row;
 use crate::shelf::Shelf;
 use crate::stock::Stock;
 use morris_board::board::{Board, Geometry};
@@ -137,12 +137,9 @@ impl<'a, B: Board> Graph for ClassGraph<'a, B> {
         self.graph.exits_at(&self.numbering.position(i))
     }
 
-    fn read_counts(&self, first: u64, counts: &mut [u16]) {
-        read_counts(&self.numbering, first, counts)
-    }
-
-    fn read_exits(&self, first: u64, exits: &mut [Exits]) {
-        self.graph.read_exits_from(&self.numbering, first, exits)
+    fn read_nodes(&self, first: u64, counts: &mut [u16], exits: &mut [Exits]) {
+        self.graph
+            .read_nodes_from(&self.numbering, first, counts, exits)
     }
 
     fn back(&self, i: u64, out: &mut Vec<u64>) -> Result<(), AllocError> {

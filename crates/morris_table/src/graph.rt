@@ -27,7 +27,7 @@ use crate::exact::Exact;
 use crate::layout::Layout;
 use crate::levels::PairLevels;
 use crate::numbering::Numbering;
-use crate::rows::{Row, advance, read_counts};
+use crate::rows::{Row, advance};
 use crate::shelf::{Needs, Shelf};
 use crate::stock::Stock;
 use morris_board::board::{Board, Geometry};
@@ -288,23 +288,33 @@ impl<'a, B: Geometry> PairGraph<'a, B> {
         self.exits_by_row(&Row::of::<B>(position.own()), position)
     }
 
-    /// The summaries of the positions of the entries from `first` on, as many as there is room for.
-    pub(crate) fn read_exits_from(&self, numbering: &Numbering<B>, first: u64, exits: &mut [Exits])
+    /// Reads the positions of the entries from `first` on, as many as there is room for: their
+    /// numbers of quiet moves, and the summaries of what their captures lead to.
+    pub(crate) fn read_nodes_from(
+        &self,
+        numbering: &Numbering<B>,
+        first: u64,
+        counts: &mut [u16],
+        exits: &mut [Exits],
+    )
         requires pair { pair_of numbering.now ≡ self.now }
-        requires inside { first + length exits.old ≤ entry_count B.shape B.POINTS (layout_of numbering.now) self.now }
-        ensures { (k : ℕ) → k < length exits.old → exits_at exits.new k ≡ exits_of ((net_at B.shape (level_of (layout_of numbering.now) self.now)).exits (first + k)) }
+        requires room { length exits.old ≡ length counts.old }
+        requires inside { first + length counts.old ≤ entry_count B.shape B.POINTS (layout_of numbering.now) self.now }
+        ensures counts { (k : ℕ) → k < length counts.old → slice_index counts.new k ≡ length ((net_at B.shape (level_of (layout_of numbering.now) self.now)).quiet (first + k)) }
+        ensures exits { (k : ℕ) → k < length exits.old → exits_at exits.new k ≡ exits_of ((net_at B.shape (level_of (layout_of numbering.now) self.now)).exits (first + k)) }
     {
         // The proof learns here what the pair's numbers are, and that its entries are few.
         let _ = &self.pair;
         let _ = numbering.count();
-        if exits.is_empty() {
+        if counts.is_empty() {
             return;
         }
         let mut position = numbering.position(first);
         let mut row = Row::of::<B>(position.own());
-        for place in 0..exits.len() {
+        for place in 0..counts.len() {
+            counts[place] = row.quiet_moves(&position);
             exits[place] = self.exits_by_row(&row, &position);
-            if place + 1 < exits.len() {
+            if place + 1 < counts.len() {
                 advance(numbering, &mut position, &mut row, first + place as u64 + 1);
             }
         }
@@ -336,14 +346,10 @@ impl<'a, B: Board> Graph for PairGraph<'a, B> {
         self.exits_at(&self.pair.position(i))
     }
 
-    fn read_counts(&self, first: u64, counts: &mut [u16]) {
-        read_counts(&Numbering::Full(self.pair), first, counts)
-    }
-
-    fn read_exits(&self, first: u64, exits: &mut [Exits]) {
+    fn read_nodes(&self, first: u64, counts: &mut [u16], exits: &mut [Exits]) {
         // The proof learns here that the graph's numbers of stones are those of a pair.
         let _ = &self.pair;
-        self.read_exits_from(&Numbering::Full(self.pair), first, exits)
+        self.read_nodes_from(&Numbering::Full(self.pair), first, counts, exits)
     }
 
     fn back(&self, i: u64, out: &mut Vec<u64>) -> Result<(), AllocError> {

@@ -1,5 +1,5 @@
 //! What the moves of the stones of one player are, whatever the opponent has.
-ghost use Rattle.std.specs.Prelude.{◌≡◌, ℕ, ◌+◌, ◌<◌, ◌≤◌, ◌^◌, true, length, filter, slice_index};
+ghost use Rattle.std.specs.Prelude.{◌≡◌, ℕ, ◌+◌, ◌<◌, ◌≤◌, ◌^◌, true, length, filter};
 ghost use Rattle.std.specs.List.{list_any};
 ghost use Rattle.morris_board.specs.Sets.{has, members, count_of};
 ghost use Rattle.morris_moves.specs.Rules.{closes, goes, moves_of};
@@ -7,7 +7,7 @@ ghost use Rattle.morris_index.specs.Pairs.{is_of};
 ghost use Rattle.morris_board.specs.Positions.{IsPosition};
 ghost use Rattle.morris_table.specs.Entries.{entry_count, entry_index, has_own_entry};
 ghost use Rattle.morris_table.specs.Numberings.{layout_of, pair_of};
-ghost use Rattle.morris_table.specs.PairNets.{is_quiet, is_capture, level_of, net_at};
+ghost use Rattle.morris_table.specs.PairNets.{is_quiet, is_capture};
 ghost use Rattle.morris_table.specs.Rows.{arrivals, may_close, IsRow};
 
 use crate::numbering::Numbering;
@@ -163,27 +163,4 @@ pub(crate) fn advance<B: Geometry>(
 {
     *position = numbering.following(position, index);
     row.follow(position);
-}
-
-/// The numbers of quiet moves of the positions of the entries from `first` on, as many as there is
-/// room for.
-pub(crate) fn read_counts<B: Geometry>(numbering: &Numbering<B>, first: u64, counts: &mut [u16])
-    requires { first + length counts.old ≤ entry_count B.shape B.POINTS (layout_of numbering.now) (pair_of numbering.now) }
-    ensures { (k : ℕ) → k < length counts.old → slice_index counts.new k
-        ≡ length ((net_at B.shape (level_of (layout_of numbering.now) (pair_of numbering.now))).quiet (first + k)) }
-{
-    // The proof learns here what the pair's numbers are, and that its entries are few.
-    let _ = numbering.pair();
-    let _ = numbering.count();
-    if counts.is_empty() {
-        return;
-    }
-    let mut position = numbering.position(first);
-    let mut row = Row::of::<B>(position.own());
-    for place in 0..counts.len() {
-        counts[place] = row.quiet_moves(&position);
-        if place + 1 < counts.len() {
-            advance(numbering, &mut position, &mut row, first + place as u64 + 1);
-        }
-    }
 }

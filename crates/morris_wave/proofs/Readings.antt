@@ -20,29 +20,31 @@ none_below (Some x) = le-ltb x 0 (omega arith)
 settles_first : (c : ℕ) (e : Exits) → settles 0 c e ≡ (eqb c 0 && exits_won 0 e)
 settles_first c e = ap (λ t. t || (eqb c 0 && exits_won 0 e)) (none_below e.least_lost)
 
-module _ (g : Net) (first place : ℕ) (codes counters waves : List ℕ) (last : ℕ) (h : HasRead g first place codes counters waves last)
-    (codes' : List ℕ) (e : Exits) (inside : place < length codes) (len : length codes' ≡ length codes) (counters_len : length counters ≡ length codes) (waves_len : length waves ≡ length codes)
-    (is : e ≡ exits_of (g.exits (first + place)))
-    (marks : Marks codes codes' (λ k. eqb place k && (eqb (get_or counters place 0) 0 && exits_won 0 e)) 1) where
-  counter : ℕ
-  counter = (get_or counters place 0 + waits 0 e) % 65536
-
+module _ (g : Net) (most first place : ℕ) (codes counters waves : List ℕ) (last : ℕ) (h : HasRead g most first place codes counters waves last)
+    (codes' : List ℕ) (quiet : ℕ) (e : Exits) (inside : place < length codes) (len : length codes' ≡ length codes) (counters_len : length counters ≡ length codes) (waves_len : length waves ≡ length codes)
+    (few : quiet < most) (counted : quiet ≡ length (g.quiet (first + place))) (is : e ≡ exits_of (g.exits (first + place)))
+    (marks : Marks codes codes' (λ k. eqb place k && (eqb quiet 0 && exits_won 0 e)) 1) where
   code_here : get_or codes' place 0 ≡ entry_at g 0 every (first + place)
   code_here =
       marks place inside
-      ∙ (ap₂ (λ x t. marked x (t && (eqb (get_or counters place 0) 0 && exits_won 0 e)) 1) (h.open_yet place (omega arith) inside) (eq-eqb place place refl)
-      ∙ (ap (λ t. marked 0 t 1) (sym (settles_first (get_or counters place 0) e))
-      ∙ (ap₂ (λ c x. marked 0 (settles 0 c x) 1) (h.counted place (omega arith) inside) is
+      ∙ (ap₂ (λ x t. marked x (t && (eqb quiet 0 && exits_won 0 e)) 1) (h.open_yet place (omega arith) inside) (eq-eqb place place refl)
+      ∙ (ap (λ t. marked 0 t 1) (sym (settles_first quiet e))
+      ∙ (ap₂ (λ c x. marked 0 (settles 0 c x) 1) counted is
       ∙ sym (entry_first g every (first + place)))))
 
   code_other : (k : ℕ) → k < length codes → (place ≡ k → ⊥) → get_or codes' k 0 ≡ get_or codes k 0
   code_other k l ne =
       marks k l
-      ∙ (ap (λ t. marked (get_or codes k 0) (t && (eqb (get_or counters place 0) 0 && exits_won 0 e)) 1) (ne_eqb place k ne)
+      ∙ (ap (λ t. marked (get_or codes k 0) (t && (eqb quiet 0 && exits_won 0 e)) 1) (ne_eqb place k ne)
       ∙ marked_none (get_or codes k 0) 1)
 
-  pub read_more : HasRead g first (place + 1) codes' (set counters place ((get_or counters place 0 + waits 0 e) % 65536)) (set waves place (due_within (due_wave e))) (max last (last_due_of e))
+  pub read_more : HasRead g most first (place + 1) codes' (set counters place ((quiet + waits 0 e) % 65536)) (set waves place (due_within (due_wave e))) (max last (last_due_of e))
   read_more = record {
+    few = λ k l.
+        ⊎_elim
+        (λ q. subst (λ x. length (g.quiet (first + x)) < most) q (subst (λ n. n < most) counted few))
+        (λ q. h.few k (omega (arith, l, q)))
+        (cases_eq place k);
     codes_are = λ k l.
         ⊎_elim
         (λ q. subst (λ x. get_or codes' x 0 ≡ entry_at g 0 every (first + x)) q code_here)
@@ -50,12 +52,12 @@ module _ (g : Net) (first place : ℕ) (codes counters waves : List ℕ) (last :
         (cases_eq place k);
     counters_are = λ k l.
         ⊎_elim
-        (λ q. subst (λ x. get_or (set counters place ((get_or counters place 0 + waits 0 e) % 65536)) x 0 ≡ pending_at g 0 every (first + x) % 65536) q
-        (get_or-set_same counters place ((get_or counters place 0 + waits 0 e) % 65536) 0 (omega (arith, counters_len, inside))
-        ∙ (ap₂ (λ c x. (c + waits 0 x) % 65536) (h.counted place (omega arith) inside) is
+        (λ q. subst (λ x. get_or (set counters place ((quiet + waits 0 e) % 65536)) x 0 ≡ pending_at g 0 every (first + x) % 65536) q
+        (get_or-set_same counters place ((quiet + waits 0 e) % 65536) 0 (omega (arith, counters_len, inside))
+        ∙ (ap₂ (λ c x. (c + waits 0 x) % 65536) counted is
         ∙ ap (λ c. c % 65536) (sym (pending_first g every (first + place))))))
         (λ q. let before : k < place = omega (arith, l, q) in
-        get_or-set_other counters place k ((get_or counters place 0 + waits 0 e) % 65536) 0 (λ z. q (sym z)) ∙ h.counters_are k before)
+        get_or-set_other counters place k ((quiet + waits 0 e) % 65536) 0 (λ z. q (sym z)) ∙ h.counters_are k before)
         (cases_eq place k);
     waves_are = λ k l.
         ⊎_elim
@@ -77,9 +79,8 @@ module _ (g : Net) (first place : ℕ) (codes counters waves : List ℕ) (last :
     open_yet = λ k low l.
         let within : k < length codes = omega (arith, len, l) in
         code_other k within (λ z. omega (arith, z, low)) ∙ h.open_yet k (omega (arith, low)) within;
-    counted = λ k low l.
-        let within : k < length codes = omega (arith, len, l) in
-        get_or-set_other counters place k ((get_or counters place 0 + waits 0 e) % 65536) 0 (λ z. omega (arith, z, low)) ∙ h.counted k (omega (arith, low)) within;
+    unwritten = λ k low l.
+        get_or-set_other waves place k (due_within (due_wave e)) 0 (λ z. omega (arith, z, low)) ∙ h.unwritten k (omega (arith, low)) (omega (arith, len, l));
   }
 
 -- equal waves are listed alike
@@ -90,10 +91,10 @@ lists_alike f h first count due same l = record {
 }
 
 -- what was read of every node
-pub read_all : (g : Net) (first : ℕ) (codes counters waves : List ℕ) (due : List (List ℕ)) (last : ℕ) → HasRead g first (length codes) codes counters waves last
+pub read_all : (g : Net) (most first : ℕ) (codes counters waves : List ℕ) (due : List (List ℕ)) (last : ℕ) → HasRead g most first (length codes) codes counters waves last
     → first + length codes ≤ g.size → length counters ≡ length codes → length waves ≡ length codes → ListsDue (λ k. get_or waves k 0) 0 first (length waves) due
     → StretchHolds g 0 every first codes counters due last
-read_all g first codes counters waves due last h in_graph counters_len waves_len listed = record {
+read_all g most first codes counters waves due last h in_graph counters_len waves_len listed = record {
   in_graph = in_graph;
   counters_len = counters_len;
   codes_are = h.codes_are;

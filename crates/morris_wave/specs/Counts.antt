@@ -33,7 +33,3 @@ left_at (Words list) k = left_of (slice_index list.items k)
 -- each of so many nodes from `first` on has fewer quiet results than that
 abbrev pub AreFew : Net → ℕ → ℕ → ℕ → Type 0
 AreFew g first count most = (k : ℕ) → k < count → length (g.quiet (first + k)) < most
-
--- these are the numbers of quiet results of the nodes from `first` on, and fit bytes with one more
-abbrev pub AreCounts : Net → ℕ → List ℕ → Type 0
-AreCounts g first counts = (k : ℕ) → k < length counts → (slice_index counts k ≡ length (g.quiet (first + k))) × (length (g.quiet (first + k)) < 255)

@@ -79,14 +79,15 @@ pub record StretchHolds (g : Net) (n : ℕ) (applied : ℕ → Bool) (first : �
   pub bound : (k : ℕ) → k < length codes → last_due_of (exits_of (g.exits (first + k))) ≤ last_due
   pub reached : 0 < last_due → (k : ℕ) × ((k < length codes) × (last_due_of (exits_of (g.exits (first + k))) ≡ last_due))
 
--- What was read of the nodes before a place: their first entries, what they wait for, when their
--- exits decide and when the last exit comes due. The others are open, and wait for their quiet
--- results alone.
-pub record HasRead (g : Net) (first place : ℕ) (codes counters waves : List ℕ) (last_due : ℕ) : Type 0 where
+-- What was read of the nodes before a place, each of which has fewer quiet results than `most`:
+-- their first entries, what they wait for, when their exits decide and when the last exit comes
+-- due. The others are open, and no wave is written for them yet.
+pub record HasRead (g : Net) (most first place : ℕ) (codes counters waves : List ℕ) (last_due : ℕ) : Type 0 where
+  pub few : (k : ℕ) → k < place → length (g.quiet (first + k)) < most
   pub codes_are : (k : ℕ) → k < place → slice_index codes k ≡ entry_at g 0 every (first + k)
   pub counters_are : (k : ℕ) → k < place → slice_index counters k ≡ pending_at g 0 every (first + k) % 65536
   pub waves_are : (k : ℕ) → k < place → slice_index waves k ≡ due_within (due_wave (exits_of (g.exits (first + k))))
   pub bound : (k : ℕ) → k < place → last_due_of (exits_of (g.exits (first + k))) ≤ last_due
   pub reached : 0 < last_due → (k : ℕ) × ((k < place) × (last_due_of (exits_of (g.exits (first + k))) ≡ last_due))
   pub open_yet : (k : ℕ) → place ≤ k → k < length codes → slice_index codes k ≡ 0
-  pub counted : (k : ℕ) → place ≤ k → k < length codes → slice_index counters k ≡ length (g.quiet (first + k))
+  pub unwritten : (k : ℕ) → place ≤ k → k < length codes → slice_index waves k ≡ 0

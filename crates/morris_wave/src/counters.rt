@@ -1,7 +1,9 @@
 //! What the nodes of a stretch wait for: a counter each, of 8 bits where that is enough.
-ghost use Rattle.std.specs.Prelude.{◌≡◌, ℕ, ◌+◌, ◌%◌, ◌<◌, ◌≤◌, ◌==◌, List, length, slice_index, slice_set};
+ghost use Rattle.std.specs.Prelude.{◌≡◌, ℕ, ◌+◌, ◌%◌, ◌<◌, ◌≤◌, ◌==◌, nat_lt, IfOk, List, length, slice_index, slice_set};
 ghost use Rattle.morris_wave.specs.Keeping.{left_of};
 ghost use Rattle.morris_wave.specs.Counts.{counts_of, most_of, left_of_byte};
+
+use std::alloc::{AllocError, Global};
 
 // The counters of a stretch of nodes. Those of 8 bits are for nodes of at most 254 quiet results,
 // so that none of them wraps; of those of 16 bits one that reads 0 may stand for 65,536.
@@ -22,17 +24,20 @@ pub(crate) trait CounterList: Drop {
     // The counters are for nodes of fewer quiet results than this.
     ghost most: { ℕ };
 
-    // What a counter reads.
-    fn read(&self, place: usize) -> u16
-        requires { place < length (counts self.now) }
-        ensures { result ≡ slice_index (counts self.now) place };
+    // So many counters, which read 0.
+    fn zeroed(alloc: Global, count: usize) -> Result<Self, AllocError>
+        ensures { IfOk result (λ c. length (counts c) ≡ count) };
 
-    // Lets a counter rise by none or one.
-    fn raise(&mut self, place: usize, by: u8)
+    // Whether the counters are for nodes of so many quiet results.
+    fn has_room(quiet: u16) -> bool
+        ensures { result ≡ nat_lt quiet most };
+
+    // Lets a counter read the number of a node's quiet results, and none or one more.
+    fn put(&mut self, place: usize, quiet: u16, more: u8)
         requires inside { place < length (counts self.old) }
-        requires one { by ≤ 1 }
-        requires room { slice_index (counts self.old) place < most }
-        ensures { counts self.new ≡ slice_set (counts self.old) place ((slice_index (counts self.old) place + by) % 65536) };
+        requires one { more ≤ 1 }
+        requires room { quiet < most }
+        ensures { counts self.new ≡ slice_set (counts self.old) place ((quiet + more) % 65536) };
 
     // Lets a counter fall by one, and says whether it is spent.
     fn lower(&mut self, place: usize) -> bool
@@ -54,12 +59,17 @@ impl CounterList for Vec<u8> {
 
     ghost most = { 255 };
 
-    fn read(&self, place: usize) -> u16 {
-        u16::from(self[place])
+    fn zeroed(alloc: Global, count: usize) -> Result<Vec<u8>, AllocError> {
+        let counters = vec![in alloc; 0u8; count]?;
+        Ok(counters)
     }
 
-    fn raise(&mut self, place: usize, by: u8) {
-        self[place] += by;
+    fn has_room(quiet: u16) -> bool {
+        quiet < 255
+    }
+
+    fn put(&mut self, place: usize, quiet: u16, more: u8) {
+        self[place] = quiet as u8 + more;
     }
 
     fn lower(&mut self, place: usize) -> bool {
@@ -80,12 +90,17 @@ impl CounterList for Vec<u16> {
 
     ghost most = { 65536 };
 
-    fn read(&self, place: usize) -> u16 {
-        self[place]
+    fn zeroed(alloc: Global, count: usize) -> Result<Vec<u16>, AllocError> {
+        let counters = vec![in alloc; 0u16; count]?;
+        Ok(counters)
     }
 
-    fn raise(&mut self, place: usize, by: u8) {
-        self[place] = self[place].wrapping_add(u16::from(by));
+    fn has_room(_quiet: u16) -> bool {
+        true
+    }
+
+    fn put(&mut self, place: usize, quiet: u16, more: u8) {
+        self[place] = quiet.wrapping_add(u16::from(more));
     }
 
     fn lower(&mut self, place: usize) -> bool {

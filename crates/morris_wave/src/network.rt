@@ -172,23 +172,16 @@ pub trait Graph {
         requires { i < (Self.Name.net (level self.now)).size }
         ensures { result ≡ exits_of ((Self.Name.net (level self.now)).exits i) };
 
-    /// The numbers of quiet results of the nodes from `first` on, as many as there is room for.
-    fn read_counts(&self, first: u64, counts: &mut [u16])
-        requires { first + length counts.old ≤ (Self.Name.net (level self.now)).size }
-        ensures { (k : ℕ) → k < length counts.old → slice_index counts.new k ≡ length ((Self.Name.net (level self.now)).quiet (first + k)) }
+    /// Reads the nodes from `first` on, as many as there is room for: their numbers of quiet
+    /// results, and the summaries of their results that lie outside of the graph.
+    fn read_nodes(&self, first: u64, counts: &mut [u16], exits: &mut [Exits])
+        requires room { length exits.old ≡ length counts.old }
+        requires inside { first + length counts.old ≤ (Self.Name.net (level self.now)).size }
+        ensures counts { (k : ℕ) → k < length counts.old → slice_index counts.new k ≡ length ((Self.Name.net (level self.now)).quiet (first + k)) }
+        ensures exits { (k : ℕ) → k < length exits.old → exits_at exits.new k ≡ exits_of ((Self.Name.net (level self.now)).exits (first + k)) }
     {
         for place in 0..counts.len() {
             counts[place] = self.quiet_count(first + place as u64);
-        }
-    }
-
-    /// The summaries of the results outside of the graph of the nodes from `first` on, as many as
-    /// there is room for.
-    fn read_exits(&self, first: u64, exits: &mut [Exits])
-        requires { first + length exits.old ≤ (Self.Name.net (level self.now)).size }
-        ensures { (k : ℕ) → k < length exits.old → exits_at exits.new k ≡ exits_of ((Self.Name.net (level self.now)).exits (first + k)) }
-    {
-        for place in 0..exits.len() {
             exits[place] = self.exits(first + place as u64);
         }
     }

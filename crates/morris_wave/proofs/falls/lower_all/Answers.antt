@@ -1,4 +1,4 @@
-use Rattle.std.proofs.Common.{◌≡◌, ◌<◌, ◌≤◌, ℕ, ◌+◌, ◌-◌, ◌%◌, ◌&&◌, eqb, List, length, slice_index, sym, ap, subst, ◌∙◌, arith, length-set, set, take, vec_len}
+use Rattle.std.proofs.Common.{◌≡◌, ◌<◌, ◌≤◌, ℕ, ◌+◌, ◌-◌, ◌%◌, ◌&&◌, eqb, List, length, slice_index, sym, ap, subst, ◌∙◌, arith, length-set, take, vec_len}
 use Rattle.morris_wave.specs.Nets.{times}
 use Rattle.morris_wave.specs.Solving.{Marks, among}
 use Rattle.morris_wave.specs.Keeping.{LowersBy, left_of}

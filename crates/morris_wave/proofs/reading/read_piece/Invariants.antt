@@ -3,8 +3,9 @@ use Rattle.morris_wave.specs.Keeping.{HasRead}
 use Rattle.morris_wave.proofs.reading.read_piece.Given as goal
 
 abbrev pub invariant-loop-place : goal.invariant-loop-place
-invariant-loop-place g l =
-    (vec_len l.reading.entries.entries.codes ≡ vec_len l.initial.reading.entries.entries.codes)
-    × (l.reading.entries.first ≡ l.initial.reading.entries.first)
-    × (l.reading.entries.wave ≡ 0)
-    × HasRead (g.G.Name.Levels.net (g.G.Graph.level l.graph)) l.initial.reading.entries.first (l.from + l.place) l.reading.entries.entries.codes.items (g.C.CounterList.counts l.reading.counters) l.reading.waves.items l.reading.last_due
+invariant-loop-place g l = record {
+  len : vec_len l.reading.entries.entries.codes ≡ vec_len l.initial.reading.entries.entries.codes;
+  first : l.reading.entries.first ≡ l.initial.reading.entries.first;
+  wave : l.reading.entries.wave ≡ 0;
+  read : HasRead (g.G.Name.Levels.net (g.G.Graph.level l.graph)) g.C.CounterList.most l.initial.reading.entries.first (l.from + l.place) l.reading.entries.entries.codes.items (g.C.CounterList.counts l.reading.counters) l.reading.waves.items l.reading.last_due;
+}

@@ -8,19 +8,21 @@ use Rattle.morris_wave.proofs.reading.read_with.Goals as goal
 
 pub invariant_of-result : goal.invariant_of-result
 invariant_of-result g c =
-    let r = c.read_exits.new.reading in
+    let most = g.C.CounterList.most in
+    let r = c.read_all.new.reading in
     let due = c.in_ok-due.due in
     let listed : ListsDue (λ k. slice_index r.waves.items k) 0 c.args.first (length r.waves.items) due =
     subst (λ (xs : List ℕ). ListsDue (λ k. slice_index xs k) 0 c.args.first (length xs) due) c.deref.ensures.value c.in_ok-due.ensures in
     let many : length r.waves.items ≡ vec_len r.entries.entries.codes = omega (arith, r.waved, r.waves.ok.0) in
-    let first : r.entries.first ≡ c.args.first = c.read_exits.ensures.first ∙ c.in_ok-reading.ensures.first in
+    let first : r.entries.first ≡ c.args.first = c.read_all.ensures.first ∙ c.in_ok-reading.ensures.first in
     let net = g.G.Name.Levels.net (g.G.Graph.level c.args.graph.now) in
     let codes = r.entries.entries.codes in
     let before = c.in_ok-reading.reading in
-    let len : vec_len before.entries.entries.codes ≡ length codes.items = omega (arith, c.read_exits.ensures.len, codes.ok.0) in
-    let read : HasRead net c.args.first (length codes.items) codes.items (g.C.CounterList.counts r.counters) r.waves.items r.last_due =
-    subst (λ (n : ℕ). HasRead net c.args.first n codes.items (g.C.CounterList.counts r.counters) r.waves.items r.last_due) len
-    (subst (λ (f : ℕ). HasRead net f (vec_len before.entries.entries.codes) codes.items (g.C.CounterList.counts r.counters) r.waves.items r.last_due) c.in_ok-reading.ensures.first c.read_exits.ensures.read) in
+    let len : vec_len before.entries.entries.codes ≡ length codes.items = omega (arith, c.read_all.ensures.len, codes.ok.0) in
+    let read : HasRead net most c.args.first (length codes.items) codes.items (g.C.CounterList.counts r.counters) r.waves.items r.last_due =
+    subst (λ (n : ℕ). HasRead net most c.args.first n codes.items (g.C.CounterList.counts r.counters) r.waves.items r.last_due) len
+    (subst (λ (f : ℕ). HasRead net most f (vec_len before.entries.entries.codes) codes.items (g.C.CounterList.counts r.counters) r.waves.items r.last_due) c.in_ok-reading.ensures.first
+    (c.read_all.ensures.read c.if-not-read_all.false)) in
     record {
       counted = ap length c.keep.ensures.counts ∙ r.counted;
       small =
@@ -34,17 +36,19 @@ invariant_of-result g c =
 
 pub returns-clause-holds : goal.returns-clause-holds
 returns-clause-holds g c =
+    let most = g.C.CounterList.most in
     let net = g.G.Name.Levels.net (g.G.Graph.level c.args.graph.now) in
     let before = c.in_ok-reading.reading in
-    let r = c.read_exits.new.reading in
+    let r = c.read_all.new.reading in
     let codes = r.entries.entries.codes in
     let due = c.in_ok-due.due in
     let listed : ListsDue (λ k. slice_index r.waves.items k) 0 c.args.first (length r.waves.items) due =
     subst (λ (xs : List ℕ). ListsDue (λ k. slice_index xs k) 0 c.args.first (length xs) due) c.deref.ensures.value c.in_ok-due.ensures in
-    let len : vec_len before.entries.entries.codes ≡ length codes.items = omega (arith, c.read_exits.ensures.len, codes.ok.0) in
-    let read : HasRead net c.args.first (length codes.items) codes.items (g.C.CounterList.counts r.counters) r.waves.items r.last_due =
-    subst (λ (n : ℕ). HasRead net c.args.first n codes.items (g.C.CounterList.counts r.counters) r.waves.items r.last_due) len
-    (subst (λ (f : ℕ). HasRead net f (vec_len before.entries.entries.codes) codes.items (g.C.CounterList.counts r.counters) r.waves.items r.last_due) c.in_ok-reading.ensures.first c.read_exits.ensures.read) in
+    let len : vec_len before.entries.entries.codes ≡ length codes.items = omega (arith, c.read_all.ensures.len, codes.ok.0) in
+    let read : HasRead net most c.args.first (length codes.items) codes.items (g.C.CounterList.counts r.counters) r.waves.items r.last_due =
+    subst (λ (n : ℕ). HasRead net most c.args.first n codes.items (g.C.CounterList.counts r.counters) r.waves.items r.last_due) len
+    (subst (λ (f : ℕ). HasRead net most f (vec_len before.entries.entries.codes) codes.items (g.C.CounterList.counts r.counters) r.waves.items r.last_due) c.in_ok-reading.ensures.first
+    (c.read_all.ensures.read c.if-not-read_all.false)) in
     subst (λ (cs : List ℕ). StretchHolds net 0 every c.args.first codes.items cs due r.last_due) (sym c.keep.ensures.counts)
-    (read_all net c.args.first codes.items (g.C.CounterList.counts r.counters) r.waves.items due r.last_due read
+    (read_all net most c.args.first codes.items (g.C.CounterList.counts r.counters) r.waves.items due r.last_due read
     (omega (arith, len, c.in_ok-reading.ensures.len, c.requires.end, c.requires.order)) (omega (arith, r.counted, codes.ok.0)) (omega (arith, r.waved, r.waves.ok.0, codes.ok.0)) listed)

@@ -4,7 +4,7 @@ use Rattle.morris_wave.specs.Nets.{times}
 use Rattle.morris_wave.specs.Exits.{is_odd}
 use Rattle.morris_wave.specs.Solving.{ListsFresh, among, none}
 use Rattle.morris_wave.specs.Keeping.{StretchHolds, Ranked, Takes}
-use Rattle.morris_wave.specs.Counts.{counts_of, most_of, left_at}
+use Rattle.morris_wave.specs.Counts.{counts_of, left_at}
 use Rattle.morris_wave.proofs.Widths.{left_enough}
 use Rattle.morris_wave.proofs.Sweeping.{fresh_listed, fresh_at, fresh_length, spread_none, spread_enough, spread_few, spread_more, spread_all}
 use Rattle.morris_wave.proofs.solver.spread.Goals as goal

@@ -2,12 +2,12 @@ use Rattle.morris_table.specs.declared.layout.Layout.TheVariants.{Classes}
 use Rattle.std.proofs.Common.{◌+◌, ◌≤◌, length, sym, subst}
 use Rattle.morris_index.specs.Pairs.{IsPair}
 use Rattle.morris_table.proofs.GraphLaws.{size_at}
-use Rattle.morris_table.proofs.class_graph.ClassGraphGraph.read_exits.Goals as goal
+use Rattle.morris_table.proofs.class_graph.ClassGraphGraph.read_nodes.Goals as goal
 
-pub read_exits_from-requires-clause-inside : goal.read_exits_from-requires-clause-inside
-read_exits_from-requires-clause-inside g c =
+pub read_nodes_from-requires-clause-inside : goal.read_nodes_from-requires-clause-inside
+read_nodes_from-requires-clause-inside g c =
     rw c.self.invariant.classes
-    (subst (λ k. c.args.first + length c.args.exits.now ≤ k)
+    (subst (λ k. c.args.first + length c.args.counts.now ≤ k)
     (size_at g.B.Geometry.shape g.met.B.Geometry.is_lawful g.met.B.Geometry.has_symmetries g.B.Geometry.POINTS g.met.B.Geometry.point_count Classes c.self.inside.graph
     (subst (λ n. IsPair n c.self.inside.graph) (sym g.met.B.Geometry.point_count) c.self.invariant.lawful))
-    (rw (← c.self.view_is) at c.requires))
+    (rw (← c.self.view_is) at c.requires.inside))

@@ -1,4 +1,4 @@
-use Rattle.std.proofs.Common.{◌≡◌, ℕ, ◌+◌, ◌<◌, true, length}
+use Rattle.std.proofs.Common.{◌≡◌, ℕ, ◌+◌, ◌<◌, true, length, slice_index}
 use Rattle.morris_board.specs.Positions.{IsPosition}
 use Rattle.morris_index.specs.Pairs.{is_of}
 use Rattle.morris_wave.specs.Exits.{exits_of}
@@ -7,13 +7,15 @@ use Rattle.morris_table.specs.Entries.{entry_index, has_own_entry}
 use Rattle.morris_table.specs.Numberings.{layout_of, pair_of}
 use Rattle.morris_table.specs.PairNets.{level_of, net_at}
 use Rattle.morris_table.specs.Rows.{IsRow}
-use Rattle.morris_table.proofs.graph.PairGraph.read_exits_from.Given as goal
+use Rattle.morris_table.proofs.graph.PairGraph.read_nodes_from.Given as goal
 
 abbrev pub invariant-loop-place : goal.invariant-loop-place
 invariant-loop-place g l = record {
-  len : length l.exits ≡ length l.initial.exits;
-  read : (k : ℕ) → k < l.place → exits_at l.exits k ≡ exits_of ((net_at g.B.Geometry.shape (level_of (layout_of l.numbering) (pair_of l.numbering))).exits (l.first + k));
-  at : l.place < length l.exits → entry_index g.B.Geometry.shape g.B.Geometry.POINTS (layout_of l.numbering) (pair_of l.numbering) l.position ≡ l.first + l.place;
+  counts_len : length l.counts ≡ length l.initial.counts;
+  exits_len : length l.exits ≡ length l.initial.exits;
+  quiet : (k : ℕ) → k < l.place → slice_index l.counts k ≡ length ((net_at g.B.Geometry.shape (level_of (layout_of l.numbering) (pair_of l.numbering))).quiet (l.first + k));
+  outside : (k : ℕ) → k < l.place → exits_at l.exits k ≡ exits_of ((net_at g.B.Geometry.shape (level_of (layout_of l.numbering) (pair_of l.numbering))).exits (l.first + k));
+  at : l.place < length l.counts → entry_index g.B.Geometry.shape g.B.Geometry.POINTS (layout_of l.numbering) (pair_of l.numbering) l.position ≡ l.first + l.place;
   counts : is_of (pair_of l.numbering) l.position ≡ true;
   own_entry : has_own_entry g.B.Geometry.shape (layout_of l.numbering) l.position ≡ true;
   lawful : IsPosition g.B.Geometry.shape l.position;
