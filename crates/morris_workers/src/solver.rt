@@ -75,12 +75,15 @@ fn run_waves<
     ensures told { IfErr result (Tells (G.Name.net (G.level graph.now)) yard.now) }
     ensures watched { W.becomes watch.old watch.new }
 {
+    // Lists that the workers keep from wave to wave. They are let go with the last one, before the
+    // codes are gathered.
+    let spares = &mut Vec::new(alloc);
     for wave in 0..=LAST_WAVE {
         if survey(rt, graph, yard, wave)? {
             return Ok(wave);
         }
         watch.wave(wave + 1);
-        run_wave::<L, G, A, R>(rt, alloc, graph, gate, yard, shares, wave + 1)?;
+        run_wave::<L, G, A, R>(rt, alloc, graph, gate, yard, shares, wave + 1, spares)?;
     }
     // The survey of the last wave ends the waves. Of what stands behind locks no proof knows as
     // much.
@@ -194,8 +197,9 @@ fn solve_in<G: Graph + Send + Sync, A: Gate, R: Threads + Wait + Sync, W: Watch>
 /// The blocks take what [`Block`] says, with lists of 4 bytes a node that let go of the waves past
 /// ([`Recent`]), or of 8 that keep all in a graph of more than [`SHORT_NODES`]. Each worker takes
 /// the fresh nodes and the batches of one block at a time, of as many bytes for each node that leads
-/// to a fresh one. A worker keeps lists that it sent for those of the next block. At the end the
-/// answer takes 2 bytes a node, while the blocks are let go one after the other.
+/// to a fresh one. A worker keeps lists that it sent, of up to 4 MiB together, for those of the next
+/// blocks and waves. At the end these are let go, and then the answer takes 2 bytes a node, while the
+/// blocks are let go one after the other.
 ///
 /// # Errors
 ///

@@ -14,7 +14,8 @@ use std::sync::Wait;
 use std::thread;
 use std::thread::Threads;
 
-// Lists that were sent are put aside until they have more bytes of room than this.
+// A worker puts lists that were sent aside as long as all of them together have no more bytes of
+// room than this.
 const KEPT_ROOM: usize = 4194304;
 
 // A worker sends once it has scattered so many fresh nodes or blocks. So the batches stay small,
@@ -23,11 +24,20 @@ const FULL_NODES: usize = 4096;
 
 const FULL_SOURCES: usize = 64;
 
-// What one worker gets: its number, and a seat to draw from.
+// What one worker gets: its number, a seat to draw from, and lists for their room.
 #[derive(Drop)]
-struct Job {
+struct Job<L: NodeList> {
     worker: u64,
     seat: TicketSeat,
+    spare: Vec<L>,
+}
+
+// What a worker hands back: its seat, whether memory was refused, and lists for the next wave.
+#[derive(Drop)]
+struct Done<L: NodeList> {
+    seat: TicketSeat,
+    sent: Result<(), AllocError>,
+    spare: Vec<L>,
 }
 
 // What the workers of a wave share. Each has a share of the blocks, which it is the first to go to.
@@ -75,13 +85,23 @@ impl<N: Levels, L: NodeList> Drop for Outbox<N, L> {
 }
 
 impl<N: Levels, L: NodeList> Outbox<N, L> {
-    // Nothing yet.
-    fn new(alloc: Global) -> Outbox<N, L> {
+    // Nothing yet. The lists are for the batches to come.
+    fn new(alloc: Global, spare: Vec<L>) -> Outbox<N, L> {
         Outbox {
             sources: Vec::new(alloc),
             fresh: 0,
-            spare: Vec::new(alloc),
+            spare,
         }
+    }
+
+    // The lists that wait. What wasn't sent is let go.
+    fn into_spare(self) -> Vec<L> {
+        let Outbox {
+            sources: _,
+            fresh: _,
+            spare,
+        } = self;
+        spare
     }
 
     // Whether it is time to send.
@@ -92,8 +112,9 @@ impl<N: Levels, L: NodeList> Outbox<N, L> {
     // Forgets what was sent, and keeps the lists.
     fn empty(&mut self) -> Result<(), AllocError> {
         self.fresh = 0;
+        let mut room = room_of(&self.spare);
         while let Some(batches) = self.sources.pop() {
-            keep_room(batches, &mut self.spare)?;
+            room = keep_room(batches, &mut self.spare, room)?;
         }
         Ok(())
     }
@@ -109,21 +130,31 @@ fn bring<N: Levels, L: NodeList>(block: &mut Block<N, L>, wave: u16)
     }
 }
 
-// Puts lists of batches that were sent aside for later ones. What goes past the room
-// to be kept is let go.
+// How many bytes of room these lists have together.
+fn room_of<L: NodeList>(lists: &[L]) -> usize {
+    let mut room = 0usize;
+    for list in lists {
+        room = room.saturating_add(list.room());
+    }
+    room
+}
+
+// Puts lists of batches that were sent aside for later ones, beside others that have so much room.
+// What goes past the room to be kept is let go. Answers the room of all that are aside.
 fn keep_room<N: Levels, L: NodeList>(
     mut batches: Vec<Batch<N, L>>,
     spare: &mut Vec<L>,
-) -> Result<(), AllocError> {
-    let mut room = 0usize;
+    mut room: usize,
+) -> Result<usize, AllocError> {
     while let Some(batch) = batches.pop() {
         let list = batch.into_nodes();
-        room = room.saturating_add(list.room());
-        if room <= KEPT_ROOM {
+        let with_list = room.saturating_add(list.room());
+        if with_list <= KEPT_ROOM {
             spare.push(list)?;
+            room = with_list;
         }
     }
-    Ok(())
+    Ok(room)
 }
 
 impl<'a, L: NodeList, G: Graph, A: Gate, R: Wait> Site<'a, L, G, A, R> {
@@ -225,6 +256,7 @@ impl<'a, L: NodeList, G: Graph, A: Gate, R: Wait> Site<'a, L, G, A, R> {
         tickets: &Tickets,
         worker: u64,
         seat: &mut TicketSeat,
+        outbox: &mut Outbox<G::Name, L>,
     ) -> Result<(), AllocError>
         requires small { (G.Name.net (G.level self.now.graph.now)).size ≤ L.limit }
         requires worker { worker < self.now.shares.now.blocks }
@@ -234,40 +266,54 @@ impl<'a, L: NodeList, G: Graph, A: Gate, R: Wait> Site<'a, L, G, A, R> {
         ensures seat { IsSeatOf tickets.now seat.new }
         ensures drawn { OnOk result (HasDrawn seat.new) }
     {
-        let mut outbox = Outbox::new(self.alloc);
         // No worker draws more numbers than there are blocks, and then finds once that none is
         // left.
         for _ in 0..=self.yard.count() {
             let Some(number) = tickets.draw(seat) else {
-                return self.send(worker, &mut outbox);
+                return self.send(worker, outbox);
             };
             match self.gate.pass(worker as usize, number) {
-                Turn::Go => self.take(worker, number as usize, &mut outbox)?,
-                Turn::Leave => return self.send(worker, &mut outbox),
+                Turn::Go => self.take(worker, number as usize, outbox)?,
+                Turn::Leave => return self.send(worker, outbox),
             }
         }
         Ok(())
     }
 
-    // What one worker does in the wave. It gives back its seat, and says whether memory was
-    // refused; where it wasn't, the seat was drawn from.
-    fn work(&self, tickets: &Tickets, job: Job) -> (TicketSeat, Result<(), AllocError>)
+    // What one worker does in the wave. It gives back its seat and its lists, and says whether
+    // memory was refused; where it wasn't, the seat was drawn from.
+    fn work(&self, tickets: &Tickets, job: Job<L>) -> Done<L>
         requires small { (G.Name.net (G.level self.now.graph.now)).size ≤ L.limit }
         requires worker { job.worker < self.now.shares.now.blocks }
         requires limit { limit_of tickets.now ≡ self.now.yard.now }
         requires seat { IsNewSeatOf tickets.now job.seat }
-        ensures seat { IsSeatOf tickets.now result.0 }
-        ensures drawn { OnOk result.1 (HasDrawn result.0) }
+        ensures seat { IsSeatOf tickets.now result.seat }
+        ensures drawn { OnOk result.sent (HasDrawn result.seat) }
     {
-        let Job { worker, mut seat } = job;
+        let Job {
+            worker,
+            mut seat,
+            spare,
+        } = job;
         self.advance(worker);
-        let sent = self.draw_all(tickets, worker, &mut seat);
-        (seat, sent)
+        let mut outbox = Outbox::new(self.alloc, spare);
+        let sent = self.draw_all(tickets, worker, &mut seat, &mut outbox);
+        Done {
+            seat,
+            sent,
+            spare: outbox.into_spare(),
+        }
     }
 }
 
-// A job for each seat, for the workers 0, 1, ..
-fn jobs_of(alloc: Global, tickets: &Tickets, seats: Vec<TicketSeat>) -> Result<Vec<Job>, AllocError>
+// A job for each seat, for the workers 0, 1, .., each with the lists that a worker of the wave
+// before handed back, if there was one.
+fn jobs_of<L: NodeList>(
+    alloc: Global,
+    tickets: &Tickets,
+    seats: Vec<TicketSeat>,
+    spares: &mut Vec<Vec<L>>,
+) -> Result<Vec<Job<L>>, AllocError>
     requires { All (IsNewSeatOf tickets.now) seats.items }
     ensures count { IfOk result (λ jobs. vec_len jobs ≡ vec_len seats) }
     ensures seats { IfOk result (λ jobs. All (λ job. IsNewSeatOf tickets.now job.seat) jobs.items) }
@@ -276,39 +322,51 @@ fn jobs_of(alloc: Global, tickets: &Tickets, seats: Vec<TicketSeat>) -> Result<V
     let mut jobs = Vec::with_capacity(alloc, seats.len())?;
     for seat in seats {
         let worker = jobs.len() as u64;
-        jobs.push(Job { worker, seat })?;
+        let spare = spares.pop().unwrap_or(Vec::new(alloc));
+        jobs.push(Job {
+            worker,
+            seat,
+            spare,
+        })?;
     }
     Ok(jobs)
 }
 
-// What is left to do once all workers are back: the tickets are closed, and if memory was refused
-// anywhere that is the answer. Otherwise each of them has drawn.
-fn hand_back(
+// What is left to do once all workers are back: their lists are kept, the tickets are closed, and
+// if memory was refused anywhere that is the answer. Otherwise each of them has drawn.
+fn hand_back<L: NodeList>(
     alloc: Global,
     tickets: Tickets,
-    done: Vec<(TicketSeat, Result<(), AllocError>)>,
+    done: Vec<Done<L>>,
+    spares: &mut Vec<Vec<L>>,
 ) -> Result<(), AllocError>
     requires some { 1 ≤ vec_len done }
-    requires seats { All (λ back. IsSeatOf tickets back.0) done.items }
-    requires drawn { All (λ back. OnOk back.1 (HasDrawn back.0)) done.items }
-    ensures all { OnOk result (All (λ back. IsOk back.1) done.items) }
-    ensures drawn { OnOk result (All (λ back. HasDrawn back.0) done.items) }
+    requires seats { All (λ back. IsSeatOf tickets back.seat) done.items }
+    requires drawn { All (λ back. OnOk back.sent (HasDrawn back.seat)) done.items }
+    ensures all { OnOk result (All (λ back. IsOk back.sent) done.items) }
+    ensures drawn { OnOk result (All (λ back. HasDrawn back.seat) done.items) }
 {
     let outcome = outcome_of(&done);
     let mut seats = Vec::with_capacity(alloc, done.len())?;
-    for (seat, _) in done {
+    for back in done {
+        let Done {
+            seat,
+            sent: _,
+            spare,
+        } = back;
         seats.push(seat)?;
+        spares.push(spare)?;
     }
     let _ = tickets.close(seats);
     outcome
 }
 
 // Whether memory was refused to any of the workers.
-fn outcome_of(done: &[(TicketSeat, Result<(), AllocError>)]) -> Result<(), AllocError>
-    ensures { OnOk result (All (λ back. IsOk back.1) done.now) }
+fn outcome_of<L: NodeList>(done: &[Done<L>]) -> Result<(), AllocError>
+    ensures { OnOk result (All (λ back. IsOk back.sent) done.now) }
 {
-    for (_, sent) in done {
-        if sent.is_err() {
+    for back in done {
+        if back.sent.is_err() {
             return Err(AllocError);
         }
     }
@@ -321,7 +379,8 @@ fn outcome_of(done: &[(TicketSeat, Result<(), AllocError>)]) -> Result<(), Alloc
 /// asks the gate after each draw. On `Go` it sends what the block found to every block, maybe
 /// together with what it draws next; on `Leave` it ends, and nothing is sent from that block. A
 /// worker for which no thread can be started is run by another one. Blocks keep and batches carry
-/// lists of the kind `L`.
+/// lists of the kind `L`. The workers take lists from `spares` for their room, and put those that
+/// they keep for the next wave there.
 ///
 /// # Errors
 ///
@@ -339,6 +398,7 @@ pub(crate) fn run_wave<
     yard: &Yard<G::Name, L>,
     shares: &Cut,
     wave: u16,
+    spares: &mut Vec<Vec<L>>,
 ) -> Result<(), AllocError>
     requires small { (G.Name.net (G.level graph.now)).size ≤ L.limit }
     requires shared { shares.now.size ≡ yard.now }
@@ -347,7 +407,7 @@ pub(crate) fn run_wave<
 {
     let workers = shares.blocks() as usize;
     let (tickets, seats) = Tickets::new(alloc, yard.count() as u64, workers)?;
-    let jobs = jobs_of(alloc, &tickets, seats)?;
+    let jobs = jobs_of(alloc, &tickets, seats, spares)?;
     let site = &Site {
         rt,
         alloc,
@@ -361,11 +421,11 @@ pub(crate) fn run_wave<
     let done = thread::map_vec(
         rt,
         jobs,
-        &|job| -> (TicketSeat, Result<(), AllocError>)
+        &|job| -> Done<L>
             requires { IsNewSeatOf shown.now job.seat × (job.worker < site.now.shares.now.blocks) × (limit_of shown.now ≡ site.now.yard.now)
                 × ((G.Name.net (G.level site.now.graph.now)).size ≤ L.limit) }
-            ensures { IsSeatOf shown.entry.now result.0 × OnOk result.1 (HasDrawn result.0) }
+            ensures { IsSeatOf shown.entry.now result.seat × OnOk result.sent (HasDrawn result.seat) }
         { site.work(shown, job) },
     )?;
-    hand_back(alloc, tickets, done)
+    hand_back(alloc, tickets, done, spares)
 }

@@ -4,7 +4,7 @@ use Rattle.morris_workers.specs.Tickets.{IsNewSeatOf}
 use Rattle.morris_workers.proofs.wave.jobs_of.Given as goal
 
 abbrev pub invariant-loop-seat : goal.invariant-loop-seat
-invariant-loop-seat l =
+invariant-loop-seat g l =
     (length l.yielded + l.seat-iterator.rest.len ≡ vec_len l.fn.seats)
     × (vec_len l.jobs ≡ length l.yielded)
     × All (λ job. IsNewSeatOf l.tickets job.seat) l.jobs.items

@@ -3,5 +3,5 @@ use Rattle.std.specs.Result.{IsOk}
 use Rattle.morris_workers.proofs.wave.outcome_of.Given as goal
 
 -- none of the workers so far was refused memory
-abbrev pub invariant-loop-sent : goal.invariant-loop-sent
-invariant-loop-sent l = (k : ℕ) (d : _) → k < l.sent-index → IsOk (slice_index_or l.done k d).1
+abbrev pub invariant-loop-back : goal.invariant-loop-back
+invariant-loop-back g l = (k : ℕ) (d : _) → k < l.back-index → IsOk (slice_index_or l.done k d).sent
