@@ -2,6 +2,7 @@
 ghost use Rattle.std.specs.Prelude.{◌≡◌, ◌+◌, ◌<◌, ◌^◌, ◌-◌, length};
 ghost use Rattle.morris_board.specs.Buffered.{sink_of, taken_of};
 
+use crate::checks::{holds, same, same_bytes};
 use crate::counting::Counting;
 use morris_board::streams::Failed;
 use morris_board::streams::buffered::{Buffered, HELD};
@@ -22,9 +23,9 @@ fn put_line(out: &mut Buffered<'_, Counting>) -> Result<(), Failed>
 fn two_pieces_go_out_in_one_write(rt: HostRuntime) {
     let mut sink = Counting::new(rt.alloc(), HELD, 100);
     let mut out = Buffered::new(&mut sink);
-    assert!(rt; put_line(&mut out).is_ok());
-    assert_eq!(rt; sink.calls, 1);
-    assert_eq!(rt; sink.taken.as_slice(), b"2691920\n".as_slice());
+    holds(&rt, put_line(&mut out).is_ok(), "a line is put");
+    same(&rt, sink.calls, 1, "writes");
+    same_bytes(&rt, sink.taken.as_slice(), b"2691920\n");
 }
 
 /// A sink with room for so many bytes, some at once, gets these, and isn't called after the
@@ -32,10 +33,10 @@ fn two_pieces_go_out_in_one_write(rt: HostRuntime) {
 fn assert_stops(rt: &impl Abort, alloc: Global, at_once: usize, room: u8, calls: u64) {
     let mut sink = Counting::new(alloc, at_once, room as usize);
     let mut out = Buffered::new(&mut sink);
-    assert!(rt; put_line(&mut out).is_err());
-    assert_eq!(rt; out.sent(), u64::from(room));
-    assert_eq!(rt; sink.taken.len(), room as usize);
-    assert_eq!(rt; sink.calls, calls);
+    holds(rt, put_line(&mut out).is_err(), "a write fails");
+    same(rt, out.sent(), u64::from(room), "bytes that are told");
+    same(rt, sink.taken.len() as u64, u64::from(room), "bytes");
+    same(rt, sink.calls, calls, "writes");
 }
 
 // Wherever the write fails, what went out is told to the byte.
@@ -63,9 +64,13 @@ fn assert_gone(rt: &impl Abort, alloc: Global, second: &[u8], sent: u64, writes:
 {
     let mut sink = Counting::new(alloc, 100_000, 100_000);
     let mut out = Buffered::new(&mut sink);
-    assert!(rt; put_both(&mut out, &[b'X'; 5_000], second).is_ok());
-    assert_eq!(rt; out.sent(), sent);
-    assert_eq!(rt; sink.calls, writes);
+    holds(
+        rt,
+        put_both(&mut out, &[b'X'; 5_000], second).is_ok(),
+        "both are put",
+    );
+    same(rt, out.sent(), sent, "bytes that have gone out");
+    same(rt, sink.calls, writes, "writes");
 }
 
 // A piece that doesn't fit any more sends on what is held; one that is longer than the buffer goes

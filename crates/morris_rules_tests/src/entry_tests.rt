@@ -3,7 +3,8 @@
 ghost use Rattle.std.specs.Prelude.{◌≡◌, ◌<◌, true};
 ghost use Rattle.morris_index.specs.Pairs.{is_of};
 
-use crate::texts::{assert_text, shown};
+use crate::checks::{holds, same};
+use crate::texts::{assert_text, pair, shown};
 use morris_board::board::Geometry;
 use morris_board::grid::Grid;
 use morris_board::nine::Nine;
@@ -14,52 +15,50 @@ use morris_index::predecessor_entries::PredecessorEntries;
 use morris_index::successor_entries::SuccessorEntries;
 use std::alloc::Global;
 use std::process::Abort;
-use std::test::Fail;
+
+/// The entries of a pair.
+fn entries_of<B: Geometry>(rt: &impl Abort, alloc: Global, pair: Pair<B>) -> ClassPair<B>
+    ensures { result ≡ pair }
+{
+    ClassPair::make(alloc, pair).expect(rt, "memory")
+}
 
 /// The pair of two numbers of stones has so many entries.
-fn assert_entries<B: Geometry>(
-    rt: &impl Abort,
-    alloc: Global,
-    (a, b): (u8, u8),
-    entries: u64,
-) -> Result<(), Fail> {
-    let pair = Pair::<B>::new(a, b)?;
-    let made = ClassPair::make(alloc, pair)?;
-    assert_eq!(rt; made.size(), entries);
-    Ok(())
+fn assert_entries<B: Geometry>(rt: &impl Abort, alloc: Global, (a, b): (u8, u8), entries: u64) {
+    let made = entries_of(rt, alloc, pair::<B>(rt, a, b));
+    same(rt, made.size(), entries, "entries");
 }
 
 #[test]
-fn entries_of_pairs_are_counted(rt: HostRuntime) -> Result<(), Fail> {
-    assert_entries::<Grid>(&rt, rt.alloc(), (3, 3), 320)?;
-    assert_entries::<Grid>(&rt, rt.alloc(), (4, 3), 470)?;
-    assert_entries::<Nine>(&rt, rt.alloc(), (3, 3), 210_140)?;
-    assert_entries::<Nine>(&rt, rt.alloc(), (4, 3), 1_808_610)
+fn entries_of_pairs_are_counted(rt: HostRuntime) {
+    assert_entries::<Grid>(&rt, rt.alloc(), (3, 3), 320);
+    assert_entries::<Grid>(&rt, rt.alloc(), (4, 3), 470);
+    assert_entries::<Nine>(&rt, rt.alloc(), (3, 3), 210_140);
+    assert_entries::<Nine>(&rt, rt.alloc(), (4, 3), 1_808_610);
 }
 
 /// The position that a text shows has this entry.
-fn assert_entry(rt: &impl Abort, alloc: Global, text: &str, entry: u64) -> Result<(), Fail> {
-    let (position, pair) = shown::<Grid>(text)?;
-    let entries = ClassPair::make(alloc, pair)?;
-    assert_eq!(rt; entries.index(&position), entry);
-    Ok(())
+fn assert_entry(rt: &impl Abort, alloc: Global, text: &str, entry: u64) {
+    let (position, pair) = shown::<Grid>(rt, text);
+    let entries = entries_of(rt, alloc, pair);
+    same(rt, entries.index(&position), entry, text);
 }
 
 #[test]
-fn positions_of_grid_have_entries(rt: HostRuntime) -> Result<(), Fail> {
-    assert_entry(&rt, rt.alloc(), "XXX.OO.O.", 6)?;
-    assert_entry(&rt, rt.alloc(), "OO.OXX.X.", 138)?;
-    assert_entry(&rt, rt.alloc(), "OXOOX.X.X", 194)?;
-    assert_entry(&rt, rt.alloc(), "OOX.OX.XO", 280)?;
-    assert_entry(&rt, rt.alloc(), "OO..OOXXX", 239)
+fn positions_of_grid_have_entries(rt: HostRuntime) {
+    assert_entry(&rt, rt.alloc(), "XXX.OO.O.", 6);
+    assert_entry(&rt, rt.alloc(), "OO.OXX.X.", 138);
+    assert_entry(&rt, rt.alloc(), "OXOOX.X.X", 194);
+    assert_entry(&rt, rt.alloc(), "OOX.OX.XO", 280);
+    assert_entry(&rt, rt.alloc(), "OO..OOXXX", 239);
 }
 
 #[test]
-fn an_entry_has_a_position(rt: HostRuntime) -> Result<(), Fail> {
-    let entries = ClassPair::make(rt.alloc(), Pair::<Grid>::new(3, 3)?)?;
-    assert_eq!(rt; entries.pair().greater(), 3);
+fn an_entry_has_a_position(rt: HostRuntime) {
+    let entries = entries_of(&rt, rt.alloc(), pair::<Grid>(&rt, 3, 3));
+    same(&rt, u64::from(entries.pair().greater()), 3, "stones");
     assert!(rt; 138 < entries.size());
-    assert_text(&rt, rt.alloc(), &entries.position(138), ".X.XXO.OO")
+    assert_text(&rt, rt.alloc(), &entries.position(138), ".X.XXO.OO");
 }
 
 /// The position after the move from `from` to `to` has this entry.
@@ -78,18 +77,15 @@ fn assert_after<B: Geometry>(
 {
     let own = position.own();
     assert!(rt; own.has(from) && !own.joined(position.other()).has(to));
-    assert_eq!(rt;
-        SuccessorEntries::of(entries, position).entry(from, to),
-        entry
-    );
+    let found = SuccessorEntries::of(entries, position).entry(from, to);
+    same(rt, found, entry, "entry");
 }
 
 #[test]
-fn positions_after_a_move_have_entries(rt: HostRuntime) -> Result<(), Fail> {
-    let (position, pair) = shown::<Grid>("XXX.OO.O.")?;
-    let entries = ClassPair::make(rt.alloc(), pair)?;
+fn positions_after_a_move_have_entries(rt: HostRuntime) {
+    let (position, pair) = shown::<Grid>(&rt, "XXX.OO.O.");
+    let entries = entries_of(&rt, rt.alloc(), pair);
     assert_after(&rt, &entries, &position, 2, 3, 138);
-    Ok(())
 }
 
 /// The entries from which the move from `from` to `to` leads to the entry of the position are
@@ -102,7 +98,7 @@ fn assert_before<B: Geometry>(
     from: u8,
     to: u8,
     wanted: &[u64],
-) -> Result<(), Fail>
+)
     requires counts { is_of entries.now position.now ≡ true }
     requires start { from < B.POINTS }
     requires low { from < 32 }
@@ -111,30 +107,37 @@ fn assert_before<B: Geometry>(
     let other = position.other();
     assert!(rt; other.has(to) && !position.own().joined(other).has(from));
     let mut found = Vec::new(alloc);
-    PredecessorEntries::of(entries, position).add(from, to, &mut found)?;
-    assert_eq!(rt; found.as_slice(), wanted);
-    Ok(())
+    let added = PredecessorEntries::of(entries, position).add(from, to, &mut found);
+    holds(
+        rt,
+        added.is_ok() && found.as_slice() == wanted,
+        "entries before",
+    );
 }
 
 #[test]
-fn positions_before_a_move_have_entries(rt: HostRuntime) -> Result<(), Fail> {
-    let (position, pair) = shown::<Grid>("XXX.OO.O.")?;
-    let entries = ClassPair::make(rt.alloc(), pair)?;
-    assert_before(&rt, rt.alloc(), &entries, &position, 3, 4, &[199])?;
-    assert_before(&rt, rt.alloc(), &entries, &position, 3, 7, &[200, 219])
+fn positions_before_a_move_have_entries(rt: HostRuntime) {
+    let (position, pair) = shown::<Grid>(&rt, "XXX.OO.O.");
+    let entries = entries_of(&rt, rt.alloc(), pair);
+    assert_before(&rt, rt.alloc(), &entries, &position, 3, 4, &[199]);
+    assert_before(&rt, rt.alloc(), &entries, &position, 3, 7, &[200, 219]);
 }
 
 /// So many positions have the entry.
-fn assert_fall_count(rt: &impl Abort, entries: &ClassPair<Grid>, index: u64, count: usize) {
+fn assert_fall_count(rt: &impl Abort, entries: &ClassPair<Grid>, index: u64, count: u64) {
     assert!(rt; index < entries.size());
-    assert_eq!(rt; entries.falls_on(index).count(), count);
+    same(
+        rt,
+        entries.falls_on(index).count() as u64,
+        count,
+        "positions",
+    );
 }
 
 #[test]
-fn positions_of_an_entry_are_counted(rt: HostRuntime) -> Result<(), Fail> {
-    let entries = ClassPair::make(rt.alloc(), Pair::<Grid>::new(3, 3)?)?;
+fn positions_of_an_entry_are_counted(rt: HostRuntime) {
+    let entries = entries_of(&rt, rt.alloc(), pair::<Grid>(&rt, 3, 3));
     assert_fall_count(&rt, &entries, 6, 4);
     assert_fall_count(&rt, &entries, 40, 8);
     assert_fall_count(&rt, &entries, 200, 2);
-    Ok(())
 }

@@ -8,6 +8,8 @@ mod board_tests;
 #[cfg(test)]
 mod buffered_tests;
 #[cfg(test)]
+mod checks;
+#[cfg(test)]
 mod class_tests;
 #[cfg(test)]
 mod counting;

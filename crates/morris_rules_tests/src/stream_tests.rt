@@ -1,30 +1,31 @@
 //! Streams over memory that give or take a byte a call, and std's readers and writers that fail.
 ghost use Rattle.std.specs.Prelude.{◌≡◌, ◌<◌, ◌^◌, IfOk};
 
+use crate::checks::{holds, same, same_bytes};
 use crate::counting::Counting;
 use morris_board::streams::{Failed, FromRead, IntoWrite, Sink, Source, put, put_byte, put_number};
 use std::alloc::Global;
 use std::io;
 use std::io::{ErrorKind, Read, Write};
 use std::process::Abort;
-use std::test::Fail;
 
 #[test]
 fn put_goes_on_after_each_part(rt: HostRuntime) {
     let mut sink = Counting::new(rt.alloc(), 1, 100);
-    assert!(rt; put(&mut sink, 0, b"morris").is_ok());
-    assert!(rt; put_byte(&mut sink, 6, b' ').is_ok());
-    assert_eq!(rt; sink.taken.as_slice(), b"morris ".as_slice());
-    assert_eq!(rt; sink.calls, 7);
+    holds(&rt, put(&mut sink, 0, b"morris").is_ok(), "a text is put");
+    holds(&rt, put_byte(&mut sink, 6, b' ').is_ok(), "a byte is put");
+    same_bytes(&rt, sink.taken.as_slice(), b"morris ");
+    same(&rt, sink.calls, 7, "writes");
 }
 
 /// A sink with room for so many bytes gets these, and isn't called after the failure.
 fn assert_stops(rt: &impl Abort, alloc: Global, room: u8, taken: &str) {
     let mut sink = Counting::new(alloc, 1, room as usize);
     let room = u64::from(room);
-    assert_eq!(rt; put(&mut sink, 100, b"morris"), Err(100 + room));
-    assert_eq!(rt; sink.taken.as_slice(), taken.as_bytes());
-    assert_eq!(rt; sink.calls, 1 + room);
+    let failed = put(&mut sink, 100, b"morris") == Err(100 + room);
+    holds(rt, failed, taken);
+    same_bytes(rt, sink.taken.as_slice(), taken.as_bytes());
+    same(rt, sink.calls, 1 + room, "writes");
 }
 
 #[test]
@@ -37,8 +38,8 @@ fn put_stops_at_the_first_failure(rt: HostRuntime) {
 /// The number is written as this text.
 fn assert_number(rt: &impl Abort, alloc: Global, number: u64, text: &str) {
     let mut sink = Counting::new(alloc, 100, 100);
-    assert!(rt; put_number(&mut sink, 5, number).is_ok());
-    assert_eq!(rt; sink.taken.as_slice(), text.as_bytes());
+    holds(rt, put_number(&mut sink, 5, number).is_ok(), text);
+    same_bytes(rt, sink.taken.as_slice(), text.as_bytes());
 }
 
 #[test]
@@ -86,36 +87,41 @@ fn a_source_tells_which_call_failed(rt: HostRuntime) {
         calls: 0,
         fails_at: 2,
     });
-    assert!(rt; read_thrice(&mut source) == (true, false, true));
-    assert_eq!(rt; source.failures(), 1);
-    assert_eq!(rt; source.into_inner().left, b"n".as_slice());
+    let succeeded = read_thrice(&mut source) == (true, false, true);
+    holds(&rt, succeeded, "the second call failed");
+    same(&rt, source.failures(), 1, "failures");
+    same_bytes(&rt, source.into_inner().left, b"n");
 }
 
 #[test]
 fn a_source_reads_memory_to_its_end(rt: HostRuntime) {
     let mut source = FromRead::new(b"men".as_slice());
     let mut buffer = [0; 5];
-    assert_eq!(rt; source.read(&mut buffer), Ok(3));
-    assert_eq!(rt; buffer, *b"men\0\0");
-    assert_eq!(rt; source.read(&mut buffer), Ok(0));
-    assert_eq!(rt; source.into_inner().len(), 0);
+    let first = source.read(&mut buffer) == Ok(3);
+    holds(&rt, first, "three bytes");
+    same_bytes(&rt, &buffer, b"men\0\0");
+    let second = source.read(&mut buffer) == Ok(0);
+    holds(&rt, second, "the end");
+    same(&rt, source.into_inner().len() as u64, 0, "bytes left");
 }
 
 #[test]
 fn a_sink_writes_to_memory(rt: HostRuntime) {
     let mut sink = IntoWrite::new(Vec::new(rt.alloc()));
-    assert_eq!(rt; sink.write(b""), Ok(0));
-    assert_eq!(rt; sink.write(b"moves"), Ok(5));
-    assert_eq!(rt; sink.into_inner().as_slice(), b"moves".as_slice());
+    let none = sink.write(b"") == Ok(0);
+    holds(&rt, none, "no byte");
+    let all = sink.write(b"moves") == Ok(5);
+    holds(&rt, all, "all bytes");
+    same_bytes(&rt, sink.into_inner().as_slice(), b"moves");
 }
 
 #[test]
-fn a_sink_takes_a_long_text_at_once(rt: HostRuntime) -> Result<(), Fail> {
-    let long = "X".repeat(rt.alloc(), 100_000)?;
+fn a_sink_takes_a_long_text_at_once(rt: HostRuntime) {
+    let long = "X".repeat(rt.alloc(), 100_000).expect(&rt, "memory");
     let mut sink = IntoWrite::new(Vec::new(rt.alloc()));
-    assert_eq!(rt; sink.write(long.as_bytes()), Ok(100_000));
-    assert_eq!(rt; sink.into_inner().as_slice(), long.as_bytes());
-    Ok(())
+    let all = sink.write(long.as_bytes()) == Ok(100_000);
+    holds(&rt, all, "all bytes");
+    same_bytes(&rt, sink.into_inner().as_slice(), long.as_bytes());
 }
 
 /// Answers each call with the same fault, or with 0 bytes.
@@ -156,17 +162,24 @@ impl Write for Stuck {
 /// A write of some bytes fails, and isn't tried again.
 fn assert_write_fails(rt: &impl Abort, fault: Option<ErrorKind>) {
     let mut sink = IntoWrite::new(Stuck { fault, calls: 0 });
-    assert_eq!(rt; put(&mut sink, 3, b"morris"), Err(3));
-    assert_eq!(rt; sink.failures(), 1);
-    assert_eq!(rt; sink.into_inner().calls, 1);
+    let failed = put(&mut sink, 3, b"morris") == Err(3);
+    holds(rt, failed, "fault");
+    same(rt, sink.failures(), 1, "failures");
+    same(rt, sink.into_inner().calls, 1, "calls");
 }
 
 /// A read gives this answer, and isn't tried again.
 fn assert_read(rt: &impl Abort, fault: Option<ErrorKind>, answer: Result<usize, Failed>) {
     let mut source = FromRead::new(Stuck { fault, calls: 0 });
-    assert_eq!(rt; source.read(&mut [0; 4]), answer);
-    assert_eq!(rt; source.failures(), u64::from(answer.is_err()));
-    assert_eq!(rt; source.into_inner().calls, 1);
+    let answered = source.read(&mut [0; 4]) == answer;
+    holds(rt, answered, "answer");
+    same(
+        rt,
+        source.failures(),
+        u64::from(answer.is_err()),
+        "failures",
+    );
+    same(rt, source.into_inner().calls, 1, "calls");
 }
 
 // A fault that std's own `write_all` would try again is a failure like any other.

@@ -1,33 +1,39 @@
 //! Sets and positions as texts, by which the tests compare them.
-ghost use Rattle.std.specs.Prelude.{◌≡◌, true, IfOk};
+ghost use Rattle.std.specs.Prelude.{◌≡◌, true};
 ghost use Rattle.morris_index.specs.Pairs.{is_of};
 
+use crate::checks::{same_bytes, same_text};
 use morris_board::board::Geometry;
 use morris_board::points::Points;
 use morris_board::position::Position;
 use morris_index::pair::Pair;
 use std::alloc::Global;
+use std::fmt::{Display, Write};
 use std::process::Abort;
-use std::test::Fail;
 
-/// The points of a set in order, each with a space after it.
-pub(crate) fn listed(alloc: Global, set: Points) -> Result<String, Fail> {
-    let mut list = String::new(alloc);
-    for point in set.iter() {
-        list.push_str(format!(in alloc; "{point} ")?.as_str())?;
-    }
-    Ok(list)
+/// Adds an item to a text, and a space after it.
+pub(crate) fn add(rt: &impl Abort, list: &mut String, item: &impl Display) {
+    write!(list, "{item} ").expect(rt, "memory");
 }
 
-/// The set has just these points, listed as [`listed`] does.
-pub(crate) fn assert_points(
-    rt: &impl Abort,
-    alloc: Global,
-    set: Points,
-    wanted: &str,
-) -> Result<(), Fail> {
-    assert_eq!(rt; listed(alloc, set)?.as_str(), wanted);
-    Ok(())
+/// Adds the points of a set in order, each with a space after it.
+pub(crate) fn add_points(rt: &impl Abort, list: &mut String, set: Points) {
+    for point in set.iter() {
+        add(rt, list, &point);
+    }
+}
+
+/// The set has just these points, listed as [`add_points`] does.
+pub(crate) fn assert_points(rt: &impl Abort, alloc: Global, set: Points, wanted: &str) {
+    let mut list = String::new(alloc);
+    add_points(rt, &mut list, set);
+    same_text(rt, list.as_str(), wanted);
+}
+
+/// An item is shown by this text.
+pub(crate) fn assert_shown(rt: &impl Abort, alloc: Global, item: &impl Display, wanted: &str) {
+    let text = format!(in alloc; "{item}").expect(rt, "memory");
+    same_text(rt, text.as_str(), wanted);
 }
 
 /// The position has just this text.
@@ -36,18 +42,27 @@ pub(crate) fn assert_text<B: Geometry>(
     alloc: Global,
     position: &Position<B>,
     wanted: &str,
-) -> Result<(), Fail> {
-    let mut text = vec![in alloc; b'?'; B::POINTS as usize]?;
+) {
+    let mut text = vec![in alloc; b'?'; B::POINTS as usize].expect(rt, "memory");
     position.write_to(&mut text);
-    assert_eq!(rt; text.as_slice(), wanted.as_bytes());
-    Ok(())
+    same_bytes(rt, text.as_slice(), wanted.as_bytes());
+}
+
+/// The position that a text shows.
+pub(crate) fn position<B: Geometry>(rt: &impl Abort, text: &str) -> Position<B> {
+    Position::read(text.as_bytes()).expect(rt, "a position")
 }
 
 /// The position that a text shows, and its pair.
-pub(crate) fn shown<B: Geometry>(text: &str) -> Result<(Position<B>, Pair<B>), Fail>
-    ensures { IfOk result (λ found. is_of found.1 found.0 ≡ true) }
+pub(crate) fn shown<B: Geometry>(rt: &impl Abort, text: &str) -> (Position<B>, Pair<B>)
+    ensures { is_of result.1 result.0 ≡ true }
 {
-    let position = Position::<B>::read(text.as_bytes())?;
-    let pair = Pair::of(&position).ok_or("too few stones")?;
-    Ok((position, pair))
+    let position = position::<B>(rt, text);
+    let pair = Pair::of(&position).expect(rt, "a pair");
+    (position, pair)
+}
+
+/// The pair of two numbers of stones.
+pub(crate) fn pair<B: Geometry>(rt: &impl Abort, a: u8, b: u8) -> Pair<B> {
+    Pair::new(a, b).expect(rt, "a pair")
 }
