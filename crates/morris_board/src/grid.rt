@@ -1,7 +1,7 @@
 //! The board Grid.
-use crate::board::{Board, Geometry};
+use crate::board::{Board, Geometry, Tables};
 use crate::points::Points;
-use crate::symmetries::{image_by, inverse_of};
+use crate::symmetries::image_by;
 
 /// The board with 9 points in three rows and three columns, for small tables. Point `3 * r + c`
 /// stands in row `r` and column `c`.
@@ -45,6 +45,13 @@ const MILLS_THROUGH: [[u32; 2]; 9] = [
     [0b111_000_000, 0b100_100_100],
 ];
 
+/// What adjoins what.
+const TABLES: Tables = Tables {
+    neighbours: &NEIGHBOURS,
+    mills: &MILLS,
+    mills_through: &MILLS_THROUGH,
+};
+
 /// The point to which each symmetry takes each point: the turns by no, one, two and three quarters,
 /// and then the same after the mirror in the diagonal through point 0.
 const IMAGES: [[u8; 9]; 8] = [
@@ -84,25 +91,12 @@ impl Geometry for Grid {
 
     const SYMMETRIES: u8 = 8;
 
-    fn neighbours(point: u8) -> Points {
-        Points::from_mask(NEIGHBOURS[point as usize])
-    }
-
-    fn mill(number: u8) -> Points {
-        Points::from_mask(MILLS[number as usize])
-    }
-
-    fn mills_through(point: u8) -> (Points, Points) {
-        let [first, second] = MILLS_THROUGH[point as usize];
-        (Points::from_mask(first), Points::from_mask(second))
+    fn tables() -> &'static Tables {
+        &TABLES
     }
 
     fn image(symmetry: u8, point: u8) -> u8 {
         IMAGES[symmetry as usize][point as usize]
-    }
-
-    fn inverse(symmetry: u8) -> u8 {
-        inverse_of(symmetry)
     }
 
     fn image_of(symmetry: u8, set: Points) -> Points {

@@ -1,8 +1,7 @@
 //! The board Nine.
-use crate::board::{Board, Geometry};
+use crate::board::{Board, Geometry, Tables};
 use crate::points::Points;
 use crate::rings::image_by_rings;
-use crate::symmetries::inverse_of;
 
 /// The usual board with 24 points on three rings. Point `8 * r + k` is place `k` of ring `r`, where
 /// ring 0 is the outer one, and place 0 the top left corner, from which the places go clockwise;
@@ -52,6 +51,13 @@ const MILLS_THROUGH: [[u32; 2]; 24] = [
     [0x70_00_00, 0xc1_00_00],
     [0xc1_00_00, 0x80_80_80],
 ];
+
+/// What adjoins what.
+const TABLES: Tables = Tables {
+    neighbours: &NEIGHBOURS,
+    mills: &MILLS,
+    mills_through: &MILLS_THROUGH,
+};
 
 /// The point to which each symmetry takes each point: four turns, four mirrors, and then the same
 /// with the outer and the inner ring exchanged.
@@ -132,25 +138,12 @@ impl Geometry for Nine {
 
     const SYMMETRIES: u8 = 16;
 
-    fn neighbours(point: u8) -> Points {
-        Points::from_mask(NEIGHBOURS[point as usize])
-    }
-
-    fn mill(number: u8) -> Points {
-        Points::from_mask(MILLS[number as usize])
-    }
-
-    fn mills_through(point: u8) -> (Points, Points) {
-        let [first, second] = MILLS_THROUGH[point as usize];
-        (Points::from_mask(first), Points::from_mask(second))
+    fn tables() -> &'static Tables {
+        &TABLES
     }
 
     fn image(symmetry: u8, point: u8) -> u8 {
         IMAGES[symmetry as usize][point as usize]
-    }
-
-    fn inverse(symmetry: u8) -> u8 {
-        inverse_of(symmetry)
     }
 
     fn image_of(symmetry: u8, set: Points) -> Points {
