@@ -27,3 +27,5 @@ pub mod FallLaws
 mod StepLaws
 pub mod StandingLaws
 pub mod FacingLaws
+pub mod NumberLaws
+pub mod EntryRowLaws

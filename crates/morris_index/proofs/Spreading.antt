@@ -1,9 +1,9 @@
 -- Numbers outside a set become points again, part by part.
-use Rattle.std.proofs.Common.{◌≡◌, ℕ, zero, suc, ◌+◌, ◌-◌, ◌*◌, ◌/◌, ◌%◌, ◌^◌, ◌<◌, ◌≤◌, true, false, not, ◌&&◌, cond, eqb, map, refl, sym, ◌∙◌, ap, ap₂, inl, inr, arith, lit<}
+use Rattle.std.proofs.Common.{◌≡◌, ℕ, zero, suc, ◌+◌, ◌-◌, ◌*◌, ◌/◌, ◌%◌, ◌^◌, ◌<◌, ◌≤◌, true, false, not, ◌&&◌, cond, eqb, map, refl, sym, ◌∙◌, ap, ap₂, subst, inl, inr, arith, lit<}
 use Rattle.std.proofs.lemmas.Bool.{cases_Bool, cases_lt, both_ways}
 use Rattle.std.proofs.lemmas.Nat.{div-add-mod', pow-add, mul-add-lt}
 use Rattle.std.proofs.lemmas.Nat.Bits.{bit_at_cat_low, bit_at_cat_high}
-use Rattle.std.proofs.Math.Nat.{add-mul, mul_assoc, mul_comm, pow-le-pow_right}
+use Rattle.std.proofs.Math.Nat.{add-mul, mul_assoc, mul_comm, mod-lt, pow-le-pow_right}
 use Rattle.std.specs.Int.{bit_at}
 use Rattle.morris_board.specs.Sets.{has, members, count_of}
 use Rattle.morris_board.proofs.PointsLaws.{has-above, has-none}
@@ -14,8 +14,8 @@ use Rattle.morris_index.proofs.RankLaws.{count_below, number-zero, number-outsid
 use Rattle.morris_index.proofs.Moving.{total-zero, total-suc, alike}
 use Rattle.morris_index.proofs.SetLaws.{count_of-below}
 use Rattle.morris_index.proofs.Following.{lt_from}
-use Rattle.morris_index.proofs.PartTables.{IsSpread}
-use Rattle.morris_index.proofs.Squeezing.{has-part, number-next, squeezed-part, mask-none, squeezed-is, squeezed-rank}
+use Rattle.morris_index.proofs.PartTables.{IsSpread, spread_at}
+use Rattle.morris_index.proofs.Squeezing.{power_some, has-part, number-next, squeezed-part, mask-none, squeezed-is, squeezed-rank}
 
 -- what stands so far: the points of the parts below, and the numbers that are left
 pub record IsSpreading (outside numbers part spread left : ℕ) : Type 0 where
@@ -128,9 +128,45 @@ spread-end outside numbers spread left low s =
     let none = no_more left (2 ^ number_outside outside 24) (squeezed_below outside spread 24) (omega (arith, s.split, low)) in
     omega (arith, s.split, ap (λ k. k * 2 ^ number_outside outside 24) none)
 
+-- ---- each set of numbers is that of some free points
+
+-- one part more, of which a piece has the numbers
+spread_by : (outside numbers part spread left piece : ℕ) → IsSpreading outside numbers part spread left
+    → IsSpread (outside / 2 ^ (6 * part) % 64) (left % 2 ^ (6 - count_below (has (outside / 2 ^ (6 * part) % 64)) 6)) piece
+    → (more : ℕ) × (rest : ℕ) × IsSpreading outside numbers (suc part) more rest
+spread_by outside numbers part spread left piece s is =
+    let next : part + 1 ≡ suc part = omega arith in (
+      spread + piece * 2 ^ (6 * part),
+      left / 2 ^ (6 - count_below (has (outside / 2 ^ (6 * part) % 64)) 6),
+      subst (λ k. IsSpreading outside numbers k (spread + piece * 2 ^ (6 * part)) (left / 2 ^ (6 - count_below (has (outside / 2 ^ (6 * part) % 64)) 6))) next
+          (spreading-next outside numbers part spread left piece s is),
+    )
+
+spread_on : (outside numbers part spread left : ℕ) → IsSpreading outside numbers part spread left
+    → (more : ℕ) × (rest : ℕ) × IsSpreading outside numbers (suc part) more rest
+spread_on outside numbers part spread left s =
+    let size : number_outside (outside / 2 ^ (6 * part) % 64) 6 ≡ 6 - count_below (has (outside / 2 ^ (6 * part) % 64)) 6 =
+    omega (arith, number-count (outside / 2 ^ (6 * part) % 64) 6) in
+    let fits : left % 2 ^ (6 - count_below (has (outside / 2 ^ (6 * part) % 64)) 6) < 2 ^ number_outside (outside / 2 ^ (6 * part) % 64) 6 =
+    rw size (mod-lt left (power_some (6 - count_below (has (outside / 2 ^ (6 * part) % 64)) 6))) in
+    spread_by outside numbers part spread left _ s
+    (spread_at (outside / 2 ^ (6 * part) % 64) (left % 2 ^ (6 - count_below (has (outside / 2 ^ (6 * part) % 64)) 6)) (mod-lt (outside / 2 ^ (6 * part)) (lit< tt)) fits)
+
+spreading : (outside numbers part : ℕ) → (spread : ℕ) × (left : ℕ) × IsSpreading outside numbers part spread left
+spreading outside numbers zero = (0, numbers, spreading-start outside numbers)
+spreading outside numbers (suc part) =
+    let before = spreading outside numbers part in
+    spread_on outside numbers part before.0 before.1 before.2
+
+pub spread_exists : (outside numbers : ℕ) → numbers < 2 ^ number_outside outside 24
+    → (set : ℕ) × (set < 2 ^ 24) × ((p : ℕ) → has set p ≡ true → has outside p ≡ false) × (squeezed_below outside set 24 ≡ numbers)
+spread_exists outside numbers low =
+    let end = spreading outside numbers 4 in
+    (end.0, end.2.within, end.2.apart, spread-end outside numbers end.0 end.1 low end.2)
+
 -- ---- the rank of what was spread
 
-number-le : (outside m k : ℕ) → number_outside outside m ≤ number_outside outside (k + m)
+pub number-le : (outside m k : ℕ) → number_outside outside m ≤ number_outside outside (k + m)
 number-le outside m zero = let e : 0 + m ≡ m = omega arith in rw e (omega arith)
 number-le outside m (suc k) =
     let e : suc k + m ≡ suc (k + m) = omega arith in

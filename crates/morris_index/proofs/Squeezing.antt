@@ -108,13 +108,13 @@ module _ (x f : ℕ) (low : x < 2 ^ f) where
   one_more_is : x + 2 ^ f ≡ 1 * 2 ^ f + x
   one_more_is = omega arith
 
-  has-top : has (x + 2 ^ f) f ≡ true
+  pub has-top : has (x + 2 ^ f) f ≡ true
   unfolding has
   has-top =
       let none : f - f ≡ 0 = omega arith in
       ap (λ k. eqb k 1) (ap (λ k. bit_at k f) one_more_is ∙ bit_at_cat_high 1 f x f low (omega arith) ∙ ap (bit_at 1) none)
 
-  has-rest : (p : ℕ) → p < f → has (x + 2 ^ f) p ≡ has x p
+  pub has-rest : (p : ℕ) → p < f → has (x + 2 ^ f) p ≡ has x p
   unfolding has
   has-rest p h = ap (λ k. eqb k 1) (ap (λ k. bit_at k p) one_more_is ∙ bit_at_cat_low 1 f x p h)
 

@@ -11,3 +11,4 @@ pub mod Falls
 pub mod Carried
 pub mod Facing
 pub mod Standings
+pub mod EntryRows

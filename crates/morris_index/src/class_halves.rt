@@ -6,6 +6,7 @@ ghost use Rattle.morris_board.specs.Positions.{Sides, IsPosition};
 ghost use Rattle.morris_index.specs.Classes.{symmetry_of, representative_of, class_of, AreLeading};
 ghost use Rattle.morris_index.specs.ClassPairs.{led, class_half_size, class_half_index};
 ghost use Rattle.morris_index.specs.ClassMoves.{class_half_start};
+ghost use Rattle.morris_index.specs.EntryRows.{IsHalfRow};
 ghost use Rattle.morris_index.specs.Pairs.{has_counts, IsHalf};
 
 use crate::binomials::binomial;
@@ -120,4 +121,29 @@ pub(crate) fn class_half_position<B: Geometry>(
         Ok(position) => position,
         Err(_) => unreachable!(),
     }
+}
+
+/// The stones of the player to move in the entry with this number among those with `own` stones of
+/// the player to move and `other` of the opponent; and the masks of the opponent's sets in it and
+/// in the further entries with these stones, as numbers of the points that are free.
+pub(crate) fn class_half_row<'a, B: Geometry>(
+    classes: &Classes<B>,
+    sets: &'a SetList,
+    own: u8,
+    other: u8,
+    index: u64,
+) -> (Points, &'a [u32])
+    requires half { IsHalf B.POINTS own other }
+    requires classes { classes.now ≡ own }
+    requires points { sets.now.points ≡ B.POINTS - own }
+    requires count { sets.now.count ≡ other }
+    requires small { index < class_half_size B.shape B.POINTS own other }
+    ensures count { count_of result.0 ≡ own }
+    ensures row { IsHalfRow B.shape B.POINTS result.0 other index result.1.now }
+{
+    // The proof learns here that a class fits 32 bits.
+    let _ = classes.count();
+    let choices = binomial(B::POINTS - own, other);
+    let own_points = classes.representative((index / choices) as u32);
+    (own_points, sets.sets_from(index % choices))
 }

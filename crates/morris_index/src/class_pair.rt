@@ -8,15 +8,17 @@ ghost use Rattle.morris_index.specs.Pairs.{IsPair, is_of};
 ghost use Rattle.morris_index.specs.Classes.{symmetry_of, representative_of, AreLeading};
 ghost use Rattle.morris_index.specs.ClassPairs.{led, class_size_of, class_index_of};
 ghost use Rattle.morris_index.specs.ClassMoves.{class_start_of};
+ghost use Rattle.morris_index.specs.EntryRows.{row_end};
 ghost use Rattle.morris_index.specs.Falls.{HasEntry};
 ghost use Rattle.morris_index.specs.Carried.{IsReturning};
 ghost use Rattle.morris_index.specs.Standings.{are_of};
 
 use crate::binomials::binomial;
 use crate::class_halves::{
-    class_half_index, class_half_leads, class_half_position, class_half_size,
+    class_half_index, class_half_leads, class_half_position, class_half_row, class_half_size,
 };
 use crate::classes::Classes;
+use crate::entry_rows::EntryRow;
 use crate::falls::FallsOn;
 use crate::halves::next_of_own;
 use crate::pair::Pair;
@@ -272,6 +274,39 @@ impl<B: Geometry> ClassPair<B> {
         match next_of_own(before) {
             Some(next) => next,
             None => self.position(index),
+        }
+    }
+
+    /// The entries from `index` on, below [`ClassPair::size`], up to the last one in which the
+    /// player to move stands on the same representative.
+    pub fn row_from(&self, index: u64) -> EntryRow<'_, B>
+        requires { index < class_size_of B.shape B.POINTS self.now }
+        ensures pair { result.pair ≡ self.now }
+        ensures first { result.first ≡ index }
+        ensures some { 1 ≤ result.len }
+        ensures whole { index + result.len ≡ row_end B.shape B.POINTS result }
+        ensures inside { index + result.len ≤ class_size_of B.shape B.POINTS self.now }
+    {
+        let (greater, lesser) = (self.pair.greater(), self.pair.lesser());
+        let first = class_half_size(&self.greater, greater, lesser);
+        if index < first {
+            let (own, numbers) = class_half_row(
+                &self.greater,
+                &self.lesser_sets,
+                greater,
+                lesser,
+                index,
+            );
+            EntryRow::of(self.pair, index, own, numbers)
+        } else {
+            let (own, numbers) = class_half_row(
+                &self.lesser,
+                &self.greater_sets,
+                lesser,
+                greater,
+                index - first,
+            );
+            EntryRow::of(self.pair, index, own, numbers)
         }
     }
 

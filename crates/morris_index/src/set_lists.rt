@@ -1,5 +1,5 @@
 //! Lists of all sets of a number of points.
-ghost use Rattle.std.specs.Prelude.{◌≡◌, ◌<◌, ◌≤◌, ◌^◌, IfOk};
+ghost use Rattle.std.specs.Prelude.{◌≡◌, ℕ, ◌+◌, ◌<◌, ◌≤◌, ◌^◌, length, slice_index, IfOk};
 ghost use Rattle.morris_index.specs.Binomials.{choose};
 ghost use Rattle.morris_index.specs.Numbering.{number_outside, IsRanked, AreRanked};
 
@@ -56,5 +56,14 @@ impl SetList {
         ensures { IsRanked B.POINTS outside self.now.count rank result }
     {
         spread(Points::from_mask(self.sets[rank as usize]), outside)
+    }
+
+    /// The masks of the sets from a rank on.
+    pub(crate) fn sets_from(&self, rank: u64) -> &[u32]
+        requires { rank < choose self.now.points self.now.count }
+        ensures len { rank + length result.now ≡ choose self.now.points self.now.count }
+        ensures each { (place : ℕ) → place < length result.now → IsRanked self.now.points 0 self.now.count (rank + place) (slice_index result.now place) }
+    {
+        &self.sets[rank as usize..]
     }
 }

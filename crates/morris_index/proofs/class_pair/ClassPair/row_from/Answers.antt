@@ -1,0 +1,46 @@
+use Rattle.std.proofs.Common.{◌≡◌, ◌≤◌, ◌∙◌, arith}
+use Rattle.morris_index.specs.ClassPairs.{class_half_size}
+use Rattle.morris_index.specs.EntryRows.{in_row, IsEntryRow}
+use Rattle.morris_index.proofs.ClassPairLaws.{second_half}
+use Rattle.morris_index.proofs.EntryRowLaws.{first_row, second_row, row_some, row_whole, row_inside}
+use Rattle.morris_index.proofs.class_pair.ClassPair.row_from.Goals as goal
+
+pub of-requires : goal.of-requires
+of-requires g c =
+    first_row g.B.Geometry.shape g.B.Geometry.POINTS c.self.inside.pair c.greater-greater.ensures.lawful c.args.index c.class_half_row-own.result.0 c.class_half_row-own.result.1.now
+    (c.class_half_row-own.ensures.count ∙ c.greater-greater.ensures.value)
+    (rw c.lesser-lesser.ensures.value at c.class_half_row-own.ensures.row)
+
+pub class_half_row-own-requires-else-index-first-clause-small : goal.class_half_row-own-requires-else-index-first-clause-small
+class_half_row-own-requires-else-index-first-clause-small g c =
+    let past = rw (c.class_half_size-first.ensures.value, c.greater-greater.ensures.value, c.lesser-lesser.ensures.value) at c.if-index-first.false in
+    rw (c.class_half_size-first.ensures.value, c.greater-greater.ensures.value, c.lesser-lesser.ensures.value)
+    (second_half g.B.Geometry.shape g.B.Geometry.POINTS (omega (arith, g.met.B.Geometry.few)) g.met.B.Geometry.point_count g.met.B.Geometry.has_symmetries c.self.inside.pair c.args.index (rw (← c.self.view_is) at c.requires) past).1
+
+pub of-requires-else-index-first : goal.of-requires-else-index-first
+of-requires-else-index-first g c =
+    let past : class_half_size g.B.Geometry.shape g.B.Geometry.POINTS c.self.inside.pair.greater c.self.inside.pair.lesser ≤ c.args.index =
+    rw (c.class_half_size-first.ensures.value, c.greater-greater.ensures.value, c.lesser-lesser.ensures.value) at c.if-index-first.false in
+    let differ = (second_half g.B.Geometry.shape g.B.Geometry.POINTS (omega (arith, g.met.B.Geometry.few)) g.met.B.Geometry.point_count g.met.B.Geometry.has_symmetries c.self.inside.pair c.args.index (rw (← c.self.view_is) at c.requires) past).0 in
+    second_row g.B.Geometry.shape g.B.Geometry.POINTS c.self.inside.pair c.greater-greater.ensures.lawful c.args.index c.class_half_row-own-else-index-first.result.0 c.class_half_row-own-else-index-first.result.1.now
+    differ (c.class_half_row-own-else-index-first.ensures.count ∙ c.lesser-lesser.ensures.value) past
+    (rw (c.class_half_size-first.ensures.value, c.greater-greater.ensures.value, c.lesser-lesser.ensures.value) at c.class_half_row-own-else-index-first.ensures.row)
+
+pub returns-then-index-first-clause-inside : goal.returns-then-index-first-clause-inside
+returns-then-index-first-clause-inside g c =
+    let row =
+    first_row g.B.Geometry.shape g.B.Geometry.POINTS c.self.inside.pair c.greater-greater.ensures.lawful c.args.index c.class_half_row-own.result.0 c.class_half_row-own.result.1.now
+    (c.class_half_row-own.ensures.count ∙ c.greater-greater.ensures.value)
+    (rw c.lesser-lesser.ensures.value at c.class_half_row-own.ensures.row) in
+    rw (c.of.ensures, ← c.self.view_is) (row_inside g.B.Geometry.shape g.B.Geometry.POINTS (omega (arith, g.met.B.Geometry.few)) g.met.B.Geometry.point_count g.met.B.Geometry.has_symmetries _ _ row)
+
+pub returns-else-index-first-clause-inside : goal.returns-else-index-first-clause-inside
+returns-else-index-first-clause-inside g c =
+    let past : class_half_size g.B.Geometry.shape g.B.Geometry.POINTS c.self.inside.pair.greater c.self.inside.pair.lesser ≤ c.args.index =
+    rw (c.class_half_size-first.ensures.value, c.greater-greater.ensures.value, c.lesser-lesser.ensures.value) at c.if-index-first.false in
+    let differ = (second_half g.B.Geometry.shape g.B.Geometry.POINTS (omega (arith, g.met.B.Geometry.few)) g.met.B.Geometry.point_count g.met.B.Geometry.has_symmetries c.self.inside.pair c.args.index (rw (← c.self.view_is) at c.requires) past).0 in
+    let row =
+    second_row g.B.Geometry.shape g.B.Geometry.POINTS c.self.inside.pair c.greater-greater.ensures.lawful c.args.index c.class_half_row-own-else-index-first.result.0 c.class_half_row-own-else-index-first.result.1.now
+    differ (c.class_half_row-own-else-index-first.ensures.count ∙ c.lesser-lesser.ensures.value) past
+    (rw (c.class_half_size-first.ensures.value, c.greater-greater.ensures.value, c.lesser-lesser.ensures.value) at c.class_half_row-own-else-index-first.ensures.row) in
+    rw (c.of-else-index-first.ensures, ← c.self.view_is) (row_inside g.B.Geometry.shape g.B.Geometry.POINTS (omega (arith, g.met.B.Geometry.few)) g.met.B.Geometry.point_count g.met.B.Geometry.has_symmetries _ _ row)
