@@ -1,8 +1,7 @@
-use Rattle.std.proofs.Common.{◌≡◌, ◌≤◌, ◌∙◌, arith}
+use Rattle.std.proofs.Common.{◌≤◌, ◌∙◌, arith}
 use Rattle.morris_index.specs.ClassPairs.{class_half_size}
-use Rattle.morris_index.specs.EntryRows.{in_row, IsEntryRow}
 use Rattle.morris_index.proofs.ClassPairLaws.{second_half}
-use Rattle.morris_index.proofs.EntryRowLaws.{first_row, second_row, row_some, row_whole, row_inside}
+use Rattle.morris_index.proofs.EntryRowLaws.{first_row, second_row, row_inside}
 use Rattle.morris_index.proofs.class_pair.ClassPair.row_from.Goals as goal
 
 pub of-requires : goal.of-requires

@@ -1,6 +1,6 @@
-use Rattle.std.proofs.Common.{◌≡◌, ◌<◌, ◌∙◌, length, slice_index, arith, rules}
+use Rattle.std.proofs.Common.{◌≡◌, ◌<◌, length, slice_index, arith, rules}
 use Rattle.morris_index.specs.EntryRows.{in_row}
-use Rattle.morris_index.proofs.EntryRowLaws.{numbers_within, row_stands, row_numbers}
+use Rattle.morris_index.proofs.EntryRowLaws.{row_stands, row_numbers}
 use Rattle.morris_index.proofs.entry_rows.EntryRow.numbers.Goals as goal
 
 pub returns-clause-stands : goal.returns-clause-stands
