@@ -288,8 +288,8 @@ impl<B: Geometry> ClassPair<B> {
         ensures inside { index + result.len ≤ class_size_of B.shape B.POINTS self.now }
     {
         let (greater, lesser) = (self.pair.greater(), self.pair.lesser());
-        let first = class_half_size(&self.greater, greater, lesser);
-        if index < first {
+        let half = class_half_size(&self.greater, greater, lesser);
+        if index < half {
             let (own, numbers) = class_half_row(
                 &self.greater,
                 &self.lesser_sets,
@@ -304,7 +304,7 @@ impl<B: Geometry> ClassPair<B> {
                 &self.greater_sets,
                 lesser,
                 greater,
-                index - first,
+                index - half,
             );
             EntryRow::of(self.pair, index, own, numbers)
         }
