@@ -28,4 +28,5 @@ mod StepLaws
 pub mod StandingLaws
 pub mod FacingLaws
 pub mod NumberLaws
+pub mod RingLaws
 pub mod EntryRowLaws

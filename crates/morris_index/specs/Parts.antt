@@ -1,4 +1,4 @@
--- Sets of points read part by part, six or twelve points at a time.
+-- Sets of points read part by part, six, eight or twelve points at a time.
 use Rattle.std.specs.Prelude.{◌≡◌, ℕ, ◌+◌, ◌-◌, ◌*◌, ◌^◌, ◌<◌, ◌≤◌, ◌&&◌, not, if◌then◌else◌, List, length, slice_index}
 use Rattle.morris_board.specs.Sets.{has}
 use Rattle.morris_index.specs.Numbering.{count_below, number_outside}
@@ -26,3 +26,8 @@ pub record IsRankTable (sums : List ℕ) : Type 0 where
   pub lower : (points : ℕ) → points < 4096 → count_below (has points) 12 ≤ 9 → slice_index sums points ≡ part_rank 0 12 0 points
   pub upper : (count points : ℕ) → count ≤ 9 → points < 4096 → count_below (has points) 12 ≤ count
       → slice_index sums ((1 + count) * 4096 + points) ≡ part_rank 12 12 (count - count_below (has points) 12) points
+
+-- A table of the squeezed rings: for each ring of eight points of an outer set and each of a set.
+pub record IsRingTable (rings : List ℕ) : Type 0 where
+  pub len : length rings ≡ 65536
+  pub each : (outside points : ℕ) → outside < 256 → points < 256 → slice_index rings (outside * 256 + points) ≡ squeezed_below outside points 8

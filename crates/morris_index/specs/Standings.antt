@@ -4,7 +4,7 @@ use Rattle.std.specs.Prelude.{◌≡◌, ℕ, ◌+◌, ◌-◌, ◌*◌, ◌^◌
 use Rattle.morris_board.specs.Boards.{Shape}
 use Rattle.morris_board.specs.Sets.{members, count_of}
 use Rattle.morris_index.specs.Binomials.{choose}
-use Rattle.morris_index.specs.Numbering.{rank_of}
+use Rattle.morris_index.specs.Numbering.{rank_of, number_outside}
 use Rattle.morris_index.specs.Pairs.{Counts, IsPair}
 use Rattle.morris_index.specs.Moves.{start_of}
 use Rattle.morris_index.specs.Classes.{symmetry_of, representative_of}
@@ -26,10 +26,12 @@ pub record IsStanding (n : ℕ) (c : Counts) (other : ℕ) (standing : Standing)
 
 -- What is kept where the entries are numbered by classes: the symmetry that leads the own stones to
 -- the representative, this representative, outside which the images of the opponent's stones are
--- ranked, and the first entry with it.
+-- ranked, how many of the points below 8 and below 16 it leaves free, and the first entry with it.
 pub record IsLedStanding (board : Shape) (n : ℕ) (c : Counts) (other : ℕ) (standing : Standing) : Type 0 where
   pub counts : are_of c (count_of standing.own) other ≡ true
   pub symmetry : standing.symmetry ≡ symmetry_of board standing.own
   pub place : standing.place ≡ representative_of board standing.own
+  pub second : standing.second ≡ number_outside standing.place 8
+  pub third : standing.third ≡ number_outside standing.place 16
   pub start : standing.start ≡ class_start_of board n c standing.own other
   pub few : standing.start ≤ 2 ^ 54

@@ -12,7 +12,7 @@ ghost use Rattle.morris_index.specs.Pairs.{has_counts, IsHalf};
 use crate::binomials::binomial;
 use crate::classes::Classes;
 use crate::rank_tables::RankTable;
-use crate::ranks::rank_outside_by;
+use crate::rings::Outside;
 use crate::set_lists::SetList;
 use morris_board::board::Geometry;
 use morris_board::points::Points;
@@ -42,7 +42,7 @@ pub(crate) fn class_half_index<B: Geometry>(
     let other = position.other().count();
     let (start, symmetry) = class_half_start(classes, position.own(), other);
     let led = position.image(symmetry);
-    start + rank_outside_by(ranks, led.other(), led.own())
+    start + ranks.rank_outside(led.other(), Outside::of(led.own()))
 }
 
 /// The number of the first entry in which the player to move stands on the representative of the
@@ -74,7 +74,7 @@ pub(crate) fn class_half_leads<B: Geometry>(
     ranks: &RankTable,
     own: Points,
     choices: u64,
-) -> (u64, Points, Points, u32)
+) -> (u64, Outside, Points, u32)
     requires classes { classes.now ≡ count_of own }
     requires within { own < 2 ^ B.POINTS }
     requires few { choices < 2 ^ 21 }

@@ -23,8 +23,8 @@ use crate::falls::FallsOn;
 use crate::halves::next_of_own;
 use crate::pair::Pair;
 use crate::rank_tables::RankTable;
-use crate::ranks::rank_outside_by;
 use crate::returning::{Returning, keep_returning, returning_of};
+use crate::rings::Outside;
 use crate::set_lists::SetList;
 use morris_board::board::Geometry;
 use morris_board::points::Points;
@@ -187,7 +187,7 @@ impl<B: Geometry> ClassPair<B> {
 
     /// The same first entry, the representative, all symmetries that lead `own` there, and the
     /// class.
-    pub(crate) fn leads_of(&self, own: Points, other: Points) -> (u64, Points, Points, u32)
+    pub(crate) fn leads_of(&self, own: Points, other: Points) -> (u64, Outside, Points, u32)
         requires within { own < 2 ^ B.POINTS }
         requires counts { is_of self.now (sides own other) ≡ true }
         ensures start { result.0 ≡ class_start_of B.shape B.POINTS self.now own (count_of other) }
@@ -211,13 +211,13 @@ impl<B: Geometry> ClassPair<B> {
     }
 
     /// The rank of `set` among the sets of as many points that have none in common with `outside`.
-    pub(crate) fn rank_outside(&self, set: Points, outside: Points) -> u64
+    pub(crate) fn rank_outside(&self, set: Points, outside: Outside) -> u64
         requires board { set < 2 ^ 24 }
         requires few { count_of set ≤ 9 }
         requires apart { (p : ℕ) → has set p ≡ true → has outside p ≡ false }
         ensures { result ≡ rank_of (map (number_outside outside) (members set)) }
     {
-        rank_outside_by(&self.ranks, set, outside)
+        self.ranks.rank_outside(set, outside)
     }
 
     /// The images of `own`, and the symmetries whose inverse is the one that leads the image.

@@ -9,6 +9,7 @@ ghost use Rattle.morris_index.specs.Classes.{symmetry_of, representative_of, is_
 use crate::binomials::binomial;
 use crate::rank_tables::RankTable;
 use crate::ranks::{self, following, least};
+use crate::rings::Outside;
 use morris_board::board::Geometry;
 use morris_board::points::Points;
 use std::alloc::{AllocError, Global};
@@ -44,12 +45,12 @@ struct Lead {
     leading: u32,
 }
 
-/// What is kept of sets of points: at the rank of each, where it is led; and the masks of the
-/// representatives, in the order of their classes.
+/// What is kept of sets of points: at the rank of each, where it is led; and the representatives,
+/// in the order of their classes.
 #[derive(Drop)]
 struct Kept {
     leads: Vec<Lead>,
-    representatives: Vec<u32>,
+    representatives: Vec<Outside>,
 }
 
 impl<B: Geometry> Classes<B> {
@@ -110,7 +111,7 @@ impl<B: Geometry> Classes<B> {
 
     /// The class of a set of as many points as the classes are of, its representative, and all
     /// symmetries that lead the set there.
-    pub(crate) fn leads_of(&self, ranks: &RankTable, set: Points) -> (u32, Points, Points)
+    pub(crate) fn leads_of(&self, ranks: &RankTable, set: Points) -> (u32, Outside, Points)
         requires within { set < 2 ^ B.POINTS }
         requires count { count_of set ≡ self.now }
         ensures class { result.0 ≡ class_of B.shape set }
@@ -120,7 +121,7 @@ impl<B: Geometry> Classes<B> {
     {
         let lead = self.kept.leads[ranks.rank(set) as usize];
         let symmetries = Points::from_mask(lead.leading);
-        (lead.class, self.representative(lead.class), symmetries)
+        (lead.class, self.outside_of(lead.class), symmetries)
     }
 
     /// The representative of a class, below [`Classes::count`]: of all its sets the one with the
@@ -132,7 +133,18 @@ impl<B: Geometry> Classes<B> {
         ensures class { class_of B.shape result ≡ class }
         ensures within { result < 2 ^ B.POINTS }
     {
-        Points::from_mask(self.kept.representatives[class as usize])
+        self.outside_of(class).points()
+    }
+
+    /// The same with what numbers outside it need.
+    fn outside_of(&self, class: u32) -> Outside
+        requires { class < class_count B.shape self.now }
+        ensures least { representative_of B.shape result ≡ result }
+        ensures count { count_of result ≡ self.now }
+        ensures class { class_of B.shape result ≡ class }
+        ensures within { result < 2 ^ B.POINTS }
+    {
+        self.kept.representatives[class as usize]
     }
 }
 
@@ -148,7 +160,7 @@ fn keep<B: Geometry>(kept: &mut Kept, count: u8, rank: u64, set: Points) -> Resu
     let (least, leading) = least_image::<B>(set);
     let class = if least.mask() == set.mask() {
         let next = kept.representatives.len() as u32;
-        kept.representatives.push(set.mask())?;
+        kept.representatives.push(Outside::of(set))?;
         next
     } else {
         kept.leads[ranks::rank(least) as usize].class

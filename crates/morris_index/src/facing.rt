@@ -12,6 +12,7 @@ ghost use Rattle.morris_index.specs.Moves.{in_pair};
 ghost use Rattle.morris_index.specs.Pairs.{is_of};
 
 use crate::class_pair::ClassPair;
+use crate::rings::Outside;
 use crate::successor_entries::SuccessorEntries;
 use morris_board::board::Geometry;
 use morris_board::points::Points;
@@ -207,7 +208,10 @@ impl<'a, B: Geometry> Facing<'a, B> {
         // The proof learns the rules of a position where its stones are read.
         let _ = position.own();
         let faced = from.image(symmetry);
-        let entry = start + self.pair.rank_outside(faced.other(), faced.own());
+        let entry = start
+            + self
+                .pair
+                .rank_outside(faced.other(), Outside::of(faced.own()));
         Faced {
             after: SuccessorEntries::led_by(
                 self.pair,

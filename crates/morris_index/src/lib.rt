@@ -20,6 +20,7 @@ pub mod predecessors;
 mod rank_tables;
 mod ranks;
 mod returning;
+mod rings;
 mod set_lists;
 mod spread_tables;
 pub mod standing;

@@ -1,10 +1,11 @@
 //! The table of ranks: what each half of the board's points adds to the rank of a set.
-ghost use Rattle.std.specs.Prelude.{◌≡◌, ◌+◌, ◌-◌, ◌*◌, ◌<◌, ◌≤◌, ◌^◌, map, IfOk};
+ghost use Rattle.std.specs.Prelude.{◌≡◌, ℕ, ◌+◌, ◌-◌, ◌*◌, ◌<◌, ◌≤◌, ◌^◌, true, false, map, IfOk};
 ghost use Rattle.morris_board.specs.Sets.{has, members, count_of};
 ghost use Rattle.morris_index.specs.Numbering.{count_below, rank_of, number_outside};
 ghost use Rattle.morris_index.specs.Parts.{part_rank, IsRankTable};
 
 use crate::parts::{part_rank, part_size};
+use crate::rings::{Outside, RingTable};
 use morris_board::points::Points;
 use std::alloc::{AllocError, Global};
 
@@ -17,6 +18,8 @@ const SUMS: u32 = 45056;
 #[derive(Drop)]
 pub(crate) struct RankTable {
     sums: Vec<u32>,
+    /// The numbers of points outside a set, by which sets outside it are ranked.
+    rings: RingTable,
     ghost full: { IsRankTable sums.items },
 }
 
@@ -65,7 +68,10 @@ impl RankTable {
             };
             sums.push(sum)?;
         }
-        Ok(RankTable { sums })
+        Ok(RankTable {
+            sums,
+            rings: RingTable::make(alloc)?,
+        })
     }
 
     /// The rank of `set` among the sets of as many points.
@@ -78,5 +84,15 @@ impl RankTable {
         let upper = set.mask() / 4096;
         let row = 1 + u32::from(set.count());
         u64::from(self.sums[lower as usize]) + u64::from(self.sums[(row * 4096 + upper) as usize])
+    }
+
+    /// The rank of `set` among the sets of as many points that have none in common with `outside`.
+    pub(crate) fn rank_outside(&self, set: Points, outside: Outside) -> u64
+        requires board { set < 2 ^ 24 }
+        requires few { count_of set ≤ 9 }
+        requires apart { (p : ℕ) → has set p ≡ true → has outside p ≡ false }
+        ensures { result ≡ rank_of (map (number_outside outside) (members set)) }
+    {
+        self.rank(self.rings.squeezed(set, outside))
     }
 }

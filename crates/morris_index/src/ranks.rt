@@ -7,7 +7,6 @@ ghost use Rattle.morris_index.specs.Parts.{squeezed_below};
 
 use crate::binomials::binomial;
 use crate::parts::{part_rank, part_size, spread_part, squeezed_part};
-use crate::rank_tables::RankTable;
 use morris_board::points::Points;
 
 /// The rank of `set` among the sets of as many points.
@@ -34,16 +33,6 @@ pub(crate) fn rank_outside(set: Points, outside: Points) -> u64
     ensures { result ≡ rank_of (map (number_outside outside) (members set)) }
 {
     rank(squeezed(set, outside))
-}
-
-/// [`rank_outside`], where the table of ranks is at hand.
-pub(crate) fn rank_outside_by(table: &RankTable, set: Points, outside: Points) -> u64
-    requires board { set < 2 ^ 24 }
-    requires few { count_of set ≤ 9 }
-    requires apart { (p : ℕ) → has set p ≡ true → has outside p ≡ false }
-    ensures { result ≡ rank_of (map (number_outside outside) (members set)) }
-{
-    table.rank(squeezed(set, outside))
 }
 
 /// The set of the numbers of the points of `set` that aren't in `outside`, see [`number_outside`].

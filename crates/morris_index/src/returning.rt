@@ -79,7 +79,7 @@ pub(crate) fn returning_of<B: Geometry>(
     ensures { IsReturning B.shape own result }
 {
     let (class, representative, _) = classes.leads_of(ranks, own);
-    if representative == own {
+    if representative.points() == own {
         kept[class as usize]
     } else {
         returning_from(classes, own)

@@ -10,6 +10,7 @@ use crate::binomials::binomial;
 use crate::class_pair::ClassPair;
 use crate::pair::Pair;
 use crate::ranks::{rank, rank_outside};
+use crate::rings::Outside;
 use morris_board::board::Geometry;
 use morris_board::points::Points;
 
@@ -25,6 +26,10 @@ pub struct Standing {
     symmetry: u8,
     /// The images of the stones of the player to move under it.
     place: Points,
+    /// How many of the points 0 to 7 these leave free.
+    second: u8,
+    /// How many of the points 0 to 15.
+    third: u8,
 }
 
 impl Standing {
@@ -34,6 +39,8 @@ impl Standing {
         start: 0,
         symmetry: 0,
         place: Points::EMPTY,
+        second: 0,
+        third: 0,
     };
 }
 
@@ -48,11 +55,14 @@ impl<B: Geometry> Pair<B> {
     {
         let count = own.count();
         let start = self.start_of(count);
+        let place = Outside::of(own);
         Standing {
             own,
             start: start + rank(own) * binomial(B::POINTS - count, other),
             symmetry: 0,
             place: own,
+            second: place.second,
+            third: place.third,
         }
     }
 
@@ -78,11 +88,14 @@ impl<B: Geometry> ClassPair<B> {
         ensures stands { IsLedStanding B.shape B.POINTS self.now other result }
     {
         let (start, symmetry) = self.start_by(own, other);
+        let place = Outside::of(B::image_of(symmetry, own));
         Standing {
             own,
             start,
             symmetry,
-            place: B::image_of(symmetry, own),
+            place: place.points,
+            second: place.second,
+            third: place.third,
         }
     }
 
@@ -95,6 +108,11 @@ impl<B: Geometry> ClassPair<B> {
         ensures below { result < class_size_of B.shape B.POINTS self.now }
     {
         let image = B::image_of(standing.symmetry, other);
-        standing.start + self.rank_outside(image, standing.place)
+        let place = Outside {
+            points: standing.place,
+            second: standing.second,
+            third: standing.third,
+        };
+        standing.start + self.rank_outside(image, place)
     }
 }

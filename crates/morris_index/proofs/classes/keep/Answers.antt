@@ -55,7 +55,7 @@ returns g c =
             w.class-is,
             next,
             w.in_ok-push.ensures.items,
-            w.mask-then-mask.ensures,
+            w.of.ensures,
             map-append (λ (lead : Lead). lead.class) c.args.kept.now.leads.items,
             map-append (λ (lead : Lead). lead.leading) c.args.kept.now.leads.items,
           )

@@ -8,7 +8,9 @@ unfolding representative_of
 returns-clause-stands g c = record {
   counts = c.requires.counts;
   symmetry = c.start_by-start.ensures.symmetry;
-  place = c.image_of.ensures ∙ ap (λ t. image_of (g.B.Geometry.shape.image t) c.args.own) c.start_by-start.ensures.symmetry;
+  place = c.place.view_is ∙ c.of-place.ensures ∙ c.image_of.ensures ∙ ap (λ t. image_of (g.B.Geometry.shape.image t) c.args.own) c.start_by-start.ensures.symmetry;
+  second = c.place.invariant.0;
+  third = c.place.invariant.1;
   start = c.start_by-start.ensures.start;
   few = c.start_by-start.ensures.few;
 }

@@ -14,8 +14,8 @@ pub index-lead-requires : goal.index-lead-requires
 index-lead-requires g c =
     omega (arith, lead_in g.B.Geometry.shape g.B.Geometry.POINTS c.self.inside.count (omega (arith, g.met.B.Geometry.few)) g.met.B.Geometry.point_count g.met.B.Geometry.has_symmetries c.self.inside.kept.leads.items c.self.inside.kept.representatives.items c.self.invariant c.args.set c.rank.result c.requires.within (c.requires.count ∙ sym c.self.view_is) c.rank.ensures)
 
-pub representative-requires : goal.representative-requires
-representative-requires g c =
+pub outside_of-requires : goal.outside_of-requires
+outside_of-requires g c =
     let class : c.index-lead.result.now.class ≡ class_of g.B.Geometry.shape c.args.set =
     lead_class g.B.Geometry.shape g.B.Geometry.POINTS c.self.inside.count (omega (arith, g.met.B.Geometry.few)) g.met.B.Geometry.point_count g.met.B.Geometry.has_symmetries c.self.inside.kept.leads.items c.self.inside.kept.representatives.items c.self.invariant c.args.set c.rank.result c.requires.within (c.requires.count ∙ sym c.self.view_is) c.rank.ensures c.index-lead.result.now c.index-lead.ensures in
     rw (class, ← c.self.view_is) (class_of-lt g.B.Geometry.shape g.B.Geometry.POINTS c.self.inside.count (omega (arith, g.met.B.Geometry.few)) g.met.B.Geometry.point_count g.met.B.Geometry.has_symmetries (classes_in c.self.inside.kept.leads.items) (leading_in c.self.inside.kept.leads.items) c.self.inside.kept.representatives.items c.self.invariant c.args.set c.requires.within (c.requires.count ∙ sym c.self.view_is))
@@ -27,7 +27,7 @@ returns-clause-class g c =
 pub returns-clause-representative : goal.returns-clause-representative
 returns-clause-representative g c =
     representative_alone g.B.Geometry.shape g.B.Geometry.POINTS c.self.inside.count (omega (arith, g.met.B.Geometry.few)) g.met.B.Geometry.point_count g.met.B.Geometry.has_symmetries (classes_in c.self.inside.kept.leads.items) (leading_in c.self.inside.kept.leads.items) c.self.inside.kept.representatives.items c.self.invariant c.args.set c.requires.within (c.requires.count ∙ sym c.self.view_is)
-    c.representative.result c.representative.ensures.least (c.representative.ensures.count ∙ sym c.self.view_is) (c.representative.ensures.class ∙ returns-clause-class g c)
+    c.outside_of.result c.outside_of.ensures.least (c.outside_of.ensures.count ∙ sym c.self.view_is) (c.outside_of.ensures.class ∙ returns-clause-class g c)
 
 pub returns-clause-symmetries : goal.returns-clause-symmetries
 returns-clause-symmetries g c =

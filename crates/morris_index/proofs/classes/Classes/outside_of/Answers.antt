@@ -2,7 +2,7 @@ use Rattle.std.proofs.Common.{◌≡◌, ◌<◌, ◌∙◌, length, get_or, ari
 use Rattle.morris_index.specs.Classes.{classes_in, leading_in, class_count}
 use Rattle.morris_index.proofs.KeepLaws.{class_count-is, found_own, found_count, found_within, found_class}
 use Rattle.std.proofs.lemmas.Grind.{get_or_default_zero}
-use Rattle.morris_index.proofs.classes.Classes.representative.Goals as goal
+use Rattle.morris_index.proofs.classes.Classes.outside_of.Goals as goal
 
 pub index-requires : goal.index-requires
 index-requires g c =
@@ -21,8 +21,8 @@ returns-clause-least g c =
       class_count-is g.B.Geometry.shape g.B.Geometry.POINTS c.self.inside.count (omega (arith, g.met.B.Geometry.few)) g.met.B.Geometry.point_count g.met.B.Geometry.has_symmetries
           (classes_in c.self.inside.kept.leads.items) (leading_in c.self.inside.kept.leads.items) c.self.inside.kept.representatives.items c.self.invariant,
     ) in
-    let is : c.from_mask.result ≡ get_or c.self.inside.kept.representatives.items c.args.class 0 =
-    c.from_mask.ensures ∙ c.index.ensures ∙ get_or_default_zero c.self.inside.kept.representatives.items c.args.class _ under in
+    let is : c.index.result.now ≡ get_or c.self.inside.kept.representatives.items c.args.class 0 =
+    c.index.ensures ∙ get_or_default_zero c.self.inside.kept.representatives.items c.args.class _ under in
     rw is (found_own g.B.Geometry.shape g.B.Geometry.POINTS c.self.inside.count (omega (arith, g.met.B.Geometry.few)) g.met.B.Geometry.point_count g.met.B.Geometry.has_symmetries
     (classes_in c.self.inside.kept.leads.items) (leading_in c.self.inside.kept.leads.items) c.self.inside.kept.representatives.items c.self.invariant c.args.class low)
 
@@ -34,8 +34,8 @@ returns-clause-count g c =
       class_count-is g.B.Geometry.shape g.B.Geometry.POINTS c.self.inside.count (omega (arith, g.met.B.Geometry.few)) g.met.B.Geometry.point_count g.met.B.Geometry.has_symmetries
           (classes_in c.self.inside.kept.leads.items) (leading_in c.self.inside.kept.leads.items) c.self.inside.kept.representatives.items c.self.invariant,
     ) in
-    let is : c.from_mask.result ≡ get_or c.self.inside.kept.representatives.items c.args.class 0 =
-    c.from_mask.ensures ∙ c.index.ensures ∙ get_or_default_zero c.self.inside.kept.representatives.items c.args.class _ under in
+    let is : c.index.result.now ≡ get_or c.self.inside.kept.representatives.items c.args.class 0 =
+    c.index.ensures ∙ get_or_default_zero c.self.inside.kept.representatives.items c.args.class _ under in
     rw is (found_count g.B.Geometry.shape g.B.Geometry.POINTS c.self.inside.count (omega (arith, g.met.B.Geometry.few)) g.met.B.Geometry.point_count g.met.B.Geometry.has_symmetries
     (classes_in c.self.inside.kept.leads.items) (leading_in c.self.inside.kept.leads.items) c.self.inside.kept.representatives.items c.self.invariant c.args.class low ∙ c.self.view_is)
 
@@ -47,8 +47,8 @@ returns-clause-class g c =
       class_count-is g.B.Geometry.shape g.B.Geometry.POINTS c.self.inside.count (omega (arith, g.met.B.Geometry.few)) g.met.B.Geometry.point_count g.met.B.Geometry.has_symmetries
           (classes_in c.self.inside.kept.leads.items) (leading_in c.self.inside.kept.leads.items) c.self.inside.kept.representatives.items c.self.invariant,
     ) in
-    let is : c.from_mask.result ≡ get_or c.self.inside.kept.representatives.items c.args.class 0 =
-    c.from_mask.ensures ∙ c.index.ensures ∙ get_or_default_zero c.self.inside.kept.representatives.items c.args.class _ under in
+    let is : c.index.result.now ≡ get_or c.self.inside.kept.representatives.items c.args.class 0 =
+    c.index.ensures ∙ get_or_default_zero c.self.inside.kept.representatives.items c.args.class _ under in
     rw is (found_class g.B.Geometry.shape g.B.Geometry.POINTS c.self.inside.count (omega (arith, g.met.B.Geometry.few)) g.met.B.Geometry.point_count g.met.B.Geometry.has_symmetries
     (classes_in c.self.inside.kept.leads.items) (leading_in c.self.inside.kept.leads.items) c.self.inside.kept.representatives.items c.self.invariant c.args.class low)
 
@@ -60,7 +60,7 @@ returns-clause-within g c =
       class_count-is g.B.Geometry.shape g.B.Geometry.POINTS c.self.inside.count (omega (arith, g.met.B.Geometry.few)) g.met.B.Geometry.point_count g.met.B.Geometry.has_symmetries
           (classes_in c.self.inside.kept.leads.items) (leading_in c.self.inside.kept.leads.items) c.self.inside.kept.representatives.items c.self.invariant,
     ) in
-    let is : c.from_mask.result ≡ get_or c.self.inside.kept.representatives.items c.args.class 0 =
-    c.from_mask.ensures ∙ c.index.ensures ∙ get_or_default_zero c.self.inside.kept.representatives.items c.args.class _ under in
+    let is : c.index.result.now ≡ get_or c.self.inside.kept.representatives.items c.args.class 0 =
+    c.index.ensures ∙ get_or_default_zero c.self.inside.kept.representatives.items c.args.class _ under in
     rw is (found_within g.B.Geometry.shape g.B.Geometry.POINTS c.self.inside.count (omega (arith, g.met.B.Geometry.few)) g.met.B.Geometry.point_count g.met.B.Geometry.has_symmetries
     (classes_in c.self.inside.kept.leads.items) (leading_in c.self.inside.kept.leads.items) c.self.inside.kept.representatives.items c.self.invariant c.args.class low)

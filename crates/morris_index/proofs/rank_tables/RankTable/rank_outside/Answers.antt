@@ -2,7 +2,7 @@ use Rattle.std.proofs.Common.{◌∙◌, ap, map, arith}
 use Rattle.morris_board.specs.Sets.{members}
 use Rattle.morris_index.specs.Numbering.{rank_of, number_outside}
 use Rattle.morris_index.proofs.Squeezing.{squeezed-24, squeezed-few, squeezed-rank}
-use Rattle.morris_index.proofs.ranks.rank_outside_by.Goals as goal
+use Rattle.morris_index.proofs.rank_tables.RankTable.rank_outside.Goals as goal
 
 pub rank-requires-clause-board : goal.rank-requires-clause-board
 rank-requires-clause-board c = rw c.squeezed.ensures (squeezed-24 c.args.outside c.args.set c.requires.apart 24 (omega arith))

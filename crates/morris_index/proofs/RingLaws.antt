@@ -1,0 +1,141 @@
+-- Squeezed sets grow by a ring of eight points at a time.
+use Rattle.std.proofs.Common.{◌≡◌, ℕ, zero, suc, ◌+◌, ◌-◌, ◌*◌, ◌/◌, ◌%◌, ◌^◌, ◌<◌, refl, sym, ◌∙◌, ap, ap₂, inl, inr, arith, lit<, pow-suc}
+use Rattle.std.proofs.lemmas.Bool.{cases_Bool}
+use Rattle.std.proofs.Math.Nat.{mod-eq_of_lt, pow-le-pow_right}
+use Rattle.morris_board.specs.Sets.{has}
+use Rattle.morris_index.specs.Numbering.{number_outside}
+use Rattle.morris_index.specs.Parts.{weight, squeezed_below}
+use Rattle.morris_index.proofs.RankLaws.{count_below, number-zero, number-outside, number-inside, number-count}
+use Rattle.morris_index.proofs.Moving.{total-zero, total-suc}
+use Rattle.morris_index.proofs.NumberLaws.{numbers_end}
+use Rattle.morris_index.proofs.Squeezing.{has-part, squeezed-part, mask-none, squeezed-next, number-next}
+
+-- the numbers are those of free points, also where the sets have points in common
+pub squeezed_lt : (outside set n : ℕ) → squeezed_below outside set n < 2 ^ number_outside outside n
+unfolding squeezed_below
+squeezed_lt outside set zero = rw (total-zero (weight outside set), number-zero outside) (lit< tt)
+squeezed_lt outside set (suc n) =
+    let before = squeezed_lt outside set n in
+    let step = total-suc (weight outside set) n in
+    elim (cases_Bool (has outside n)) [
+      | inl y ↦
+          let none : weight outside set n ≡ 0 = elim (cases_Bool (has set n)) [ inl h ↦ rw (h, y) refl | inr h ↦ rw h refl ] in
+          rw (number-inside outside n y) (omega (arith, before, step, none))
+      | inr free ↦ rw (number-outside outside n free) (elim (cases_Bool (has set n)) [
+        | inl h ↦
+            let one : weight outside set n ≡ 2 ^ number_outside outside n = rw (h, free) refl in
+            omega (arith, before, step, one, pow-suc 2 (number_outside outside n))
+        | inr h ↦
+            let none : weight outside set n ≡ 0 = rw h refl in
+            omega (arith, before, step, none, pow-suc 2 (number_outside outside n))
+      ])
+    ]
+
+-- ---- a ring as two parts of six points
+
+pub squeezed-ring : (outside set : ℕ) → outside < 256 → set < 256
+    → squeezed_below outside set 8
+    ≡ squeezed_below (outside % 64) (set % 64) 6 + squeezed_below (outside / 64) (set / 64) 6 * 2 ^ (6 - count_below (has (outside % 64)) 6)
+squeezed-ring outside set o_low s_low =
+    let o_first : outside / 2 ^ (6 * 0) % 64 ≡ outside % 64 = omega arith in
+    let s_first : set / 2 ^ (6 * 0) % 64 ≡ set % 64 = omega arith in
+    let o_next : outside / 2 ^ (6 * 1) % 64 ≡ outside / 64 = omega arith in
+    let s_next : set / 2 ^ (6 * 1) % 64 ≡ set / 64 = omega arith in
+    let first : squeezed_below outside set 6 ≡ squeezed_below (outside % 64) (set % 64) 6 =
+    omega (
+      arith,
+      squeezed-next outside set 0,
+      mask-none outside set,
+      ap (λ k. squeezed_below (outside / 2 ^ (6 * 0) % 64) (set / 2 ^ (6 * 0) % 64) 6 * 2 ^ k) (number-zero outside),
+      ap₂ (λ o s. squeezed_below o s 6) o_first s_first,
+    ) in
+    let number : number_outside outside 6 ≡ 6 - count_below (has (outside % 64)) 6 =
+    omega (arith, number-next outside 0, number-zero outside, ap (λ o. count_below (has o) 6) o_first) in
+    let second : squeezed_below outside set 12 ≡ squeezed_below outside set 6 + squeezed_below (outside / 64) (set / 64) 6 * 2 ^ number_outside outside 6 =
+    squeezed-next outside set 1
+    ∙ ap₂ (λ o s. squeezed_below outside set 6 + squeezed_below o s 6 * 2 ^ number_outside outside 6) o_next s_next in
+    sym (numbers_end outside set 8 4 s_low)
+    ∙ second
+    ∙ ap₂ (λ a k. a + squeezed_below (outside / 64) (set / 64) 6 * 2 ^ k) first number
+
+pub ring_small : (outside set : ℕ) → squeezed_below outside set 8 < 256
+ring_small outside set =
+    omega (
+      arith,
+      squeezed_lt outside set 8,
+      pow-le-pow_right {n = 2} (omega arith) {i = number_outside outside 8} {j = 8} (omega (arith, number-count outside 8)),
+    )
+
+-- what the code adds up
+pub ring_sum : (outside set lower upper size : ℕ) → outside < 256 → set < 256 → lower ≡ squeezed_below (outside % 64) (set % 64) 6
+    → upper ≡ squeezed_below (outside / 64) (set / 64) 6 → size ≡ count_below (has (outside % 64)) 6
+    → lower + upper * 2 ^ (6 - size) % 4294967296 ≡ squeezed_below outside set 8
+ring_sum outside set lower upper size o_low s_low lower_is upper_is size_is =
+    let product : upper * 2 ^ (6 - size) ≡ squeezed_below (outside / 64) (set / 64) 6 * 2 ^ (6 - count_below (has (outside % 64)) 6) =
+    ap₂ (λ a k. a * 2 ^ (6 - k)) upper_is size_is in
+    let whole = squeezed-ring outside set o_low s_low in
+    let kept : upper * 2 ^ (6 - size) % 4294967296 ≡ upper * 2 ^ (6 - size) = mod-eq_of_lt (omega (arith, product, whole, ring_small outside set)) in
+    omega (arith, kept, product, whole, lower_is)
+
+-- ---- the three rings of a board
+
+module _ (outside set : ℕ) where
+  abbrev ring_of : ℕ → ℕ → ℕ
+  ring_of x start = x / 2 ^ start % 256
+
+  pub squeezed-further : (start : ℕ) → squeezed_below outside set (start + 8)
+      ≡ squeezed_below outside set start + squeezed_below (ring_of outside start) (ring_of set start) 8 * 2 ^ number_outside outside start
+  squeezed-further start =
+      squeezed-part outside (ring_of outside start) start 8 (has-part outside start 8) set (ring_of set start) (has-part set start 8) 8 (omega arith)
+
+  pub squeezed-rings : set < 2 ^ 24 → squeezed_below outside set 24
+      ≡ squeezed_below (outside % 256) (set % 256) 8
+      + squeezed_below (outside / 256 % 256) (set / 256 % 256) 8 * 2 ^ number_outside outside 8
+      + squeezed_below (outside / 65536 % 256) (set / 65536) 8 * 2 ^ number_outside outside 16
+  squeezed-rings within =
+      let o_first : ring_of outside 0 ≡ outside % 256 = omega arith in
+      let s_first : ring_of set 0 ≡ set % 256 = omega arith in
+      let s_last : ring_of set 16 ≡ set / 65536 = mod-eq_of_lt (omega arith) in
+      let first : squeezed_below outside set 8 ≡ squeezed_below (outside % 256) (set % 256) 8 =
+      omega (
+        arith,
+        squeezed-further 0,
+        mask-none outside set,
+        ap (λ k. squeezed_below (ring_of outside 0) (ring_of set 0) 8 * 2 ^ k) (number-zero outside),
+        ap₂ (λ o s. squeezed_below o s 8) o_first s_first,
+      ) in
+      let last : squeezed_below (ring_of outside 16) (ring_of set 16) 8 * 2 ^ number_outside outside 16
+      ≡ squeezed_below (outside / 65536 % 256) (set / 65536) 8 * 2 ^ number_outside outside 16 =
+      ap (λ s. squeezed_below (ring_of outside 16) s 8 * 2 ^ number_outside outside 16) s_last in
+      omega (arith, squeezed-further 16, squeezed-further 8, first, last)
+
+  -- what the rings add up to fits a mask, however far they are summed
+  pub rings_fit : set < 2 ^ 24 → squeezed_below outside set 24 < 2 ^ 24
+  rings_fit within =
+      omega (
+        arith,
+        squeezed_lt outside set 24,
+        pow-le-pow_right {n = 2} (omega arith) {i = number_outside outside 24} {j = 24} (omega (arith, number-count outside 24)),
+      )
+
+-- what the code adds up
+module _ (outside set first second third n m : ℕ) (within : set < 2 ^ 24) (first_is : first ≡ squeezed_below (outside % 256) (set % 256) 8)
+    (second_is : second ≡ squeezed_below (outside / 256 % 256) (set / 256 % 256) 8) (third_is : third ≡ squeezed_below (outside / 65536 % 256) (set / 65536) 8)
+    (n_is : n ≡ number_outside outside 8) (m_is : m ≡ number_outside outside 16) where
+  second_part : second * 2 ^ n ≡ squeezed_below (outside / 256 % 256) (set / 256 % 256) 8 * 2 ^ number_outside outside 8
+  second_part = ap₂ (λ a k. a * 2 ^ k) second_is n_is
+
+  third_part : third * 2 ^ m ≡ squeezed_below (outside / 65536 % 256) (set / 65536) 8 * 2 ^ number_outside outside 16
+  third_part = ap₂ (λ a k. a * 2 ^ k) third_is m_is
+
+  second_kept : second * 2 ^ n % 4294967296 ≡ second * 2 ^ n
+  second_kept = mod-eq_of_lt (omega (arith, squeezed-rings outside set within, rings_fit outside set within, second_part))
+
+  third_kept : third * 2 ^ m % 4294967296 ≡ third * 2 ^ m
+  third_kept = mod-eq_of_lt (omega (arith, squeezed-rings outside set within, rings_fit outside set within, third_part))
+
+  pub rings_sum : first + second * 2 ^ n % 4294967296 + third * 2 ^ m % 4294967296 ≡ squeezed_below outside set 24
+  rings_sum = omega (arith, squeezed-rings outside set within, first_is, second_part, third_part, second_kept, third_kept)
+
+  pub rings_low : first + second * 2 ^ n % 4294967296 + third * 2 ^ m % 4294967296 < 2 ^ 24
+  rings_low = omega (arith, rings_sum, rings_fit outside set within)
