@@ -232,6 +232,9 @@ module _ (board : Shape) (n : ℕ) (few : n ≤ 24) (points : board.points ≡ n
             ap (λ o. has o p) (sym (carried_own before before_here t carrying_low leading_too))
             ∙ other_apart n (omega arith) _ (carried_placed before before_here t carrying_low leading_too) p y
 
+        pub image_count : count_of (image_of (board.image t) s.own) ≡ count_of s.own
+        image_count = other_same before before_here t carrying_low leading_too
+
         pub image_few : count_of (image_of (board.image t) s.own) ≤ 9
         image_few = omega (arith, other_same before before_here t carrying_low leading_too, own_most)
 

@@ -42,7 +42,7 @@ pub(crate) fn class_half_index<B: Geometry>(
     let other = position.other().count();
     let (start, symmetry) = class_half_start(classes, position.own(), other);
     let led = position.image(symmetry);
-    start + ranks.rank_outside(led.other(), Outside::of(led.own()))
+    start + ranks.rank_outside(led.other(), other, Outside::of(led.own()))
 }
 
 /// The number of the first entry in which the player to move stands on the representative of the

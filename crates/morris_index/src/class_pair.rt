@@ -210,14 +210,16 @@ impl<B: Geometry> ClassPair<B> {
         }
     }
 
-    /// The rank of `set` among the sets of as many points that have none in common with `outside`.
-    pub(crate) fn rank_outside(&self, set: Points, outside: Outside) -> u64
+    /// The rank of `set` among the sets of as many points, which are `count`, that have none in
+    /// common with `outside`.
+    pub(crate) fn rank_outside(&self, set: Points, count: u8, outside: Outside) -> u64
         requires board { set < 2 ^ 24 }
+        requires counted { count ≡ count_of set }
         requires few { count_of set ≤ 9 }
         requires apart { (p : ℕ) → has set p ≡ true → has outside p ≡ false }
         ensures { result ≡ rank_of (map (number_outside outside) (members set)) }
     {
-        self.ranks.rank_outside(set, outside)
+        self.ranks.rank_outside(set, count, outside)
     }
 
     /// The images of `own`, and the symmetries whose inverse is the one that leads the image.

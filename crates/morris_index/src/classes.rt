@@ -119,7 +119,7 @@ impl<B: Geometry> Classes<B> {
         ensures representative { result.1 ≡ representative_of B.shape set }
         ensures symmetries { AreLeading B.shape set result.2 }
     {
-        let lead = self.kept.leads[ranks.rank(set) as usize];
+        let lead = self.kept.leads[ranks.rank(set, self.count) as usize];
         let symmetries = Points::from_mask(lead.leading);
         (lead.class, self.outside_of(lead.class), symmetries)
     }

@@ -208,10 +208,9 @@ impl<'a, B: Geometry> Facing<'a, B> {
         // The proof learns the rules of a position where its stones are read.
         let _ = position.own();
         let faced = from.image(symmetry);
-        let entry = start
-            + self
-                .pair
-                .rank_outside(faced.other(), Outside::of(faced.own()));
+        let other = faced.other();
+        let place = Outside::of(faced.own());
+        let entry = start + self.pair.rank_outside(other, other.count(), place);
         Faced {
             after: SuccessorEntries::led_by(
                 self.pair,

@@ -20,6 +20,8 @@ pub struct PredecessorEntries<'a, B: Geometry> {
     pair: &'a ClassPair<B>,
     /// The position.
     position: Position<B>,
+    /// How many stones the player to move has.
+    count: u8,
     /// The images of the stones of the player to move, and the symmetries whose inverse is the one
     /// that leads the image under them.
     returning: Returning,
@@ -27,13 +29,15 @@ pub struct PredecessorEntries<'a, B: Geometry> {
 
 impl<'a, B: Geometry> Model for PredecessorEntries<'a, B> {
     ghost use Rattle.morris_index.specs.Moves.{InPair, in_pair};
+    ghost use Rattle.std.specs.Prelude.{◌≡◌};
+    ghost use Rattle.morris_board.specs.Sets.{count_of};
     ghost use Rattle.morris_index.specs.Carried.{IsCarriedBack};
 
     ghost Value = { InPair };
 
     ghost view = { λ entries. in_pair entries.pair.now entries.position };
 
-    ghost invariant = { λ entries. IsCarriedBack B.shape (in_pair entries.pair.now entries.position) entries.returning };
+    ghost invariant = { λ entries. IsCarriedBack B.shape (in_pair entries.pair.now entries.position) entries.returning × (entries.count ≡ count_of entries.position.own) };
 }
 
 impl<'a, B: Geometry> PredecessorEntries<'a, B> {
@@ -46,6 +50,7 @@ impl<'a, B: Geometry> PredecessorEntries<'a, B> {
         PredecessorEntries {
             pair,
             position: *position,
+            count: position.own().count(),
             returning,
         }
     }
@@ -72,7 +77,7 @@ impl<'a, B: Geometry> PredecessorEntries<'a, B> {
         let carrying = leading.common(self.returning.symmetries);
         for symmetry in carrying.iter() {
             let image = self.returning.image(symmetry);
-            out.push(start + self.pair.rank_outside(image, representative))?;
+            out.push(start + self.pair.rank_outside(image, self.count, representative))?;
         }
         Ok(())
     }

@@ -74,25 +74,28 @@ impl RankTable {
         })
     }
 
-    /// The rank of `set` among the sets of as many points.
-    pub(crate) fn rank(&self, set: Points) -> u64
+    /// The rank of `set` among the sets of as many points, which are `count`.
+    pub(crate) fn rank(&self, set: Points, count: u8) -> u64
         requires board { set < 2 ^ 24 }
+        requires counted { count ≡ count_of set }
         requires few { count_of set ≤ 9 }
         ensures { result ≡ rank_of (map (number_outside 0) (members set)) }
     {
         let lower = set.mask() % 4096;
         let upper = set.mask() / 4096;
-        let row = 1 + u32::from(set.count());
+        let row = 1 + u32::from(count);
         u64::from(self.sums[lower as usize]) + u64::from(self.sums[(row * 4096 + upper) as usize])
     }
 
-    /// The rank of `set` among the sets of as many points that have none in common with `outside`.
-    pub(crate) fn rank_outside(&self, set: Points, outside: Outside) -> u64
+    /// The rank of `set` among the sets of as many points, which are `count`, that have none in
+    /// common with `outside`.
+    pub(crate) fn rank_outside(&self, set: Points, count: u8, outside: Outside) -> u64
         requires board { set < 2 ^ 24 }
+        requires counted { count ≡ count_of set }
         requires few { count_of set ≤ 9 }
         requires apart { (p : ℕ) → has set p ≡ true → has outside p ≡ false }
         ensures { result ≡ rank_of (map (number_outside outside) (members set)) }
     {
-        self.rank(self.rings.squeezed(set, outside))
+        self.rank(self.rings.squeezed(set, outside), count)
     }
 }

@@ -113,6 +113,6 @@ impl<B: Geometry> ClassPair<B> {
             second: standing.second,
             third: standing.third,
         };
-        standing.start + self.rank_outside(image, place)
+        standing.start + self.rank_outside(image, image.count(), place)
     }
 }

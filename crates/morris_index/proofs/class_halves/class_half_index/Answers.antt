@@ -1,12 +1,13 @@
-use Rattle.std.proofs.Common.{◌≡◌, ◌<◌, ◌∙◌, ◌^◌, ap, ap₂, subst, arith, map}
+use Rattle.std.proofs.Common.{◌≡◌, ◌<◌, ◌∙◌, ◌^◌, sym, ap, ap₂, subst, arith, map}
 use Rattle.morris_board.specs.Sets.{members, count_of}
+use Rattle.morris_board.specs.Positions.{Sides}
 use Rattle.morris_board.specs.Symmetries.{image_sides}
 use Rattle.morris_index.specs.Numbering.{rank_of, number_outside}
 use Rattle.morris_index.specs.Classes.{class_of, symmetry_of}
 use Rattle.morris_index.specs.ClassPairs.{led}
 use Rattle.morris_index.specs.ClassMoves.{class_half_start}
 use Rattle.morris_index.proofs.IndexLaws.{placed, within_24, other_apart}
-use Rattle.morris_index.proofs.ClassPairLaws.{class_below, class_index-lt, class_index-is, class_index-small}
+use Rattle.morris_index.proofs.ClassPairLaws.{led_other_count, class_below, class_index-lt, class_index-is, class_index-small}
 use Rattle.morris_index.proofs.class_halves.class_half_index.Goals as goal
 
 pub rank_outside-requires-clause-board : goal.rank_outside-requires-clause-board
@@ -19,6 +20,16 @@ pub rank_outside-requires-clause-apart : goal.rank_outside-requires-clause-apart
 rank_outside-requires-clause-apart g c =
     rw (c.other-2.ensures.points, c.of.ensures, c.own-2.ensures.points)
     (other_apart g.B.Geometry.POINTS (omega (arith, g.met.B.Geometry.few)) c.image-led.result (placed g.B.Geometry.shape g.B.Geometry.POINTS c.image-led.result g.met.B.Geometry.point_count c.image-led.ensures.lawful))
+
+pub rank_outside-requires-clause-counted : goal.rank_outside-requires-clause-counted
+unfolding led
+rank_outside-requires-clause-counted g c =
+    let led_is : c.image-led.result ≡ led g.B.Geometry.shape c.args.position.now =
+    c.image-led.ensures.image
+    ∙ ap (λ s. image_sides (g.B.Geometry.shape.image s) c.args.position.now) (c.class_half_start-start.ensures.symmetry ∙ ap (symmetry_of g.B.Geometry.shape) c.own.ensures.points) in
+    c.count-other.ensures.value
+    ∙ ap count_of c.other.ensures.points
+    ∙ sym (ap count_of c.other-2.ensures.points ∙ ap (λ (s : Sides). count_of s.other) led_is ∙ led_other_count g.B.Geometry.shape g.B.Geometry.POINTS (omega (arith, g.met.B.Geometry.few)) g.met.B.Geometry.point_count g.met.B.Geometry.has_symmetries c.args.position.now c.own.ensures.lawful)
 
 pub returns-clause-value : goal.returns-clause-value
 unfolding led

@@ -10,6 +10,9 @@ rank-requires-clause-board g c = within_24 c.args.set g.B.Geometry.POINTS c.requ
 pub rank-requires-clause-few : goal.rank-requires-clause-few
 rank-requires-clause-few g c = omega (arith, c.requires.count, c.self.view_is, c.self.invariant.few)
 
+pub rank-requires-clause-counted : goal.rank-requires-clause-counted
+rank-requires-clause-counted g c = sym (c.requires.count ∙ sym c.self.view_is)
+
 pub index-lead-requires : goal.index-lead-requires
 index-lead-requires g c =
     omega (arith, lead_in g.B.Geometry.shape g.B.Geometry.POINTS c.self.inside.count (omega (arith, g.met.B.Geometry.few)) g.met.B.Geometry.point_count g.met.B.Geometry.has_symmetries c.self.inside.kept.leads.items c.self.inside.kept.representatives.items c.self.invariant c.args.set c.rank.result c.requires.within (c.requires.count ∙ sym c.self.view_is) c.rank.ensures)

@@ -20,7 +20,7 @@ rank_outside-requires-clause-board g c =
     let s_in : c.args.symmetry < board.symmetries = omega (arith, c.requires.symmetry, g.met.B.Geometry.symmetry_count) in
     let faced_is : c.image-faced.result ≡ image_sides (board.image c.args.symmetry) (turned p) =
     c.image-faced.ensures.image ∙ ap (image_sides (board.image c.args.symmetry)) c.requires.from in
-    rw (c.other.ensures.points, faced_is) (faced_24 board g.B.Geometry.POINTS few g.met.B.Geometry.point_count g.met.B.Geometry.has_symmetries c.self.inside.pair.now c.self.invariant.pair p c.own.ensures.lawful of c.requires.own c.args.symmetry s_in c.requires.carries)
+    rw (c.other-other.ensures.points, faced_is) (faced_24 board g.B.Geometry.POINTS few g.met.B.Geometry.point_count g.met.B.Geometry.has_symmetries c.self.inside.pair.now c.self.invariant.pair p c.own.ensures.lawful of c.requires.own c.args.symmetry s_in c.requires.carries)
 
 pub overflow_add-entry : goal.overflow_add-entry
 overflow_add-entry g c =
@@ -31,7 +31,7 @@ overflow_add-entry g c =
     let s_in : c.args.symmetry < board.symmetries = omega (arith, c.requires.symmetry, g.met.B.Geometry.symmetry_count) in
     let faced_is : c.image-faced.result ≡ image_sides (board.image c.args.symmetry) (turned p) =
     c.image-faced.ensures.image ∙ ap (image_sides (board.image c.args.symmetry)) c.requires.from in
-    rw (c.rank_outside.ensures, c.other.ensures.points, c.of.ensures, c.own-2.ensures.points, faced_is)
+    rw (c.rank_outside.ensures, c.other-other.ensures.points, c.of-place.ensures, c.own-2.ensures.points, faced_is)
     (omega (arith, c.requires.few, faced_few board g.B.Geometry.POINTS few g.met.B.Geometry.point_count g.met.B.Geometry.has_symmetries c.self.inside.pair.now c.self.invariant.pair p c.own.ensures.lawful of c.requires.own c.args.symmetry s_in c.requires.carries))
 
 pub led_by-requires : goal.led_by-requires
@@ -62,7 +62,7 @@ invariant_of-result g c =
     let start : c.args.start ≡ class_start_of board g.B.Geometry.POINTS c.self.inside.pair.now p.other (count_of p.own) =
     subst (λ (q : InPair). c.args.start ≡ class_start_of board g.B.Geometry.POINTS q.pair p.other (count_of p.own)) (sym c.self.view_is) c.requires.start in
     let entry : c.args.start + c.rank_outside.result ≡ class_index_of board g.B.Geometry.POINTS c.self.inside.pair.now (image_sides (board.image c.args.symmetry) (turned p)) =
-    rw (c.rank_outside.ensures, c.other.ensures.points, c.of.ensures, c.own-2.ensures.points, faced_is, start) (faced_entry board g.B.Geometry.POINTS few g.met.B.Geometry.point_count g.met.B.Geometry.has_symmetries c.self.inside.pair.now c.self.invariant.pair p c.own.ensures.lawful of c.requires.own c.args.symmetry s_in c.requires.carries) in
+    rw (c.rank_outside.ensures, c.other-other.ensures.points, c.of-place.ensures, c.own-2.ensures.points, faced_is, start) (faced_entry board g.B.Geometry.POINTS few g.met.B.Geometry.point_count g.met.B.Geometry.has_symmetries c.self.inside.pair.now c.self.invariant.pair p c.own.ensures.lawful of c.requires.own c.args.symmetry s_in c.requires.carries) in
     subst (λ q. IsFaced board g.B.Geometry.POINTS q (c.args.start + c.rank_outside.result))
     (sym (c.led_by.ensures ∙ ap (in_pair c.self.inside.pair.now) faced_is))
     (is_faced board g.B.Geometry.POINTS few g.met.B.Geometry.point_count g.met.B.Geometry.has_symmetries c.self.inside.pair.now c.self.invariant.pair p c.own.ensures.lawful of c.requires.own c.args.symmetry s_in c.requires.carries (c.args.start + c.rank_outside.result) entry)

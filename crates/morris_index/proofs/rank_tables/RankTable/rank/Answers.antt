@@ -10,7 +10,7 @@ use Rattle.morris_index.proofs.rank_tables.RankTable.rank.Goals as goal
 
 pub index-requires-2 : goal.index-requires-2
 index-requires-2 c =
-    omega (arith, c.from-row.ensures, c.count.ensures.value, c.mask-upper.ensures, c.requires.board, c.requires.few, c.args.self.now.full.len)
+    omega (arith, c.from-row.ensures, c.requires.counted, c.mask-upper.ensures, c.requires.board, c.requires.few, c.args.self.now.full.len)
 
 pub returns : goal.returns
 returns c =
@@ -19,7 +19,7 @@ returns c =
     let both = count-halves c.args.set c.requires.board c.requires.few in
     let low : c.mask-lower.result % 4096 ≡ c.args.set % 4096 = ap (λ m. m % 4096) c.mask-lower.ensures in
     let at : (1 + c.from-row.result) * 4096 + c.mask-upper.result / 4096 ≡ (1 + count_of c.args.set) * 4096 + c.args.set / 4096 =
-    ap₂ (λ p m. (1 + p) * 4096 + m / 4096) (c.from-row.ensures ∙ c.count.ensures.value) c.mask-upper.ensures in
+    ap₂ (λ p m. (1 + p) * 4096 + m / 4096) (c.from-row.ensures ∙ c.requires.counted) c.mask-upper.ensures in
     let place : count_of c.args.set - count_below (has (c.args.set / 4096)) 12 ≡ count_below (has c.args.set) 12 = omega (arith, both) in
     let lower : c.index.result.now ≡ part_rank 0 12 0 (c.args.set % 4096) =
     c.index.ensures
