@@ -1,33 +1,33 @@
 -- The captures of a position, from what is kept of its own stones.
-use Rattle.std.proofs.Common.{◌≡◌, ℕ, zero, suc, ◌<◌, ◌≤◌, ◌^◌, true, false, Bool, not, ◌&&◌, cond, ltb, eqb, List, [], ◌∷◌, ◌++◌, length, map, Option, Some, None, is_none, filter, refl, sym, ap, ap₂, subst, ◌∙◌, inl, inr, arith, append_assoc}
+use Rattle.std.proofs.Common.{◌≡◌, ℕ, ◌<◌, ◌≤◌, ◌^◌, true, false, not, ◌&&◌, ltb, eqb, List, [], ◌∷◌, ◌++◌, length, map, slice_index, Option, Some, None, is_none, filter, refl, sym, ap, subst, ◌∙◌, inl, inr, arith, append_assoc}
 use Rattle.std.proofs.lemmas.Bool.{cases_Bool, cases_eq, both_ways, lt-ltb, and_parts, and_from, ltb-true, eqb-false, not-true, false_from_ne_true}
 use Rattle.std.proofs.lemmas.List.{flat_map_more, map-append, append-nil}
-use Rattle.std.proofs.lemmas.List.Elements.{filter-append}
 use Rattle.std.specs.List.{Contains, flat_map, list_any}
 use Rattle.morris_board.specs.Sets.{has, members, count_of}
 use Rattle.morris_board.specs.Boards.{Shape}
 use Rattle.morris_board.specs.Positions.{Sides, IsPosition}
 use Rattle.morris_board.proofs.PointsLaws.{has-none, first_is, members-none}
 use Rattle.morris_moves.specs.declared.step.Move.{Move}
-use Rattle.morris_moves.specs.Rules.{closes, goes, reach, is_vacant, takable, free_stones, is_legal, move, moves_to, moves_from, moves_of, result_of, takes_rightly}
-use Rattle.morris_moves.proofs.MaskLaws.{reach-lt}
-use Rattle.morris_moves.proofs.ListLaws.{any_contained, contained_any, Contains-head, Contains-tail}
+use Rattle.morris_moves.specs.Rules.{closes, goes, reach, is_vacant, takable, free_stones, is_legal, move, moves_of, result_of, takes_rightly}
+use Rattle.morris_moves.proofs.ListLaws.{any_contained, contained_any, Contains-head, Contains-tail, Contains-map, Contains-map_cases, Contains-flat_map, Contains-flat_map_cases}
 use Rattle.morris_moves.proofs.LegalLaws.{reached, takable_is_other, listed_is_legal, legal_is_listed, listed_move}
 use Rattle.morris_moves.proofs.ResultLaws.{count_of-capture}
 use Rattle.morris_moves.proofs.SetLaws.{point_lt, lt_from_points, has-member, member-has}
 use Rattle.morris_index.proofs.PairLaws.{other_count}
-use Rattle.morris_index.proofs.RankLaws.{passing, passing-yes, passing-no, members-passing}
 use Rattle.morris_wave.specs.declared.network.Exits.{Exits}
 use Rattle.morris_wave.specs.Exits.{exits_of, no_exits, least, greatest, depths, is_odd, is_won_code}
 use Rattle.morris_table.specs.declared.rows.Row.{Row}
 use Rattle.morris_table.specs.Codes.{IsCodeOf, code_to}
 use Rattle.morris_table.specs.PairNets.{is_capture, capture_codes}
 use Rattle.morris_table.specs.Graphs.{exits_by}
-use Rattle.morris_table.specs.Rows.{may_close, IsRow}
+use Rattle.morris_table.specs.Rows.{may_close, is_closing_end, IsRow}
+use Rattle.morris_table.specs.Captured.{IsClosing, captures_at, captures_to}
+use Rattle.morris_table.specs.FilterLaws.{filter-contains, contained-filter}
+use Rattle.morris_table.proofs.SummaryLaws.{IsAmong, images_among, exits_of-same}
 use Rattle.morris_table.specs.NetLaws.{is_none-false}
 use Rattle.morris_wave.specs.Summaries.{added}
 use Rattle.morris_table.proofs.CodeLaws.{code_of_stuck, code_to-is}
-use Rattle.morris_table.proofs.GraphLaws.{exits_by-quiet, exits_by-capture, exits_by-all}
+use Rattle.morris_table.proofs.GraphLaws.{exits_by-capture}
 use Rattle.morris_table.proofs.RowLaws.{has_reach, may_close-all}
 
 -- ---- a capture is legal
@@ -37,12 +37,7 @@ pub capture_is_legal : (b : Shape) (s : Sides) (u v t : ℕ) → has s.own u ≡
 unfolding is_legal
 capture_is_legal b s u v t own goes shuts takes = and_from _ _ own (and_from _ _ goes (and_from _ _ shuts takes))
 
-record IsCapture (b : Shape) (s : Sides) (u v : ℕ) : Type 0 where
-  own : has s.own u ≡ true
-  goes : has (reach b s u) v ≡ true
-  shuts : closes b s.own u v ≡ true
-
-legal_capture : (b : Shape) (s : Sides) (m : Move) → is_legal b s m ≡ true → is_capture m ≡ true → IsCapture b s m.from m.to
+legal_capture : (b : Shape) (s : Sides) (m : Move) → is_legal b s m ≡ true → is_capture m ≡ true → IsClosing b s m.from m.to
 unfolding is_legal
 legal_capture b s m legal takes =
     let parts = and_parts (has s.own m.from) (has (reach b s m.from) m.to && takes_rightly b s m.from m.to m.taken) legal in
@@ -52,6 +47,14 @@ legal_capture b s m legal takes =
     at : (o : Option ℕ) → not (is_none o) ≡ true → takes_rightly b s m.from m.to o ≡ true → closes b s.own m.from m.to ≡ true
     at None e h = absurd (both_ways false refl e)
     at (Some t) e h = (and_parts (closes b s.own m.from m.to) (has (takable b s.other) t) h).0
+
+legal_takes : (b : Shape) (s : Sides) (m : Move) (t : ℕ) → m.taken ≡ Some t → is_legal b s m ≡ true → has (takable b s.other) t ≡ true
+unfolding is_legal
+legal_takes b s m t e legal =
+    let parts = and_parts (has s.own m.from) (has (reach b s m.from) m.to && takes_rightly b s m.from m.to m.taken) legal in
+    let more = and_parts (has (reach b s m.from) m.to) (takes_rightly b s m.from m.to m.taken) parts.1 in
+    let rightly : takes_rightly b s m.from m.to (Some t) ≡ true = subst (λ o. takes_rightly b s m.from m.to o ≡ true) e more.1 in
+    (and_parts (closes b s.own m.from m.to) (has (takable b s.other) t) rightly).1
 
 -- ---- some stone may be taken
 
@@ -78,27 +81,15 @@ pub takable-lt : (b : Shape) (s : Sides) → b.points ≤ 24 → IsPosition b s 
 takable-lt b s few h = lt_from_points (takable b s.other) 32 (λ p here.
     omega (arith, point_lt s.other b.points p h.stones.other_within (takable_is_other b s.other p here)))
 
--- ---- two sets of points with the same captures
-
-captures_passing : (f g : ℕ → Bool) (h : ℕ → List Move) → ((v : ℕ) → cond (f v) (filter is_capture (h v)) [] ≡ cond (g v) (filter is_capture (h v)) [])
-    → (n : ℕ) → filter is_capture (flat_map h (passing f n)) ≡ filter is_capture (flat_map h (passing g n))
-captures_passing f g h same zero = refl
-captures_passing f g h same (suc n) = one_more f n ∙ (ap₂ (λ (xs ys : List Move). xs ++ ys) (captures_passing f g h same n) (same n) ∙ sym (one_more g n))
-  where
-    one_more : (f : ℕ → Bool) (n : ℕ) → filter is_capture (flat_map h (passing f (suc n)))
-        ≡ filter is_capture (flat_map h (passing f n)) ++ cond (f n) (filter is_capture (h n)) []
-    one_more f n = elim (cases_Bool (f n)) [
-      | inl y ↦
-          ap (λ xs. filter is_capture (flat_map h xs)) (passing-yes f n y)
-          ∙ (ap (filter is_capture) (sym (flat_map_more h [] (passing f n) n)) ∙ rw y (filter-append is_capture (flat_map h (passing f n)) (h n)))
-      | inr y ↦ ap (λ xs. filter is_capture (flat_map h xs)) (passing-no f n y) ∙ rw y (sym (append-nil _))
-    ]
+-- the captures that are kept: by the stone that is taken, then by the point that the move goes to
+abbrev pub kept_captures : Row → ℕ → List ℕ → List Move
+kept_captures row ends ts = flat_map (λ t. captures_to row.closers t (members ends)) ts
 
 -- ---- the points at which a mill may be closed
 
 module _ (b : Shape) (n : ℕ) (points : b.points ≡ n) (low : n ≤ 24) (s : Sides) (lawful : IsPosition b s) (row : Row) (own : row.own ≡ s.own) (is : IsRow b n row) where
   -- where a stone closes a mill, one may
-  opens : (u v : ℕ) → IsCapture b s u v → (has row.closing v ≡ true) × (has s.other v ≡ false)
+  opens : (u v : ℕ) → IsClosing b s u v → (has row.closing v ≡ true) × (has s.other v ≡ false)
   opens u v h =
       let reachable = reached b s u v h.goes in
       let inside : v < n = omega (arith, reachable.within, points) in
@@ -111,7 +102,7 @@ module _ (b : Shape) (n : ℕ) (points : b.points ≡ n) (low : n ≤ 24) (s : S
 
   record Closer (v : ℕ) : Type 0 where
     from : ℕ
-    capture : IsCapture b s from v
+    capture : IsClosing b s from v
 
   closer : (v : ℕ) → has row.closing v ≡ true → has s.other v ≡ false → Closer v
   unfolding may_close
@@ -164,43 +155,86 @@ module _ (b : Shape) (n : ℕ) (points : b.points ≡ n) (low : n ≤ 24) (s : S
         let here : has open_ v.0 ≡ true = each v.0 ∙ and_from _ _ v.1 (ap not v.2) in
         both_ways (has open_ v.0) (ap (λ t. has t v.0) none ∙ has-none v.0) here))
 
-  -- a point at which no mill may be closed adds no capture
-  shut : (u v : ℕ) → has s.own u ≡ true → has (reach b s u) v ≡ true → has row.closing v ≡ false → filter is_capture (moves_to b s u v) ≡ []
-  unfolding moves_to
-  shut u v here goes none =
-      let open_ : closes b s.own u v ≡ false = false_from_ne_true (closes b s.own u v) (λ e.
-      both_ways (has row.closing v) none (opens u v (record { own = here; goes = goes; shuts = e })).0) in
-      rw open_ refl
+  -- ---- the captures that are kept
 
-  pub ends_suffice : (u ends : ℕ) → has s.own u ≡ true → ends < 2 ^ n → ((v : ℕ) → has ends v ≡ (has (reach b s u) v && has row.closing v))
-      → filter is_capture (flat_map (moves_to b s u) (members ends)) ≡ filter is_capture (moves_from b s u)
-  unfolding moves_from
-  ends_suffice u ends here small each =
-      ap (λ vs. filter is_capture (flat_map (moves_to b s u) vs)) (members-passing ends n small (omega arith))
-      ∙ (captures_passing (has ends) (has (reach b s u)) (moves_to b s u) same n
-      ∙ ap (λ vs. filter is_capture (flat_map (moves_to b s u) vs))
-      (sym (members-passing (reach b s u) n (reach-lt b n points s u (reach b s u) refl) (omega arith))))
-    where
-      same : (v : ℕ) → cond (has ends v) (filter is_capture (moves_to b s u v)) [] ≡ cond (has (reach b s u) v) (filter is_capture (moves_to b s u v)) []
-      same v = elim (cases_Bool (has (reach b s u) v)) [
-        | inl goes ↦ elim (cases_Bool (has row.closing v)) [
-          | inl open_ ↦ rw (each v, goes, open_) refl
-          | inr none ↦ rw (each v, goes, none) (sym (shut u v here goes none))
-        ]
-        | inr stays ↦ rw (each v, stays) refl
-      ]
+  closer_is : (u v : ℕ) → v < n → has (slice_index row.closers v) u ≡ (has s.own u && is_closing_end b s.own u v)
+  closer_is u v h = is.closers v h u ∙ ap (λ o. has o u && is_closing_end b o u v) own
+
+  pub closers_close : (u v : ℕ) → has row.closing v ≡ true → has s.other v ≡ false → has (slice_index row.closers v) u ≡ true → IsClosing b s u v
+  unfolding is_closing_end
+  closers_close u v closing free here =
+      let inside : v < n = ltb-true v n (and_parts (ltb v n) (may_close b row.own v) (sym (is.closing v) ∙ closing)).0 in
+      let parts = and_parts (has s.own u) (is_closing_end b s.own u v) (sym (closer_is u v inside) ∙ here) in
+      let more = and_parts (not (has s.own v)) (goes b (count_of s.own) u v && closes b s.own u v) parts.1 in
+      let both = and_parts (goes b (count_of s.own) u v) (closes b s.own u v) more.1 in
+      let vacant : is_vacant s v ≡ true = rw (not-true (has s.own v) more.0, free) refl in
+      record {
+        own = parts.0;
+        goes = has_reach b s n points (omega arith) u v inside ∙ and_from _ _ vacant both.0;
+        shuts = both.1;
+      }
+
+  closing_kept : (u v : ℕ) → IsClosing b s u v → has (slice_index row.closers v) u ≡ true
+  unfolding is_closing_end
+  closing_kept u v h =
+      let reachable = reached b s u v h.goes in
+      let inside : v < n = omega (arith, reachable.within, points) in
+      let parts = and_parts (is_vacant s v) (goes b (count_of s.own) u v) (sym (has_reach b s n points (omega arith) u v inside) ∙ h.goes) in
+      closer_is u v inside ∙ and_from _ _ h.own (and_from _ _ (ap not reachable.not_own) (and_from _ _ parts.1 h.shuts))
+
+  module _ (ends : ℕ) (each : (v : ℕ) → has ends v ≡ (has row.closing v && not (has s.other v))) where
+    pub end_is : (v : ℕ) → has ends v ≡ true → (has row.closing v ≡ true) × (has s.other v ≡ false)
+    end_is v h =
+        let parts = and_parts (has row.closing v) (not (has s.other v)) (sym (each v) ∙ h) in
+        (parts.0, not-true (has s.other v) parts.1)
+
+    pub end_low : (v : ℕ) → has ends v ≡ true → v < n
+    end_low v h = ltb-true v n (and_parts (ltb v n) (may_close b row.own v) (sym (is.closing v) ∙ (end_is v h).0)).0
+
+    kept_legal : (m : Move) → Contains (kept_captures row ends (members (takable b s.other))) m → is_legal b s m ≡ true
+    kept_legal m c =
+        let of_taken = Contains-flat_map_cases (λ t. captures_to row.closers t (members ends)) (members (takable b s.other)) m c in
+        let to_end = Contains-flat_map_cases (λ v. captures_at of_taken.0 (slice_index row.closers v) v) (members ends) m of_taken.2 in
+        let by = Contains-map_cases (λ u. move u to_end.0 (Some of_taken.0)) (members (slice_index row.closers to_end.0)) m to_end.2 in
+        let end = end_is to_end.0 (has-member ends to_end.0 to_end.1) in
+        let closing = closers_close by.0 to_end.0 end.0 end.1 (has-member (slice_index row.closers to_end.0) by.0 by.1) in
+        subst (λ k. is_legal b s k ≡ true) by.2
+        (capture_is_legal b s by.0 to_end.0 of_taken.0 closing.own closing.goes closing.shuts (has-member (takable b s.other) of_taken.0 of_taken.1))
+
+    legal_kept : (m : Move) → is_legal b s m ≡ true → is_capture m ≡ true → Contains (kept_captures row ends (members (takable b s.other))) m
+    legal_kept m legal takes =
+        let closing = legal_capture b s m legal takes in
+        let end = opens m.from m.to closing in
+        let here : has ends m.to ≡ true = each m.to ∙ and_from _ _ end.0 (ap not end.1) in
+        let t = is_none-false m.taken (not-true (is_none m.taken) takes) in
+        let reachable = reached b s m.from m.to closing.goes in
+        let taken : has (takable b s.other) t.0 ≡ true = legal_takes b s m t.0 t.1 legal in
+        let same : move m.from m.to (Some t.0) ≡ m = ap (λ o. move m.from m.to o) (sym t.1) in
+        subst (Contains (kept_captures row ends (members (takable b s.other)))) same
+        (Contains-flat_map (λ t. captures_to row.closers t (members ends)) (members (takable b s.other)) t.0 _
+        (member-has (takable b s.other) t.0 (omega (arith, points, point_lt s.other b.points t.0 lawful.stones.other_within (takable_is_other b s.other t.0 taken))) taken)
+        (Contains-flat_map (λ v. captures_at t.0 (slice_index row.closers v) v) (members ends) m.to _
+        (member-has ends m.to (omega (arith, points, reachable.within)) here)
+        (Contains-map (λ u. move u m.to (Some t.0)) (members (slice_index row.closers m.to)) m.from
+        (member-has (slice_index row.closers m.to) m.from
+        (omega (arith, points, point_lt s.own b.points m.from lawful.stones.own_within closing.own)) (closing_kept m.from m.to closing)))))
+
+    -- their summary is that of all captures
+    pub kept_suffice : exits_by b s (kept_captures row ends (members (takable b s.other))) ≡ exits_of (capture_codes b s)
+    unfolding exits_by capture_codes
+    kept_suffice =
+        let code : Move → ℕ = λ m. code_to 65534 b (result_of s m) in
+        let kept = kept_captures row ends (members (takable b s.other)) in
+        let there : IsAmong (filter is_capture kept) (filter is_capture (moves_of b s)) = λ m c.
+        let at = filter-contains is_capture kept m c in
+        contained-filter is_capture (moves_of b s) m (legal_is_listed b s (omega (arith, points)) lawful.stones m (kept_legal m at.0)) at.1 in
+        let back : IsAmong (filter is_capture (moves_of b s)) (filter is_capture kept) = λ m c.
+        let at = filter-contains is_capture (moves_of b s) m c in
+        contained-filter is_capture kept m (legal_kept m (listed_is_legal b s (omega (arith, points)) lawful.stones m at.0) at.1) at.1 in
+        exits_of-same (map code (filter is_capture kept)) (map code (filter is_capture (moves_of b s)))
+        (images_among code _ _ there) (images_among code _ _ back)
 
 -- ---- a summary that goes on
-
-pub exits_by-same : (b : Shape) (s : Sides) (done ms ns : List Move) → filter is_capture ms ≡ filter is_capture ns
-    → exits_by b s (done ++ ms) ≡ exits_by b s (done ++ ns)
-unfolding exits_by
-exits_by-same b s done ms ns e =
-    ap (λ xs. exits_of (map (λ m. code_to 65534 b (result_of s m)) xs))
-    (filter-append is_capture done ms ∙ (ap (λ xs. filter is_capture done ++ xs) e ∙ sym (filter-append is_capture done ns)))
-
-abbrev pub to_ends : Shape → Sides → ℕ → List ℕ → List Move
-to_ends b s u vs = flat_map (moves_to b s u) vs
 
 module _ (b : Shape) (s : Sides) (known : Exits) where
   -- the summary `exits` goes on from `known` by the moves ms
@@ -210,47 +244,29 @@ module _ (b : Shape) (s : Sides) (known : Exits) where
   pub goes_none : GoesOn known []
   goes_none done e = e ∙ ap (exits_by b s) (sym (append-nil done))
 
-  pub goes_capture : (exits : Exits) (u v t code : ℕ) (ts : List ℕ) → GoesOn exits (map (λ x. move u v (Some x)) ts)
+  -- by the capture of a stone, one move more
+  pub goes_capture : (exits : Exits) (u v t code : ℕ) (us : List ℕ) → GoesOn exits (map (λ x. move x v (Some t)) us)
       → IsCodeOf b (result_of s (move u v (Some t))) code → code ≤ 65535
-      → GoesOn (added exits code) (map (λ x. move u v (Some x)) (ts ++ t ∷ []))
-  goes_capture exits u v t code ts before is few done e =
+      → GoesOn (added exits code) (map (λ x. move x v (Some t)) (us ++ u ∷ []))
+  goes_capture exits u v t code us before is few done e =
       ap (λ x. added x code) (before done e)
-      ∙ (sym (exits_by-capture b s (done ++ map (λ x. move u v (Some x)) ts) (move u v (Some t)) refl code is few)
-      ∙ ap (exits_by b s) (append_assoc done _ _ ∙ ap (λ xs. done ++ xs) (sym (map-append (λ x. move u v (Some x)) ts (t ∷ [])))))
+      ∙ (sym (exits_by-capture b s (done ++ map (λ x. move x v (Some t)) us) (move u v (Some t)) refl code is few)
+      ∙ ap (exits_by b s) (append_assoc done _ _ ∙ ap (λ xs. done ++ xs) (sym (map-append (λ x. move x v (Some t)) us (u ∷ [])))))
 
-  pub goes_all : (exits : Exits) (u v : ℕ) (ts : List ℕ) → closes b s.own u v ≡ true → ts ≡ members (takable b s.other)
-      → GoesOn exits (map (λ x. move u v (Some x)) ts) → GoesOn exits (moves_to b s u v)
-  unfolding moves_to
-  goes_all exits u v ts shuts all before = rw shuts (subst (λ xs. GoesOn exits (map (λ x. move u v (Some x)) xs)) all before)
-
-  pub goes_more : (exits new : Exits) (u v : ℕ) (vs : List ℕ) → GoesOn exits (to_ends b s u vs)
-      → ((done : List Move) → exits ≡ exits_by b s done → new ≡ exits_by b s (done ++ moves_to b s u v)) → GoesOn new (to_ends b s u (vs ++ v ∷ []))
-  goes_more exits new u v vs before step done e =
-      step (done ++ to_ends b s u vs) (before done e)
-      ∙ ap (exits_by b s) (append_assoc done _ _ ∙ ap (λ xs. done ++ xs) (flat_map_more (moves_to b s u) [] vs v))
-
-  pub goes_quiet : (exits : Exits) (u v : ℕ) (vs : List ℕ) → GoesOn exits (to_ends b s u vs) → closes b s.own u v ≡ false → GoesOn exits (to_ends b s u (vs ++ v ∷ []))
-  unfolding moves_to
-  goes_quiet exits u v vs before open_ = goes_more exits exits u v vs before (λ done e.
-      rw open_ (e ∙ sym (exits_by-quiet b s done (move u v None) refl)))
+  -- by the moves that f lists, one list more
+  pub goes_more : (f : ℕ → List Move) (exits new : Exits) (v : ℕ) (vs : List ℕ) → GoesOn exits (flat_map f vs)
+      → ((done : List Move) → exits ≡ exits_by b s done → new ≡ exits_by b s (done ++ f v)) → GoesOn new (flat_map f (vs ++ v ∷ []))
+  goes_more f exits new v vs before step done e =
+      step (done ++ flat_map f vs) (before done e)
+      ∙ ap (exits_by b s) (append_assoc done _ _ ∙ ap (λ xs. done ++ xs) (flat_map_more f [] vs v))
 
 -- from stone to stone
-module _ (b : Shape) (s : Sides) where
-  abbrev pub of_stones : List ℕ → List Move
-  of_stones us = flat_map (moves_from b s) us
-
-  pub from_more : (known exits : Exits) (u ends : ℕ) (us : List ℕ) → known ≡ exits_by b s (of_stones us)
-      → ((done : List Move) → known ≡ exits_by b s done → exits ≡ exits_by b s (done ++ flat_map (moves_to b s u) (members ends)))
-      → filter is_capture (flat_map (moves_to b s u) (members ends)) ≡ filter is_capture (moves_from b s u)
-      → exits ≡ exits_by b s (of_stones (us ++ u ∷ []))
-  from_more known exits u ends us before step same =
-      step (of_stones us) before
-      ∙ (exits_by-same b s (of_stones us) _ (moves_from b s u) same
-      ∙ ap (exits_by b s) (flat_map_more (moves_from b s) [] us u))
-
-  pub from_all : (exits : Exits) (us : List ℕ) → us ≡ members s.own → exits ≡ exits_by b s (of_stones us) → exits ≡ exits_of (capture_codes b s)
-  unfolding moves_of
-  from_all exits us all before = before ∙ (ap (λ xs. exits_by b s (of_stones xs)) all ∙ exits_by-all b s)
+pub kept_more : (b : Shape) (s : Sides) (known exits : Exits) (row : Row) (ends : ℕ) (ts : List ℕ) (t : ℕ) → known ≡ exits_by b s (kept_captures row ends ts)
+    → ((done : List Move) → known ≡ exits_by b s done → exits ≡ exits_by b s (done ++ captures_to row.closers t (members ends)))
+    → exits ≡ exits_by b s (kept_captures row ends (ts ++ t ∷ []))
+kept_more b s known exits row ends ts t before step =
+    step (kept_captures row ends ts) before
+    ∙ ap (exits_by b s) (flat_map_more (λ x. captures_to row.closers x (members ends)) [] ts t)
 
 -- ---- positions without captures, and those whose captures win at once
 

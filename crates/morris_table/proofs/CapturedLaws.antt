@@ -1,16 +1,12 @@
 -- The captures of a position, from where their results stand in their table.
-use Rattle.std.proofs.Common.{◌≡◌, ℕ, ◌-◌, ◌<◌, ◌≤◌, ◌^◌, true, ◌&&◌, eqb, leb, List, [], ◌∷◌, ◌++◌, Some, length, get_or, set, refl, sym, ap, subst, ◌∙◌, inl, inr, arith}
-use Rattle.std.proofs.lemmas.Bool.{cases_Bool, cases_eq, eq-eqb, or_right}
-use Rattle.std.proofs.lemmas.List.{get_or-set_other}
-use Rattle.std.proofs.lemmas.Grind.{get_or-set_at}
-use Rattle.std.proofs.lemmas.List.Elements.{Contains-append_cases}
-use Rattle.std.specs.List.{Contains}
+use Rattle.std.proofs.Common.{◌≡◌, ℕ, ◌-◌, ◌<◌, ◌≤◌, ◌^◌, true, ◌&&◌, eqb, leb, Some, get_or, refl, sym, ap, subst, ◌∙◌, inl, inr, arith}
+use Rattle.std.proofs.lemmas.Bool.{cases_Bool, eq-eqb, or_right}
 use Rattle.morris_board.specs.Boards.{Shape}
 use Rattle.morris_board.specs.Sets.{has, count_of, with_point, without_point}
 use Rattle.morris_board.specs.Positions.{Sides, sides, IsPosition}
 use Rattle.morris_board.proofs.PointsLaws.{count_of-without}
 use Rattle.morris_moves.specs.declared.step.Move.{Move}
-use Rattle.morris_moves.specs.Rules.{moved, closes, reach, takable, move, result_of}
+use Rattle.morris_moves.specs.Rules.{moved, takable, move, result_of}
 use Rattle.morris_moves.proofs.LegalLaws.{IsLegalMove, legal_is_listed, listed_move, takable_is_other}
 use Rattle.morris_moves.proofs.ResultLaws.{count_of-mover, IsPosition-result, are_result}
 use Rattle.morris_moves.proofs.SetLaws.{point_lt}
@@ -18,7 +14,7 @@ use Rattle.morris_index.specs.Pairs.{is_of, ordered}
 use Rattle.morris_index.specs.Standings.{are_of}
 use Rattle.morris_index.specs.declared.standing.Standing.{Standing}
 use Rattle.morris_index.proofs.SumLaws.{without_point-lt}
-use Rattle.morris_table.specs.Captured.{IsStandingIn, captured_pair, IsLeft, IsCaptured}
+use Rattle.morris_table.specs.Captured.{IsStandingIn, captured_pair, IsLeft, IsClosing}
 use Rattle.morris_table.specs.Codes.{IsCodeOf}
 use Rattle.morris_table.specs.Entries.{entry_index}
 use Rattle.morris_table.specs.Graphs.{IsTableOf}
@@ -31,20 +27,6 @@ ordered_are a b = elim (cases_Bool (leb b a)) [
   | inl y ↦ rw (y, eq-eqb a a refl, eq-eqb b b refl) refl
   | inr n ↦ rw (n, eq-eqb a a refl, eq-eqb b b refl) (or_right (eqb a b && eqb b a) true refl)
 ]
-
--- one more kept, at a place
-module _ (b : Shape) (n : ℕ) (s : Sides) (t : Table) (standings : List Standing) (taken : ℕ) (standing : Standing) (low : taken < length standings) where
-  pub one_more : (done : List ℕ) → ((k : ℕ) → Contains done k → (other : Standing) → IsLeft b n s t k (get_or standings k other)) → IsLeft b n s t taken standing
-      → (k : ℕ) → Contains (done ++ taken ∷ []) k → (other : Standing) → IsLeft b n s t k (get_or (set standings taken standing) k other)
-  one_more done before here k h other = elim (cases_eq k taken) [
-    | inl e ↦
-        subst (IsLeft b n s t k) (sym (get_or-set_at standings taken k standing other e low)) (subst (λ j. IsLeft b n s t j standing) (sym e) here)
-    | inr d ↦
-        subst (IsLeft b n s t k) (sym (get_or-set_other standings taken k standing other d)) (elim (Contains-append_cases done (taken ∷ []) k h) [
-          | inl l ↦ before k l other
-          | inr r ↦ let first : r.0 ≡ 0 = omega (arith, r.1) in absurd (d (sym (sym (ap (λ i. get_or (taken ∷ []) i k) first) ∙ r.2)))
-        ])
-  ]
 
 module _ (b : Shape) (n : ℕ) (points : b.points ≡ n) (low : n ≤ 24) (s : Sides) (lawful : IsPosition b s) (taken : ℕ) (here : has (takable b s.other) taken ≡ true) where
   stands_there : has s.other taken ≡ true
@@ -65,9 +47,8 @@ module _ (b : Shape) (n : ℕ) (points : b.points ≡ n) (low : n ≤ 24) (s : S
       (rw left_count (ordered_are (count_of s.other - 1) (count_of s.own)))
 
   -- what is kept of a stone tells the code of the result of each move that takes it
-  module _ (t : Table) (standings : List Standing) (kept : IsCaptured b n s t standings) (u v : ℕ) (start : has s.own u ≡ true) (end_ : has (reach b s u) v ≡ true)
-      (closing : closes b s.own u v ≡ true) (standing : Standing) (at : standing ≡ get_or standings taken standing) (facing : ℕ)
-      (is : facing ≡ with_point (without_point s.own u) v) where
+  module _ (t : Table) (of : IsTableOf b (captured_pair s) t) (standing : Standing) (left : IsLeft b n s t taken standing) (u v : ℕ)
+      (closing : IsClosing b s u v) (facing : ℕ) (is : facing ≡ with_point (without_point s.own u) v) where
     abbrev m : Move
     m = move u v (Some taken)
 
@@ -75,10 +56,7 @@ module _ (b : Shape) (n : ℕ) (points : b.points ≡ n) (low : n ≤ 24) (s : S
     few = omega arith
 
     legal : IsLegalMove b s m
-    legal = listed_move b s few lawful.stones m (legal_is_listed b s few lawful.stones m (capture_is_legal b s u v taken start end_ closing here))
-
-    left : IsLeft b n s t taken standing
-    left = subst (IsLeft b n s t taken) (sym at) (kept.each taken here standing)
+    legal = listed_move b s few lawful.stones m (legal_is_listed b s few lawful.stones m (capture_is_legal b s u v taken closing.own closing.goes closing.shuts here))
 
     has_moved : facing ≡ moved s.own u v
     unfolding moved
@@ -101,4 +79,4 @@ module _ (b : Shape) (n : ℕ) (points : b.points ≡ n) (low : n ≤ 24) (s : S
 
     pub left_code : (code : ℕ) → code ≡ get_or t.codes (entry_index b n t.layout t.pair (sides standing.own facing)) 0 → IsCodeOf b (result_of s m) code
     left_code code e =
-        subst (λ p. IsCodeOf b p code) result (code_there b n t (captured_pair s) (sides standing.own facing) points kept.table led_to result_counts _ code refl e)
+        subst (λ p. IsCodeOf b p code) result (code_there b n t (captured_pair s) (sides standing.own facing) points of led_to result_counts _ code refl e)

@@ -1,9 +1,9 @@
 -- The quiet moves of a stone, by the points to which it goes.
-use Rattle.std.proofs.Common.{◌≡◌, ℕ, ◌+◌, ◌<◌, Bool, true, false, not, ◌&&◌, ◌||◌, ltb, List, [], ◌∷◌, ◌++◌, map, filter, get_or, None, length, slice_index, slice_set, refl, sym, ap, ap₂, subst, ◌∙◌, inl, inr, arith}
+use Rattle.std.proofs.Common.{◌≡◌, ℕ, ◌+◌, ◌<◌, Bool, true, false, not, ◌&&◌, ◌||◌, ltb, List, [], ◌∷◌, ◌++◌, map, filter, get_or, None, length, slice_index, slice_set, refl, sym, ap, subst, ◌∙◌, inl, inr, arith}
 use Rattle.std.proofs.lemmas.Bool.{cases_Bool, cases_eq, both_ways}
 use Rattle.std.proofs.lemmas.Grind.{get_or-set_at}
 use Rattle.std.proofs.lemmas.List.{get_or-set_other}
-use Rattle.std.specs.List.{flat_map, range_with_len}
+use Rattle.std.specs.List.{flat_map}
 use Rattle.morris_board.specs.Sets.{has, members, count_of}
 use Rattle.morris_board.specs.Boards.{Shape}
 use Rattle.morris_board.specs.Positions.{Sides}
@@ -13,23 +13,8 @@ use Rattle.morris_table.specs.Agreement.{quiet_codes}
 use Rattle.morris_table.specs.Entries.{entry_index}
 use Rattle.morris_table.specs.Tables.{Table}
 use Rattle.morris_table.specs.QuietEnds.{is_quiet_end}
+use Rattle.morris_table.proofs.ComerLaws.{members_filter}
 use Rattle.morris_table.proofs.AgreementLaws.{quiet_codes-none, quiet_codes-append, captures_none, quiet_codes-one}
-
--- those of a list that pass two tests
-filter_both : (f g h : ℕ → Bool) → ((v : ℕ) → h v ≡ (f v && g v)) → (xs : List ℕ) → filter h xs ≡ filter g (filter f xs)
-filter_both f g h same [] = refl
-filter_both f g h same (x ∷ xs) = elim (cases_Bool (f x)) [
-  | inl y ↦ elim (cases_Bool (g x)) [
-    | inl z ↦ let w : h x ≡ true = same x ∙ ap₂ (λ a b. a && b) y z in rw (w, y, z) (ap (λ ys. x ∷ ys) (filter_both f g h same xs))
-    | inr z ↦ let w : h x ≡ false = same x ∙ ap₂ (λ a b. a && b) y z in rw (w, y, z) (filter_both f g h same xs)
-  ]
-  | inr y ↦ let w : h x ≡ false = same x ∙ ap (λ a. a && g x) y in rw (w, y) (filter_both f g h same xs)
-]
-
--- the points of a set that pass a test
-members_filter : (s r : ℕ) (g : ℕ → Bool) → ((v : ℕ) → has s v ≡ (has r v && g v)) → members s ≡ filter g (members r)
-unfolding members
-members_filter s r g same = filter_both (has r) g (has s) same (range_with_len 0 32)
 
 module _ (board : Shape) (t : Table) (s : Sides) (u : ℕ) where
   -- the code that the table states for what a quiet move of the stone on u to v leads to

@@ -18,8 +18,10 @@ pub mod BackLawsSources
 pub mod Doubles
 pub mod ClassBackLaws
 pub mod QuietLaws
+pub mod ComerLaws
 pub mod RowLaws
 pub mod GraphLaws
+pub mod SummaryLaws
 pub mod CaptureLaws
 pub mod CapturedLaws
 pub mod BuildLaws

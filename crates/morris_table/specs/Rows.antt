@@ -16,9 +16,15 @@ arrivals board own v = if has own v then 0 else length (filter (λ u. goes board
 unfoldable pub may_close : Shape → ℕ → ℕ → Bool
 may_close board own v = not (has own v) && list_any (λ u. goes board (count_of own) u v && closes board own u v) (members own)
 
+-- whether the stone of `own` on u closes a mill by going to v, where the opponent doesn't stand there
+unfoldable pub is_closing_end : Shape → ℕ → ℕ → ℕ → Bool
+is_closing_end board own u v = not (has own v) && (goes board (count_of own) u v && closes board own u v)
+
 -- what is kept of the own stones
 pub record IsRow (board : Shape) (n : ℕ) (row : Row) : Type 0 where
   pub len : length row.arrivals ≡ 24
   pub each : (v : ℕ) → v < n → slice_index row.arrivals v ≡ arrivals board row.own v
   pub all : row.all ≡ total (arrivals board row.own) n
+  pub closers_len : length row.closers ≡ 24
+  pub closers : (v : ℕ) → v < n → (u : ℕ) → has (slice_index row.closers v) u ≡ (has row.own u && is_closing_end board row.own u v)
   pub closing : (v : ℕ) → has row.closing v ≡ (nat_lt v n && may_close board row.own v)

@@ -1,11 +1,10 @@
 //! The graph of a pair.
-ghost use Rattle.std.specs.Prelude.{◌≡◌, ℕ, ◌+◌, ◌*◌, ◌<◌, ◌≤◌, ◌↔◌, true, Some, None, List, ◌++◌, length, slice_index, vec_len, is_some, IfOk, OnOk, IfSome, MatchResult};
-ghost use Rattle.std.specs.List.{flat_map};
+ghost use Rattle.std.specs.Prelude.{◌≡◌, ℕ, ◌+◌, ◌*◌, ◌<◌, ◌≤◌, ◌↔◌, ◌&&◌, not, true, Some, None, List, ◌++◌, length, slice_index, vec_len, is_some, IfOk, OnOk, IfSome, MatchResult};
 ghost use Rattle.std.specs.Option.{option_copied};
 ghost use Rattle.morris_board.specs.Positions.{IsPosition};
 ghost use Rattle.morris_board.specs.Sets.{has, members, count_of};
 ghost use Rattle.morris_moves.specs.declared.step.Move.{Move};
-ghost use Rattle.morris_moves.specs.Rules.{closes, reach, takable, moves_to};
+ghost use Rattle.morris_moves.specs.Rules.{takable};
 ghost use Rattle.morris_index.specs.Pairs.{IsPair, is_of, less_lesser, less_greater};
 ghost use Rattle.morris_table.specs.Rows.{IsRow};
 ghost use Rattle.morris_wave.specs.Blocks.{BlockState};
@@ -19,7 +18,7 @@ ghost use Rattle.morris_table.specs.Known.{IsBeyondCodes};
 ghost use Rattle.morris_table.specs.Tables.{table};
 ghost use Rattle.morris_table.specs.Shelves.{table_on, first_missing};
 ghost use Rattle.morris_table.specs.Headline.{IsBlockOf, TellsTheGame};
-ghost use Rattle.morris_table.specs.Captured.{captured_pair, IsCaptured};
+ghost use Rattle.morris_table.specs.Captured.{captured_pair, IsLeft, IsClosing, captures_at, captures_to};
 ghost use Rattle.morris_table.specs.Graphs.{IsTableOf, IsNeeded, exits_by, HasGameValues};
 
 use crate::backward::list_entries_before;
@@ -35,7 +34,7 @@ use morris_board::points::Points;
 use morris_board::position::Position;
 use morris_index::pair::Pair;
 use morris_index::standing::Standing;
-use morris_moves::rules::{closes, reach, takable};
+use morris_moves::rules::takable;
 use morris_wave::{Exits, Graph};
 use std::alloc::AllocError;
 use std::marker::Model;
@@ -93,79 +92,59 @@ fn needed_table<'a, B: Geometry>(stock: &'a Stock<B>, need: Option<Pair<B>>) -> 
     stock.get(need?)
 }
 
-/// Puts where the results of the captures of a position stand in their table: at the point of the
-/// stone that is taken, which is one of `takes`. In a result the player to move has the stones that
-/// are left, whatever move took the stone.
-fn put_standings<B: Geometry>(
+/// Goes on with the summary `known`: each capture of the stone of `standing` by a move of one of
+/// `closers` to `to`.
+fn with_closers<B: Geometry>(
     table: &Exact<B>,
+    standing: &Standing,
     position: &Position<B>,
-    takes: Points,
-    standings: &mut [Standing; 24],
-)
-    requires table { IsTableOf B.shape (captured_pair position.now) table.now }
-    requires lawful { IsPosition B.shape position.now }
-    requires takes { takes ≡ takable B.shape position.now.other }
-    ensures { IsCaptured B.shape B.POINTS position.now table.now standings.new }
-{
-    let other = position.other();
-    let facing = position.own().count();
-    for taken in takes.iter() {
-        standings[taken as usize] = table.standing(other.without(taken), facing);
-    }
-}
-
-/// Goes on with the summary `known`: each capture of a stone of `takes` by the move from `from` to
-/// `to`.
-fn with_captures<B: Geometry>(
-    table: &Exact<B>,
-    standings: &[Standing; 24],
-    position: &Position<B>,
-    from: u8,
     to: u8,
-    takes: Points,
+    closers: Points,
     known: Exits,
 ) -> Exits
-    requires captured { IsCaptured B.shape B.POINTS position.now table.now standings.now }
+    requires table { IsTableOf B.shape (captured_pair position.now) table.now }
+    requires standing { (taken : ℕ) × IsLeft B.shape B.POINTS position.now table.now taken standing.now }
     requires lawful { IsPosition B.shape position.now }
-    requires start { has position.now.own from ≡ true }
-    requires end { has (reach B.shape position.now from) to ≡ true }
-    requires closing { closes B.shape position.now.own from to ≡ true }
-    requires takes { takes ≡ takable B.shape position.now.other }
-    ensures { (done : List Move) → known ≡ exits_by B.shape position.now done
-        → result ≡ exits_by B.shape position.now (done ++ moves_to B.shape position.now from to) }
+    requires closers { (u : ℕ) → has closers u ≡ true → IsClosing B.shape position.now u to }
+    ensures { (taken : ℕ) → IsLeft B.shape B.POINTS position.now table.now taken standing.now
+        → (done : List Move) → known ≡ exits_by B.shape position.now done
+        → result ≡ exits_by B.shape position.now (done ++ captures_at taken closers to) }
 {
-    let facing = position.own().without(from).with(to);
+    let own = position.own();
     let mut exits = known;
-    for taken in takes.iter() {
-        exits = exits.with(table.code_at(&standings[taken as usize], facing));
+    for from in closers.iter() {
+        let facing = own.without(from).with(to);
+        exits = exits.with(table.code_at(standing, facing));
     }
     exits
 }
 
-/// Goes on with the summary `known`: each capture by a move of the stone on `from` to one of
-/// `ends`, which are in its reach.
-fn with_captures_from<B: Geometry>(
+/// Goes on with the summary `known`: each capture of the stone on `taken`, by the moves that close
+/// a mill at one of `ends`. In the results the player to move has the stones that are left,
+/// whatever move took the stone.
+fn with_captures<B: Geometry>(
     table: &Exact<B>,
-    standings: &[Standing; 24],
+    row: &Row,
     position: &Position<B>,
-    from: u8,
+    taken: u8,
     ends: Points,
-    takes: Points,
     known: Exits,
 ) -> Exits
-    requires captured { IsCaptured B.shape B.POINTS position.now table.now standings.now }
+    requires table { IsTableOf B.shape (captured_pair position.now) table.now }
+    requires row { IsRow B.shape B.POINTS row.now }
+    requires own { row.now.own ≡ position.now.own }
     requires lawful { IsPosition B.shape position.now }
-    requires start { has position.now.own from ≡ true }
-    requires ends { (v : ℕ) → has ends v ≡ true → has (reach B.shape position.now from) v ≡ true }
-    requires takes { takes ≡ takable B.shape position.now.other }
+    requires taken { has (takable B.shape position.now.other) taken ≡ true }
+    requires ends { (v : ℕ) → has ends v ≡ (has row.now.closing v && not (has position.now.other v)) }
     ensures { (done : List Move) → known ≡ exits_by B.shape position.now done
-        → result ≡ exits_by B.shape position.now (done ++ flat_map (moves_to B.shape position.now from) (members ends)) }
+        → result ≡ exits_by B.shape position.now (done ++ captures_to row.now.closers taken (members ends)) }
 {
+    let left = position.other().without(taken);
+    let standing = table.standing(left, position.own().count());
     let mut exits = known;
     for to in ends.iter() {
-        if closes::<B>(position.own(), from, to) {
-            exits = with_captures(table, standings, position, from, to, takes, exits);
-        }
+        let closers = Points::from_mask(row.closers[to as usize]);
+        exits = with_closers(table, &standing, position, to, closers, exits);
     }
     exits
 }
@@ -260,7 +239,8 @@ impl<'a, B: Geometry> PairGraph<'a, B> {
         requires row { IsRow B.shape B.POINTS row.now }
         ensures { result ≡ exits_of (capture_codes B.shape position.now) }
     {
-        if !row.has_captures(position) {
+        let ends = row.closing.less(position.other());
+        if ends == Points::EMPTY {
             return Exits::NONE;
         }
         // Any capture from three stones leaves the opponent two, and so lost.
@@ -268,13 +248,9 @@ impl<'a, B: Geometry> PairGraph<'a, B> {
             return LOST_AT_ONCE;
         }
         let table = self.captured_table(position);
-        let takes = takable::<B>(position.other());
-        let mut standings = [Standing::NOWHERE; 24];
-        put_standings(table, position, takes, &mut standings);
         let mut exits = Exits::NONE;
-        for from in position.own().iter() {
-            let ends = reach(position, from).common(row.closing);
-            exits = with_captures_from(table, &standings, position, from, ends, takes, exits);
+        for taken in takable::<B>(position.other()).iter() {
+            exits = with_captures(table, row, position, taken, ends, exits);
         }
         exits
     }

@@ -1,10 +1,9 @@
 //! Where the stones of one player go by quiet moves, whatever the opponent has.
 ghost use Rattle.std.specs.Prelude.{◌≡◌, ℕ, ◌<◌, ◌^◌, ◌&&◌, not, nat_lt, true};
-ghost use Rattle.morris_board.specs.Sets.{has};
-ghost use Rattle.morris_moves.specs.Rules.{closes, reach};
+ghost use Rattle.morris_board.specs.Sets.{has, count_of};
+ghost use Rattle.morris_moves.specs.Rules.{closes, goes, reach};
 ghost use Rattle.morris_table.specs.QuietEnds.{AreEnds, is_quiet_end};
 
-use crate::rows::may_come;
 use morris_board::board::Geometry;
 use morris_board::points::Points;
 use morris_board::position::Position;
@@ -18,6 +17,20 @@ pub(crate) struct QuietEnds {
     /// For each of them, at its point, the mask of the points to which it goes by a quiet move,
     /// where they are vacant.
     ends: [u32; 24],
+}
+
+/// Whether a stone on `from` may go to `to`, where that is vacant.
+fn may_come<B: Geometry>(own: Points, from: u8, to: u8) -> bool
+    requires start { from < B.POINTS }
+    requires end { to < B.POINTS }
+    ensures { result ≡ goes B.shape (count_of own) from to }
+{
+    let stones = own.count();
+    if 3 < stones {
+        B::neighbours(from).has(to)
+    } else {
+        stones == 3
+    }
 }
 
 /// Whether the stone on `from` goes to `to` by a quiet move, where that is vacant.

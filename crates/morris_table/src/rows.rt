@@ -1,20 +1,19 @@
 //! What the moves of the stones of one player are, whatever the opponent has.
-ghost use Rattle.std.specs.Prelude.{◌≡◌, ℕ, ◌+◌, ◌<◌, ◌≤◌, ◌^◌, true, length, filter};
-ghost use Rattle.std.specs.List.{list_any};
-ghost use Rattle.morris_board.specs.Sets.{has, members, count_of};
-ghost use Rattle.morris_moves.specs.Rules.{closes, goes, moves_of};
+ghost use Rattle.std.specs.Prelude.{◌≡◌, ℕ, ◌+◌, ◌<◌, ◌^◌, ◌&&◌, true, false, length, filter};
+ghost use Rattle.morris_board.specs.Sets.{has, count_of, is_within};
+ghost use Rattle.morris_moves.specs.Rules.{closes, goes, moved, moves_of};
 ghost use Rattle.morris_index.specs.Pairs.{is_of};
 ghost use Rattle.morris_board.specs.Positions.{IsPosition};
 ghost use Rattle.morris_table.specs.Entries.{entry_count, entry_index, has_own_entry};
 ghost use Rattle.morris_table.specs.Numberings.{layout_of, pair_of};
-ghost use Rattle.morris_table.specs.PairNets.{is_quiet, is_capture};
-ghost use Rattle.morris_table.specs.Rows.{arrivals, may_close, IsRow};
+ghost use Rattle.morris_table.specs.PairNets.{is_quiet};
+ghost use Rattle.morris_table.specs.QuietEnds.{is_quiet_end};
+ghost use Rattle.morris_table.specs.Rows.{is_closing_end, IsRow};
 
 use crate::numbering::Numbering;
 use morris_board::board::Geometry;
 use morris_board::points::Points;
 use morris_board::position::Position;
-use morris_moves::rules::closes;
 
 /// What is kept of the stones of one player.
 #[derive(Clone, Copy, Debug)]
@@ -25,58 +24,66 @@ pub(crate) struct Row {
     pub(crate) arrivals: [u16; 24],
     /// All of these together.
     pub(crate) all: u16,
+    /// For each point, the mask of those that close a mill by going there, where it is vacant.
+    pub(crate) closers: [u32; 24],
     /// The points at which a move closes a mill, where they are vacant.
     pub(crate) closing: Points,
 }
 
-/// Whether a stone on `from` may go to `to`, where that is vacant.
-pub(crate) fn may_come<B: Geometry>(own: Points, from: u8, to: u8) -> bool
-    requires start { from < B.POINTS }
+/// The stones that may come to `to`, where that is vacant.
+fn comers<B: Geometry>(own: Points, to: u8) -> Points
+    requires within { own < 2 ^ B.POINTS }
     requires end { to < B.POINTS }
-    ensures { result ≡ goes B.shape (count_of own) from to }
+    ensures { (u : ℕ) → has result u ≡ (has own u && goes B.shape (count_of own) u to) }
 {
     let stones = own.count();
     if 3 < stones {
-        B::neighbours(from).has(to)
+        own.common(B::neighbours(to))
+    } else if stones == 3 {
+        own
     } else {
-        stones == 3
+        Points::EMPTY
     }
 }
 
-/// How many of the stones may come to `to` by a quiet move, where that is vacant.
-fn arrivals<B: Geometry>(own: Points, to: u8) -> u16
-    requires within { own < 2 ^ B.POINTS }
-    requires end { to < B.POINTS }
-    ensures count { result ≡ arrivals B.shape own to }
-    ensures few { result ≤ 32 }
+/// The stones that fill `mill` by going to `to`, where none of them stands: those that aren't in
+/// it, where no other point of it is missing.
+fn fillers(own: Points, to: u8, mill: Points) -> Points
+    requires end { to < 32 }
+    requires free { has own to ≡ false }
+    ensures { (u : ℕ) → has result u ≡ (has own u && is_within mill (moved own u to)) }
 {
-    if own.has(to) {
-        return 0;
+    if mill.is_within(own.with(to)) {
+        own.less(mill)
+    } else {
+        Points::EMPTY
     }
-    let mut count = 0;
-    for from in own.iter() {
-        if may_come::<B>(own, from, to) && !closes::<B>(own, from, to) {
-            count += 1;
-        }
-    }
-    count
 }
 
-/// Whether one of the stones may come to `to` by a move that closes a mill, where that is vacant.
-fn may_close<B: Geometry>(own: Points, to: u8) -> bool
+/// The stones that close a mill by going to `to`, where none of them stands.
+fn closers<B: Geometry>(own: Points, to: u8) -> Points
+    requires end { to < B.POINTS }
+    requires free { has own to ≡ false }
+    ensures { (u : ℕ) → has result u ≡ (has own u && closes B.shape own u to) }
+{
+    let (first, second) = B::mills_through(to);
+    fillers(own, to, first).joined(fillers(own, to, second))
+}
+
+/// The stones that may come to `to`, where that is vacant: those whose move is quiet, and those
+/// whose move closes a mill.
+fn arriving<B: Geometry>(own: Points, to: u8) -> (Points, Points)
     requires within { own < 2 ^ B.POINTS }
     requires end { to < B.POINTS }
-    ensures { result ≡ may_close B.shape own to }
+    ensures quiet { (u : ℕ) → has result.0 u ≡ (has own u && is_quiet_end B.shape own u to) }
+    ensures closing { (u : ℕ) → has result.1 u ≡ (has own u && is_closing_end B.shape own u to) }
 {
     if own.has(to) {
-        return false;
+        return (Points::EMPTY, Points::EMPTY);
     }
-    for from in own.iter() {
-        if may_come::<B>(own, from, to) && closes::<B>(own, from, to) {
-            return true;
-        }
-    }
-    false
+    let comers = comers::<B>(own, to);
+    let closers = closers::<B>(own, to);
+    (comers.less(closers), comers.common(closers))
 }
 
 impl Row {
@@ -86,21 +93,25 @@ impl Row {
         ensures own { result.own ≡ own }
         ensures row { IsRow B.shape B.POINTS result }
     {
-        let mut kept = [0; 24];
+        let mut arrivals = [0; 24];
         let mut all = 0;
+        let mut closers = [0; 24];
         let mut closing = Points::EMPTY;
         for to in 0..B::POINTS {
-            let count = arrivals::<B>(own, to);
-            kept[to as usize] = count;
+            let (quiet, shutting) = arriving::<B>(own, to);
+            let count = u16::from(quiet.count());
+            arrivals[to as usize] = count;
             all += count;
-            if may_close::<B>(own, to) {
+            closers[to as usize] = shutting.mask();
+            if shutting != Points::EMPTY {
                 closing = closing.with(to);
             }
         }
         Row {
             own,
-            arrivals: kept,
+            arrivals,
             all,
+            closers,
             closing,
         }
     }
@@ -128,16 +139,6 @@ impl Row {
         if own != self.own {
             *self = Row::of::<B>(own);
         }
-    }
-
-    /// Whether a position with these own stones has captures.
-    pub(crate) fn has_captures<B: Geometry>(&self, position: &Position<B>) -> bool
-        requires own { self.now.own ≡ position.now.own }
-        requires row { IsRow B.shape B.POINTS self.now }
-        ensures { result ≡ list_any is_capture (moves_of B.shape position.now) }
-    {
-        let closing = self.closing.less(position.other());
-        closing != Points::EMPTY
     }
 }
 

@@ -2,7 +2,7 @@ use Rattle.std.proofs.Common.{eqb, ◌∙◌, ap, arith}
 use Rattle.std.proofs.lemmas.Bool.{lt-ltb, le-ltb}
 use Rattle.morris_board.specs.Sets.{has, count_of}
 use Rattle.morris_table.proofs.RowLaws.{goes-slide, goes-jump}
-use Rattle.morris_table.proofs.rows.may_come.Goals as goal
+use Rattle.morris_table.proofs.quiet_ends.may_come.Goals as goal
 
 pub returns-then-stones-gt3 : goal.returns-then-stones-gt3
 returns-then-stones-gt3 g c =
