@@ -226,6 +226,11 @@ flaw_in fault.Trailing = Some flaw.Trailing
 flaw_in fault.Read = Some flaw.Read
 flaw_in _ = None
 
+-- whether a fault says in which file a flaw was met
+abbrev pub is_in_file : Fault → Bool
+is_in_file (fault.InFile greater lesser f) = true
+is_in_file _ = false
+
 -- a fault as it is told where it was met in the file of a pair: a flaw says of which file it is
 abbrev pub in_file : Counts → Fault → Fault
 in_file c f = elim (flaw_in f) [ None ↦ f | Some found ↦ fault.InFile c.greater c.lesser found ]

@@ -1,6 +1,6 @@
 //! What a command can be refused for.
-ghost use Rattle.std.specs.Prelude.{◌≡◌, ◌≤◌};
-ghost use Rattle.morris_faults.specs.Faults.{build_fault, fault_number, fault_text, flaw_in, in_file, length_worded, needs_fault, pair_fault, probe_fault, solve_fault, text_fault, verify_fault, worded};
+ghost use Rattle.std.specs.Prelude.{◌≡◌, ◌≤◌, None, false};
+ghost use Rattle.morris_faults.specs.Faults.{build_fault, fault_number, fault_text, flaw_in, in_file, is_in_file, length_around, length_worded, needs_fault, pair_fault, probe_fault, said, solve_fault, text_fault, verify_fault, worded};
 
 use crate::flaw::Flaw;
 use crate::wording::{Wording, Words};
@@ -97,27 +97,26 @@ impl Fault {
     pub fn number(&self) -> u8
         ensures { result ≡ fault_number self.now }
     {
+        match self.flaw() {
+            Some(flaw) => flaw.number(),
+            None => self.own_number(),
+        }
+    }
+
+    /// The number of a fault that isn't a flaw without its file.
+    fn own_number(&self) -> u8
+        requires { flaw_in self.now ≡ None }
+        ensures { result ≡ fault_number self.now }
+    {
         match self {
             Fault::Length => 1,
             Fault::Character(_) => 2,
             Fault::Stones => 3,
-            Fault::Counts => 4,
-            Fault::Crowded => 5,
             Fault::Blocks => 6,
             Fault::Missing(_) => 8,
             Fault::TooDeep => 10,
             Fault::Workers => 11,
             Fault::Memory => 12,
-            Fault::Needs(_, _) => 13,
-            Fault::Differs(_) => 14,
-            Fault::Short => 15,
-            Fault::Magic => 16,
-            Fault::Version => 17,
-            Fault::BoardId => 18,
-            Fault::Count => 19,
-            Fault::Digest => 20,
-            Fault::Trailing => 21,
-            Fault::Read => 22,
             Fault::Write(_) => 23,
             Fault::Board => 25,
             Fault::PairText => 26,
@@ -130,6 +129,7 @@ impl Fault {
             Fault::Unanswered(_) => 33,
             Fault::Digests => 34,
             Fault::InFile(_, _, flaw) => flaw.number(),
+            _ => unreachable!(),
         }
     }
 
@@ -138,70 +138,48 @@ impl Fault {
         ensures text { worded result ≡ fault_text self.now }
         ensures short { length_worded result ≤ 64 }
     {
+        if let Fault::InFile(greater, lesser, flaw) = *self {
+            return Wording::InFile(flaw.words(), greater, lesser);
+        }
+        match self.flaw() {
+            Some(flaw) => Wording::Alone(flaw.words()),
+            None => Wording::Alone(self.own_words()),
+        }
+    }
+
+    /// The words of a fault that isn't a flaw, with its file or without it.
+    fn own_words(&self) -> Words
+        requires no_flaw { flaw_in self.now ≡ None }
+        requires no_file { is_in_file self.now ≡ false }
+        ensures text { said result ≡ fault_text self.now }
+        ensures short { length_around result ≤ 64 }
+    {
         match *self {
-            Fault::Length => Wording::Alone(Words::Plain("text is not one character per point")),
-            Fault::Character(place) => Wording::Alone(Words::Number(
-                "bad character at ",
-                place as u64,
-                "",
-            )),
-            Fault::Stones => Wording::Alone(Words::Plain("bad number of stones")),
-            Fault::Counts => Wording::Alone(Flaw::Counts.words()),
-            Fault::Crowded => Wording::Alone(Flaw::Crowded.words()),
-            Fault::Blocks => Wording::Alone(Words::Plain("blocks must be 1 to 1024")),
-            Fault::Missing(number) => Wording::Alone(Words::Number(
-                "block ",
-                number,
-                " is not complete",
-            )),
-            Fault::TooDeep => Wording::Alone(Words::Plain("depth is too great")),
-            Fault::Workers => Wording::Alone(Words::Plain("workers must be 1 to 64")),
-            Fault::Memory => Wording::Alone(Words::Plain("out of memory")),
-            Fault::Needs(greater, lesser) => Wording::Alone(Flaw::Needs(greater, lesser).words()),
-            Fault::Differs(index) => Wording::Alone(Flaw::Differs(index).words()),
-            Fault::Short => Wording::Alone(Flaw::Short.words()),
-            Fault::Magic => Wording::Alone(Flaw::Magic.words()),
-            Fault::Version => Wording::Alone(Flaw::Version.words()),
-            Fault::BoardId => Wording::Alone(Flaw::BoardId.words()),
-            Fault::Count => Wording::Alone(Flaw::Count.words()),
-            Fault::Digest => Wording::Alone(Flaw::Digest.words()),
-            Fault::Trailing => Wording::Alone(Flaw::Trailing.words()),
-            Fault::Read => Wording::Alone(Flaw::Read.words()),
-            Fault::Write(sent) => Wording::Alone(Words::Number(
-                "writing failed after ",
-                sent,
-                " bytes",
-            )),
-            Fault::Board => Wording::Alone(Words::Plain("no such board")),
-            Fault::PairText => Wording::Alone(Words::Plain("not a pair")),
-            Fault::TooMany => Wording::Alone(Words::Plain("more than 64 tables")),
-            Fault::Folder => Wording::Alone(Words::Plain("folder can't be made")),
-            Fault::Unwritten(a, b) => Wording::Alone(Words::Pair(
-                "file of ",
-                a,
-                b,
-                " can't be written",
-            )),
-            Fault::Unopened(a, b) => Wording::Alone(Words::Pair(
-                "file of ",
-                a,
-                b,
-                " can't be opened",
-            )),
-            Fault::OtherPair(a, b) => Wording::Alone(Words::Pair(
+            Fault::Length => Words::Plain("text is not one character per point"),
+            Fault::Character(place) => Words::Number("bad character at ", place as u64, ""),
+            Fault::Stones => Words::Plain("bad number of stones"),
+            Fault::Blocks => Words::Plain("blocks must be 1 to 1024"),
+            Fault::Missing(number) => Words::Number("block ", number, " is not complete"),
+            Fault::TooDeep => Words::Plain("depth is too great"),
+            Fault::Workers => Words::Plain("workers must be 1 to 64"),
+            Fault::Memory => Words::Plain("out of memory"),
+            Fault::Write(sent) => Words::Number("writing failed after ", sent, " bytes"),
+            Fault::Board => Words::Plain("no such board"),
+            Fault::PairText => Words::Plain("not a pair"),
+            Fault::TooMany => Words::Plain("more than 64 tables"),
+            Fault::Folder => Words::Plain("folder can't be made"),
+            Fault::Unwritten(a, b) => Words::Pair("file of ", a, b, " can't be written"),
+            Fault::Unopened(a, b) => Words::Pair("file of ", a, b, " can't be opened"),
+            Fault::OtherPair(a, b) => Words::Pair(
                 "file of ",
                 a,
                 b,
                 " has the table of another pair",
-            )),
-            Fault::NoFiles => Wording::Alone(Words::Plain("no table files")),
-            Fault::Unanswered(count) => Wording::Alone(Words::Number(
-                "",
-                count,
-                " lines have no answer",
-            )),
-            Fault::Digests => Wording::Alone(Words::Plain("file of digests can't be written")),
-            Fault::InFile(a, b, flaw) => Wording::InFile(flaw.words(), a, b),
+            ),
+            Fault::NoFiles => Words::Plain("no table files"),
+            Fault::Unanswered(count) => Words::Number("", count, " lines have no answer"),
+            Fault::Digests => Words::Plain("file of digests can't be written"),
+            _ => unreachable!(),
         }
     }
 
@@ -238,6 +216,17 @@ impl Fault {
     }
 }
 
+/// The fault of the same name as a refusal, with what that holds; or that of a refusal within it,
+/// after `from`.
+macro_rules! same_fault {
+    ($refused:expr, $refusals:ident: $($name:ident $(($held:ident))?),+ $(,)? $(; from $inner:ident)?) => {
+        match $refused {
+            $($refusals::$inner(inner) => Fault::from(inner),)?
+            $($refusals::$name $(($held))? => Fault::$name $(($held))?,)+
+        }
+    };
+}
+
 impl fmt::Display for Fault {
     ghost use Rattle.std.specs.Prelude.{Some};
     ghost use Rattle.morris_faults.specs.Faults.{fault_text};
@@ -256,11 +245,7 @@ impl From<TextFault> for Fault {
     ghost from_gives = { λ refused e. e ≡ text_fault refused };
 
     fn from(refused: TextFault) -> Fault {
-        match refused {
-            TextFault::Length => Fault::Length,
-            TextFault::Character(place) => Fault::Character(place),
-            TextFault::Stones => Fault::Stones,
-        }
+        same_fault!(refused, TextFault: Length, Character(place), Stones)
     }
 }
 
@@ -268,10 +253,7 @@ impl From<PairFault> for Fault {
     ghost from_gives = { λ refused e. e ≡ pair_fault refused };
 
     fn from(refused: PairFault) -> Fault {
-        match refused {
-            PairFault::Counts => Fault::Counts,
-            PairFault::Crowded => Fault::Crowded,
-        }
+        same_fault!(refused, PairFault: Counts, Crowded)
     }
 }
 
@@ -281,19 +263,11 @@ impl From<ReadFault> for Fault {
     ghost from_gives = { λ refused e. e ≡ read_fault refused };
 
     fn from(refused: ReadFault) -> Fault {
-        match refused {
-            ReadFault::Short => Fault::Short,
-            ReadFault::Magic => Fault::Magic,
-            ReadFault::Version => Fault::Version,
-            ReadFault::BoardId => Fault::BoardId,
-            ReadFault::Counts => Fault::Counts,
-            ReadFault::Crowded => Fault::Crowded,
-            ReadFault::Count => Fault::Count,
-            ReadFault::Digest => Fault::Digest,
-            ReadFault::Trailing => Fault::Trailing,
-            ReadFault::Read => Fault::Read,
-            ReadFault::Memory => Fault::Memory,
-        }
+        same_fault!(
+            refused,
+            ReadFault: Short, Magic, Version, BoardId, Counts, Crowded, Count, Digest, Trailing, Read,
+            Memory,
+        )
     }
 }
 
@@ -319,11 +293,7 @@ impl<B: Geometry> From<ProbeFault<B>> for Fault {
     ghost from_gives = { λ refused e. e ≡ probe_fault refused };
 
     fn from(refused: ProbeFault<B>) -> Fault {
-        match refused {
-            ProbeFault::Needs(needs) => Fault::from(needs),
-            ProbeFault::Memory => Fault::Memory,
-            ProbeFault::Write(sent) => Fault::Write(sent),
-        }
+        same_fault!(refused, ProbeFault: Memory, Write(sent); from Needs)
     }
 }
 
@@ -331,10 +301,7 @@ impl<B: Geometry> From<VerifyFault<B>> for Fault {
     ghost from_gives = { λ refused e. e ≡ verify_fault refused };
 
     fn from(refused: VerifyFault<B>) -> Fault {
-        match refused {
-            VerifyFault::Needs(needs) => Fault::from(needs),
-            VerifyFault::Differs(index) => Fault::Differs(index),
-        }
+        same_fault!(refused, VerifyFault: Differs(index); from Needs)
     }
 }
 
@@ -342,14 +309,11 @@ impl<B: Geometry> From<BuildFault<B>> for Fault {
     ghost from_gives = { λ refused e. e ≡ build_fault refused };
 
     fn from(refused: BuildFault<B>) -> Fault {
-        match refused {
-            BuildFault::Needs(needs) => Fault::from(needs),
-            BuildFault::Workers => Fault::Workers,
-            BuildFault::Blocks => Fault::Blocks,
-            BuildFault::Memory => Fault::Memory,
-            BuildFault::Missing(number) => Fault::Missing(number),
-            BuildFault::TooDeep => Fault::TooDeep,
-        }
+        same_fault!(
+            refused,
+            BuildFault: Workers, Blocks, Memory, Missing(number), TooDeep;
+            from Needs
+        )
     }
 }
 
@@ -357,12 +321,6 @@ impl From<SolveFault> for Fault {
     ghost from_gives = { λ refused e. e ≡ solve_fault refused };
 
     fn from(refused: SolveFault) -> Fault {
-        match refused {
-            SolveFault::Workers => Fault::Workers,
-            SolveFault::Blocks => Fault::Blocks,
-            SolveFault::Memory => Fault::Memory,
-            SolveFault::Missing(number) => Fault::Missing(number),
-            SolveFault::TooDeep => Fault::TooDeep,
-        }
+        same_fault!(refused, SolveFault: Workers, Blocks, Memory, Missing(number), TooDeep)
     }
 }
