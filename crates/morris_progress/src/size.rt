@@ -2,17 +2,12 @@
 ghost use Rattle.std.specs.Prelude.{◌≡◌, ◌+◌, ◌^◌, ◌<◌};
 ghost use Rattle.morris_progress.specs.Sizes.{entries_below, entries_of, is_same};
 
+use crate::memory::{BASE, CODE, bytes_of_making, bytes_of_table};
 use crate::team::Team;
 use morris_board::board::Geometry;
 use morris_index::class_sizes::class_size;
 use morris_index::pair::Pair;
 use morris_table::layout::Layout;
-
-/// What the program takes beside tables, in bytes: above all the lists that the workers keep.
-const BASE: u64 = 9_000_000;
-
-/// What stays of an entry with its table, in bytes: its code.
-const KEPT: u64 = 2;
 
 /// How the tables of a pair and of those below it come about, one after the other.
 #[derive(Clone, Copy, Debug, PartialEq, Eq)]
@@ -39,8 +34,8 @@ impl Way {
     }
 }
 
-/// The entries of the tables that a pair may need, as far as these were made: those of pairs with as
-/// many stones, and with one less.
+/// How many bytes the tables take that a pair may need, as far as these were made: those of pairs
+/// with as many stones, and with one less.
 #[derive(Clone, Copy, Debug)]
 struct Near {
     stones: u8,
@@ -68,15 +63,15 @@ impl Near {
         }
     }
 
-    /// With a table of so many entries.
-    fn with(self, entries: u64) -> Near {
+    /// With a table of so many bytes.
+    fn with(self, bytes: u64) -> Near {
         Near {
-            here: self.here.saturating_add(entries),
+            here: self.here.saturating_add(bytes),
             ..self
         }
     }
 
-    fn entries(self) -> u64 {
+    fn bytes(self) -> u64 {
         self.here.saturating_add(self.before)
     }
 }
@@ -97,16 +92,14 @@ impl Size {
         bytes: BASE,
     };
 
-    /// With a table of so many entries more, which takes so many bytes while it comes about, beside
-    /// tables of so many entries that are kept.
-    fn with(self, entries: u64, bytes: u64, kept: u64) -> Size
+    /// With a table of so many entries more, where so many bytes are taken at once while it comes
+    /// about.
+    fn with(self, entries: u64, at_once: u64) -> Size
         ensures { self.entries + entries < 2 ^ 64 → result.entries ≡ self.entries + entries }
     {
-        let kept = KEPT.saturating_mul(kept);
-        let at_once = kept.saturating_add(bytes).saturating_add(BASE);
         Size {
             entries: self.entries.saturating_add(entries),
-            bytes: self.bytes.max(at_once),
+            bytes: self.bytes.max(at_once.saturating_add(BASE)),
         }
     }
 
@@ -118,17 +111,15 @@ impl Size {
     {
         let mut size = Size::NONE;
         let mut near = Near::NONE;
+        let mut all = 0u64;
         for below in pair.below() {
             let entries = count_entries(below, pair, layout, way);
-            let bytes = bytes_of(below, entries, way);
-            near = near.before(below);
-            let kept = if way.lets_go() {
-                near.entries()
-            } else {
-                size.entries
-            };
-            size = size.with(entries, bytes, kept);
-            near = near.with(entries);
+            let table = bytes_of_table(below, layout, entries);
+            near = near.before(below).with(table);
+            all = all.saturating_add(table);
+            let kept = if way.lets_go() { near.bytes() } else { all };
+            let making = bytes_beside(below, entries, way);
+            size = size.with(entries, kept.saturating_add(making));
         }
         size
     }
@@ -155,11 +146,11 @@ impl FolderSize {
         // As far as 64 bits hold the number.
         ensures { self.size.entries + entries < 2 ^ 64 → result.size.entries ≡ self.size.entries + entries }
     {
-        let near = self.near.before(pair);
-        let bytes = KEPT.saturating_mul(entries);
+        let table = CODE.saturating_mul(entries);
+        let near = self.near.before(pair).with(table);
         FolderSize {
-            size: self.size.with(entries, bytes, near.entries()),
-            near: near.with(entries),
+            size: self.size.with(entries, near.bytes()),
+            near,
         }
     }
 }
@@ -186,35 +177,17 @@ fn count_entries<B: Geometry>(pair: Pair<B>, last: Pair<B>, layout: Layout, way:
     }
 }
 
-/// About how many bytes the table of a pair with so many entries takes while it comes about.
-fn bytes_of<B: Geometry>(pair: Pair<B>, entries: u64, way: Way) -> u64 {
+/// About how many bytes it takes to make the table of a pair with so many entries, beside all tables
+/// that are kept, its own among them.
+fn bytes_beside<B: Geometry>(pair: Pair<B>, entries: u64, way: Way) -> u64 {
     match way {
         Way::Swept => bytes_of_making(pair, entries, None),
         Way::Built { team, .. } => bytes_of_making(pair, entries, Some(team)),
         // The table that was read is there from the start, also while its pair is built beside it.
         Way::Verified { team, entries: own } => {
             let making = bytes_of_making(pair, entries, Some(team));
-            making.saturating_add(KEPT.saturating_mul(own))
+            making.saturating_add(CODE.saturating_mul(own))
         }
-        Way::Read => KEPT.saturating_mul(entries),
+        Way::Read => 0,
     }
-}
-
-/// About how many bytes it takes to make the table of a pair with so many entries. The numbers are
-/// fitted to builds that were measured: its nodes, and the lists of the blocks that are at work,
-/// both longer where a player has three stones, who may jump.
-fn bytes_of_making<B: Geometry>(pair: Pair<B>, entries: u64, team: Option<Team>) -> u64 {
-    let (node, list) = if pair.lesser() == 3 {
-        (2 * u64::from(pair.greater()) - 2, 96)
-    } else {
-        (u64::from(pair.greater()) - 1, 16)
-    };
-    let nodes = entries.saturating_mul(node);
-    let Some(team) = team else {
-        return nodes;
-    };
-    let lists = entries
-        .saturating_mul(list)
-        .saturating_mul(team.workers as u64);
-    nodes.saturating_add(lists / team.blocks as u64)
 }
