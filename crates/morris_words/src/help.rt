@@ -39,10 +39,22 @@ allowed.\n\
 \n\
 "] $($rest)*)
     };
+    ([$($text:literal)*] STATS $($rest:tt)*) => {
+        page!([$($text)* "\
+Example:\n  \
+$ morris stats grid 3-3\n  \
+3-3 1680 positions\n  \
+won in 1: 936\n  \
+lost in 2: 36\n  \
+won in 3: 108\n  \
+draw: 600"] $($rest)*)
+    };
 }
 
 /// Of the program as a whole.
-pub(crate) const PROGRAM: &str = "\
+pub(crate) const PROGRAM: &str = page!(
+    []
+    "\
 Words:\n  \
 BOARD  nine, the usual board of 24 points, or grid, a small one of 9 points\n  \
 TEXT   a position, with one character for each point, in the order of their\n         \
@@ -74,15 +86,10 @@ Exit status:\n  \
 nothing, or what came before it\n  \
 2  words that aren't allowed: what is wrong with them, on standard error\n\
 \n\
-Example:\n  \
-$ morris stats grid 3-3\n  \
-3-3 1680 positions\n  \
-won in 1: 936\n  \
-lost in 2: 36\n  \
-won in 3: 108\n  \
-draw: 600\n\
-\n\
-`morris help COMMAND` has more of each command.";
+"
+    STATS
+    "\n\n`morris help COMMAND` has more of each command."
+);
 
 /// Of `look`.
 pub(crate) const LOOK: &str = page!(
@@ -133,14 +140,7 @@ the one whose entry comes first in the table.\n\
 "
     PROGRESS
     EXIT
-    "\
-Example:\n  \
-$ morris stats grid 3-3\n  \
-3-3 1680 positions\n  \
-won in 1: 936\n  \
-lost in 2: 36\n  \
-won in 3: 108\n  \
-draw: 600"
+    STATS
 );
 
 /// Of `build`.
