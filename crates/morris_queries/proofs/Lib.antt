@@ -1,7 +1,9 @@
 pub mod AnswerLaws
 pub mod OpenLaws
+pub mod FolderLaws
 pub mod TellingLaws
 pub mod Pieces
 pub mod ExactLaws
 pub mod LineLaws
 pub mod LineAnswerLaws
+pub mod ReadingLaws

@@ -192,19 +192,6 @@ module _ (board : Shape) (name : List ℕ) (known : Option Files) (show : Show) 
 
   -- ---- the answer to the whole input
 
-  pub lines_ended : (before mid after : Option (List ℕ)) (old now new : Option (List ℕ)) (read line : List ℕ) (tally : Tally) (result : Result ℕ QueryFault)
-      → Consumes before mid read → Consumes mid after [] → IsAtEnd after → ReadTo read old now line tally
-      → IfOk result (λ refused. (r : List ℕ) (start : Option (List ℕ)) → ReadTo r start now line tally → AnswersTexts board name known show (texts_in r) start new (Ok refused))
-      → IfErr result (λ refusal. (r : List ℕ) (start : Option (List ℕ)) → ReadTo r start now line tally → StopsIn board name known show (texts_in r) start new refusal)
-      → AnswersLines board name known show before after old new result
-  lines_ended before mid after old now new read line tally (Ok refused) got nothing end here ended stopped =
-      (read, subst (Consumes before after) (append-nil read) (Consumes-trans before mid after read [] got nothing), end, ended read old here)
-  lines_ended before mid after old now new read line tally (Err (query.Write sent)) got nothing end here ended stopped =
-      (read, subst (Consumes before after) (append-nil read) (Consumes-trans before mid after read [] got nothing), stopped read old here)
-  lines_ended before mid after old now new read line tally (Err query.Board) got nothing end here ended stopped = absurd (stopped read old here)
-  lines_ended before mid after old now new read line tally (Err query.Memory) got nothing end here ended stopped = absurd (stopped read old here)
-  lines_ended before mid after old now new read line tally (Err query.Read) got nothing end here ended stopped = absurd (stopped read old here)
-
   pub lines_stopped : (before mid after : Option (List ℕ)) (old new : Option (List ℕ)) (read more : List ℕ) (refusal : QueryFault) → Consumes before mid read → Consumes mid after more
       → StopsIn board name known show (texts_ended (read ++ more)) old new refusal → AnswersLines board name known show before after old new (Err refusal)
   lines_stopped before mid after old new read more (query.Write sent) got next stops =

@@ -1,3 +1,4 @@
+pub mod Folders
 pub mod Libraries
 pub mod Telling
 pub mod Exactness
@@ -6,3 +7,4 @@ pub mod Answers
 pub mod InputLines
 pub mod LineAnswers
 pub mod Refusals
+pub mod Readings

@@ -39,6 +39,11 @@ Agrees found wanted = (wanted ≡ found) ⊎ (found ≡ Err fault.Memory)
 abbrev pub IsRefusal : {A : Type 0} → Fault → Result A Fault → Type 0
 IsRefusal refused wanted = (wanted ≡ Err refused) ⊎ (refused ≡ fault.Memory)
 
+-- what was found, seen as the value that it stands for, is what is to be found; or it was refused
+abbrev pub Gives : {T A : Type 0} → Result T Fault → (T → A) → Result A Fault → Type 0
+Gives (Ok found) seen wanted = wanted ≡ Ok (seen found)
+Gives (Err refused) seen wanted = IsRefusal refused wanted
+
 -- ---- the file of a pair
 
 abbrev pub same_counts : Counts → Counts → Bool

@@ -1,22 +1,22 @@
 //! The answer to one text.
-ghost use Rattle.std.specs.Prelude.{◌≡◌, ◌-◌, ◌^◌, ◌<◌, ◌≤◌, ◌++◌, codes, true, false, IfOk};
+ghost use Rattle.std.specs.Prelude.{◌-◌, ◌^◌, ◌<◌, ◌≤◌, ◌++◌, ℕ, List, Option, codes, true, false, IfOk};
 ghost use Rattle.morris_board.specs.Streams.{CountsFailure};
 ghost use Rattle.morris_faults.specs.Faults.{fault_line};
+ghost use Rattle.morris_folders.specs.Files.{Files};
 ghost use Rattle.morris_queries.specs.Answers.{AnswersText, IsAnswer, GoesOut};
+ghost use Rattle.morris_queries.specs.Folders.{IsOf, Stays};
 ghost use Rattle.morris_queries.specs.Printing.{shown_text, told_text, IsShort};
-ghost use Rattle.morris_queries.specs.Telling.{AreOf};
 
 use crate::library::Library;
 use crate::print::{Before, ToldOf};
 use crate::send::send;
 use crate::show::Show;
-use crate::told::{Told, tell};
+use crate::told::Told;
+use crate::values::Folder;
 use morris_board::board::Geometry;
 use morris_board::position::Position;
 use morris_board::streams::Sink;
 use morris_faults::fault::Fault;
-use morris_lookup::tables::Tables;
-use std::alloc::Global;
 
 /// An answer that went out.
 #[derive(Clone, Copy, Debug, PartialEq, Eq)]
@@ -30,28 +30,24 @@ pub struct Answered {
 /// What is told of the position that a text writes.
 ///
 /// # Errors
-/// The fault of a text that is no position's; then those of [`tell`].
+/// The fault of a text that is no position's; then those of [`Folder::tell`].
+#[tactic(auto, using(crate::proofs::FolderLaws::stays_laws))]
 fn answer<B: Geometry, L: Library>(
-    alloc: Global,
-    board: &str,
-    library: &mut L,
-    tables: &mut Tables<B, L::Bytes>,
+    folder: &mut Folder<'_, '_, '_, B, L>,
     text: &[u8],
     show: Show,
 ) -> Result<Told<B>, Fault>
-    requires from { AreOf B.shape board.now (L.files library.old) tables.old }
-    ensures kept { L.files library.new ≡ L.files library.old }
-    ensures from { AreOf B.shape board.now (L.files library.new) tables.new }
-    ensures answer { IsAnswer B.shape board.now (L.files library.old) show text.now result }
+    ensures stays { Stays B.shape L.files folder.old folder.new }
+    ensures answer { (name : List ℕ) (known : Option Files) → IsOf B.shape L.files name known folder.old → IsAnswer B.shape name known show text.now result }
     ensures few { IfOk result IsShort }
 {
     let position = Position::read(text)?;
     // The proof learns the rules of a position where its stones are read.
     let _ = position.own();
-    tell(alloc, board, library, tables, &position, show)
+    folder.tell(&position, show)
 }
 
-/// Answers one text on the board of this name, and sends the answer. With `Show::Best` it is one
+/// Answers one text from the files of a folder, and sends the answer. With `Show::Best` it is one
 /// line: the text, the value of its position, and the best moves. What is shown besides stands
 /// below it. A text that is no position's, or whose files aren't there or can't be read, is answered
 /// by the line of the fault after the text. Files that it needs are opened, and stay open.
@@ -59,22 +55,17 @@ fn answer<B: Geometry, L: Library>(
 /// # Errors
 /// How many bytes went out until a write failed.
 pub fn answer_text<B: Geometry, L: Library, O: Sink>(
-    alloc: Global,
-    board: &str,
-    library: &mut L,
-    tables: &mut Tables<B, L::Bytes>,
+    folder: &mut Folder<'_, '_, '_, B, L>,
     text: &[u8],
     show: Show,
     output: &mut O,
 ) -> Result<Answered, u64>
     requires failures { O.failures output.old < 2 ^ 64 - 1 }
-    requires from { AreOf B.shape board.now (L.files library.old) tables.old }
-    ensures kept { L.files library.new ≡ L.files library.old }
-    ensures from { AreOf B.shape board.now (L.files library.new) tables.new }
-    ensures answer { AnswersText B.shape board.now (L.files library.old) show text.now (O.contents output.old) (O.contents output.new) result }
+    ensures stays { Stays B.shape L.files folder.old folder.new }
+    ensures answer { (name : List ℕ) (known : Option Files) → IsOf B.shape L.files name known folder.old → AnswersText B.shape name known show text.now (O.contents output.old) (O.contents output.new) result }
     ensures counted { CountsFailure (O.failures output.old) (O.failures output.new) result }
 {
-    match answer(alloc, board, library, tables, text, show) {
+    match answer(folder, text, show) {
         Ok(told) => send_told(text, show, &told, output),
         Err(fault) => send_fault(B::POINTS, text, fault, output),
     }

@@ -15,4 +15,4 @@ pub mod show;
 pub mod system;
 pub mod texts;
 mod told;
-mod values;
+pub mod values;

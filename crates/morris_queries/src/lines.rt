@@ -1,10 +1,12 @@
 //! The answers to the lines of an input.
-ghost use Rattle.std.specs.Prelude.{◌≡◌, ℕ, ◌-◌, ◌^◌, ◌<◌, ◌∷◌, ◌++◌, [], List, Option, take, IfErr, IfOk, OnOk, Ok};
+ghost use Rattle.std.specs.Prelude.{◌≡◌, ℕ, ◌-◌, ◌^◌, ◌<◌, ◌∷◌, [], List, Option, take, OnOk};
 ghost use Rattle.morris_board.specs.Streams.{CountsFailure};
-ghost use Rattle.morris_queries.specs.Answers.{AnswersText, AnswersTexts, CountsWrites};
-ghost use Rattle.morris_queries.specs.InputLines.{text_in, texts_ended, texts_in};
-ghost use Rattle.morris_queries.specs.LineAnswers.{AnswersLines, IsReadTo, StopsIn};
-ghost use Rattle.morris_queries.specs.Telling.{AreOf};
+ghost use Rattle.morris_folders.specs.Files.{Files};
+ghost use Rattle.morris_queries.specs.Answers.{AnswersText, CountsWrites};
+ghost use Rattle.morris_queries.specs.Folders.{IsOf, Stays};
+ghost use Rattle.morris_queries.specs.InputLines.{text_in};
+ghost use Rattle.morris_queries.specs.LineAnswers.{AnswersLines};
+ghost use Rattle.morris_queries.specs.Readings.{Ends, Stands, StaysOf, Takes};
 
 use crate::answer::{Answered, answer_text};
 use crate::fault::QueryFault;
@@ -12,138 +14,147 @@ use crate::library::Library;
 use crate::line::{KEPT, take_in, text_of};
 use crate::show::Show;
 use crate::texts::Tally;
-use crate::values::no_files;
+use crate::values::{Folder, no_files};
 use arrayvec::ArrayVec;
 use morris_board::board::Geometry;
 use morris_board::streams::{Failed, Sink, Source};
-use morris_lookup::tables::Tables;
 use std::alloc::Global;
 
 /// How many bytes are read at a time, at most.
 const PIECE: usize = 4096;
 
-/// Where the reading of an input stands.
+/// The reading of an input, and the answers to the lines that have ended in it.
 #[derive(Drop)]
-struct Reading {
+struct Reading<'n, 'l, 't, 'o, B: Geometry, L: Library, O> {
+    /// Where the answers are found.
+    folder: Folder<'n, 'l, 't, B, L>,
+    /// What they show.
+    show: Show,
+    /// Where they go.
+    output: &'o mut O,
+    /// How much went out.
+    tally: Tally,
     /// The first bytes of the line that is being read.
     line: ArrayVec<u8, KEPT>,
-    /// What went out before it.
-    tally: Tally,
+}
+
+#[tactic(auto, using(crate::proofs::ReadingLaws::reading_laws))]
+impl<'n, 'l, 't, 'o, B: Geometry, L: Library, O: Sink> Reading<'n, 'l, 't, 'o, B, L, O> {
+    /// Nothing is read yet.
+    fn new(
+        folder: Folder<'n, 'l, 't, B, L>,
+        show: Show,
+        output: &'o mut O,
+    ) -> Reading<'n, 'l, 't, 'o, B, L, O>
+        ensures lent { result.output.ghost_name ≡ output.entry.ghost_name }
+        ensures output { result.output.now ≡ output.old }
+        ensures folder { result.folder ≡ folder.entry }
+        ensures show { result.show ≡ show }
+        ensures stands { (name : List ℕ) (known : Option Files) → IsOf B.shape L.files name known folder.entry → Stands B.shape L.files O.contents name known (O.contents output.old) [] result }
+    {
+        Reading {
+            folder,
+            show,
+            output,
+            tally: Tally::NONE,
+            line: ArrayVec::new(),
+        }
+    }
+
+    /// Takes in the next byte: at a line feed the line before it is answered.
+    ///
+    /// # Errors
+    /// [`QueryFault::Write`], with the bytes that went out, where a write failed.
+    fn take_byte(&mut self, byte: u8) -> Result<(), QueryFault>
+        requires { O.failures self.old.output.now < 2 ^ 64 - 1 }
+        ensures stays { StaysOf B.shape L.files self.old self.new }
+        ensures taken { Takes B.shape L.files O.contents self.old self.new (byte ∷ []) result }
+        ensures counted { CountsWrites (O.failures self.old.output.now) (O.failures self.new.output.now) result }
+    {
+        if byte == b'\n' {
+            let line = self.line.as_slice();
+            let answered = answer_line(&mut self.folder, line, self.show, self.output);
+            self.tally.take(answered)?;
+            self.line.clear();
+        } else {
+            take_in(&mut self.line, byte);
+        }
+        Ok(())
+    }
+
+    /// Takes in the next bytes, and answers the lines that end in them.
+    ///
+    /// # Errors
+    /// Those of [`take_byte`](Reading::take_byte).
+    fn take_bytes(&mut self, bytes: &[u8]) -> Result<(), QueryFault>
+        requires { O.failures self.old.output.now < 2 ^ 64 - 1 }
+        ensures stays { StaysOf B.shape L.files self.old self.new }
+        ensures taken { Takes B.shape L.files O.contents self.old self.new bytes.now result }
+        ensures counted { CountsWrites (O.failures self.old.output.now) (O.failures self.new.output.now) result }
+    {
+        for byte in bytes {
+            self.take_byte(*byte)?;
+        }
+        Ok(())
+    }
+
+    /// Ends the reading: a last line that isn't empty is answered too. Answers how many of the
+    /// answers were faults.
+    ///
+    /// # Errors
+    /// Those of [`take_byte`](Reading::take_byte).
+    fn end(&mut self) -> Result<u64, QueryFault>
+        requires { O.failures self.old.output.now < 2 ^ 64 - 1 }
+        ensures stays { StaysOf B.shape L.files self.old self.new }
+        ensures ended { Ends B.shape L.files O.contents self.old self.new result }
+        ensures counted { CountsWrites (O.failures self.old.output.now) (O.failures self.new.output.now) result }
+    {
+        if !self.line.is_empty() {
+            self.take_byte(b'\n')?;
+        }
+        Ok(self.tally.refused)
+    }
+
+    /// Reads an input to its end, and answers its lines. Answers how many of the answers were
+    /// faults.
+    ///
+    /// # Errors
+    /// [`QueryFault::Read`] and [`QueryFault::Write`], as [`answer_lines`] says.
+    fn read_all<I: Source>(&mut self, input: &mut I) -> Result<u64, QueryFault>
+        requires reading { I.failures input.old < 2 ^ 64 - 1 }
+        requires writing { O.failures self.old.output.now < 2 ^ 64 - 1 }
+        ensures stays { StaysOf B.shape L.files self.old self.new }
+        ensures answer { (name : List ℕ) (known : Option Files) (start : Option (List ℕ)) → Stands B.shape L.files O.contents name known start [] self.old
+            → AnswersLines B.shape name known self.old.show (I.remaining input.old) (I.remaining input.new) start (O.contents self.new.output.now) result }
+        ensures unfailed { OnOk result (I.failures input.new ≡ I.failures input.old) }
+        ensures counted { CountsWrites (O.failures self.old.output.now) (O.failures self.new.output.now) result }
+    {
+        for _ in 0..u64::MAX {
+            let mut piece = [0; PIECE];
+            match input.read(&mut piece) {
+                Ok(0) => return self.end(),
+                Ok(count) => self.take_bytes(&piece[..count])?,
+                Err(Failed) => return Err(QueryFault::Read),
+            }
+        }
+        Err(QueryFault::Read)
+    }
 }
 
 /// Answers a line of which these are the first bytes.
 fn answer_line<B: Geometry, L: Library, O: Sink>(
-    alloc: Global,
-    board: &str,
-    library: &mut L,
-    tables: &mut Tables<B, L::Bytes>,
+    folder: &mut Folder<'_, '_, '_, B, L>,
     line: &[u8],
     show: Show,
     output: &mut O,
 ) -> Result<Answered, u64>
-    requires failures { O.failures output.old < 2 ^ 64 - 1 }
-    requires from { AreOf B.shape board.now (L.files library.old) tables.old }
-    ensures kept { L.files library.new ≡ L.files library.old }
-    ensures from { AreOf B.shape board.now (L.files library.new) tables.new }
-    ensures answer { (whole : List ℕ) → line.now ≡ take 26 whole → AnswersText B.shape board.now (L.files library.old) show (text_in whole) (O.contents output.old) (O.contents output.new) result }
+    requires { O.failures output.old < 2 ^ 64 - 1 }
+    ensures stays { Stays B.shape L.files folder.old folder.new }
+    ensures answer { (name : List ℕ) (known : Option Files) (whole : List ℕ) → IsOf B.shape L.files name known folder.old → line.now ≡ take 26 whole
+        → AnswersText B.shape name known show (text_in whole) (O.contents output.old) (O.contents output.new) result }
     ensures counted { CountsFailure (O.failures output.old) (O.failures output.new) result }
 {
-    let text = text_of(line);
-    answer_text(alloc, board, library, tables, text, show, output)
-}
-
-/// Takes in the next byte: at a line feed the line before it is answered.
-///
-/// # Errors
-/// [`QueryFault::Write`], with the bytes that went out, where a write failed.
-fn take_byte<B: Geometry, L: Library, O: Sink>(
-    alloc: Global,
-    board: &str,
-    library: &mut L,
-    tables: &mut Tables<B, L::Bytes>,
-    show: Show,
-    output: &mut O,
-    reading: &mut Reading,
-    byte: u8,
-) -> Result<(), QueryFault>
-    requires failures { O.failures output.old < 2 ^ 64 - 1 }
-    requires from { AreOf B.shape board.now (L.files library.old) tables.old }
-    ensures kept { L.files library.new ≡ L.files library.old }
-    ensures from { AreOf B.shape board.now (L.files library.new) tables.new }
-    ensures read { OnOk result ((read : List ℕ) (start : Option (List ℕ)) → IsReadTo B.shape board.now (L.files library.old) show read start (O.contents output.old) reading.old.line.items reading.old.tally
-        → IsReadTo B.shape board.now (L.files library.old) show (read ++ byte ∷ []) start (O.contents output.new) reading.new.line.items reading.new.tally) }
-    ensures stopped { IfErr result (λ refusal. (read : List ℕ) (start : Option (List ℕ)) → IsReadTo B.shape board.now (L.files library.old) show read start (O.contents output.old) reading.old.line.items reading.old.tally
-        → StopsIn B.shape board.now (L.files library.old) show (texts_ended (read ++ byte ∷ [])) start (O.contents output.new) refusal) }
-    ensures counted { CountsWrites (O.failures output.old) (O.failures output.new) result }
-{
-    if byte == b'\n' {
-        let line = reading.line.as_slice();
-        let answered = answer_line(alloc, board, library, tables, line, show, output);
-        reading.tally.take(answered)?;
-        reading.line.clear();
-    } else {
-        take_in(&mut reading.line, byte);
-    }
-    Ok(())
-}
-
-/// Takes in the next bytes, and answers the lines that end in them.
-///
-/// # Errors
-/// Those of [`take_byte`].
-fn take_bytes<B: Geometry, L: Library, O: Sink>(
-    alloc: Global,
-    board: &str,
-    library: &mut L,
-    tables: &mut Tables<B, L::Bytes>,
-    show: Show,
-    output: &mut O,
-    reading: &mut Reading,
-    bytes: &[u8],
-) -> Result<(), QueryFault>
-    requires failures { O.failures output.old < 2 ^ 64 - 1 }
-    requires from { AreOf B.shape board.now (L.files library.old) tables.old }
-    ensures kept { L.files library.new ≡ L.files library.old }
-    ensures from { AreOf B.shape board.now (L.files library.new) tables.new }
-    ensures read { OnOk result ((read : List ℕ) (start : Option (List ℕ)) → IsReadTo B.shape board.now (L.files library.old) show read start (O.contents output.old) reading.old.line.items reading.old.tally
-        → IsReadTo B.shape board.now (L.files library.old) show (read ++ bytes.now) start (O.contents output.new) reading.new.line.items reading.new.tally) }
-    ensures stopped { IfErr result (λ refusal. (read : List ℕ) (start : Option (List ℕ)) → IsReadTo B.shape board.now (L.files library.old) show read start (O.contents output.old) reading.old.line.items reading.old.tally
-        → StopsIn B.shape board.now (L.files library.old) show (texts_ended (read ++ bytes.now)) start (O.contents output.new) refusal) }
-    ensures counted { CountsWrites (O.failures output.old) (O.failures output.new) result }
-{
-    for byte in bytes {
-        take_byte(alloc, board, library, tables, show, output, reading, *byte)?;
-    }
-    Ok(())
-}
-
-/// Ends the reading: a last line that isn't empty is answered too. Answers how many of the answers
-/// were faults.
-///
-/// # Errors
-/// Those of [`take_byte`].
-fn end_lines<B: Geometry, L: Library, O: Sink>(
-    alloc: Global,
-    board: &str,
-    library: &mut L,
-    tables: &mut Tables<B, L::Bytes>,
-    show: Show,
-    output: &mut O,
-    reading: &mut Reading,
-) -> Result<u64, QueryFault>
-    requires failures { O.failures output.old < 2 ^ 64 - 1 }
-    requires from { AreOf B.shape board.now (L.files library.old) tables.old }
-    ensures kept { L.files library.new ≡ L.files library.old }
-    ensures ended { IfOk result (λ refused. (read : List ℕ) (start : Option (List ℕ)) → IsReadTo B.shape board.now (L.files library.old) show read start (O.contents output.old) reading.old.line.items reading.old.tally
-        → AnswersTexts B.shape board.now (L.files library.old) show (texts_in read) start (O.contents output.new) (Ok refused)) }
-    ensures stopped { IfErr result (λ refusal. (read : List ℕ) (start : Option (List ℕ)) → IsReadTo B.shape board.now (L.files library.old) show read start (O.contents output.old) reading.old.line.items reading.old.tally
-        → StopsIn B.shape board.now (L.files library.old) show (texts_in read) start (O.contents output.new) refusal) }
-    ensures counted { CountsWrites (O.failures output.old) (O.failures output.new) result }
-{
-    if !reading.line.is_empty() {
-        take_byte(alloc, board, library, tables, show, output, reading, b'\n')?;
-    }
-    Ok(reading.tally.refused)
+    answer_text(folder, text_of(line), show, output)
 }
 
 /// Answers the lines of an input, each as [`answer_text`] answers its text, and counts those that are
@@ -176,36 +187,7 @@ pub fn answer_lines<B: Geometry, L: Library, I: Source, O: Sink>(
     let Ok(mut tables) = no_files::<B, L>(alloc) else {
         return Err(QueryFault::Memory);
     };
-    let mut reading = Reading {
-        line: ArrayVec::new(),
-        tally: Tally::NONE,
-    };
-    for _ in 0..u64::MAX {
-        let mut piece = [0; PIECE];
-        match input.read(&mut piece) {
-            Ok(0) => {
-                return end_lines(
-                    alloc,
-                    board,
-                    library,
-                    &mut tables,
-                    show,
-                    output,
-                    &mut reading,
-                );
-            }
-            Ok(count) => take_bytes(
-                alloc,
-                board,
-                library,
-                &mut tables,
-                show,
-                output,
-                &mut reading,
-                &piece[..count],
-            )?,
-            Err(Failed) => return Err(QueryFault::Read),
-        }
-    }
-    Err(QueryFault::Read)
+    let folder = Folder::new(alloc, board, library, &mut tables);
+    let mut reading = Reading::new(folder, show, output);
+    reading.read_all(input)
 }

@@ -1,9 +1,10 @@
 //! What is printed of an answer, piece by piece, through a buffer. Each function ends at the first
 //! write that fails.
-ghost use Rattle.std.specs.Prelude.{◌≡◌, ℕ, ◌+◌, ◌-◌, ◌*◌, ◌^◌, ◌<◌, ◌≤◌, ◌∷◌, ◌++◌, codes, length, OnOk};
+ghost use Rattle.std.specs.Prelude.{◌≡◌, ℕ, ◌+◌, ◌-◌, ◌*◌, ◌^◌, ◌<◌, ◌≤◌, ◌∷◌, ◌++◌, [], List, codes, length, OnOk};
 ghost use Rattle.std.specs.List.{flat_map};
 ghost use Rattle.morris_board.specs.Buffered.{Passes, sink_of, taken_of};
 ghost use Rattle.morris_board.specs.Positions.{text_of};
+ghost use Rattle.morris_moves.specs.MoveText.{move_text};
 ghost use Rattle.morris_queries.specs.Printing.{best_text, below_text, first_line, outcome_line, ply_line, shown_text, spaced, told_text, value_text, IsShort};
 
 use crate::show::Show;
@@ -18,54 +19,129 @@ use morris_moves::step::Move;
 use morris_probe::print::{put_count, put_move};
 use morris_table::value::Value;
 
-/// A value: `draw`, `won in D` or `lost in D`, with the depth D in plies.
-fn put_value<S: Sink>(out: &mut Buffered<'_, S>, value: Value) -> Result<(), Failed>
-    requires failures { S.failures (sink_of out.old) < 2 ^ 64 - 1 }
-    requires room { taken_of out.old < 2 ^ 63 + 2 ^ 10 }
-    ensures passed { Passes S.contents S.failures out.old out.new (value_text value) result }
-    ensures few { OnOk result (taken_of out.new ≤ taken_of out.old + 52) }
-{
-    match value {
-        Value::Draw => out.put(b"draw"),
-        Value::Won(depth) => put_count(out, "won in ", u64::from(depth)),
-        Value::Lost(depth) => put_count(out, "lost in ", u64::from(depth)),
+/// What is printed as a word.
+trait Word {
+    // Its text.
+    ghost text: { Self → List ℕ };
+
+    /// Puts the word in, which has at most 62 bytes.
+    fn put_word<S: Sink>(&self, out: &mut Buffered<'_, S>) -> Result<(), Failed>
+        requires failures { S.failures (sink_of out.old) < 2 ^ 64 - 1 }
+        requires room { taken_of out.old < 2 ^ 63 + 2 ^ 10 }
+        ensures passed { Passes S.contents S.failures out.old out.new (text self.now) result }
+        ensures few { OnOk result (taken_of out.new ≤ taken_of out.old + 62) };
+}
+
+impl Word for Move {
+    ghost text = { move_text };
+
+    fn put_word<S: Sink>(&self, out: &mut Buffered<'_, S>) -> Result<(), Failed> {
+        put_move(out, *self)
     }
 }
 
-/// A blank and a move.
+/// `draw`, `won in D` or `lost in D`, with the depth D in plies.
+impl Word for Value {
+    ghost text = { value_text };
+
+    fn put_word<S: Sink>(&self, out: &mut Buffered<'_, S>) -> Result<(), Failed> {
+        match *self {
+            Value::Draw => out.put(b"draw"),
+            Value::Won(depth) => put_count(out, "won in ", u64::from(depth)),
+            Value::Lost(depth) => put_count(out, "lost in ", u64::from(depth)),
+        }
+    }
+}
+
+impl<B: Geometry> Word for Position<B> {
+    ghost text = { text_of B.shape };
+
+    fn put_word<S: Sink>(&self, out: &mut Buffered<'_, S>) -> Result<(), Failed> {
+        let mut line = [0; 24];
+        let text = &mut line[..B::POINTS as usize];
+        self.write_to(text);
+        out.put(text)
+    }
+}
+
+/// A blank and a word.
 #[tactic(auto, using(morris_board::proofs::BufferedLaws::passed_laws))]
-fn put_spaced<S: Sink>(out: &mut Buffered<'_, S>, m: Move) -> Result<(), Failed>
+fn put_spaced<W: Word, S: Sink>(out: &mut Buffered<'_, S>, word: &W) -> Result<(), Failed>
     requires failures { S.failures (sink_of out.old) < 2 ^ 64 - 1 }
     requires room { taken_of out.old < 2 ^ 63 }
-    ensures passed { Passes S.contents S.failures out.old out.new (spaced m) result }
+    ensures passed { Passes S.contents S.failures out.old out.new (codes " " ++ W.text word.now) result }
     ensures few { OnOk result (taken_of out.new ≤ taken_of out.old + 63) }
 {
     out.put(b" ")?;
-    put_move(out, m)
+    word.put_word(out)
 }
 
-/// A blank and a value.
+/// The line of a move, and a word that goes with it.
 #[tactic(auto, using(morris_board::proofs::BufferedLaws::passed_laws))]
-fn put_spaced_value<S: Sink>(out: &mut Buffered<'_, S>, value: Value) -> Result<(), Failed>
+fn put_line<W: Word, S: Sink>(out: &mut Buffered<'_, S>, m: Move, word: &W) -> Result<(), Failed>
     requires failures { S.failures (sink_of out.old) < 2 ^ 64 - 1 }
-    requires room { taken_of out.old < 2 ^ 63 }
-    ensures passed { Passes S.contents S.failures out.old out.new (codes " " ++ value_text value) result }
-    ensures few { OnOk result (taken_of out.new ≤ taken_of out.old + 53) }
+    requires room { taken_of out.old < 2 ^ 62 }
+    ensures passed { Passes S.contents S.failures out.old out.new (codes "  " ++ move_text m ++ (codes " " ++ W.text word.now) ++ (10 ∷ [])) result }
+    ensures few { OnOk result (taken_of out.new ≤ taken_of out.old + 128) }
 {
-    out.put(b" ")?;
-    put_value(out, value)
+    out.put(b"  ")?;
+    put_move(out, m)?;
+    put_spaced(out, word)?;
+    out.put_byte(b'\n')
 }
 
-/// Moves, each after a blank.
-fn put_moves<S: Sink>(out: &mut Buffered<'_, S>, moves: &[Move]) -> Result<(), Failed>
+/// What is printed in a list.
+trait Listed {
+    // What stands there of it.
+    ghost text: { Self → List ℕ };
+
+    /// Puts that in, at most 128 bytes.
+    fn put_listed<S: Sink>(&self, out: &mut Buffered<'_, S>) -> Result<(), Failed>
+        requires failures { S.failures (sink_of out.old) < 2 ^ 64 - 1 }
+        requires room { taken_of out.old < 2 ^ 62 }
+        ensures passed { Passes S.contents S.failures out.old out.new (text self.now) result }
+        ensures few { OnOk result (taken_of out.new ≤ taken_of out.old + 128) };
+}
+
+/// In the list of the best moves.
+impl Listed for Move {
+    ghost text = { spaced };
+
+    fn put_listed<S: Sink>(&self, out: &mut Buffered<'_, S>) -> Result<(), Failed> {
+        put_spaced(out, self)
+    }
+}
+
+/// In the list of what each legal move leads to.
+#[tactic(auto, unfolding(crate::specs::Printing::outcome_line))]
+impl Listed for Outcome {
+    ghost text = { outcome_line };
+
+    fn put_listed<S: Sink>(&self, out: &mut Buffered<'_, S>) -> Result<(), Failed> {
+        put_line(out, self.step, &self.value)
+    }
+}
+
+/// In a line of play.
+#[tactic(auto, unfolding(crate::specs::Printing::ply_line))]
+impl<B: Geometry> Listed for (Move, Position<B>) {
+    ghost text = { ply_line B.shape };
+
+    fn put_listed<S: Sink>(&self, out: &mut Buffered<'_, S>) -> Result<(), Failed> {
+        put_line(out, self.0, &self.1)
+    }
+}
+
+/// A list, one after the other.
+fn put_list<T: Listed, S: Sink>(out: &mut Buffered<'_, S>, list: &[T]) -> Result<(), Failed>
     requires failures { S.failures (sink_of out.old) < 2 ^ 64 - 1 }
-    requires room { taken_of out.old < 2 ^ 10 }
-    requires few { length moves.now ≤ 9 * 24 * 9 }
-    ensures passed { Passes S.contents S.failures out.old out.new (flat_map spaced moves.now) result }
-    ensures few { OnOk result (taken_of out.new < 2 ^ 20) }
+    requires room { taken_of out.old < 2 ^ 21 }
+    requires few { length list.now ≤ 65535 }
+    ensures passed { Passes S.contents S.failures out.old out.new (flat_map T.text list.now) result }
+    ensures few { OnOk result (taken_of out.new ≤ taken_of out.old + 128 * length list.now) }
 {
-    for m in moves {
-        put_spaced(out, *m)?;
+    for item in list {
+        item.put_listed(out)?;
     }
     Ok(())
 }
@@ -83,87 +159,7 @@ fn put_best<S: Sink>(out: &mut Buffered<'_, S>, best: &[Move]) -> Result<(), Fai
         return Ok(());
     }
     out.put(b":")?;
-    put_moves(out, best)
-}
-
-/// The line of a move and the value that it leads to.
-#[tactic(auto, using(morris_board::proofs::BufferedLaws::passed_laws), unfolding(crate::specs::Printing::outcome_line))]
-fn put_outcome<S: Sink>(out: &mut Buffered<'_, S>, outcome: Outcome) -> Result<(), Failed>
-    requires failures { S.failures (sink_of out.old) < 2 ^ 64 - 1 }
-    requires room { taken_of out.old < 2 ^ 62 }
-    ensures passed { Passes S.contents S.failures out.old out.new (outcome_line outcome) result }
-    ensures few { OnOk result (taken_of out.new ≤ taken_of out.old + 128) }
-{
-    out.put(b"  ")?;
-    put_move(out, outcome.step)?;
-    put_spaced_value(out, outcome.value)?;
-    out.put_byte(b'\n')
-}
-
-/// The lines of what each of some moves leads to.
-fn put_outcomes<S: Sink>(out: &mut Buffered<'_, S>, outcomes: &[Outcome]) -> Result<(), Failed>
-    requires failures { S.failures (sink_of out.old) < 2 ^ 64 - 1 }
-    requires room { taken_of out.old < 2 ^ 21 }
-    requires few { length outcomes.now ≤ 9 * 24 * 9 }
-    ensures passed { Passes S.contents S.failures out.old out.new (flat_map outcome_line outcomes.now) result }
-    ensures few { OnOk result (taken_of out.new < 2 ^ 30) }
-{
-    for outcome in outcomes {
-        put_outcome(out, *outcome)?;
-    }
-    Ok(())
-}
-
-/// A blank and the text of a position.
-#[tactic(auto, using(morris_board::proofs::BufferedLaws::passed_laws))]
-fn put_after<B: Geometry, S: Sink>(
-    out: &mut Buffered<'_, S>,
-    position: &Position<B>,
-) -> Result<(), Failed>
-    requires failures { S.failures (sink_of out.old) < 2 ^ 64 - 1 }
-    requires room { taken_of out.old < 2 ^ 63 }
-    ensures passed { Passes S.contents S.failures out.old out.new (codes " " ++ text_of B.shape position.now) result }
-    ensures few { OnOk result (taken_of out.new ≤ taken_of out.old + 32) }
-{
-    let mut line = [0; 24];
-    let text = &mut line[..B::POINTS as usize];
-    position.write_to(text);
-    out.put(b" ")?;
-    out.put(text)
-}
-
-/// The line of a move and the position after it.
-#[tactic(auto, using(morris_board::proofs::BufferedLaws::passed_laws), unfolding(crate::specs::Printing::ply_line))]
-fn put_ply<B: Geometry, S: Sink>(
-    out: &mut Buffered<'_, S>,
-    ply: &(Move, Position<B>),
-) -> Result<(), Failed>
-    requires failures { S.failures (sink_of out.old) < 2 ^ 64 - 1 }
-    requires room { taken_of out.old < 2 ^ 62 }
-    ensures passed { Passes S.contents S.failures out.old out.new (ply_line B.shape ply.now) result }
-    ensures few { OnOk result (taken_of out.new ≤ taken_of out.old + 128) }
-{
-    out.put(b"  ")?;
-    put_move(out, ply.0)?;
-    put_after(out, &ply.1)?;
-    out.put_byte(b'\n')
-}
-
-/// The lines of a line of play.
-fn put_plies<B: Geometry, S: Sink>(
-    out: &mut Buffered<'_, S>,
-    plies: &[(Move, Position<B>)],
-) -> Result<(), Failed>
-    requires failures { S.failures (sink_of out.old) < 2 ^ 64 - 1 }
-    requires room { taken_of out.old < 2 ^ 21 }
-    requires few { length plies.now ≤ 65535 }
-    ensures passed { Passes S.contents S.failures out.old out.new (flat_map (ply_line B.shape) plies.now) result }
-    ensures few { OnOk result (taken_of out.new < 2 ^ 30) }
-{
-    for ply in plies {
-        put_ply(out, ply)?;
-    }
-    Ok(())
+    put_list(out, best)
 }
 
 /// The text that was asked about: of one that is too long its first characters, and two dots.
@@ -197,7 +193,7 @@ fn put_first_line<B: Geometry, S: Sink>(
     ensures few { OnOk result (taken_of out.new ≤ 2 ^ 20) }
 {
     put_shown(out, B::POINTS, text)?;
-    put_spaced_value(out, told.value())?;
+    put_spaced(out, &told.value())?;
     put_best(out, told.best())?;
     out.put_byte(b'\n')
 }
@@ -216,8 +212,8 @@ fn put_below<B: Geometry, S: Sink>(
 {
     match show {
         Show::Best => Ok(()),
-        Show::Moves => put_outcomes(out, told.outcomes()),
-        Show::Line => put_plies(out, told.line()),
+        Show::Moves => put_list(out, told.outcomes()),
+        Show::Line => put_list(out, told.line()),
     }
 }
 

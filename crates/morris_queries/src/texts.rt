@@ -1,12 +1,14 @@
 //! The answers to a list of texts.
-ghost use Rattle.std.specs.Prelude.{◌≡◌, ◌-◌, ◌^◌, ◌<◌, map};
+ghost use Rattle.std.specs.Prelude.{◌≡◌, ◌-◌, ◌^◌, ◌<◌, ℕ, List, Option, map};
+ghost use Rattle.morris_folders.specs.Files.{Files};
 ghost use Rattle.morris_queries.specs.Answers.{AnswersTexts, CountsWrites, IsTallied};
+ghost use Rattle.morris_queries.specs.Folders.{IsOf, Stays};
 
 use crate::answer::{Answered, answer_text};
 use crate::fault::QueryFault;
 use crate::library::Library;
 use crate::show::Show;
-use crate::values::no_files;
+use crate::values::{Folder, no_files};
 use morris_board::board::Geometry;
 use morris_board::streams::Sink;
 use std::alloc::Global;
@@ -68,10 +70,29 @@ pub fn answer_texts<B: Geometry, L: Library, O: Sink>(
     let Ok(mut tables) = no_files::<B, L>(alloc) else {
         return Err(QueryFault::Memory);
     };
+    let mut folder = Folder::new(alloc, board, library, &mut tables);
+    answer_each(&mut folder, texts, show, output)
+}
+
+/// Answers a list of texts, one after the other, and counts those that are answered by a fault.
+///
+/// # Errors
+/// [`QueryFault::Write`], with the bytes that went out, at the first write that fails.
+#[tactic(auto, using(crate::proofs::FolderLaws::stays_laws))]
+fn answer_each<B: Geometry, L: Library, O: Sink>(
+    folder: &mut Folder<'_, '_, '_, B, L>,
+    texts: &[&str],
+    show: Show,
+    output: &mut O,
+) -> Result<u64, QueryFault>
+    requires { O.failures output.old < 2 ^ 64 - 1 }
+    ensures stays { Stays B.shape L.files folder.old folder.new }
+    ensures answer { (name : List ℕ) (known : Option Files) → IsOf B.shape L.files name known folder.old → AnswersTexts B.shape name known show (map (λ text. text.now) texts.now) (O.contents output.old) (O.contents output.new) result }
+    ensures counted { CountsWrites (O.failures output.old) (O.failures output.new) result }
+{
     let mut tally = Tally::NONE;
     for text in texts {
-        let bytes = text.as_bytes();
-        let answered = answer_text(alloc, board, library, &mut tables, bytes, show, output);
+        let answered = answer_text(folder, text.as_bytes(), show, output);
         tally.take(answered)?;
     }
     Ok(tally.refused)

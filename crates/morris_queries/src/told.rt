@@ -1,21 +1,20 @@
 //! What is told of a position: its value, its best moves, what each legal move leads to, and the
 //! line of best play.
-ghost use Rattle.std.specs.Prelude.{◌≡◌, ◌≤◌, ◌*◌, ◌++◌, ◌∷◌, [], Some, Ok, map, length, IfOk, IfErr, OnOk};
+ghost use Rattle.std.specs.Prelude.{◌≡◌, ◌≤◌, ◌*◌, ◌++◌, ◌∷◌, [], map, length, IfOk, OnOk};
 ghost use Rattle.morris_lookup.specs.declared.outcomes.Outcome.{Outcome};
 ghost use Rattle.morris_lookup.specs.Lookups.{depth_of};
 ghost use Rattle.morris_moves.specs.Rules.{moves_of};
-ghost use Rattle.morris_folders.specs.Files.{Files};
+ghost use Rattle.morris_queries.specs.Folders.{Stays, Tells};
 ghost use Rattle.morris_queries.specs.Printing.{IsShort};
-ghost use Rattle.morris_queries.specs.Telling.{Agrees, AreOf, IsListed, IsRefusal, best_among, same_value, told_of, told_line, told_outcomes, told_shown};
+ghost use Rattle.morris_queries.specs.Telling.{Agrees, Gives, IsListed, best_among, same_value, told_of, told_line, told_outcomes, told_shown};
 
 use crate::library::Library;
 use crate::show::Show;
-use crate::values::value_of;
+use crate::values::Folder;
 use morris_board::board::Geometry;
 use morris_board::position::Position;
 use morris_faults::fault::Fault;
 use morris_lookup::outcomes::{Outcome, turned};
-use morris_lookup::tables::Tables;
 use morris_moves::rules::{moves, play};
 use morris_moves::step::Move;
 use morris_table::value::Value;
@@ -69,35 +68,107 @@ impl<B: Geometry> Told<B> {
     }
 }
 
-/// What each legal move of a position leads to, in order.
-///
-/// # Errors
-/// Those of [`value_of`], at the first move for which there is one; [`Fault::Memory`].
-fn outcomes_of<B: Geometry, L: Library>(
-    alloc: Global,
-    board: &str,
-    library: &mut L,
-    tables: &mut Tables<B, L::Bytes>,
-    position: &Position<B>,
-) -> Result<Vec<Outcome>, Fault>
-    requires from { AreOf B.shape board.now (L.files library.old) tables.old }
-    ensures kept { L.files library.new ≡ L.files library.old }
-    ensures from { AreOf B.shape board.now (L.files library.new) tables.new }
-    ensures listed { IfOk result (λ outcomes. map (λ (o : Outcome). o.step) outcomes.items ≡ moves_of B.shape position.now) }
-    ensures few { IfOk result (λ outcomes. length outcomes.items ≤ 9 * 24 * 9) }
-    ensures told { (files : Files) → L.files library.old ≡ Some files → IfOk result (λ outcomes. told_outcomes B.shape board.now files position.now (moves_of B.shape position.now) ≡ Ok outcomes.items) }
-    ensures refused { (files : Files) → L.files library.old ≡ Some files → IfErr result (λ refused. IsRefusal refused (told_outcomes B.shape board.now files position.now (moves_of B.shape position.now))) }
-{
-    let mut outcomes = Vec::with_capacity(alloc, moves(position).count())?;
-    for m in moves(position) {
-        let value = value_of(alloc, board, library, tables, &play(position, m))?;
-        let outcome = Outcome {
-            step: m,
-            value: turned(value),
-        };
-        keep(&mut outcomes, outcome)?;
+#[tactic(auto, using(crate::proofs::FolderLaws::stays_laws))]
+impl<B: Geometry, L: Library> Folder<'_, '_, '_, B, L> {
+    /// What each legal move of a position leads to, in order.
+    ///
+    /// # Errors
+    /// Those of [`value`](Folder::value), at the first move for which there is one;
+    /// [`Fault::Memory`].
+    fn outcomes(&mut self, position: &Position<B>) -> Result<Vec<Outcome>, Fault>
+        ensures stays { Stays B.shape L.files self.old self.new }
+        ensures listed { IfOk result (λ outcomes. map (λ (o : Outcome). o.step) outcomes.items ≡ moves_of B.shape position.now) }
+        ensures few { IfOk result (λ outcomes. length outcomes.items ≤ 9 * 24 * 9) }
+        ensures told { Tells B.shape L.files self.old (λ name files. Gives result (λ outcomes. outcomes.items) (told_outcomes B.shape name files position.now (moves_of B.shape position.now))) }
+    {
+        let mut outcomes = Vec::with_capacity(self.alloc, moves(position).count())?;
+        for m in moves(position) {
+            let value = self.value(&play(position, m))?;
+            let outcome = Outcome {
+                step: m,
+                value: turned(value),
+            };
+            keep(&mut outcomes, outcome)?;
+        }
+        Ok(outcomes)
     }
-    Ok(outcomes)
+
+    /// What is told of a position, without a line of play.
+    ///
+    /// # Errors
+    /// Those of [`value`](Folder::value), for the position and then at the first legal move for
+    /// which there is one; [`Fault::Memory`].
+    fn tell_best(&mut self, position: &Position<B>) -> Result<Told<B>, Fault>
+        ensures stays { Stays B.shape L.files self.old self.new }
+        ensures listed { IfOk result (IsListed B.shape position.now) }
+        ensures few { IfOk result IsShort }
+        ensures told { Tells B.shape L.files self.old (λ name files. Agrees result (told_of B.shape name files position.now)) }
+    {
+        let value = self.value(position)?;
+        let outcomes = self.outcomes(position)?;
+        let best = best_of(self.alloc, value, outcomes.as_slice())?;
+        Ok(Told {
+            value,
+            best,
+            outcomes,
+            line: Vec::new(self.alloc),
+        })
+    }
+
+    /// The line of best play from a position: the first best move at each of at most so many plies,
+    /// each with the position after it. It ends where there is no best move.
+    ///
+    /// # Errors
+    /// Those of [`tell_best`](Folder::tell_best), at the first position of the line for which there
+    /// is one; [`Fault::Memory`].
+    fn play_out(
+        &mut self,
+        position: &Position<B>,
+        plies: u16,
+    ) -> Result<Vec<(Move, Position<B>)>, Fault>
+        ensures stays { Stays B.shape L.files self.old self.new }
+        ensures few { IfOk result (λ line. length line.items ≤ plies) }
+        ensures told { Tells B.shape L.files self.old (λ name files. Gives result (λ line. line.items) (told_line B.shape name files plies position.now)) }
+    {
+        let mut line = Vec::new(self.alloc);
+        let mut here = *position;
+        for _ in 0..plies {
+            let told = self.tell_best(&here)?;
+            let m = match told.best().first() {
+                None => return Ok(line),
+                Some(m) => *m,
+            };
+            here = play(&here, m);
+            keep(&mut line, (m, here))?;
+        }
+        Ok(line)
+    }
+
+    /// What is told of a position where this is to be shown.
+    ///
+    /// # Errors
+    /// Those of [`tell_best`](Folder::tell_best) for the position, and then for those of the line of
+    /// play, where it is to be shown.
+    pub(crate) fn tell(&mut self, position: &Position<B>, show: Show) -> Result<Told<B>, Fault>
+        ensures stays { Stays B.shape L.files self.old self.new }
+        ensures listed { IfOk result (IsListed B.shape position.now) }
+        ensures few { IfOk result IsShort }
+        ensures told { Tells B.shape L.files self.old (λ name files. Agrees result (told_shown B.shape name files show position.now)) }
+    {
+        let told = self.tell_best(position)?;
+        match show {
+            Show::Line => {
+                let line = self.play_out(position, depth_of(told.value))?;
+                Ok(Told {
+                    value: told.value,
+                    best: told.best,
+                    outcomes: told.outcomes,
+                    line,
+                })
+            }
+            _ => Ok(told),
+        }
+    }
 }
 
 /// Adds one to a list.
@@ -129,107 +200,6 @@ fn best_of(alloc: Global, value: Value, outcomes: &[Outcome]) -> Result<Vec<Move
         .filter(|outcome| is_same(outcome.value, value))
         .map(|outcome| outcome.step)
         .collect(alloc)
-}
-
-/// What is told of a position, without a line of play.
-///
-/// # Errors
-/// Those of [`value_of`], for the position and then at the first legal move for which there is one;
-/// [`Fault::Memory`].
-fn tell_best<B: Geometry, L: Library>(
-    alloc: Global,
-    board: &str,
-    library: &mut L,
-    tables: &mut Tables<B, L::Bytes>,
-    position: &Position<B>,
-) -> Result<Told<B>, Fault>
-    requires from { AreOf B.shape board.now (L.files library.old) tables.old }
-    ensures kept { L.files library.new ≡ L.files library.old }
-    ensures from { AreOf B.shape board.now (L.files library.new) tables.new }
-    ensures listed { IfOk result (IsListed B.shape position.now) }
-    ensures few { IfOk result IsShort }
-    ensures told { (files : Files) → L.files library.old ≡ Some files → Agrees result (told_of B.shape board.now files position.now) }
-{
-    let value = value_of(alloc, board, library, tables, position)?;
-    let outcomes = outcomes_of(alloc, board, library, tables, position)?;
-    let best = best_of(alloc, value, outcomes.as_slice())?;
-    Ok(Told {
-        value,
-        best,
-        outcomes,
-        line: Vec::new(alloc),
-    })
-}
-
-/// The line of best play from a position: the first best move at each of at most so many plies,
-/// each with the position after it. It ends where there is no best move.
-///
-/// # Errors
-/// Those of [`tell_best`], at the first position of the line for which there is one;
-/// [`Fault::Memory`].
-fn play_out<B: Geometry, L: Library>(
-    alloc: Global,
-    board: &str,
-    library: &mut L,
-    tables: &mut Tables<B, L::Bytes>,
-    position: &Position<B>,
-    plies: u16,
-) -> Result<Vec<(Move, Position<B>)>, Fault>
-    requires from { AreOf B.shape board.now (L.files library.old) tables.old }
-    ensures kept { L.files library.new ≡ L.files library.old }
-    ensures from { AreOf B.shape board.now (L.files library.new) tables.new }
-    ensures few { IfOk result (λ line. length line.items ≤ plies) }
-    ensures told { (files : Files) → L.files library.old ≡ Some files → IfOk result (λ line. told_line B.shape board.now files plies position.now ≡ Ok line.items) }
-    ensures refused { (files : Files) → L.files library.old ≡ Some files → IfErr result (λ refused. IsRefusal refused (told_line B.shape board.now files plies position.now)) }
-{
-    let mut line = Vec::new(alloc);
-    let mut here = *position;
-    for _ in 0..plies {
-        let told = tell_best(alloc, board, library, tables, &here)?;
-        let m = match told.best().first() {
-            None => return Ok(line),
-            Some(m) => *m,
-        };
-        here = play(&here, m);
-        keep(&mut line, (m, here))?;
-    }
-    Ok(line)
-}
-
-/// What is told of a position where this is to be shown.
-///
-/// # Errors
-/// Those of [`tell_best`] for the position, and then for those of the line of play, where it is to
-/// be shown.
-pub(crate) fn tell<B: Geometry, L: Library>(
-    alloc: Global,
-    board: &str,
-    library: &mut L,
-    tables: &mut Tables<B, L::Bytes>,
-    position: &Position<B>,
-    show: Show,
-) -> Result<Told<B>, Fault>
-    requires from { AreOf B.shape board.now (L.files library.old) tables.old }
-    ensures kept { L.files library.new ≡ L.files library.old }
-    ensures from { AreOf B.shape board.now (L.files library.new) tables.new }
-    ensures listed { IfOk result (IsListed B.shape position.now) }
-    ensures few { IfOk result IsShort }
-    ensures told { (files : Files) → L.files library.old ≡ Some files → Agrees result (told_shown B.shape board.now files show position.now) }
-{
-    let told = tell_best(alloc, board, library, tables, position)?;
-    match show {
-        Show::Line => {
-            let plies = depth_of(told.value);
-            let line = play_out(alloc, board, library, tables, position, plies)?;
-            Ok(Told {
-                value: told.value,
-                best: told.best,
-                outcomes: told.outcomes,
-                line,
-            })
-        }
-        _ => Ok(told),
-    }
 }
 
 /// In how many plies the game is over by a value, 0 at a draw.

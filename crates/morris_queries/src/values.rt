@@ -3,6 +3,7 @@ ghost use Rattle.std.specs.Prelude.{◌≡◌, ◌≤◌, ℕ, List, Option, Non
 ghost use Rattle.morris_lookup.specs.FileSets.{file_for, missing_file};
 ghost use Rattle.morris_lookup.specs.Lookups.{depth_of};
 ghost use Rattle.morris_folders.specs.Files.{Files};
+ghost use Rattle.morris_queries.specs.Folders.{IsOf, Stays, Tells, lent_of, library_of};
 ghost use Rattle.morris_queries.specs.Libraries.{IsFound};
 ghost use Rattle.morris_queries.specs.Telling.{Agrees, AreOf, IsRefusal, opened_as, table_in, told_value};
 
@@ -20,34 +21,112 @@ use morris_table::shelf::Needs;
 use morris_table::value::Value;
 use std::alloc::{AllocError, Global};
 
-/// Opens the file of a pair, by the name that it has on the board of this name.
-///
-/// # Errors
-/// [`Fault::Needs`] with the pair where no file of that name is there, or it is one of another
-/// pair; where it isn't a file of a table, the fault that `morris_table` has for it; [`Fault::Read`]
-/// where it can't be opened or read; [`Fault::Memory`] where memory is refused.
-fn open_file<B: Geometry, L: Library>(
-    alloc: Global,
-    board: &str,
-    library: &mut L,
-    pair: Pair<B>,
-) -> Result<Opened<B, L::Bytes>, Fault>
-    ensures kept { L.files library.new ≡ L.files library.old }
-    ensures pair { IfOk result (λ file. file.pair ≡ pair) }
-    ensures opened { (files : Files) → L.files library.old ≡ Some files → Agrees result (table_in B.shape board.now files pair) }
-{
-    let name = file_name(alloc, board, pair)?;
-    match library.open(name.as_str()) {
-        Ok(found) => open_found(alloc, found, pair),
-        Err(Unopened::Memory) => Err(Fault::Memory),
-        Err(Unopened::Failed) => Err(Fault::Read),
+/// The table files of a folder on a board, and those of them that are open: a file is opened when a
+/// position first needs it, and stays open.
+#[derive(Drop)]
+pub struct Folder<'n, 'l, 't, B: Geometry, L: Library> {
+    pub(crate) alloc: Global,
+    board: &'n str,
+    library: &'l mut L,
+    tables: &'t mut Tables<B, L::Bytes>,
+}
+
+#[tactic(auto, using(crate::proofs::FolderLaws::stays_laws))]
+impl<'n, 'l, 't, B: Geometry, L: Library> Folder<'n, 'l, 't, B, L> {
+    /// The files of a library, by the names that they have on the board of this name. `tables` are
+    /// those that are open.
+    pub fn new(
+        alloc: Global,
+        board: &'n str,
+        library: &'l mut L,
+        tables: &'t mut Tables<B, L::Bytes>,
+    ) -> Folder<'n, 'l, 't, B, L>
+        ensures lent { lent_of result ≡ library.entry.ghost_name }
+        ensures library { library_of result ≡ library.old }
+        ensures of { AreOf B.shape board.entry.now (L.files library.old) tables.old → IsOf B.shape L.files board.entry.now (L.files library.old) result }
+    {
+        Folder {
+            alloc,
+            board,
+            library,
+            tables,
+        }
+    }
+
+    /// Opens the file of a pair.
+    ///
+    /// # Errors
+    /// [`Fault::Needs`] with the pair where no file of that name is there, or it is one of another
+    /// pair; where it isn't a file of a table, the fault that `morris_table` has for it;
+    /// [`Fault::Read`] where it can't be opened or read; [`Fault::Memory`] where memory is refused.
+    fn open_file(&mut self, pair: Pair<B>) -> Result<Opened<B, L::Bytes>, Fault>
+        ensures stays { Stays B.shape L.files self.old self.new }
+        ensures pair { IfOk result (λ file. file.pair ≡ pair) }
+        ensures opened { Tells B.shape L.files self.old (λ name files. Agrees result (table_in B.shape name files pair)) }
+    {
+        let name = file_name(self.alloc, self.board, pair)?;
+        match self.library.open(name.as_str()) {
+            Ok(found) => open_found(self.alloc, found, pair),
+            Err(Unopened::Memory) => Err(Fault::Memory),
+            Err(Unopened::Failed) => Err(Fault::Read),
+        }
+    }
+
+    /// Has the file of a pair open.
+    ///
+    /// # Errors
+    /// Those of [`open_file`](Folder::open_file), where it wasn't open.
+    fn make_ready(&mut self, pair: Pair<B>) -> Result<(), Fault>
+        ensures stays { Stays B.shape L.files self.old self.new }
+        ensures ready { OnOk result (IsSome (file_for self.new.tables.now pair)) }
+        ensures refused { Tells B.shape L.files self.old (λ name files. IfErr result (λ refused. IsRefusal refused (table_in B.shape name files pair))) }
+    {
+        if self.tables.get(pair).is_none() {
+            let file = self.open_file(pair)?;
+            self.tables.put(file);
+        }
+        Ok(())
+    }
+
+    /// Has the file open that tells the value of a position, if there is one.
+    ///
+    /// # Errors
+    /// Those of [`open_file`](Folder::open_file), where it wasn't open.
+    fn make_ready_for(&mut self, position: &Position<B>) -> Result<(), Fault>
+        ensures stays { Stays B.shape L.files self.old self.new }
+        ensures ready { OnOk result (missing_file self.new.tables.now position.now ≡ None) }
+        ensures refused { Tells B.shape L.files self.old (λ name files. IfErr result (λ refused. IsRefusal refused (told_value B.shape name files position.now))) }
+    {
+        match Pair::of(position) {
+            None => Ok(()),
+            Some(pair) => self.make_ready(pair),
+        }
+    }
+
+    /// The value of a position, as the file of its pair states it. A player to move with two stones
+    /// has lost in 0 plies: that needs no file.
+    ///
+    /// # Errors
+    /// Those of the opening of the file; [`Fault::Read`] where it can't be read.
+    pub(crate) fn value(&mut self, position: &Position<B>) -> Result<Value, Fault>
+        ensures stays { Stays B.shape L.files self.old self.new }
+        ensures told { Tells B.shape L.files self.old (λ name files. Agrees result (told_value B.shape name files position.now)) }
+        ensures few { IfOk result (λ value. depth_of value ≤ 65534) }
+    {
+        self.make_ready_for(position)?;
+        match self.tables.value(position) {
+            Ok(value) => Ok(value),
+            Err(LookFault::Needs(needs)) => Err(Fault::from(needs)),
+            Err(LookFault::Read) => Err(Fault::Read),
+            Err(LookFault::Memory) => Err(Fault::Memory),
+        }
     }
 }
 
 /// Opens what was found as the file of a pair.
 ///
 /// # Errors
-/// Those of [`open_file`], but for a file that can't be opened.
+/// Those of [`Folder::open_file`], but for a file that can't be opened.
 fn open_found<B: Geometry, S: Storage + Drop>(
     alloc: Global,
     found: Option<S>,
@@ -63,79 +142,6 @@ fn open_found<B: Geometry, S: Storage + Drop>(
             Err(OpenFault::File(refusal)) => Err(Fault::from(refusal)),
             Err(OpenFault::Pair) => Err(Fault::from(Needs(pair))),
         },
-    }
-}
-
-/// Has the file of a pair open.
-///
-/// # Errors
-/// Those of [`open_file`], where it wasn't open.
-fn make_ready<B: Geometry, L: Library>(
-    alloc: Global,
-    board: &str,
-    library: &mut L,
-    tables: &mut Tables<B, L::Bytes>,
-    pair: Pair<B>,
-) -> Result<(), Fault>
-    requires from { AreOf B.shape board.now (L.files library.old) tables.old }
-    ensures kept { L.files library.new ≡ L.files library.old }
-    ensures from { AreOf B.shape board.now (L.files library.new) tables.new }
-    ensures ready { OnOk result (IsSome (file_for tables.new pair)) }
-    ensures refused { (files : Files) → L.files library.old ≡ Some files → IfErr result (λ refused. IsRefusal refused (table_in B.shape board.now files pair)) }
-{
-    if tables.get(pair).is_none() {
-        tables.put(open_file(alloc, board, library, pair)?);
-    }
-    Ok(())
-}
-
-/// Has the file open that tells the value of a position, if there is one.
-///
-/// # Errors
-/// Those of [`open_file`], where it wasn't open.
-fn make_ready_for<B: Geometry, L: Library>(
-    alloc: Global,
-    board: &str,
-    library: &mut L,
-    tables: &mut Tables<B, L::Bytes>,
-    position: &Position<B>,
-) -> Result<(), Fault>
-    requires from { AreOf B.shape board.now (L.files library.old) tables.old }
-    ensures kept { L.files library.new ≡ L.files library.old }
-    ensures from { AreOf B.shape board.now (L.files library.new) tables.new }
-    ensures ready { OnOk result (missing_file tables.new position.now ≡ None) }
-    ensures refused { (files : Files) → L.files library.old ≡ Some files → IfErr result (λ refused. IsRefusal refused (told_value B.shape board.now files position.now)) }
-{
-    match Pair::of(position) {
-        None => Ok(()),
-        Some(pair) => make_ready(alloc, board, library, tables, pair),
-    }
-}
-
-/// The value of a position, as the file of its pair states it. A player to move with two stones has
-/// lost in 0 plies: that needs no file.
-///
-/// # Errors
-/// Those of the opening of the file; [`Fault::Read`] where it can't be read.
-pub(crate) fn value_of<B: Geometry, L: Library>(
-    alloc: Global,
-    board: &str,
-    library: &mut L,
-    tables: &mut Tables<B, L::Bytes>,
-    position: &Position<B>,
-) -> Result<Value, Fault>
-    requires from { AreOf B.shape board.now (L.files library.old) tables.old }
-    ensures kept { L.files library.new ≡ L.files library.old }
-    ensures from { AreOf B.shape board.now (L.files library.new) tables.new }
-    ensures told { (files : Files) → L.files library.old ≡ Some files → Agrees result (told_value B.shape board.now files position.now) }
-    ensures few { IfOk result (λ value. depth_of value ≤ 65534) }
-{
-    make_ready_for(alloc, board, library, tables, position)?;
-    match tables.value(position) {
-        Ok(value) => Ok(value),
-        Err(LookFault::Needs(needs)) => Err(Fault::from(needs)),
-        Err(LookFault::Read) => Err(Fault::Read),
-        Err(LookFault::Memory) => Err(Fault::Memory),
     }
 }
 

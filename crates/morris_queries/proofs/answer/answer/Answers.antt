@@ -2,18 +2,23 @@ use Rattle.std.proofs.Common.{◌≤◌, sym, arith}
 use Rattle.std.proofs.lemmas.Result.{err_from_is_err_and}
 use Rattle.morris_queries.proofs.ExactLaws.{game_told}
 use Rattle.morris_queries.proofs.AnswerLaws.{answer_refused, answer_told}
+use Rattle.morris_queries.proofs.FolderLaws.{known_as, stays_here}
 use Rattle.morris_queries.proofs.answer.answer.Goals as goal
 
+pub returns-in_err-position-clause-stays : goal.returns-in_err-position-clause-stays
+returns-in_err-position-clause-stays g c = stays_here g.B.Geometry.shape g.L.Library.files c.args.folder.now
+
 pub returns-in_err-position-clause-answer : goal.returns-in_err-position-clause-answer
-returns-in_err-position-clause-answer g c =
+returns-in_err-position-clause-answer g c = λ name known of.
     let failed = err_from_is_err_and c.from_residual.result c.from_residual.ensures.1 in
     rw (failed.1, failed.2)
-    (answer_refused g.B.Geometry.shape c.args.board.now (g.L.Library.files c.args.library.now) c.args.show c.args.text.now c.in_err-position.field-0.0 (sym c.in_err-position.ensures.answer))
+    (answer_refused g.B.Geometry.shape name known c.args.show c.args.text.now c.in_err-position.field-0.0 (sym c.in_err-position.ensures.answer))
 
 pub returns-clause-answer : goal.returns-clause-answer
-returns-clause-answer g c =
+returns-clause-answer g c = λ name known of.
     let few : g.B.Geometry.shape.points ≤ 24 = omega (arith, g.met.B.Geometry.point_count, g.met.B.Geometry.few) in
-    answer_told g.B.Geometry.shape c.args.board.now (g.L.Library.files c.args.library.now) c.args.show c.args.text.now c.in_ok-position.position c.tell.result
-    (sym c.in_ok-position.ensures.answer) c.tell.ensures.listed c.tell.ensures.told
-    (λ files known exact. game_told g.B.Geometry.shape few g.met.B.Geometry.has_symmetries c.args.board.now files exact c.args.show c.in_ok-position.position
-    c.own.ensures.lawful c.tell.result (c.tell.ensures.told files known))
+    answer_told g.B.Geometry.shape name known c.args.show c.args.text.now c.in_ok-position.position c.tell.result
+    (sym c.in_ok-position.ensures.answer) c.tell.ensures.listed
+    (λ files is. c.tell.ensures.told name files (known_as g.B.Geometry.shape g.L.Library.files name known files c.args.folder.now is of))
+    (λ files is exact. game_told g.B.Geometry.shape few g.met.B.Geometry.has_symmetries name files exact c.args.show c.in_ok-position.position
+    c.own.ensures.lawful c.tell.result (c.tell.ensures.told name files (known_as g.B.Geometry.shape g.L.Library.files name known files c.args.folder.now is of)))

@@ -25,4 +25,4 @@ pub returns-clause-passed : goal.returns-clause-passed
 returns-clause-passed g c =
     let some : 0 < length c.args.best.now = some_length c.args.best.now (sym c.is_empty.ensures ∙ c.if-is_empty.false) in
     rw (some_best c.args.best.now some)
-    (goes_on c.put_moves.new.out (flat_map spaced c.args.best.now) c.put_moves.result c.in_ok-put.ensures.passed c.put_moves.ensures.passed)
+    (goes_on c.put_list.new.out (flat_map spaced c.args.best.now) c.put_list.result c.in_ok-put.ensures.passed c.put_list.ensures.passed)

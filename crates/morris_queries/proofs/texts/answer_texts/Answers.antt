@@ -1,47 +1,13 @@
-use Rattle.std.proofs.Common.{◌∙◌, Bor, List, ℕ, map, take, refl, sym, subst}
-use Rattle.std.proofs.lemmas.Result.{err_from_is_err_and}
-use Rattle.morris_queries.specs.Answers.{AreOut}
-use Rattle.morris_queries.proofs.AnswerLaws.{out_none, texts_stopped, texts_more, counts_stopped, counts_on, text_next}
+use Rattle.std.proofs.Common.{◌≡◌, ◌∙◌, ap, sym}
+use Rattle.morris_queries.specs.Folders.{library_of}
 use Rattle.morris_queries.proofs.texts.answer_texts.Goals as goal
 
-pub loop-text-init : goal.loop-text-init
-loop-text-init g c = record {
-  kept = refl;
-  from = c.in-Ok.ensures c.args.board.now (g.L.Library.files c.args.library.now);
-  unfailed = refl;
-  out = out_none g.B.Geometry.shape c.args.board.now (g.L.Library.files c.args.library.now) c.args.show (g.O.Sink.contents c.args.output.now) _ refl refl;
-}
+pub returns-clause-answer : goal.returns-clause-answer
+returns-clause-answer g c =
+    c.answer_each.ensures.answer c.args.board.now (g.L.Library.files c.args.library.now)
+    (c.new-folder.ensures.of (c.in-Ok.ensures c.args.board.now (g.L.Library.files c.args.library.now)))
 
-pub returns-in_err-take-clause-answer : goal.returns-in_err-take-clause-answer
-returns-in_err-take-clause-answer g c =
-    let failed = err_from_is_err_and c.from_residual.result c.from_residual.ensures.1 in
-    rw (failed.1, failed.2)
-    (texts_stopped g.B.Geometry.shape c.args.board.now (g.L.Library.files c.args.library.now) c.args.show (map (λ (t : Bor (List ℕ)). t.now) c.args.texts.now) c.loop-text.text-index
-    c.as_bytes-bytes.result.now (g.O.Sink.contents c.args.output.now) (g.O.Sink.contents c.loop-text.output) (g.O.Sink.contents c.answer_text-answered.new.output)
-    c.loop-text.tally c.take.new.self c.answer_text-answered.result c.in_err-take.field-0.0 c.loop-text.invariant.out
-    (rw c.loop-text.invariant.kept at c.answer_text-answered.ensures.answer) c.in_err-take.ensures
-    (text_next c.args.texts.now c.loop-text.text-index _ c.as_bytes-bytes.result.now c.loop-text-test.true c.as_bytes-bytes.ensures.value))
-
-pub returns-in_err-take-clause-counted : goal.returns-in_err-take-clause-counted
-returns-in_err-take-clause-counted g c =
-    let failed = err_from_is_err_and c.from_residual.result c.from_residual.ensures.1 in
-    rw (failed.1, failed.2)
-    (counts_stopped ℕ (g.O.Sink.failures c.args.output.now) (g.O.Sink.failures c.loop-text.output) (g.O.Sink.failures c.answer_text-answered.new.output)
-    c.loop-text.tally c.take.new.self c.answer_text-answered.result c.in_err-take.field-0.0 c.loop-text.invariant.unfailed c.answer_text-answered.ensures.counted c.in_err-take.ensures)
-
-pub loop-text-preserved : goal.loop-text-preserved
-loop-text-preserved g c = record {
-  kept = c.answer_text-answered.ensures.kept ∙ c.loop-text.invariant.kept;
-  from = c.answer_text-answered.ensures.from;
-  unfailed =
-      counts_on (g.O.Sink.failures c.args.output.now) (g.O.Sink.failures c.loop-text.output) (g.O.Sink.failures c.answer_text-answered.new.output)
-      c.loop-text.tally c.take.new.self c.answer_text-answered.result c.loop-text.invariant.unfailed c.answer_text-answered.ensures.counted c.in_ok-take.ensures;
-  out =
-      subst (λ ts. AreOut g.B.Geometry.shape c.args.board.now (g.L.Library.files c.args.library.now) c.args.show ts (g.O.Sink.contents c.args.output.now)
-      (g.O.Sink.contents c.answer_text-answered.new.output) c.take.new.self)
-      (sym (text_next c.args.texts.now c.loop-text.text-index _ c.as_bytes-bytes.result.now c.loop-text-test.true c.as_bytes-bytes.ensures.value))
-      (texts_more g.B.Geometry.shape c.args.board.now (g.L.Library.files c.args.library.now) c.args.show (take c.loop-text.text-index (map (λ (t : Bor (List ℕ)). t.now) c.args.texts.now))
-      c.as_bytes-bytes.result.now (g.O.Sink.contents c.args.output.now) (g.O.Sink.contents c.loop-text.output) (g.O.Sink.contents c.answer_text-answered.new.output)
-      c.loop-text.tally c.take.new.self c.answer_text-answered.result c.loop-text.invariant.out
-      (rw c.loop-text.invariant.kept at c.answer_text-answered.ensures.answer) c.in_ok-take.ensures);
-}
+pub returns-clause-kept : goal.returns-clause-kept
+returns-clause-kept g c =
+    let here : c.library-1.given.0 ≡ library_of c.answer_each.new.folder = c.library-1.given.1 (sym (c.answer_each.ensures.stays.same ∙ c.new-folder.ensures.lent)) in
+    ap g.L.Library.files here ∙ c.answer_each.ensures.stays.kept ∙ ap g.L.Library.files c.new-folder.ensures.library

@@ -1,0 +1,48 @@
+use Rattle.std.proofs.Common.{◌≡◌, Ok, Some, inl}
+use Rattle.std.proofs.lemmas.Result.{err_from_is_err_and}
+use Rattle.morris_queries.specs.Telling.{Telling, telling, told_of}
+use Rattle.morris_queries.proofs.FolderLaws.{stays_on}
+use Rattle.morris_queries.proofs.TellingLaws.{refusal_from, agrees_from, agreed, shown_refused, shown_line_refused, shown_with_line, shown_without}
+use Rattle.morris_queries.proofs.values.Folder.tell.Goals as goal
+
+pub returns-in_err-told-clause-told : goal.returns-in_err-told-clause-told
+returns-in_err-told-clause-told g c = λ name files of.
+    let failed = err_from_is_err_and c.from_residual.result c.from_residual.ensures.1 in
+    rw (failed.1, failed.2)
+    (agrees_from _ _ (shown_refused g.B.Geometry.shape name files c.args.position.now c.args.show c.in_err-told.field-0.0
+    (refusal_from _ _ (c.in_err-told.ensures.told name files of))))
+
+pub returns-in_err-line-in-Line-clause-stays : goal.returns-in_err-line-in-Line-clause-stays
+returns-in_err-line-in-Line-clause-stays g c =
+    stays_on g.B.Geometry.shape g.L.Library.files c.args.self.now _ _ c.in_ok-told.ensures.stays c.in_err-line-in-Line.ensures.stays
+
+pub returns-in_err-line-in-Line-clause-told : goal.returns-in_err-line-in-Line-clause-told
+returns-in_err-line-in-Line-clause-told g c = λ name files of.
+    let failed = err_from_is_err_and c.from_residual-in_err-line-in-Line.result c.from_residual-in_err-line-in-Line.ensures.1 in
+    let t : Telling = telling c.told.inside.value c.told.inside.best.items c.told.inside.outcomes.items c.told.inside.line.items in
+    let found : told_of g.B.Geometry.shape name files c.args.position.now ≡ Ok t = rw (← c.told.view_is) at (agreed _ _ (c.in_ok-told.ensures.told name files of)) in
+    rw (failed.1, failed.2, c.in-Line.is)
+    (agrees_from _ _ (shown_line_refused g.B.Geometry.shape name files c.args.position.now t c.in_err-line-in-Line.field-0.0 found
+    (rw c.depth_of.ensures at (c.in_err-line-in-Line.ensures.told name files (c.in_ok-told.ensures.stays.still name (Some files) of)))))
+
+pub returns-in_ok-line-in-Line-clause-stays : goal.returns-in_ok-line-in-Line-clause-stays
+returns-in_ok-line-in-Line-clause-stays g c =
+    stays_on g.B.Geometry.shape g.L.Library.files c.args.self.now _ _ c.in_ok-told.ensures.stays c.in_ok-line-in-Line.ensures.stays
+
+pub returns-in_ok-line-in-Line-clause-told : goal.returns-in_ok-line-in-Line-clause-told
+returns-in_ok-line-in-Line-clause-told g c = λ name files of.
+    let t : Telling = telling c.told.inside.value c.told.inside.best.items c.told.inside.outcomes.items c.told.inside.line.items in
+    let found : told_of g.B.Geometry.shape name files c.args.position.now ≡ Ok t = rw (← c.told.view_is) at (agreed _ _ (c.in_ok-told.ensures.told name files of)) in
+    rw c.in-Line.is
+    (inl (shown_with_line g.B.Geometry.shape name files c.args.position.now t c.in_ok-line-in-Line.line.items found
+    (rw c.depth_of.ensures at (c.in_ok-line-in-Line.ensures.told name files (c.in_ok-told.ensures.stays.still name (Some files) of)))))
+
+pub returns-in_default : goal.returns-in_default
+returns-in_default g c = record {
+  stays = c.in_ok-told.ensures.stays;
+  listed = c.in_ok-told.ensures.listed;
+  few = c.in_ok-told.ensures.few;
+  told = λ name files of.
+      inl (shown_without g.B.Geometry.shape name files c.args.position.now c.args.show c.in_ok-told.told c.in_default.not-Line
+      (agreed _ _ (c.in_ok-told.ensures.told name files of)));
+}

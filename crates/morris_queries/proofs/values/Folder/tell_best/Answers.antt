@@ -1,0 +1,47 @@
+use Rattle.std.proofs.Common.{◌≡◌, ◌≤◌, Some, ap, arith, length, inl}
+use Rattle.std.proofs.lemmas.Result.{err_from_is_err_and}
+use Rattle.morris_queries.specs.Telling.{best_among}
+use Rattle.morris_queries.proofs.FolderLaws.{stays_on}
+use Rattle.morris_queries.proofs.TellingLaws.{refusal_from, agrees_from, agreed, told_refused_value, told_refused_outcomes, told_found, best_few}
+use Rattle.morris_queries.proofs.values.Folder.tell_best.Goals as goal
+
+pub returns-in_err-value-clause-told : goal.returns-in_err-value-clause-told
+returns-in_err-value-clause-told g c = λ name files of.
+    let failed = err_from_is_err_and c.from_residual.result c.from_residual.ensures.1 in
+    rw (failed.1, failed.2)
+    (agrees_from _ _ (told_refused_value g.B.Geometry.shape name files c.args.position.now c.in_err-value.field-0.0
+    (refusal_from _ _ (c.in_err-value.ensures.told name files of))))
+
+pub returns-in_err-outcomes-clause-stays : goal.returns-in_err-outcomes-clause-stays
+returns-in_err-outcomes-clause-stays g c =
+    stays_on g.B.Geometry.shape g.L.Library.files c.args.self.now _ _ c.in_ok-value.ensures.stays c.in_err-outcomes.ensures.stays
+
+pub returns-in_err-outcomes-clause-told : goal.returns-in_err-outcomes-clause-told
+returns-in_err-outcomes-clause-told g c = λ name files of.
+    let failed = err_from_is_err_and c.from_residual-in_err-outcomes.result c.from_residual-in_err-outcomes.ensures.1 in
+    rw (failed.1, failed.2)
+    (agrees_from _ _ (told_refused_outcomes g.B.Geometry.shape name files c.args.position.now c.in_err-outcomes.field-0.0 c.in_ok-value.value
+    (agreed _ _ (c.in_ok-value.ensures.told name files of)) (c.in_err-outcomes.ensures.told name files (c.in_ok-value.ensures.stays.still name (Some files) of))))
+
+pub returns-in_err-best-clause-stays : goal.returns-in_err-best-clause-stays
+returns-in_err-best-clause-stays g c =
+    stays_on g.B.Geometry.shape g.L.Library.files c.args.self.now _ _ c.in_ok-value.ensures.stays c.in_ok-outcomes.ensures.stays
+
+pub returns-clause-stays : goal.returns-clause-stays
+returns-clause-stays g c =
+    stays_on g.B.Geometry.shape g.L.Library.files c.args.self.now _ _ c.in_ok-value.ensures.stays c.in_ok-outcomes.ensures.stays
+
+pub returns-clause-few : goal.returns-clause-few
+returns-clause-few g c =
+    let kept : c.in_ok-best.best.items ≡ best_among c.in_ok-value.value c.in_ok-outcomes.outcomes.items = rw c.as_slice.ensures.value at c.in_ok-best.ensures in
+    let best : length c.in_ok-best.best.items ≤ length c.in_ok-outcomes.outcomes.items = omega (arith, ap length kept, best_few c.in_ok-value.value c.in_ok-outcomes.outcomes.items) in
+    record {
+      best = omega (arith, best, c.in_ok-outcomes.ensures.few);
+      outcomes = c.in_ok-outcomes.ensures.few;
+      line = omega (arith, ap length c.new.ensures.items);
+    }
+
+pub returns-clause-told : goal.returns-clause-told
+returns-clause-told g c = λ name files of.
+    inl (told_found g.B.Geometry.shape name files c.args.position.now c.in_ok-value.value c.in_ok-best.best.items c.in_ok-outcomes.outcomes.items c.new.result.items
+    (agreed _ _ (c.in_ok-value.ensures.told name files of)) (c.in_ok-outcomes.ensures.told name files (c.in_ok-value.ensures.stays.still name (Some files) of)) (rw c.as_slice.ensures.value at c.in_ok-best.ensures) c.new.ensures.items)

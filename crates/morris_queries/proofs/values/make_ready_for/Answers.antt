@@ -1,7 +1,0 @@
-use Rattle.std.proofs.Common.{sym}
-use Rattle.morris_queries.proofs.OpenLaws.{value_refused}
-use Rattle.morris_queries.proofs.values.make_ready_for.Goals as goal
-
-pub returns-in-Some-clause-refused : goal.returns-in-Some-clause-refused
-returns-in-Some-clause-refused g c = λ files known.
-    value_refused g.B.Geometry.shape c.args.board.now files c.args.position.now c.in-Some.pair (sym c.in-Some.ensures.pair) c.make_ready.result (c.make_ready.ensures.refused files known)
