@@ -24,9 +24,7 @@ fn has_range(rt: &impl Abort, cut: &Cut, number: u64, start: u64, end: u64) {
 
 #[test]
 fn two_nodes_in_five_blocks(rt: HostRuntime) {
-    let Ok(cut) = Cut::new(2, 5) else {
-        panic!(rt; "no cut");
-    };
+    let cut = Cut::new(2, 5).expect(&rt, "a cut");
     has_range(&rt, &cut, 0, 0, 0);
     has_range(&rt, &cut, 1, 0, 0);
     has_range(&rt, &cut, 2, 0, 1);
@@ -58,9 +56,7 @@ fn stretches_are_read_as_single_nodes_are(rt: HostRuntime) {
 
 // The nodes that are fresh in a block.
 fn shows<N: Levels>(rt: &impl Abort, alloc: Global, block: &Block<N>, nodes: &[u64]) {
-    let Ok(fresh) = block.fresh(alloc) else {
-        panic!(rt; "out of memory");
-    };
+    let fresh = block.fresh(alloc).expect(rt, "memory");
     same_nodes(rt, fresh.nodes(), nodes, "fresh");
 }
 
@@ -82,9 +78,7 @@ fn is_open(rt: &impl Abort, alloc: Global, block: &Block<Pairs>, last_due: u32) 
 
 #[test]
 fn nothing_is_fresh_before_the_first_wave(rt: HostRuntime) {
-    let Some(blocks) = blocks_of(rt.alloc(), &PAIR, 2) else {
-        panic!(rt; "no blocks");
-    };
+    let blocks = blocks_of(rt.alloc(), &PAIR, 2).expect(&rt, "blocks");
     let [left, right] = blocks.as_slice() else {
         panic!(rt; "not two blocks");
     };
@@ -94,9 +88,7 @@ fn nothing_is_fresh_before_the_first_wave(rt: HostRuntime) {
 
 #[test]
 fn a_block_waits_for_its_sources(rt: HostRuntime) {
-    let Some(mut blocks) = blocks_of(rt.alloc(), &PAIR, 2) else {
-        panic!(rt; "no blocks");
-    };
+    let mut blocks = blocks_of(rt.alloc(), &PAIR, 2).expect(&rt, "blocks");
     holds(&rt, advance(&mut blocks).is_some(), "both went on");
     let [_, right] = blocks.as_mut_slice() else {
         panic!(rt; "not two blocks");
@@ -126,9 +118,7 @@ fn is_lone(rt: &impl Abort, block: &Block<Lones>, wave: u16, code: u16) {
 #[test]
 fn an_exit_comes_due_a_wave_after_its_depth(rt: HostRuntime) {
     // The only exit of the only node is lost in 0: the node is won in 1, from wave 1 on.
-    let Some(mut blocks) = blocks_of(rt.alloc(), &LoneGraph { level: 2 }, 1) else {
-        panic!(rt; "no blocks");
-    };
+    let mut blocks = blocks_of(rt.alloc(), &LoneGraph { level: 2 }, 1).expect(&rt, "blocks");
     let [block] = blocks.as_mut_slice() else {
         panic!(rt; "not one block");
     };
@@ -158,9 +148,7 @@ fn is_at_its_end(rt: &impl Abort, block: &mut Block<Lones>) {
 fn the_last_wave_is_65534(rt: HostRuntime) {
     // The only exit of the only node is lost in 65,532, so that the node is won in 65,533.
     let late = LoneGraph { level: 2 * 65533 };
-    let Some(mut blocks) = blocks_after(rt.alloc(), &late, 1, 65533) else {
-        panic!(rt; "no blocks");
-    };
+    let mut blocks = blocks_after(rt.alloc(), &late, 1, 65533).expect(&rt, "blocks");
     is_open_at_65533(&rt, &blocks);
     holds(&rt, advance(&mut blocks).is_some(), "went on");
     holds(
@@ -168,17 +156,13 @@ fn the_last_wave_is_65534(rt: HostRuntime) {
         send(rt.alloc(), &late, &mut blocks, 0).is_some(),
         "sent",
     );
-    let Some(block) = blocks.get_mut(0) else {
-        panic!(rt; "no block");
-    };
+    let block = blocks.get_mut(0).expect(&rt, "a block");
     is_at_its_end(&rt, block);
 }
 
 // The nodes that are decided in the pair graph after so many waves.
 fn decides(rt: &impl Abort, alloc: Global, waves: u16, nodes: &[u64]) {
-    let Some(blocks) = blocks_after(alloc, &PAIR, 1, waves) else {
-        panic!(rt; "no blocks");
-    };
+    let blocks = blocks_after(alloc, &PAIR, 1, waves).expect(rt, "blocks");
     let [block] = blocks.as_slice() else {
         panic!(rt; "not one block");
     };
@@ -194,9 +178,7 @@ fn decided_nodes_stand_in_order_of_their_depths(rt: HostRuntime) {
 
 // What is fresh in the trio after so many waves.
 fn finds(rt: &impl Abort, alloc: Global, waves: u16, nodes: &[u64]) {
-    let Some(blocks) = blocks_after(alloc, &TrioGraph, 1, waves) else {
-        panic!(rt; "no blocks");
-    };
+    let blocks = blocks_after(alloc, &TrioGraph, 1, waves).expect(rt, "blocks");
     let [block] = blocks.as_slice() else {
         panic!(rt; "not one block");
     };

@@ -2,9 +2,9 @@ ghost use Rattle.std.specs.Prelude.{◌≡◌, ◌<◌, ◌≤◌, ◌^◌};
 
 use crate::checks::{holds, same, same_codes, same_nodes};
 use crate::pairs::{PairGraph, Pairs};
-use crate::runs::{advance, blocks_after, send};
+use crate::runs::{advance, batches_from, blocks_after, send};
 use morris_wave::{
-    AdvanceFault, Applied, Batch, Block, Cut, GatherFault, Graph, gather, gather_from, scatter,
+    AdvanceFault, Applied, Batch, Block, Cut, GatherFault, Graph, gather, gather_from,
     scatter_reusing,
 };
 use std::alloc::Global;
@@ -25,12 +25,7 @@ fn blocks_at_42(alloc: Global) -> Option<Vec<Block<Pairs>>> {
 
 // The batches of block 1.
 fn batches_of(alloc: Global, blocks: &[Block<Pairs>]) -> Option<Vec<Batch<Pairs>>> {
-    let block = blocks.get(1)?;
-    if block.level() != PAIR.level() {
-        return None;
-    }
-    let fresh = block.fresh(alloc).ok()?;
-    scatter(alloc, &PAIR, &fresh).ok()
+    batches_from(alloc, &PAIR, blocks.get(1)?)
 }
 
 // The same in the lists that are at hand.
@@ -70,20 +65,14 @@ fn answers(rt: &impl Abort, blocks: &mut [Block<Pairs>], batches: &[Batch<Pairs>
 
 #[test]
 fn a_batch_takes_a_loss_to_the_node_before(rt: HostRuntime) {
-    let Some(mut blocks) = blocks_at_42(rt.alloc()) else {
-        panic!(rt; "no blocks");
-    };
-    let Some(batches) = batches_of(rt.alloc(), &blocks) else {
-        panic!(rt; "no batches");
-    };
+    let mut blocks = blocks_at_42(rt.alloc()).expect(&rt, "blocks");
+    let batches = batches_of(rt.alloc(), &blocks).expect(&rt, "batches");
     lead_to_node_0(&rt, &batches);
     answers(&rt, &mut blocks, &batches, Applied::Done);
     answers(&rt, &mut blocks, &batches, Applied::Again);
     let sent = send(rt.alloc(), &PAIR, &mut blocks, 0);
     holds(&rt, sent.is_some(), "sent");
-    let Some(left) = blocks.get_mut(0) else {
-        panic!(rt; "no block 0");
-    };
+    let left = blocks.get_mut(0).expect(&rt, "block 0");
     holds(&rt, left.advance().is_ok(), "went on");
     let refused = matches!(left.advance(), Err(AdvanceFault::NotComplete));
     holds(&rt, refused, "refused");
@@ -103,22 +92,14 @@ fn three_lists(alloc: Global) -> Option<Vec<Vec<u64>>> {
 
 #[test]
 fn lists_of_batches_are_used_again(rt: HostRuntime) {
-    let Some(blocks) = blocks_at_42(rt.alloc()) else {
-        panic!(rt; "no blocks");
-    };
+    let blocks = blocks_at_42(rt.alloc()).expect(&rt, "blocks");
     // Of three lists two are taken, whatever stands in them.
-    let Some(mut spare) = three_lists(rt.alloc()) else {
-        panic!(rt; "no lists");
-    };
-    let Some(mut batches) = batches_reusing(rt.alloc(), &blocks, &mut spare) else {
-        panic!(rt; "no batches");
-    };
+    let mut spare = three_lists(rt.alloc()).expect(&rt, "lists");
+    let mut batches = batches_reusing(rt.alloc(), &blocks, &mut spare).expect(&rt, "batches");
     same(&rt, spare.len() as u64, 1, "lists left");
     lead_to_node_0(&rt, &batches);
     batches.truncate(1);
-    let Some(left) = batches.pop() else {
-        panic!(rt; "no batch");
-    };
+    let left = batches.pop().expect(&rt, "a batch");
     same_nodes(&rt, &left.into_nodes(), &[0], "list given back");
 }
 
@@ -131,21 +112,13 @@ fn gathers(
     codes: &[u16],
     is_settled: bool,
 ) {
-    let Ok(cut) = Cut::new(2, parts) else {
-        panic!(rt; "no cut");
-    };
-    let Some(blocks) = blocks_after(alloc, &PAIR, parts, waves) else {
-        panic!(rt; "no blocks");
-    };
+    let cut = Cut::new(2, parts).expect(rt, "a cut");
+    let blocks = blocks_after(alloc, &PAIR, parts, waves).expect(rt, "blocks");
     let are_settled = blocks.iter().all(|block| block.settled());
     holds(rt, are_settled == is_settled, "settled");
-    let Ok(gathered) = gather(alloc, 7, waves, &cut, &blocks) else {
-        panic!(rt; "nothing gathered");
-    };
+    let gathered = gather(alloc, 7, waves, &cut, &blocks).expect(rt, "codes");
     same_codes(rt, &gathered, codes, "gathered");
-    let Ok(taken) = gather_from(alloc, 7, waves, &cut, blocks) else {
-        panic!(rt; "nothing taken");
-    };
+    let taken = gather_from(alloc, 7, waves, &cut, blocks).expect(rt, "codes");
     same_codes(rt, &taken, codes, "taken");
 }
 
@@ -177,18 +150,14 @@ fn first_and(alloc: Global, level: u64, waves: u16) -> Option<Vec<Block<Pairs>>>
 
 // What is wrong with blocks at a wave.
 fn is_told(rt: &impl Abort, alloc: Global, wave: u16, blocks: &[Block<Pairs>], want: GatherFault) {
-    let Ok(cut) = Cut::new(2, 2) else {
-        panic!(rt; "no cut");
-    };
+    let cut = Cut::new(2, 2).expect(rt, "a cut");
     let answer = gather(alloc, 7, wave, &cut, blocks);
     holds(rt, matches!(&answer, Err(fault) if *fault == want), "fault");
 }
 
 #[test]
 fn gather_says_which_block_is_missing(rt: HostRuntime) {
-    let Some(mut blocks) = blocks_after(rt.alloc(), &PAIR, 2, 43) else {
-        panic!(rt; "no blocks");
-    };
+    let mut blocks = blocks_after(rt.alloc(), &PAIR, 2, 43).expect(&rt, "blocks");
     is_told(&rt, rt.alloc(), 42, &blocks, GatherFault::Missing(0));
     blocks.truncate(1);
     is_told(&rt, rt.alloc(), 43, &blocks, GatherFault::Missing(1));
@@ -196,12 +165,8 @@ fn gather_says_which_block_is_missing(rt: HostRuntime) {
 
 #[test]
 fn gather_says_which_block_is_of_another_build_or_came_twice(rt: HostRuntime) {
-    let Some(foreign) = first_and(rt.alloc(), 8, 0) else {
-        panic!(rt; "no blocks of another level");
-    };
+    let foreign = first_and(rt.alloc(), 8, 0).expect(&rt, "blocks of another level");
     is_told(&rt, rt.alloc(), 43, &foreign, GatherFault::Foreign(1));
-    let Some(twice) = first_and(rt.alloc(), 7, 43) else {
-        panic!(rt; "no blocks");
-    };
+    let twice = first_and(rt.alloc(), 7, 43).expect(&rt, "blocks");
     is_told(&rt, rt.alloc(), 43, &twice, GatherFault::Double(0));
 }

@@ -1,7 +1,7 @@
 //! Blocks of a graph, taken from wave to wave by one thread.
 ghost use Rattle.std.specs.Prelude.{◌≡◌, ◌≤◌, ◌<◌, ◌^◌, ◌+◌};
 
-use morris_wave::{Applied, Block, Cut, Graph, Levels, scatter};
+use morris_wave::{Applied, Batch, Block, Cut, Graph, Levels, scatter};
 use std::alloc::Global;
 
 /// So many blocks of a graph before the first wave, in the order of their numbers.
@@ -27,6 +27,33 @@ pub fn advance<N: Levels>(blocks: &mut Vec<Block<N>>) -> Option<()> {
     Some(())
 }
 
+/// The batches that a block of a graph sends.
+///
+/// `None` where memory is refused, or where the block is of another level.
+pub fn batches_from<G: Graph>(
+    alloc: Global,
+    graph: &G,
+    block: &Block<G::Name>,
+) -> Option<Vec<Batch<G::Name>>> {
+    if block.level() != graph.level() {
+        return None;
+    }
+    let fresh = block.fresh(alloc).ok()?;
+    scatter(alloc, graph, &fresh).ok()
+}
+
+/// Has each block take the batch at its place in.
+///
+/// `None` where one of them doesn't.
+fn apply_all<N: Levels>(blocks: &mut [Block<N>], batches: &[Batch<N>]) -> Option<()> {
+    for (target, batch) in blocks.iter_mut().zip(batches.iter()) {
+        if target.apply(batch) != Applied::Done {
+            return None;
+        }
+    }
+    Some(())
+}
+
 /// Sends the batches of the block at a place to all.
 ///
 /// `None` where memory is refused, or where one of them doesn't take its batch in.
@@ -36,18 +63,8 @@ pub fn send<G: Graph>(
     blocks: &mut Vec<Block<G::Name>>,
     place: usize,
 ) -> Option<()> {
-    let block = blocks.get(place)?;
-    if block.level() != graph.level() {
-        return None;
-    }
-    let fresh = block.fresh(alloc).ok()?;
-    let batches = scatter(alloc, graph, &fresh).ok()?;
-    for (target, batch) in blocks.iter_mut().zip(batches.iter()) {
-        if target.apply(batch) != Applied::Done {
-            return None;
-        }
-    }
-    Some(())
+    let batches = batches_from(alloc, graph, blocks.get(place)?)?;
+    apply_all(blocks.as_mut_slice(), batches.as_slice())
 }
 
 /// So many blocks of a graph after so many complete waves, in the order of their numbers.

@@ -28,10 +28,8 @@ fn solves<G: Graph + Send + Sync, A: Gate, R: Abort + Threads + Wait + Sync>(
     blocks: usize,
     codes: &[u16],
 ) {
-    match solve(rt, alloc, graph, gate, workers, blocks) {
-        Ok(found) => same_codes(rt, &found, codes, "codes"),
-        Err(fault) => panic!(rt; "{workers} workers, {blocks} blocks: {fault}"),
-    }
+    let found = solve(rt, alloc, graph, gate, workers, blocks).expect(rt, "codes");
+    same_codes(rt, &found, codes, "codes");
 }
 
 // The graph isn't solved, for this fault.
@@ -69,10 +67,10 @@ fn solves_in_long_lists<G: Graph + Send + Sync, R: Abort + Threads + Wait + Sync
     codes: &[u16],
 ) {
     let watch = &mut Unwatched;
-    match solve_with(rt, alloc, graph, &OpenGate, workers, blocks, 0, watch) {
-        Ok(found) => same_codes(rt, &found, codes, "codes"),
-        Err(fault) => panic!(rt; "{workers} workers, {blocks} blocks: {fault}"),
-    }
+    let found = solve_with(rt, alloc, graph, &OpenGate, workers, blocks, 0, watch).expect(
+        rt, "codes",
+    );
+    same_codes(rt, &found, codes, "codes");
 }
 
 #[test]

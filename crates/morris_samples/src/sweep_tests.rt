@@ -11,10 +11,8 @@ use std::process::Abort;
 
 // The codes of a graph.
 fn has_codes<G: Graph>(rt: &impl Abort, alloc: Global, graph: &G, codes: &[u16]) {
-    match sweep(alloc, graph) {
-        Ok(found) => same_codes(rt, &found, codes, "codes"),
-        Err(fault) => panic!(rt; "{fault}"),
-    }
+    let found = sweep(alloc, graph).expect(rt, "codes");
+    same_codes(rt, &found, codes, "codes");
 }
 
 #[test]

@@ -7,9 +7,7 @@ use std::process::Abort;
 
 // What a fault says.
 fn says<F: Display + Drop>(rt: &impl Abort, alloc: Global, fault: F, text: &str) {
-    let Ok(told) = format!(in alloc; "{fault}") else {
-        panic!(rt; "out of memory");
-    };
+    let told = format!(in alloc; "{fault}").expect(rt, "memory");
     holds(rt, told.as_str() == text, text);
 }
 

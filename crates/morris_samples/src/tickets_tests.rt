@@ -6,7 +6,6 @@ use crate::checks::{holds, same};
 use morris_workers::{TicketSeat, Tickets};
 use std::alloc::Global;
 use std::sync::atomic::{AtomicU64, Ordering};
-use std::test::Fail;
 use std::thread;
 
 // More draws than any test makes.
@@ -43,11 +42,9 @@ fn are_all_one(counts: &[AtomicU64]) -> bool {
 }
 
 #[test]
-fn four_threads_draw_each_number_once(rt: HostRuntime) -> Result<(), Fail> {
-    let Some(counts) = counts_for(rt.alloc(), 1000) else {
-        panic!(rt; "out of memory");
-    };
-    let (tickets, seats) = Tickets::new(rt.alloc(), 1000, 4)?;
+fn four_threads_draw_each_number_once(rt: HostRuntime) {
+    let counts = counts_for(rt.alloc(), 1000).expect(&rt, "memory");
+    let (tickets, seats) = Tickets::new(rt.alloc(), 1000, 4).expect(&rt, "tickets");
     let seats = thread::map_vec(
         &rt,
         seats,
@@ -55,27 +52,26 @@ fn four_threads_draw_each_number_once(rt: HostRuntime) -> Result<(), Fail> {
             requires { IsSeatOf tickets seat × (has_ended seat ≡ false) }
             ensures { IsSeatOf tickets result }
         { draw_all(&tickets, &counts, seat) },
-    )?;
+    )
+    .expect(&rt, "four threads");
     holds(&rt, are_all_one(&counts), "each once");
     let drawn = tickets.close(seats);
     same(&rt, drawn.handed, 1000, "handed");
     same(&rt, drawn.held, 1000, "held");
-    Ok(())
 }
 
 #[test]
-fn dropped_seat_keeps_its_numbers(rt: HostRuntime) -> Result<(), Fail> {
-    let (tickets, mut seats) = Tickets::new(rt.alloc(), 5, 2)?;
+fn dropped_seat_keeps_its_numbers(rt: HostRuntime) {
+    let (tickets, mut seats) = Tickets::new(rt.alloc(), 5, 2).expect(&rt, "tickets");
     let mut lost = seats.remove(0);
     let first = tickets.draw(&mut lost);
     drop(lost);
     let mut kept = seats.remove(0);
     let second = tickets.draw(&mut kept);
-    seats.push(kept)?;
+    seats.push(kept).expect(&rt, "memory");
     let drawn = tickets.close(seats);
     holds(&rt, first == Some(0), "first draw");
     holds(&rt, second == Some(1), "second draw");
     same(&rt, drawn.handed, 2, "handed");
     same(&rt, drawn.held, 1, "held");
-    Ok(())
 }

@@ -56,10 +56,8 @@ fn ends<G: Graph + Send + Sync, R: Abort + Threads + Wait + Sync>(
     last: u16,
     codes: &[u16],
 ) {
-    match tells(rt, alloc, graph, &OpenGate, workers, blocks, last) {
-        Ok(found) => same_codes(rt, &found, codes, "codes"),
-        Err(fault) => panic!(rt; "{fault}"),
-    }
+    let found = tells(rt, alloc, graph, &OpenGate, workers, blocks, last).expect(rt, "codes");
+    same_codes(rt, &found, codes, "codes");
 }
 
 // So many waves are told, and then the graph is refused for this fault.
@@ -89,10 +87,8 @@ fn each_wave_is_told_once_in_order(rt: HostRuntime) {
 fn each_wave_of_a_sweep_is_told_once_in_order(rt: HostRuntime) {
     let mut told = Vec::new(rt.alloc());
     let mut scribe = Scribe { told: &mut told };
-    match sweep_watched(rt.alloc(), &PAIR, &mut scribe) {
-        Ok(codes) => same_codes(&rt, &codes, &[43, 42], "codes"),
-        Err(fault) => panic!(rt; "{fault}"),
-    }
+    let codes = sweep_watched(rt.alloc(), &PAIR, &mut scribe).expect(&rt, "codes");
+    same_codes(&rt, &codes, &[43, 42], "codes");
     are_waves_to(&rt, &told, 43);
 }
 
@@ -113,10 +109,8 @@ fn is_settled_at_once<G: Graph + Send + Sync, R: Abort + Threads + Wait + Sync>(
     graph: &G,
     codes: &[u16],
 ) {
-    match tells(rt, alloc, graph, &ShutGate, 2, 3, 0) {
-        Ok(found) => same_codes(rt, &found, codes, "codes"),
-        Err(fault) => panic!(rt; "{fault}"),
-    }
+    let found = tells(rt, alloc, graph, &ShutGate, 2, 3, 0).expect(rt, "codes");
+    same_codes(rt, &found, codes, "codes");
 }
 
 #[test]

@@ -20,15 +20,11 @@ fn yard_of_two(alloc: Global) -> Option<Yard<Pairs>> {
 
 #[test]
 fn block_is_free_beside_one_that_is_held(rt: HostRuntime) {
-    let Some(yard) = yard_of_two(rt.alloc()) else {
-        panic!(rt; "no yard");
-    };
+    let yard = yard_of_two(rt.alloc()).expect(&rt, "a yard");
     assert_eq!(rt; yard.count(), 2);
     let held = yard.lock(&rt, 0);
     same(&rt, held.number(), 0, "held");
-    let Some(other) = yard.try_lock(1) else {
-        panic!(rt; "block 1 is held");
-    };
+    let other = yard.try_lock(1).expect(&rt, "block 1");
     same(&rt, other.number(), 1, "other");
     holds(&rt, yard.try_lock(0).is_none(), "not free");
     drop(held);
@@ -43,9 +39,7 @@ fn is_at(rt: &impl Abort, block: &Block<Pairs>, number: u64, wave: u16) {
 
 #[test]
 fn blocks_come_back_in_order(rt: HostRuntime) {
-    let Some(yard) = yard_of_two(rt.alloc()) else {
-        panic!(rt; "no yard");
-    };
+    let yard = yard_of_two(rt.alloc()).expect(&rt, "a yard");
     assert_eq!(rt; yard.count(), 2);
     let advanced = yard.lock(&rt, 1).advance();
     holds(&rt, advanced.is_ok(), "went on");
