@@ -1,6 +1,7 @@
 // Streams that give or take a byte a call, and fail at one of their calls.
 ghost use Rattle.std.specs.Prelude.{◌≡◌, Some};
 
+use crate::checks::{holds, same, same_bytes};
 use crate::making::{file_of, three_three};
 use morris_board::grid::Grid;
 use morris_board::streams::{Failed, FromRead, Sink};
@@ -85,51 +86,53 @@ impl Sink for Trickle {
     }
 }
 
-/// Whether reading the file of 3-3 ends at the call that fails after so many others.
-fn ends_reading(alloc: Global, file: &[u8], room: u64) -> bool {
+/// Reading the file of 3-3 ends at the call that fails after so many others.
+fn assert_ends_reading(rt: &impl Abort, alloc: Global, file: &[u8], room: u64) {
     let mut source = Drip::new(file, room);
     let fault = read_table::<Grid, _>(alloc, &mut source).err();
-    fault == Some(ReadFault::Read) && source.into_inner().calls == room.saturating_add(1)
+    holds(rt, fault == Some(ReadFault::Read), "a read fails");
+    same(
+        rt,
+        source.into_inner().calls,
+        room.saturating_add(1),
+        "reads",
+    );
 }
 
-/// Whether reading ends at a call that fails: the first one and the last of the header, of the
-/// codes and of the digest, and the one for a byte that mustn't follow.
-fn ends_each_reading(alloc: Global, file: &[u8]) -> bool {
-    ends_reading(alloc, file, 0)
-        && ends_reading(alloc, file, 15)
-        && ends_reading(alloc, file, 3375)
-        && ends_reading(alloc, file, 3407)
-        && ends_reading(alloc, file, 3408)
-}
-
+// The calls that fail are the first one and the last of the header, of the codes and of the digest,
+// and the one for a byte that mustn't follow.
 #[test]
 fn a_read_that_fails_ends_it(rt: HostRuntime) {
-    let table = three_three(rt.alloc()).expect(&rt, "a table");
-    let file = file_of(rt.alloc(), &table).expect(&rt, "its file");
-    assert!(rt; ends_each_reading(rt.alloc(), file.as_slice()));
+    let table = three_three(&rt, rt.alloc());
+    let file = file_of(&rt, rt.alloc(), &table);
+    for room in [0, 15, 3375, 3407, 3408] {
+        assert_ends_reading(&rt, rt.alloc(), file.as_slice(), room);
+    }
 }
 
-/// Whether writing a table ends at the call that fails after so many others, and the bytes of those
-/// went out.
-fn ends_writing(alloc: Global, table: &Exact<Grid>, file: &[u8], room: u64) -> bool {
+/// Writing a table ends at the call that fails after so many others, and the bytes of those went
+/// out.
+fn assert_ends_writing(
+    rt: &impl Abort,
+    alloc: Global,
+    table: &Exact<Grid>,
+    file: &[u8],
+    room: u64,
+) {
     let mut sink = Trickle::new(alloc, room);
-    write_table(&mut sink, table) == Err(Write(room))
-        && sink.calls == room.saturating_add(1)
-        && Some(sink.taken.as_slice()) == file.get(..room as usize)
+    let is_told = write_table(&mut sink, table) == Err(Write(room));
+    holds(rt, is_told, "a write fails");
+    same(rt, sink.calls, room.saturating_add(1), "writes");
+    let taken = file.get(..room as usize).expect(rt, "bytes");
+    same_bytes(rt, sink.taken.as_slice(), taken);
 }
 
-/// Whether writing ends at a call that fails: the first one and the last of the header, of the
-/// codes and of the digest.
-fn ends_each_writing(alloc: Global, table: &Exact<Grid>, file: &[u8]) -> bool {
-    ends_writing(alloc, table, file, 0)
-        && ends_writing(alloc, table, file, 15)
-        && ends_writing(alloc, table, file, 3375)
-        && ends_writing(alloc, table, file, 3407)
-}
-
+// The calls that fail are the first one and the last of the header, of the codes and of the digest.
 #[test]
 fn a_write_that_fails_ends_it(rt: HostRuntime) {
-    let table = three_three(rt.alloc()).expect(&rt, "a table");
-    let file = file_of(rt.alloc(), &table).expect(&rt, "its file");
-    assert!(rt; ends_each_writing(rt.alloc(), &table, file.as_slice()));
+    let table = three_three(&rt, rt.alloc());
+    let file = file_of(&rt, rt.alloc(), &table);
+    for room in [0, 15, 3375, 3407] {
+        assert_ends_writing(&rt, rt.alloc(), &table, file.as_slice(), room);
+    }
 }

@@ -1,12 +1,12 @@
 // Files of tables by classes.
-use crate::making::{agree, file_of, three_by_classes, three_three};
+use crate::checks::{holds, same};
+use crate::making::{agree, empty, file_of, three_by_classes, three_three};
 use morris_board::grid::Grid;
 use morris_board::streams::FromRead;
 use morris_table::exact::Exact;
 use morris_table::layout::Layout;
 use morris_table::raw::Raw;
 use morris_table::reading::read_table;
-use morris_table::shelf::Shelf;
 use std::alloc::Global;
 use std::process::Abort;
 
@@ -16,36 +16,34 @@ const DIGEST: [u8; 32] = [
     0x99, 0xe1, 0x8c, 0x48, 0xb8, 0x25, 0x12, 0xe4, 0x9a, 0xba, 0xb1, 0x0f, 0xf5, 0xa7, 0x2d, 0x8a,
 ];
 
-/// Whether the file of a table is the one of 3-3 by classes.
-fn has_file(alloc: Global, table: &Exact<Grid>) -> bool {
-    match file_of(alloc, table) {
-        Some(file) => file.len() == 688 && file.as_slice().ends_with(DIGEST.as_slice()),
-        None => false,
-    }
+/// The file of a table is the one of 3-3 by classes.
+fn assert_file(rt: &impl Abort, alloc: Global, table: &Exact<Grid>) {
+    let file = file_of(rt, alloc, table);
+    same(rt, file.len() as u64, 688, "bytes");
+    holds(rt, file.as_slice().ends_with(DIGEST.as_slice()), "digest");
 }
 
 /// What the file of a table states.
-fn read_back(alloc: Global, table: &Exact<Grid>) -> Option<Raw<Grid>> {
-    let file = file_of(alloc, table)?;
-    read_table(alloc, &mut FromRead::new(file.as_slice())).ok()
+fn read_back(rt: &impl Abort, alloc: Global, table: &Exact<Grid>) -> Raw<Grid> {
+    let file = file_of(rt, alloc, table);
+    let mut source = FromRead::new(file.as_slice());
+    read_table(alloc, &mut source).expect(rt, "a table")
 }
 
-/// Whether a table has the entries of the classes of 3-3, and the values of the swept one.
-fn is_by_classes(alloc: Global, table: &Exact<Grid>) -> bool {
-    match three_three(alloc) {
-        Some(swept) => {
-            table.layout() == Layout::Classes && table.len() == 320 && agree(&swept, table)
-        }
-        None => false,
-    }
+/// A table has the entries of the classes of 3-3, and the values of the swept one.
+fn assert_by_classes(rt: &impl Abort, alloc: Global, table: &Exact<Grid>) {
+    let swept = three_three(rt, alloc);
+    holds(rt, table.layout() == Layout::Classes, "layout");
+    same(rt, table.len(), 320, "entries");
+    holds(rt, agree(&swept, table), "values");
 }
 
 #[test]
 fn a_file_of_classes_is_read_verified_and_written_again(rt: HostRuntime) {
-    let table = three_by_classes(&rt, rt.alloc()).expect(&rt, "a table by classes");
-    let raw = read_back(rt.alloc(), &table).expect(&rt, "what its file states");
-    let empty = Shelf::new(rt.alloc()).expect(&rt, "a shelf");
-    let again = raw.verify(&empty).ok().expect(&rt, "an exact table");
-    assert!(rt; has_file(rt.alloc(), &again));
-    assert!(rt; is_by_classes(rt.alloc(), &again));
+    let table = three_by_classes(&rt, rt.alloc());
+    let raw = read_back(&rt, rt.alloc(), &table);
+    let again = raw.verify(&empty(&rt, rt.alloc())).ok();
+    let again = again.expect(&rt, "an exact table");
+    assert_file(&rt, rt.alloc(), &again);
+    assert_by_classes(&rt, rt.alloc(), &again);
 }

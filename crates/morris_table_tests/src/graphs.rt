@@ -1,9 +1,10 @@
 // The graphs of pairs, beside what another program finds by the rules alone.
+use crate::checks::{holds, same};
 use crate::making::{pair, shelf_of_three};
 use morris_board::grid::Grid;
+use morris_index::pair::Pair;
 use morris_table::class_graph::ClassGraph;
 use morris_table::graph::PairGraph;
-use morris_table::layout::Layout;
 use morris_table::shelf::Shelf;
 use morris_wave::{Graph, Levels};
 use std::alloc::Global;
@@ -20,28 +21,45 @@ fn sum_to(node: u64, list: &[u64]) -> u64 {
 
 /// The sum of these products over all quiet moves, as the lists of a graph have them, modulo
 /// 99,991.
-fn sum_of_lists<N: Levels, G: Graph<Name = N>>(alloc: Global, graph: &G) -> Option<u64> {
+fn sum_of_lists<N: Levels, G: Graph<Name = N>>(rt: &impl Abort, alloc: Global, graph: &G) -> u64 {
     let mut list = Vec::new(alloc);
     let mut sum = 0u64;
     for node in 0..graph.size() {
-        graph.back(node, &mut list).ok()?;
+        graph.back(node, &mut list).expect(rt, "memory");
         sum = sum.wrapping_add(sum_to(node, list.as_slice()));
     }
-    Some(sum % 99_991)
+    sum % 99_991
+}
+
+/// The graph of a pair over a shelf.
+fn graph_of<'a>(rt: &impl Abort, shelf: &'a Shelf<Grid>, pair: Pair<Grid>) -> PairGraph<'a, Grid> {
+    PairGraph::new(shelf, pair).expect(rt, "a graph")
+}
+
+/// The graph of a pair by classes.
+fn class_graph_of<'a>(
+    rt: &impl Abort,
+    alloc: Global,
+    shelf: &'a Shelf<Grid>,
+    pair: Pair<Grid>,
+) -> ClassGraph<'a, Grid> {
+    ClassGraph::new(alloc, shelf, pair).expect(rt, "a graph by classes")
 }
 
 /// The sum for the graph of a pair, and for its graph by classes.
-fn sums(alloc: Global, shelf: &Shelf<Grid>, a: u8, b: u8) -> Option<(u64, u64)> {
-    let graph = PairGraph::new(shelf, pair(a, b)?).ok()?;
-    let classes = ClassGraph::new(alloc, shelf, pair(a, b)?).ok()?;
-    Some((sum_of_lists(alloc, &graph)?, sum_of_lists(alloc, &classes)?))
+fn assert_sums(rt: &impl Abort, alloc: Global, greater: u8, full: u64, classes: u64) {
+    let shelf = shelf_of_three(rt, alloc);
+    let pair = pair(rt, greater, 3);
+    let graph = graph_of(rt, &shelf, pair);
+    same(rt, sum_of_lists(rt, alloc, &graph), full, "by positions");
+    let graph = class_graph_of(rt, alloc, &shelf, pair);
+    same(rt, sum_of_lists(rt, alloc, &graph), classes, "by classes");
 }
 
 #[test]
 fn lists_have_each_quiet_move(rt: HostRuntime) {
-    let shelf = shelf_of_three(rt.alloc()).expect(&rt, "a shelf");
-    assert_eq!(rt; sums(rt.alloc(), &shelf, 3, 3), Some((1_168, 25_614)));
-    assert_eq!(rt; sums(rt.alloc(), &shelf, 4, 3), Some((54_606, 87_080)));
+    assert_sums(&rt, rt.alloc(), 3, 1_168, 25_614);
+    assert_sums(&rt, rt.alloc(), 4, 54_606, 87_080);
 }
 
 /// What the nodes of a graph have in all: how many quiet moves, and how many of the nodes have a
@@ -58,24 +76,13 @@ fn moves_in_all<N: Levels, G: Graph<Name = N>>(graph: &G) -> (u64, u64, u64, u64
     (quiet, lost, won, drawn)
 }
 
-/// The same of the graph of 4-3, and of its graph by classes.
-fn moves_of_four(
-    alloc: Global,
-    shelf: &Shelf<Grid>,
-    layout: Layout,
-) -> Option<(u64, u64, u64, u64)> {
-    let high = pair(4, 3)?;
-    match layout {
-        Layout::Full => Some(moves_in_all(&PairGraph::new(shelf, high).ok()?)),
-        Layout::Classes => Some(moves_in_all(&ClassGraph::new(alloc, shelf, high).ok()?)),
-    }
-}
-
+// The graph of 4-3, and its graph by classes.
 #[test]
 fn nodes_have_their_moves(rt: HostRuntime) {
-    let shelf = shelf_of_three(rt.alloc()).expect(&rt, "a shelf");
-    let full = moves_of_four(rt.alloc(), &shelf, Layout::Full);
-    assert!(rt; full == Some((9900, 380, 288, 216)));
-    let classes = moves_of_four(rt.alloc(), &shelf, Layout::Classes);
-    assert!(rt; classes == Some((1894, 62, 48, 36)));
+    let shelf = shelf_of_three(&rt, rt.alloc());
+    let pair = pair(&rt, 4, 3);
+    let full = moves_in_all(&graph_of(&rt, &shelf, pair));
+    holds(&rt, full == (9900, 380, 288, 216), "by positions");
+    let classes = moves_in_all(&class_graph_of(&rt, rt.alloc(), &shelf, pair));
+    holds(&rt, classes == (1894, 62, 48, 36), "by classes");
 }

@@ -1,13 +1,15 @@
 //! The tests of tables and of the prober, apart so that the libraries are proved once. They call
 //! what the libraries make public, and are no part of the product.
 //!
-//! What a test works on comes from a function that answers `None` where a call is refused, and what
-//! it says of that is mostly a function that answers whether it holds: a test with many `?` and
-//! assertions of its own takes long to prove.
+//! What a test works on comes from a function that ends the test where a call is refused, and what is
+//! found is compared in [`checks`]: a test with many `?` and assertions of its own takes long to
+//! prove.
 #![tactic(auto)]
 
 #[cfg(test)]
 mod builds;
+#[cfg(test)]
+mod checks;
 #[cfg(test)]
 mod example;
 #[cfg(test)]

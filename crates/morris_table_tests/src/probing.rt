@@ -1,22 +1,27 @@
 // What is reported of positions of the board `grid`.
-use crate::making::shelf_of_three;
-use morris_board::board::Geometry;
+use crate::checks::{holds, same_bytes};
+use crate::making::{position, shelf_of_three};
+use morris_board::board::Board;
 use morris_board::grid::Grid;
-use morris_board::position::Position;
 use morris_board::streams::IntoWrite;
 use morris_probe::report::report;
 use morris_table::shelf::Shelf;
 use std::alloc::Global;
 use std::process::Abort;
 
-/// Whether this text is reported of the position that the first of its lines shows.
-pub(crate) fn is_reported<B: Geometry>(alloc: Global, shelf: &Shelf<B>, wanted: &[u8]) -> bool {
+/// This text is reported of the position that the first of its lines shows.
+pub(crate) fn assert_reported<B: Board>(
+    rt: &impl Abort,
+    alloc: Global,
+    shelf: &Shelf<B>,
+    wanted: &[u8],
+) {
     let shown = wanted.get(..usize::from(B::POINTS)).unwrap_or(wanted);
-    let Ok(position) = Position::read(shown) else {
-        return false;
-    };
+    let position = position(rt, shown);
     let mut output = IntoWrite::new(Vec::new(alloc));
-    report(alloc, &mut output, shelf, &position).is_ok() && output.into_inner().as_slice() == wanted
+    let is_reported = report(alloc, &mut output, shelf, &position).is_ok();
+    holds(rt, is_reported, "a report");
+    same_bytes(rt, output.into_inner().as_slice(), wanted);
 }
 
 const LOST: &[u8] = b"OO.OXX.X.\nlost in 2\n4-2\n4-6\n4-8\n5-2\n5-6\n5-8\n7-2\n7-6\n7-8\n";
@@ -29,10 +34,10 @@ const STUCK: &[u8] = b"XX.OOO...\nlost in 0\n";
 
 #[test]
 fn positions_of_three_and_three_are_reported(rt: HostRuntime) {
-    let shelf = shelf_of_three::<Grid>(rt.alloc()).expect(&rt, "a shelf");
-    assert!(rt; is_reported(rt.alloc(), &shelf, b"XXXOOO...\ndraw\n0-6\n1-7\n2-8\n"));
-    assert!(rt; is_reported(rt.alloc(), &shelf, b"XXX.OO.O.\nwon in 3\n2-3\n"));
-    assert!(rt; is_reported(rt.alloc(), &shelf, LOST));
-    assert!(rt; is_reported(rt.alloc(), &shelf, WON));
-    assert!(rt; is_reported(rt.alloc(), &shelf, STUCK));
+    let shelf = shelf_of_three::<Grid>(&rt, rt.alloc());
+    assert_reported(&rt, rt.alloc(), &shelf, b"XXXOOO...\ndraw\n0-6\n1-7\n2-8\n");
+    assert_reported(&rt, rt.alloc(), &shelf, b"XXX.OO.O.\nwon in 3\n2-3\n");
+    assert_reported(&rt, rt.alloc(), &shelf, LOST);
+    assert_reported(&rt, rt.alloc(), &shelf, WON);
+    assert_reported(&rt, rt.alloc(), &shelf, STUCK);
 }

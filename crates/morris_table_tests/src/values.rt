@@ -1,35 +1,29 @@
 // What the swept table of 3-3 says, beside what is known from outside.
-use crate::making::three_three;
+use crate::checks::holds;
+use crate::making::{position, three_three};
 use morris_board::grid::Grid;
-use morris_board::position::Position;
 use morris_index::pair::Pair;
 use morris_table::exact::Exact;
 use morris_table::value::Value;
 use std::process::Abort;
 
-/// Whether a table gives the position that a text shows this value.
-fn is_at(table: &Exact<Grid>, text: &[u8], wanted: Value) -> bool {
-    match Position::read(text) {
-        Ok(position) => {
-            Pair::of(&position) == Some(table.pair()) && table.value_of(&position) == wanted
-        }
-        Err(_) => false,
-    }
+/// A table gives the position that a text shows this value.
+fn assert_value(rt: &impl Abort, table: &Exact<Grid>, text: &[u8], wanted: Value) {
+    let position = position(rt, text);
+    assert!(rt; Pair::of(&position) == Some(table.pair()));
+    holds(rt, table.value_of(&position) == wanted, "value");
 }
 
-/// Whether a table of 3-3 gives some positions their values, which were found by hand.
-fn has_known_values(table: &Exact<Grid>) -> bool {
-    is_at(table, b"XXXOO.O..", Value::Won(3))
-        && is_at(table, b"XXX.OO.O.", Value::Won(3))
-        && is_at(table, b"OO.OXX.X.", Value::Lost(2))
-        && is_at(table, b"XX..OO.OX", Value::Won(1))
-        && is_at(table, b"XXXOOO...", Value::Draw)
-}
-
+// The values of these positions were found by hand.
 #[test]
 fn three_stones_each_have_their_values(rt: HostRuntime) {
-    let table = three_three(rt.alloc()).expect(&rt, "a table");
-    assert!(rt; has_known_values(&table));
+    let table = three_three(&rt, rt.alloc());
+    assert_value(&rt, &table, b"XXXOO.O..", Value::Won(3));
+    assert_value(&rt, &table, b"XXX.OO.O.", Value::Won(3));
+    assert_value(&rt, &table, b"OO.OXX.X.", Value::Lost(2));
+    assert_value(&rt, &table, b"XX..OO.OX", Value::Won(1));
+    assert_value(&rt, &table, b"XXXOOO...", Value::Draw);
     let tallies = table.tallies(rt.alloc()).expect(&rt, "memory");
-    assert_eq!(rt; tallies.as_slice(), [600, 0, 936, 36, 108].as_slice());
+    let are_right = tallies.as_slice() == [600, 0, 936, 36, 108].as_slice();
+    holds(&rt, are_right, "tallies");
 }

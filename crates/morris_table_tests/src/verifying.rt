@@ -1,5 +1,6 @@
 // Lists of codes that are verified, of which it is known from outside which entry is told.
-use crate::making::{pair, three_three};
+use crate::checks::{holds, same};
+use crate::making::{empty, pair, three_three};
 use morris_board::grid::Grid;
 use morris_table::exact::Exact;
 use morris_table::layout::Layout;
@@ -10,92 +11,107 @@ use std::alloc::Global;
 use std::process::Abort;
 
 /// The codes of a table, in order.
-fn codes_of(alloc: Global, table: &Exact<Grid>) -> Option<Vec<u16>> {
+fn codes_of(rt: &impl Abort, alloc: Global, table: &Exact<Grid>) -> Vec<u16> {
     let mut codes = Vec::new(alloc);
     for i in 0..table.len() {
-        codes.push(table.code(i)).ok()?;
+        codes.push(table.code(i)).expect(rt, "memory");
     }
-    Some(codes)
+    codes
 }
 
 /// The entry of 3-3 that is told as the first one that doesn't agree, where these codes are stated.
-fn told(shelf: &Shelf<Grid>, codes: Vec<u16>) -> Option<u64> {
-    let raw = Raw::from_codes(pair(3, 3)?, Layout::Full, codes).ok()?;
-    match raw.verify(shelf).err()? {
-        (_, VerifyFault::Differs(index)) => Some(index),
-        (_, VerifyFault::Needs(_)) => None,
+fn told(rt: &impl Abort, shelf: &Shelf<Grid>, codes: Vec<u16>) -> u64 {
+    let raw = Raw::from_codes(pair(rt, 3, 3), Layout::Full, codes).ok();
+    let (_, fault) = raw
+        .expect(rt, "a code for each position")
+        .verify(shelf)
+        .err()
+        .expect(rt, "a fault");
+    match fault {
+        VerifyFault::Differs(index) => index,
+        VerifyFault::Needs(_) => panic!(rt; "3-3 needs no table"),
     }
 }
 
-/// What is told of as many equal codes as 3-3 has entries.
-fn told_of_equal(alloc: Global, shelf: &Shelf<Grid>, code: u16) -> Option<u64> {
-    told(shelf, vec![in alloc; code; 1680].ok()?)
+/// This entry is told of as many equal codes as 3-3 has entries.
+fn assert_told_of_equal(rt: &impl Abort, alloc: Global, code: u16, wanted: u64) {
+    let codes = vec![in alloc; code; 1680].expect(rt, "memory");
+    same(rt, told(rt, &empty(rt, alloc), codes), wanted, "entry");
 }
 
 /// What is told of the right codes but for this one: a draw is stated where there is none, and a
 /// loss at once where there is a draw.
-fn told_of_wrong(alloc: Global, shelf: &Shelf<Grid>, right: &[u16], wrong: usize) -> Option<u64> {
-    let mut codes = Vec::from_slice(alloc, right).ok()?;
-    let code = codes.get_mut(wrong)?;
+fn told_of_wrong(
+    rt: &impl Abort,
+    alloc: Global,
+    shelf: &Shelf<Grid>,
+    right: &[u16],
+    wrong: usize,
+) -> u64 {
+    let mut codes = Vec::from_slice(alloc, right).expect(rt, "memory");
+    let code = codes.get_mut(wrong).expect(rt, "a code");
     *code = if *code == 0 { 1 } else { 0 };
-    told(shelf, codes)
+    told(rt, shelf, codes)
 }
 
 /// Each entry wrong in turn: of how many of them it is told that they differ and no earlier one,
 /// and the sum of all that is told.
-fn told_of_each(alloc: Global, shelf: &Shelf<Grid>, right: &[u16]) -> Option<(u64, u64)> {
+fn told_of_each(rt: &impl Abort, alloc: Global, shelf: &Shelf<Grid>, right: &[u16]) -> (u64, u64) {
     let (mut themselves, mut sum) = (0u64, 0u64);
     for wrong in 0..right.len() {
-        let entry = told_of_wrong(alloc, shelf, right, wrong)?;
+        let entry = told_of_wrong(rt, alloc, shelf, right, wrong);
         themselves = themselves.saturating_add(u64::from(entry == wrong as u64));
         sum = sum.saturating_add(entry);
     }
-    Some((themselves, sum))
+    (themselves, sum)
 }
 
-/// Whether some wrong entries are told as another program finds them by the rules alone: an earlier
-/// one from which a move leads to the wrong one may be the first that doesn't agree.
-fn tells_some(alloc: Global, shelf: &Shelf<Grid>, right: &[u16]) -> bool {
-    told_of_wrong(alloc, shelf, right, 0) == Some(0)
-        && told_of_wrong(alloc, shelf, right, 201) == Some(180)
-        && told_of_wrong(alloc, shelf, right, 282) == Some(100)
-        && told_of_wrong(alloc, shelf, right, 1000) == Some(127)
-        && told_of_wrong(alloc, shelf, right, 1679) == Some(1679)
-}
-
+// Wrong entries are told as another program finds them by the rules alone: an earlier one from
+// which a move leads to the wrong one may be the first that doesn't agree.
 #[test]
 fn one_wrong_entry_is_told_or_an_earlier_one_that_leads_to_it(rt: HostRuntime) {
-    let empty = Shelf::new(rt.alloc()).expect(&rt, "a shelf");
-    let table = three_three(rt.alloc()).expect(&rt, "a table");
-    let right = codes_of(rt.alloc(), &table).expect(&rt, "codes");
-    assert!(rt; tells_some(rt.alloc(), &empty, right.as_slice()));
+    let empty = empty(&rt, rt.alloc());
+    let table = three_three(&rt, rt.alloc());
+    let right = codes_of(&rt, rt.alloc(), &table);
+    for (wrong, entry) in [(0, 0), (201, 180), (282, 100), (1000, 127), (1679, 1679)] {
+        let told = told_of_wrong(&rt, rt.alloc(), &empty, right.as_slice(), wrong);
+        same(&rt, told, entry, "entry");
+    }
     // The other program counts and adds the same.
-    let told = told_of_each(rt.alloc(), &empty, right.as_slice());
-    assert!(rt; told == Some((1062, 906_366)));
+    let (themselves, sum) = told_of_each(&rt, rt.alloc(), &empty, right.as_slice());
+    same(&rt, themselves, 1062, "entries that are told themselves");
+    same(&rt, sum, 906_366, "sum");
 }
 
 #[test]
 fn equal_codes_are_refused(rt: HostRuntime) {
-    let empty = Shelf::new(rt.alloc()).expect(&rt, "a shelf");
     // No capture is there among the first twenty positions, and the next one wins by one.
-    assert!(rt; told_of_equal(rt.alloc(), &empty, 0) == Some(20));
-    assert!(rt; told_of_equal(rt.alloc(), &empty, 2) == Some(0));
+    assert_told_of_equal(&rt, rt.alloc(), 0, 20);
+    assert_told_of_equal(&rt, rt.alloc(), 2, 0);
     // These losses would be won a ply later, by a code that is one more than the greatest of 16
     // bits.
-    assert!(rt; told_of_equal(rt.alloc(), &empty, 65_535) == Some(0));
+    assert_told_of_equal(&rt, rt.alloc(), 65_535, 0);
 }
 
-/// How many codes come back, of so many that aren't one for each position of 3-3.
-fn refused(alloc: Global, len: usize) -> Option<usize> {
-    let pair = pair(3, 3)?;
-    let codes = vec![in alloc; 7u16; len].ok()?;
-    let (codes, _) = Raw::from_codes(pair, Layout::Full, codes).err()?;
-    Some(codes.len())
+/// Whether so many codes are refused as the table of 3-3. Those that are come back.
+fn is_refused(rt: &impl Abort, alloc: Global, len: usize) -> bool {
+    let codes = vec![in alloc; 7u16; len].expect(rt, "memory");
+    match Raw::from_codes(pair::<Grid>(rt, 3, 3), Layout::Full, codes) {
+        Ok(_) => false,
+        Err((codes, _)) => {
+            same(rt, codes.len() as u64, len as u64, "codes that come back");
+            true
+        }
+    }
 }
 
 #[test]
 fn a_table_has_a_code_for_each_position(rt: HostRuntime) {
-    assert!(rt; refused(rt.alloc(), 1679) == Some(1679));
-    assert!(rt; refused(rt.alloc(), 1680).is_none());
-    assert!(rt; refused(rt.alloc(), 1681) == Some(1681));
+    holds(&rt, is_refused(&rt, rt.alloc(), 1679), "one too few");
+    holds(
+        &rt,
+        !is_refused(&rt, rt.alloc(), 1680),
+        "as many as positions",
+    );
+    holds(&rt, is_refused(&rt, rt.alloc(), 1681), "one too many");
 }

@@ -2,12 +2,13 @@
 ghost use Rattle.std.specs.Prelude.{◌≤◌, vec_len};
 
 use crate::builds::Shut;
-use crate::making::pair;
+use crate::checks::{holds, same};
+use crate::making::{built, empty, pair};
 use morris_board::grid::Grid;
 use morris_table::build_fault::BuildFault;
-use morris_table::building::{build_as, build_watched};
+use morris_table::building::build_watched;
 use morris_table::layout::Layout;
-use morris_table::shelf::{Needs, Shelf};
+use morris_table::shelf::Needs;
 use morris_table::stock::Stock;
 use morris_table::sweeping::sweep_pair_watched;
 use morris_workers::{OpenGate, Watch};
@@ -51,131 +52,105 @@ impl Watch for Scribe {
     ghost joins = { λ first then last once again. omega (arith, once, again) };
 }
 
-/// Whether a build of 3-3 that tells a watch answers a table.
-fn is_built<R: Threads + Wait + Sync>(
-    rt: &R,
-    alloc: Global,
-    layout: Layout,
-    watch: &mut Scribe,
-    workers: usize,
-    blocks: usize,
-) -> bool {
-    match (pair(3, 3), Stock::new(alloc)) {
-        (Some(pair), Ok(stock)) => {
-            let gate = &OpenGate;
-            build_watched(
-                rt, alloc, &stock, pair, layout, gate, watch, workers, blocks,
-            )
-            .is_ok()
-        }
-        _ => false,
-    }
+/// Four waves were told. No value of 3-3 is deeper than a win in 3, which wave 3 decides; wave 4
+/// decides nothing more.
+fn assert_four(rt: &impl Abort, told: &[u16]) {
+    holds(rt, told == [1, 2, 3, 4].as_slice(), "waves");
 }
 
-/// Whether a build of 3-3 tells four waves. No value of 3-3 is deeper than a win in 3, which wave 3
-/// decides; wave 4 decides nothing more.
-fn tells_four<R: Threads + Wait + Sync>(
+/// A build of 3-3 tells four waves.
+fn assert_tells_four<R: Abort + Threads + Wait + Sync>(
     rt: &R,
     alloc: Global,
     layout: Layout,
     workers: usize,
     blocks: usize,
-) -> bool {
+) {
+    let (pair, gate) = (pair(rt, 3, 3), &OpenGate);
+    let stock = &Stock::<Grid>::new(alloc).expect(rt, "a stock");
     let mut scribe = Scribe::new(alloc);
-    is_built(rt, alloc, layout, &mut scribe, workers, blocks)
-        && scribe.told.as_slice() == [1, 2, 3, 4].as_slice()
+    let watch = &mut scribe;
+    let built = build_watched(rt, alloc, stock, pair, layout, gate, watch, workers, blocks);
+    holds(rt, built.is_ok(), "built");
+    assert_four(rt, scribe.told.as_slice());
 }
 
 #[test]
 fn a_watch_is_told_the_waves_of_a_build(rt: HostRuntime) {
-    assert!(rt; tells_four(&rt, rt.alloc(), Layout::Full, 1, 1));
-    assert!(rt; tells_four(&rt, rt.alloc(), Layout::Full, 3, 64));
-    assert!(rt; tells_four(&rt, rt.alloc(), Layout::Classes, 1, 1));
-    assert!(rt; tells_four(&rt, rt.alloc(), Layout::Classes, 2, 5));
+    assert_tells_four(&rt, rt.alloc(), Layout::Full, 1, 1);
+    assert_tells_four(&rt, rt.alloc(), Layout::Full, 3, 64);
+    assert_tells_four(&rt, rt.alloc(), Layout::Classes, 1, 1);
+    assert_tells_four(&rt, rt.alloc(), Layout::Classes, 2, 5);
 }
 
-/// How many waves are told of a build over no tables that is refused for this, and whose
-/// workers are all sent away.
-fn waves_before<R: Threads + Wait + Sync>(
+/// So many waves are told of a build over no tables that is refused for this, and whose workers are
+/// all sent away.
+fn assert_waves_before<R: Abort + Threads + Wait + Sync>(
     rt: &R,
     alloc: Global,
     layout: Layout,
-    greater: u8,
-    workers: usize,
+    (greater, workers): (u8, usize),
     fault: BuildFault<Grid>,
-) -> Option<usize> {
-    let pair = pair(greater, 3)?;
-    let stock = &Stock::new(alloc).ok()?;
+    waves: u64,
+) {
+    let pair = pair(rt, greater, 3);
+    let stock = &Stock::new(alloc).expect(rt, "a stock");
     let mut scribe = Scribe::new(alloc);
     let watch = &mut scribe;
     let refused = build_watched(rt, alloc, stock, pair, layout, &Shut, watch, workers, 5).err();
-    (refused == Some(fault)).then_some(scribe.told.len())
+    holds(rt, refused == Some(fault), "fault");
+    same(rt, scribe.told.len() as u64, waves, "waves");
 }
 
-/// Whether a watch is told nothing of a build in a layout that is refused before its first wave.
-fn tells_nothing_before<R: Threads + Wait + Sync>(
+/// A watch is told nothing of a build in a layout that is refused before its first wave.
+fn assert_tells_nothing_before<R: Abort + Threads + Wait + Sync>(
     rt: &R,
     alloc: Global,
     layout: Layout,
-) -> Option<bool> {
-    let needs = BuildFault::Needs(Needs(pair(3, 3)?));
-    let missing = waves_before(rt, alloc, layout, 4, 2, needs)?;
-    let idle = waves_before(rt, alloc, layout, 3, 0, BuildFault::Workers)?;
+) {
+    let needs = BuildFault::Needs(Needs(pair(rt, 3, 3)));
+    assert_waves_before(rt, alloc, layout, (4, 2), needs, 0);
+    assert_waves_before(rt, alloc, layout, (3, 0), BuildFault::Workers, 0);
     // The first wave begins, and every worker is sent away.
-    let shut = waves_before(rt, alloc, layout, 3, 2, BuildFault::Missing(0))?;
-    Some(missing == 0 && idle == 0 && shut == 1)
+    assert_waves_before(rt, alloc, layout, (3, 2), BuildFault::Missing(0), 1);
 }
 
 #[test]
 fn a_watch_is_told_nothing_of_a_build_that_is_refused_before(rt: HostRuntime) {
-    assert!(rt; tells_nothing_before(&rt, rt.alloc(), Layout::Full) == Some(true));
-    assert!(rt; tells_nothing_before(&rt, rt.alloc(), Layout::Classes) == Some(true));
+    assert_tells_nothing_before(&rt, rt.alloc(), Layout::Full);
+    assert_tells_nothing_before(&rt, rt.alloc(), Layout::Classes);
 }
 
-/// Whether a sweep of 3-3 tells the four waves of a build.
-fn sweep_tells_four(alloc: Global) -> Option<bool> {
-    let shelf = Shelf::new(alloc).ok()?;
-    let mut scribe = Scribe::new(alloc);
-    sweep_pair_watched(alloc, &shelf, pair(3, 3)?, &mut scribe).ok()?;
-    Some(scribe.told.as_slice() == [1, 2, 3, 4].as_slice())
-}
-
+// A sweep of 3-3 tells the four waves of a build.
 #[test]
 fn a_watch_is_told_the_waves_of_a_sweep(rt: HostRuntime) {
-    assert!(rt; sweep_tells_four(rt.alloc()) == Some(true));
+    let shelf = empty::<Grid>(&rt, rt.alloc());
+    let mut scribe = Scribe::new(rt.alloc());
+    let swept = sweep_pair_watched(rt.alloc(), &shelf, pair(&rt, 3, 3), &mut scribe);
+    holds(&rt, swept.is_ok(), "swept");
+    assert_four(&rt, scribe.told.as_slice());
 }
 
-/// How many entries of 3-3 are told to be done by workers who verify its table, and no wave.
-fn told_of_verifying<R: Threads + Wait + Sync>(
+/// So many entries of 3-3 are told to be done by workers who verify its table, and no wave.
+fn assert_told_of_verifying<R: Abort + Threads + Wait + Sync>(
     rt: &R,
     alloc: Global,
     layout: Layout,
     workers: usize,
-) -> Option<u64> {
-    if workers == 0 || workers > 64 {
-        return None;
-    }
-    let stock = Stock::new(alloc).ok()?;
-    let table = build_as(
-        rt,
-        alloc,
-        &Shelf::new(alloc).ok()?,
-        pair(3, 3)?,
-        layout,
-        &OpenGate,
-        2,
-        5,
-    );
-    let raw = table.ok()?.into_raw();
+    entries: u64,
+) {
+    assert!(rt; 1 <= workers && workers <= 64);
+    let stock = Stock::new(alloc).expect(rt, "a stock");
+    let raw = built(rt, alloc, &empty(rt, alloc), pair(rt, 3, 3), layout).into_raw();
     let mut scribe = Scribe::new(alloc);
-    raw.verify_watched(rt, alloc, &stock, workers, &mut scribe)
-        .ok()?;
-    scribe.told.is_empty().then_some(scribe.done)
+    let verified = raw.verify_watched(rt, alloc, &stock, workers, &mut scribe);
+    holds(rt, verified.is_ok() && scribe.told.is_empty(), "verified");
+    same(rt, scribe.done, entries, "entries");
 }
 
 #[test]
 fn a_watch_is_told_the_entries_that_are_verified(rt: HostRuntime) {
-    assert!(rt; told_of_verifying(&rt, rt.alloc(), Layout::Full, 1) == Some(1680));
-    assert!(rt; told_of_verifying(&rt, rt.alloc(), Layout::Classes, 1) == Some(320));
-    assert!(rt; told_of_verifying(&rt, rt.alloc(), Layout::Classes, 3) == Some(320));
+    assert_told_of_verifying(&rt, rt.alloc(), Layout::Full, 1, 1680);
+    assert_told_of_verifying(&rt, rt.alloc(), Layout::Classes, 1, 320);
+    assert_told_of_verifying(&rt, rt.alloc(), Layout::Classes, 3, 320);
 }
