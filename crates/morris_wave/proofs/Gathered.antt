@@ -1,6 +1,7 @@
 -- Gathering the blocks of a graph.
-use Rattle.std.proofs.Common.{◌≡◌, ℕ, suc, ◌+◌, ◌-◌, ◌*◌, ◌/◌, ◌<◌, ◌≤◌, Bool, true, false, not, ◌&&◌, ◌||◌, cond, eqb, List, [], ◌∷◌, ◌++◌, Option, Some, None, is_some, length, get_or, set, take, drop, replicate, refl, sym, ap, ap₂, ◌∙◌, subst, ⊎_elim, arith, get_or-set_same, get_or-set_other, length-set, take_all}
+use Rattle.std.proofs.Common.{◌≡◌, ℕ, suc, ◌+◌, ◌-◌, ◌*◌, ◌/◌, ◌<◌, ◌≤◌, Bool, true, false, not, ◌&&◌, ◌||◌, cond, eqb, List, [], ◌∷◌, ◌++◌, Option, Some, None, is_some, length, get_or, set, take, drop, replicate, refl, sym, ap, ap₂, ◌∙◌, subst, ⊎_elim, arith, get_or-set_same, get_or-set_other, length-set, take_all, Vec}
 use Rattle.std.specs.List.{All, count_by}
+use Rattle.std.specs.declared.alloc.Global.{Global}
 use Rattle.std.proofs.Math.Nat.{mul-div_cancel, div-mul-le_self}
 use Rattle.std.proofs.lemmas.Bool.{and_parts, or_cases, cases_Bool, cases_eq, cases_lt, eq-eqb, eqb-true, ltb-true, ne_eqb, or_left, or_right, both_ways, not-true, false_from_ne_true}
 use Rattle.std.proofs.lemmas.Nat.{le-div}
@@ -13,7 +14,7 @@ use Rattle.morris_wave.specs.Waves.{is_fresh}
 use Rattle.morris_wave.specs.Blocks.{Parts, IsCut, IsIn, first_of, block_of, BlockState, BlockHolds, is_complete, first_node, count_of, IsSettled}
 use Rattle.morris_wave.specs.Answering.{is_same_cut}
 use Rattle.morris_wave.specs.declared.gathering.GatherFault.{GatherFault}
-use Rattle.morris_wave.specs.Gathering.{has_number, complaint, first_fault, first_complaint, HasAll, ComesOnce, Fits, ArePlaces}
+use Rattle.morris_wave.specs.Gathering.{has_number, complaint, first_fault, first_complaint, HasAll, ComesOnce, Fits, ArePlaces, AreKnown, IsGathered}
 use Rattle.morris_wave.proofs.Tests.{count_yes, count_no, some_counted}
 use Rattle.morris_wave.proofs.Stretches.{codes_within}
 use Rattle.morris_wave.proofs.Blocking.{complete_holds, same_parts, block_of-lt}
@@ -217,6 +218,36 @@ block_more g level wave cut k s codes entries some fit number len old entries_le
           (λ j l. new j (omega (arith, count)) ∙ ap₂ (λ w f. code_within g (w + 1) (f + j)) fit.wave_is start),
     )
 
+-- the codes of the first k blocks, as far as they are known at a wave
+pub record KnownTo (g : Net) (wave : ℕ) (cut : Parts) (k : ℕ) (codes : List ℕ) : Type 0 where
+  pub is_cut : 0 < k → IsCut cut
+  pub size : 0 < k → g.size ≡ cut.size
+  pub early : 0 < k → wave ≤ 65534
+  pub len : length codes ≡ first_of cut k
+  pub each : (i : ℕ) → i < first_of cut k → get_or codes i 0 ≡ code_within g (wave + 1) i
+
+-- and of one block more
+pub known_more : (net : ℕ → Net) (level wave : ℕ) (cut : Parts) (k : ℕ) (s : BlockState) (codes entries : List ℕ) → 1 ≤ cut.blocks → Fits level wave cut s → s.number ≡ k → KnownTo (net level) wave cut k codes
+    → IsCut s.cut → (net s.level).size ≡ s.cut.size → s.wave ≤ 65534 → length entries ≡ count_of s
+    → (is_complete s ≡ true → (j : ℕ) → j < count_of s → get_or entries j 0 ≡ code_within (net s.level) (s.wave + 1) (first_node s + j)) → KnownTo (net level) wave cut (k + 1) (codes ++ entries)
+known_more net level wave cut k s codes entries some fit number known is_cut size early len new =
+    let here = subst (λ (l : ℕ). (j : ℕ) → j < count_of s → get_or entries j 0 ≡ code_within (net l) (s.wave + 1) (first_node s + j)) fit.level_is (new fit.complete) in
+    let more = block_more (net level) level wave cut k s codes entries some fit number known.len known.each len here in
+    record {
+      is_cut = λ _. subst (λ (c : Parts). IsCut c) fit.cut_is is_cut;
+      size = λ _. subst (λ (l : ℕ). (net l).size ≡ cut.size) fit.level_is (size ∙ ap (λ (c : Parts). c.size) fit.cut_is);
+      early = λ _. omega (arith, early, fit.wave_is);
+      len = more.0;
+      each = more.1;
+    }
+
+-- those of all blocks are the codes of all nodes
+pub known_all : (g : Net) (wave : ℕ) (cut : Parts) (k : ℕ) (codes : Vec ℕ Global) → 1 ≤ cut.blocks → k ≡ cut.blocks → KnownTo g wave cut k codes.items → AreKnown g wave cut codes
+known_all g wave cut k codes some last known =
+    let most : 0 < k = omega (arith, some, last) in
+    let end : first_of cut k ≡ cut.size = ap (first_of cut) last ∙ first_last cut some in
+    record { is_cut = known.is_cut most; size = known.size most; early = known.early most; len = omega (arith, codes.ok.0, known.len, end); each = λ i l. known.each i (omega (arith, end, l)) }
+
 -- each node is in a block that came
 module _ (g : Net) (level wave : ℕ) (cut : Parts) (law : IsCut cut) where
   one_of : (blocks : List BlockState) (k : ℕ) → has_number blocks k ≡ true → All (Fits level wave cut) blocks → All (IsSettled g) blocks
@@ -264,3 +295,18 @@ module _ (g : Net) (level wave : ℕ) (cut : Parts) (law : IsCut cut) where
 pub all_there : (cut : Parts) (blocks : List BlockState) (places : List (Option ℕ)) → ArePlaces blocks places → cut.blocks ≤ 1024
     → ((k : ℕ) → k < cut.blocks → is_some (get_or places k None) ≡ true) → HasAll cut blocks
 all_there cut blocks places h few all k l = sym (h.came k (omega arith)) ∙ all k l
+
+-- what is gathered where nothing speaks against the blocks and none is absent
+pub gathered : (g : Net) (law : IsNet g) (level wave : ℕ) (cut : Parts) (blocks : List BlockState) (codes : Vec ℕ Global) → first_complaint level wave cut [] blocks ≡ None → HasAll cut blocks → AreKnown g wave cut codes
+    → IsGathered g level wave cut blocks codes
+gathered g law level wave cut blocks codes walked all known =
+    let fit = all_fit level wave cut [] blocks walked in
+    record {
+      fit = fit;
+      walked = walked;
+      all = all;
+      once = comes_once level wave cut blocks walked all;
+      known = known;
+      settled = λ settled i l. subst (λ (x : ℕ). HasCode g i x) (sym (known.each i l)) (settled_codes g level wave cut known.is_cut law blocks known.size all fit settled i l);
+      deep = λ settled. settled_deep g level wave cut known.is_cut law blocks known.size all fit settled known.early;
+    }

@@ -17,6 +17,7 @@ pub mod Placing
 pub mod Ranks
 pub mod DueLists
 pub mod Widths
+pub mod TwoBytes
 pub mod Falling
 pub mod Stretches
 pub mod Readings

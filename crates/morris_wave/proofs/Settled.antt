@@ -52,11 +52,9 @@ module _ (g : Net) (law : IsNet g) (s : BlockState) (first : ℕ) (codes counter
       ∙ (ap (λ f. entry_at g s.wave (in_applied s) (f + k)) h.first_is
       ∙ sym (get_or-map-range_with_len (entry_at g s.wave (in_applied s)) (first_node s) (count_of s) k (first_node s + k) d within refl))))
 
-  module _ (i : ℕ) (inside : IsIn s.cut s.number i) (code : ℕ) (at : code ≡ get_or codes (i - first) code) where
+  module _ (i : ℕ) (inside : IsIn s.cut s.number i) (code : ℕ) (at : code ≡ get_or codes (i - first) 0) where
     entry_read : code ≡ entry_at g s.wave (in_applied s) i
-    entry_read =
-        at ∙ (get_or_default codes (i - first) code 0 (omega (arith, low i inside, high i inside))
-        ∙ entry_is g law s.wave (in_applied s) first codes counters due last_due h.kept i (low i inside) (high i inside))
+    entry_read = at ∙ entry_is g law s.wave (in_applied s) first codes counters due last_due h.kept i (low i inside) (high i inside)
 
     pub code_value : code ≡ entry_at g s.wave (in_applied s) i
     code_value = entry_read

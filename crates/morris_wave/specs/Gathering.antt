@@ -1,7 +1,10 @@
 -- How the blocks of a graph are gathered into its codes.
-use Rattle.std.specs.Prelude.{◌≡◌, ℕ, ◌<◌, Bool, true, false, ◌&&◌, ◌==◌, if◌then◌else◌, List, [], ◌∷◌, ◌++◌, length, Option, Some, None, is_some, slice_index_or}
-use Rattle.std.specs.List.{list_any, count_by}
-use Rattle.morris_wave.specs.Blocks.{Parts, BlockState, is_complete}
+use Rattle.std.specs.Prelude.{◌≡◌, ℕ, ◌+◌, ◌<◌, ◌≤◌, Bool, true, false, ◌&&◌, ◌==◌, if◌then◌else◌, List, [], ◌∷◌, ◌++◌, length, Option, Some, None, is_some, slice_index, slice_index_or, Vec, vec_len}
+use Rattle.std.specs.List.{All, list_any, count_by}
+use Rattle.std.specs.declared.alloc.Global.{Global}
+use Rattle.morris_wave.specs.Nets.{Net}
+use Rattle.morris_wave.specs.Values.{HasCode, IsTooDeep, code_within}
+use Rattle.morris_wave.specs.Blocks.{Parts, IsCut, BlockState, is_complete, IsSettled}
 use Rattle.morris_wave.specs.Answering.{is_same_cut}
 use Rattle.morris_wave.specs.declared.gathering.GatherFault.{GatherFault}
 use Rattle.morris_wave.specs.declared.gathering.GatherFault.TheVariants.{Foreign, Double, Missing, Memory}
@@ -73,3 +76,22 @@ pub record ArePlaces (blocks : List BlockState) (places : List (Option ℕ)) : T
   pub len : length places ≡ 1024
   pub came : (k : ℕ) → k < 1024 → is_some (slice_index_or places k None) ≡ has_number blocks k
   pub at : (k p : ℕ) → slice_index_or places k None ≡ Some p → (p < length blocks) × ((d : BlockState) → (slice_index_or blocks p d).number ≡ k)
+
+-- The codes of all nodes of a graph, as far as they are known at a wave: 0 for a depth above it.
+pub record AreKnown (g : Net) (wave : ℕ) (cut : Parts) (codes : Vec ℕ Global) : Type 0 where
+  pub is_cut : IsCut cut
+  pub size : g.size ≡ cut.size
+  pub early : wave ≤ 65534
+  pub len : vec_len codes ≡ cut.size
+  pub each : (i : ℕ) → i < cut.size → slice_index codes.items i ≡ code_within g (wave + 1) i
+
+-- What is gathered: these codes, from blocks of this level and cut that are complete at the wave,
+-- each of the cut once. Where all of them are settled, no later wave gives a code.
+pub record IsGathered (g : Net) (level wave : ℕ) (cut : Parts) (blocks : List BlockState) (codes : Vec ℕ Global) : Type 0 where
+  pub fit : All (Fits level wave cut) blocks
+  pub walked : first_complaint level wave cut [] blocks ≡ None
+  pub all : HasAll cut blocks
+  pub once : ComesOnce cut blocks
+  pub known : AreKnown g wave cut codes
+  pub settled : All (IsSettled g) blocks → (i : ℕ) → i < cut.size → HasCode g i (slice_index codes.items i)
+  pub deep : All (IsSettled g) blocks → ¬ IsTooDeep g

@@ -125,12 +125,12 @@ impl<N: Levels, L: NodeList> Drop for Batch<N, L> {
 /// every quiet result is known and won. A result is known where its depth is at most `n - 2`, or is
 /// `n - 1` and its block is applied. A decided node's entry is its code, an open node's is 0.
 ///
-/// A block keeps 3 bytes a node, or 4 where some node of it has more than 254 quiet results, and
-/// lists of the kind `L` of the nodes that are decided and of those that come due by their exits:
-/// of 8 bytes for each, or of 4 where all nodes of the graph are below 2^32. Where `L` is
-/// [`Recent`](crate::Recent), the nodes that were decided before the wave are let go. Room for all
-/// nodes is taken in `make`; what isn't filled of it is never used. The nodes that come due at a
-/// wave are let go, with their room, as it begins.
+/// A block keeps 2 bytes a node, one more where some node of it has more than 254 quiet results, and
+/// one more once a depth is above 254. It keeps lists of the kind `L` of the nodes that are decided
+/// and of those that come due by their exits: of 8 bytes for each, or of 4 where all nodes of the
+/// graph are below 2^32. Where `L` is [`Recent`](crate::Recent), the nodes that were decided before
+/// the wave are let go. Room for all nodes and codes is taken in `make`; what isn't filled of it is
+/// never used. The nodes that come due at a wave are let go, with their room, as it begins.
 pub struct Block<N: Levels, L: NodeList = Vec<u64>> {
     level: u64,
     pub(crate) cut: Cut,
@@ -150,7 +150,7 @@ impl<N: Levels, L: NodeList> Model for Block<N, L> {
 
     ghost invariant = { λ b. BlockHolds (N.net b.level)
         (record { level = b.level; cut = b.cut; number = b.number; wave = b.kept.entries.wave; applied = b.applied.items })
-        b.kept.entries.first b.kept.entries.entries.codes.items (counts_of b.kept.counters) b.kept.due b.kept.last_due (most_of b.kept.counters) };
+        b.kept.entries.first b.kept.entries.entries.codes (counts_of b.kept.counters) b.kept.due b.kept.last_due (most_of b.kept.counters) };
 }
 
 impl<N: Levels, L: NodeList> Drop for Block<N, L> {
@@ -330,7 +330,7 @@ impl<N: Levels, L: NodeList> Block<N, L> {
         ensures undecided { (result ≡ 0) ↔ (is_decided_at (N.net self.now.level) self.now.wave (in_applied self.now) i ≡ false) }
     {
         let entries = &self.kept.entries;
-        entries.entries.codes[(i - entries.first) as usize]
+        entries.entries.codes.get((i - entries.first) as usize)
     }
 
     /// How many entries are won, lost and still open.

@@ -1,5 +1,5 @@
 //! What nodes with a new known result do to the entries and counters of a block.
-ghost use Rattle.std.specs.Prelude.{◌≡◌, ℕ, ◌+◌, ◌-◌, ◌<◌, ◌≤◌, ◌&&◌, ◌==◌, ◌^◌, Bool, true, false, length, take, slice_index, vec_len};
+ghost use Rattle.std.specs.Prelude.{◌≡◌, ℕ, ◌+◌, ◌-◌, ◌<◌, ◌≤◌, ◌&&◌, ◌==◌, ◌^◌, Bool, true, false, length, take, slice_index};
 ghost use Rattle.std.specs.List.{All};
 ghost use Rattle.morris_wave.specs.Nets.{times};
 ghost use Rattle.morris_wave.specs.Exits.{is_odd};
@@ -13,14 +13,14 @@ use crate::nodes::NodeList;
 
 // Gives each open node of the list its code.
 fn win_all<L: NodeList, B: NodeList>(entries: &mut Listed<L>, nodes: &B)
-    requires inside { All (λ i. (entries.old.first ≤ i) × (i < entries.old.first + vec_len entries.old.entries.codes)) (B.items nodes.now) }
-    ensures len { vec_len entries.new.entries.codes ≡ vec_len entries.old.entries.codes }
+    requires inside { All (λ i. (entries.old.first ≤ i) × (i < entries.old.first + length entries.old.entries.codes)) (B.items nodes.now) }
+    ensures len { length entries.new.entries.codes ≡ length entries.old.entries.codes }
     ensures first { entries.new.first ≡ entries.old.first }
     ensures wave { entries.new.wave ≡ entries.old.wave }
     ensures before { entries.new.before ≡ entries.old.before }
     ensures here { entries.new.here ≡ entries.old.here }
     ensures list { take entries.old.here (L.items entries.new.decided) ≡ take entries.old.here (L.items entries.old.decided) }
-    ensures codes { Marks entries.old.entries.codes.items entries.new.entries.codes.items
+    ensures codes { Marks entries.old.entries.codes entries.new.entries.codes
         (λ k. among (B.items nodes.now) (entries.old.first + k)) (entries.old.wave + 1) }
 {
     for at in 0..nodes.count() {
@@ -36,12 +36,12 @@ fn lower_all<L: NodeList, B: NodeList, C: CounterList>(
     counters: &mut C,
     nodes: &B,
 )
-    requires inside { All (λ i. (entries.old.first ≤ i) × (i < entries.old.first + vec_len entries.old.entries.codes)) (B.items nodes.now) }
-    requires counters { length (C.counts counters.old) ≡ vec_len entries.old.entries.codes }
+    requires inside { All (λ i. (entries.old.first ≤ i) × (i < entries.old.first + length entries.old.entries.codes)) (B.items nodes.now) }
+    requires counters { length (C.counts counters.old) ≡ length entries.old.entries.codes }
     requires small { (k : ℕ) → k < length (C.counts counters.old) → slice_index (C.counts counters.old) k < 65536 }
     requires falls { FallsLike C.left }
     requires enough { (k : ℕ) → k < length (C.counts counters.old) → times (entries.old.first + k) (B.items nodes.now) ≤ C.left (slice_index (C.counts counters.old) k) }
-    ensures len { vec_len entries.new.entries.codes ≡ vec_len entries.old.entries.codes }
+    ensures len { length entries.new.entries.codes ≡ length entries.old.entries.codes }
     ensures counters_len { length (C.counts counters.new) ≡ length (C.counts counters.old) }
     ensures first { entries.new.first ≡ entries.old.first }
     ensures wave { entries.new.wave ≡ entries.old.wave }
@@ -50,7 +50,7 @@ fn lower_all<L: NodeList, B: NodeList, C: CounterList>(
     ensures list { take entries.old.here (L.items entries.new.decided) ≡ take entries.old.here (L.items entries.old.decided) }
     ensures small { (k : ℕ) → k < length (C.counts counters.new) → slice_index (C.counts counters.new) k < 65536 }
     ensures lowered { LowersBy (λ k. entries.old.first + k) (C.counts counters.old) (C.counts counters.new) (B.items nodes.now) }
-    ensures codes { Marks entries.old.entries.codes.items entries.new.entries.codes.items
+    ensures codes { Marks entries.old.entries.codes entries.new.entries.codes
         (λ k. among (B.items nodes.now) (entries.old.first + k) && (slice_index (C.counts counters.new) k == 0)) (entries.old.wave + 1) }
 {
     for at in 0..nodes.count() {
@@ -68,12 +68,12 @@ pub(crate) fn take_in<L: NodeList, B: NodeList>(
     counters: &mut Counters,
     nodes: &B,
 )
-    requires inside { All (λ i. (entries.old.first ≤ i) × (i < entries.old.first + vec_len entries.old.entries.codes)) (B.items nodes.now) }
-    requires counters { length (counts_of counters.old) ≡ vec_len entries.old.entries.codes }
+    requires inside { All (λ i. (entries.old.first ≤ i) × (i < entries.old.first + length entries.old.entries.codes)) (B.items nodes.now) }
+    requires counters { length (counts_of counters.old) ≡ length entries.old.entries.codes }
     requires small { (k : ℕ) → k < length (counts_of counters.old) → slice_index (counts_of counters.old) k < 65536 }
     requires enough { is_odd entries.old.wave ≡ false
         → (k : ℕ) → k < length (counts_of counters.old) → times (entries.old.first + k) (B.items nodes.now) ≤ left_at counters.old k }
-    ensures len { vec_len entries.new.entries.codes ≡ vec_len entries.old.entries.codes }
+    ensures len { length entries.new.entries.codes ≡ length entries.old.entries.codes }
     ensures counters_len { length (counts_of counters.new) ≡ length (counts_of counters.old) }
     ensures most { most_of counters.new ≡ most_of counters.old }
     ensures first { entries.new.first ≡ entries.old.first }
@@ -82,7 +82,7 @@ pub(crate) fn take_in<L: NodeList, B: NodeList>(
     ensures here { entries.new.here ≡ entries.old.here }
     ensures list { take entries.old.here (L.items entries.new.decided) ≡ take entries.old.here (L.items entries.old.decided) }
     ensures small { (k : ℕ) → k < length (counts_of counters.new) → slice_index (counts_of counters.new) k < 65536 }
-    ensures taken { Takes entries.old.wave entries.old.first (B.items nodes.now) entries.old.entries.codes.items entries.new.entries.codes.items
+    ensures taken { Takes entries.old.wave entries.old.first (B.items nodes.now) entries.old.entries.codes entries.new.entries.codes
         (counts_of counters.old) (counts_of counters.new) }
 {
     if entries.wave % 2 == 1 {

@@ -1,10 +1,11 @@
 //! The codes of a graph, gathered from its blocks.
 ghost use Rattle.std.specs.Prelude.{◌≡◌, ℕ, ◌+◌, ◌<◌, ◌≤◌, Bool, true, false, Option, Some, None, [], length, is_some, slice_index, slice_index_or, replicate, IfOk, OnOk, IfErr, IfSome, IfNone, vec_len};
 ghost use Rattle.std.specs.List.{All};
-ghost use Rattle.morris_wave.specs.Values.{HasCode, IsTooDeep, code_within};
-ghost use Rattle.morris_wave.specs.Blocks.{BlockState, IsCut, first_node, count_of, is_complete, IsSettled};
-ghost use Rattle.morris_wave.specs.Gathering.{complaint, first_complaint, HasAll, ComesOnce, IsGatherFault, Fits, ArePlaces};
+ghost use Rattle.morris_wave.specs.Values.{code_within};
+ghost use Rattle.morris_wave.specs.Blocks.{BlockState, IsCut, first_node, count_of, is_complete};
+ghost use Rattle.morris_wave.specs.Gathering.{complaint, first_complaint, HasAll, IsGatherFault, Fits, ArePlaces, AreKnown, IsGathered};
 
+use crate::codes::Codes;
 use crate::division::Cut;
 use crate::engine::Block;
 use crate::network::Levels;
@@ -115,7 +116,7 @@ fn first_absent(cut: &Cut, places: &[Option<usize>]) -> Option<u64>
 }
 
 // The entries of a block.
-fn entries_of<N: Levels, L: NodeList>(block: &Block<N, L>) -> &[u16]
+fn entries_of<N: Levels, L: NodeList>(block: &Block<N, L>) -> &Codes
     ensures cut { IsCut block.now.cut }
     ensures size { (N.net block.now.level).size ≡ block.now.cut.size }
     ensures wave { block.now.wave ≤ 65534 }
@@ -138,18 +139,14 @@ fn in_order<N: Levels, L: NodeList>(
     requires places { ArePlaces blocks.now places.now }
     requires all { HasAll cut.now blocks.now }
     requires fit { All (Fits level wave cut.now) blocks.now }
-    ensures len { IfOk result (λ v. vec_len v ≡ cut.now.size) }
-    ensures size { OnOk result ((N.net level).size ≡ cut.now.size) }
-    ensures wave { OnOk result (wave ≤ 65534) }
-    ensures cut { OnOk result (IsCut cut.now) }
-    ensures codes { IfOk result (λ v. (i : ℕ) → i < cut.now.size → slice_index v.items i ≡ code_within (N.net level) (wave + 1) i) }
+    ensures { IfOk result (AreKnown (N.net level) wave cut.now) }
 {
     let mut codes = Vec::with_capacity(alloc, cut.size() as usize)?;
     for number in 0..cut.blocks() {
         let Some(place) = places[number as usize] else {
             unreachable!()
         };
-        codes.extend_from_slice(entries_of(&blocks[place]))?;
+        entries_of(&blocks[place]).add_to(&mut codes)?;
     }
     Ok(codes)
 }
@@ -172,17 +169,8 @@ pub fn gather<N: Levels, L: NodeList>(
     cut: &Cut,
     blocks: &[Block<N, L>],
 ) -> Result<Vec<u16>, GatherFault>
-    ensures fit { OnOk result (All (Fits level wave cut.now) blocks.now) }
-    ensures walked { OnOk result (first_complaint level wave cut.now [] blocks.now ≡ None) }
-    ensures all { OnOk result (HasAll cut.now blocks.now) }
-    ensures once { OnOk result (ComesOnce cut.now blocks.now) }
-    ensures fault { IfErr result (λ e. IsGatherFault level wave cut.now blocks.now e) }
-    ensures size { OnOk result ((N.net level).size ≡ cut.now.size) }
-    ensures len { IfOk result (λ v. vec_len v ≡ cut.now.size) }
-    ensures codes { IfOk result (λ v. (i : ℕ) → i < cut.now.size → slice_index v.items i ≡ code_within (N.net level) (wave + 1) i) }
-    ensures settled { IfOk result (λ v. All (IsSettled (N.net level)) blocks.now
-        → (i : ℕ) → i < cut.now.size → HasCode (N.net level) i (slice_index v.items i)) }
-    ensures deep { OnOk result (All (IsSettled (N.net level)) blocks.now → IsTooDeep (N.net level) → ⊥) }
+    ensures gathered { IfOk result (IsGathered (N.net level) level wave cut.now blocks.now) }
+    ensures fault { IfErr result (IsGatherFault level wave cut.now blocks.now) }
 {
     let places = walk(level, wave, cut, blocks)?;
     if let Some(number) = first_absent(cut, &places) {
@@ -216,16 +204,12 @@ fn drained<N: Levels, L: NodeList>(
     requires count { vec_len blocks ≡ cut.now.blocks }
     requires order { (k : ℕ) (d : BlockState) → k < length blocks.items → (slice_index_or blocks.items k d).number ≡ k }
     requires fit { All (Fits level wave cut.now) blocks.items }
-    ensures len { IfOk result (λ v. vec_len v ≡ cut.now.size) }
-    ensures size { OnOk result ((N.net level).size ≡ cut.now.size) }
-    ensures wave { OnOk result (wave ≤ 65534) }
-    ensures cut { OnOk result (IsCut cut.now) }
-    ensures codes { IfOk result (λ v. (i : ℕ) → i < cut.now.size → slice_index v.items i ≡ code_within (N.net level) (wave + 1) i) }
+    ensures { IfOk result (AreKnown (N.net level) wave cut.now) }
 {
     let _blocks = cut.blocks();
     let mut codes = Vec::with_capacity(alloc, cut.size() as usize)?;
     for block in blocks {
-        codes.extend_from_slice(entries_of(&block))?;
+        entries_of(&block).add_to(&mut codes)?;
     }
     Ok(codes)
 }
@@ -243,11 +227,7 @@ fn taken_in_order<N: Levels, L: NodeList>(
     requires places { ArePlaces blocks.items places.now }
     requires all { HasAll cut.now blocks.items }
     requires fit { All (Fits level wave cut.now) blocks.items }
-    ensures len { IfOk result (λ v. vec_len v ≡ cut.now.size) }
-    ensures size { OnOk result ((N.net level).size ≡ cut.now.size) }
-    ensures wave { OnOk result (wave ≤ 65534) }
-    ensures cut { OnOk result (IsCut cut.now) }
-    ensures codes { IfOk result (λ v. (i : ℕ) → i < cut.now.size → slice_index v.items i ≡ code_within (N.net level) (wave + 1) i) }
+    ensures { IfOk result (AreKnown (N.net level) wave cut.now) }
 {
     let count = blocks.len() as u64;
     if count == cut.blocks() && are_in_order(&blocks) {
@@ -271,17 +251,8 @@ pub fn gather_from<N: Levels, L: NodeList>(
     cut: &Cut,
     blocks: Vec<Block<N, L>>,
 ) -> Result<Vec<u16>, GatherFault>
-    ensures fit { OnOk result (All (Fits level wave cut.now) blocks.items) }
-    ensures walked { OnOk result (first_complaint level wave cut.now [] blocks.items ≡ None) }
-    ensures all { OnOk result (HasAll cut.now blocks.items) }
-    ensures once { OnOk result (ComesOnce cut.now blocks.items) }
-    ensures fault { IfErr result (λ e. IsGatherFault level wave cut.now blocks.items e) }
-    ensures size { OnOk result ((N.net level).size ≡ cut.now.size) }
-    ensures len { IfOk result (λ v. vec_len v ≡ cut.now.size) }
-    ensures codes { IfOk result (λ v. (i : ℕ) → i < cut.now.size → slice_index v.items i ≡ code_within (N.net level) (wave + 1) i) }
-    ensures settled { IfOk result (λ v. All (IsSettled (N.net level)) blocks.items
-        → (i : ℕ) → i < cut.now.size → HasCode (N.net level) i (slice_index v.items i)) }
-    ensures deep { OnOk result (All (IsSettled (N.net level)) blocks.items → IsTooDeep (N.net level) → ⊥) }
+    ensures gathered { IfOk result (IsGathered (N.net level) level wave cut.now blocks.items) }
+    ensures fault { IfErr result (IsGatherFault level wave cut.now blocks.items) }
 {
     let places = walk(level, wave, cut, &blocks)?;
     if let Some(number) = first_absent(cut, &places) {

@@ -4,6 +4,7 @@
 //! node. A [`Watch`] is told how far such work is.
 #![tactic(auto)]
 
+mod codes;
 mod counters;
 mod delivery;
 mod division;

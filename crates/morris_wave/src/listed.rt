@@ -1,32 +1,34 @@
 //! The entries of a block, the list of those that are decided, and the tallies that count them.
-ghost use Rattle.std.specs.Prelude.{◌≡◌, ℕ, ◌+◌, ◌-◌, ◌<◌, ◌≤◌, ◌&&◌, ◌==◌, ◌^◌, IfOk, nat_lt, length, if◌then◌else◌, replicate, take, slice_index, slice_set, vec_len};
+ghost use Rattle.std.specs.Prelude.{◌≡◌, ℕ, ◌+◌, ◌-◌, ◌<◌, ◌≤◌, ◌&&◌, ◌==◌, ◌^◌, IfOk, nat_lt, length, if◌then◌else◌, replicate, take, slice_index, slice_set};
 ghost use Rattle.std.specs.List.{All, list_any, count_by};
 ghost use Rattle.morris_wave.specs.Exits.{is_odd, is_won_code};
 ghost use Rattle.morris_wave.specs.Solving.{Marks};
 ghost use Rattle.morris_wave.specs.Nets.{times};
 ghost use Rattle.morris_wave.specs.Keeping.{Ranked};
 
+use crate::codes::Codes;
 use crate::nodes::NodeList;
 use std::alloc::{AllocError, Global};
 
 // Entries and how many of them are won and lost.
 #[derive(Drop)]
 pub(crate) struct Counted {
-    pub(crate) codes: Vec<u16>,
+    pub(crate) codes: Codes,
     pub(crate) won: u64,
     pub(crate) lost: u64,
-    ghost won_counted: { won ≡ count_by is_won_code codes.items },
-    ghost lost_counted: { lost ≡ count_by is_odd codes.items },
+    ghost won_counted: { won ≡ count_by is_won_code codes },
+    ghost lost_counted: { lost ≡ count_by is_odd codes },
 }
 
 impl Counted {
     // Gives an open entry its code.
     fn put(&mut self, place: usize, code: u16)
-        requires inside { place < vec_len self.old.codes }
-        requires open { slice_index self.old.codes.items place ≡ 0 }
+        requires inside { place < length self.old.codes }
+        requires open { slice_index self.old.codes place ≡ 0 }
         requires code { 0 < code }
-        ensures codes { self.new.codes.items ≡ slice_set self.old.codes.items place code }
-        ensures len { vec_len self.new.codes ≡ vec_len self.old.codes }
+        requires few { length self.old.codes ≤ 2 ^ 40 }
+        ensures codes { self.new.codes ≡ slice_set self.old.codes place code }
+        ensures len { length self.new.codes ≡ length self.old.codes }
         ensures more { self.new.won + self.new.lost ≡ self.old.won + self.old.lost + 1 }
     {
         if code % 2 == 1 {
@@ -34,7 +36,7 @@ impl Counted {
         } else {
             self.won += 1;
         }
-        self.codes[place] = code;
+        self.codes.put(place, code);
     }
 }
 
@@ -51,10 +53,10 @@ pub(crate) struct Listed<L: NodeList> {
     pub(crate) decided: L,
     pub(crate) before: usize,
     pub(crate) here: usize,
-    ghost ranked: { Ranked L.keeps first wave entries.codes.items (L.items decided) before here },
-    ghost room: { vec_len entries.codes ≤ L.capacity decided },
-    ghost ends: { first + vec_len entries.codes ≤ 2 ^ 40 },
-    ghost short: { first + vec_len entries.codes ≤ L.limit },
+    ghost ranked: { Ranked L.keeps first wave entries.codes (L.items decided) before here },
+    ghost room: { length entries.codes ≤ L.capacity decided },
+    ghost ends: { first + length entries.codes ≤ 2 ^ 40 },
+    ghost short: { first + length entries.codes ≤ L.limit },
     ghost last: { wave ≤ 65534 },
     ghost counted: { length (L.items decided) ≤ entries.won + entries.lost },
 }
@@ -66,10 +68,10 @@ impl<L: NodeList> Listed<L> {
         requires short { first + count ≤ L.limit }
         ensures first { IfOk result (λ e. e.first ≡ first) }
         ensures wave { IfOk result (λ e. e.wave ≡ 0) }
-        ensures codes { IfOk result (λ e. e.entries.codes.items ≡ replicate count 0) }
+        ensures codes { IfOk result (λ e. e.entries.codes ≡ replicate count 0) }
     {
         let decided = L::with_room(alloc, count)?;
-        let codes = vec![in alloc; 0u16; count]?;
+        let codes = Codes::zeroed(alloc, count)?;
         let entries = Counted {
             codes,
             won: 0,
@@ -87,18 +89,18 @@ impl<L: NodeList> Listed<L> {
 
     // Gives the entry at a place the code of this wave, if it is open and ready.
     pub(crate) fn mark(&mut self, place: u64, ready: bool)
-        requires inside { place < vec_len self.old.entries.codes }
-        ensures len { vec_len self.new.entries.codes ≡ vec_len self.old.entries.codes }
+        requires inside { place < length self.old.entries.codes }
+        ensures len { length self.new.entries.codes ≡ length self.old.entries.codes }
         ensures first { self.new.first ≡ self.old.first }
         ensures wave { self.new.wave ≡ self.old.wave }
         ensures before { self.new.before ≡ self.old.before }
         ensures here { self.new.here ≡ self.old.here }
         ensures list { take self.old.here (L.items self.new.decided) ≡ take self.old.here (L.items self.old.decided) }
-        ensures codes { Marks self.old.entries.codes.items self.new.entries.codes.items (λ k. (place == k) && ready) (self.old.wave + 1) }
+        ensures codes { Marks self.old.entries.codes self.new.entries.codes (λ k. (place == k) && ready) (self.old.wave + 1) }
     {
         let node = self.first + place;
         let place = place as usize;
-        if ready && self.entries.codes[place] == 0 {
+        if ready && self.entries.codes.get(place) == 0 {
             self.entries.put(place, self.wave + 1);
             self.decided.put_last(node);
         }
@@ -119,16 +121,16 @@ impl<L: NodeList> Listed<L> {
 
     // Whether some entry got its code at this wave.
     pub(crate) fn has_news(&self) -> bool
-        ensures { result ≡ list_any (λ c. c == (self.now.wave + 1)) self.now.entries.codes.items }
+        ensures { result ≡ list_any (λ c. c == (self.now.wave + 1)) self.now.entries.codes }
     {
         self.here < self.decided.count()
     }
 
     // The nodes whose code is the wave, each once; none at wave 0.
     pub(crate) fn of_this_wave(&self, alloc: Global) -> Result<Vec<u64>, AllocError>
-        ensures inside { IfOk result (λ v. All (λ i. (self.now.first ≤ i) × (i < self.now.first + length self.now.entries.codes.items)) v.items) }
-        ensures once { IfOk result (λ v. (k : ℕ) → k < length self.now.entries.codes.items
-            → times (self.now.first + k) v.items ≡ (if nat_lt 0 self.now.wave && (slice_index self.now.entries.codes.items k == self.now.wave) then 1 else 0)) }
+        ensures inside { IfOk result (λ v. All (λ i. (self.now.first ≤ i) × (i < self.now.first + length self.now.entries.codes)) v.items) }
+        ensures once { IfOk result (λ v. (k : ℕ) → k < length self.now.entries.codes
+            → times (self.now.first + k) v.items ≡ (if nat_lt 0 self.now.wave && (slice_index self.now.entries.codes k == self.now.wave) then 1 else 0)) }
     {
         let mut nodes = Vec::with_capacity(alloc, self.here - self.before)?;
         for place in self.before..self.here {

@@ -44,16 +44,16 @@ fn spread<G: Graph, L: NodeList>(
     back: &mut Vec<u64>,
 ) -> Result<(), AllocError>
     requires first { whole.old.entries.first ≡ 0 }
-    requires len { vec_len whole.old.entries.entries.codes ≡ (G.Name.net (G.level graph.now)).size }
+    requires len { length whole.old.entries.entries.codes ≡ (G.Name.net (G.level graph.now)).size }
     requires few { AreFew (G.Name.net (G.level graph.now)) 0 (G.Name.net (G.level graph.now)).size (most_of whole.old.counters) }
     requires start { StretchHolds (G.Name.net (G.level graph.now)) whole.old.entries.wave none 0
-        whole.old.entries.entries.codes.items (counts_of whole.old.counters) whole.old.due whole.old.last_due }
+        whole.old.entries.entries.codes (counts_of whole.old.counters) whole.old.due whole.old.last_due }
     ensures first { whole.new.entries.first ≡ 0 }
     ensures wave { whole.new.entries.wave ≡ whole.old.entries.wave }
-    ensures len { vec_len whole.new.entries.entries.codes ≡ vec_len whole.old.entries.entries.codes }
+    ensures len { length whole.new.entries.entries.codes ≡ length whole.old.entries.entries.codes }
     ensures most { most_of whole.new.counters ≡ most_of whole.old.counters }
     ensures done { OnOk result (StretchHolds (G.Name.net (G.level graph.now)) whole.old.entries.wave every 0
-        whole.new.entries.entries.codes.items (counts_of whole.new.counters) whole.new.due whole.new.last_due) }
+        whole.new.entries.entries.codes (counts_of whole.new.counters) whole.new.due whole.new.last_due) }
 {
     for place in whole.entries.before..whole.entries.here {
         graph.back(whole.entries.decided.node(place), back)?;
@@ -70,16 +70,16 @@ fn next_wave<G: Graph, L: NodeList>(
 ) -> Result<(), AllocError>
     requires wave { whole.old.entries.wave < 65534 }
     requires first { whole.old.entries.first ≡ 0 }
-    requires len { vec_len whole.old.entries.entries.codes ≡ (G.Name.net (G.level graph.now)).size }
+    requires len { length whole.old.entries.entries.codes ≡ (G.Name.net (G.level graph.now)).size }
     requires few { AreFew (G.Name.net (G.level graph.now)) 0 (G.Name.net (G.level graph.now)).size (most_of whole.old.counters) }
     requires start { StretchHolds (G.Name.net (G.level graph.now)) whole.old.entries.wave every 0
-        whole.old.entries.entries.codes.items (counts_of whole.old.counters) whole.old.due whole.old.last_due }
+        whole.old.entries.entries.codes (counts_of whole.old.counters) whole.old.due whole.old.last_due }
     ensures first { whole.new.entries.first ≡ 0 }
     ensures wave { whole.new.entries.wave ≡ whole.old.entries.wave + 1 }
-    ensures len { vec_len whole.new.entries.entries.codes ≡ vec_len whole.old.entries.entries.codes }
+    ensures len { length whole.new.entries.entries.codes ≡ length whole.old.entries.entries.codes }
     ensures most { most_of whole.new.counters ≡ most_of whole.old.counters }
     ensures done { OnOk result (StretchHolds (G.Name.net (G.level graph.now)) (whole.old.entries.wave + 1) every 0
-        whole.new.entries.entries.codes.items (counts_of whole.new.counters) whole.new.due whole.new.last_due) }
+        whole.new.entries.entries.codes (counts_of whole.new.counters) whole.new.due whole.new.last_due) }
 {
     whole.next_wave();
     spread(graph, whole, back)
@@ -95,15 +95,15 @@ fn run<G: Graph, L: NodeList, W: Watch>(
 ) -> Result<bool, AllocError>
     requires first { whole.old.entries.first ≡ 0 }
     requires wave { whole.old.entries.wave ≡ 0 }
-    requires len { vec_len whole.old.entries.entries.codes ≡ (G.Name.net (G.level graph.now)).size }
+    requires len { length whole.old.entries.entries.codes ≡ (G.Name.net (G.level graph.now)).size }
     requires few { AreFew (G.Name.net (G.level graph.now)) 0 (G.Name.net (G.level graph.now)).size (most_of whole.old.counters) }
     requires start { StretchHolds (G.Name.net (G.level graph.now)) 0 every 0
-        whole.old.entries.entries.codes.items (counts_of whole.old.counters) whole.old.due whole.old.last_due }
-    ensures len { vec_len whole.new.entries.entries.codes ≡ vec_len whole.old.entries.entries.codes }
+        whole.old.entries.entries.codes (counts_of whole.old.counters) whole.old.due whole.old.last_due }
+    ensures len { length whole.new.entries.entries.codes ≡ length whole.old.entries.entries.codes }
     ensures done { OnOk result (StretchHolds (G.Name.net (G.level graph.now)) whole.new.entries.wave every 0
-        whole.new.entries.entries.codes.items (counts_of whole.new.counters) whole.new.due whole.new.last_due) }
+        whole.new.entries.entries.codes (counts_of whole.new.counters) whole.new.due whole.new.last_due) }
     ensures quiet { IfOk result (λ quiet. quiet ≡ (nat_le whole.new.last_due whole.new.entries.wave
-        && not (list_any (λ c. c == (whole.new.entries.wave + 1)) whole.new.entries.entries.codes.items))) }
+        && not (list_any (λ c. c == (whole.new.entries.wave + 1)) whole.new.entries.entries.codes))) }
     ensures last { IfOk result (λ quiet. quiet ≡ false → whole.new.entries.wave ≡ 65534) }
     ensures watched { W.becomes watch.old watch.new }
 {
@@ -124,10 +124,10 @@ fn run<G: Graph, L: NodeList, W: Watch>(
 /// result, and lost, where all its results are won, in one ply more than the greatest of these.
 /// Codes of lost nodes are odd. A node that is neither for any number of plies is a draw.
 ///
-/// The work is in proportion to nodes, quiet results and depths. It takes 3 bytes a node (4 where
-/// some node has more than 254 quiet results), 8 for each node that is decided and 8 for each that
-/// comes due by its exits, and one list of predecessors. While it reads the graph it takes 2 bytes
-/// a node more.
+/// The work is in proportion to nodes, quiet results and depths. It takes 2 bytes a node (one more
+/// where some node has more than 254 quiet results, and one more once a depth is above 254), 8 for
+/// each node that is decided and 8 for each that comes due by its exits, and one list of
+/// predecessors. While it reads the graph, and for its answer, it takes 2 bytes a node more.
 ///
 /// # Errors
 ///
@@ -174,7 +174,8 @@ pub fn sweep_watched<G: Graph, W: Watch>(
 {
     let mut whole: Stretch<Vec<u64>> = Stretch::read(alloc, graph, 0, graph.size())?;
     if run(alloc, graph, &mut whole, watch)? {
-        Ok(whole.entries.entries.codes)
+        let codes = whole.entries.entries.codes.to_words(alloc)?;
+        Ok(codes)
     } else {
         Err(SweepFault::TooDeep)
     }

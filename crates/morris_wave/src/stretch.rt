@@ -1,5 +1,5 @@
 //! A stretch of nodes of a graph, which goes from wave to wave.
-ghost use Rattle.std.specs.Prelude.{◌≡◌, ℕ, ◌+◌, ◌-◌, ◌*◌, ◌<◌, ◌≤◌, ◌&&◌, ◌==◌, ◌^◌, Bool, true, false, not, nat_le, [], length, take, slice_index, slice_set, vec_len};
+ghost use Rattle.std.specs.Prelude.{◌≡◌, ℕ, ◌+◌, ◌-◌, ◌*◌, ◌<◌, ◌≤◌, ◌&&◌, ◌==◌, ◌^◌, Bool, true, false, not, nat_le, [], length, take, slice_index, slice_set};
 ghost use Rattle.std.specs.List.{All, list_any};
 ghost use Rattle.morris_wave.specs.Nets.{times};
 ghost use Rattle.morris_wave.specs.Lists.{list_at};
@@ -23,19 +23,19 @@ pub(crate) struct Stretch<L: NodeList> {
     pub(crate) counters: Counters,
     pub(crate) due: Due<L>,
     pub(crate) last_due: u32,
-    ghost counted: { length (counts_of counters) ≡ vec_len entries.entries.codes },
+    ghost counted: { length (counts_of counters) ≡ length entries.entries.codes },
     ghost small: { (k : ℕ) → k < length (counts_of counters) → slice_index (counts_of counters) k < 65536 },
-    ghost inside: { (n : ℕ) → All (λ i. (entries.first ≤ i) × (i < entries.first + vec_len entries.entries.codes)) (list_at due n) },
-    ghost once: { (n k : ℕ) → k < vec_len entries.entries.codes → times (entries.first + k) (list_at due n) ≤ 1 },
+    ghost inside: { (n : ℕ) → All (λ i. (entries.first ≤ i) × (i < entries.first + length entries.entries.codes)) (list_at due n) },
+    ghost once: { (n k : ℕ) → k < length entries.entries.codes → times (entries.first + k) (list_at due n) ≤ 1 },
 }
 
 impl<L: NodeList> Stretch<L> {
     // Takes in nodes that lead to fresh nodes of the wave, each as often as it leads there.
     pub(crate) fn take_in<B: NodeList>(&mut self, nodes: &B)
-        requires inside { All (λ i. (self.old.entries.first ≤ i) × (i < self.old.entries.first + vec_len self.old.entries.entries.codes)) (B.items nodes.now) }
-        requires enough { is_odd self.old.entries.wave ≡ false → (k : ℕ) → k < vec_len self.old.entries.entries.codes
+        requires inside { All (λ i. (self.old.entries.first ≤ i) × (i < self.old.entries.first + length self.old.entries.entries.codes)) (B.items nodes.now) }
+        requires enough { is_odd self.old.entries.wave ≡ false → (k : ℕ) → k < length self.old.entries.entries.codes
             → times (self.old.entries.first + k) (B.items nodes.now) ≤ left_at self.old.counters k }
-        ensures len { vec_len self.new.entries.entries.codes ≡ vec_len self.old.entries.entries.codes }
+        ensures len { length self.new.entries.entries.codes ≡ length self.old.entries.entries.codes }
         ensures first { self.new.entries.first ≡ self.old.entries.first }
         ensures wave { self.new.entries.wave ≡ self.old.entries.wave }
         ensures before { self.new.entries.before ≡ self.old.entries.before }
@@ -45,7 +45,7 @@ impl<L: NodeList> Stretch<L> {
         ensures last_due { self.new.last_due ≡ self.old.last_due }
         ensures most { most_of self.new.counters ≡ most_of self.old.counters }
         ensures taken { Takes self.old.entries.wave self.old.entries.first (B.items nodes.now)
-            self.old.entries.entries.codes.items self.new.entries.entries.codes.items (counts_of self.old.counters) (counts_of self.new.counters) }
+            self.old.entries.entries.codes self.new.entries.entries.codes (counts_of self.old.counters) (counts_of self.new.counters) }
     {
         falls::take_in(&mut self.entries, &mut self.counters, nodes);
     }
@@ -53,16 +53,16 @@ impl<L: NodeList> Stretch<L> {
     // Goes on to the next wave, takes in what comes due at it, and lets go of that list.
     pub(crate) fn next_wave(&mut self)
         requires last { self.old.entries.wave < 65534 }
-        requires enough { is_odd (self.old.entries.wave + 1) ≡ false → (k : ℕ) → k < vec_len self.old.entries.entries.codes
+        requires enough { is_odd (self.old.entries.wave + 1) ≡ false → (k : ℕ) → k < length self.old.entries.entries.codes
             → times (self.old.entries.first + k) (list_at self.old.due (self.old.entries.wave + 1)) ≤ left_at self.old.counters k }
-        ensures len { vec_len self.new.entries.entries.codes ≡ vec_len self.old.entries.entries.codes }
+        ensures len { length self.new.entries.entries.codes ≡ length self.old.entries.entries.codes }
         ensures first { self.new.entries.first ≡ self.old.entries.first }
         ensures wave { self.new.entries.wave ≡ self.old.entries.wave + 1 }
         ensures due { self.new.due ≡ slice_set self.old.due (self.old.entries.wave + 1) [] }
         ensures last_due { self.new.last_due ≡ self.old.last_due }
         ensures most { most_of self.new.counters ≡ most_of self.old.counters }
         ensures comes { Takes (self.old.entries.wave + 1) self.old.entries.first (list_at self.old.due (self.old.entries.wave + 1))
-            self.old.entries.entries.codes.items self.new.entries.entries.codes.items (counts_of self.old.counters) (counts_of self.new.counters) }
+            self.old.entries.entries.codes self.new.entries.entries.codes (counts_of self.old.counters) (counts_of self.new.counters) }
     {
         self.entries.next_wave();
         let nodes = self.due.at(self.entries.wave);
@@ -73,7 +73,7 @@ impl<L: NodeList> Stretch<L> {
     // Whether all exits are due, and no node got its code at this wave.
     pub(crate) fn is_quiet(&self) -> bool
         ensures { result ≡ (nat_le self.now.last_due self.now.entries.wave
-            && not (list_any (λ c. c == (self.now.entries.wave + 1)) self.now.entries.entries.codes.items)) }
+            && not (list_any (λ c. c == (self.now.entries.wave + 1)) self.now.entries.entries.codes)) }
     {
         self.last_due <= u32::from(self.entries.wave) && !self.entries.has_news()
     }

@@ -1,13 +1,13 @@
-use Rattle.std.proofs.Common.{◌≡◌, ◌*◌, length, min, vec_len}
+use Rattle.std.proofs.Common.{◌≡◌, ◌*◌, length, min}
 use Rattle.morris_wave.specs.Keeping.{HasRead}
 use Rattle.morris_wave.proofs.reading.read_all.Given as goal
 
 abbrev pub invariant-loop-piece : goal.invariant-loop-piece
 invariant-loop-piece g l = record {
-  len : vec_len l.reading.entries.entries.codes ≡ vec_len l.initial.reading.entries.entries.codes;
+  len : length l.reading.entries.entries.codes ≡ length l.initial.reading.entries.entries.codes;
   first : l.reading.entries.first ≡ l.initial.reading.entries.first;
   wave : l.reading.entries.wave ≡ 0;
   counts_len : length l.counts ≡ 1024;
   exits_len : length l.exits ≡ 1024;
-  read : HasRead (g.G.Name.Levels.net (g.G.Graph.level l.graph)) g.C.CounterList.most l.initial.reading.entries.first (min (l.piece * 1024) (vec_len l.initial.reading.entries.entries.codes)) l.reading.entries.entries.codes.items (g.C.CounterList.counts l.reading.counters) l.reading.waves.items l.reading.last_due;
+  read : HasRead (g.G.Name.Levels.net (g.G.Graph.level l.graph)) g.C.CounterList.most l.initial.reading.entries.first (min (l.piece * 1024) (length l.initial.reading.entries.entries.codes)) l.reading.entries.entries.codes (g.C.CounterList.counts l.reading.counters) l.reading.waves.items l.reading.last_due;
 }

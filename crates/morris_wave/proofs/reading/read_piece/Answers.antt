@@ -21,21 +21,21 @@ loop-place-preserved g c =
     let quiet = slice_index c.read_nodes.new.counts c.loop-place.place in
     let e = exits_at c.read_nodes.new.exits c.loop-place.place in
     let here : c.loop-place.place < length c.args.counts.now = omega (arith, c.loop-place-test.true, c.read_nodes.auto.counts) in
-    let within : place < length codes.items = omega (arith, here, c.requires.inside, inv.len, codes.ok.0) in
+    let within : place < length codes = omega (arith, here, c.requires.inside, inv.len) in
     let there : first + c.args.from + c.loop-place.place ≡ first + place = omega arith in
     let few : quiet < most = ltb-true quiet most (sym c.has_room.ensures ∙ c.if-not-has_room.false) in
     let counted : quiet ≡ length (net.quiet (first + place)) = c.read_nodes.ensures.counts c.loop-place.place here ∙ ap (λ n. length (net.quiet n)) there in
     let is : e ≡ exits_of (net.exits (first + place)) = c.read_nodes.ensures.exits c.loop-place.place (omega (arith, here, c.requires.room)) ∙ ap (λ n. exits_of (net.exits n)) there in
-    let marks = subst (λ (w : ℕ). Marks codes.items codes'.items (λ k. eqb place k && (eqb quiet 0 && exits_won 0 e)) (w + 1)) inv.wave c.take.ensures.codes in
-    let more = read_more net most first place codes.items counters old.waves.items old.last_due inv.read codes'.items quiet e within
-    (omega (arith, c.take.ensures.len, codes.ok.0, codes'.ok.0)) (omega (arith, old.counted, codes.ok.0)) (omega (arith, old.waved, old.waves.ok.0, codes.ok.0)) few counted is marks in
+    let marks = subst (λ (w : ℕ). Marks codes codes' (λ k. eqb place k && (eqb quiet 0 && exits_won 0 e)) (w + 1)) inv.wave c.take.ensures.codes in
+    let more = read_more net most first place codes counters old.waves.items old.last_due inv.read codes' quiet e within
+    (omega (arith, c.take.ensures.len)) (omega (arith, old.counted)) (omega (arith, old.waved, old.waves.ok.0)) few counted is marks in
     let after : place + 1 ≡ c.args.from + (c.loop-place.place + 1) = omega arith in
     record {
       len = c.take.ensures.len ∙ inv.len;
       first = c.take.ensures.first ∙ inv.first;
       wave = c.take.ensures.wave ∙ inv.wave;
-      read = subst (λ (p : ℕ). HasRead net most first p codes'.items (g.C.CounterList.counts new.counters) new.waves.items new.last_due) after
-          (subst (λ (cs : List ℕ). HasRead net most first (place + 1) codes'.items cs new.waves.items new.last_due) (sym c.take.ensures.counters)
-          (subst (λ (ws : List ℕ). HasRead net most first (place + 1) codes'.items (set counters place ((quiet + waits 0 e) % 65536)) ws new.last_due) (sym c.take.ensures.waves)
-          (subst (λ (d : ℕ). HasRead net most first (place + 1) codes'.items (set counters place ((quiet + waits 0 e) % 65536)) (set old.waves.items place (due_within (due_wave e))) d) (sym c.take.ensures.last) more)));
+      read = subst (λ (p : ℕ). HasRead net most first p codes' (g.C.CounterList.counts new.counters) new.waves.items new.last_due) after
+          (subst (λ (cs : List ℕ). HasRead net most first (place + 1) codes' cs new.waves.items new.last_due) (sym c.take.ensures.counters)
+          (subst (λ (ws : List ℕ). HasRead net most first (place + 1) codes' (set counters place ((quiet + waits 0 e) % 65536)) ws new.last_due) (sym c.take.ensures.waves)
+          (subst (λ (d : ℕ). HasRead net most first (place + 1) codes' (set counters place ((quiet + waits 0 e) % 65536)) (set old.waves.items place (due_within (due_wave e))) d) (sym c.take.ensures.last) more)));
     }

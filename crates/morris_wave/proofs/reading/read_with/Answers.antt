@@ -1,4 +1,4 @@
-use Rattle.std.proofs.Common.{◌≡◌, ◌+◌, ◌<◌, ◌≤◌, ℕ, List, length, slice_index, vec_len, sym, ap, subst, ◌∙◌, arith}
+use Rattle.std.proofs.Common.{◌≡◌, ◌+◌, ◌<◌, ◌≤◌, ℕ, List, length, slice_index, sym, ap, subst, ◌∙◌, arith}
 use Rattle.morris_wave.specs.Nets.{times}
 use Rattle.morris_wave.specs.Lists.{list_at}
 use Rattle.morris_wave.specs.Keeping.{HasRead, ListsDue, StretchHolds}
@@ -13,21 +13,21 @@ invariant_of-result g c =
     let due = c.in_ok-due.due in
     let listed : ListsDue (λ k. slice_index r.waves.items k) 0 c.args.first (length r.waves.items) due =
     subst (λ (xs : List ℕ). ListsDue (λ k. slice_index xs k) 0 c.args.first (length xs) due) c.deref.ensures.value c.in_ok-due.ensures in
-    let many : length r.waves.items ≡ vec_len r.entries.entries.codes = omega (arith, r.waved, r.waves.ok.0) in
+    let many : length r.waves.items ≡ length r.entries.entries.codes = omega (arith, r.waved, r.waves.ok.0) in
     let first : r.entries.first ≡ c.args.first = c.read_all.ensures.first ∙ c.in_ok-reading.ensures.first in
     let net = g.G.Name.Levels.net (g.G.Graph.level c.args.graph.now) in
     let codes = r.entries.entries.codes in
     let before = c.in_ok-reading.reading in
-    let len : vec_len before.entries.entries.codes ≡ length codes.items = omega (arith, c.read_all.ensures.len, codes.ok.0) in
-    let read : HasRead net most c.args.first (length codes.items) codes.items (g.C.CounterList.counts r.counters) r.waves.items r.last_due =
-    subst (λ (n : ℕ). HasRead net most c.args.first n codes.items (g.C.CounterList.counts r.counters) r.waves.items r.last_due) len
-    (subst (λ (f : ℕ). HasRead net most f (vec_len before.entries.entries.codes) codes.items (g.C.CounterList.counts r.counters) r.waves.items r.last_due) c.in_ok-reading.ensures.first
+    let len : length before.entries.entries.codes ≡ length codes = omega (arith, c.read_all.ensures.len) in
+    let read : HasRead net most c.args.first (length codes) codes (g.C.CounterList.counts r.counters) r.waves.items r.last_due =
+    subst (λ (n : ℕ). HasRead net most c.args.first n codes (g.C.CounterList.counts r.counters) r.waves.items r.last_due) len
+    (subst (λ (f : ℕ). HasRead net most f (length before.entries.entries.codes) codes (g.C.CounterList.counts r.counters) r.waves.items r.last_due) c.in_ok-reading.ensures.first
     (c.read_all.ensures.read c.if-not-read_all.false)) in
     record {
       counted = ap length c.keep.ensures.counts ∙ r.counted;
       small =
           subst (λ (cs : List ℕ). (k : ℕ) → k < length cs → slice_index cs k < 65536) (sym c.keep.ensures.counts)
-          (λ k l. omega (arith, read.counters_are k (omega (arith, l, r.counted, codes.ok.0))));
+          (λ k l. omega (arith, read.counters_are k (omega (arith, l, r.counted))));
       inside = λ n k d l. let w = listed.inside n k d l in (omega (arith, w.0, first), omega (arith, w.1, first, many));
       once = λ n k l.
           subst (λ (f : ℕ). times (f + k) (list_at due n) ≤ 1) (sym first)
@@ -44,11 +44,11 @@ returns-clause-holds g c =
     let due = c.in_ok-due.due in
     let listed : ListsDue (λ k. slice_index r.waves.items k) 0 c.args.first (length r.waves.items) due =
     subst (λ (xs : List ℕ). ListsDue (λ k. slice_index xs k) 0 c.args.first (length xs) due) c.deref.ensures.value c.in_ok-due.ensures in
-    let len : vec_len before.entries.entries.codes ≡ length codes.items = omega (arith, c.read_all.ensures.len, codes.ok.0) in
-    let read : HasRead net most c.args.first (length codes.items) codes.items (g.C.CounterList.counts r.counters) r.waves.items r.last_due =
-    subst (λ (n : ℕ). HasRead net most c.args.first n codes.items (g.C.CounterList.counts r.counters) r.waves.items r.last_due) len
-    (subst (λ (f : ℕ). HasRead net most f (vec_len before.entries.entries.codes) codes.items (g.C.CounterList.counts r.counters) r.waves.items r.last_due) c.in_ok-reading.ensures.first
+    let len : length before.entries.entries.codes ≡ length codes = omega (arith, c.read_all.ensures.len) in
+    let read : HasRead net most c.args.first (length codes) codes (g.C.CounterList.counts r.counters) r.waves.items r.last_due =
+    subst (λ (n : ℕ). HasRead net most c.args.first n codes (g.C.CounterList.counts r.counters) r.waves.items r.last_due) len
+    (subst (λ (f : ℕ). HasRead net most f (length before.entries.entries.codes) codes (g.C.CounterList.counts r.counters) r.waves.items r.last_due) c.in_ok-reading.ensures.first
     (c.read_all.ensures.read c.if-not-read_all.false)) in
-    subst (λ (cs : List ℕ). StretchHolds net 0 every c.args.first codes.items cs due r.last_due) (sym c.keep.ensures.counts)
-    (read_all net most c.args.first codes.items (g.C.CounterList.counts r.counters) r.waves.items due r.last_due read
-    (omega (arith, len, c.in_ok-reading.ensures.len, c.requires.end, c.requires.order)) (omega (arith, r.counted, codes.ok.0)) (omega (arith, r.waved, r.waves.ok.0, codes.ok.0)) listed)
+    subst (λ (cs : List ℕ). StretchHolds net 0 every c.args.first codes cs due r.last_due) (sym c.keep.ensures.counts)
+    (read_all net most c.args.first codes (g.C.CounterList.counts r.counters) r.waves.items due r.last_due read
+    (omega (arith, len, c.in_ok-reading.ensures.len, c.requires.end, c.requires.order)) (omega (arith, r.counted)) (omega (arith, r.waved, r.waves.ok.0)) listed)

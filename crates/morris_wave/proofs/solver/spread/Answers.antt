@@ -22,7 +22,7 @@ loop-place-init g c =
       refl,
       refl,
       omega arith,
-      spread_none net law e.wave 0 e.entries.codes.items (counts_of start.counters) start.due start.last_due
+      spread_none net law e.wave 0 e.entries.codes (counts_of start.counters) start.due start.last_due
           (take (e.here - e.before) (drop e.before (g.L.NodeList.items e.decided))) (e.before - e.before) (omega arith) c.requires.start,
       refl,
     )
@@ -39,8 +39,8 @@ take_in-requires-clause-enough g c =
     let fresh = take (e.here - e.before) (drop e.before (g.L.NodeList.items e.decided)) in
     let i = c.loop-place.place - e.before in
     let listed : ListsFresh net e.wave fresh =
-    fresh_listed net law e.wave none e.entries.codes.items (counts_of start.counters) start.due start.last_due c.requires.start (omega (arith, c.requires.len, e.entries.codes.ok.0))
-    (g.L.NodeList.items e.decided) e.before e.here (subst (λ (f : ℕ). Ranked g.L.NodeList.keeps f e.wave e.entries.codes.items (g.L.NodeList.items e.decided) e.before e.here) c.requires.first e.ranked) in
+    fresh_listed net law e.wave none e.entries.codes (counts_of start.counters) start.due start.last_due c.requires.start (omega (arith, c.requires.len))
+    (g.L.NodeList.items e.decided) e.before e.here (subst (λ (f : ℕ). Ranked g.L.NodeList.keeps f e.wave e.entries.codes (g.L.NodeList.items e.decided) e.before e.here) c.requires.first e.ranked) in
     let node = c.node.result in
     let within : i < length fresh = omega (arith, fresh_length (g.L.NodeList.items e.decided) e.before e.here e.ranked.within, c.loop-place-test.true, inv.6) in
     let read : node ≡ slice_index (g.L.NodeList.items now.entries.decided) c.loop-place.place =
@@ -49,12 +49,12 @@ take_in-requires-clause-enough g c =
     let behind : (k : ℕ) → k < net.size → times k c.back.new.out.items ≡ times node (net.quiet k) = c.in_ok-back.ensures.times in
     λ even k l.
     let even_here : is_odd e.wave ≡ false = ap is_odd (sym inv.4) ∙ even in
-    let place : k < length codes.items = omega (arith, l, codes.ok.0) in
-    let size : length codes.items ≡ net.size = omega (arith, inv.5, c.requires.len, codes.ok.0) in
+    let place : k < length codes = omega (arith, l) in
+    let size : length codes ≡ net.size = omega (arith, inv.5, c.requires.len) in
     subst (λ (f : ℕ). times (f + k) c.back.new.out.items ≤ left_at now.counters k) (sym inv.3)
     (left_enough now.counters k (times (0 + k) c.back.new.out.items)
-    (spread_enough net e.wave fresh listed i node within is c.back.new.out.items behind law 0 codes.items (counts_of now.counters) now.due now.last_due inv.7 even_here k place)
-    (λ le. spread_few net e.wave fresh listed i node within is c.back.new.out.items behind law 0 codes.items (counts_of now.counters) now.due now.last_due inv.7 even_here k place
+    (spread_enough net e.wave fresh listed i node within is c.back.new.out.items behind law 0 codes (counts_of now.counters) now.due now.last_due inv.7 even_here k place)
+    (λ le. spread_few net e.wave fresh listed i node within is c.back.new.out.items behind law 0 codes (counts_of now.counters) now.due now.last_due inv.7 even_here k place
     (omega (arith, c.requires.few k (omega (arith, place, size)), inv.8, le))))
 
 pub loop-place-preserved : goal.loop-place-preserved
@@ -69,8 +69,8 @@ loop-place-preserved g c =
     let fresh = take (e.here - e.before) (drop e.before (g.L.NodeList.items e.decided)) in
     let i = c.loop-place.place - e.before in
     let listed : ListsFresh net e.wave fresh =
-    fresh_listed net law e.wave none e.entries.codes.items (counts_of start.counters) start.due start.last_due c.requires.start (omega (arith, c.requires.len, e.entries.codes.ok.0))
-    (g.L.NodeList.items e.decided) e.before e.here (subst (λ (f : ℕ). Ranked g.L.NodeList.keeps f e.wave e.entries.codes.items (g.L.NodeList.items e.decided) e.before e.here) c.requires.first e.ranked) in
+    fresh_listed net law e.wave none e.entries.codes (counts_of start.counters) start.due start.last_due c.requires.start (omega (arith, c.requires.len))
+    (g.L.NodeList.items e.decided) e.before e.here (subst (λ (f : ℕ). Ranked g.L.NodeList.keeps f e.wave e.entries.codes (g.L.NodeList.items e.decided) e.before e.here) c.requires.first e.ranked) in
     let node = c.node.result in
     let within : i < length fresh = omega (arith, fresh_length (g.L.NodeList.items e.decided) e.before e.here e.ranked.within, c.loop-place-test.true, inv.6) in
     let read : node ≡ slice_index (g.L.NodeList.items now.entries.decided) c.loop-place.place =
@@ -80,12 +80,12 @@ loop-place-preserved g c =
     let made = c.take_in.ensures in
     let new = c.take_in.new.self in
     let codes' = new.entries.entries.codes in
-    let takes : Takes e.wave 0 c.back.new.out.items codes.items codes'.items (counts_of now.counters) (counts_of new.counters) =
-    subst (λ (w : ℕ). Takes w 0 c.back.new.out.items codes.items codes'.items (counts_of now.counters) (counts_of new.counters)) inv.4
-    (subst (λ (f : ℕ). Takes now.entries.wave f c.back.new.out.items codes.items codes'.items (counts_of now.counters) (counts_of new.counters)) inv.3 made.taken) in
-    let more = spread_more net e.wave fresh listed i node within is c.back.new.out.items behind law 0 codes.items (counts_of now.counters) now.due now.last_due inv.7
-    codes'.items (counts_of new.counters)
-    (omega (arith, made.len, codes.ok.0, codes'.ok.0))
+    let takes : Takes e.wave 0 c.back.new.out.items codes codes' (counts_of now.counters) (counts_of new.counters) =
+    subst (λ (w : ℕ). Takes w 0 c.back.new.out.items codes codes' (counts_of now.counters) (counts_of new.counters)) inv.4
+    (subst (λ (f : ℕ). Takes now.entries.wave f c.back.new.out.items codes codes' (counts_of now.counters) (counts_of new.counters)) inv.3 made.taken) in
+    let more = spread_more net e.wave fresh listed i node within is c.back.new.out.items behind law 0 codes (counts_of now.counters) now.due now.last_due inv.7
+    codes' (counts_of new.counters)
+    (omega (arith, made.len))
     (omega (arith, new.counted, now.counted, made.len)) new.small takes in
     let next : i + 1 ≡ c.loop-place.place + 1 - e.before = omega (arith, inv.6) in (
       made.before ∙ inv.0,
@@ -95,9 +95,9 @@ loop-place-preserved g c =
       made.wave ∙ inv.4,
       made.len ∙ inv.5,
       omega (arith, inv.6),
-      subst (λ (p : ℕ). StretchHolds net e.wave (among (take p fresh)) 0 codes'.items (counts_of new.counters) new.due new.last_due) next
-          (subst (λ (xs : List (List ℕ)). StretchHolds net e.wave (among (take (i + 1) fresh)) 0 codes'.items (counts_of new.counters) xs new.last_due) (sym made.due)
-          (subst (λ (d : ℕ). StretchHolds net e.wave (among (take (i + 1) fresh)) 0 codes'.items (counts_of new.counters) now.due d) (sym made.last_due) more)),
+      subst (λ (p : ℕ). StretchHolds net e.wave (among (take p fresh)) 0 codes' (counts_of new.counters) new.due new.last_due) next
+          (subst (λ (xs : List (List ℕ)). StretchHolds net e.wave (among (take (i + 1) fresh)) 0 codes' (counts_of new.counters) xs new.last_due) (sym made.due)
+          (subst (λ (d : ℕ). StretchHolds net e.wave (among (take (i + 1) fresh)) 0 codes' (counts_of new.counters) now.due d) (sym made.last_due) more)),
       made.most ∙ inv.8,
     )
 
@@ -113,8 +113,8 @@ returns-clause-done g c =
     let fresh = take (e.here - e.before) (drop e.before (g.L.NodeList.items e.decided)) in
     let i = c.loop-place.place - e.before in
     let listed : ListsFresh net e.wave fresh =
-    fresh_listed net law e.wave none e.entries.codes.items (counts_of start.counters) start.due start.last_due c.requires.start (omega (arith, c.requires.len, e.entries.codes.ok.0))
-    (g.L.NodeList.items e.decided) e.before e.here (subst (λ (f : ℕ). Ranked g.L.NodeList.keeps f e.wave e.entries.codes.items (g.L.NodeList.items e.decided) e.before e.here) c.requires.first e.ranked) in
+    fresh_listed net law e.wave none e.entries.codes (counts_of start.counters) start.due start.last_due c.requires.start (omega (arith, c.requires.len))
+    (g.L.NodeList.items e.decided) e.before e.here (subst (λ (f : ℕ). Ranked g.L.NodeList.keeps f e.wave e.entries.codes (g.L.NodeList.items e.decided) e.before e.here) c.requires.first e.ranked) in
     let whole : take i fresh ≡ fresh = take_all i fresh (omega (arith, fresh_length (g.L.NodeList.items e.decided) e.before e.here e.ranked.within, c.loop-place-test.false, inv.6)) in
-    spread_all net law e.wave 0 codes.items (counts_of now.counters) now.due now.last_due fresh listed
-    (subst (λ (xs : List ℕ). StretchHolds net e.wave (among xs) 0 codes.items (counts_of now.counters) now.due now.last_due) whole inv.7)
+    spread_all net law e.wave 0 codes (counts_of now.counters) now.due now.last_due fresh listed
+    (subst (λ (xs : List ℕ). StretchHolds net e.wave (among xs) 0 codes (counts_of now.counters) now.due now.last_due) whole inv.7)

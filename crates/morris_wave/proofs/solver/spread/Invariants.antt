@@ -1,4 +1,4 @@
-use Rattle.std.proofs.Common.{◌≡◌, ◌≤◌, ◌-◌, drop, take, vec_len}
+use Rattle.std.proofs.Common.{◌≡◌, ◌≤◌, ◌-◌, drop, length, take}
 use Rattle.morris_wave.specs.Solving.{among}
 use Rattle.morris_wave.specs.Keeping.{StretchHolds}
 use Rattle.morris_wave.specs.Counts.{counts_of, most_of}
@@ -11,9 +11,9 @@ invariant-loop-place g l =
     × (take l.initial.whole.entries.here (g.L.NodeList.items l.whole.entries.decided) ≡ take l.initial.whole.entries.here (g.L.NodeList.items l.initial.whole.entries.decided))
     × (l.whole.entries.first ≡ 0)
     × (l.whole.entries.wave ≡ l.initial.whole.entries.wave)
-    × (vec_len l.whole.entries.entries.codes ≡ vec_len l.initial.whole.entries.entries.codes)
+    × (length l.whole.entries.entries.codes ≡ length l.initial.whole.entries.entries.codes)
     × (l.initial.whole.entries.before ≤ l.place)
     × StretchHolds (g.G.Name.Levels.net (g.G.Graph.level l.graph)) l.initial.whole.entries.wave
     (among (take (l.place - l.initial.whole.entries.before) (take (l.initial.whole.entries.here - l.initial.whole.entries.before) (drop l.initial.whole.entries.before (g.L.NodeList.items l.initial.whole.entries.decided))))) 0
-    l.whole.entries.entries.codes.items (counts_of l.whole.counters) l.whole.due l.whole.last_due
+    l.whole.entries.entries.codes (counts_of l.whole.counters) l.whole.due l.whole.last_due
     × (most_of l.whole.counters ≡ most_of l.initial.whole.counters)

@@ -20,19 +20,19 @@ invariant_of-self g c =
     let new = after.entries.entries.codes in
     let complete : is_complete s ≡ true = ap is_complete c.self.view_is ∙ (sym c.is_complete.ensures ∙ c.if-not-is_complete.false) in
     let early : s.wave < 65534 = omega (arith, c.self.invariant.wave, c.if-self.false) in
-    let holds = advance_holds net law s kept.entries.first codes.items (counts_of kept.counters) kept.due kept.last_due c.self.invariant complete early new.items (counts_of after.counters)
-    (omega (arith, made.len, new.ok.0, codes.ok.0))
+    let holds = advance_holds net law s kept.entries.first codes (counts_of kept.counters) kept.due kept.last_due c.self.invariant complete early new (counts_of after.counters)
+    (omega (arith, made.len))
     (omega (arith, after.counted, kept.counted, made.len)) after.small made.comes in
     let none : c.clear.new.applied.items ≡ replicate inside.cut.blocks false =
     c.clear.ensures ∙ ap (λ (n : ℕ). replicate n false) (inside.applied.ok.0 ∙ c.self.invariant.sources) in
     let left : List (List ℕ) = set kept.due (kept.entries.wave + 1) [] in
     let now : ℕ → List Bool → BlockState = λ w xs. record { level = inside.level; cut = inside.cut; number = inside.number; wave = w; applied = xs } in
-    subst (λ (w : ℕ). BlockHolds net (now w c.clear.new.applied.items) after.entries.first new.items (counts_of after.counters) after.due after.last_due (most_of after.counters)) (sym made.wave)
-    (subst (λ (f : ℕ). BlockHolds net (now (kept.entries.wave + 1) c.clear.new.applied.items) f new.items (counts_of after.counters) after.due after.last_due (most_of after.counters)) (sym made.first)
-    (subst (λ (xs : List (List ℕ)). BlockHolds net (now (kept.entries.wave + 1) c.clear.new.applied.items) kept.entries.first new.items (counts_of after.counters) xs after.last_due (most_of after.counters)) (sym made.due)
-    (subst (λ (d : ℕ). BlockHolds net (now (kept.entries.wave + 1) c.clear.new.applied.items) kept.entries.first new.items (counts_of after.counters) left d (most_of after.counters)) (sym made.last_due)
-    (subst (λ (m : ℕ). BlockHolds net (now (kept.entries.wave + 1) c.clear.new.applied.items) kept.entries.first new.items (counts_of after.counters) left kept.last_due m) (sym made.most)
-    (subst (λ (xs : List Bool). BlockHolds net (now (kept.entries.wave + 1) xs) kept.entries.first new.items (counts_of after.counters) left kept.last_due (most_of kept.counters)) (sym none) holds)))))
+    subst (λ (w : ℕ). BlockHolds net (now w c.clear.new.applied.items) after.entries.first new (counts_of after.counters) after.due after.last_due (most_of after.counters)) (sym made.wave)
+    (subst (λ (f : ℕ). BlockHolds net (now (kept.entries.wave + 1) c.clear.new.applied.items) f new (counts_of after.counters) after.due after.last_due (most_of after.counters)) (sym made.first)
+    (subst (λ (xs : List (List ℕ)). BlockHolds net (now (kept.entries.wave + 1) c.clear.new.applied.items) kept.entries.first new (counts_of after.counters) xs after.last_due (most_of after.counters)) (sym made.due)
+    (subst (λ (d : ℕ). BlockHolds net (now (kept.entries.wave + 1) c.clear.new.applied.items) kept.entries.first new (counts_of after.counters) left d (most_of after.counters)) (sym made.last_due)
+    (subst (λ (m : ℕ). BlockHolds net (now (kept.entries.wave + 1) c.clear.new.applied.items) kept.entries.first new (counts_of after.counters) left kept.last_due m) (sym made.most)
+    (subst (λ (xs : List Bool). BlockHolds net (now (kept.entries.wave + 1) xs) kept.entries.first new (counts_of after.counters) left kept.last_due (most_of kept.counters)) (sym none) holds)))))
 
 pub next_wave-requires-clause-enough : goal.next_wave-requires-clause-enough
 next_wave-requires-clause-enough g c =
@@ -45,7 +45,7 @@ next_wave-requires-clause-enough g c =
     let complete : is_complete s ≡ true = ap is_complete c.self.view_is ∙ (sym c.is_complete.ensures ∙ c.if-not-is_complete.false) in
     let early : s.wave < 65534 = omega (arith, c.self.invariant.wave, c.if-self.false) in
     λ even k l.
-    let place : k < length codes.items = omega (arith, l, codes.ok.0) in
+    let place : k < length codes = omega (arith, l) in
     left_enough kept.counters k (times (kept.entries.first + k) (list_at kept.due (kept.entries.wave + 1)))
-    (advance_enough net law s kept.entries.first codes.items (counts_of kept.counters) kept.due kept.last_due c.self.invariant complete early k place)
-    (advance_few net law s kept.entries.first codes.items (counts_of kept.counters) kept.due kept.last_due c.self.invariant complete early even k place)
+    (advance_enough net law s kept.entries.first codes (counts_of kept.counters) kept.due kept.last_due c.self.invariant complete early k place)
+    (advance_few net law s kept.entries.first codes (counts_of kept.counters) kept.due kept.last_due c.self.invariant complete early even k place)

@@ -25,8 +25,8 @@ take_in-requires-clause-inside g c =
     sym {A = Bool} (get_or_read inside.applied.items batch.source c.index.result.now source c.index.ensures false) ∙ c.if-index.false in
     λ p d l.
     let at =
-    (batch_inside net law s kept.entries.first codes.items (counts_of kept.counters) kept.due kept.last_due c.self.invariant b hb cut c.if-batch-self-2.false c.if-batch-self-3.false open_source) p d l in
-    (at.0, omega (arith, at.1, codes.ok.0))
+    (batch_inside net law s kept.entries.first codes (counts_of kept.counters) kept.due kept.last_due c.self.invariant b hb cut c.if-batch-self-2.false c.if-batch-self-3.false open_source) p d l in
+    (at.0, omega (arith, at.1))
 
 pub take_in-requires-clause-enough : goal.take_in-requires-clause-enough
 take_in-requires-clause-enough g c =
@@ -44,10 +44,10 @@ take_in-requires-clause-enough g c =
     let open_source : get_or inside.applied.items batch.source false ≡ false =
     sym {A = Bool} (get_or_read inside.applied.items batch.source c.index.result.now source c.index.ensures false) ∙ c.if-index.false in
     λ even k l.
-    let place : k < length codes.items = omega (arith, l, codes.ok.0) in
+    let place : k < length codes = omega (arith, l) in
     left_enough kept.counters k (times (kept.entries.first + k) b.nodes)
-    (apply_enough net law s kept.entries.first codes.items (counts_of kept.counters) kept.due kept.last_due c.self.invariant b hb cut c.if-batch-self-2.false c.if-batch-self-3.false open_source even k place)
-    (apply_few net law s kept.entries.first codes.items (counts_of kept.counters) kept.due kept.last_due c.self.invariant b hb cut c.if-batch-self-2.false c.if-batch-self-3.false open_source even k place)
+    (apply_enough net law s kept.entries.first codes (counts_of kept.counters) kept.due kept.last_due c.self.invariant b hb cut c.if-batch-self-2.false c.if-batch-self-3.false open_source even k place)
+    (apply_few net law s kept.entries.first codes (counts_of kept.counters) kept.due kept.last_due c.self.invariant b hb cut c.if-batch-self-2.false c.if-batch-self-3.false open_source even k place)
 
 pub invariant_of-self : goal.invariant_of-self
 invariant_of-self g c =
@@ -68,13 +68,13 @@ invariant_of-self g c =
     let made = c.take_in.ensures in
     let new = after.entries.entries.codes in
     let takes = made.taken in
-    let holds = apply_holds net law s kept.entries.first codes.items (counts_of kept.counters) kept.due kept.last_due c.self.invariant b hb cut c.if-batch-self-2.false c.if-batch-self-3.false open_source
-    new.items (counts_of after.counters)
-    (omega (arith, made.len, new.ok.0, codes.ok.0))
+    let holds = apply_holds net law s kept.entries.first codes (counts_of kept.counters) kept.due kept.last_due c.self.invariant b hb cut c.if-batch-self-2.false c.if-batch-self-3.false open_source
+    new (counts_of after.counters)
+    (omega (arith, made.len))
     (omega (arith, after.counted, kept.counted, made.len)) after.small takes in
     let now : ℕ → BlockState = λ w. record { level = inside.level; cut = inside.cut; number = inside.number; wave = w; applied = set inside.applied.items batch.source true } in
-    subst (λ (w : ℕ). BlockHolds net (now w) after.entries.first new.items (counts_of after.counters) after.due after.last_due (most_of after.counters)) (sym made.wave)
-    (subst (λ (f : ℕ). BlockHolds net (now kept.entries.wave) f new.items (counts_of after.counters) after.due after.last_due (most_of after.counters)) (sym made.first)
-    (subst (λ (xs : List (List ℕ)). BlockHolds net (now kept.entries.wave) kept.entries.first new.items (counts_of after.counters) xs after.last_due (most_of after.counters)) (sym made.due)
-    (subst (λ (d : ℕ). BlockHolds net (now kept.entries.wave) kept.entries.first new.items (counts_of after.counters) kept.due d (most_of after.counters)) (sym made.last_due)
-    (subst (λ (m : ℕ). BlockHolds net (now kept.entries.wave) kept.entries.first new.items (counts_of after.counters) kept.due kept.last_due m) (sym made.most) holds))))
+    subst (λ (w : ℕ). BlockHolds net (now w) after.entries.first new (counts_of after.counters) after.due after.last_due (most_of after.counters)) (sym made.wave)
+    (subst (λ (f : ℕ). BlockHolds net (now kept.entries.wave) f new (counts_of after.counters) after.due after.last_due (most_of after.counters)) (sym made.first)
+    (subst (λ (xs : List (List ℕ)). BlockHolds net (now kept.entries.wave) kept.entries.first new (counts_of after.counters) xs after.last_due (most_of after.counters)) (sym made.due)
+    (subst (λ (d : ℕ). BlockHolds net (now kept.entries.wave) kept.entries.first new (counts_of after.counters) kept.due d (most_of after.counters)) (sym made.last_due)
+    (subst (λ (m : ℕ). BlockHolds net (now kept.entries.wave) kept.entries.first new (counts_of after.counters) kept.due kept.last_due m) (sym made.most) holds))))

@@ -15,8 +15,8 @@ returns-clause-value g c =
     let codes = kept.entries.entries.codes in
     let s : BlockState = record { level = inside.level; cut = inside.cut; number = inside.number; wave = kept.entries.wave; applied = inside.applied.items } in
     let within : IsIn s.cut s.number c.args.i = subst (λ (t : BlockState). IsIn t.cut t.number c.args.i) (sym c.self.view_is) c.requires in
-    subst (λ (t : BlockState). c.index.result.now ≡ entry_at (g.N.Levels.net t.level) t.wave (in_applied t) c.args.i) c.self.view_is
-    (code_value net law s kept.entries.first codes.items (counts_of kept.counters) kept.due kept.last_due c.self.invariant c.args.i within c.index.result.now c.index.ensures)
+    subst (λ (t : BlockState). c.get.result ≡ entry_at (g.N.Levels.net t.level) t.wave (in_applied t) c.args.i) c.self.view_is
+    (code_value net law s kept.entries.first codes (counts_of kept.counters) kept.due kept.last_due c.self.invariant c.args.i within c.get.result c.get.ensures)
 
 pub returns-clause-exact : goal.returns-clause-exact
 returns-clause-exact g c = λ some.
@@ -27,8 +27,8 @@ returns-clause-exact g c = λ some.
     let codes = kept.entries.entries.codes in
     let s : BlockState = record { level = inside.level; cut = inside.cut; number = inside.number; wave = kept.entries.wave; applied = inside.applied.items } in
     let within : IsIn s.cut s.number c.args.i = subst (λ (t : BlockState). IsIn t.cut t.number c.args.i) (sym c.self.view_is) c.requires in
-    subst (λ (t : BlockState). HasCode (g.N.Levels.net t.level) c.args.i c.index.result.now) c.self.view_is
-    (code_exact net law s kept.entries.first codes.items (counts_of kept.counters) kept.due kept.last_due c.self.invariant c.args.i within c.index.result.now c.index.ensures some)
+    subst (λ (t : BlockState). HasCode (g.N.Levels.net t.level) c.args.i c.get.result) c.self.view_is
+    (code_exact net law s kept.entries.first codes (counts_of kept.counters) kept.due kept.last_due c.self.invariant c.args.i within c.get.result c.get.ensures some)
 
 pub returns-clause-undecided : goal.returns-clause-undecided
 returns-clause-undecided g c =
@@ -39,5 +39,5 @@ returns-clause-undecided g c =
     let codes = kept.entries.entries.codes in
     let s : BlockState = record { level = inside.level; cut = inside.cut; number = inside.number; wave = kept.entries.wave; applied = inside.applied.items } in
     let within : IsIn s.cut s.number c.args.i = subst (λ (t : BlockState). IsIn t.cut t.number c.args.i) (sym c.self.view_is) c.requires in
-    subst (λ (t : BlockState). (c.index.result.now ≡ 0) ↔ (is_decided_at (g.N.Levels.net t.level) t.wave (in_applied t) c.args.i ≡ false)) c.self.view_is
-    (code_open net law s kept.entries.first codes.items (counts_of kept.counters) kept.due kept.last_due c.self.invariant c.args.i within c.index.result.now c.index.ensures)
+    subst (λ (t : BlockState). (c.get.result ≡ 0) ↔ (is_decided_at (g.N.Levels.net t.level) t.wave (in_applied t) c.args.i ≡ false)) c.self.view_is
+    (code_open net law s kept.entries.first codes (counts_of kept.counters) kept.due kept.last_due c.self.invariant c.args.i within c.get.result c.get.ensures)

@@ -19,7 +19,7 @@ returns-clause-inside g c =
     let s : BlockState = record { level = inside.level; cut = inside.cut; number = inside.number; wave = kept.entries.wave; applied = inside.applied.items } in
     let e = kept.entries in
     subst (λ (t : BlockState). All (IsIn t.cut t.number) (g.L.NodeList.items e.decided)) c.self.view_is
-    (list_inside net law s kept.entries.first codes.items (counts_of kept.counters) kept.due kept.last_due c.self.invariant e.wave e.before e.here (g.L.NodeList.items e.decided) (subst (λ (t : Bool). Ranked t kept.entries.first e.wave codes.items (g.L.NodeList.items e.decided) e.before e.here) g.met.L.WholeList.whole e.ranked))
+    (list_inside net law s kept.entries.first codes (counts_of kept.counters) kept.due kept.last_due c.self.invariant e.wave e.before e.here (g.L.NodeList.items e.decided) (subst (λ (t : Bool). Ranked t kept.entries.first e.wave codes (g.L.NodeList.items e.decided) e.before e.here) g.met.L.WholeList.whole e.ranked))
 
 pub returns-clause-once : goal.returns-clause-once
 returns-clause-once g c =
@@ -31,7 +31,7 @@ returns-clause-once g c =
     let s : BlockState = record { level = inside.level; cut = inside.cut; number = inside.number; wave = kept.entries.wave; applied = inside.applied.items } in
     let e = kept.entries in
     subst (λ (t : BlockState). (i : ℕ) → IsIn t.cut t.number i → times i (g.L.NodeList.items e.decided) ≡ cond {A = ℕ} (is_decided_at (g.N.Levels.net t.level) t.wave (in_applied t) i) 1 0) c.self.view_is
-    (list_once net law s kept.entries.first codes.items (counts_of kept.counters) kept.due kept.last_due c.self.invariant e.wave e.before e.here (g.L.NodeList.items e.decided) (subst (λ (t : Bool). Ranked t kept.entries.first e.wave codes.items (g.L.NodeList.items e.decided) e.before e.here) g.met.L.WholeList.whole e.ranked))
+    (list_once net law s kept.entries.first codes (counts_of kept.counters) kept.due kept.last_due c.self.invariant e.wave e.before e.here (g.L.NodeList.items e.decided) (subst (λ (t : Bool). Ranked t kept.entries.first e.wave codes (g.L.NodeList.items e.decided) e.before e.here) g.met.L.WholeList.whole e.ranked))
 
 pub returns-clause-order : goal.returns-clause-order
 returns-clause-order g c =
@@ -43,4 +43,4 @@ returns-clause-order g c =
     let s : BlockState = record { level = inside.level; cut = inside.cut; number = inside.number; wave = kept.entries.wave; applied = inside.applied.items } in
     let e = kept.entries in
     subst (λ (t : BlockState). IsNonDecreasingBy (entry_at (g.N.Levels.net t.level) t.wave (in_applied t)) (g.L.NodeList.items e.decided)) c.self.view_is
-    (list_order net law s kept.entries.first codes.items (counts_of kept.counters) kept.due kept.last_due c.self.invariant e.wave e.before e.here (g.L.NodeList.items e.decided) (subst (λ (t : Bool). Ranked t kept.entries.first e.wave codes.items (g.L.NodeList.items e.decided) e.before e.here) g.met.L.WholeList.whole e.ranked))
+    (list_order net law s kept.entries.first codes (counts_of kept.counters) kept.due kept.last_due c.self.invariant e.wave e.before e.here (g.L.NodeList.items e.decided) (subst (λ (t : Bool). Ranked t kept.entries.first e.wave codes (g.L.NodeList.items e.decided) e.before e.here) g.met.L.WholeList.whole e.ranked))

@@ -22,8 +22,8 @@ invariant_of-result g c =
       size = h.size;
       source = h.number;
       wave = h.wave;
-      inside = fresh_inside net law s kept.entries.first codes.items (counts_of kept.counters) kept.due kept.last_due c.self.invariant nodes c.in_ok-nodes.ensures.inside;
-      once = fresh_nodes net law s kept.entries.first codes.items (counts_of kept.counters) kept.due kept.last_due c.self.invariant nodes c.in_ok-nodes.ensures.once;
+      inside = fresh_inside net law s kept.entries.first codes (counts_of kept.counters) kept.due kept.last_due c.self.invariant nodes c.in_ok-nodes.ensures.inside;
+      once = fresh_nodes net law s kept.entries.first codes (counts_of kept.counters) kept.due kept.last_due c.self.invariant nodes c.in_ok-nodes.ensures.once;
     }
 
 pub returns-clause-inside : goal.returns-clause-inside
@@ -35,7 +35,7 @@ returns-clause-inside g c =
     let codes = kept.entries.entries.codes in
     let s : BlockState = record { level = inside.level; cut = inside.cut; number = inside.number; wave = kept.entries.wave; applied = inside.applied.items } in
     let nodes = c.in_ok-nodes.nodes.items in
-    subst (λ (t : BlockState). All (IsIn t.cut t.number) nodes) c.self.view_is (fresh_inside net law s kept.entries.first codes.items (counts_of kept.counters) kept.due kept.last_due c.self.invariant nodes c.in_ok-nodes.ensures.inside)
+    subst (λ (t : BlockState). All (IsIn t.cut t.number) nodes) c.self.view_is (fresh_inside net law s kept.entries.first codes (counts_of kept.counters) kept.due kept.last_due c.self.invariant nodes c.in_ok-nodes.ensures.inside)
 
 pub returns-clause-nodes : goal.returns-clause-nodes
 returns-clause-nodes g c =
@@ -47,4 +47,4 @@ returns-clause-nodes g c =
     let s : BlockState = record { level = inside.level; cut = inside.cut; number = inside.number; wave = kept.entries.wave; applied = inside.applied.items } in
     let nodes = c.in_ok-nodes.nodes.items in
     subst (λ (t : BlockState). (i : ℕ) → IsIn t.cut t.number i → times i nodes ≡ cond {A = ℕ} (is_fresh (g.N.Levels.net t.level) t.wave i) 1 0) c.self.view_is
-    (fresh_nodes net law s kept.entries.first codes.items (counts_of kept.counters) kept.due kept.last_due c.self.invariant nodes c.in_ok-nodes.ensures.once)
+    (fresh_nodes net law s kept.entries.first codes (counts_of kept.counters) kept.due kept.last_due c.self.invariant nodes c.in_ok-nodes.ensures.once)

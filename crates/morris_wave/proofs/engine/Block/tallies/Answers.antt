@@ -9,7 +9,7 @@ use Rattle.morris_wave.proofs.engine.Block.tallies.Goals as goal
 pub overflow_sub-result : goal.overflow_sub-result
 overflow_sub-result g c =
     let entries = c.self.inside.kept.entries.entries in
-    omega (arith, entries.won_counted, entries.lost_counted, three_kinds entries.codes.items, entries.codes.ok.0, c.len.ensures)
+    omega (arith, entries.won_counted, entries.lost_counted, three_kinds entries.codes, c.len.ensures)
 
 pub returns-clause-all : goal.returns-clause-all
 returns-clause-all g c =
@@ -19,7 +19,7 @@ returns-clause-all g c =
     let s : BlockState = record { level = inside.level; cut = inside.cut; number = inside.number; wave = kept.entries.wave; applied = inside.applied.items } in
     let entries = kept.entries.entries in
     let counted : entries.won + entries.lost + (c.len.result - (entries.won + entries.lost)) ≡ count_of s =
-    omega (arith, entries.won_counted, entries.lost_counted, three_kinds codes.items, codes.ok.0, c.len.ensures, c.self.invariant.count_is) in
+    omega (arith, entries.won_counted, entries.lost_counted, three_kinds codes, c.len.ensures, c.self.invariant.count_is) in
     subst (λ (t : BlockState). entries.won + entries.lost + (c.len.result - (entries.won + entries.lost)) ≡ count_of t) c.self.view_is counted
 
 pub returns-clause-won : goal.returns-clause-won
@@ -31,7 +31,7 @@ returns-clause-won g c =
     let codes = kept.entries.entries.codes in
     let s : BlockState = record { level = inside.level; cut = inside.cut; number = inside.number; wave = kept.entries.wave; applied = inside.applied.items } in
     subst (λ (t : BlockState). kept.entries.entries.won ≡ count_by is_won_code (entries_of (g.N.Levels.net t.level) t)) c.self.view_is
-    (kept.entries.entries.won_counted ∙ ap (count_by is_won_code) (codes_entries net law s kept.entries.first codes.items (counts_of kept.counters) kept.due kept.last_due c.self.invariant))
+    (kept.entries.entries.won_counted ∙ ap (count_by is_won_code) (codes_entries net law s kept.entries.first codes (counts_of kept.counters) kept.due kept.last_due c.self.invariant))
 
 pub returns-clause-lost : goal.returns-clause-lost
 returns-clause-lost g c =
@@ -42,7 +42,7 @@ returns-clause-lost g c =
     let codes = kept.entries.entries.codes in
     let s : BlockState = record { level = inside.level; cut = inside.cut; number = inside.number; wave = kept.entries.wave; applied = inside.applied.items } in
     subst (λ (t : BlockState). kept.entries.entries.lost ≡ count_by is_odd (entries_of (g.N.Levels.net t.level) t)) c.self.view_is
-    (kept.entries.entries.lost_counted ∙ ap (count_by is_odd) (codes_entries net law s kept.entries.first codes.items (counts_of kept.counters) kept.due kept.last_due c.self.invariant))
+    (kept.entries.entries.lost_counted ∙ ap (count_by is_odd) (codes_entries net law s kept.entries.first codes (counts_of kept.counters) kept.due kept.last_due c.self.invariant))
 
 pub returns-clause-undecided : goal.returns-clause-undecided
 returns-clause-undecided g c =
@@ -53,7 +53,7 @@ returns-clause-undecided g c =
     let codes = kept.entries.entries.codes in
     let s : BlockState = record { level = inside.level; cut = inside.cut; number = inside.number; wave = kept.entries.wave; applied = inside.applied.items } in
     let entries = kept.entries.entries in
-    let counted : c.len.result - (entries.won + entries.lost) ≡ count_by (λ (x : ℕ). eqb x 0) codes.items =
-    omega (arith, entries.won_counted, entries.lost_counted, three_kinds codes.items, codes.ok.0, c.len.ensures) in
+    let counted : c.len.result - (entries.won + entries.lost) ≡ count_by (λ (x : ℕ). eqb x 0) codes =
+    omega (arith, entries.won_counted, entries.lost_counted, three_kinds codes, c.len.ensures) in
     subst (λ (t : BlockState). c.len.result - (entries.won + entries.lost) ≡ count_by (λ (x : ℕ). eqb x 0) (entries_of (g.N.Levels.net t.level) t)) c.self.view_is
-    (counted ∙ ap (count_by (λ (x : ℕ). eqb x 0)) (codes_entries net law s kept.entries.first codes.items (counts_of kept.counters) kept.due kept.last_due c.self.invariant))
+    (counted ∙ ap (count_by (λ (x : ℕ). eqb x 0)) (codes_entries net law s kept.entries.first codes (counts_of kept.counters) kept.due kept.last_due c.self.invariant))

@@ -1,5 +1,5 @@
-use Rattle.std.proofs.Common.{◌≡◌, ◌<◌, ℕ, ◌+◌, ◌∷◌, [], List, length, arith, set, sym, ap, subst, slice_index, take, ◌∙◌}
-use Rattle.std.proofs.lemmas.List.{get_or_read, take-append-le}
+use Rattle.std.proofs.Common.{◌≡◌, ℕ, ◌+◌, ◌∷◌, [], List, arith, set, sym, ap, subst, slice_index, take, ◌∙◌}
+use Rattle.std.proofs.lemmas.List.{take-append-le}
 use Rattle.morris_wave.specs.Keeping.{Ranked}
 use Rattle.morris_wave.proofs.Ranks.{ranked_more, room_left}
 use Rattle.morris_wave.proofs.listed.Listed.mark.Goals as goal
@@ -7,22 +7,20 @@ use Rattle.morris_wave.proofs.listed.Listed.mark.Goals as goal
 pub put_last-requires-clause-room : goal.put_last-requires-clause-room
 put_last-requires-clause-room g c =
     let s = c.args.self.now in
-    let codes = s.entries.codes.items in
-    let inside : c.args.place < length codes = omega (arith, c.requires.inside, s.entries.codes.ok.0) in
-    let read : slice_index codes c.args.place ≡ 0 = sym {A = ℕ} (get_or_read codes c.args.place c.index.result.now inside c.index.ensures 0) ∙ c.if-index-eq0.true in
-    omega (arith, s.room, s.counted, s.entries.won_counted, s.entries.lost_counted, room_left codes c.args.place inside read, s.entries.codes.ok.0)
+    let codes = s.entries.codes in
+    let read : slice_index codes c.args.place ≡ 0 = sym c.get.ensures ∙ c.if-get-eq0.true in
+    omega (arith, s.room, s.counted, s.entries.won_counted, s.entries.lost_counted, room_left codes c.args.place c.requires.inside read)
 
 pub invariant_of-self-clause-ranked : goal.invariant_of-self-clause-ranked
 invariant_of-self-clause-ranked g c =
     let s = c.args.self.now in
-    let codes = s.entries.codes.items in
-    let inside : c.args.place < length codes = omega (arith, c.requires.inside, s.entries.codes.ok.0) in
-    let read : slice_index codes c.args.place ≡ 0 = sym {A = ℕ} (get_or_read codes c.args.place c.index.result.now inside c.index.ensures 0) ∙ c.if-index-eq0.true in
+    let codes = s.entries.codes in
+    let read : slice_index codes c.args.place ≡ 0 = sym c.get.ensures ∙ c.if-get-eq0.true in
     subst (λ (xs : List ℕ). Ranked g.L.NodeList.keeps s.first s.wave xs (g.L.NodeList.items c.put_last.new.self) s.before s.here) (sym c.put.ensures.codes)
     (subst (λ (xs : List ℕ). Ranked g.L.NodeList.keeps s.first s.wave (set codes c.args.place (s.wave + 1)) xs s.before s.here) (sym c.put_last.ensures.items)
-    (ranked_more s.first s.wave s.before s.here codes (g.L.NodeList.items s.decided) s.ranked c.args.place inside read))
+    (ranked_more s.first s.wave s.before s.here codes (g.L.NodeList.items s.decided) s.ranked c.args.place c.requires.inside read))
 
-pub returns-then-index-eq0-clause-list : goal.returns-then-index-eq0-clause-list
-returns-then-index-eq0-clause-list g c =
+pub returns-then-get-eq0-clause-list : goal.returns-then-get-eq0-clause-list
+returns-then-get-eq0-clause-list g c =
     let s = c.args.self.now in
     ap (take s.here) c.put_last.ensures.items ∙ take-append-le s.here (g.L.NodeList.items s.decided) ((s.first + c.args.place) ∷ []) s.ranked.within

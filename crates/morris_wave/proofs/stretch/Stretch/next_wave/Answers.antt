@@ -1,4 +1,4 @@
-use Rattle.std.proofs.Common.{◌≡◌, ◌<◌, ◌≤◌, ℕ, ◌+◌, List, length, slice_index_or, sym, ap, subst, ◌∙◌, vec_len, arith}
+use Rattle.std.proofs.Common.{◌≡◌, ◌<◌, ◌≤◌, ℕ, ◌+◌, List, length, slice_index_or, sym, ap, subst, ◌∙◌, arith}
 use Rattle.std.specs.List.{All}
 use Rattle.morris_wave.specs.Nets.{times}
 use Rattle.morris_wave.specs.Lists.{list_at}
@@ -12,14 +12,14 @@ take_in-requires-clause-inside g c =
     let s = c.args.self.now in
     let is = c.at-nodes.ensures in
     λ p d l.
-    let w = subst (λ (xs : List ℕ). (p : ℕ) (d : ℕ) → p < length xs → (s.entries.first ≤ slice_index_or xs p d) × (slice_index_or xs p d < s.entries.first + vec_len s.entries.entries.codes)) (sym is) (s.inside c.next_wave.new.self.wave) p d l in
-    (omega (arith, w.0, c.next_wave.ensures.first), omega (arith, w.1, c.next_wave.ensures.first, ap vec_len c.next_wave.ensures.codes))
+    let w = subst (λ (xs : List ℕ). (p : ℕ) (d : ℕ) → p < length xs → (s.entries.first ≤ slice_index_or xs p d) × (slice_index_or xs p d < s.entries.first + length s.entries.entries.codes)) (sym is) (s.inside c.next_wave.new.self.wave) p d l in
+    (omega (arith, w.0, c.next_wave.ensures.first), omega (arith, w.1, c.next_wave.ensures.first, ap length c.next_wave.ensures.codes))
 
 pub take_in-requires-clause-enough : goal.take_in-requires-clause-enough
 take_in-requires-clause-enough g c = λ even k l.
     let s = c.args.self.now in
     let wave : c.next_wave.new.self.wave ≡ s.entries.wave + 1 = c.next_wave.ensures.wave in
-    let place : k < vec_len s.entries.entries.codes = omega (arith, l, s.counted) in
+    let place : k < length s.entries.entries.codes = omega (arith, l, s.counted) in
     subst (λ (xs : List ℕ). times (c.next_wave.new.self.first + k) xs ≤ left_at s.counters k) (sym c.at-nodes.ensures)
     (subst (λ (w : ℕ). times (c.next_wave.new.self.first + k) (list_at s.due w) ≤ left_at s.counters k) (sym wave)
     (subst (λ (f : ℕ). times (f + k) (list_at s.due (s.entries.wave + 1)) ≤ left_at s.counters k) (sym c.next_wave.ensures.first)
@@ -30,13 +30,13 @@ invariant_of-self g c =
     let s = c.args.self.now in
     let made = c.take_in.ensures in
     let first : c.take_in.new.entries.first ≡ s.entries.first = made.first ∙ c.next_wave.ensures.first in
-    let len : vec_len c.take_in.new.entries.entries.codes ≡ vec_len s.entries.entries.codes = made.len ∙ ap vec_len c.next_wave.ensures.codes in
+    let len : length c.take_in.new.entries.entries.codes ≡ length s.entries.entries.codes = made.len ∙ ap length c.next_wave.ensures.codes in
     record {
       counted = omega (arith, made.counters_len, len, s.counted);
       small = made.small;
       inside = λ n.
-          subst (λ (xs : List (List ℕ)). All (λ i. (c.take_in.new.entries.first ≤ i) × (i < c.take_in.new.entries.first + vec_len c.take_in.new.entries.entries.codes)) (list_at xs n)) (sym c.let_go.ensures)
-          (gone_keeps s.due _ (λ xs. All (λ i. (c.take_in.new.entries.first ≤ i) × (i < c.take_in.new.entries.first + vec_len c.take_in.new.entries.entries.codes)) xs)
+          subst (λ (xs : List (List ℕ)). All (λ i. (c.take_in.new.entries.first ≤ i) × (i < c.take_in.new.entries.first + length c.take_in.new.entries.entries.codes)) (list_at xs n)) (sym c.let_go.ensures)
+          (gone_keeps s.due _ (λ xs. All (λ i. (c.take_in.new.entries.first ≤ i) × (i < c.take_in.new.entries.first + length c.take_in.new.entries.entries.codes)) xs)
           (λ p d l. absurd (omega (arith, l))) n
           (λ p d l. let w = s.inside n p d l in (omega (arith, w.0, first), omega (arith, w.1, first, len))));
       once = λ n k l.
