@@ -15,12 +15,12 @@ returns-in_err-gather_from-clause-fault g c =
 
 pub returns-clause-codes : goal.returns-clause-codes
 returns-clause-codes g c =
-    let made = c.in_ok-gather_from.ensures in
+    let made = c.in_ok-gather_from.ensures.gathered in
     let none = subst (λ (bs : List BlockState). All (λ s. IsSettled (g.N.Levels.net s.level) s) bs) c.deref.ensures.value c.in_default.ensures.none in
     let all : All (IsSettled (g.N.Levels.net c.args.level)) c.args.blocks.items =
     λ k d l. subst (λ (n : ℕ). IsSettled (g.N.Levels.net n) (slice_index_or c.args.blocks.items k d)) (made.fit k d l).level_is (none k d l) in
     record {
-      len = made.len ∙ c.requires.size;
+      len = made.known.len ∙ c.requires.size;
       each = λ i l. made.settled all i (omega (arith, l, c.requires.size));
       not_too_deep = made.deep all;
     }
