@@ -22,7 +22,7 @@ const KEPT_ROOM: usize = 262144;
 // and where few nodes are fresh a block is locked once for many sources.
 const FULL_NODES: usize = 4096;
 
-const FULL_SOURCES: usize = 64;
+const FULL_SOURCES: usize = 16;
 
 // What one worker gets: its number, a seat to draw from, and lists for their room.
 #[derive(Drop)]
