@@ -16,7 +16,7 @@ arrivals board own v = if has own v then 0 else length (filter (λ u. goes board
 unfoldable pub may_close : Shape → ℕ → ℕ → Bool
 may_close board own v = not (has own v) && list_any (λ u. goes board (count_of own) u v && closes board own u v) (members own)
 
--- whether the stone of `own` on u closes a mill by going to v, where the opponent doesn't stand there
+-- whether the stone of `own` on u closes a mill by going to v, where v is vacant
 unfoldable pub is_closing_end : Shape → ℕ → ℕ → ℕ → Bool
 is_closing_end board own u v = not (has own v) && (goes board (count_of own) u v && closes board own u v)
 
