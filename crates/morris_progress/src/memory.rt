@@ -24,8 +24,8 @@ pub(crate) const CODE: u64 = 2;
 const SET: u64 = 13;
 
 /// Bytes of an entry of the pair that is built: its code, and a counter of the results that it waits
-/// for.
-const OPEN: u64 = 3;
+/// for. Both have a byte while no depth is above 254.
+const OPEN: u64 = 2;
 
 /// Bytes of an entry in a list of a block, or in a batch that one block sends to another: its
 /// number, where the pair has no more than 2^32 entries.
@@ -67,13 +67,16 @@ pub(crate) fn bytes_of_table<B: Geometry>(pair: Pair<B>, layout: Layout, entries
 /// the table itself as it is kept: by a team, or by a sweep on one thread.
 pub(crate) fn bytes_of_making<B: Geometry>(pair: Pair<B>, entries: u64, team: Option<Team>) -> u64 {
     let due = entries.saturating_mul(due_share(pair)) / WHOLE;
-    let open = entries.saturating_mul(OPEN - CODE);
     let Some(team) = team else {
-        // A sweep keeps the numbers of all decided entries. There are some five for two that come
-        // due by captures.
+        // A sweep keeps the numbers of all decided entries, and all that it keeps until the table is
+        // made. There are some five of them for two that come due by captures.
         let decided = (due.saturating_mul(5) / 2).min(entries);
-        return open.saturating_add(decided.saturating_mul(WIDE));
+        return entries
+            .saturating_mul(OPEN)
+            .saturating_add(decided.saturating_mul(WIDE));
     };
+    // Blocks are let go as their codes are put into the table, so both are never there as a whole.
+    let open = entries.saturating_mul(OPEN.max(CODE) - CODE);
     // For four entries that come due by captures, one more is decided by quiet moves while most of
     // them are in a list.
     let listed = due
