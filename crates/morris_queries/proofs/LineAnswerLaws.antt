@@ -1,7 +1,7 @@
 -- How the answers to the lines of an input go on with each byte.
-use Rattle.std.proofs.Common.{◌≡◌, ◌≢◌, ◌⊎◌, ℕ, ◌+◌, ◌≤◌, ◌<◌, min, false, List, [], ◌∷◌, ◌++◌, take, drop, get_or, length, codes, append-nil, append_assoc, take-append-drop, Option, Result, Ok, Err, refl, sym, ap, subst, ◌∙◌, inl, inr, arith}
-use Rattle.std.specs.Prelude.{IfErr, IfOk, is_err, nat_eq, nat_le}
-use Rattle.std.specs.Io.KnownBytes.{Consumes, IsAtEnd, Keeps}
+use Rattle.std.proofs.Common.{◌≡◌, ◌≢◌, ◌⊎◌, ℕ, ◌+◌, ◌≤◌, ◌<◌, min, false, List, [], ◌∷◌, ◌++◌, take, drop, get_or, length, codes, append_assoc, take-append-drop, Option, Result, Ok, Err, refl, sym, ap, subst, ◌∙◌, inl, inr, arith}
+use Rattle.std.specs.Prelude.{is_err, nat_eq, nat_le}
+use Rattle.std.specs.Io.KnownBytes.{Consumes, Keeps}
 use Rattle.std.proofs.KnownBytes.{Consumes-kept, Consumes-trans}
 use Rattle.std.proofs.lemmas.Bool.{cases_lt, lt-leb, ne_eqb}
 use Rattle.std.proofs.lemmas.List.{length-take, take-append-le, take-take, take_all, take_min, take_more}

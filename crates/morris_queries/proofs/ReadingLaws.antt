@@ -1,6 +1,5 @@
 -- What stays of a reading while bytes are taken in, and what it comes to.
-use Rattle.std.proofs.Common.{◌≡◌, ℕ, List, [], Option, Result, Ok, Err, refl, ◌∙◌}
-use Rattle.std.specs.Prelude.{IfErr, IfOk}
+use Rattle.std.proofs.Common.{ℕ, List, [], Option, Result, Ok, Err, refl, ◌∙◌}
 use Rattle.std.specs.Io.KnownBytes.{Consumes, IsAtEnd}
 use Rattle.std.proofs.KnownBytes.{Consumes-trans}
 use Rattle.std.proofs.Common.{append-nil, subst}
@@ -9,8 +8,7 @@ use Rattle.morris_folders.specs.Files.{Files}
 use Rattle.morris_queries.specs.declared.fault.QueryFault.{QueryFault}
 use Rattle.morris_queries.specs.declared.fault.QueryFault.TheVariants as query
 use Rattle.morris_queries.specs.declared.lines.Reading.{Reading}
-use Rattle.morris_queries.specs.InputLines.{texts_in}
-use Rattle.morris_queries.specs.LineAnswers.{AnswersLines, StopsIn}
+use Rattle.morris_queries.specs.LineAnswers.{AnswersLines}
 use Rattle.morris_queries.specs.Readings.{Ends, Stands, StaysOf}
 use Rattle.morris_queries.proofs.FolderLaws.{stays_here, stays_on}
 

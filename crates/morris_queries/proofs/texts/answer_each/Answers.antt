@@ -1,4 +1,4 @@
-use Rattle.std.proofs.Common.{◌∙◌, Bor, List, ℕ, arith, map, take, refl, sym, subst}
+use Rattle.std.proofs.Common.{Bor, List, ℕ, arith, map, take, refl, sym, subst}
 use Rattle.std.proofs.lemmas.Result.{err_from_is_err_and}
 use Rattle.morris_queries.specs.Answers.{AreOut}
 use Rattle.morris_queries.proofs.AnswerLaws.{out_none, texts_stopped, texts_more, counts_stopped, counts_on, text_next}

@@ -1,7 +1,7 @@
 use Rattle.morris_queries.proofs.TellingLaws.{agreed}
 use Rattle.std.proofs.Common.{refl, ap, ◌∙◌}
 use Rattle.morris_queries.specs.Telling.{table_in}
-use Rattle.morris_queries.proofs.FolderLaws.{stays_here, stays_with}
+use Rattle.morris_queries.proofs.FolderLaws.{stays_with}
 use Rattle.morris_queries.proofs.values.Folder.make_ready.Goals as goal
 
 pub returns-in_ok-file-clause-stays : goal.returns-in_ok-file-clause-stays

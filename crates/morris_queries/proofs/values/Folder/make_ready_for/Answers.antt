@@ -1,5 +1,4 @@
 use Rattle.std.proofs.Common.{sym}
-use Rattle.morris_queries.proofs.FolderLaws.{stays_here}
 use Rattle.morris_queries.proofs.OpenLaws.{value_refused}
 use Rattle.morris_queries.proofs.values.Folder.make_ready_for.Goals as goal
 
