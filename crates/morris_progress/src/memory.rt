@@ -87,7 +87,7 @@ pub(crate) fn bytes_of_making<B: Geometry>(pair: Pair<B>, entries: u64, team: Op
 }
 
 /// About how many bytes the workers hold of the blocks that they are at: the fresh entries of these,
-/// and for each of them the entries from which quiet moves lead to it.
+/// and for each of them the entries from which quiet moves lead to it. No two are at one block.
 fn bytes_of_workers<B: Geometry>(pair: Pair<B>, entries: u64, team: Team) -> u64 {
     let closing = closing_share(pair.greater(), pair.lesser());
     let block = entries / team.blocks as u64;
@@ -103,7 +103,7 @@ fn bytes_of_workers<B: Geometry>(pair: Pair<B>, entries: u64, team: Team) -> u64
     let held = WIDE.saturating_add(moves_before(pair).saturating_mul(listed_bytes(entries)));
     fresh
         .saturating_mul(held)
-        .saturating_mul(team.workers as u64)
+        .saturating_mul(team.workers.min(team.blocks) as u64)
 }
 
 /// How many bytes an entry of so many takes in a list.
