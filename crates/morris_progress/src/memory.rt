@@ -20,7 +20,7 @@ pub(crate) const BASE: u64 = 7_500_000;
 pub(crate) const CODE: u64 = 2;
 
 /// Bytes of a set of stones of a table by classes: 8 for the class that it is led to, and 5 for its
-/// part of what is kept of a class, which are 72 for some 16 sets.
+/// part of what is kept of a class, which are 76 for some 16 sets.
 const SET: u64 = 13;
 
 /// Bytes of an entry of the pair that is built: its code, and a counter of the results that it waits
