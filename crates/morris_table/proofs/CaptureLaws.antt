@@ -130,7 +130,7 @@ module _ (b : Shape) (n : ℕ) (points : b.points ≡ n) (low : n ≤ 24) (s : S
       contained_any is_capture (moves_of b s) (move one.from v (Some _))
       (legal_is_listed b s (omega (arith, points)) lawful.stones _ (capture_is_legal b s one.from v _ one.capture.own one.capture.goes one.capture.shuts taken.here)) refl
 
-  some_closing : list_any is_capture (moves_of b s) ≡ true → (v : ℕ) × (has row.closing v ≡ true) × (has s.other v ≡ false)
+  pub some_closing : list_any is_capture (moves_of b s) ≡ true → (v : ℕ) × (has row.closing v ≡ true) × (has s.other v ≡ false)
   some_closing h =
       let m = any_contained is_capture (moves_of b s) h in
       let there = opens m.0.from m.0.to (legal_capture b s m.0 (listed_is_legal b s (omega (arith, points)) lawful.stones m.0 m.1) m.2) in

@@ -23,6 +23,7 @@ pub mod RowLaws
 pub mod GraphLaws
 pub mod SummaryLaws
 pub mod CaptureLaws
+pub mod NumberedLaws
 pub mod CapturedLaws
 pub mod BuildLaws
 pub mod AgreementLaws

@@ -7,6 +7,7 @@ pub mod NetLaws
 pub mod Known
 pub mod Backward
 pub mod Rows
+pub mod NumberedRows
 pub mod Tables
 pub mod Numberings
 pub mod Raws

@@ -17,6 +17,7 @@ use crate::graph::PairGraph;
 use crate::layout::Layout;
 use crate::levels::PairLevels;
 use crate::numbering::Numbering;
+use crate::row_reading::read_rows;
 use crate::rows::Row;
 use crate::shelf::Shelf;
 use crate::stock::Stock;
@@ -138,8 +139,10 @@ impl<'a, B: Board> Graph for ClassGraph<'a, B> {
     }
 
     fn read_nodes(&self, first: u64, counts: &mut [u16], exits: &mut [Exits]) {
-        self.graph
-            .read_nodes_from(&self.numbering, first, counts, exits)
+        match &self.numbering {
+            Numbering::Classes(classes) => read_rows(&self.graph, classes, first, counts, exits),
+            Numbering::Full(_) => unreachable!(),
+        }
     }
 
     fn back(&self, i: u64, out: &mut Vec<u64>) -> Result<(), AllocError> {

@@ -1,0 +1,74 @@
+use Rattle.std.proofs.Common.{◌≡◌, ℕ, ◌+◌, ◌<◌, length, filter, true, sym, ap, subst, ◌∙◌, arith}
+use Rattle.std.proofs.lemmas.Bool.{eq-eqb}
+use Rattle.std.proofs.lemmas.List.{length-set}
+use Rattle.morris_board.specs.Boards.{Shape, is_board}
+use Rattle.morris_board.specs.Positions.{Sides}
+use Rattle.morris_board.specs.Symmetries.{HasSymmetries}
+use Rattle.morris_moves.specs.Rules.{moves_of}
+use Rattle.morris_index.specs.Classes.{representative_of}
+use Rattle.morris_index.specs.EntryRows.{InRow, IsInRow}
+use Rattle.morris_index.specs.Pairs.{Counts, IsPair, is_of}
+use Rattle.morris_wave.specs.Exits.{exits_of}
+use Rattle.morris_table.specs.declared.layout.Layout.TheVariants.{Classes}
+use Rattle.morris_table.specs.declared.rows.Row.{Row}
+use Rattle.morris_table.specs.Entries.{entry_index, has_own_entry}
+use Rattle.morris_table.specs.PairNets.{is_quiet, capture_codes, level_of, net_at}
+use Rattle.morris_table.proofs.NumberedLaws.{are_numbers}
+use Rattle.morris_table.proofs.RowLaws.{each_more, exits_more}
+use Rattle.morris_table.proofs.GraphLaws.{exits_same, quiet_count_at}
+use Rattle.morris_table.proofs.row_reading.read_row.Goals as goal
+
+-- the node of a place of a row is that of its position
+module _ (b : Shape) (board : is_board b ≡ true) (y : HasSymmetries b) (n : ℕ) (points : b.points ≡ n) (c : Counts) (pair : IsPair n c) (row : InRow)
+    (of : row.pair ≡ c) (least : representative_of b row.own ≡ row.own) (place : ℕ) (s : Sides) (at : IsInRow b n row place s) where
+  pair_here : IsPair b.points c
+  pair_here = subst (λ m. IsPair m c) (sym points) pair
+
+  counts_here : is_of c s ≡ true
+  counts_here = subst (λ d. is_of d s ≡ true) of at.counts
+
+  own_entry : has_own_entry b Classes s ≡ true
+  own_entry = eq-eqb _ _ (rw at.own least)
+
+  entry_here : entry_index b n Classes c s ≡ row.first + place
+  entry_here = subst (λ d. entry_index b n Classes d s ≡ row.first + place) of at.entry
+
+  quiet_there : length (filter is_quiet (moves_of b s)) ≡ length ((net_at b (level_of Classes c)).quiet (row.first + place))
+  quiet_there = quiet_count_at b board y n points Classes c pair_here s at.lawful counts_here own_entry (row.first + place) entry_here
+
+  exits_there : exits_of (capture_codes b s) ≡ exits_of ((net_at b (level_of Classes c)).exits (row.first + place))
+  exits_there = exits_same b board y n points Classes c pair_here s at.lawful counts_here own_entry (row.first + place) entry_here
+
+pub loop-place-preserved : goal.loop-place-preserved
+loop-place-preserved g c =
+    let inv = c.loop-place.invariant in
+    let net = net_at g.B.Geometry.shape (level_of Classes c.args.graph.now) in
+    let s : Sides = c.numbers.ensures.stands.0 in
+    let at : IsInRow g.B.Geometry.shape g.B.Geometry.POINTS c.args.entries.now c.loop-place.place s = c.numbers.ensures.stands.1 in
+    let own : c.of-kept.result.row.own ≡ c.args.entries.now.own = ap (λ (r : Row). r.own) c.of-kept.ensures.row ∙ (c.of.ensures.own ∙ c.own.ensures.value) in
+    let quiet_here : c.quiet_moves.result ≡ length (net.quiet (c.args.entries.now.first + c.loop-place.place)) =
+    c.quiet_moves.ensures s
+    (are_numbers g.B.Geometry.shape g.B.Geometry.POINTS c.args.entries.now c.loop-place.place c.of-kept.result.row.own c.numbers.result s own at (c.numbers.ensures.value s at))
+    ∙ quiet_there g.B.Geometry.shape g.met.B.Geometry.is_lawful g.met.B.Geometry.has_symmetries g.B.Geometry.POINTS g.met.B.Geometry.point_count
+    c.args.graph.now c.requires.lawful c.args.entries.now c.requires.pair c.own.ensures.least c.loop-place.place s at in
+    let exits_here : c.exits_in_row.result ≡ exits_of (net.exits (c.args.entries.now.first + c.loop-place.place)) =
+    c.exits_in_row.ensures s at
+    ∙ exits_there g.B.Geometry.shape g.met.B.Geometry.is_lawful g.met.B.Geometry.has_symmetries g.B.Geometry.POINTS g.met.B.Geometry.point_count
+    c.args.graph.now c.requires.lawful c.args.entries.now c.requires.pair c.own.ensures.least c.loop-place.place s at in
+    let inside : c.loop-place.place < length c.loop-place.counts = omega (arith, c.min-many.ensures, c.loop-place-test.true, inv.counts_len) in
+    record {
+      counts_len = length-set c.loop-place.counts c.loop-place.place c.quiet_moves.result ∙ inv.counts_len;
+      exits_len = length-set c.loop-place.exits c.loop-place.place c.exits_in_row.result ∙ inv.exits_len;
+      quiet = each_more (λ k. length (net.quiet (c.args.entries.now.first + k))) c.loop-place.counts c.loop-place.place c.quiet_moves.result inside quiet_here inv.quiet;
+      outside = exits_more (λ k. exits_of (net.exits (c.args.entries.now.first + k))) c.loop-place.exits c.loop-place.place c.exits_in_row.result
+          (omega (arith, inside, c.requires.room, inv.counts_len, inv.exits_len)) exits_here inv.outside;
+    }
+
+pub quiet_moves-requires-clause-stands : goal.quiet_moves-requires-clause-stands
+quiet_moves-requires-clause-stands g c =
+    let s : Sides = c.numbers.ensures.stands.0 in
+    let at : IsInRow g.B.Geometry.shape g.B.Geometry.POINTS c.args.entries.now c.loop-place.place s = c.numbers.ensures.stands.1 in
+    let own : c.of-kept.result.row.own ≡ c.args.entries.now.own = ap (λ (r : Row). r.own) c.of-kept.ensures.row ∙ (c.of.ensures.own ∙ c.own.ensures.value) in (
+      s,
+      are_numbers g.B.Geometry.shape g.B.Geometry.POINTS c.args.entries.now c.loop-place.place c.of-kept.result.row.own c.numbers.result s own at (c.numbers.ensures.value s at),
+    )

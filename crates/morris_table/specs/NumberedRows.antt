@@ -1,0 +1,28 @@
+-- What the moves of the stones of one player are, by the numbers of the points that they leave
+-- free.
+use Rattle.std.specs.Prelude.{◌≡◌, ℕ, ◌<◌, ◌≤◌, false, length, slice_index}
+use Rattle.morris_board.specs.Sets.{has}
+use Rattle.morris_board.specs.Boards.{Shape}
+use Rattle.morris_board.specs.Positions.{Sides, IsPosition}
+use Rattle.morris_index.specs.Numbering.{number_outside}
+use Rattle.morris_index.specs.Parts.{squeezed_below}
+use Rattle.morris_table.specs.declared.numbered_row.NumberedRow.{NumberedRow}
+use Rattle.morris_table.specs.Rows.{arrivals, IsRow}
+
+-- What is kept of the own stones: what is kept by points, and the same by the numbers of the points
+-- that they leave free.
+pub record IsNumbered (board : Shape) (n : ℕ) (kept : NumberedRow) : Type 0 where
+  pub row : IsRow board n kept.row
+  pub len : length kept.arrivals ≡ 24
+  pub few : (k : ℕ) → slice_index kept.arrivals k ≤ 32
+  pub each : (v : ℕ) → v < n → has kept.row.own v ≡ false
+      → slice_index kept.arrivals (number_outside kept.row.own v) ≡ arrivals board kept.row.own v
+  pub closing : (v : ℕ) → v < n → has kept.row.own v ≡ false
+      → has kept.closing (number_outside kept.row.own v) ≡ has kept.row.closing v
+
+-- s is a position in which the player to move has these stones, and the opponent those with the
+-- numbers in the list.
+pub record AreNumbers (board : Shape) (n stones list : ℕ) (s : Sides) : Type 0 where
+  pub lawful : IsPosition board s
+  pub own : s.own ≡ stones
+  pub numbers : list ≡ squeezed_below stones s.other n
