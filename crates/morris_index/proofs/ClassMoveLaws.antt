@@ -5,7 +5,7 @@ use Rattle.morris_board.specs.Boards.{Shape}
 use Rattle.morris_board.specs.Sets.{has, members, count_of, with_point, without_point}
 use Rattle.morris_board.specs.Positions.{Sides, sides, IsPosition}
 use Rattle.morris_board.specs.Symmetries.{image_of, image_sides, inverse_of, HasSymmetries}
-use Rattle.morris_board.proofs.ImageLaws.{IsOneToOne, one_to_one, IsPosition-image, has-image_at, image_of-with, image_of-without}
+use Rattle.morris_board.proofs.ImageLaws.{IsOneToOne, one_to_one, IsPosition-image, has-image_at, image_of-with, image_of-without, count_of-image}
 use Rattle.morris_index.specs.Numbering.{rank_of, number_outside}
 use Rattle.morris_index.specs.ClassPairs.{led, class_half_index, class_index_of}
 use Rattle.morris_index.specs.Pairs.{Counts}
@@ -103,6 +103,12 @@ module _ (board : Shape) (n : ℕ) (few : n ≤ 24) (points : board.points ≡ n
 
       pub led_24 : led_moved < 2 ^ 24
       led_24 = within_24 led_moved n led_placed.other_within few
+
+      pub led_count : count_of led_moved ≡ count_of s.own
+      led_count =
+          count_of-moved image.own (board.image g v) (board.image g u) n (placed board n image points image_position).own_within (omega arith) image_free_own image_here image_to_in
+          ∙ ap (λ (t : Sides). count_of t.own) k.led
+          ∙ count_of-image board.points (omega arith) _ _ one s.own k.lawful.stones.own_within
 
       pub led_few : count_of led_moved ≤ 9
       led_few =

@@ -117,7 +117,7 @@ module _ (board : Shape) (n : ℕ) (few : n ≤ 24) (points : board.points ≡ n
         count_of-image board.points low _ _ (one s s_in) p.own h.stones.own_within,
       ) (turned_of c p of)
 
-      faced_own : faced.own ≡ representative_of board p.other
+      pub faced_own : faced.own ≡ representative_of board p.other
       faced_own = carried_own board n few points y (turned p) turned_placed s s_in parts.0
 
       faced_least : representative_of board faced.own ≡ faced.own

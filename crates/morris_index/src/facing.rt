@@ -22,17 +22,16 @@ use std::marker::Model;
 
 /// A position that has an entry of its own, with this entry and what the entries after it need.
 #[derive(Drop)]
-#[derive_where(Debug)]
-pub struct Faced<B: Geometry> {
+pub struct Faced<'a, B: Geometry> {
     /// What is kept of the position for the entries after it.
-    after: SuccessorEntries<B>,
+    after: SuccessorEntries<'a, B>,
     /// Its entry.
     entry: u64,
     /// The class of the stones of the player to move.
     class: u32,
 }
 
-impl<B: Geometry> Model for Faced<B> {
+impl<'a, B: Geometry> Model for Faced<'a, B> {
     ghost use Rattle.morris_index.specs.Facing.{IsFaced};
     ghost use Rattle.morris_index.specs.Moves.{InPair};
 
@@ -43,7 +42,7 @@ impl<B: Geometry> Model for Faced<B> {
     ghost invariant = { λ faced. IsFaced B.shape B.POINTS faced.after faced.entry };
 }
 
-impl<B: Geometry> Faced<B> {
+impl<'a, B: Geometry> Faced<'a, B> {
     /// The position.
     pub fn position(&self) -> Position<B>
         ensures value { result ≡ self.now.position }
@@ -68,7 +67,7 @@ impl<B: Geometry> Faced<B> {
     }
 
     /// What is kept of the position for the entries after it.
-    pub fn after(&self) -> &SuccessorEntries<B>
+    pub fn after(&self) -> &SuccessorEntries<'a, B>
         ensures { result.now ≡ self.now }
     {
         &self.after
@@ -125,11 +124,14 @@ pub struct Facing<'a, B: Geometry> {
     position: Position<B>,
     /// The symmetries whose inverse is the one that leads the image of the stones under them.
     returning: Points,
+    /// The stones.
+    place: Outside,
     /// The first entry in which the player to move has these stones.
     start: u64,
 }
 
 impl<'a, B: Geometry> Model for Facing<'a, B> {
+    ghost use Rattle.std.specs.Prelude.{◌≡◌};
     ghost use Rattle.morris_index.specs.Facing.{IsFacing};
     ghost use Rattle.morris_index.specs.Moves.{InPair, in_pair};
 
@@ -137,7 +139,7 @@ impl<'a, B: Geometry> Model for Facing<'a, B> {
 
     ghost view = { λ facing. in_pair facing.pair.now facing.position };
 
-    ghost invariant = { λ facing. IsFacing B.shape B.POINTS (in_pair facing.pair.now facing.position) facing.returning facing.start };
+    ghost invariant = { λ facing. IsFacing B.shape B.POINTS (in_pair facing.pair.now facing.position) facing.returning facing.start × (facing.place ≡ facing.position.own) };
 }
 
 impl<'a, B: Geometry> Facing<'a, B> {
@@ -155,6 +157,7 @@ impl<'a, B: Geometry> Facing<'a, B> {
             returning: pair
                 .returning_of(position.own(), position.other())
                 .symmetries,
+            place: Outside::of(position.own()),
             start,
         }
     }
@@ -172,18 +175,19 @@ impl<'a, B: Geometry> Facing<'a, B> {
     }
 
     /// The first entry in which the player to move stands on the representative of the class of the
-    /// opponent's stones, this class, and the symmetries that carry `from`, the position with the
-    /// other player to move.
-    fn carrying(&self, position: &Position<B>, from: &Position<B>) -> (u64, u32, Points)
+    /// opponent's stones, this representative, the symmetries that carry `from`, the position with
+    /// the other player to move, and the class.
+    fn carrying(&self, position: &Position<B>, from: &Position<B>) -> (u64, Outside, Points, u32)
         requires counts { is_of self.now.pair position.now ≡ true }
         requires same { position.now.own ≡ self.now.position.own }
         requires from { from.now ≡ turned position.now }
         ensures start { result.0 ≡ class_start_of B.shape B.POINTS self.now.pair position.now.other (count_of position.now.own) }
+        ensures representative { result.1 ≡ representative_of B.shape position.now.other }
         ensures few { result.0 ≤ 2 ^ 54 }
         ensures carrying { (t : ℕ) → has result.2 t ≡ (nat_lt t B.SYMMETRIES && carries B.shape position.now position.now.other t) }
     {
-        let (start, _, leading, class) = self.pair.leads_of(from.own(), from.other());
-        (start, class, leading.common(self.returning))
+        let (start, representative, leading, class) = self.pair.leads_of(from.own(), from.other());
+        (start, representative, leading.common(self.returning), class)
     }
 
     /// The position to which a symmetry carries the one in which the other player is to move.
@@ -192,15 +196,17 @@ impl<'a, B: Geometry> Facing<'a, B> {
         position: &Position<B>,
         from: &Position<B>,
         start: u64,
-        class: u32,
+        representative: Outside,
         symmetry: u8,
-    ) -> Faced<B>
+        class: u32,
+    ) -> Faced<'a, B>
         requires counts { is_of self.now.pair position.now ≡ true }
         requires same { position.now.own ≡ self.now.position.own }
         requires own { representative_of B.shape position.now.own ≡ position.now.own }
         requires from { from.now ≡ turned position.now }
         requires start { start ≡ class_start_of B.shape B.POINTS self.now.pair position.now.other (count_of position.now.own) }
         requires few { start ≤ 2 ^ 54 }
+        requires representative { representative ≡ representative_of B.shape position.now.other }
         requires symmetry { symmetry < B.SYMMETRIES }
         requires carries { carries B.shape position.now position.now.other symmetry ≡ true }
         ensures { result ≡ in_pair self.now.pair (image_sides (B.shape.image symmetry) (turned position.now)) }
@@ -209,14 +215,15 @@ impl<'a, B: Geometry> Facing<'a, B> {
         let _ = position.own();
         let faced = from.image(symmetry);
         let other = faced.other();
-        let place = Outside::of(faced.own());
-        let entry = start + self.pair.rank_outside(other, other.count(), place);
+        let rank = self.pair.rank_outside(other, other.count(), representative);
+        let entry = start + rank;
         Faced {
             after: SuccessorEntries::led_by(
                 self.pair,
                 faced,
                 B::inverse(symmetry),
                 *from,
+                self.place,
                 self.start,
             ),
             entry,
@@ -232,16 +239,16 @@ impl<'a, B: Geometry> Facing<'a, B> {
     ///
     /// # Errors
     /// [`AllocError`] where memory runs out. Then some of them may have been added.
-    pub fn add(&self, position: &Position<B>, out: &mut Vec<Faced<B>>) -> Result<(), AllocError>
+    pub fn add(&self, position: &Position<B>, out: &mut Vec<Faced<'a, B>>) -> Result<(), AllocError>
         requires counts { is_of self.now.pair position.now ≡ true }
         requires same { position.now.own ≡ self.now.position.own }
         requires own { representative_of B.shape position.now.own ≡ position.now.own }
         ensures { OnOk result (out.new.items ≡ out.old.items ++ facing B.shape self.now.pair position.now) }
     {
         let from = turned(self.pair, position);
-        let (start, class, carrying) = self.carrying(position, &from);
+        let (start, representative, carrying, class) = self.carrying(position, &from);
         for symmetry in carrying.iter() {
-            out.push(self.faced(position, &from, start, class, symmetry))?;
+            out.push(self.faced(position, &from, start, representative, symmetry, class))?;
         }
         Ok(())
     }
@@ -252,11 +259,11 @@ impl<'a, B: Geometry> Facing<'a, B> {
 ///
 /// # Errors
 /// [`AllocError`] where memory runs out.
-pub fn list_faced<B: Geometry>(
-    pair: &ClassPair<B>,
+pub fn list_faced<'a, B: Geometry>(
+    pair: &'a ClassPair<B>,
     first: u64,
     end: u64,
-    out: &mut Vec<Faced<B>>,
+    out: &mut Vec<Faced<'a, B>>,
 ) -> Result<(), AllocError>
     requires { end ≤ class_size_of B.shape B.POINTS pair.now }
     ensures { OnOk result (AreFaces B.shape B.POINTS pair.now first end out.new.items) }

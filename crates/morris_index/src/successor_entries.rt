@@ -7,8 +7,7 @@ ghost use Rattle.morris_index.specs.ClassMoves.{IsLedOn};
 ghost use Rattle.morris_index.specs.ClassPairs.{class_index_of};
 
 use crate::class_pair::ClassPair;
-use crate::pair::Pair;
-use crate::ranks::rank_outside;
+use crate::rings::Outside;
 use morris_board::board::Geometry;
 use morris_board::position::Position;
 use std::marker::Model;
@@ -17,65 +16,79 @@ use std::marker::Model;
 /// found in constant time. In all of these the opponent is to move and stands where it stood, so
 /// the same symmetry leads them.
 #[derive(Drop)]
-#[derive_where(Debug)]
-pub struct SuccessorEntries<B: Geometry> {
-    /// The pair that the position is one of.
-    pair: Pair<B>,
+pub struct SuccessorEntries<'a, B: Geometry> {
+    /// The pair that the position is one of, with its classes.
+    pair: &'a ClassPair<B>,
     /// The position.
     position: Position<B>,
+    /// How many stones the player to move has.
+    count: u8,
     /// The symmetry that leads the positions after it.
     symmetry: u8,
     /// The image of the position under this symmetry.
     led: Position<B>,
-    /// The first entry in which the player to move stands on the images of the stones that the
-    /// opponent has here.
+    /// The images of the stones that the opponent has here.
+    place: Outside,
+    /// The first entry in which the player to move stands on these.
     start: u64,
 }
 
-impl<B: Geometry> Model for SuccessorEntries<B> {
+impl<'a, B: Geometry> Model for SuccessorEntries<'a, B> {
+    ghost use Rattle.std.specs.Prelude.{◌≡◌};
+    ghost use Rattle.morris_board.specs.Sets.{count_of};
     ghost use Rattle.morris_index.specs.Moves.{InPair, in_pair};
     ghost use Rattle.morris_index.specs.ClassMoves.{IsLedOn};
 
     ghost Value = { InPair };
 
-    ghost view = { λ entries. in_pair entries.pair entries.position };
+    ghost view = { λ entries. in_pair entries.pair.now entries.position };
 
-    ghost invariant = { λ entries. IsLedOn B.shape B.POINTS (in_pair entries.pair entries.position) entries.symmetry entries.led entries.start };
+    ghost invariant = { λ entries. IsLedOn B.shape B.POINTS (in_pair entries.pair.now entries.position) entries.symmetry entries.led entries.start × (entries.count ≡ count_of entries.position.own) × (entries.place ≡ entries.led.other) };
 }
 
-impl<B: Geometry> SuccessorEntries<B> {
+impl<'a, B: Geometry> SuccessorEntries<'a, B> {
     /// What is to be kept of a position of the pair.
-    pub fn of(pair: &ClassPair<B>, position: &Position<B>) -> SuccessorEntries<B>
+    pub fn of(pair: &'a ClassPair<B>, position: &Position<B>) -> SuccessorEntries<'a, B>
         requires { is_of pair.now position.now ≡ true }
         ensures { result ≡ in_pair pair.now position.now }
     {
         let (start, symmetry) = pair.start_of(position.other(), position.own());
+        // The proof learns here that the numbers of stones are those of a pair.
+        let _ = pair.pair();
+        let led = position.image(symmetry);
         SuccessorEntries {
-            pair: pair.pair(),
+            pair,
             position: *position,
+            count: position.own().count(),
             symmetry,
-            led: position.image(symmetry),
+            led,
+            place: Outside::of(led.other()),
             start,
         }
     }
 
-    /// The same of a position whose image under the symmetry of the opponent's stones is known, and
-    /// the first entry in which the player to move has the stones that the opponent has there.
+    /// The same of a position whose image under the symmetry of the opponent's stones is known,
+    /// with what is kept of the stones that the opponent has there, and the first entry in which
+    /// the player to move has these.
     pub(crate) fn led_by(
-        pair: &ClassPair<B>,
+        pair: &'a ClassPair<B>,
         position: Position<B>,
         symmetry: u8,
         led: Position<B>,
+        place: Outside,
         start: u64,
-    ) -> SuccessorEntries<B>
-        requires { IsLedOn B.shape B.POINTS (in_pair pair.now position) symmetry led start }
+    ) -> SuccessorEntries<'a, B>
+        requires led { IsLedOn B.shape B.POINTS (in_pair pair.now position) symmetry led start }
+        requires place { place ≡ led.other }
         ensures { result ≡ in_pair pair.now position }
     {
         SuccessorEntries {
-            pair: pair.pair(),
+            pair,
             position,
+            count: position.own().count(),
             symmetry,
             led,
+            place,
             start,
         }
     }
@@ -98,6 +111,6 @@ impl<B: Geometry> SuccessorEntries<B> {
         let led_from = B::image(self.symmetry, from);
         let led_to = B::image(self.symmetry, to);
         let moved = self.led.own().without(led_from).with(led_to);
-        self.start + rank_outside(moved, self.led.other())
+        self.start + self.pair.rank_outside(moved, self.count, self.place)
     }
 }

@@ -62,7 +62,7 @@ impl<B: Geometry> OwnSet<B> {
 
     /// Whether the player to move has this set in a position, and `code`, which the table states
     /// for it, agrees.
-    fn agrees(&self, graph: &PairGraph<B>, raw: &Raw<B>, faced: &Faced<B>, code: u16) -> bool
+    fn agrees(&self, graph: &PairGraph<B>, raw: &Raw<B>, faced: &Faced<'_, B>, code: u16) -> bool
         requires pair { graph.now ≡ raw.now.pair }
         requires layout { raw.now.layout ≡ Layout.Classes }
         requires of { faced.now.pair ≡ raw.now.pair }
@@ -119,7 +119,7 @@ impl<B: Geometry> OwnSets<B> {
     }
 
     /// Whether the entry of a position is known to agree, for which the table states `code`.
-    fn agree(&self, graph: &PairGraph<B>, raw: &Raw<B>, faced: &Faced<B>, code: u16) -> bool
+    fn agree(&self, graph: &PairGraph<B>, raw: &Raw<B>, faced: &Faced<'_, B>, code: u16) -> bool
         requires pair { graph.now ≡ raw.now.pair }
         requires layout { raw.now.layout ≡ Layout.Classes }
         requires of { faced.now.pair ≡ raw.now.pair }
@@ -141,7 +141,7 @@ impl<B: Geometry> OwnSets<B> {
         &self,
         graph: &PairGraph<B>,
         raw: &Raw<B>,
-        faces: &[Faced<B>],
+        faces: &[Faced<'_, B>],
         codes: &[u16],
     ) -> bool
         requires pair { graph.now ≡ raw.now.pair }
@@ -165,7 +165,7 @@ impl<B: Geometry> OwnSets<B> {
 /// [`AllocError`] where memory is refused.
 fn list_codes<B: Geometry>(
     raw: &Raw<B>,
-    faces: &[Faced<B>],
+    faces: &[Faced<'_, B>],
     out: &mut Vec<u16>,
 ) -> Result<(), AllocError>
     requires layout { raw.now.layout ≡ Layout.Classes }
@@ -181,16 +181,16 @@ fn list_codes<B: Geometry>(
 
 /// What a worker goes through the entries with.
 #[derive(Drop)]
-pub(crate) struct Lists<B: Geometry> {
+pub(crate) struct Lists<'a, B: Geometry> {
     /// The positions that face those of some entries.
-    faces: Vec<Faced<B>>,
+    faces: Vec<Faced<'a, B>>,
     /// The codes that the table states for them.
     codes: Vec<u16>,
 }
 
-impl<B: Geometry> Lists<B> {
+impl<'a, B: Geometry> Lists<'a, B> {
     /// Empty lists.
-    pub(crate) fn new(alloc: Global) -> Lists<B> {
+    pub(crate) fn new(alloc: Global) -> Lists<'a, B> {
         Lists {
             faces: Vec::new(alloc),
             codes: Vec::new(alloc),
@@ -205,7 +205,7 @@ impl<B: Geometry> Lists<B> {
     pub(crate) fn faces_agree(
         &mut self,
         sets: &OwnSets<B>,
-        classes: &ClassPair<B>,
+        classes: &'a ClassPair<B>,
         graph: &PairGraph<B>,
         raw: &Raw<B>,
         first: u64,

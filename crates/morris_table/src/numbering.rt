@@ -167,14 +167,14 @@ pub(crate) enum Successors<'a, B: Geometry> {
     /// Among the entries of all positions.
     Full(SuccessorIndices<B>),
     /// Among those of classes.
-    Classes(SuccessorEntries<B>),
+    Classes(SuccessorEntries<'a, B>),
     /// Among those of classes, where it is kept already.
-    Kept(&'a SuccessorEntries<B>),
+    Kept(&'a SuccessorEntries<'a, B>),
 }
 
 impl<'a, B: Geometry> Successors<'a, B> {
     /// What is to be kept of a position of the pair.
-    pub(crate) fn of(numbering: &Numbering<B>, position: &Position<B>) -> Successors<'a, B>
+    pub(crate) fn of(numbering: &'a Numbering<B>, position: &Position<B>) -> Successors<'a, B>
         requires { is_of (pair_of numbering.now) position.now ≡ true }
         ensures layout { layout_after result ≡ layout_of numbering.now }
         ensures position { position_before result ≡ in_pair (pair_of numbering.now) position.now }

@@ -33,6 +33,6 @@ returns-clause-carrying g c =
     subst (λ x. AreLeading g.B.Geometry.shape x c.leads_of-start.result.2) (c.own.ensures.points ∙ ap (λ (s : Sides). s.own) c.requires.from) c.leads_of-start.ensures.symmetries in
     let same : c.self.inside.position.own ≡ c.args.position.now.own = ap (λ (q : InPair). q.position.own) c.self.view_is ∙ sym c.requires.same in
     let returns : AreReturning g.B.Geometry.shape c.args.position.now.own c.self.inside.returning =
-    subst (λ x. AreReturning g.B.Geometry.shape x c.self.inside.returning) same c.self.invariant.returns in
+    subst (λ x. AreReturning g.B.Geometry.shape x c.self.inside.returning) same c.self.invariant.0.returns in
     λ t. both_carry g.B.Geometry.shape c.args.position.now c.leads_of-start.result.2 c.self.inside.returning c.common.result leads returns c.common.ensures t
     ∙ ap (λ n. ltb t n && carries g.B.Geometry.shape c.args.position.now c.args.position.now.other t) g.met.B.Geometry.symmetry_count
