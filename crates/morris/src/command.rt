@@ -5,11 +5,11 @@ ghost use Rattle.morris_faults.specs.declared.fault.Fault.TheVariants as fault;
 ghost use Rattle.morris_progress.specs.Progress.{TellsInOrder};
 ghost use Rattle.morris_words.specs.Words.{IsInRange, faults_of, named_by};
 ghost use Rattle.morris_words.specs.declared.words.Task.TheVariants as task;
-ghost use Rattle.morris_commands.specs.Verify.{input_of};
+ghost use Rattle.morris_commands.specs.Verify.{MayFail, input_of};
 ghost use Rattle.morris.specs.Command.{Answers, AnswersCount, AnswersQueries, AnswersTables, AsksToRead, Ends, HasMistake, TellsProgress, end_of, not_text, shown_of, status_of, takes_input};
 
 use morris_board::streams::{Sink, Source};
-use morris_commands::build::build_with;
+use morris_commands::build::{Order, build_with};
 use morris_commands::look::look;
 use morris_commands::probe::probe_with;
 use morris_commands::stats::{stats_by_classes, stats_with};
@@ -21,7 +21,7 @@ use morris_folder_commands::from::verify_from;
 use morris_folder_commands::into::build_into;
 use morris_folders::system::SystemFolder;
 use morris_progress::progress::Progress;
-use morris_progress::team::Team;
+use morris_progress::team::{Crew, Team};
 use morris_progress::teller::Teller;
 use morris_queries::fault::QueryFault;
 use morris_queries::lookup::{lookup_lines, lookup_texts};
@@ -64,8 +64,7 @@ pub fn command<
     O: Sink,
     E: Sink,
 >(rt: &R, alloc: Global, words: &[W], input: &mut I, output: &mut O, errors: &mut E) -> u8
-    requires input { I.failures input.old < 2 ^ 64 - 1 }
-    requires output { O.failures output.old < 2 ^ 64 - 1 }
+    requires streams { MayFail (I.failures input.old) (O.failures output.old) }
     requires errors { E.failures errors.old < 2 ^ 64 - 1 }
     ensures status { result ≤ 2 }
     ensures mistaken { result ≡ 2 → HasMistake (faults_of (map W.text words.now)) }
@@ -125,8 +124,7 @@ fn run<
     errors: &mut E,
 ) -> Result<(), Fault>
     requires range { IsInRange request.task }
-    requires input { I.failures input.old < 2 ^ 64 - 1 }
-    requires output { O.failures output.old < 2 ^ 64 - 1 }
+    requires streams { MayFail (I.failures input.old) (O.failures output.old) }
     ensures answer { Answers (input_of (I.remaining input.old) (I.failures input.old)) (input_of (I.remaining input.new) (I.failures input.new))
         (O.contents output.old) (O.contents output.new) request.entry.task result }
     ensures unread { takes_input request.entry.task ≡ false → input.new ≡ input.old }
@@ -152,8 +150,7 @@ fn perform<
     teller: &mut T,
 ) -> Result<(), Fault>
     requires range { IsInRange task }
-    requires input { I.failures input.old < 2 ^ 64 - 1 }
-    requires output { O.failures output.old < 2 ^ 64 - 1 }
+    requires streams { MayFail (I.failures input.old) (O.failures output.old) }
     ensures answer { Answers (input_of (I.remaining input.old) (I.failures input.old)) (input_of (I.remaining input.new) (I.failures input.new))
         (O.contents output.old) (O.contents output.new) task.entry result }
     ensures unread { takes_input task.entry ≡ false → input.new ≡ input.old }
@@ -168,9 +165,10 @@ fn perform<
             workers,
             blocks,
             deepest,
-        } => count(
-            rt, alloc, board, pair, classes, workers, blocks, deepest, output, teller,
-        ),
+        } => {
+            let order = order_of(board, pair, workers, blocks);
+            count(rt, alloc, order, classes, deepest, output, teller)
+        }
         Task::Build {
             board,
             pair,
@@ -179,9 +177,10 @@ fn perform<
             all,
             into,
             classes,
-        } => build(
-            rt, alloc, board, pair, workers, blocks, all, into, classes, output, teller,
-        ),
+        } => {
+            let order = order_of(board, pair, workers, blocks);
+            build(rt, alloc, order, all, into, classes, output, teller)
+        }
         Task::Verify {
             board,
             all,
@@ -194,16 +193,22 @@ fn perform<
             from,
             show,
             texts,
-        } => look_up(
-            rt,
-            alloc,
-            board,
-            from,
-            show,
-            texts.as_slice(),
-            input,
-            output,
-        ),
+        } => look_up(rt, alloc, board, from, show, texts, input, output),
+    }
+}
+
+/// The tables that the words ask for.
+fn order_of<'a>(board: &'a str, pair: &'a str, workers: u8, blocks: u16) -> Order<'a>
+    ensures board { result.board.now ≡ board.now }
+    ensures pair { result.pair.now ≡ pair.now }
+    ensures workers { result.workers ≡ workers }
+    ensures blocks { result.blocks ≡ blocks }
+{
+    Order {
+        board,
+        pair,
+        workers: usize::from(workers),
+        blocks: usize::from(blocks),
     }
 }
 
@@ -213,26 +218,21 @@ fn perform<
 fn count<R: Threads + Wait + Sync, O: Sink, T: Teller>(
     rt: &R,
     alloc: Global,
-    board: &str,
-    pair: &str,
+    order: Order<'_>,
     classes: bool,
-    workers: u8,
-    blocks: u16,
     deepest: bool,
     output: &mut O,
     teller: &mut T,
 ) -> Result<(), Fault>
     requires output { O.failures output.old < 2 ^ 64 - 1 }
-    ensures answer { AnswersCount classes board.now pair.now workers blocks deepest (O.contents output.old) (O.contents output.new) result }
+    ensures answer { AnswersCount classes order.entry.board.now order.entry.pair.now order.entry.workers order.entry.blocks deepest
+        (O.contents output.old) (O.contents output.new) result }
     ensures told { T.becomes teller.old teller.new }
 {
     if classes {
-        let (workers, blocks) = (usize::from(workers), usize::from(blocks));
-        stats_by_classes(
-            rt, alloc, board, pair, workers, blocks, deepest, output, teller,
-        )
+        stats_by_classes(rt, alloc, order, deepest, output, teller)
     } else {
-        stats_with(alloc, board, pair, deepest, output, teller)
+        stats_with(alloc, order.board, order.pair, deepest, output, teller)
     }
 }
 
@@ -241,10 +241,7 @@ fn count<R: Threads + Wait + Sync, O: Sink, T: Teller>(
 fn build<R: Threads + Wait + Sync + Files<File = File> + AllocGlobal, O: Sink, T: Teller>(
     rt: &R,
     alloc: Global,
-    board: &str,
-    pair: &str,
-    workers: u8,
-    blocks: u16,
+    order: Order<'_>,
     all: bool,
     into: Option<&str>,
     classes: bool,
@@ -252,20 +249,23 @@ fn build<R: Threads + Wait + Sync + Files<File = File> + AllocGlobal, O: Sink, T
     teller: &mut T,
 ) -> Result<(), Fault>
     requires output { O.failures output.old < 2 ^ 64 - 1 }
-    ensures answer { AnswersTables board.now pair.now workers blocks all into.entry classes (O.contents output.old) (O.contents output.new) result }
+    ensures answer { AnswersTables order.entry.board.now order.entry.pair.now order.entry.workers order.entry.blocks all into.entry classes
+        (O.contents output.old) (O.contents output.new) result }
     ensures told { T.becomes teller.old teller.new }
 {
-    let (workers, blocks) = (usize::from(workers), usize::from(blocks));
-    if let Some(path) = into {
-        let folder = &mut SystemFolder::new(rt, path);
-        build_into(
-            rt, alloc, board, pair, workers, blocks, classes, folder, output, teller,
-        )
-    } else {
-        build_with(
-            rt, alloc, board, pair, workers, blocks, all, classes, output, teller,
-        )
-    }
+    let Some(path) = into else {
+        return build_with(rt, alloc, order, all, classes, output, teller);
+    };
+    let folder = &mut SystemFolder::new(rt, path);
+    let Order {
+        board,
+        pair,
+        workers,
+        blocks,
+    } = order;
+    build_into(
+        rt, alloc, board, pair, workers, blocks, classes, folder, output, teller,
+    )
 }
 
 /// Verifies the table files of a folder, where there is one, and else those on `input` with `all`,
@@ -287,8 +287,7 @@ fn verify<
     teller: &mut T,
 ) -> Result<(), Fault>
     requires workers { (1 ≤ workers) × (workers ≤ 64) }
-    requires input { I.failures input.old < 2 ^ 64 - 1 }
-    requires output { O.failures output.old < 2 ^ 64 - 1 }
+    requires streams { MayFail (I.failures input.old) (O.failures output.old) }
     ensures answer { Answers (input_of (I.remaining input.old) (I.failures input.old)) (input_of (I.remaining input.new) (I.failures input.new))
         (O.contents output.old) (O.contents output.new) (task.Verify board.entry all from.entry workers) result }
     ensures unread { takes_input (task.Verify board.entry all from.entry workers) ≡ false → input.new ≡ input.old }
@@ -303,7 +302,10 @@ fn verify<
             verify_from(rt, alloc, board, team, folder, output, teller)
         }
         None if all => verify_bundle(rt, alloc, board, team, input, output, teller),
-        None => verify_with(rt, alloc, board, team, input, output, teller),
+        None => {
+            let crew = Crew { rt, alloc, team };
+            verify_with(crew, board, input, output, teller)
+        }
     }
 }
 
@@ -315,22 +317,21 @@ fn look_up<R: Files<File = File> + AllocGlobal, I: Source, O: Sink>(
     board: &str,
     from: &str,
     show: words::Show,
-    texts: &[&str],
+    texts: Vec<&str>,
     input: &mut I,
     output: &mut O,
 ) -> Result<(), Fault>
-    requires input { I.failures input.old < 2 ^ 64 - 1 }
-    requires output { O.failures output.old < 2 ^ 64 - 1 }
-    ensures answer { AnswersQueries board.now show (map (λ t. t.now) texts.now) (input_of (I.remaining input.old) (I.failures input.old))
+    requires streams { MayFail (I.failures input.old) (O.failures output.old) }
+    ensures answer { AnswersQueries board.now show (map (λ t. t.now) texts.entry.items) (input_of (I.remaining input.old) (I.failures input.old))
         (input_of (I.remaining input.new) (I.failures input.new)) (O.contents output.old) (O.contents output.new) result }
-    ensures unread { (length texts.now == 0) ≡ false → input.new ≡ input.old }
+    ensures unread { (length texts.entry.items == 0) ≡ false → input.new ≡ input.old }
 {
     let library = &mut SystemLibrary::new(rt, from);
     let show = shown(show);
     if texts.is_empty() {
         end(lookup_lines(alloc, board, library, input, show, output))
     } else {
-        end(lookup_texts(alloc, board, library, texts, show, output))
+        end(lookup_texts(alloc, board, library, texts.as_slice(), show, output))
     }
 }
 

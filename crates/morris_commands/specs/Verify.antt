@@ -1,5 +1,5 @@
 -- What `verify` answers of the bytes of its input, and what it prints.
-use Rattle.std.specs.Prelude.{◌≡◌, ◌≢◌, ◌⊎◌, ⊤, ℕ, ◌<◌, List, ◌++◌, length, codes, Option, Some, None, Result, Ok, Err}
+use Rattle.std.specs.Prelude.{◌≡◌, ◌≢◌, ◌⊎◌, ⊤, ℕ, ◌-◌, ◌^◌, ◌<◌, List, ◌++◌, length, codes, Option, Some, None, Result, Ok, Err}
 use Rattle.std.specs.Fmt.{decimal}
 use Rattle.std.specs.List.{Contains}
 use Rattle.std.specs.Io.KnownBytes.{Keeps}
@@ -65,6 +65,10 @@ pub record Input : Type 0 where
 
 abbrev pub input_of : Option (List ℕ) → ℕ → Input
 input_of bytes failures = record { bytes = bytes; failures = failures }
+
+-- there is room to count one more call that fails of what is read, and one of the output
+abbrev pub MayFail : ℕ → ℕ → Type 0
+MayFail read written = (read < 2 ^ 64 - 1) × (written < 2 ^ 64 - 1)
 
 -- What it answers on a board: what was read of the whole input, in the steps of a table's file, and
 -- the answer to that. Room is wanting in the file only where no step before room is first taken

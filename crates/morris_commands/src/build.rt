@@ -2,15 +2,15 @@
 ghost use Rattle.std.specs.Prelude.{◌≡◌, ◌≢◌, ◌+◌, ◌-◌, ◌^◌, ◌<◌, ◌≤◌, None, true, false, is_some, length, IfErr, IfOk, OnOk};
 ghost use Rattle.std.specs.List.{flat_map};
 ghost use Rattle.morris_board.specs.Streams.{CountsFailure, HasSent};
+ghost use Rattle.morris_commands.specs.Build.{AnswersBuild, AnswersBuildOn, AnswersFiles, HasExact, HasExactAt, HasExactBut, HasTables, IsSpared, IsUnbuiltAt, IsUnbuiltFor, file_on, layout_asked, pairs_written, stones};
+ghost use Rattle.morris_commands.specs.Stats.{HasTooDeep, RestsOnTooDeep};
+ghost use Rattle.morris_commands.specs.Verify.{IsUnbuiltBefore};
+ghost use Rattle.morris_faults.specs.BoardNames.{board_of};
+ghost use Rattle.morris_faults.specs.Faults.{CountsWrites, is_write};
 ghost use Rattle.morris_index.specs.Pairs.{Counts, EndsIn, below_of};
 ghost use Rattle.morris_table.specs.Known.{IsBeyondCodes};
 ghost use Rattle.morris_table.specs.Shelves.{first_missing, table_on};
 ghost use Rattle.morris_table.specs.TableFiles.{file_of};
-ghost use Rattle.morris_faults.specs.Faults.{CountsWrites, is_write};
-ghost use Rattle.morris_faults.specs.BoardNames.{board_of};
-ghost use Rattle.morris_commands.specs.Stats.{HasTooDeep, RestsOnTooDeep};
-ghost use Rattle.morris_commands.specs.Build.{AnswersBuild, AnswersBuildOn, AnswersFiles, HasExact, HasExactAt, HasExactBut, HasTables, IsSpared, IsUnbuiltAt, IsUnbuiltFor, file_on, layout_asked, pairs_written, stones};
-ghost use Rattle.morris_commands.specs.Verify.{IsUnbuiltBefore};
 
 use morris_board::board::{Board, Geometry};
 use morris_board::streams::Sink;
@@ -19,7 +19,7 @@ use morris_faults::on_board;
 use morris_faults::pairs::read_pair;
 use morris_index::pair::Pair;
 use morris_progress::size::Way;
-use morris_progress::team::Team;
+use morris_progress::team::{Crew, Team};
 use morris_progress::teller::Teller;
 use morris_table::building::build_watched;
 use morris_table::exact::Exact;
@@ -32,15 +32,17 @@ use std::alloc::Global;
 use std::sync::Wait;
 use std::thread::Threads;
 
-/// What is built, and by whom, as it was asked for.
+/// The tables that are asked for, and by whom they are to be built.
 #[derive(Clone, Copy, Debug)]
-struct Plan {
-    // The layout of the tables.
-    layout: Layout,
-    workers: usize,
-    blocks: usize,
-    // Whether the files of all tables are written, or that of the last alone.
-    all: bool,
+pub struct Order<'a> {
+    /// The name of the board.
+    pub board: &'a str,
+    /// The text of the pair, whose table comes after those of all pairs below it.
+    pub pair: &'a str,
+    /// How many workers there are to be.
+    pub workers: usize,
+    /// Into how many blocks the entries of each pair are to be cut.
+    pub blocks: usize,
 }
 
 /// Builds the tables of all pairs below the one that the text `pair` names on the board named
@@ -74,39 +76,35 @@ pub fn build_out<R: Threads + Wait + Sync, O: Sink>(
     ensures answer { AnswersBuild (board_of board.now) pair.now workers blocks all classes (O.contents output.old) (O.contents output.new) result }
     ensures counted { CountsWrites (O.failures output.old) (O.failures output.new) result }
 {
-    let told = &mut Unwatched;
-    build_with(
-        rt, alloc, board, pair, workers, blocks, all, classes, output, told,
-    )
+    let order = Order {
+        board,
+        pair,
+        workers,
+        blocks,
+    };
+    build_with(rt, alloc, order, all, classes, output, &mut Unwatched)
 }
 
 /// The body of [`build_out`], which the program runs: it tells `teller` how far it is.
 pub fn build_with<R: Threads + Wait + Sync, O: Sink, T: Teller>(
     rt: &R,
     alloc: Global,
-    board: &str,
-    pair: &str,
-    workers: usize,
-    blocks: usize,
+    order: Order<'_>,
     all: bool,
     classes: bool,
     output: &mut O,
     teller: &mut T,
 ) -> Result<(), Fault>
     requires { O.failures output.old < 2 ^ 64 - 1 }
-    ensures answer { AnswersBuild (board_of board.now) pair.now workers blocks all classes (O.contents output.old) (O.contents output.new) result }
+    ensures answer { AnswersBuild (board_of order.entry.board.now) order.entry.pair.now order.entry.workers order.entry.blocks all classes
+        (O.contents output.old) (O.contents output.new) result }
     ensures counted { CountsWrites (O.failures output.old) (O.failures output.new) result }
     ensures told { T.becomes teller.old teller.new }
 {
-    let plan = Plan {
-        layout: layout_of(classes),
-        workers,
-        blocks,
-        all,
-    };
+    let layout = layout_of(classes);
     on_board!(
-        board,
-        build_on::<R, O, T>(rt, alloc, plan, pair, output, teller)
+        order.board,
+        build_on::<R, O, T>(rt, alloc, order, all, layout, output, teller)
     )
 }
 
@@ -124,31 +122,32 @@ pub fn layout_of(classes: bool) -> Layout
 fn build_on<B: Board, R: Threads + Wait + Sync, O: Sink, T: Teller>(
     rt: &R,
     alloc: Global,
-    plan: Plan,
-    text: &str,
+    order: Order<'_>,
+    all: bool,
+    layout: Layout,
     output: &mut O,
     teller: &mut T,
 ) -> Result<(), Fault>
     requires { O.failures output.old < 2 ^ 64 - 1 }
-    ensures answer { AnswersBuildOn B.shape plan.layout text.now plan.workers plan.blocks plan.all (O.contents output.old) (O.contents output.new) result }
+    ensures answer { AnswersBuildOn B.shape layout order.entry.pair.now order.entry.workers order.entry.blocks all
+        (O.contents output.old) (O.contents output.new) result }
     ensures counted { CountsWrites (O.failures output.old) (O.failures output.new) result }
     ensures told { T.becomes teller.old teller.new }
 {
-    let pair = read_pair::<B>(text)?;
-    let team = Team::new(plan.workers, plan.blocks)?;
-    let stock = build_below(rt, alloc, plan.layout, plan.all, pair, team, teller)?;
-    write_files(&stock, plan.layout, pair, plan.all, output)
+    let pair = read_pair::<B>(order.pair)?;
+    let team = Team::new(order.workers, order.blocks)?;
+    let crew = Crew { rt, alloc, team };
+    let stock = build_below(crew, layout, all, pair, teller)?;
+    write_files(&stock, layout, pair, all, output)
 }
 
 /// The tables of all pairs below a pair, its own among them, in a layout; or, but for `all`, its own
 /// alone: the others are let go once no pair to come needs them.
 pub(crate) fn build_below<B: Board, R: Threads + Wait + Sync, T: Teller>(
-    rt: &R,
-    alloc: Global,
+    crew: Crew<'_, R>,
     layout: Layout,
     all: bool,
     pair: Pair<B>,
-    team: Team,
     teller: &mut T,
 ) -> Result<Stock<B>, Fault>
     // The caller's proof learns here that the board has as many points as its shape says.
@@ -156,39 +155,38 @@ pub(crate) fn build_below<B: Board, R: Threads + Wait + Sync, T: Teller>(
     ensures exact { IfOk result (λ stock. HasExact B.shape layout stock (pairs_written all pair)) }
     ensures own { IfOk result (λ stock. HasExactAt B.shape layout stock pair) }
     ensures within { OnOk result (¬ HasTooDeep B.shape pair) }
-    ensures refused { IfErr result (IsUnbuiltFor B.shape pair team.blocks) }
+    ensures refused { IfErr result (IsUnbuiltFor B.shape pair crew.entry.team.blocks) }
     ensures unwritten { IfErr result (λ refused. is_write refused ≡ false) }
     ensures told { T.becomes teller.old teller.new }
 {
+    let team = crew.team;
     teller.announce(pair, layout, Way::Built { team, all });
-    let mut stock = build_before(rt, alloc, layout, all, pair, team, teller)?;
-    build_onto(rt, alloc, &mut stock, layout, pair, team, teller)?;
+    let mut stock = build_before(crew, layout, all, pair, teller)?;
+    build_onto(crew, &mut stock, layout, pair, teller)?;
     Ok(stock)
 }
 
 /// The tables that a pair needs, in a layout: those of all pairs below it but its own are built in
 /// order. But for `all` they are let go once no pair to come needs them.
 pub(crate) fn build_before<B: Board, R: Threads + Wait + Sync, T: Teller>(
-    rt: &R,
-    alloc: Global,
+    crew: Crew<'_, R>,
     layout: Layout,
     all: bool,
     pair: Pair<B>,
-    team: Team,
     teller: &mut T,
 ) -> Result<Stock<B>, Fault>
     ensures ready { IfOk result (λ stock. first_missing stock pair ≡ None) }
     ensures every { IfOk result (λ stock. all ≡ true → HasExactBut B.shape layout stock pair (below_of pair)) }
     ensures last { OnOk result (EndsIn (below_of pair) pair) }
     ensures within { OnOk result (¬ RestsOnTooDeep B.shape pair) }
-    ensures refused { IfErr result (IsUnbuiltBefore B.shape pair team.blocks) }
+    ensures refused { IfErr result (IsUnbuiltBefore B.shape pair crew.entry.team.blocks) }
     ensures told { T.becomes teller.old teller.new }
 {
-    let mut stock = Stock::new(alloc)?;
+    let mut stock = Stock::new(crew.alloc)?;
     for below in pair.below() {
         spare(&mut stock, all, below);
         if below != pair {
-            build_onto(rt, alloc, &mut stock, layout, below, team, teller)?;
+            build_onto(crew, &mut stock, layout, below, teller)?;
         }
     }
     Ok(stock)
@@ -207,21 +205,20 @@ pub fn spare<B: Geometry>(stock: &mut Stock<B>, all: bool, pair: Pair<B>)
 
 /// Puts the table of a pair in a layout into a stock that has those that it needs.
 pub fn build_onto<B: Board, R: Threads + Wait + Sync, T: Teller>(
-    rt: &R,
-    alloc: Global,
+    crew: Crew<'_, R>,
     stock: &mut Stock<B>,
     layout: Layout,
     pair: Pair<B>,
-    team: Team,
     teller: &mut T,
 ) -> Result<(), Fault>
     requires ready { first_missing stock.old pair ≡ None }
     ensures exact { OnOk result (HasExactAt B.shape layout stock.new pair) }
     ensures others { OnOk result ((other : Counts) → other ≢ pair → table_on stock.new other ≡ table_on stock.old other) }
     ensures within { OnOk result (¬ IsBeyondCodes B.shape pair) }
-    ensures refused { IfErr result (IsUnbuiltAt B.shape pair team.blocks) }
+    ensures refused { IfErr result (IsUnbuiltAt B.shape pair crew.entry.team.blocks) }
     ensures told { T.becomes teller.old teller.new }
 {
+    let Crew { rt, alloc, team } = crew;
     let (gate, workers, blocks) = (&OpenGate, team.workers, team.blocks);
     teller.begin_pair(pair);
     let table = build_watched(

@@ -5,7 +5,7 @@ ghost use Rattle.morris_table.specs.Tables.{IsTable};
 ghost use Rattle.morris_faults.specs.Faults.{CountsWrites, is_write};
 ghost use Rattle.morris_faults.specs.BoardNames.{board_of};
 ghost use Rattle.morris_commands.specs.Probe.{AnswersOnBoard, AnswersProbe, IsAsked, IsUnfit, Joins, LoadsBundle, AnswersReport};
-ghost use Rattle.morris_commands.specs.Verify.{input_of};
+ghost use Rattle.morris_commands.specs.Verify.{MayFail, input_of};
 
 use morris_board::board::Board;
 use morris_board::position::Position;
@@ -49,8 +49,7 @@ pub fn probe_with<I: Source, O: Sink, T: Teller>(
     output: &mut O,
     teller: &mut T,
 ) -> Result<(), Fault>
-    requires input { I.failures input.old < 2 ^ 64 - 1 }
-    requires output { O.failures output.old < 2 ^ 64 - 1 }
+    requires streams { MayFail (I.failures input.old) (O.failures output.old) }
     ensures answer { AnswersProbe (board_of board.now) text.now (input_of (I.remaining input.old) (I.failures input.old))
         (input_of (I.remaining input.new) (I.failures input.new)) (O.contents output.old) (O.contents output.new) result }
     ensures unread { ¬ IsAsked (board_of board.now) text.now → input.new ≡ input.old }
@@ -70,8 +69,7 @@ fn probe_on<B: Board, I: Source, O: Sink, T: Teller>(
     output: &mut O,
     teller: &mut T,
 ) -> Result<(), Fault>
-    requires input { I.failures input.old < 2 ^ 64 - 1 }
-    requires output { O.failures output.old < 2 ^ 64 - 1 }
+    requires streams { MayFail (I.failures input.old) (O.failures output.old) }
     ensures answer { AnswersOnBoard B.shape text.now (input_of (I.remaining input.old) (I.failures input.old))
         (input_of (I.remaining input.new) (I.failures input.new)) (O.contents output.old) (O.contents output.new) result }
     ensures unread { ¬ IsAsked (Some B.shape) text.now → input.new ≡ input.old }

@@ -8,7 +8,7 @@ ghost use Rattle.morris_faults.specs.BoardNames.{board_of};
 ghost use Rattle.morris_commands.specs.Stats.{AnswersCounts, AnswersOn, AnswersStats, HasTooDeep, IsRefusedAt, IsRefusedBefore, IsRefusedFor, RestsOnTooDeep};
 ghost use Rattle.morris_commands.specs.StatsByClasses.{AnswersByClasses, AnswersByClassesOn};
 
-use crate::build::build_below;
+use crate::build::{Order, build_below};
 use crate::print_stats::Counted;
 use morris_board::board::{Board, Geometry};
 use morris_board::streams::Sink;
@@ -19,7 +19,7 @@ use morris_faults::pairs::read_pair;
 use morris_faults::print::print;
 use morris_index::pair::Pair;
 use morris_progress::size::Way;
-use morris_progress::team::Team;
+use morris_progress::team::{Crew, Team};
 use morris_progress::teller::Teller;
 use morris_table::exact::Exact;
 use morris_table::layout::Layout;
@@ -196,45 +196,43 @@ fn sweep_over<B: Board, T: Teller>(
 pub fn stats_by_classes<R: Threads + Wait + Sync, S: Sink, T: Teller>(
     rt: &R,
     alloc: Global,
-    board: &str,
-    pair: &str,
-    workers: usize,
-    blocks: usize,
+    order: Order<'_>,
     deepest: bool,
     output: &mut S,
     teller: &mut T,
 ) -> Result<(), Fault>
     requires { S.failures output.old < 2 ^ 64 - 1 }
-    ensures answer { AnswersByClasses (board_of board.now) pair.now workers blocks deepest (S.contents output.old) (S.contents output.new) result }
+    ensures answer { AnswersByClasses (board_of order.entry.board.now) order.entry.pair.now order.entry.workers order.entry.blocks deepest
+        (S.contents output.old) (S.contents output.new) result }
     ensures counted { CountsWrites (S.failures output.old) (S.failures output.new) result }
     ensures told { T.becomes teller.old teller.new }
 {
     on_board!(
-        board,
-        by_classes_on::<R, S, T>(rt, alloc, pair, workers, blocks, deepest, output, teller)
+        order.board,
+        by_classes_on::<R, S, T>(rt, alloc, order, deepest, output, teller)
     )
 }
 
 fn by_classes_on<B: Board, R: Threads + Wait + Sync, S: Sink, T: Teller>(
     rt: &R,
     alloc: Global,
-    text: &str,
-    workers: usize,
-    blocks: usize,
+    order: Order<'_>,
     deepest: bool,
     output: &mut S,
     teller: &mut T,
 ) -> Result<(), Fault>
     requires { S.failures output.old < 2 ^ 64 - 1 }
-    ensures answer { AnswersByClassesOn B.shape text.now workers blocks deepest (S.contents output.old) (S.contents output.new) result }
+    ensures answer { AnswersByClassesOn B.shape order.entry.pair.now order.entry.workers order.entry.blocks deepest
+        (S.contents output.old) (S.contents output.new) result }
     ensures counted { CountsWrites (S.failures output.old) (S.failures output.new) result }
     ensures told { T.becomes teller.old teller.new }
 {
-    let pair = read_pair::<B>(text)?;
-    let team = Team::new(workers, blocks)?;
+    let pair = read_pair::<B>(order.pair)?;
+    let team = Team::new(order.workers, order.blocks)?;
+    let crew = Crew { rt, alloc, team };
     // Those that the pair's rests on are let go once no pair to come needs them.
     let all = false;
-    let stock = build_below(rt, alloc, Layout::Classes, all, pair, team, teller)?;
+    let stock = build_below(crew, Layout::Classes, all, pair, teller)?;
     let Some(table) = stock.get(pair) else {
         unreachable!()
     };

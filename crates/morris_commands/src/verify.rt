@@ -5,7 +5,7 @@ ghost use Rattle.morris_table.specs.Tables.{IsTable};
 ghost use Rattle.morris_faults.specs.Faults.{CountsWrites};
 ghost use Rattle.morris_faults.specs.BoardNames.{board_of};
 ghost use Rattle.morris_commands.specs.Stats.{RestsOnTooDeep};
-ghost use Rattle.morris_commands.specs.Verify.{AnswersInput, AnswersVerify, IsUnverified, IsWrong, input_of};
+ghost use Rattle.morris_commands.specs.Verify.{AnswersInput, AnswersVerify, IsUnverified, IsWrong, MayFail, input_of};
 
 use crate::build::build_before;
 use crate::print_verified::Verified;
@@ -15,7 +15,7 @@ use morris_faults::fault::Fault;
 use morris_faults::on_board;
 use morris_faults::print::print;
 use morris_progress::size::Way;
-use morris_progress::team::Team;
+use morris_progress::team::Crew;
 use morris_progress::teller::Teller;
 use morris_table::building::build_watched;
 use morris_table::exact::Exact;
@@ -24,7 +24,6 @@ use morris_table::reading::read_table;
 use morris_table::stock::Stock;
 use morris_table::verify::VerifyFault;
 use morris_workers::OpenGate;
-use std::alloc::Global;
 use std::sync::Wait;
 use std::thread::Threads;
 
@@ -43,61 +42,50 @@ use std::thread::Threads;
 /// that isn't what the rules give from the entries of its results. Nothing is then written. Else
 /// [`Fault::Write`], with the bytes that went out, at the first write that fails.
 pub fn verify_with<R: Threads + Wait + Sync, I: Source, O: Sink, T: Teller>(
-    rt: &R,
-    alloc: Global,
+    crew: Crew<'_, R>,
     board: &str,
-    team: Team,
     input: &mut I,
     output: &mut O,
     teller: &mut T,
 ) -> Result<(), Fault>
-    requires input { I.failures input.old < 2 ^ 64 - 1 }
-    requires output { O.failures output.old < 2 ^ 64 - 1 }
-    ensures answer { AnswersVerify (board_of board.now) team.blocks (input_of (I.remaining input.old) (I.failures input.old)) (input_of (I.remaining input.new) (I.failures input.new))
+    requires streams { MayFail (I.failures input.old) (O.failures output.old) }
+    ensures answer { AnswersVerify (board_of board.now) crew.entry.team.blocks (input_of (I.remaining input.old) (I.failures input.old)) (input_of (I.remaining input.new) (I.failures input.new))
         (O.contents output.old) (O.contents output.new) result }
     ensures unread { board_of board.now ≡ None → input.new ≡ input.old }
     ensures counted { CountsWrites (O.failures output.old) (O.failures output.new) result }
     ensures told { T.becomes teller.old teller.new }
 {
-    on_board!(
-        board,
-        verify_on::<R, I, O, T>(rt, alloc, team, input, output, teller)
-    )
+    on_board!(board, verify_on::<R, I, O, T>(crew, input, output, teller))
 }
 
 fn verify_on<B: Board, R: Threads + Wait + Sync, I: Source, O: Sink, T: Teller>(
-    rt: &R,
-    alloc: Global,
-    team: Team,
+    crew: Crew<'_, R>,
     input: &mut I,
     output: &mut O,
     teller: &mut T,
 ) -> Result<(), Fault>
-    requires input { I.failures input.old < 2 ^ 64 - 1 }
-    requires output { O.failures output.old < 2 ^ 64 - 1 }
-    ensures answer { AnswersInput B.shape team.blocks (input_of (I.remaining input.old) (I.failures input.old)) (input_of (I.remaining input.new) (I.failures input.new))
+    requires streams { MayFail (I.failures input.old) (O.failures output.old) }
+    ensures answer { AnswersInput B.shape crew.entry.team.blocks (input_of (I.remaining input.old) (I.failures input.old)) (input_of (I.remaining input.new) (I.failures input.new))
         (O.contents output.old) (O.contents output.new) result }
     ensures counted { CountsWrites (O.failures output.old) (O.failures output.new) result }
     ensures told { T.becomes teller.old teller.new }
 {
-    let raw = read_table::<B, I>(alloc, input)?;
-    let exact = believe(rt, alloc, team, raw, teller)?;
+    let raw = read_table::<B, I>(crew.alloc, input)?;
+    let exact = believe(crew, raw, teller)?;
     let (pair, entries) = (exact.pair(), exact.len());
     print(&Verified { pair, entries }, output)
 }
 
 /// The table that was read, once each of its entries is known to be right.
 fn believe<B: Board, R: Threads + Wait + Sync, T: Teller>(
-    rt: &R,
-    alloc: Global,
-    team: Team,
+    crew: Crew<'_, R>,
     raw: Raw<B>,
     teller: &mut T,
 ) -> Result<Exact<B>, Fault>
     ensures exact { IfOk result (λ exact. IsTable B.shape raw) }
     ensures value { IfOk result (λ exact. exact ≡ raw) }
     ensures within { OnOk result (¬ RestsOnTooDeep B.shape raw.pair) }
-    ensures refused { IfErr result (IsUnverified B.shape raw team.blocks) }
+    ensures refused { IfErr result (IsUnverified B.shape raw crew.entry.team.blocks) }
     ensures told { T.becomes teller.old teller.new }
 {
     let (pair, layout) = (raw.pair(), raw.layout());
@@ -105,13 +93,13 @@ fn believe<B: Board, R: Threads + Wait + Sync, T: Teller>(
         pair,
         layout,
         Way::Verified {
-            team,
+            team: crew.team,
             entries: raw.len(),
         },
     );
-    let stock = build_before(rt, alloc, layout, false, pair, team, teller)?;
+    let stock = build_before(crew, layout, false, pair, teller)?;
     teller.begin_pair(pair);
-    let exact = judge(rt, alloc, team, &stock, raw, teller)?;
+    let exact = judge(crew, &stock, raw, teller)?;
     teller.end_pair(&exact);
     Ok(exact)
 }
@@ -119,9 +107,7 @@ fn believe<B: Board, R: Threads + Wait + Sync, T: Teller>(
 /// The table that was read, once each of its entries is known to be right over the tables of a stock
 /// that has those that its pair needs.
 fn judge<B: Board, R: Threads + Wait + Sync, T: Teller>(
-    rt: &R,
-    alloc: Global,
-    team: Team,
+    crew: Crew<'_, R>,
     stock: &Stock<B>,
     raw: Raw<B>,
     teller: &mut T,
@@ -132,9 +118,10 @@ fn judge<B: Board, R: Threads + Wait + Sync, T: Teller>(
     ensures refused { IfErr result (IsWrong B.shape raw) }
     ensures told { T.becomes teller.old teller.new }
 {
-    if let Some(exact) = build_alike(rt, alloc, team, stock, &raw, teller) {
+    if let Some(exact) = build_alike(crew, stock, &raw, teller) {
         return Ok(exact);
     }
+    let Crew { rt, alloc, team } = crew;
     match raw.verify_watched(rt, alloc, stock, team.workers, teller) {
         Ok(exact) => Ok(exact),
         Err((_, VerifyFault::Differs(index))) => Err(Fault::Differs(index)),
@@ -148,9 +135,7 @@ fn judge<B: Board, R: Threads + Wait + Sync, T: Teller>(
 /// Where few positions are decided, a table is built in less time than all results of its positions
 /// are looked at.
 fn build_alike<B: Board, R: Threads + Wait + Sync, T: Teller>(
-    rt: &R,
-    alloc: Global,
-    team: Team,
+    crew: Crew<'_, R>,
     stock: &Stock<B>,
     raw: &Raw<B>,
     teller: &mut T,
@@ -158,6 +143,7 @@ fn build_alike<B: Board, R: Threads + Wait + Sync, T: Teller>(
     ensures same { IfSome result (λ exact. exact ≡ raw.now) }
     ensures told { T.becomes teller.old teller.new }
 {
+    let Crew { rt, alloc, team } = crew;
     let (pair, layout, gate) = (raw.pair(), raw.layout(), &OpenGate);
     let (workers, blocks) = (team.workers, team.blocks);
     match build_watched(

@@ -1,10 +1,10 @@
 //! The command `verify` over the table files of one input.
-ghost use Rattle.std.specs.Prelude.{◌≡◌, ◌+◌, ◌-◌, ◌^◌, ◌<◌, ◌≤◌, None, IfOk};
+ghost use Rattle.std.specs.Prelude.{◌≡◌, ◌-◌, ◌^◌, ◌<◌, None};
 ghost use Rattle.morris_faults.specs.Faults.{CountsWrites};
 ghost use Rattle.morris_faults.specs.BoardNames.{board_of};
-ghost use Rattle.morris_folder_commands.specs.Bundle.{AnswersBundle, AnswersBundleOn, TakesNear};
+ghost use Rattle.morris_folder_commands.specs.Bundle.{AnswersBundle, AnswersBundleOn};
 ghost use Rattle.morris_folder_commands.specs.From.{AtEnd};
-ghost use Rattle.morris_commands.specs.Verify.{input_of};
+ghost use Rattle.morris_commands.specs.Verify.{MayFail, input_of};
 
 use crate::from::{keep_near, take_in};
 use morris_board::board::Board;
@@ -12,9 +12,8 @@ use morris_board::streams::{Sink, Source};
 use morris_faults::fault::Fault;
 use morris_faults::on_board;
 use morris_progress::size::FolderSize;
-use morris_progress::team::Team;
+use morris_progress::team::{Crew, Team};
 use morris_progress::teller::Teller;
-use morris_table::raw::Raw;
 use morris_table::reading::read_next;
 use morris_table::stock::Stock;
 use std::alloc::Global;
@@ -53,45 +52,43 @@ pub fn verify_bundle<R: Threads + Sync, I: Source, O: Sink, T: Teller>(
     output: &mut O,
     teller: &mut T,
 ) -> Result<(), Fault>
-    requires input { I.failures input.old < 2 ^ 64 - 1 }
-    requires output { O.failures output.old < 2 ^ 64 - 1 }
+    requires streams { MayFail (I.failures input.old) (O.failures output.old) }
     ensures answer { AnswersBundle (board_of board.now) (input_of (I.remaining input.old) (I.failures input.old)) (input_of (I.remaining input.new) (I.failures input.new))
         (O.contents output.old) (O.contents output.new) result }
     ensures unread { board_of board.now ≡ None → input.new ≡ input.old }
     ensures counted { CountsWrites (O.failures output.old) (O.failures output.new) result }
     ensures told { T.becomes teller.old teller.new }
 {
-    on_board!(
-        board,
-        bundle_on::<R, I, O, T>(rt, alloc, team, input, output, teller)
-    )
+    let crew = Crew { rt, alloc, team };
+    on_board!(board, bundle_on::<R, I, O, T>(crew, input, output, teller))
 }
 
 fn bundle_on<B: Board, R: Threads + Sync, I: Source, O: Sink, T: Teller>(
-    rt: &R,
-    alloc: Global,
-    team: Team,
+    crew: Crew<'_, R>,
     input: &mut I,
     output: &mut O,
     teller: &mut T,
 ) -> Result<(), Fault>
-    requires input { I.failures input.old < 2 ^ 64 - 1 }
-    requires output { O.failures output.old < 2 ^ 64 - 1 }
+    requires streams { MayFail (I.failures input.old) (O.failures output.old) }
     ensures answer { AnswersBundleOn B.shape (input_of (I.remaining input.old) (I.failures input.old)) (input_of (I.remaining input.new) (I.failures input.new))
         (O.contents output.old) (O.contents output.new) result }
     ensures counted { CountsWrites (O.failures output.old) (O.failures output.new) result }
     ensures told { T.becomes teller.old teller.new }
 {
-    let mut stock = Stock::new(alloc)?;
+    let mut stock = Stock::new(crew.alloc)?;
     let (mut sent, mut found) = (0, false);
     for _ in 0..MOST_FILES {
-        let Some(raw) = read_next::<B, I>(alloc, input)? else {
+        let Some(raw) = read_next::<B, I>(crew.alloc, input)? else {
             return end(found);
         };
-        sent = take_next(rt, alloc, team, &mut stock, raw, sent, output, teller)?;
+        let (pair, entries) = (raw.pair(), raw.len());
+        // What was told before isn't told again.
+        teller.announce_size(FolderSize::NONE.with(pair, entries).size);
+        keep_near(&mut stock, pair);
+        sent = take_in(crew, &mut stock, raw, sent, output, teller)?;
         found = true;
     }
-    match read_next::<B, I>(alloc, input)? {
+    match read_next::<B, I>(crew.alloc, input)? {
         Some(_) => Err(Fault::TooMany),
         None => end(found),
     }
@@ -102,30 +99,4 @@ fn end(found: bool) -> Result<(), Fault>
     ensures { AtEnd found result }
 {
     if found { Ok(()) } else { Err(Fault::NoFiles) }
-}
-
-/// Lets the tables go that neither the pair of a table needs nor one of more stones, and then takes
-/// the table in, where so many bytes were printed before; the answer counts its line as well.
-fn take_next<B: Board, R: Threads + Sync, O: Sink, T: Teller>(
-    rt: &R,
-    alloc: Global,
-    team: Team,
-    stock: &mut Stock<B>,
-    raw: Raw<B>,
-    sent: u64,
-    output: &mut O,
-    teller: &mut T,
-) -> Result<u64, Fault>
-    requires failures { O.failures output.old < 2 ^ 64 - 1 }
-    requires room { sent < 2 ^ 32 }
-    ensures taken { TakesNear B.shape stock.old stock.new raw sent (O.contents output.old) (O.contents output.new) result }
-    ensures few { IfOk result (λ now. now ≤ sent + 2 ^ 10) }
-    ensures counted { CountsWrites (O.failures output.old) (O.failures output.new) result }
-    ensures told { T.becomes teller.old teller.new }
-{
-    let (pair, entries) = (raw.pair(), raw.len());
-    // What was told before isn't told again.
-    teller.announce_size(FolderSize::NONE.with(pair, entries).size);
-    keep_near(stock, pair);
-    take_in(rt, alloc, team, stock, raw, sent, output, teller)
 }

@@ -1,16 +1,16 @@
 //! The command `verify` over the files of a folder.
 ghost use Rattle.std.specs.Prelude.{◌≡◌, ◌+◌, ◌-◌, ◌^◌, ◌<◌, ◌≤◌, None, false, IfErr, IfOk, OnOk};
-ghost use Rattle.morris_folders.specs.Files.{Keeps};
-ghost use Rattle.morris_keeping.specs.Names.{name_of};
-ghost use Rattle.morris_table.specs.Shelves.{first_missing};
-ghost use Rattle.morris_table.specs.Tables.{IsTable};
+ghost use Rattle.morris_commands.specs.Probe.{IsUnfit, Joins};
+ghost use Rattle.morris_commands.specs.Verify.{MayFail, verified_text};
+ghost use Rattle.morris_faults.specs.BoardNames.{board_of};
 ghost use Rattle.morris_faults.specs.Faults.{CountsWrites, is_write};
 ghost use Rattle.morris_folder_commands.specs.Filling.{PrintsLine};
 ghost use Rattle.morris_folder_commands.specs.From.{AnswersFrom, AnswersFromOn, KeepsNear};
 ghost use Rattle.morris_folder_commands.specs.FromSteps.{AnswersFile, TakesIn};
-ghost use Rattle.morris_faults.specs.BoardNames.{board_of};
-ghost use Rattle.morris_commands.specs.Probe.{IsUnfit, Joins};
-ghost use Rattle.morris_commands.specs.Verify.{verified_text};
+ghost use Rattle.morris_folders.specs.Files.{Keeps};
+ghost use Rattle.morris_keeping.specs.Names.{name_of};
+ghost use Rattle.morris_table.specs.Shelves.{first_missing};
+ghost use Rattle.morris_table.specs.Tables.{IsTable};
 
 use crate::places::{PAIRS, pair_at};
 use crate::survey::look_ahead;
@@ -24,7 +24,7 @@ use morris_faults::print::send_after;
 use morris_folders::folder::Folder;
 use morris_index::pair::Pair;
 use morris_keeping::kept::{KeptFault, read_table_file};
-use morris_progress::team::Team;
+use morris_progress::team::{Crew, Team};
 use morris_progress::teller::Teller;
 use morris_table::exact::Exact;
 use morris_table::raw::Raw;
@@ -60,8 +60,7 @@ pub fn verify_from<R: Threads + Sync, F: Folder, O: Sink, T: Teller>(
     output: &mut O,
     teller: &mut T,
 ) -> Result<(), Fault>
-    requires folder { F.failures folder.old < 2 ^ 64 - 1 }
-    requires output { O.failures output.old < 2 ^ 64 - 1 }
+    requires room { MayFail (F.failures folder.old) (O.failures output.old) }
     ensures answer { AnswersFrom (board_of board.now) (F.files folder.old) board.now (O.contents output.old) (O.contents output.new) result }
     ensures kept { Keeps (F.files folder.old) (F.files folder.new) }
     ensures untouched { board_of board.now ≡ None → folder.new ≡ folder.old }
@@ -69,31 +68,29 @@ pub fn verify_from<R: Threads + Sync, F: Folder, O: Sink, T: Teller>(
     ensures counted { CountsWrites (O.failures output.old) (O.failures output.new) result }
     ensures told { T.becomes teller.old teller.new }
 {
+    let crew = Crew { rt, alloc, team };
     on_board!(
         board,
-        from_on::<R, F, O, T>(rt, alloc, board, team, folder, output, teller)
+        from_on::<R, F, O, T>(crew, board, folder, output, teller)
     )
 }
 
 fn from_on<B: Board, R: Threads + Sync, F: Folder, O: Sink, T: Teller>(
-    rt: &R,
-    alloc: Global,
+    crew: Crew<'_, R>,
     board: &str,
-    team: Team,
     folder: &mut F,
     output: &mut O,
     teller: &mut T,
 ) -> Result<(), Fault>
-    requires folder { F.failures folder.old < 2 ^ 64 - 1 }
-    requires output { O.failures output.old < 2 ^ 64 - 1 }
+    requires room { MayFail (F.failures folder.old) (O.failures output.old) }
     ensures answer { AnswersFromOn B.shape (F.files folder.old) board.now (O.contents output.old) (O.contents output.new) result }
     ensures kept { Keeps (F.files folder.old) (F.files folder.new) }
     ensures unfailed { OnOk result (F.failures folder.new ≡ F.failures folder.old) }
     ensures counted { CountsWrites (O.failures output.old) (O.failures output.new) result }
     ensures told { T.becomes teller.old teller.new }
 {
-    let mut stock = Stock::new(alloc)?;
-    let end = look_ahead::<B, F, T>(alloc, board, folder, teller)?;
+    let mut stock = Stock::new(crew.alloc)?;
+    let end = look_ahead::<B, F, T>(crew.alloc, board, folder, teller)?;
     let mut sent = 0;
     let mut found = false;
     for place in 0..PAIRS.len() {
@@ -104,10 +101,10 @@ fn from_on<B: Board, R: Threads + Sync, F: Folder, O: Sink, T: Teller>(
         if place == end {
             return Err(Fault::Unopened(pair.greater(), pair.lesser()));
         }
-        let Some(raw) = read_kept(alloc, board, folder, pair)? else {
+        let Some(raw) = read_kept(crew.alloc, board, folder, pair)? else {
             continue;
         };
-        sent = take_in(rt, alloc, team, &mut stock, raw, sent, output, teller)?;
+        sent = take_in(crew, &mut stock, raw, sent, output, teller)?;
         found = true;
     }
     if found { Ok(()) } else { Err(Fault::NoFiles) }
@@ -146,9 +143,7 @@ fn read_kept<B: Geometry, F: Folder>(
 /// Puts a table into a stock once each of its entries is known to be right over those in it, and
 /// prints its line, where so many bytes were printed before; the answer counts these as well.
 pub(crate) fn take_in<B: Board, R: Threads + Sync, O: Sink, T: Teller>(
-    rt: &R,
-    alloc: Global,
-    team: Team,
+    crew: Crew<'_, R>,
     stock: &mut Stock<B>,
     raw: Raw<B>,
     sent: u64,
@@ -163,7 +158,7 @@ pub(crate) fn take_in<B: Board, R: Threads + Sync, O: Sink, T: Teller>(
     ensures told { T.becomes teller.old teller.new }
 {
     let (pair, entries) = (raw.pair(), raw.len());
-    if let Err(refused) = join(rt, alloc, team, stock, raw, teller) {
+    if let Err(refused) = join(crew, stock, raw, teller) {
         return Err(refused.in_file(pair));
     }
     tell_verified(pair, entries, sent, output)
@@ -171,9 +166,7 @@ pub(crate) fn take_in<B: Board, R: Threads + Sync, O: Sink, T: Teller>(
 
 /// Puts a table into a stock once each of its entries is known to be right.
 fn join<B: Board, R: Threads + Sync, T: Teller>(
-    rt: &R,
-    alloc: Global,
-    team: Team,
+    crew: Crew<'_, R>,
     stock: &mut Stock<B>,
     raw: Raw<B>,
     teller: &mut T,
@@ -184,7 +177,7 @@ fn join<B: Board, R: Threads + Sync, T: Teller>(
     ensures told { T.becomes teller.old teller.new }
 {
     teller.begin_pair(raw.pair());
-    let exact = verify_over(rt, alloc, team, stock, raw, teller)?;
+    let exact = verify_over(crew, stock, raw, teller)?;
     teller.end_pair(&exact);
     stock.put(exact);
     Ok(())
@@ -192,9 +185,7 @@ fn join<B: Board, R: Threads + Sync, T: Teller>(
 
 /// The table, once each of its entries is known to be right over the tables of a stock.
 fn verify_over<B: Board, R: Threads + Sync, T: Teller>(
-    rt: &R,
-    alloc: Global,
-    team: Team,
+    crew: Crew<'_, R>,
     stock: &Stock<B>,
     raw: Raw<B>,
     teller: &mut T,
@@ -206,6 +197,7 @@ fn verify_over<B: Board, R: Threads + Sync, T: Teller>(
     ensures unwritten { IfErr result (λ refused. is_write refused ≡ false) }
     ensures told { T.becomes teller.old teller.new }
 {
+    let Crew { rt, alloc, team } = crew;
     match raw.verify_watched(rt, alloc, stock, team.workers, teller) {
         Ok(exact) => Ok(exact),
         Err((_raw, refused)) => Err(Fault::from(refused)),

@@ -12,7 +12,7 @@ ghost use Rattle.morris_keeping.specs.Digests.{digest_lines};
 use crate::print_filed::Filed;
 use morris_board::board::{Board, Geometry};
 use morris_board::streams::Sink;
-use morris_commands::build::{build_onto, layout_of, spare};
+use morris_commands::build::{Order, build_onto, layout_of, spare};
 use morris_faults::fault::Fault;
 use morris_faults::on_board;
 use morris_faults::pairs::read_pair;
@@ -23,7 +23,7 @@ use morris_index::pair::Pair;
 use morris_keeping::digests::write_digests;
 use morris_keeping::table_file::{Written, write_table_file};
 use morris_progress::size::Way;
-use morris_progress::team::Team;
+use morris_progress::team::{Crew, Team};
 use morris_progress::teller::Teller;
 use morris_table::layout::Layout;
 use morris_table::stock::Stock;
@@ -34,13 +34,16 @@ use std::thread::Threads;
 /// How many pairs there are at most.
 const PAIRS: usize = 28;
 
-/// How tables are built, as it was asked for.
-#[derive(Clone, Copy, Debug)]
-struct Order {
+/// The tables that go into a folder, and who builds them.
+#[derive_where(Clone, Copy)]
+struct Filling<'a, B: Geometry, R> {
+    crew: Crew<'a, R>,
+    // The name of the board.
+    board: &'a str,
     // The layout of the tables.
     layout: Layout,
-    workers: usize,
-    blocks: usize,
+    // The pair whose table comes last, after those of all pairs below it.
+    pair: Pair<B>,
 }
 
 /// Builds the tables of all pairs below the one that the text `pair` names on the board named
@@ -81,22 +84,23 @@ pub fn build_into<R: Threads + Wait + Sync, F: Folder, O: Sink, T: Teller>(
     ensures told { T.becomes teller.old teller.new }
 {
     let order = Order {
-        layout: layout_of(classes),
+        board,
+        pair,
         workers,
         blocks,
     };
+    let layout = layout_of(classes);
     on_board!(
         board,
-        into_on::<R, F, O, T>(rt, alloc, board, pair, order, folder, output, teller)
+        into_on::<R, F, O, T>(rt, alloc, order, layout, folder, output, teller)
     )
 }
 
 fn into_on<B: Board, R: Threads + Wait + Sync, F: Folder, O: Sink, T: Teller>(
     rt: &R,
     alloc: Global,
-    board: &str,
-    text: &str,
-    order: Order,
+    order: Order<'_>,
+    layout: Layout,
     folder: &mut F,
     output: &mut O,
     teller: &mut T,
@@ -105,28 +109,28 @@ fn into_on<B: Board, R: Threads + Wait + Sync, F: Folder, O: Sink, T: Teller>(
     requires output { O.failures output.old < 2 ^ 64 - 1 }
     // The caller's proof learns here that the board has as many points as its shape says.
     ensures points { B.shape.points ≡ B.POINTS }
-    ensures answer { AnswersRead B.shape order.layout board.now order.workers order.blocks
+    ensures answer { AnswersRead B.shape layout order.entry.board.now order.entry.workers order.entry.blocks
         (place_of (F.files folder.old) (O.contents output.old)) (place_of (F.files folder.new) (O.contents output.new)) result
-        (read_pair_of B.shape.points text.now) }
-    ensures untouched { ¬ IsAskedOf B.shape.points text.now order.workers order.blocks → folder.new ≡ folder.old }
+        (read_pair_of B.shape.points order.entry.pair.now) }
+    ensures untouched { ¬ IsAskedOf B.shape.points order.entry.pair.now order.entry.workers order.entry.blocks → folder.new ≡ folder.old }
     ensures unfailed { OnOk result (F.failures folder.new ≡ F.failures folder.old) }
     ensures counted { CountsWrites (O.failures output.old) (O.failures output.new) result }
     ensures told { T.becomes teller.old teller.new }
 {
-    let pair = read_pair::<B>(text)?;
+    let pair = read_pair::<B>(order.pair)?;
     let team = Team::new(order.workers, order.blocks)?;
-    let layout = order.layout;
-    into_folder(rt, alloc, board, layout, pair, team, folder, output, teller)
+    let filling = Filling {
+        crew: Crew { rt, alloc, team },
+        board: order.board,
+        layout,
+        pair,
+    };
+    into_folder(&filling, folder, output, teller)
 }
 
-/// The tables of all pairs below a pair, its own among them, into a folder.
+/// Fills a folder, which is made where there is none, and writes the file of the digests.
 fn into_folder<B: Board, R: Threads + Wait + Sync, F: Folder, O: Sink, T: Teller>(
-    rt: &R,
-    alloc: Global,
-    board: &str,
-    layout: Layout,
-    pair: Pair<B>,
-    team: Team,
+    filling: &Filling<'_, B, R>,
     folder: &mut F,
     output: &mut O,
     teller: &mut T,
@@ -134,7 +138,7 @@ fn into_folder<B: Board, R: Threads + Wait + Sync, F: Folder, O: Sink, T: Teller
     requires folder { F.failures folder.old < 2 ^ 64 - 2 }
     requires output { O.failures output.old < 2 ^ 64 - 1 }
     ensures points { B.shape.points ≡ B.POINTS }
-    ensures answer { AnswersFolder B.shape layout board.now pair team.blocks
+    ensures answer { AnswersFolder B.shape filling.now.layout filling.now.board.now filling.now.pair filling.now.crew.team.blocks
         (place_of (F.files folder.old) (O.contents output.old)) (place_of (F.files folder.new) (O.contents output.new)) result }
     ensures unfailed { OnOk result (F.failures folder.new ≡ F.failures folder.old) }
     ensures counted { CountsWrites (O.failures output.old) (O.failures output.new) result }
@@ -143,19 +147,19 @@ fn into_folder<B: Board, R: Threads + Wait + Sync, F: Folder, O: Sink, T: Teller
     if folder.make().is_err() {
         return Err(Fault::Folder);
     }
-    let written = fill(rt, alloc, board, layout, pair, team, folder, output, teller)?;
-    end(alloc, board, folder, written.as_slice())
+    let written = fill(filling, folder, output, teller)?;
+    end(
+        filling.crew.alloc,
+        filling.board,
+        folder,
+        written.as_slice(),
+    )
 }
 
 /// The tables of all pairs below a pair, its own among them, into a folder that is there; the
 /// answer tells of their files.
 fn fill<B: Board, R: Threads + Wait + Sync, F: Folder, O: Sink, T: Teller>(
-    rt: &R,
-    alloc: Global,
-    board: &str,
-    layout: Layout,
-    pair: Pair<B>,
-    team: Team,
+    filling: &Filling<'_, B, R>,
     folder: &mut F,
     output: &mut O,
     teller: &mut T,
@@ -164,21 +168,29 @@ fn fill<B: Board, R: Threads + Wait + Sync, F: Folder, O: Sink, T: Teller>(
     requires output { O.failures output.old < 2 ^ 64 - 1 }
     ensures points { B.shape.points ≡ B.POINTS }
     ensures filled { MatchResult result
-        (λ written. IsFilledBut B.shape layout board.now pair team.blocks (place_of (F.files folder.old) (O.contents output.old))
-        (place_of (F.files folder.new) (O.contents output.new)) (digest_lines board.now (λ w. w.pair) (λ w. w.digest) written.items))
-        (λ refused. FillsFolder B.shape layout board.now pair team.blocks (place_of (F.files folder.old) (O.contents output.old))
-        (place_of (F.files folder.new) (O.contents output.new)) (Err refused)) }
+        (λ written. IsFilledBut B.shape filling.now.layout filling.now.board.now filling.now.pair filling.now.crew.team.blocks
+        (place_of (F.files folder.old) (O.contents output.old)) (place_of (F.files folder.new) (O.contents output.new))
+        (digest_lines filling.now.board.now (λ w. w.pair) (λ w. w.digest) written.items))
+        (λ refused. FillsFolder B.shape filling.now.layout filling.now.board.now filling.now.pair filling.now.crew.team.blocks
+        (place_of (F.files folder.old) (O.contents output.old)) (place_of (F.files folder.new) (O.contents output.new)) (Err refused)) }
     ensures unfailed { OnOk result (F.failures folder.new ≡ F.failures folder.old) }
     ensures counted { CountsWrites (O.failures output.old) (O.failures output.new) result }
     ensures told { T.becomes teller.old teller.new }
 {
+    let Filling {
+        crew,
+        board,
+        layout,
+        pair,
+    } = *filling;
+    let Crew { alloc, team, .. } = crew;
     let mut written = Vec::with_capacity(alloc, PAIRS)?;
     let mut stock = Stock::new(alloc)?;
     let mut sent = 0;
     teller.announce(pair, layout, Way::Built { team, all: false });
     for below in pair.below() {
         spare(&mut stock, false, below);
-        build_onto(rt, alloc, &mut stock, layout, below, team, teller)?;
+        build_onto(crew, &mut stock, layout, below, teller)?;
         let file = keep_table(alloc, board, &stock, below, folder)?;
         sent = tell_file(&file, sent, output)?;
         written.push_reserved(file);

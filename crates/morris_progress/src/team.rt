@@ -5,6 +5,7 @@ ghost use Rattle.morris_faults.specs.Faults.{solve_fault};
 
 use morris_faults::fault::Fault;
 use morris_workers::check_numbers;
+use std::alloc::Global;
 
 /// How many workers build, over how many blocks: no more than there may be.
 #[derive(Clone, Copy, Debug, PartialEq, Eq)]
@@ -29,4 +30,15 @@ impl Team {
         check_numbers(workers, blocks)?;
         Ok(Team { workers, blocks })
     }
+}
+
+/// A team at work: what starts its threads, and the memory that is taken.
+#[derive_where(Clone, Copy)]
+pub struct Crew<'a, R> {
+    /// What starts the threads.
+    pub rt: &'a R,
+    /// From where memory is taken.
+    pub alloc: Global,
+    /// How many workers there are, over how many blocks.
+    pub team: Team,
 }

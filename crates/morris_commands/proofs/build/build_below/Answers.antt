@@ -57,10 +57,10 @@ at_last board pair blocks last _ h = absurd h
 pub returns-in_err-stock-clause-refused : goal.returns-in_err-stock-clause-refused
 returns-in_err-stock-clause-refused g c =
     let failed = err_from_is_err_and c.from_residual.result c.from_residual.ensures.1 in
-    rw (failed.1, failed.2) (before g.B.Geometry.shape c.args.pair c.args.team.blocks _ c.in_err-stock.ensures.refused)
+    rw (failed.1, failed.2) (before g.B.Geometry.shape c.args.pair c.args.crew.team.blocks _ c.in_err-stock.ensures.refused)
 
 pub returns-in_err-build_onto-clause-refused : goal.returns-in_err-build_onto-clause-refused
 returns-in_err-build_onto-clause-refused g c =
     let failed = err_from_is_err_and c.from_residual-in_err-build_onto.result c.from_residual-in_err-build_onto.ensures.1 in
     rw (failed.1, failed.2)
-    (at_last g.B.Geometry.shape c.args.pair c.args.team.blocks (itself c.args.pair c.in_ok-stock.ensures.last) _ c.in_err-build_onto.ensures.refused)
+    (at_last g.B.Geometry.shape c.args.pair c.args.crew.team.blocks (itself c.args.pair c.in_ok-stock.ensures.last) _ c.in_err-build_onto.ensures.refused)

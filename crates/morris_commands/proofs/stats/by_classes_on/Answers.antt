@@ -15,17 +15,17 @@ returns-clause-answer g c =
     let old = g.S.Sink.contents c.args.output.now in
     let new = g.S.Sink.contents c.print_counts.new.output in
     let r = c.print_counts.result in
-    let read : read_pair_of board.points c.args.text.now ≡ Ok pair =
-    ap (λ n. read_pair_of n c.args.text.now) c.in_ok-stock.ensures.points ∙ sym c.in_ok-pair.ensures in
+    let read : read_pair_of board.points c.args.order.pair.now ≡ Ok pair =
+    ap (λ n. read_pair_of n c.args.order.pair.now) c.in_ok-stock.ensures.points ∙ sym c.in_ok-pair.ensures in
     let counts : AnswersCounts board pair c.args.deepest old new r =
     subst (λ d. AnswersCounts board d c.args.deepest old new r) c.in-Some.ensures.exact.0 c.print_counts.ensures.answer in
-    let counted : AnswersCounted board pair c.args.blocks c.args.deepest old new r =
+    let counted : AnswersCounted board pair c.args.order.blocks c.args.deepest old new r =
     elim counts [
       | inl lacks ↦ inl (fault.Memory, lacks.0, tt, lacks.1)
       | inr prints ↦ inr (c.in_ok-stock.ensures.within, prints)
     ] in
-    subst (λ found. AnswersRead board c.args.workers c.args.blocks c.args.deepest old new r found) (sym read)
-    (subst (λ wrong. AnswersTeam board pair c.args.blocks c.args.deepest old new r wrong) (sym c.in_ok-team.ensures.2) counted)
+    subst (λ found. AnswersRead board c.args.order.workers c.args.order.blocks c.args.deepest old new r found) (sym read)
+    (subst (λ wrong. AnswersTeam board pair c.args.order.blocks c.args.deepest old new r wrong) (sym c.in_ok-team.ensures.2) counted)
 
 -- nothing is printed where a pair isn't built
 pub returns-in_err-stock-clause-answer : goal.returns-in_err-stock-clause-answer
@@ -35,9 +35,9 @@ returns-in_err-stock-clause-answer g c =
     let pair = c.in_ok-pair.pair in
     let r = c.from_residual-in_err-stock.result in
     let failed = err_from_is_err_and r c.from_residual-in_err-stock.ensures.1 in
-    let read : read_pair_of board.points c.args.text.now ≡ Ok pair =
-    ap (λ n. read_pair_of n c.args.text.now) c.in_err-stock.ensures.points ∙ sym c.in_ok-pair.ensures in
-    let counted : AnswersCounted board pair c.args.blocks c.args.deepest old old r =
+    let read : read_pair_of board.points c.args.order.pair.now ≡ Ok pair =
+    ap (λ n. read_pair_of n c.args.order.pair.now) c.in_err-stock.ensures.points ∙ sym c.in_ok-pair.ensures in
+    let counted : AnswersCounted board pair c.args.order.blocks c.args.deepest old old r =
     inl (_, failed.1 ∙ ap Err failed.2, rw c.in_ok-team.ensures.1 at c.in_err-stock.ensures.refused, Keeps-refl old) in
-    subst (λ found. AnswersRead board c.args.workers c.args.blocks c.args.deepest old old r found) (sym read)
-    (subst (λ wrong. AnswersTeam board pair c.args.blocks c.args.deepest old old r wrong) (sym c.in_ok-team.ensures.2) counted)
+    subst (λ found. AnswersRead board c.args.order.workers c.args.order.blocks c.args.deepest old old r found) (sym read)
+    (subst (λ wrong. AnswersTeam board pair c.args.order.blocks c.args.deepest old old r wrong) (sym c.in_ok-team.ensures.2) counted)

@@ -17,10 +17,10 @@ loop-init g c = record {
 }
 
 pub read_next-requires : goal.read_next-requires
-read_next-requires g c = omega (arith, c.requires.input, c.loop.invariant.unfailed)
+read_next-requires g c = omega (arith, c.requires.streams.0, c.loop.invariant.unfailed)
 
 pub read_next-requires-2 : goal.read_next-requires-2
-read_next-requires-2 g c = omega (arith, c.requires.input, c.loop.invariant.unfailed)
+read_next-requires-2 g c = omega (arith, c.requires.streams.0, c.loop.invariant.unfailed)
 
 -- a file that is refused
 pub returns-in_err-raw-clause-answer : goal.returns-in_err-raw-clause-answer
@@ -67,7 +67,8 @@ returns-in_err-sent-clause-answer g c =
       leads_wrong g.B.Geometry.shape c.in_ok-stock.stock l.stock l.found l.sent _ _ after _ (g.O.Sink.contents l.output) c.in-Some.raw l.counter
           c.loop-test.true l.invariant.leads
           (record { read = rw c.in-Some.is at c.in_ok-raw.ensures.outcome; counted = c.in_ok-raw.ensures.counted; room = no_room_wanting _; place = c.in_ok-raw.ensures.place })
-          c.take_next.new.stock (g.O.Sink.contents c.take_next.new.output) _ c.in_err-sent.ensures.taken,
+          c.take_in.new.stock (g.O.Sink.contents c.take_in.new.output) _
+          (c.keep_near.new.stock, rw c.pair-pair.ensures.value at c.keep_near.ensures, c.in_err-sent.ensures.taken),
     ))
 
 -- one that is
@@ -80,11 +81,12 @@ loop-preserved g c =
           leads_on g.B.Geometry.shape c.in_ok-stock.stock l.stock l.found l.sent _ _ after _ (g.O.Sink.contents l.output) c.in-Some.raw l.counter
           c.loop-test.true l.invariant.leads
           (record { read = rw c.in-Some.is at c.in_ok-raw.ensures.outcome; counted = c.in_ok-raw.ensures.counted; room = no_room_wanting _; place = c.in_ok-raw.ensures.place })
-          c.take_next.new.stock (g.O.Sink.contents c.take_next.new.output) c.in_ok-sent.sent c.in_ok-sent.ensures.taken;
+          c.take_in.new.stock (g.O.Sink.contents c.take_in.new.output) c.in_ok-sent.sent
+          (c.keep_near.new.stock, rw c.pair-pair.ensures.value at c.keep_near.ensures, c.in_ok-sent.ensures.taken);
       few = omega (arith, l.invariant.few, c.in_ok-sent.ensures.few);
       unfailed = c.in_ok-raw.ensures.counted ∙ l.invariant.unfailed;
       uncounted = c.in_ok-sent.ensures.counted ∙ l.invariant.uncounted;
-      told = g.met.T.Watch.joins _ _ _ l.invariant.told c.take_next.ensures.told;
+      told = g.met.T.Watch.joins _ _ _ (g.met.T.Watch.joins _ _ _ l.invariant.told c.announce_size.ensures.told) c.take_in.ensures.told;
     }
 
 -- the file after the last that may be taken

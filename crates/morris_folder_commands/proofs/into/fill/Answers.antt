@@ -13,19 +13,19 @@ use Rattle.morris_folder_commands.proofs.into.fill.Goals as goal
 
 pub build_onto-requires-clause-ready : goal.build_onto-requires-clause-ready
 build_onto-requires-clause-ready g c = λ κs within.
-    near-ready g.B.Geometry.shape c.args.layout c.args.pair c.loop-below.yielded c.next.new.self c.in-Some.below c.below-below-items.ensures.needs_first
+    near-ready g.B.Geometry.shape c.args.filling.now.layout c.args.filling.now.pair c.loop-below.yielded c.next.new.self c.in-Some.below c.below-below-items.ensures.needs_first
     (ap (λ rest. c.loop-below.yielded ++ rest) (sym c.in-Some.ensures.steps) ∙ c.loop-below.invariant.split)
     c.loop-below.stock c.spare.new.stock c.loop-below.invariant.near c.spare.ensures.near
 
 pub loop-below-init : goal.loop-below-init
 loop-below-init g c =
-    let whole : c.into_iter-below-iterator.result ≡ below_of c.args.pair = search rules in
+    let whole : c.into_iter-below-iterator.result ≡ below_of c.args.filling.now.pair = search rules in
     record {
       split = whole;
       near = λ other m near. absurd (omega (arith, m.1));
       leads =
-          start_leads g.B.Geometry.shape c.args.layout c.args.board.now c.args.team.blocks c.in_ok-written.written.items
-          (place_of (g.F.Folder.files c.args.folder.now) (g.O.Sink.contents c.args.output.now)) (below_of c.args.pair)
+          start_leads g.B.Geometry.shape c.args.filling.now.layout c.args.filling.now.board.now c.args.filling.now.crew.team.blocks c.in_ok-written.written.items
+          (place_of (g.F.Folder.files c.args.folder.now) (g.O.Sink.contents c.args.output.now)) (below_of c.args.filling.now.pair)
           c.into_iter-below-iterator.result c.in_ok-written.ensures.items whole;
       room = c.in_ok-written.ensures.exact;
       count = c.in_ok-written.ensures.len;
@@ -40,35 +40,35 @@ pub returns-in_err-build_onto-clause-filled : goal.returns-in_err-build_onto-cla
 returns-in_err-build_onto-clause-filled g c =
     let failed = err_from_is_err_and c.from_residual-in_err-build_onto.result c.from_residual-in_err-build_onto.ensures.1 in
     let board = g.B.Geometry.shape in
-    let name = c.args.board.now in
-    let blocks = c.args.team.blocks in
+    let name = c.args.filling.now.board.now in
+    let blocks = c.args.filling.now.crew.team.blocks in
     let start = place_of (g.F.Folder.files c.args.folder.now) (g.O.Sink.contents c.args.output.now) in
-    let all = below_of c.args.pair in
+    let all = below_of c.args.filling.now.pair in
     let pair = c.in-Some.below in
     let l = c.loop-below in
     let here = place_of (g.F.Folder.files l.folder) (g.O.Sink.contents l.output) in
     let digests = lines_of name l.written.items in
-    let leads = next_leads board c.args.layout name blocks start all _ c.next.new.self pair l.sent digests here c.in-Some.ensures.steps l.invariant.leads in
+    let leads = next_leads board c.args.filling.now.layout name blocks start all _ c.next.new.self pair l.sent digests here c.in-Some.ensures.steps l.invariant.leads in
     rw (failed.1, failed.2)
-    (inr (unbuilt board c.args.layout name blocks start all c.next.new.self pair l.sent digests here _ leads c.in_err-build_onto.ensures.refused))
+    (inr (unbuilt board c.args.filling.now.layout name blocks start all c.next.new.self pair l.sent digests here _ leads c.in_err-build_onto.ensures.refused))
 
 -- one whose file isn't written
 pub returns-in_err-file-clause-filled : goal.returns-in_err-file-clause-filled
 returns-in_err-file-clause-filled g c =
     let failed = err_from_is_err_and c.from_residual-in_err-file.result c.from_residual-in_err-file.ensures.1 in
     let board = g.B.Geometry.shape in
-    let name = c.args.board.now in
-    let blocks = c.args.team.blocks in
+    let name = c.args.filling.now.board.now in
+    let blocks = c.args.filling.now.crew.team.blocks in
     let start = place_of (g.F.Folder.files c.args.folder.now) (g.O.Sink.contents c.args.output.now) in
-    let all = below_of c.args.pair in
+    let all = below_of c.args.filling.now.pair in
     let pair = c.in-Some.below in
     let l = c.loop-below in
     let here = place_of (g.F.Folder.files l.folder) (g.O.Sink.contents l.output) in
     let digests = lines_of name l.written.items in
-    let leads = next_leads board c.args.layout name blocks start all _ c.next.new.self pair l.sent digests here c.in-Some.ensures.steps l.invariant.leads in
+    let leads = next_leads board c.args.filling.now.layout name blocks start all _ c.next.new.self pair l.sent digests here c.in-Some.ensures.steps l.invariant.leads in
     let exact = c.in_ok-build_onto.ensures.exact in
     let t = exact.0 in
-    let built : IsBuilt board c.args.layout pair t = record { of_pair = exact.2; of_layout = exact.3; exact = exact.4 } in
+    let built : IsBuilt board c.args.filling.now.layout pair t = record { of_pair = exact.2; of_layout = exact.3; exact = exact.4 } in
     let within = c.in_ok-build_onto.ensures.within in
     let files = g.F.Folder.files c.keep_table.new.folder in
     let after = place_of files (g.O.Sink.contents l.output) in
@@ -76,7 +76,7 @@ returns-in_err-file-clause-filled g c =
     let unfiled : IsUnfiled board name t here.files files refused =
     subst (λ (o : Option Table). KeepsTable {B = g.row.B.Denot} board name o here.files files (Err refused)) exact.1 c.in_err-file.ensures.kept in
     rw (failed.1, failed.2)
-    (inr (undone board c.args.layout name blocks start all c.next.new.self pair l.sent digests here after t refused leads built within
+    (inr (undone board c.args.filling.now.layout name blocks start all c.next.new.self pair l.sent digests here after t refused leads built within
     (inl (unfiled, Keeps-refl here.out))))
 
 -- one whose line isn't printed
@@ -84,18 +84,18 @@ pub returns-in_err-sent-clause-filled : goal.returns-in_err-sent-clause-filled
 returns-in_err-sent-clause-filled g c =
     let failed = err_from_is_err_and c.from_residual-in_err-sent.result c.from_residual-in_err-sent.ensures.1 in
     let board = g.B.Geometry.shape in
-    let name = c.args.board.now in
-    let blocks = c.args.team.blocks in
+    let name = c.args.filling.now.board.now in
+    let blocks = c.args.filling.now.crew.team.blocks in
     let start = place_of (g.F.Folder.files c.args.folder.now) (g.O.Sink.contents c.args.output.now) in
-    let all = below_of c.args.pair in
+    let all = below_of c.args.filling.now.pair in
     let pair = c.in-Some.below in
     let l = c.loop-below in
     let here = place_of (g.F.Folder.files l.folder) (g.O.Sink.contents l.output) in
     let digests = lines_of name l.written.items in
-    let leads = next_leads board c.args.layout name blocks start all _ c.next.new.self pair l.sent digests here c.in-Some.ensures.steps l.invariant.leads in
+    let leads = next_leads board c.args.filling.now.layout name blocks start all _ c.next.new.self pair l.sent digests here c.in-Some.ensures.steps l.invariant.leads in
     let exact = c.in_ok-build_onto.ensures.exact in
     let t = exact.0 in
-    let built : IsBuilt board c.args.layout pair t = record { of_pair = exact.2; of_layout = exact.3; exact = exact.4 } in
+    let built : IsBuilt board c.args.filling.now.layout pair t = record { of_pair = exact.2; of_layout = exact.3; exact = exact.4 } in
     let within = c.in_ok-build_onto.ensures.within in
     let files = g.F.Folder.files c.keep_table.new.folder in
     let out = g.O.Sink.contents c.tell_file.new.output in
@@ -106,25 +106,25 @@ returns-in_err-sent-clause-filled g c =
     subst (λ (o : Option Table). KeepsTable board name o here.files files (Ok w)) exact.1 c.in_ok-file.ensures.kept in
     let cut = line_cut (filed_text w.pair w.entries w.bytes w.digest) l.sent here.out out refused c.in_err-sent.ensures.printed in
     rw (failed.1, failed.2)
-    (inr (undone board c.args.layout name blocks start all c.next.new.self pair l.sent digests here after t refused leads built within
+    (inr (undone board c.args.filling.now.layout name blocks start all c.next.new.self pair l.sent digests here after t refused leads built within
     (inr (cut.0, cut.1, kept.0, subst (PartSent here.out out l.sent cut.0) (line_is board t w kept.1) cut.2))))
 
 -- one that is done
 pub loop-below-preserved : goal.loop-below-preserved
 loop-below-preserved g c =
     let board = g.B.Geometry.shape in
-    let name = c.args.board.now in
-    let blocks = c.args.team.blocks in
+    let name = c.args.filling.now.board.now in
+    let blocks = c.args.filling.now.crew.team.blocks in
     let start = place_of (g.F.Folder.files c.args.folder.now) (g.O.Sink.contents c.args.output.now) in
-    let all = below_of c.args.pair in
+    let all = below_of c.args.filling.now.pair in
     let pair = c.in-Some.below in
     let l = c.loop-below in
     let here = place_of (g.F.Folder.files l.folder) (g.O.Sink.contents l.output) in
     let digests = lines_of name l.written.items in
-    let leads = next_leads board c.args.layout name blocks start all _ c.next.new.self pair l.sent digests here c.in-Some.ensures.steps l.invariant.leads in
+    let leads = next_leads board c.args.filling.now.layout name blocks start all _ c.next.new.self pair l.sent digests here c.in-Some.ensures.steps l.invariant.leads in
     let exact = c.in_ok-build_onto.ensures.exact in
     let t = exact.0 in
-    let built : IsBuilt board c.args.layout pair t = record { of_pair = exact.2; of_layout = exact.3; exact = exact.4 } in
+    let built : IsBuilt board c.args.filling.now.layout pair t = record { of_pair = exact.2; of_layout = exact.3; exact = exact.4 } in
     let within = c.in_ok-build_onto.ensures.within in
     let files = g.F.Folder.files c.keep_table.new.folder in
     let out = g.O.Sink.contents c.tell_file.new.output in
@@ -137,11 +137,11 @@ loop-below-preserved g c =
           append_assoc l.yielded (pair ∷ []) c.next.new.self
           ∙ (ap (λ rest. l.yielded ++ rest) (sym c.in-Some.ensures.steps) ∙ l.invariant.split);
       near =
-          near-more board c.args.layout c.args.pair l.yielded c.next.new.self pair c.below-below-items.ensures.needs_first
+          near-more board c.args.filling.now.layout c.args.filling.now.pair l.yielded c.next.new.self pair c.below-below-items.ensures.needs_first
           (ap (λ rest. l.yielded ++ rest) (sym c.in-Some.ensures.steps) ∙ l.invariant.split)
           l.stock c.spare.new.stock c.build_onto.new.stock l.invariant.near c.spare.ensures.near exact c.in_ok-build_onto.ensures.others;
       leads =
-          done_leads board c.args.layout name blocks l.written.items c.push_reserved.new.self.items w start all c.next.new.self pair l.sent
+          done_leads board c.args.filling.now.layout name blocks l.written.items c.push_reserved.new.self.items w start all c.next.new.self pair l.sent
           c.in_ok-sent.sent here next t leads built within kept.0 kept.1 c.in_ok-sent.ensures.printed c.push_reserved.ensures.items;
       room = c.push_reserved.ensures.capacity ∙ l.invariant.room;
       count = omega (arith, c.push_reserved.ensures.len, l.invariant.count, length-append l.yielded (pair ∷ []));
@@ -155,12 +155,20 @@ loop-below-preserved g c =
 pub returns-clause-filled : goal.returns-clause-filled
 returns-clause-filled g c = λ after result ends.
     let board = g.B.Geometry.shape in
-    let name = c.args.board.now in
-    let blocks = c.args.team.blocks in
+    let name = c.args.filling.now.board.now in
+    let blocks = c.args.filling.now.crew.team.blocks in
     let start = place_of (g.F.Folder.files c.args.folder.now) (g.O.Sink.contents c.args.output.now) in
-    let all = below_of c.args.pair in
+    let all = below_of c.args.filling.now.pair in
     let l = c.loop-below in
     let here = place_of (g.F.Folder.files l.folder) (g.O.Sink.contents l.output) in
     let digests = lines_of name l.written.items in
-    inr (all_done board c.args.layout name blocks start all l.sent digests here after result
-    (no_leads board c.args.layout name blocks start all _ l.sent digests here c.in-None.ensures.steps.0 l.invariant.leads) ends)
+    inr (all_done board c.args.filling.now.layout name blocks start all l.sent digests here after result
+    (no_leads board c.args.filling.now.layout name blocks start all _ l.sent digests here c.in-None.ensures.steps.0 l.invariant.leads) ends)
+
+pub returns-in_err-file-clause-told : goal.returns-in_err-file-clause-told
+returns-in_err-file-clause-told g c =
+    g.met.T.Watch.joins _ _ _ (g.met.T.Watch.joins _ _ _ c.announce.ensures.told c.loop-below.invariant.told) c.build_onto.ensures.told
+
+pub returns-in_err-sent-clause-told : goal.returns-in_err-sent-clause-told
+returns-in_err-sent-clause-told g c =
+    g.met.T.Watch.joins _ _ _ (g.met.T.Watch.joins _ _ _ c.announce.ensures.told c.loop-below.invariant.told) c.build_onto.ensures.told

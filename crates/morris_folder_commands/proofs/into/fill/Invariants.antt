@@ -11,10 +11,10 @@ use Rattle.morris_folder_commands.proofs.into.fill.Given as goal
 -- pairs lead, there lead all; what was told since the start makes up one telling
 abbrev pub invariant-loop-below : goal.invariant-loop-below
 invariant-loop-below g l = record {
-  split : l.yielded ++ l.below-iterator ≡ below_of l.fn.pair;
-  near : HasNear g.B.Geometry.shape l.fn.layout l.stock l.yielded;
-  leads : Leads g.B.Geometry.shape l.fn.layout l.board l.fn.team.blocks
-      (place_of (g.F.Folder.files l.initial.folder) (g.O.Sink.contents l.initial.output)) (below_of l.fn.pair) l.below-iterator l.sent
+  split : l.yielded ++ l.below-iterator ≡ below_of l.fn.filling.pair;
+  near : HasNear g.B.Geometry.shape l.fn.filling.layout l.stock l.yielded;
+  leads : Leads g.B.Geometry.shape l.fn.filling.layout l.board l.fn.filling.crew.team.blocks
+      (place_of (g.F.Folder.files l.initial.folder) (g.O.Sink.contents l.initial.output)) (below_of l.fn.filling.pair) l.below-iterator l.sent
       (digest_lines l.board (λ w. w.pair) (λ w. w.digest) l.written.items) (place_of (g.F.Folder.files l.folder) (g.O.Sink.contents l.output));
   room : vec_capacity l.written ≡ 28;
   count : vec_len l.written ≡ length l.yielded;

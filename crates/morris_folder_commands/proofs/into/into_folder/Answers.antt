@@ -15,5 +15,5 @@ returns-clause-answer g c =
       place_of (g.F.Folder.files c.make.new.self) out,
       record { files = c.make.ensures.kept; out = Keeps-refl out },
       c.in_ok-written.ensures.filled after c.end.result
-          (ends_with c.args.board.now _ c.in_ok-written.written.items here after c.end.result c.as_slice.ensures.value (c.end.ensures.ended told)),
+          (ends_with c.args.filling.now.board.now _ c.in_ok-written.written.items here after c.end.result c.as_slice.ensures.value (c.end.ensures.ended told)),
     )
