@@ -188,7 +188,7 @@ module _ (board : Shape) (n : ℕ) (few : n ≤ 24) (points : board.points ≡ n
     before_here =
         before_placed n few q.pair s (placed board n s points k.lawful) own_most other_most u v u_in (vacant_own _ _ vacant) (vacant_other _ _ vacant) here
 
-    mover_count : count_of before.own ≡ count_of s.other
+    pub mover_count : count_of before.own ≡ count_of s.other
     mover_count =
         before_count n few q.pair s (placed board n s points k.lawful) own_most other_most u v u_in (vacant_own _ _ vacant) (vacant_other _ _ vacant) here
 

@@ -11,4 +11,5 @@ pub mod Falls
 pub mod Carried
 pub mod Facing
 pub mod Standings
+pub mod Halves
 pub mod EntryRows

@@ -5,18 +5,95 @@ ghost use Rattle.morris_board.specs.Sets.{count_of};
 ghost use Rattle.morris_board.specs.Positions.{Sides, IsPosition};
 ghost use Rattle.morris_index.specs.Classes.{symmetry_of, representative_of, class_of, AreLeading};
 ghost use Rattle.morris_index.specs.ClassPairs.{led, class_half_size, class_half_index};
-ghost use Rattle.morris_index.specs.ClassMoves.{class_half_start};
+ghost use Rattle.morris_index.specs.ClassMoves.{class_half_start, class_start_of};
 ghost use Rattle.morris_index.specs.EntryRows.{IsHalfRow};
-ghost use Rattle.morris_index.specs.Pairs.{has_counts, IsHalf};
+ghost use Rattle.morris_index.specs.Halves.{half_of, IsHalfKept};
+ghost use Rattle.morris_index.specs.Pairs.{has_counts, IsHalf, IsPair};
 
 use crate::binomials::binomial;
 use crate::classes::Classes;
-use crate::rank_tables::RankTable;
+use crate::pair::Pair;
+use crate::rank_tables::{RankRows, RankTable};
 use crate::rings::Outside;
 use crate::set_lists::SetList;
 use morris_board::board::Geometry;
 use morris_board::points::Points;
 use morris_board::position::Position;
+use std::marker::Model;
+
+/// The entries of a pair in which the two players have given numbers of stones, and what is kept so
+/// that the class of the stones of the player to move is looked up for many of them.
+#[derive(Drop)]
+pub(crate) struct Half<'a, B: Geometry> {
+    /// The pair.
+    pair: Pair<B>,
+    /// How many stones the player to move has.
+    own: u8,
+    /// How many stones the opponent has.
+    other: u8,
+    /// The classes of the sets of the player to move.
+    classes: &'a Classes<B>,
+    /// The rows by which these sets are ranked.
+    rows: RankRows<'a>,
+    /// The first of the entries.
+    first: u64,
+    /// How many of them there are for a class.
+    choices: u64,
+}
+
+impl<'a, B: Geometry> Model for Half<'a, B> {
+    ghost use Rattle.morris_index.specs.Halves.{HalfOf, half_of, IsHalfKept};
+
+    ghost Value = { HalfOf };
+
+    ghost view = { λ half. half_of half.pair half.own half.other };
+
+    ghost invariant = { λ half. IsHalfKept B.shape B.POINTS (half_of half.pair half.own half.other) half.classes.now half.rows half.first half.choices };
+}
+
+impl<'a, B: Geometry> Half<'a, B> {
+    /// The entries of the pair in which the player to move has `own` stones and the opponent
+    /// `other`; `first` is the first of them.
+    pub(crate) fn of(
+        pair: Pair<B>,
+        own: u8,
+        other: u8,
+        classes: &'a Classes<B>,
+        ranks: &'a RankTable,
+        first: u64,
+        choices: u64,
+    ) -> Half<'a, B>
+        requires few { own ≤ 9 }
+        requires kept { IsHalfKept B.shape B.POINTS (half_of pair own other) classes.now own first choices }
+        ensures { result ≡ half_of pair own other }
+    {
+        Half {
+            pair,
+            own,
+            other,
+            classes,
+            rows: ranks.rows(own),
+            first,
+            choices,
+        }
+    }
+
+    /// The first entry in which the player to move stands on the representative of the class of
+    /// `own`, this representative, all symmetries that lead `own` there, and the class.
+    pub(crate) fn leads_of(&self, own: Points) -> (u64, Outside, Points, u32)
+        requires within { own < 2 ^ B.POINTS }
+        requires count { count_of own ≡ self.now.own }
+        ensures start { result.0 ≡ class_start_of B.shape B.POINTS self.now.pair own self.now.other }
+        ensures representative { result.1 ≡ representative_of B.shape own }
+        ensures symmetries { AreLeading B.shape own result.2 }
+        ensures few { result.0 ≤ 2 ^ 54 }
+        ensures lawful { IsPair B.POINTS self.now.pair }
+    {
+        let (class, representative, symmetries) = self.classes.leads_of(&self.rows, own);
+        let start = self.first + u64::from(class) * self.choices;
+        (start, representative, symmetries, class)
+    }
+}
 
 /// How many entries there are for `own` stones of the player to move and `other` of the opponent.
 pub(crate) fn class_half_size<B: Geometry>(classes: &Classes<B>, own: u8, other: u8) -> u64
@@ -65,31 +142,6 @@ pub(crate) fn class_half_start<B: Geometry>(
     let (class, symmetry) = classes.class_of(own);
     let choices = binomial(B::POINTS - own.count(), other);
     (u64::from(class) * choices, symmetry)
-}
-
-/// The same number of an entry, where there are `choices` entries for each class; the
-/// representative, all symmetries that lead `own` there, and the class.
-pub(crate) fn class_half_leads<B: Geometry>(
-    classes: &Classes<B>,
-    ranks: &RankTable,
-    own: Points,
-    choices: u64,
-) -> (u64, Outside, Points, u32)
-    requires classes { classes.now ≡ count_of own }
-    requires within { own < 2 ^ B.POINTS }
-    requires few { choices < 2 ^ 21 }
-    ensures start { result.0 ≡ class_of B.shape own * choices }
-    ensures representative { result.1 ≡ representative_of B.shape own }
-    ensures symmetries { AreLeading B.shape own result.2 }
-    ensures few { result.0 < 2 ^ 53 }
-{
-    let (class, representative, symmetries) = classes.leads_of(ranks, own);
-    (
-        u64::from(class) * choices,
-        representative,
-        symmetries,
-        class,
-    )
 }
 
 /// The position of the entry with this number among those with `own` stones of the player to move

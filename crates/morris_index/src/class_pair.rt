@@ -10,14 +10,15 @@ ghost use Rattle.morris_index.specs.ClassPairs.{led, class_size_of, class_index_
 ghost use Rattle.morris_index.specs.ClassMoves.{class_start_of};
 ghost use Rattle.morris_index.specs.EntryRows.{row_end};
 ghost use Rattle.morris_index.specs.Falls.{HasEntry};
+ghost use Rattle.morris_index.specs.Halves.{half_of};
 ghost use Rattle.morris_index.specs.Carried.{IsReturning};
 ghost use Rattle.morris_index.specs.Standings.{are_of};
 
 use crate::binomials::binomial;
 use crate::class_halves::{
-    class_half_index, class_half_leads, class_half_position, class_half_row, class_half_size,
+    Half, class_half_index, class_half_position, class_half_row, class_half_size,
 };
-use crate::classes::Classes;
+use crate::classes::{Classes, first_leading};
 use crate::entry_rows::EntryRow;
 use crate::falls::FallsOn;
 use crate::halves::next_of_own;
@@ -151,63 +152,48 @@ impl<B: Geometry> ClassPair<B> {
     }
 
     /// The first entry in which the player to move stands on the representative of the class of
-    /// `own`, where the opponent has as many stones as `other`; and the symmetry that leads `own`
-    /// there.
-    pub(crate) fn start_of(&self, own: Points, other: Points) -> (u64, u8)
-        requires within { own < 2 ^ B.POINTS }
-        requires counts { is_of self.now (sides own other) ≡ true }
-        ensures start { result.0 ≡ class_start_of B.shape B.POINTS self.now own (count_of other) }
-        ensures symmetry { result.1 ≡ symmetry_of B.shape own }
-        ensures one { result.1 < B.SYMMETRIES }
-        ensures few { result.0 ≤ 2 ^ 54 }
-    {
-        self.start_by(own, other.count())
-    }
-
-    /// The same, where the opponent has `other` stones.
-    pub(crate) fn start_by(&self, own: Points, other: u8) -> (u64, u8)
+    /// `own`, where the opponent has `other` stones; this representative, and the symmetry that leads
+    /// `own` there.
+    pub(crate) fn start_of(&self, own: Points, other: u8) -> (u64, Outside, u8)
         requires within { own < 2 ^ B.POINTS }
         requires counts { are_of self.now (count_of own) other ≡ true }
         ensures start { result.0 ≡ class_start_of B.shape B.POINTS self.now own other }
-        ensures symmetry { result.1 ≡ symmetry_of B.shape own }
-        ensures one { result.1 < B.SYMMETRIES }
+        ensures representative { result.1 ≡ representative_of B.shape own }
+        ensures symmetry { result.2 ≡ symmetry_of B.shape own }
+        ensures one { result.2 < B.SYMMETRIES }
         ensures few { result.0 ≤ 2 ^ 54 }
     {
-        if own.count() == self.pair.greater() {
-            let (class, symmetry) = self.greater.class_of(own);
-            (u64::from(class) * self.greater_choices, symmetry)
-        } else {
-            let (class, symmetry) = self.lesser.class_of(own);
-            (
-                self.first + u64::from(class) * self.lesser_choices,
-                symmetry,
-            )
-        }
+        let (start, representative, leading, _) = self.leads_of(own, other);
+        (start, representative, first_leading::<B>(own, leading))
     }
 
     /// The same first entry, the representative, all symmetries that lead `own` there, and the
     /// class.
-    pub(crate) fn leads_of(&self, own: Points, other: Points) -> (u64, Outside, Points, u32)
+    pub(crate) fn leads_of(&self, own: Points, other: u8) -> (u64, Outside, Points, u32)
         requires within { own < 2 ^ B.POINTS }
-        requires counts { is_of self.now (sides own other) ≡ true }
-        ensures start { result.0 ≡ class_start_of B.shape B.POINTS self.now own (count_of other) }
+        requires counts { are_of self.now (count_of own) other ≡ true }
+        ensures start { result.0 ≡ class_start_of B.shape B.POINTS self.now own other }
         ensures representative { result.1 ≡ representative_of B.shape own }
         ensures symmetries { AreLeading B.shape own result.2 }
         ensures few { result.0 ≤ 2 ^ 54 }
         ensures lawful { IsPair B.POINTS self.now }
     {
+        self.half(own.count(), other).leads_of(own)
+    }
+
+    /// The entries in which the player to move has `own` stones and the opponent `other`.
+    pub(crate) fn half(&self, own: u8, other: u8) -> Half<'_, B>
+        requires { are_of self.now own other ≡ true }
+        ensures { result ≡ half_of self.now own other }
+    {
+        // The proof learns here that the numbers of stones are those of a pair.
         let greater = self.pair.greater();
-        if own.count() == greater {
-            class_half_leads(&self.greater, &self.ranks, own, self.greater_choices)
+        let (classes, first, choices) = if own == greater {
+            (&self.greater, 0, self.greater_choices)
         } else {
-            let (start, representative, symmetries, class) = class_half_leads(
-                &self.lesser,
-                &self.ranks,
-                own,
-                self.lesser_choices,
-            );
-            (self.first + start, representative, symmetries, class)
-        }
+            (&self.lesser, self.first, self.lesser_choices)
+        };
+        Half::of(self.pair, own, other, classes, &self.ranks, first, choices)
     }
 
     /// The rank of `set` among the sets of as many points, which are `count`, that have none in
@@ -228,10 +214,14 @@ impl<B: Geometry> ClassPair<B> {
         requires counts { is_of self.now (sides own other) ≡ true }
         ensures { IsReturning B.shape own result }
     {
-        if own.count() == self.pair.greater() {
-            returning_of(&self.greater, &self.ranks, &self.greater_returning, own)
+        // The proof learns here that the numbers of stones are those of a pair.
+        let greater = self.pair.greater();
+        let count = own.count();
+        let rows = self.ranks.rows(count);
+        if count == greater {
+            returning_of(&self.greater, &rows, &self.greater_returning, own)
         } else {
-            returning_of(&self.lesser, &self.ranks, &self.lesser_returning, own)
+            returning_of(&self.lesser, &rows, &self.lesser_returning, own)
         }
     }
 

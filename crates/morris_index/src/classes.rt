@@ -7,7 +7,7 @@ ghost use Rattle.morris_index.specs.Numbering.{IsRanked};
 ghost use Rattle.morris_index.specs.Classes.{symmetry_of, representative_of, is_representative, classes_below, class_of, class_count, AreLeading, IsKept, classes_in, leading_in};
 
 use crate::binomials::binomial;
-use crate::rank_tables::RankTable;
+use crate::rank_tables::RankRows;
 use crate::ranks::{self, following, least};
 use crate::rings::Outside;
 use morris_board::board::Geometry;
@@ -103,23 +103,22 @@ impl<B: Geometry> Classes<B> {
         ensures one { result.1 < B.SYMMETRIES }
     {
         let lead = self.kept.leads[ranks::rank(set) as usize];
-        match Points::from_mask(lead.leading).first() {
-            Some(symmetry) => (lead.class, symmetry),
-            None => unreachable!(),
-        }
+        let leading = Points::from_mask(lead.leading);
+        (lead.class, first_leading::<B>(set, leading))
     }
 
     /// The class of a set of as many points as the classes are of, its representative, and all
     /// symmetries that lead the set there.
-    pub(crate) fn leads_of(&self, ranks: &RankTable, set: Points) -> (u32, Outside, Points)
+    pub(crate) fn leads_of(&self, rows: &RankRows<'_>, set: Points) -> (u32, Outside, Points)
         requires within { set < 2 ^ B.POINTS }
         requires count { count_of set ≡ self.now }
+        requires rows { rows.now ≡ self.now }
         ensures class { result.0 ≡ class_of B.shape set }
         ensures below { result.0 < class_count B.shape self.now }
         ensures representative { result.1 ≡ representative_of B.shape set }
         ensures symmetries { AreLeading B.shape set result.2 }
     {
-        let lead = self.kept.leads[ranks.rank(set, self.count) as usize];
+        let lead = self.kept.leads[rows.rank(set) as usize];
         let symmetries = Points::from_mask(lead.leading);
         (lead.class, self.outside_of(lead.class), symmetries)
     }
@@ -145,6 +144,19 @@ impl<B: Geometry> Classes<B> {
         ensures within { result < 2 ^ B.POINTS }
     {
         self.kept.representatives[class as usize]
+    }
+}
+
+/// The least of all symmetries that lead a set to its representative.
+pub(crate) fn first_leading<B: Geometry>(set: Points, leading: Points) -> u8
+    requires within { set < 2 ^ B.POINTS }
+    requires leading { AreLeading B.shape set leading }
+    ensures symmetry { result ≡ symmetry_of B.shape set }
+    ensures one { result < B.SYMMETRIES }
+{
+    match leading.first() {
+        Some(symmetry) => symmetry,
+        None => unreachable!(),
     }
 }
 

@@ -148,7 +148,7 @@ impl<'a, B: Geometry> Facing<'a, B> {
         requires { is_of pair.now position.now ≡ true }
         ensures { result ≡ in_pair pair.now position.now }
     {
-        let (start, _) = pair.start_of(position.own(), position.other());
+        let (start, _, _) = pair.start_of(position.own(), position.other().count());
         // The proof learns here that the numbers of stones are those of a pair.
         let _ = pair.pair();
         Facing {
@@ -186,7 +186,9 @@ impl<'a, B: Geometry> Facing<'a, B> {
         ensures few { result.0 ≤ 2 ^ 54 }
         ensures carrying { (t : ℕ) → has result.2 t ≡ (nat_lt t B.SYMMETRIES && carries B.shape position.now position.now.other t) }
     {
-        let (start, representative, leading, class) = self.pair.leads_of(from.own(), from.other());
+        let (start, representative, leading, class) = self
+            .pair
+            .leads_of(from.own(), from.other().count());
         (start, representative, leading.common(self.returning), class)
     }
 

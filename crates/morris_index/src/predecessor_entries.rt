@@ -5,6 +5,7 @@ ghost use Rattle.morris_index.specs.Pairs.{is_of};
 ghost use Rattle.morris_index.specs.Moves.{in_pair};
 ghost use Rattle.morris_index.specs.Carried.{entries_before, AddsEntries};
 
+use crate::class_halves::Half;
 use crate::class_pair::ClassPair;
 use crate::returning::Returning;
 use morris_board::board::Geometry;
@@ -22,6 +23,8 @@ pub struct PredecessorEntries<'a, B: Geometry> {
     position: Position<B>,
     /// How many stones the player to move has.
     count: u8,
+    /// The entries of the positions before it.
+    before: Half<'a, B>,
     /// The images of the stones of the player to move, and the symmetries whose inverse is the one
     /// that leads the image under them.
     returning: Returning,
@@ -32,12 +35,14 @@ impl<'a, B: Geometry> Model for PredecessorEntries<'a, B> {
     ghost use Rattle.std.specs.Prelude.{◌≡◌};
     ghost use Rattle.morris_board.specs.Sets.{count_of};
     ghost use Rattle.morris_index.specs.Carried.{IsCarriedBack};
+    ghost use Rattle.morris_index.specs.Halves.{half_of};
 
     ghost Value = { InPair };
 
     ghost view = { λ entries. in_pair entries.pair.now entries.position };
 
-    ghost invariant = { λ entries. IsCarriedBack B.shape (in_pair entries.pair.now entries.position) entries.returning × (entries.count ≡ count_of entries.position.own) };
+    ghost invariant = { λ entries. IsCarriedBack B.shape (in_pair entries.pair.now entries.position) entries.returning × (entries.count ≡ count_of entries.position.own)
+        × (entries.before ≡ half_of entries.pair.now (count_of entries.position.other) (count_of entries.position.own)) };
 }
 
 impl<'a, B: Geometry> PredecessorEntries<'a, B> {
@@ -47,10 +52,12 @@ impl<'a, B: Geometry> PredecessorEntries<'a, B> {
         ensures { result ≡ in_pair pair.now position.now }
     {
         let returning = pair.returning_of(position.own(), position.other());
+        let count = position.own().count();
         PredecessorEntries {
             pair,
             position: *position,
-            count: position.own().count(),
+            count,
+            before: pair.half(position.other().count(), count),
             returning,
         }
     }
@@ -71,9 +78,8 @@ impl<'a, B: Geometry> PredecessorEntries<'a, B> {
         // In which order: that of the symmetries.
         ensures carried { OnOk result (out.new.items ≡ out.old.items ++ entries_before B.shape B.POINTS self.now.pair self.now.position from to) }
     {
-        let own = self.position.own();
         let mover = self.position.other().without(to).with(from);
-        let (start, representative, leading, _) = self.pair.leads_of(mover, own);
+        let (start, representative, leading, _) = self.before.leads_of(mover);
         let carrying = leading.common(self.returning.symmetries);
         for symmetry in carrying.iter() {
             let image = self.returning.image(symmetry);

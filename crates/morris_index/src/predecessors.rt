@@ -45,7 +45,7 @@ impl<B: Geometry> Model for PredecessorIndices<B> {
 
 impl<B: Geometry> PredecessorIndices<B> {
     /// What is to be kept of a position of the pair.
-    // Out of line, so that an enum that may hold this is made without copies where it doesn't.
+    // Out of line, so that what may do without it doesn't make room for its sums.
     #[inline(never)]
     pub fn of(pair: &Pair<B>, position: &Position<B>) -> PredecessorIndices<B>
         requires { is_of pair.now position.now ≡ true }

@@ -8,6 +8,7 @@ use crate::parts::{part_rank, part_size};
 use crate::rings::{Outside, RingTable};
 use morris_board::points::Points;
 use std::alloc::{AllocError, Global};
+use std::marker::Model;
 
 /// How many sums the table has: eleven rows of 4,096, one sum for each half of a set.
 const SUMS: u32 = 45056;
@@ -74,17 +75,17 @@ impl RankTable {
         })
     }
 
-    /// The rank of `set` among the sets of as many points, which are `count`.
-    pub(crate) fn rank(&self, set: Points, count: u8) -> u64
-        requires board { set < 2 ^ 24 }
-        requires counted { count ≡ count_of set }
-        requires few { count_of set ≤ 9 }
-        ensures { result ≡ rank_of (map (number_outside 0) (members set)) }
+    /// The rows by which sets of `count` points are ranked.
+    pub(crate) fn rows(&self, count: u8) -> RankRows<'_>
+        requires { count ≤ 9 }
+        ensures { result ≡ count }
     {
-        let lower = set.mask() % 4096;
-        let upper = set.mask() / 4096;
-        let row = 1 + u32::from(count);
-        u64::from(self.sums[lower as usize]) + u64::from(self.sums[(row * 4096 + upper) as usize])
+        let upper = (1 + usize::from(count)) * 4096;
+        RankRows {
+            count,
+            lower: &self.sums[..4096],
+            upper: &self.sums[upper..upper + 4096],
+        }
     }
 
     /// The rank of `set` among the sets of as many points, which are `count`, that have none in
@@ -96,6 +97,41 @@ impl RankTable {
         requires apart { (p : ℕ) → has set p ≡ true → has outside p ≡ false }
         ensures { result ≡ rank_of (map (number_outside outside) (members set)) }
     {
-        self.rank(self.rings.squeezed(set, outside), count)
+        self.rows(count).rank(self.rings.squeezed(set, outside))
+    }
+}
+
+/// The two rows of the table by which sets of one number of points are ranked.
+#[derive(Drop)]
+pub(crate) struct RankRows<'a> {
+    /// How many points the sets have.
+    count: u8,
+    /// What the points 0 to 11 add to a rank.
+    lower: &'a [u32],
+    /// What the points 12 to 23 add to it.
+    upper: &'a [u32],
+}
+
+impl<'a> Model for RankRows<'a> {
+    ghost use Rattle.std.specs.Prelude.{ℕ};
+    ghost use Rattle.morris_index.specs.Parts.{AreRankRows};
+
+    ghost Value = { ℕ };
+
+    ghost view = { λ rows. rows.count };
+
+    ghost invariant = { λ rows. AreRankRows rows.count rows.lower.now rows.upper.now };
+}
+
+impl<'a> RankRows<'a> {
+    /// The rank of `set` among the sets of as many points.
+    pub(crate) fn rank(&self, set: Points) -> u64
+        requires board { set < 2 ^ 24 }
+        requires counted { count_of set ≡ self.now }
+        ensures { result ≡ rank_of (map (number_outside 0) (members set)) }
+    {
+        let lower = set.mask() % 4096;
+        let upper = set.mask() / 4096;
+        u64::from(self.lower[lower as usize]) + u64::from(self.upper[upper as usize])
     }
 }

@@ -6,7 +6,7 @@ ghost use Rattle.morris_index.specs.Classes.{class_count};
 ghost use Rattle.morris_index.specs.Carried.{IsReturning, IsReturningKept};
 
 use crate::classes::Classes;
-use crate::rank_tables::RankTable;
+use crate::rank_tables::RankRows;
 use morris_board::board::Geometry;
 use morris_board::points::Points;
 use std::alloc::{AllocError, Global};
@@ -69,16 +69,17 @@ pub(crate) fn keep_returning<B: Geometry>(
 /// What is kept of `own`, which is at hand where it is the representative of its class.
 pub(crate) fn returning_of<B: Geometry>(
     classes: &Classes<B>,
-    ranks: &RankTable,
+    rows: &RankRows<'_>,
     kept: &[Returning],
     own: Points,
 ) -> Returning
     requires within { own < 2 ^ B.POINTS }
     requires count { count_of own ≡ classes.now }
+    requires rows { rows.now ≡ classes.now }
     requires kept { IsReturningKept B.shape B.POINTS classes.now (class_count B.shape classes.now) kept.now }
     ensures { IsReturning B.shape own result }
 {
-    let (class, representative, _) = classes.leads_of(ranks, own);
+    let (class, representative, _) = classes.leads_of(rows, own);
     if representative.points() == own {
         kept[class as usize]
     } else {

@@ -87,8 +87,7 @@ impl<B: Geometry> ClassPair<B> {
         ensures own { result.own ≡ own }
         ensures stands { IsLedStanding B.shape B.POINTS self.now other result }
     {
-        let (start, symmetry) = self.start_by(own, other);
-        let place = Outside::of(B::image_of(symmetry, own));
+        let (start, place, symmetry) = self.start_of(own, other);
         Standing {
             own,
             start,

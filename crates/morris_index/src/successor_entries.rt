@@ -52,17 +52,18 @@ impl<'a, B: Geometry> SuccessorEntries<'a, B> {
         requires { is_of pair.now position.now ≡ true }
         ensures { result ≡ in_pair pair.now position.now }
     {
-        let (start, symmetry) = pair.start_of(position.other(), position.own());
+        let count = position.own().count();
+        let (start, place, symmetry) = pair.start_of(position.other(), count);
         // The proof learns here that the numbers of stones are those of a pair.
         let _ = pair.pair();
         let led = position.image(symmetry);
         SuccessorEntries {
             pair,
             position: *position,
-            count: position.own().count(),
+            count,
             symmetry,
             led,
-            place: Outside::of(led.other()),
+            place,
             start,
         }
     }

@@ -7,11 +7,8 @@ use Rattle.morris_index.proofs.classes.Classes.leads_of.Goals as goal
 pub rank-requires-clause-board : goal.rank-requires-clause-board
 rank-requires-clause-board g c = within_24 c.args.set g.B.Geometry.POINTS c.requires.within (omega (arith, g.met.B.Geometry.few))
 
-pub rank-requires-clause-few : goal.rank-requires-clause-few
-rank-requires-clause-few g c = omega (arith, c.requires.count, c.self.view_is, c.self.invariant.few)
-
 pub rank-requires-clause-counted : goal.rank-requires-clause-counted
-rank-requires-clause-counted g c = sym (c.requires.count ∙ sym c.self.view_is)
+rank-requires-clause-counted g c = c.requires.count ∙ sym c.requires.rows
 
 pub index-lead-requires : goal.index-lead-requires
 index-lead-requires g c =

@@ -19,13 +19,14 @@ pub leads_of-start-requires-clause-counts : goal.leads_of-start-requires-clause-
 leads_of-start-requires-clause-counts g c =
     let of : is_of c.self.inside.pair.now c.args.position.now ≡ true =
     subst (λ (q : InPair). is_of q.pair c.args.position.now ≡ true) (sym c.self.view_is) c.requires.counts in
-    rw (c.own.ensures.points, c.other.ensures.points, c.requires.from) (turned_of c.self.inside.pair.now c.args.position.now of)
+    rw (c.own.ensures.points, c.count.ensures.value, c.other.ensures.points, c.requires.from) (turned_of c.self.inside.pair.now c.args.position.now of)
 
 pub returns-clause-start : goal.returns-clause-start
 returns-clause-start g c =
     rw (← c.self.view_is) (c.leads_of-start.ensures.start
-    ∙ ap₂ (λ a b. class_start_of g.B.Geometry.shape g.B.Geometry.POINTS c.self.inside.pair.now a (count_of b))
-    (c.own.ensures.points ∙ ap (λ (s : Sides). s.own) c.requires.from) (c.other.ensures.points ∙ ap (λ (s : Sides). s.other) c.requires.from))
+    ∙ ap₂ (λ a b. class_start_of g.B.Geometry.shape g.B.Geometry.POINTS c.self.inside.pair.now a b)
+    (c.own.ensures.points ∙ ap (λ (s : Sides). s.own) c.requires.from)
+    (c.count.ensures.value ∙ ap count_of (c.other.ensures.points ∙ ap (λ (s : Sides). s.other) c.requires.from)))
 
 pub returns-clause-carrying : goal.returns-clause-carrying
 returns-clause-carrying g c =

@@ -7,11 +7,12 @@ use Rattle.morris_index.specs.Classes.{AreLeading}
 use Rattle.morris_index.specs.ClassPairs.{class_index_of}
 use Rattle.morris_index.specs.Moves.{InPair, in_pair, taken_back}
 use Rattle.morris_index.specs.Carried.{entries_before}
+use Rattle.morris_index.specs.Halves.{HalfOf}
 use Rattle.morris_index.specs.Pairs.{IsPair, is_of}
 use Rattle.morris_board.specs.Positions.{IsPosition}
 use Rattle.morris_index.proofs.StepLaws.{adds_entries}
 use Rattle.morris_index.proofs.MoveLaws.{other_lt}
-use Rattle.morris_index.proofs.CarriedLaws.{member_has, split_after, pushed, before_here, before_of, members_are, carrying_low, image_kept, image_24, image_count, image_few, image_apart, entry_few, entry_is}
+use Rattle.morris_index.proofs.CarriedLaws.{mover_count, member_has, split_after, pushed, before_here, members_are, carrying_low, image_kept, image_24, image_count, image_few, image_apart, entry_few, entry_is}
 use Rattle.morris_index.proofs.predecessor_entries.PredecessorEntries.add.Goals as goal
 
 pub without-requires : goal.without-requires
@@ -28,14 +29,14 @@ leads_of-start-requires-clause-within g c =
     c.with-mover.ensures ∙ ap (λ x. with_point x c.args.from) (c.without.ensures ∙ ap (λ x. without_point x c.args.to) c.other.ensures.points) in
     rw mover (before_here g.B.Geometry.shape g.B.Geometry.POINTS (omega (arith, g.met.B.Geometry.few)) g.met.B.Geometry.point_count g.met.B.Geometry.has_symmetries (in_pair c.self.inside.pair.now c.self.inside.position) c.self.inside.returning c.self.invariant.0 c.args.from c.args.to c.requires.start vacant end).own_within
 
-pub leads_of-start-requires-clause-counts : goal.leads_of-start-requires-clause-counts
-leads_of-start-requires-clause-counts g c =
+pub leads_of-start-requires-clause-count : goal.leads_of-start-requires-clause-count
+leads_of-start-requires-clause-count g c =
     let end : has c.self.inside.position.other c.args.to ≡ true = ap (λ (q : InPair). has q.position.other c.args.to) c.self.view_is ∙ c.requires.end in
     let vacant : not (has c.self.inside.position.own c.args.from || has c.self.inside.position.other c.args.from) ≡ true =
     ap (λ (q : InPair). not (has q.position.own c.args.from || has q.position.other c.args.from)) c.self.view_is ∙ c.requires.vacant in
     let mover : c.with-mover.result ≡ (taken_back c.self.inside.position c.args.from c.args.to).own =
     c.with-mover.ensures ∙ ap (λ x. with_point x c.args.from) (c.without.ensures ∙ ap (λ x. without_point x c.args.to) c.other.ensures.points) in
-    rw (mover, c.own-own.ensures.points) (before_of g.B.Geometry.shape g.B.Geometry.POINTS (omega (arith, g.met.B.Geometry.few)) g.met.B.Geometry.point_count g.met.B.Geometry.has_symmetries (in_pair c.self.inside.pair.now c.self.inside.position) c.self.inside.returning c.self.invariant.0 c.args.from c.args.to c.requires.start vacant end)
+    rw (mover, c.self.invariant.2) (mover_count g.B.Geometry.shape g.B.Geometry.POINTS (omega (arith, g.met.B.Geometry.few)) g.met.B.Geometry.point_count g.met.B.Geometry.has_symmetries (in_pair c.self.inside.pair.now c.self.inside.position) c.self.inside.returning c.self.invariant.0 c.args.from c.args.to c.requires.start vacant end)
 
 pub loop-symmetry-init : goal.loop-symmetry-init
 loop-symmetry-init g c = record { split = refl; added = sym (append-nil _) }
@@ -149,7 +150,7 @@ loop-symmetry-preserved g c =
     c.image-image.ensures
     ∙ image_kept g.B.Geometry.shape g.B.Geometry.POINTS (omega (arith, g.met.B.Geometry.few)) g.met.B.Geometry.point_count g.met.B.Geometry.has_symmetries (in_pair c.self.inside.pair.now c.self.inside.position) c.self.inside.returning c.self.invariant.0 c.args.from c.args.to c.requires.start vacant end c.leads_of-start.result.2 c.common-carrying.result leads c.common-carrying.ensures c.in-Some.symmetry inside in
     let entry : c.leads_of-start.result.0 + c.rank_outside.result ≡ class_index_of g.B.Geometry.shape g.B.Geometry.POINTS c.self.inside.pair.now (image_sides (g.B.Geometry.shape.image c.in-Some.symmetry) (taken_back c.self.inside.position c.args.from c.args.to)) =
-    rw (c.rank_outside.ensures, at, c.leads_of-start.ensures.start, c.leads_of-start.ensures.representative, c.own-own.ensures.points, mover)
+    rw (c.rank_outside.ensures, at, c.leads_of-start.ensures.start, c.leads_of-start.ensures.representative, c.self.invariant.2, mover)
     (entry_is g.B.Geometry.shape g.B.Geometry.POINTS (omega (arith, g.met.B.Geometry.few)) g.met.B.Geometry.point_count g.met.B.Geometry.has_symmetries (in_pair c.self.inside.pair.now c.self.inside.position) c.self.inside.returning c.self.invariant.0 c.args.from c.args.to c.requires.start vacant end c.leads_of-start.result.2 c.common-carrying.result leads c.common-carrying.ensures c.in-Some.symmetry inside) in
     record {
       split = split_after c.loop-symmetry.yielded _ c.in-Some.symmetry _ _ c.in-Some.ensures.steps c.loop-symmetry.invariant.split;
@@ -176,7 +177,7 @@ returns-clause-carried g c =
 pub returns-clause-added : goal.returns-clause-added
 returns-clause-added g c =
     adds_entries g.B.Geometry.shape g.B.Geometry.POINTS (omega (arith, g.met.B.Geometry.few)) g.met.B.Geometry.point_count g.met.B.Geometry.has_symmetries
-    c.args.self.now.pair (subst (λ (q : InPair). IsPair g.B.Geometry.POINTS q.pair) c.self.view_is c.leads_of-start.ensures.lawful)
+    c.args.self.now.pair (subst (λ (q : InPair). IsPair g.B.Geometry.POINTS q.pair) c.self.view_is (subst (λ (h : HalfOf). IsPair g.B.Geometry.POINTS h.pair) c.self.invariant.2 c.leads_of-start.ensures.lawful))
     c.args.self.now.position (subst (λ (q : InPair). IsPosition g.B.Geometry.shape q.position) c.self.view_is c.self.invariant.0.lawful)
     (subst (λ (q : InPair). is_of q.pair q.position ≡ true) c.self.view_is c.self.invariant.0.counts) c.args.from c.args.to c.requires.start c.requires.vacant
     c.requires.end c.args.out.now.items c.loop-symmetry.out.items (returns-clause-carried g c)
