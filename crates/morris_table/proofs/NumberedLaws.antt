@@ -1,15 +1,14 @@
 -- The moves of a position, from what is kept of its own stones by the numbers of the points that
 -- they leave free.
-use Rattle.std.proofs.Common.{◌≡◌, ℕ, zero, suc, ◌+◌, ◌<◌, ◌≤◌, ◌^◌, Bool, true, false, not, ◌&&◌, ◌||◌, eqb, ltb, List, [], ◌∷◌, map, length, filter, slice_index, slice_set, refl, sym, ap, ap₂, subst, ◌∙◌, inl, inr, arith}
+use Rattle.std.proofs.Common.{◌≡◌, ℕ, zero, suc, ◌+◌, ◌*◌, ◌/◌, ◌%◌, ◌<◌, ◌≤◌, ◌^◌, Bool, true, false, not, ◌&&◌, ◌||◌, cond, eqb, ltb, List, [], ◌∷◌, map, length, filter, refl, sym, ap, ap₂, subst, ◌∙◌, inl, inr, arith}
 use Rattle.std.proofs.lemmas.Bool.{cases_Bool, cases_eq, both_ways, eq-eqb, ne_eqb, and_parts, and_from, not-true, false_from_ne_true, ltb-true}
-use Rattle.std.proofs.lemmas.Grind.{get_or-set_at}
-use Rattle.std.proofs.lemmas.List.{get_or-set_other}
 use Rattle.std.proofs.lemmas.List.Sums.{sum_by-cons}
-use Rattle.std.specs.List.{Contains, sum_by, list_any}
-use Rattle.morris_board.specs.Sets.{has, members}
+use Rattle.std.specs.List.{Contains, sum_by, list_any, range_with_len}
+use Rattle.morris_board.specs.Sets.{has, members, count_of}
 use Rattle.morris_board.specs.Boards.{Shape}
 use Rattle.morris_board.specs.Positions.{Sides}
 use Rattle.morris_board.proofs.PointsLaws.{has-none}
+use Rattle.morris_board.proofs.PositionLaws.{own_count}
 use Rattle.morris_moves.specs.Rules.{moves_of}
 use Rattle.morris_moves.proofs.ListLaws.{Contains-head, Contains-tail}
 use Rattle.morris_moves.proofs.SetLaws.{point_lt, has-member}
@@ -19,12 +18,12 @@ use Rattle.morris_index.specs.Parts.{squeezed_below}
 use Rattle.morris_index.specs.Sums.{total}
 use Rattle.morris_index.proofs.RankLaws.{number-outside, number-inside, number-count}
 use Rattle.morris_index.proofs.NumberLaws.{number_has, numbers_members}
-use Rattle.morris_index.proofs.Squeezing.{squeezed-24}
 use Rattle.morris_table.specs.PairNets.{is_quiet, is_capture}
 use Rattle.morris_table.specs.Rows.{arrivals, may_close}
-use Rattle.morris_table.specs.NumberedRows.{IsNumbered, AreNumbers}
+use Rattle.morris_table.specs.NumberedRows.{digit, count_at, IsNumbered, AreNumbers}
 use Rattle.morris_table.specs.declared.numbered_row.NumberedRow.{NumberedRow}
-use Rattle.morris_table.proofs.RowLaws.{quiet_by_row}
+use Rattle.morris_table.specs.declared.numbered_row.SmallCounts.{SmallCounts}
+use Rattle.morris_table.proofs.RowLaws.{arrivals-most, quiet_by_row}
 use Rattle.morris_table.proofs.CaptureLaws.{some_closing}
 
 -- ---- what is kept, one point more
@@ -46,15 +45,21 @@ module _ (own : ℕ) where
     ]
   ]
 
-  module _ (f : ℕ → ℕ) (kept : List ℕ) (n : ℕ) (before : (v : ℕ) → v < n → has own v ≡ false → slice_index kept (number v) ≡ f v) where
-    pub each-free : (m x : ℕ) → m ≡ number n → m < length kept → x ≡ f n → (v : ℕ) → v < n + 1 → has own v ≡ false
-        → slice_index (slice_set kept m x) (number v) ≡ f v
-    each-free m x at inside is v h free = elim (cases_eq v n) [
-      | inl e ↦ get_or-set_at kept m (number v) x 0 (ap number e ∙ sym at) inside ∙ (is ∙ ap f (sym e))
-      | inr d ↦ get_or-set_other kept m (number v) x 0 (λ e. omega (arith, e, at, number_lt v n (omega arith) free)) ∙ before v (omega arith) free
+  module _ (f kept : ℕ → ℕ) (n : ℕ) (before : (v : ℕ) → v < n → has own v ≡ false → kept (number v) ≡ f v) where
+    pub each-free : (m x : ℕ) (next : ℕ → ℕ) → m ≡ number n → kept m ≡ 0 → ((k : ℕ) → next k ≡ kept k + cond (eqb k m) x 0) → x ≡ f n
+        → (v : ℕ) → v < n + 1 → has own v ≡ false → next (number v) ≡ f v
+    each-free m x next at none each is v h free = elim (cases_eq v n) [
+      | inl e ↦
+          let here : number v ≡ m = ap number e ∙ sym at in
+          let more : cond (eqb (number v) m) x 0 ≡ x = ap (λ t. cond t x 0) (eq-eqb (number v) m here) in
+          omega (arith, each (number v), more, ap kept here, none, is, ap f e)
+      | inr d ↦
+          let same : cond (eqb (number v) m) x 0 ≡ 0 =
+          ap (λ t. cond t x 0) (ne_eqb (number v) m (λ e. omega (arith, e, at, number_lt v n (omega arith) free))) in
+          omega (arith, each (number v), same, before v (omega arith) free)
     ]
 
-    pub each-own : has own n ≡ true → (v : ℕ) → v < n + 1 → has own v ≡ false → slice_index kept (number v) ≡ f v
+    pub each-own : has own n ≡ true → (v : ℕ) → v < n + 1 → has own v ≡ false → kept (number v) ≡ f v
     each-own y v h free = elim (cases_eq v n) [
       | inl e ↦ absurd (both_ways (has own v) free (ap (has own) e ∙ y))
       | inr d ↦ before v (omega arith) free
@@ -85,11 +90,105 @@ module _ (own : ℕ) where
         → (k : ℕ) → m + 1 ≤ k → has next k ≡ false
     above-free m next x at each k h = each k ∙ rw (above k (omega arith), ne_eqb k m (λ e. omega arith)) refl
 
-pub few-more : (kept : List ℕ) (i x : ℕ) → i < length kept → x ≤ 32 → ((k : ℕ) → slice_index kept k ≤ 32) → (k : ℕ) → slice_index (slice_set kept i x) k ≤ 32
-few-more kept i x inside few before k = elim (cases_eq k i) [
-  | inl e ↦ omega (arith, get_or-set_at kept i k x 0 e inside, few)
-  | inr d ↦ omega (arith, get_or-set_other kept i k x 0 d, before k)
+pub none-above : (kept next : ℕ → ℕ) (m x : ℕ) → ((k : ℕ) → m ≤ k → kept k ≡ 0) → ((k : ℕ) → next k ≡ kept k + cond (eqb k m) x 0)
+    → (k : ℕ) → m + 1 ≤ k → next k ≡ 0
+none-above kept next m x none each k h =
+    let same : cond (eqb k m) x 0 ≡ 0 = ap (λ t. cond t x 0) (ne_eqb k m (λ e. omega arith)) in
+    omega (arith, each k, same, none k (omega arith))
+
+-- ---- counts in binary
+
+digit_here : (old new : Bool) (y : ℕ) → new ≡ (old || (true && eqb y 1)) → digit old ≡ 0 → y < 2 → digit new ≡ y
+digit_here true new y is none low = absurd (omega arith)
+digit_here false new y is none low = elim (cases_eq y 1) [
+  | inl e ↦ rw (is, eq-eqb y 1 e) (sym e)
+  | inr d ↦ rw (is, ne_eqb y 1 d) (omega arith)
 ]
+
+digit_there : (old new y : Bool) → new ≡ (old || (false && y)) → digit new ≡ digit old
+digit_there true new y is = rw is refl
+digit_there false new y is = rw is refl
+
+-- the last four digits of a number are those of the sets that have it
+pub counts_more : (kept next : SmallCounts) (m x : ℕ) → count_at kept m ≡ 0
+    → ((v : ℕ) → has next.ones v ≡ (has kept.ones v || (eqb v m && eqb (x % 2) 1)))
+    → ((v : ℕ) → has next.twos v ≡ (has kept.twos v || (eqb v m && eqb (x / 2 % 2) 1)))
+    → ((v : ℕ) → has next.fours v ≡ (has kept.fours v || (eqb v m && eqb (x / 4 % 2) 1)))
+    → ((v : ℕ) → has next.eights v ≡ (has kept.eights v || (eqb v m && eqb (x / 8 % 2) 1)))
+    → (v : ℕ) → count_at next v ≡ count_at kept v + cond (eqb v m) (x % 16) 0
+unfolding count_at
+counts_more kept next m x none one two four eight v = elim (cases_eq v m) [
+  | inl e ↦
+      let same : eqb v m ≡ true = eq-eqb v m e in
+      let first : digit (has kept.ones v) ≡ 0 = rw e (omega arith) in
+      let second : digit (has kept.twos v) ≡ 0 = rw e (omega arith) in
+      let third : digit (has kept.fours v) ≡ 0 = rw e (omega arith) in
+      let fourth : digit (has kept.eights v) ≡ 0 = rw e (omega arith) in
+      omega (
+        arith,
+        first,
+        second,
+        third,
+        fourth,
+        digit_here (has kept.ones v) (has next.ones v) (x % 2) (one v ∙ rw same refl) first (omega arith),
+        digit_here (has kept.twos v) (has next.twos v) (x / 2 % 2) (two v ∙ rw same refl) second (omega arith),
+        digit_here (has kept.fours v) (has next.fours v) (x / 4 % 2) (four v ∙ rw same refl) third (omega arith),
+        digit_here (has kept.eights v) (has next.eights v) (x / 8 % 2) (eight v ∙ rw same refl) fourth (omega arith),
+        ap (λ t. cond t (x % 16) 0) same,
+      )
+  | inr d ↦
+      let other : eqb v m ≡ false = ne_eqb v m d in
+      omega (
+        arith,
+        digit_there (has kept.ones v) (has next.ones v) (eqb (x % 2) 1) (one v ∙ rw other refl),
+        digit_there (has kept.twos v) (has next.twos v) (eqb (x / 2 % 2) 1) (two v ∙ rw other refl),
+        digit_there (has kept.fours v) (has next.fours v) (eqb (x / 4 % 2) 1) (four v ∙ rw other refl),
+        digit_there (has kept.eights v) (has next.eights v) (eqb (x / 8 % 2) 1) (eight v ∙ rw other refl),
+        ap (λ t. cond t (x % 16) 0) other,
+      )
+]
+
+pub counts_none : (counts : SmallCounts) → counts.ones ≡ 0 → counts.twos ≡ 0 → counts.fours ≡ 0 → counts.eights ≡ 0 → (v : ℕ) → count_at counts v ≡ 0
+unfolding count_at
+counts_none counts one two four eight v = rw (one, two, four, eight, has-none v) refl
+
+sum_digit : (f t h : ℕ → Bool) (xs : List ℕ) → ((k : ℕ) → h k ≡ (f k && t k)) → length (filter h xs) ≡ sum_by (λ k. digit (t k)) (filter f xs)
+sum_digit f t h [] each = refl
+sum_digit f t h (x ∷ xs) each =
+    let rest : length (filter h xs) ≡ sum_by (λ k. digit (t k)) (filter f xs) = sum_digit f t h xs each in
+    elim (cases_Bool (f x)) [
+      | inl y ↦
+          let more : sum_by (λ k. digit (t k)) (x ∷ filter f xs) ≡ digit (t x) + sum_by (λ k. digit (t k)) (filter f xs) =
+          sum_by-cons (λ k. digit (t k)) x (filter f xs) in
+          elim (cases_Bool (t x)) [
+            | inl z ↦ rw (each x, y, z) (omega (arith, more, rest, ap (λ b. digit b) z))
+            | inr z ↦ rw (each x, y, z) (omega (arith, more, rest, ap (λ b. digit b) z))
+          ]
+      | inr y ↦ rw (each x, y) rest
+    ]
+
+-- how many of some numbers a set has
+pub count_common : (numbers set both : ℕ) → ((p : ℕ) → has both p ≡ (has numbers p && has set p))
+    → count_of both ≡ sum_by (λ k. digit (has set k)) (members numbers)
+unfolding count_of members
+count_common numbers set both each = sum_digit (has numbers) (has set) (has both) (range_with_len 0 32) each
+
+pub sum_digits : (counts : SmallCounts) (ks : List ℕ)
+    → sum_by (λ k. digit (has counts.ones k)) ks + 2 * sum_by (λ k. digit (has counts.twos k)) ks + 4 * sum_by (λ k. digit (has counts.fours k)) ks
+    + 8 * sum_by (λ k. digit (has counts.eights k)) ks
+    ≡ sum_by (count_at counts) ks
+unfolding count_at
+sum_digits counts [] = refl
+sum_digits counts (k ∷ ks) =
+    omega (
+      arith,
+      sum_digits counts ks,
+      sum_by-cons (λ k. digit (has counts.ones k)) k ks,
+      sum_by-cons (λ k. digit (has counts.twos k)) k ks,
+      sum_by-cons (λ k. digit (has counts.fours k)) k ks,
+      sum_by-cons (λ k. digit (has counts.eights k)) k ks,
+      sum_by-cons (count_at counts) k ks,
+    )
 
 -- ---- what it tells of a position
 
@@ -118,19 +217,19 @@ module _ (b : Shape) (n : ℕ) (points : b.points ≡ n) (low : n ≤ 24) (kept 
   apart p here = false_from_ne_true (has kept.row.own p) (λ y.
       both_ways (has s.other p) (at.lawful.stones.apart p (ap (λ o. has o p) at.own ∙ y)) here)
 
-  pub numbers_low : (k : ℕ) → has numbers k ≡ true → k < 24
-  numbers_low k h =
-      point_lt numbers 24 k (subst (λ x. x < 2 ^ 24) (sym at.numbers) (squeezed-24 kept.row.own s.other apart n low)) h
+  few_arrive : (v : ℕ) → arrivals b kept.row.own v % 16 ≡ arrivals b s.own v
+  few_arrive v =
+      omega (arith, arrivals-most b s.own v, (own_count s at.lawful.sized).1, ap (λ o. arrivals b o v) at.own)
 
-  by_numbers : sum_by (λ k. slice_index kept.arrivals k) (members numbers) ≡ sum_by (arrivals b s.own) (members s.other)
+  by_numbers : sum_by (count_at kept.arrivals) (members numbers) ≡ sum_by (arrivals b s.own) (members s.other)
   by_numbers =
-      ap (λ x. sum_by (λ k. slice_index kept.arrivals k) (members x)) at.numbers
-      ∙ (ap (sum_by (λ k. slice_index kept.arrivals k)) (numbers_members kept.row.own s.other apart n (omega arith) other_within)
-      ∙ sum_same (λ k. slice_index kept.arrivals k) (number_outside kept.row.own) (arrivals b s.own) (members s.other) (λ v c.
+      ap (λ x. sum_by (count_at kept.arrivals) (members x)) at.numbers
+      ∙ (ap (sum_by (count_at kept.arrivals)) (numbers_members kept.row.own s.other apart n (omega arith) other_within)
+      ∙ sum_same (count_at kept.arrivals) (number_outside kept.row.own) (arrivals b s.own) (members s.other) (λ v c.
       let here = has-member s.other v c in
-      is.each v (point_lt s.other n v other_within here) (apart v here) ∙ ap (λ o. arrivals b o v) (sym at.own)))
+      is.each v (point_lt s.other n v other_within here) (apart v here) ∙ few_arrive v))
 
-  pub quiet_by_numbers : length (filter is_quiet (moves_of b s)) + sum_by (λ k. slice_index kept.arrivals k) (members numbers) ≡ kept.row.all
+  pub quiet_by_numbers : length (filter is_quiet (moves_of b s)) + sum_by (count_at kept.arrivals) (members numbers) ≡ kept.row.all
   quiet_by_numbers =
       omega (
         arith,

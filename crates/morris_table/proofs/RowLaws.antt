@@ -193,12 +193,16 @@ module _ (b : Shape) (own : ℕ) where
     | inr y ↦ rw y (omega (arith, coming-few v us))
   ]
 
-  pub arrivals-few : (v : ℕ) → arrivals b own v ≤ 32
+  -- no more than there are stones
+  pub arrivals-most : (v : ℕ) → arrivals b own v ≤ count_of own
   unfolding count_of
-  arrivals-few v = elim (cases_Bool (has own v)) [
+  arrivals-most v = elim (cases_Bool (has own v)) [
     | inl y ↦ omega (arith, arrivals-own v y)
-    | inr y ↦ omega (arith, arrivals-all v y, coming-few v (members own), count_of-le own)
+    | inr y ↦ omega (arith, arrivals-all v y, coming-few v (members own))
   ]
+
+  pub arrivals-few : (v : ℕ) → arrivals b own v ≤ 32
+  arrivals-few v = omega (arith, arrivals-most v, count_of-le own)
 
   abbrev pub closing_among : ℕ → List ℕ → Bool
   closing_among v us = list_any (λ u. goes b (count_of own) u v && closes b own u v) us

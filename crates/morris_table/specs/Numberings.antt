@@ -37,5 +37,5 @@ layout_before (predecessors.Full to) = layout.Full
 layout_before (predecessors.Classes to) = layout.Classes
 
 abbrev pub position_after : {B : Type 0} → Predecessors B → InPair
-position_after (predecessors.Full to) = to
-position_after (predecessors.Classes to) = to
+position_after (predecessors.Full to) = to.now
+position_after (predecessors.Classes to) = to.now

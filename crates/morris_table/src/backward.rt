@@ -4,7 +4,7 @@ ghost use Rattle.std.specs.List.{All};
 ghost use Rattle.morris_board.specs.Sets.{has, members};
 ghost use Rattle.morris_moves.specs.Rules.{move};
 ghost use Rattle.morris_moves.specs.Backward.{has_come};
-ghost use Rattle.morris_index.specs.Pairs.{is_of};
+ghost use Rattle.morris_index.specs.Pairs.{IsPair, is_of};
 ghost use Rattle.morris_wave.specs.Nets.{times};
 ghost use Rattle.morris_table.specs.Entries.{entry_count, entry_index, has_own_entry};
 ghost use Rattle.morris_table.specs.Numberings.{layout_of, pair_of, layout_before, position_after};
@@ -15,6 +15,8 @@ use crate::numbering::{Numbering, Predecessors};
 use morris_board::board::Geometry;
 use morris_board::points::Points;
 use morris_board::position::Position;
+use morris_index::predecessor_entries::PredecessorEntries;
+use morris_index::predecessors::PredecessorIndices;
 use morris_moves::backward::sources;
 use std::alloc::AllocError;
 
@@ -55,6 +57,34 @@ fn add_leading<B: Geometry>(
     add_from(before, to, sources(position, to), out)
 }
 
+/// Lists the entries from which a quiet move leads to the entry of the position of `before`: see
+/// [`list_entries_before`].
+fn list_leading<B: Geometry>(
+    before: &Predecessors<'_, B>,
+    position: &Position<B>,
+    out: &mut Vec<u64>,
+) -> Result<(), AllocError>
+    requires position { (position_after before.now).position ≡ position.now }
+    requires pair { IsPair B.POINTS (position_after before.now).pair }
+    requires counts { is_of (position_after before.now).pair position.now ≡ true }
+    requires own { has_own_entry B.shape (layout_before before.now) position.now ≡ true }
+    ensures times { OnOk result ((j : ℕ) → j < entry_count B.shape B.POINTS (layout_before before.now) (position_after before.now).pair
+        → times j out.new.items ≡ times (entry_index B.shape B.POINTS (layout_before before.now) (position_after before.now).pair position.now)
+        ((pair_net B.shape (layout_before before.now) (position_after before.now).pair).quiet j)) }
+    ensures nodes { OnOk result (All (λ j. j < entry_count B.shape B.POINTS (layout_before before.now) (position_after before.now).pair) out.new.items) }
+    ensures few { OnOk result (vec_len out.new ≤ 65535) }
+    ensures err { OnErr result (out.new.items ≡ []) }
+{
+    out.clear();
+    for to in position.other().iter() {
+        if let Err(refusal) = add_leading(before, position, to, out) {
+            out.clear();
+            return Err(refusal);
+        }
+    }
+    Ok(())
+}
+
 /// Lists the entries from which a quiet move leads to the entry that `position` has for its own,
 /// each as often as it has such a move.
 ///
@@ -80,13 +110,14 @@ pub(crate) fn list_entries_before<B: Geometry>(
 {
     // The proof learns here that the numbers of stones are those of a pair.
     let _ = numbering.pair();
-    out.clear();
-    let before = Predecessors::of(numbering, position);
-    for to in position.other().iter() {
-        if let Err(refusal) = add_leading(&before, position, to, out) {
-            out.clear();
-            return Err(refusal);
+    match numbering {
+        Numbering::Full(pair) => {
+            let indices = PredecessorIndices::of(pair, position);
+            list_leading(&Predecessors::Full(&indices), position, out)
+        }
+        Numbering::Classes(classes) => {
+            let entries = PredecessorEntries::of(classes, position);
+            list_leading(&Predecessors::Classes(&entries), position, out)
         }
     }
-    Ok(())
 }

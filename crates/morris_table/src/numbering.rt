@@ -204,30 +204,16 @@ impl<'a, B: Geometry> Successors<'a, B> {
 }
 
 /// What is kept of a position, so that the entries before a quiet move to it are found in constant
-/// time.
+/// time. It is borrowed: it may take over a kilobyte, which each move of the enum would copy.
 #[derive(Drop)]
 pub(crate) enum Predecessors<'a, B: Geometry> {
     /// Among the entries of all positions.
-    Full(PredecessorIndices<B>),
+    Full(&'a PredecessorIndices<B>),
     /// Among those of classes.
-    Classes(PredecessorEntries<'a, B>),
+    Classes(&'a PredecessorEntries<'a, B>),
 }
 
 impl<'a, B: Geometry> Predecessors<'a, B> {
-    /// What is to be kept of a position of the pair.
-    pub(crate) fn of(numbering: &'a Numbering<B>, position: &Position<B>) -> Predecessors<'a, B>
-        requires { is_of (pair_of numbering.now) position.now ≡ true }
-        ensures layout { layout_before result ≡ layout_of numbering.now }
-        ensures position { position_after result ≡ in_pair (pair_of numbering.now) position.now }
-    {
-        match numbering {
-            Numbering::Full(pair) => Predecessors::Full(PredecessorIndices::of(pair, position)),
-            Numbering::Classes(classes) => {
-                Predecessors::Classes(PredecessorEntries::of(classes, position))
-            }
-        }
-    }
-
     /// Adds the entries from which the quiet move from `from` to `to` led to the position's entry:
     /// a stone of the opponent stands on `to`, and `from` is vacant.
     ///

@@ -1,13 +1,9 @@
 //! The nodes of a graph by classes, read row by row: all entries of one representative follow one
 //! another.
 ghost use Rattle.std.specs.Prelude.{◌≡◌, ℕ, ◌+◌, ◌<◌, ◌≤◌, min, length, slice_index};
-ghost use Rattle.morris_board.specs.Positions.{Sides};
-ghost use Rattle.morris_index.specs.Classes.{representative_of};
-ghost use Rattle.morris_index.specs.EntryRows.{IsInRow};
 ghost use Rattle.morris_index.specs.Pairs.{IsPair};
 ghost use Rattle.morris_table.specs.Entries.{entry_count};
-ghost use Rattle.morris_table.specs.NumberedRows.{IsNumbered};
-ghost use Rattle.morris_table.specs.PairNets.{capture_codes, level_of, net_at};
+ghost use Rattle.morris_table.specs.PairNets.{level_of, net_at};
 ghost use Rattle.morris_wave.specs.Exits.{exits_of};
 ghost use Rattle.morris_wave.specs.Solving.{exits_at};
 
@@ -19,27 +15,6 @@ use morris_board::board::Geometry;
 use morris_index::class_pair::ClassPair;
 use morris_index::entry_rows::EntryRow;
 use morris_wave::Exits;
-
-/// The summary of what the captures of the position at a place of a row lead to.
-fn exits_in_row<B: Geometry>(
-    graph: &PairGraph<B>,
-    kept: &NumberedRow,
-    entries: &EntryRow<B>,
-    place: usize,
-) -> Exits
-    requires pair { entries.now.pair ≡ graph.now }
-    requires place { place < entries.now.len }
-    requires kept { IsNumbered B.shape B.POINTS kept.now }
-    requires own { kept.now.row.own ≡ entries.now.own }
-    requires least { representative_of B.shape entries.now.own ≡ entries.now.own }
-    ensures { (s : Sides) → IsInRow B.shape B.POINTS entries.now place s → result ≡ exits_of (capture_codes B.shape s) }
-{
-    if kept.may_capture::<B>(entries.numbers(place)) {
-        graph.exits_by_row(&kept.row, &entries.position(place))
-    } else {
-        Exits::NONE
-    }
-}
 
 /// Reads the entries of a row from its first on, as many as there is room for, and says how many
 /// these are.
@@ -59,8 +34,13 @@ fn read_row<B: Geometry>(
     let kept = NumberedRow::of::<B>(&Row::of::<B>(entries.own()));
     let many = entries.len().min(counts.len());
     for place in 0..many {
-        counts[place] = kept.quiet_moves::<B>(entries.numbers(place));
-        exits[place] = exits_in_row(graph, &kept, entries, place);
+        let numbers = entries.numbers(place);
+        counts[place] = kept.quiet_moves::<B>(numbers);
+        // Written in place before any call: most entries have no capture, and are done with this.
+        exits[place] = Exits::NONE;
+        if kept.may_capture::<B>(numbers) {
+            exits[place] = graph.exits_by_row(&kept.row, &entries.position(place));
+        }
     }
     many
 }

@@ -1,15 +1,16 @@
-use Rattle.std.proofs.Common.{◌≡◌, ℕ, ◌<◌, ◌≤◌, false, length, slice_index}
+use Rattle.std.proofs.Common.{◌≡◌, ℕ, ◌%◌, ◌<◌, ◌≤◌, false}
 use Rattle.morris_board.specs.Sets.{has}
 use Rattle.morris_index.specs.Numbering.{number_outside}
+use Rattle.morris_table.specs.NumberedRows.{count_at}
 use Rattle.morris_table.specs.Rows.{arrivals}
 use Rattle.morris_table.proofs.numbered_row.NumberedRow.of.Given as goal
 
 abbrev pub invariant-loop-point : goal.invariant-loop-point
 invariant-loop-point g l = record {
   numbered : l.number ≡ number_outside l.row.own l.point;
-  len : length l.arrivals ≡ 24;
-  few : (k : ℕ) → slice_index l.arrivals k ≤ 32;
-  each : (v : ℕ) → v < l.point → has l.row.own v ≡ false → slice_index l.arrivals (number_outside l.row.own v) ≡ arrivals g.B.Geometry.shape l.row.own v;
+  each : (v : ℕ) → v < l.point → has l.row.own v ≡ false
+      → count_at l.arrivals (number_outside l.row.own v) ≡ arrivals g.B.Geometry.shape l.row.own v % 16;
+  none : (k : ℕ) → l.number ≤ k → count_at l.arrivals k ≡ 0;
   closing : (v : ℕ) → v < l.point → has l.row.own v ≡ false → has l.closing (number_outside l.row.own v) ≡ has l.row.closing v;
   above : (k : ℕ) → l.number ≤ k → has l.closing k ≡ false;
 }
