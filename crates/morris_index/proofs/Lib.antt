@@ -30,3 +30,4 @@ pub mod FacingLaws
 pub mod NumberLaws
 pub mod RingLaws
 pub mod EntryRowLaws
+mod KeptRankLaws

@@ -12,4 +12,5 @@ pub mod Carried
 pub mod Facing
 pub mod Standings
 pub mod Halves
+pub mod KeptRanks
 pub mod EntryRows

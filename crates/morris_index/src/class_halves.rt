@@ -78,6 +78,13 @@ impl<'a, B: Geometry> Half<'a, B> {
         }
     }
 
+    /// How many stones the player to move has.
+    pub(crate) fn own(&self) -> u8
+        ensures { result ≡ self.now.own }
+    {
+        self.own
+    }
+
     /// The first entry in which the player to move stands on the representative of the class of
     /// `own`, this representative, all symmetries that lead `own` there, and the class.
     pub(crate) fn leads_of(&self, own: Points) -> (u64, Outside, Points, u32)
@@ -86,6 +93,7 @@ impl<'a, B: Geometry> Half<'a, B> {
         ensures start { result.0 ≡ class_start_of B.shape B.POINTS self.now.pair own self.now.other }
         ensures representative { result.1 ≡ representative_of B.shape own }
         ensures symmetries { AreLeading B.shape own result.2 }
+        ensures class { result.3 ≡ class_of B.shape own }
         ensures few { result.0 ≤ 2 ^ 54 }
         ensures lawful { IsPair B.POINTS self.now.pair }
     {

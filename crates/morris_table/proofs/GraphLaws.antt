@@ -1,6 +1,6 @@
 -- The graph of a pair: the codes of what captures lead to, and their summary.
 use Rattle.std.proofs.Common.{◌≡◌, ◌↔◌, ℕ, ◌-◌, ◌<◌, ◌≤◌, true, false, not, List, [], ◌∷◌, ◌++◌, Option, Some, None, is_some, map, refl, sym, ap, subst, ◌∙◌, inl, inr, ◌⊎◌, arith, get_or, ltb, length, append-nil}
-use Rattle.std.specs.List.{All, Contains, filter}
+use Rattle.std.specs.List.{sum_by, All, Contains, filter}
 use Rattle.std.proofs.lemmas.Bool.{ltb-true}
 use Rattle.std.proofs.lemmas.Option.{cond_some}
 use Rattle.std.specs.Option.{option_to_list}
@@ -130,6 +130,15 @@ module _ (board : Shape) (lawful : is_board board ≡ true) (y : HasSymmetries b
       → (j : ℕ) → j < (net_at board (level_of l c)).size → times j xs ≡ times i ((net_at board (level_of l c)).quiet j)
   times_at s xs i at h j low =
       h j (is_node j low) ∙ ap (λ k. times k ((pair_net board l c).quiet j)) at ∙ ap (λ (g : Net). times i (g.quiet j)) (sym (net_at-level_of board lawful y l c pair))
+
+  pub times_all_at : (xs nodes : List ℕ)
+      → ((j : ℕ) → j < entry_count board n l c → times j xs ≡ sum_by (λ i. times i ((pair_net board l c).quiet j)) nodes)
+      → (j : ℕ) → j < (net_at board (level_of l c)).size → times j xs ≡ sum_by (λ i. times i ((net_at board (level_of l c)).quiet j)) nodes
+  times_all_at xs nodes h j low =
+      h j (is_node j low) ∙ ap (λ (g : Net). sum_by (λ i. times i (g.quiet j)) nodes) (sym (net_at-level_of board lawful y l c pair))
+
+  pub are_nodes : (nodes : List ℕ) → All (λ j. j < (net_at board (level_of l c)).size) nodes → All (λ j. j < entry_count board n l c) nodes
+  are_nodes nodes h = subst (λ size. All (λ j. j < size) nodes) size_at h
 
   pub nodes_at : (xs : List ℕ) → All (λ j. j < entry_count board n l c) xs → All (λ j. j < (net_at board (level_of l c)).size) xs
   nodes_at xs h = subst (λ size. All (λ j. j < size) xs) (sym size_at) h

@@ -1,6 +1,6 @@
 //! The entries from which a quiet move leads to an entry.
 ghost use Rattle.std.specs.Prelude.{◌≡◌, ℕ, ◌<◌, ◌≤◌, ◌&&◌, [], ◌++◌, true, None, OnOk, OnErr, nat_lt, map, vec_len};
-ghost use Rattle.std.specs.List.{All};
+ghost use Rattle.std.specs.List.{All, sum_by};
 ghost use Rattle.morris_board.specs.Sets.{has, members};
 ghost use Rattle.morris_moves.specs.Rules.{move};
 ghost use Rattle.morris_moves.specs.Backward.{has_come};
@@ -15,10 +15,11 @@ use crate::numbering::{Numbering, Predecessors};
 use morris_board::board::Geometry;
 use morris_board::points::Points;
 use morris_board::position::Position;
+use morris_index::kept_ranks::KeptRanks;
 use morris_index::predecessor_entries::PredecessorEntries;
 use morris_index::predecessors::PredecessorIndices;
 use morris_moves::backward::sources;
-use std::alloc::AllocError;
+use std::alloc::{AllocError, Global};
 
 /// Adds the entries from which the quiet moves of a stone to `to` from one of `points` lead to the
 /// entry of the position of `before`, in order of the point that it left.
@@ -26,6 +27,7 @@ fn add_from<B: Geometry>(
     before: &Predecessors<'_, B>,
     to: u8,
     points: Points,
+    ranks: &mut KeptRanks<B>,
     out: &mut Vec<u64>,
 ) -> Result<(), AllocError>
     requires end { has (position_after before.now).position.other to ≡ true }
@@ -34,7 +36,7 @@ fn add_from<B: Geometry>(
         ++ entries_leading (layout_before before.now) B.shape B.POINTS (position_after before.now).pair (position_after before.now).position (map (λ u. move u to None) (members points))) }
 {
     for from in points.iter() {
-        before.add(from, to, out)?;
+        before.add(from, to, ranks, out)?;
     }
     Ok(())
 }
@@ -45,6 +47,7 @@ fn add_leading<B: Geometry>(
     before: &Predecessors<'_, B>,
     position: &Position<B>,
     to: u8,
+    ranks: &mut KeptRanks<B>,
     out: &mut Vec<u64>,
 ) -> Result<(), AllocError>
     requires position { (position_after before.now).position ≡ position.now }
@@ -54,7 +57,7 @@ fn add_leading<B: Geometry>(
 {
     // The proof learns the rules of a position where its stones are read.
     let _ = position.other();
-    add_from(before, to, sources(position, to), out)
+    add_from(before, to, sources(position, to), ranks, out)
 }
 
 /// Lists the entries from which a quiet move leads to the entry of the position of `before`: see
@@ -62,6 +65,7 @@ fn add_leading<B: Geometry>(
 fn list_leading<B: Geometry>(
     before: &Predecessors<'_, B>,
     position: &Position<B>,
+    ranks: &mut KeptRanks<B>,
     out: &mut Vec<u64>,
 ) -> Result<(), AllocError>
     requires position { (position_after before.now).position ≡ position.now }
@@ -77,12 +81,42 @@ fn list_leading<B: Geometry>(
 {
     out.clear();
     for to in position.other().iter() {
-        if let Err(refusal) = add_leading(before, position, to, out) {
+        if let Err(refusal) = add_leading(before, position, to, ranks, out) {
             out.clear();
             return Err(refusal);
         }
     }
     Ok(())
+}
+
+/// [`list_entries_before`], where ranks may be kept already; what is found is kept there too.
+fn list_keeping<B: Geometry>(
+    numbering: &Numbering<B>,
+    position: &Position<B>,
+    ranks: &mut KeptRanks<B>,
+    out: &mut Vec<u64>,
+) -> Result<(), AllocError>
+    requires counts { is_of (pair_of numbering.now) position.now ≡ true }
+    requires own { has_own_entry B.shape (layout_of numbering.now) position.now ≡ true }
+    ensures times { OnOk result ((j : ℕ) → j < entry_count B.shape B.POINTS (layout_of numbering.now) (pair_of numbering.now)
+        → times j out.new.items ≡ times (entry_index B.shape B.POINTS (layout_of numbering.now) (pair_of numbering.now) position.now)
+        ((pair_net B.shape (layout_of numbering.now) (pair_of numbering.now)).quiet j)) }
+    ensures nodes { OnOk result (All (λ j. j < entry_count B.shape B.POINTS (layout_of numbering.now) (pair_of numbering.now)) out.new.items) }
+    ensures few { OnOk result (vec_len out.new ≤ 65535) }
+    ensures err { OnErr result (out.new.items ≡ []) }
+{
+    // The proof learns here that the numbers of stones are those of a pair.
+    let _ = numbering.pair();
+    match numbering {
+        Numbering::Full(pair) => {
+            let indices = PredecessorIndices::of(pair, position);
+            list_leading(&Predecessors::Full(&indices), position, ranks, out)
+        }
+        Numbering::Classes(classes) => {
+            let entries = PredecessorEntries::of(classes, position);
+            list_leading(&Predecessors::Classes(&entries), position, ranks, out)
+        }
+    }
 }
 
 /// Lists the entries from which a quiet move leads to the entry that `position` has for its own,
@@ -108,16 +142,36 @@ pub(crate) fn list_entries_before<B: Geometry>(
     ensures few { OnOk result (vec_len out.new ≤ 65535) }
     ensures err { OnErr result (out.new.items ≡ []) }
 {
-    // The proof learns here that the numbers of stones are those of a pair.
-    let _ = numbering.pair();
-    match numbering {
-        Numbering::Full(pair) => {
-            let indices = PredecessorIndices::of(pair, position);
-            list_leading(&Predecessors::Full(&indices), position, out)
-        }
-        Numbering::Classes(classes) => {
-            let entries = PredecessorEntries::of(classes, position);
-            list_leading(&Predecessors::Classes(&entries), position, out)
+    let ranks = &mut KeptRanks::none(*out.allocator());
+    list_keeping(numbering, position, ranks, out)
+}
+
+/// Lists the entries from which a quiet move leads to one of these entries, each as often as it has
+/// such a move.
+///
+/// The vector is emptied first. It is empty after a refusal.
+pub(crate) fn list_before_all<B: Geometry>(
+    alloc: Global,
+    numbering: &Numbering<B>,
+    entries: &[u64],
+    out: &mut Vec<u64>,
+) -> Result<(), AllocError>
+    requires { All (λ i. i < entry_count B.shape B.POINTS (layout_of numbering.now) (pair_of numbering.now)) entries.now }
+    ensures times { OnOk result ((j : ℕ) → j < entry_count B.shape B.POINTS (layout_of numbering.now) (pair_of numbering.now)
+        → times j out.new.items ≡ sum_by (λ i. times i ((pair_net B.shape (layout_of numbering.now) (pair_of numbering.now)).quiet j)) entries.now) }
+    ensures nodes { OnOk result (All (λ j. j < entry_count B.shape B.POINTS (layout_of numbering.now) (pair_of numbering.now)) out.new.items) }
+    ensures err { OnErr result (out.new.items ≡ []) }
+{
+    out.clear();
+    let mut ranks = numbering.kept_ranks(alloc)?;
+    let mut before = Vec::new(alloc);
+    for entry in entries {
+        let position = numbering.position(*entry);
+        let listed = list_keeping(numbering, &position, &mut ranks, &mut before);
+        if listed.is_err() || out.append(&mut before).is_err() {
+            out.clear();
+            return Err(AllocError);
         }
     }
+    Ok(())
 }

@@ -10,7 +10,7 @@ ghost use Rattle.morris_table.specs.Shelves.{first_missing};
 ghost use Rattle.morris_table.specs.Sweeping.{needed_by, is_of_graph};
 ghost use Rattle.morris_table.specs.Tables.{table};
 
-use crate::backward::list_entries_before;
+use crate::backward::{list_before_all, list_entries_before};
 use crate::build_fault::BuildFault;
 use crate::exact::Exact;
 use crate::graph::PairGraph;
@@ -147,5 +147,14 @@ impl<'a, B: Board> Graph for ClassGraph<'a, B> {
 
     fn back(&self, i: u64, out: &mut Vec<u64>) -> Result<(), AllocError> {
         list_entries_before(&self.numbering, &self.numbering.position(i), out)
+    }
+
+    fn back_from(
+        &self,
+        alloc: Global,
+        nodes: &[u64],
+        out: &mut Vec<u64>,
+    ) -> Result<(), AllocError> {
+        list_before_all(alloc, &self.numbering, nodes, out)
     }
 }

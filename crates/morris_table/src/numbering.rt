@@ -15,6 +15,7 @@ use morris_board::board::Geometry;
 use morris_board::points::Points;
 use morris_board::position::Position;
 use morris_index::class_pair::ClassPair;
+use morris_index::kept_ranks::KeptRanks;
 use morris_index::pair::Pair;
 use morris_index::predecessor_entries::PredecessorEntries;
 use morris_index::predecessors::PredecessorIndices;
@@ -128,6 +129,18 @@ impl<B: Geometry> Numbering<B> {
         }
     }
 
+    /// No ranks yet, with room for those that are worth keeping while entries before others are
+    /// listed; none in layout `Full`.
+    ///
+    /// # Errors
+    /// [`AllocError`] where memory runs out, which isn't asked for in layout `Full`.
+    pub(crate) fn kept_ranks(&self, alloc: Global) -> Result<KeptRanks<B>, AllocError> {
+        match self {
+            Numbering::Full(_) => Ok(KeptRanks::none(alloc)),
+            Numbering::Classes(classes) => KeptRanks::of(alloc, classes),
+        }
+    }
+
     /// The position that has the entry `index`, below [`Numbering::count`], for its own.
     pub(crate) fn position(&self, index: u64) -> Position<B>
         requires { index < entry_count B.shape B.POINTS (layout_of self.now) (pair_of self.now) }
@@ -215,11 +228,18 @@ pub(crate) enum Predecessors<'a, B: Geometry> {
 
 impl<'a, B: Geometry> Predecessors<'a, B> {
     /// Adds the entries from which the quiet move from `from` to `to` led to the position's entry:
-    /// a stone of the opponent stands on `to`, and `from` is vacant.
+    /// a stone of the opponent stands on `to`, and `from` is vacant. What is found of ranks by
+    /// classes is kept in `ranks`.
     ///
     /// # Errors
     /// [`AllocError`] where memory runs out. Then some of the entries may have been added.
-    pub(crate) fn add(&self, from: u8, to: u8, out: &mut Vec<u64>) -> Result<(), AllocError>
+    pub(crate) fn add(
+        &self,
+        from: u8,
+        to: u8,
+        ranks: &mut KeptRanks<B>,
+        out: &mut Vec<u64>,
+    ) -> Result<(), AllocError>
         requires start { from < B.POINTS }
         requires vacant { not (has (position_after self.now).position.own from || has (position_after self.now).position.other from) ≡ true }
         requires end { has (position_after self.now).position.other to ≡ true }
@@ -228,7 +248,7 @@ impl<'a, B: Geometry> Predecessors<'a, B> {
     {
         match self {
             Predecessors::Full(indices) => out.push(indices.index(from, to))?,
-            Predecessors::Classes(entries) => entries.add(from, to, out)?,
+            Predecessors::Classes(entries) => entries.add(from, to, ranks, out)?,
         }
         Ok(())
     }

@@ -1,9 +1,9 @@
 -- The batches of one block's fresh nodes.
-use Rattle.std.proofs.Common.{◌≡◌, ℕ, suc, ◌+◌, ◌<◌, ◌&&◌, cond, eqb, List, [], ◌∷◌, ◌++◌, length, get_or, take, refl, sym, ap, ap₂, ◌∙◌, subst, ⊎_elim, arith}
+use Rattle.std.proofs.Common.{◌≡◌, ℕ, suc, ◌+◌, ◌<◌, ◌&&◌, cond, eqb, List, [], ◌∷◌, ◌++◌, length, get_or, refl, sym, ap, ap₂, ◌∙◌, subst, ⊎_elim, arith}
 use Rattle.std.specs.List.{All, count_by, sum_by}
 use Rattle.std.proofs.lemmas.Bool.{cases_eq, cases_lt, cond-false, eq-eqb, ne_eqb, and_left}
 use Rattle.std.proofs.lemmas.List.{length-map, length-append, map-append, get_or_at, get_or_append_left, get_or_push, length_push}
-use Rattle.std.proofs.lemmas.List.Sums.{sum_by-cons, sum_by_more}
+use Rattle.std.proofs.lemmas.List.Sums.{sum_by-cons, sum_by-append}
 use Rattle.morris_wave.specs.Nets.{Net, IsNet, times}
 use Rattle.morris_wave.specs.Waves.{is_fresh}
 use Rattle.morris_wave.specs.Blocks.{Parts, IsIn, block_of}
@@ -58,17 +58,16 @@ not_there j (x ∷ xs) h =
       not_there j xs (λ k d l. h (suc k) d (omega arith)),
     )
 
--- one node more, whose predecessors were dealt
-pub lead_more : (g : Net) (c : Parts) (nodes : List ℕ) (k node : ℕ) → k < length nodes → node ≡ get_or nodes k 0 → (old new : List (List ℕ)) (before : List ℕ)
-    → ((i : ℕ) → i < c.size → times i before ≡ times node (g.quiet i)) → LeadTo g c old (take k nodes) → Deals c old new before → LeadTo g c new (take (k + 1) nodes)
-lead_more g c nodes k node inside is old new before law lead deals i l =
+-- one piece more, whose predecessors were dealt
+pub lead_append : (g : Net) (c : Parts) (done piece : List ℕ) (old new : List (List ℕ)) (before : List ℕ)
+    → ((i : ℕ) → i < c.size → times i before ≡ sum_by (λ x. times x (g.quiet i)) piece) → LeadTo g c old done → Deals c old new before → LeadTo g c new (done ++ piece)
+lead_append g c done piece old new before law lead deals i l =
     omega (
       arith,
       deals i l,
       lead i l,
       law i l,
-      ap (λ x. times x (g.quiet i)) is,
-      sum_by_more (λ x. times x (g.quiet i)) nodes k 0 inside,
+      sum_by-append (λ x. times x (g.quiet i)) done piece,
     )
 
 pub fresh_inside : (g : Net) (f : FreshState) → FreshHolds g f → All (λ j. j < f.cut.size) f.nodes

@@ -13,6 +13,10 @@ use crate::nodes::{NodeList, put_into};
 use std::alloc::{AllocError, Global};
 use std::marker::PhantomData;
 
+// How many nodes a graph goes back from in one call: enough that what it keeps from node to node
+// serves many of them, and few enough that the list of their predecessors stays small.
+const PIECE: usize = 256;
+
 // An empty list, one of those at hand if there is one.
 fn empty_list<L: NodeList>(alloc: Global, spare: &mut Vec<L>) -> L
     ensures { L.items result ≡ [] }
@@ -76,8 +80,8 @@ fn behind<G: Graph, L: NodeList>(
     let mut lists = no_lists(alloc, cut.blocks() as usize, spare)?;
     let finder = Finder::new(cut);
     let mut before = Vec::new(alloc);
-    for node in nodes {
-        graph.back(*node, &mut before)?;
+    for piece in nodes.chunks(PIECE) {
+        graph.back_from(alloc, piece, &mut before)?;
         deal(&mut lists, &finder, &before)?;
     }
     Ok(lists)

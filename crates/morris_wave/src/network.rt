@@ -1,11 +1,11 @@
 //! What a graph with exits is, and what a search has to know of its exits.
 ghost use Rattle.std.specs.Prelude.{◌≡◌, ℕ, ◌+◌, ◌<◌, ◌≤◌, ◌^◌, ◌==◌, ◌++◌, ◌∷◌, List, [], Option, length, slice_index, OnOk, OnErr, vec_len};
-ghost use Rattle.std.specs.List.{All};
+ghost use Rattle.std.specs.List.{All, sum_by};
 ghost use Rattle.morris_wave.specs.Nets.{Net, IsNet, times};
 ghost use Rattle.morris_wave.specs.Exits.{due_of};
 ghost use Rattle.morris_wave.specs.Summaries.{least_with, greatest_with, added};
 
-use std::alloc::AllocError;
+use std::alloc::{AllocError, Global};
 
 /// What a search has to know of the exits of a node, which are its results outside of the graph.
 #[derive(Clone, Copy, Debug, PartialEq, Eq)]
@@ -200,4 +200,31 @@ pub trait Graph {
         ensures nodes { OnOk result (All (λ j. j < (Self.Name.net (level self.now)).size) out.new.items) }
         ensures few { OnOk result (vec_len out.new ≤ 65535) }
         ensures err { OnErr result (out.new.items ≡ []) };
+
+    /// Lists the nodes that have one of `nodes` as a quiet result, each as often as it leads to
+    /// them.
+    ///
+    /// A graph for which what is found for one node serves the next one too writes its own body.
+    /// The vector is emptied first.
+    ///
+    /// # Errors
+    ///
+    /// `AllocError` where memory is refused; the vector is then empty.
+    fn back_from(&self, alloc: Global, nodes: &[u64], out: &mut Vec<u64>) -> Result<(), AllocError>
+        requires { All (λ i. i < (Self.Name.net (level self.now)).size) nodes.now }
+        ensures times { OnOk result ((j : ℕ) → j < (Self.Name.net (level self.now)).size
+            → times j out.new.items ≡ sum_by (λ i. times i ((Self.Name.net (level self.now)).quiet j)) nodes.now) }
+        ensures nodes { OnOk result (All (λ j. j < (Self.Name.net (level self.now)).size) out.new.items) }
+        ensures err { OnErr result (out.new.items ≡ []) }
+    {
+        out.clear();
+        let mut before = Vec::new(alloc);
+        for node in nodes {
+            if self.back(*node, &mut before).is_err() || out.append(&mut before).is_err() {
+                out.clear();
+                return Err(AllocError);
+            }
+        }
+        Ok(())
+    }
 }

@@ -1,4 +1,4 @@
-use Rattle.morris_table.proofs.backward.list_entries_before.Goals as goal
+use Rattle.morris_table.proofs.backward.list_keeping.Goals as goal
 
 pub returns-in-Full-clause-times : goal.returns-in-Full-clause-times
 returns-in-Full-clause-times g c = rw c.in-Full.is (rw c.of-indices.ensures at c.list_leading.ensures.times)
