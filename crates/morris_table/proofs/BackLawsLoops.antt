@@ -95,8 +95,8 @@ end_of s ys v zs e = has-member s v (subst (λ xs. Contains xs v) e (Contains-ap
 -- its end: no stone is left
 pub all_leading : (l : Layout) (b : Shape) (n : ℕ) → b.points ≡ n → n ≤ 24 → HasSymmetries b → (c : Counts) → IsPair n c → (p : Sides) → IsPosition b p → is_of c p ≡ true
     → has_own_entry b l p ≡ true
-    → (ys : List ℕ) (rest : ℕ) (xs : List ℕ) → ys ++ members rest ≡ members p.other → members rest ≡ []
-    → xs ≡ entries_leading l b n c p (moves_before b p n ys) → AreLeading l b n c p xs
-all_leading l b n e small y c pair p h of own ys rest xs points none is =
+    → (ys : List ℕ) (rest : ℕ) → ys ++ members rest ≡ members p.other → members rest ≡ []
+    → AreLeading l b n c p (entries_leading l b n c p (moves_before b p n ys))
+all_leading l b n e small y c pair p h of own ys rest points none =
     let each : ys ≡ members p.other = sym (append-nil ys) ∙ (ap (λ zs. ys ++ zs) (sym none) ∙ points) in
-    subst (AreLeading l b n c p) (sym (is ∙ ap (λ zs. entries_leading l b n c p (moves_before b p n zs)) each)) (are_leading l b n e small y c pair p h of own)
+    subst (λ zs. AreLeading l b n c p (entries_leading l b n c p (moves_before b p n zs))) (sym each) (are_leading l b n e small y c pair p h of own)

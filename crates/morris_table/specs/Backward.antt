@@ -1,6 +1,6 @@
 -- The quiet moves that lead to a position, looked at from it.
-use Rattle.std.specs.Prelude.{ℕ, List, [], ◌∷◌, map, filter, None}
-use Rattle.std.specs.List.{range_with_len, flat_map}
+use Rattle.std.specs.Prelude.{◌≡◌, ℕ, ◌<◌, ◌≤◌, List, [], ◌∷◌, ◌++◌, length, map, filter, None}
+use Rattle.std.specs.List.{All, range_with_len, flat_map}
 use Rattle.morris_board.specs.Boards.{Shape}
 use Rattle.morris_board.specs.Positions.{Sides}
 use Rattle.morris_moves.specs.declared.step.Move.{Move}
@@ -9,8 +9,11 @@ use Rattle.morris_moves.specs.Backward.{has_come}
 use Rattle.morris_index.specs.Pairs.{Counts, index_of}
 use Rattle.morris_index.specs.Moves.{taken_back}
 use Rattle.morris_index.specs.Carried.{entries_before}
+use Rattle.morris_wave.specs.Nets.{times}
 use Rattle.morris_table.specs.declared.layout.Layout.{Layout}
 use Rattle.morris_table.specs.declared.layout.Layout.TheVariants.{Full, Classes}
+use Rattle.morris_table.specs.Entries.{entry_count, entry_index}
+use Rattle.morris_table.specs.PairNets.{pair_net}
 
 -- the quiet moves to v that led to s from a point below n, in order of that point
 unfoldable pub moves_into : Shape → Sides → ℕ → ℕ → List Move
@@ -30,3 +33,12 @@ leads_from Classes board n c s u v = entries_before board n c s u v
 -- move
 unfoldable pub entries_leading : Layout → Shape → ℕ → Counts → Sides → List Move → List ℕ
 entries_leading l board n c s moves = flat_map (λ m. leads_from l board n c s m.from m.to) moves
+
+-- `new` is `old`, followed by the entries from which a quiet move leads to the entry of s, each as
+-- often as it has such a move
+pub record AddsBefore (l : Layout) (board : Shape) (n : ℕ) (c : Counts) (s : Sides) (old new : List ℕ) : Type 0 where
+  pub added : List ℕ
+  pub follow : new ≡ old ++ added
+  pub often : (j : ℕ) → j < entry_count board n l c → times j added ≡ times (entry_index board n l c s) ((pair_net board l c).quiet j)
+  pub nodes : All (λ j. j < entry_count board n l c) added
+  pub few : length added ≤ 65535

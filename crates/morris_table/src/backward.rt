@@ -9,7 +9,7 @@ ghost use Rattle.morris_wave.specs.Nets.{times};
 ghost use Rattle.morris_table.specs.Entries.{entry_count, entry_index, has_own_entry};
 ghost use Rattle.morris_table.specs.Numberings.{layout_of, pair_of, layout_before, position_after};
 ghost use Rattle.morris_table.specs.PairNets.{pair_net};
-ghost use Rattle.morris_table.specs.Backward.{moves_into, entries_leading};
+ghost use Rattle.morris_table.specs.Backward.{moves_into, entries_leading, AddsBefore};
 
 use crate::numbering::{Numbering, Predecessors};
 use morris_board::board::Geometry;
@@ -60,9 +60,9 @@ fn add_leading<B: Geometry>(
     add_from(before, to, sources(position, to), ranks, out)
 }
 
-/// Lists the entries from which a quiet move leads to the entry of the position of `before`: see
-/// [`list_entries_before`].
-fn list_leading<B: Geometry>(
+/// Adds the entries from which a quiet move leads to the entry of the position of `before`: see
+/// [`list_entries_before`]. After a refusal some of them may have been added.
+fn add_all_leading<B: Geometry>(
     before: &Predecessors<'_, B>,
     position: &Position<B>,
     ranks: &mut KeptRanks<B>,
@@ -72,25 +72,17 @@ fn list_leading<B: Geometry>(
     requires pair { IsPair B.POINTS (position_after before.now).pair }
     requires counts { is_of (position_after before.now).pair position.now ≡ true }
     requires own { has_own_entry B.shape (layout_before before.now) position.now ≡ true }
-    ensures times { OnOk result ((j : ℕ) → j < entry_count B.shape B.POINTS (layout_before before.now) (position_after before.now).pair
-        → times j out.new.items ≡ times (entry_index B.shape B.POINTS (layout_before before.now) (position_after before.now).pair position.now)
-        ((pair_net B.shape (layout_before before.now) (position_after before.now).pair).quiet j)) }
-    ensures nodes { OnOk result (All (λ j. j < entry_count B.shape B.POINTS (layout_before before.now) (position_after before.now).pair) out.new.items) }
-    ensures few { OnOk result (vec_len out.new ≤ 65535) }
-    ensures err { OnErr result (out.new.items ≡ []) }
+    ensures { OnOk result (AddsBefore (layout_before before.now) B.shape B.POINTS (position_after before.now).pair position.now out.old.items out.new.items) }
 {
-    out.clear();
     for to in position.other().iter() {
-        if let Err(refusal) = add_leading(before, position, to, ranks, out) {
-            out.clear();
-            return Err(refusal);
-        }
+        add_leading(before, position, to, ranks, out)?;
     }
     Ok(())
 }
 
-/// [`list_entries_before`], where ranks may be kept already; what is found is kept there too.
-fn list_keeping<B: Geometry>(
+/// Adds what [`list_entries_before`] lists, where ranks may be kept already; what is found is kept
+/// there too. After a refusal some of the entries may have been added.
+fn add_entries_before<B: Geometry>(
     numbering: &Numbering<B>,
     position: &Position<B>,
     ranks: &mut KeptRanks<B>,
@@ -98,23 +90,18 @@ fn list_keeping<B: Geometry>(
 ) -> Result<(), AllocError>
     requires counts { is_of (pair_of numbering.now) position.now ≡ true }
     requires own { has_own_entry B.shape (layout_of numbering.now) position.now ≡ true }
-    ensures times { OnOk result ((j : ℕ) → j < entry_count B.shape B.POINTS (layout_of numbering.now) (pair_of numbering.now)
-        → times j out.new.items ≡ times (entry_index B.shape B.POINTS (layout_of numbering.now) (pair_of numbering.now) position.now)
-        ((pair_net B.shape (layout_of numbering.now) (pair_of numbering.now)).quiet j)) }
-    ensures nodes { OnOk result (All (λ j. j < entry_count B.shape B.POINTS (layout_of numbering.now) (pair_of numbering.now)) out.new.items) }
-    ensures few { OnOk result (vec_len out.new ≤ 65535) }
-    ensures err { OnErr result (out.new.items ≡ []) }
+    ensures { OnOk result (AddsBefore (layout_of numbering.now) B.shape B.POINTS (pair_of numbering.now) position.now out.old.items out.new.items) }
 {
     // The proof learns here that the numbers of stones are those of a pair.
     let _ = numbering.pair();
     match numbering {
         Numbering::Full(pair) => {
             let indices = PredecessorIndices::of(pair, position);
-            list_leading(&Predecessors::Full(&indices), position, ranks, out)
+            add_all_leading(&Predecessors::Full(&indices), position, ranks, out)
         }
         Numbering::Classes(classes) => {
             let entries = PredecessorEntries::of(classes, position);
-            list_leading(&Predecessors::Classes(&entries), position, ranks, out)
+            add_all_leading(&Predecessors::Classes(&entries), position, ranks, out)
         }
     }
 }
@@ -143,7 +130,12 @@ pub(crate) fn list_entries_before<B: Geometry>(
     ensures err { OnErr result (out.new.items ≡ []) }
 {
     let ranks = &mut KeptRanks::none(*out.allocator());
-    list_keeping(numbering, position, ranks, out)
+    out.clear();
+    if let Err(refusal) = add_entries_before(numbering, position, ranks, out) {
+        out.clear();
+        return Err(refusal);
+    }
+    Ok(())
 }
 
 /// Lists the entries from which a quiet move leads to one of these entries, each as often as it has
@@ -164,11 +156,9 @@ pub(crate) fn list_before_all<B: Geometry>(
 {
     out.clear();
     let mut ranks = numbering.kept_ranks(alloc)?;
-    let mut before = Vec::new(alloc);
     for entry in entries {
         let position = numbering.position(*entry);
-        let listed = list_keeping(numbering, &position, &mut ranks, &mut before);
-        if listed.is_err() || out.append(&mut before).is_err() {
+        if add_entries_before(numbering, &position, &mut ranks, out).is_err() {
             out.clear();
             return Err(AllocError);
         }

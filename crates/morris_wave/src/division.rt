@@ -111,11 +111,12 @@ impl Cut {
     {
         let size = self.size;
         let last = (i + 1) * self.blocks - 1;
-        let start = size * guess;
-        if start <= last && last < start + size {
+        // One comparison, since this wraps to far more than two sizes where the guess is too high.
+        let over = last.wrapping_sub(size * guess);
+        if over < size {
             return guess;
         }
-        if start + size <= last && last < start + size + size {
+        if over < size + size {
             return guess + 1;
         }
         self.block_of(i)

@@ -24,20 +24,19 @@ loop-entry-preserved g c =
     let entries = c.args.entries.now in
     let inv = c.loop-entry.invariant in
     let old = c.loop-entry.out.items in
-    let more = c.list_keeping-listed.new.out.items in
-    let found : is_ok c.list_keeping-listed.result ≡ true = c.is_err.ensures.negation ∙ ap not c.if-is_err.false in
-    let put : is_ok c.append.result ≡ true = c.is_err-else-is_err.ensures.negation ∙ ap not c.if-is_err-2.false in
-    let items = rw put at c.append.ensures.items in record {
+    let done : is_ok c.add_entries_before.result ≡ true = c.is_err.ensures.negation ∙ ap not c.if-is_err.false in
+    let more = at_ok c.add_entries_before.result done c.add_entries_before.ensures in
+    record {
       times = λ j l. omega (
         arith,
-        ap (times j) items,
-        sum_by-append (λ x. cond {A = ℕ} (eqb x j) 1 0) old more,
+        ap (times j) more.follow,
+        sum_by-append (λ x. cond {A = ℕ} (eqb x j) 1 0) old more.added,
         inv.times j l,
-        at_ok c.list_keeping-listed.result found c.list_keeping-listed.ensures.times j l,
+        more.often j l,
         ap (λ i. times i (net.quiet j)) c.position-position.ensures.entry,
         sum_by_more (λ i. times i (net.quiet j)) entries c.loop-entry.entry-index 0 (omega arith),
       );
-      inside = rw items (All-append (λ j. j < count) old more inv.inside (at_ok c.list_keeping-listed.result found c.list_keeping-listed.ensures.nodes));
+      inside = rw more.follow (All-append (λ j. j < count) old more.added inv.inside more.nodes);
     }
 
 pub returns-clause-times : goal.returns-clause-times
