@@ -21,7 +21,7 @@ ghost use Rattle.morris_table.specs.Headline.{IsBlockOf, TellsTheGame};
 ghost use Rattle.morris_table.specs.Captured.{captured_pair, IsLeft, IsClosing, captures_at, captures_to};
 ghost use Rattle.morris_table.specs.Graphs.{IsTableOf, IsNeeded, exits_by, HasGameValues};
 
-use crate::backward::list_entries_before;
+use crate::backward::{list_before_all, list_entries_before};
 use crate::exact::Exact;
 use crate::layout::Layout;
 use crate::levels::PairLevels;
@@ -36,7 +36,7 @@ use morris_index::pair::Pair;
 use morris_index::standing::Standing;
 use morris_moves::rules::takable;
 use morris_wave::{Exits, Graph};
-use std::alloc::AllocError;
+use std::alloc::{AllocError, Global};
 use std::marker::Model;
 
 /// The summary of the exits of a node that has some, each of them lost already.
@@ -330,5 +330,14 @@ impl<'a, B: Board> Graph for PairGraph<'a, B> {
 
     fn back(&self, i: u64, out: &mut Vec<u64>) -> Result<(), AllocError> {
         list_entries_before(&Numbering::Full(self.pair), &self.pair.position(i), out)
+    }
+
+    fn back_from(
+        &self,
+        alloc: Global,
+        nodes: &[u64],
+        out: &mut Vec<u64>,
+    ) -> Result<(), AllocError> {
+        list_before_all(alloc, &Numbering::Full(self.pair), nodes, out)
     }
 }
