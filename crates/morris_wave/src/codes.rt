@@ -71,6 +71,9 @@ impl Codes {
     pub(crate) fn add_to(&self, list: &mut Vec<u16>) -> Result<(), AllocError>
         ensures { OnOk result (list.new.items ≡ list.old.items ++ self.now) }
     {
+        if self.high.is_empty() {
+            return add_bytes(list, &self.low);
+        }
         for place in 0..self.len() {
             list.push(self.get(place))?;
         }
@@ -85,6 +88,13 @@ impl Codes {
         self.add_to(&mut words)?;
         Ok(words)
     }
+}
+
+// Puts bytes at the end of a list, for which the compiler takes many at a time.
+fn add_bytes(list: &mut Vec<u16>, bytes: &[u8]) -> Result<(), AllocError>
+    ensures { OnOk result (list.new.items ≡ list.old.items ++ bytes.now) }
+{
+    list.extend(bytes.iter().map(|byte| u16::from(*byte)))
 }
 
 // Brings in as many high bytes of 0 as there are low ones, where the code is the first that needs

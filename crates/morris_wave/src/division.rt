@@ -6,6 +6,12 @@ use std::marker::Model;
 use std::ops::Range;
 use thiserror::Error;
 
+// 2^64: a reciprocal counts in such parts.
+const WHOLE: u128 = 18446744073709551616;
+
+// 2^32: the square of a size of at most this is at most 2^64, and then a reciprocal is exact enough.
+const SHORT: u64 = 4294967296;
+
 // 2^53: a factor counts in such parts, and 1,024 blocks of them are below 2^64.
 const PARTS: u64 = 9007199254740992;
 
@@ -134,6 +140,24 @@ impl Cut {
         self.near(i, i.wrapping_mul(factor) / PARTS)
     }
 
+    // The same from the blocks by the size in parts of 2^64, rounded to just below the quotient. Up
+    // to 2^32 nodes the product lacks so little that its high half is the block, and nothing is left
+    // to set right.
+    fn find_exactly(&self, i: u64, reciprocal: u64) -> u64
+        requires node { i < self.now.size }
+        requires small { self.now.size ≤ 2 ^ 32 }
+        requires below { reciprocal * self.now.size < self.now.blocks * 2 ^ 64 }
+        requires above { self.now.blocks * 2 ^ 64 ≤ reciprocal * self.now.size + self.now.size }
+        ensures value { result ≡ block_of self.now i }
+        ensures within { result < self.now.blocks }
+        ensures holds { IsIn self.now result i }
+    {
+        // The proof learns here that the blocks are 1 to 1,024.
+        let _blocks = self.blocks;
+        let (_, block) = (i + 1).carrying_mul(reciprocal, 0);
+        block
+    }
+
     /// The nodes of block `k`.
     ///
     /// The ranges follow one another without gap from 0 to the size.
@@ -155,19 +179,36 @@ impl Cut {
 #[derive(Clone, Copy)]
 pub(crate) struct Finder {
     pub(crate) cut: Cut,
+    // The blocks by the size in parts of 2^64, just below the quotient; 0 where there are more blocks
+    // than nodes, so that it doesn't fit, or more than 2^32 nodes, so that it isn't exact enough.
+    reciprocal: u64,
+    // The same in larger parts, for the guesses where there is no reciprocal.
     factor: u64,
+    ghost small: { 0 < reciprocal → cut.size ≤ 2 ^ 32 },
+    ghost below: { 0 < reciprocal → reciprocal * cut.size < cut.blocks * 2 ^ 64 },
+    ghost above: { 0 < reciprocal → cut.blocks * 2 ^ 64 ≤ reciprocal * cut.size + cut.size },
 }
 
 impl Finder {
     pub(crate) fn new(cut: &Cut) -> Finder
         ensures { result.cut ≡ cut.now }
     {
-        let factor = if cut.size() == 0 {
+        let size = cut.size();
+        let factor = if size == 0 {
             0
         } else {
-            cut.blocks() * PARTS / cut.size()
+            cut.blocks() * PARTS / size
         };
-        Finder { cut: *cut, factor }
+        let reciprocal = if cut.blocks() <= size && size <= SHORT {
+            reciprocal_of(cut.blocks(), size)
+        } else {
+            0
+        };
+        Finder {
+            cut: *cut,
+            reciprocal,
+            factor,
+        }
     }
 
     // The block that holds node `i`.
@@ -177,6 +218,20 @@ impl Finder {
         ensures within { result < self.now.cut.blocks }
         ensures holds { IsIn self.now.cut result i }
     {
-        self.cut.find(i, self.factor)
+        if self.reciprocal > 0 {
+            self.cut.find_exactly(i, self.reciprocal)
+        } else {
+            self.cut.find(i, self.factor)
+        }
     }
+}
+
+// The blocks by the size in parts of 2^64: the greatest number of them below the quotient.
+fn reciprocal_of(blocks: u64, size: u64) -> u64
+    requires some { 1 ≤ blocks }
+    requires few { blocks ≤ size }
+    ensures below { result * size < blocks * 2 ^ 64 }
+    ensures above { blocks * 2 ^ 64 ≤ result * size + size }
+{
+    ((u128::from(blocks) * WHOLE - 1) / u128::from(size)) as u64
 }

@@ -98,9 +98,27 @@ impl<L: NodeList> Listed<L> {
         ensures list { take self.old.here (L.items self.new.decided) ≡ take self.old.here (L.items self.old.decided) }
         ensures codes { Marks self.old.entries.codes self.new.entries.codes (λ k. (place == k) && ready) (self.old.wave + 1) }
     {
+        if ready {
+            self.give(place);
+        }
+    }
+
+    // The same of an entry that is ready. Few are: this is out of line, so that the test alone goes
+    // into the loops that mark.
+    #[inline(never)]
+    fn give(&mut self, place: u64)
+        requires inside { place < length self.old.entries.codes }
+        ensures len { length self.new.entries.codes ≡ length self.old.entries.codes }
+        ensures first { self.new.first ≡ self.old.first }
+        ensures wave { self.new.wave ≡ self.old.wave }
+        ensures before { self.new.before ≡ self.old.before }
+        ensures here { self.new.here ≡ self.old.here }
+        ensures list { take self.old.here (L.items self.new.decided) ≡ take self.old.here (L.items self.old.decided) }
+        ensures codes { Marks self.old.entries.codes self.new.entries.codes (λ k. place == k) (self.old.wave + 1) }
+    {
         let node = self.first + place;
         let place = place as usize;
-        if ready && self.entries.codes.get(place) == 0 {
+        if self.entries.codes.get(place) == 0 {
             self.entries.put(place, self.wave + 1);
             self.decided.put_last(node);
         }

@@ -2,7 +2,7 @@ use Rattle.std.proofs.Common.{◌≡◌, ℕ, ◌+◌, ◌∷◌, [], List, arit
 use Rattle.std.proofs.lemmas.List.{take-append-le}
 use Rattle.morris_wave.specs.Keeping.{Ranked}
 use Rattle.morris_wave.proofs.Ranks.{ranked_more, room_left}
-use Rattle.morris_wave.proofs.listed.Listed.mark.Goals as goal
+use Rattle.morris_wave.proofs.listed.Listed.give.Goals as goal
 
 pub put_last-requires-clause-room : goal.put_last-requires-clause-room
 put_last-requires-clause-room g c =
