@@ -3,7 +3,7 @@ use Rattle.std.proofs.Common.{◌≡◌, ℕ, zero, suc, ◌+◌, ◌<◌, ◌�
 use Rattle.std.specs.List.{list_all}
 use Rattle.std.proofs.lemmas.Bool.{cases_Bool, both_ways, leb-true}
 use Rattle.std.proofs.lemmas.List.Folds.{list_all_at}
-use Rattle.std.proofs.lemmas.List.{get_or-take, length-take-le}
+use Rattle.std.proofs.lemmas.List.{get_or-map, get_or-take, length-take-le}
 use Rattle.std.proofs.lemmas.List.FromFn.{length-map-range_with_len}
 use Rattle.std.specs.List.{range_with_len}
 use Rattle.std.proofs.lemmas.List.FromFn.{get_or-map-range_with_len}
@@ -37,6 +37,21 @@ row_of n h = ap (λ t. get_or t n []) (sym rows) ∙ get_or-map-range_with_len r
 pub binomial_of : (n k : ℕ) → n < 25 → k < 11 → get_or (get_or table.BINOMIALS n []) k 0 ≡ choose n k
 unfolding choices
 binomial_of n k h l = ap (λ r. get_or r k 0) (row_of n h) ∙ get_or-map-range_with_len (choose n) 0 11 k k 0 l (zero-add k)
+
+-- the table by columns has the same numbers
+
+abbrev column : ℕ → List ℕ
+column k = map (λ r. get_or r k 0) table.BINOMIALS
+
+columns : map column (range_with_len 0 10) ≡ table.COLUMNS
+columns = refl
+
+pub column_of : (k n : ℕ) → k < 10 → n < 25 → get_or (get_or table.COLUMNS k []) n 0 ≡ choose n k
+column_of k n h l =
+    ap (λ t. get_or (get_or t k []) n 0) (sym columns)
+    ∙ ap (λ c. get_or c n 0) (get_or-map-range_with_len column 0 10 k k [] h (zero-add k))
+    ∙ get_or-map (λ r. get_or r k 0) table.BINOMIALS n [] 0 l
+    ∙ binomial_of n k l (omega arith)
 
 -- the greatest numbers of the table: of all of it, of all but its last column, and of the first 22
 -- rows of these

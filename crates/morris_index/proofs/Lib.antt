@@ -4,6 +4,7 @@ pub mod RankLaws
 pub mod Moving
 pub mod PartTables
 pub mod SetLaws
+pub mod Highest
 pub mod Unranking
 pub mod Following
 pub mod SumLaws

@@ -24,9 +24,9 @@ const NO_RANK: KeptRank = KeptRank {
 };
 
 /// What was found of the images of sets: the rank of the last one under each symmetry, outside the
-/// representative of each class. Where a player has three stones, many positions lie before one, but
-/// the stones of these are of few classes. So for positions that follow one another with the same
-/// stones of the player to move most ranks are found once.
+/// representative of each class. Where a player has three stones, many positions lie before one,
+/// but the stones of these are of few classes. So for positions that follow one another with the
+/// same stones of the player to move most ranks are found once.
 #[derive(Drop)]
 pub struct KeptRanks<B: Geometry> {
     /// How many points the sets have by whose classes the ranks are kept.

@@ -5,7 +5,7 @@ ghost use Rattle.morris_index.specs.Binomials.{choose};
 ghost use Rattle.morris_index.specs.Numbering.{rank_of, number_outside, IsRanked};
 ghost use Rattle.morris_index.specs.Parts.{squeezed_below};
 
-use crate::binomials::binomial;
+use crate::binomials::highest;
 use crate::parts::{part_rank, part_size, spread_part, squeezed_part};
 use morris_board::points::Points;
 
@@ -51,8 +51,8 @@ fn squeezed(set: Points, outside: Points) -> Points
     Points::from_mask(squeezed)
 }
 
-/// The set of the points outside `outside` that have these numbers there: what [`squeezed`] makes of
-/// it.
+/// The set of the points outside `outside` that have these numbers there: what [`squeezed`] makes
+/// of it.
 pub(crate) fn spread(numbers: Points, outside: Points) -> Points
     requires { numbers < 2 ^ number_outside outside 24 }
     ensures within { result < 2 ^ 24 }
@@ -86,24 +86,21 @@ pub(crate) fn unrank(points: u8, outside: Points, count: u8, rank: u64) -> Point
     requires small { rank < choose (number_outside outside points) count }
     ensures { IsRanked points outside count rank result }
 {
-    let mut taken = Points::EMPTY;
+    // The numbers of the points outside `outside`, from the highest one down.
+    let mut numbers = Points::EMPTY;
     let mut left = count;
-    let mut rest = rank;
-    let mut number = number_outside(outside, points);
-    let mut point = points;
-    while left > 0 {
-        point -= 1;
-        if !outside.has(point) {
-            number -= 1;
-            let skipped = binomial(number, left);
-            if skipped <= rest {
-                rest -= skipped;
-                left -= 1;
-                taken = taken.with(point);
-            }
-        }
+    let mut rest = rank as u32;
+    while left > 1 {
+        let (number, lower) = highest(left, rest);
+        numbers = numbers.with(number);
+        rest = lower;
+        left -= 1;
     }
-    taken
+    // The rank of a set of one point is the point.
+    if left == 1 {
+        numbers = numbers.with(rest as u8);
+    }
+    spread(numbers, outside)
 }
 
 /// The set of the least `count` points below `end` that aren't in `outside`.

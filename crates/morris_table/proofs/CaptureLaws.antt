@@ -58,7 +58,7 @@ legal_takes b s m t e legal =
 
 -- ---- some stone may be taken
 
-empty_count : (s : ℕ) → s ≡ 0 → count_of s ≡ 0
+pub empty_count : (s : ℕ) → s ≡ 0 → count_of s ≡ 0
 unfolding count_of
 empty_count s e = ap (λ t. length (members t)) e ∙ ap length members-none
 

@@ -1,5 +1,6 @@
 -- Lemmas on the definitions of this crate.
 pub mod CodeLaws
+pub mod RankedSets
 pub mod PositionLaws
 pub mod NodeLaws
 pub mod HeadlineLaws
@@ -25,6 +26,7 @@ pub mod SummaryLaws
 pub mod CaptureLaws
 pub mod NumberedLaws
 pub mod CapturedLaws
+pub mod KeptLaws
 pub mod BuildLaws
 pub mod AgreementLaws
 pub mod WorthLaws

@@ -11,7 +11,6 @@ use Rattle.morris_index.specs.Numbering.{number_outside, half_size, half_index, 
 use Rattle.morris_index.specs.Pairs.{Counts, IsPair, has_counts, is_of, size_of, index_of}
 use Rattle.morris_index.specs.Classes.{representative_of, is_representative, classes_below, class_of, class_count}
 use Rattle.morris_index.specs.ClassPairs.{class_half_size, class_half_index, class_size_of, class_index_of}
-use Rattle.morris_index.proofs.Unranking.{IsUnranking, unranking-start, unranking-more, unranking-inside, unranking-skip, unranking-take, unranking-end}
 use Rattle.morris_index.proofs.IndexLaws.{IsPlaced, own_part-lt, other_part-lt, half_index-ranked, is_of-first, is_of-second, index-in_first, index-in_second, second_half}
 use Rattle.morris_index.proofs.ClassLaws.{test_parts, one_more, no_more}
 use Rattle.morris_index.proofs.ClassLaws.{none_below as no_classes_below}
@@ -23,30 +22,7 @@ use Rattle.morris_table.specs.Entries.{entry_count, entry_index, has_own_entry}
 use Rattle.morris_table.specs.EntryLaws.{position_of, laid}
 use Rattle.morris_table.specs.PairNets.{at_index}
 use Rattle.morris_table.specs.NetLaws.{at_index-is}
-
--- ---- each rank is that of a set
-
-none_below : (outside : ℕ) → number_outside outside 0 ≡ 0
-unfolding number_outside
-none_below outside = refl
-
-module _ (n outside count rank : ℕ) (few : n ≤ 24) where
-  -- from what is found above a point, the points below it give the rest
-  ranked_from : (point left rest taken : ℕ) → point ≤ n → IsUnranking n outside count rank point left rest taken
-      → (set : ℕ) × IsRanked n outside count rank set
-  ranked_from point zero rest taken low h = (taken, unranking-end n outside count rank point rest taken h)
-  ranked_from zero (suc left) rest taken low h =
-      absurd (omega (arith, unranking-more n outside count rank zero (suc left) rest taken (omega arith) h, none_below outside))
-  ranked_from (suc p) (suc left) rest taken low h = elim (cases_Bool (has outside p)) [
-    | inl inside ↦ ranked_from p (suc left) rest taken (omega arith) (unranking-inside n outside count rank p (suc left) rest taken h inside)
-    | inr free ↦ elim (cases_lt rest (choose (number_outside outside p) (suc left))) [
-      | inl before ↦ ranked_from p (suc left) rest taken (omega arith) (unranking-skip n outside count rank p (suc left) rest taken h before)
-      | inr fits ↦ ranked_from p left _ _ (omega arith) (unranking-take n outside count rank p left rest taken h (omega arith) few free fits)
-    ]
-  ]
-
-  pub ranked_set : rank < choose (number_outside outside n) count → (set : ℕ) × IsRanked n outside count rank set
-  ranked_set h = ranked_from n count rank 0 (omega arith) (unranking-start n outside count rank h)
+use Rattle.morris_table.proofs.RankedSets.{ranked_set}
 
 -- ---- each index is that of a position
 

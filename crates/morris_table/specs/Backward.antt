@@ -35,7 +35,7 @@ unfoldable pub entries_leading : Layout → Shape → ℕ → Counts → Sides �
 entries_leading l board n c s moves = flat_map (λ m. leads_from l board n c s m.from m.to) moves
 
 -- `new` is `old`, followed by the entries from which a quiet move leads to the entry of s, each as
--- often as it has such a move
+-- often as it has such a move; these are at most 65,535
 pub record AddsBefore (l : Layout) (board : Shape) (n : ℕ) (c : Counts) (s : Sides) (old new : List ℕ) : Type 0 where
   pub added : List ℕ
   pub follow : new ≡ old ++ added

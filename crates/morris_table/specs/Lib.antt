@@ -17,6 +17,7 @@ pub mod Headers
 pub mod Shelves
 pub mod Graphs
 pub mod Captured
+pub mod KeptCaptures
 pub mod Sweeping
 pub mod ClassGraphs
 pub mod Agreement

@@ -1,5 +1,5 @@
 //! The graph of a pair.
-ghost use Rattle.std.specs.Prelude.{◌≡◌, ℕ, ◌+◌, ◌*◌, ◌<◌, ◌≤◌, ◌↔◌, ◌&&◌, not, true, Some, None, List, ◌++◌, length, slice_index, vec_len, is_some, IfOk, OnOk, IfSome, MatchResult};
+ghost use Rattle.std.specs.Prelude.{◌≡◌, ℕ, ◌+◌, ◌*◌, ◌<◌, ◌≤◌, ◌↔◌, ◌&&◌, not, true, false, Some, None, List, ◌++◌, length, slice_index, vec_len, is_some, IfOk, OnOk, IfSome, MatchResult};
 ghost use Rattle.std.specs.Option.{option_copied};
 ghost use Rattle.morris_board.specs.Positions.{IsPosition};
 ghost use Rattle.morris_board.specs.Sets.{has, members, count_of};
@@ -20,9 +20,11 @@ ghost use Rattle.morris_table.specs.Shelves.{table_on, first_missing};
 ghost use Rattle.morris_table.specs.Headline.{IsBlockOf, TellsTheGame};
 ghost use Rattle.morris_table.specs.Captured.{captured_pair, IsLeft, IsClosing, captures_at, captures_to};
 ghost use Rattle.morris_table.specs.Graphs.{IsTableOf, IsNeeded, exits_by, HasGameValues};
+ghost use Rattle.morris_table.specs.KeptCaptures.{AreKept};
 
 use crate::backward::{list_before_all, list_entries_before};
 use crate::exact::Exact;
+use crate::kept_captures::KeptCaptures;
 use crate::layout::Layout;
 use crate::levels::PairLevels;
 use crate::numbering::Numbering;
@@ -149,6 +151,67 @@ fn with_captures<B: Geometry>(
     exits
 }
 
+/// The summary of the captures of a stone that stands where no move closes a mill: that which is
+/// kept of the stones that are left, or one that is kept from now on.
+fn captures_kept<B: Geometry>(
+    table: &Exact<B>,
+    row: &Row,
+    position: &Position<B>,
+    taken: u8,
+    ends: Points,
+    kept: &mut KeptCaptures,
+) -> Exits
+    requires table { IsTableOf B.shape (captured_pair position.now) table.now }
+    requires row { IsRow B.shape B.POINTS row.now }
+    requires own { row.now.own ≡ position.now.own }
+    requires lawful { IsPosition B.shape position.now }
+    requires taken { has (takable B.shape position.now.other) taken ≡ true }
+    requires apart { has row.now.closing taken ≡ false }
+    requires ends { (v : ℕ) → has ends v ≡ (has row.now.closing v && not (has position.now.other v)) }
+    requires of { kept.old.own ≡ row.now.own }
+    requires kept { AreKept B.shape kept.old }
+    ensures value { result ≡ exits_by B.shape position.now (captures_to row.now.closers taken (members ends)) }
+    ensures of { kept.new.own ≡ kept.old.own }
+    ensures kept { AreKept B.shape kept.new }
+{
+    let other = position.other();
+    let left = other.without(taken);
+    if let Some(results) = kept.get(left) {
+        return results;
+    }
+    let results = with_captures(table, row, position, taken, ends, Exits::NONE);
+    kept.put(left, results);
+    results
+}
+
+/// The summary of the captures of the stone on `taken`: looked up among those that are kept, unless
+/// it stands where a move closes a mill, and so in the way of that move.
+fn captures_of<B: Geometry>(
+    table: &Exact<B>,
+    row: &Row,
+    position: &Position<B>,
+    taken: u8,
+    ends: Points,
+    kept: &mut KeptCaptures,
+) -> Exits
+    requires table { IsTableOf B.shape (captured_pair position.now) table.now }
+    requires row { IsRow B.shape B.POINTS row.now }
+    requires own { row.now.own ≡ position.now.own }
+    requires lawful { IsPosition B.shape position.now }
+    requires taken { has (takable B.shape position.now.other) taken ≡ true }
+    requires ends { (v : ℕ) → has ends v ≡ (has row.now.closing v && not (has position.now.other v)) }
+    requires of { kept.old.own ≡ row.now.own }
+    requires kept { AreKept B.shape kept.old }
+    ensures value { result ≡ exits_by B.shape position.now (captures_to row.now.closers taken (members ends)) }
+    ensures of { kept.new.own ≡ kept.old.own }
+    ensures kept { AreKept B.shape kept.new }
+{
+    if row.closing.has(taken) {
+        return with_captures(table, row, position, taken, ends, Exits::NONE);
+    }
+    captures_kept(table, row, position, taken, ends, kept)
+}
+
 impl<'a, B: Geometry> PairGraph<'a, B> {
     /// The graph of a pair over the tables of a shelf. It takes no memory.
     ///
@@ -251,6 +314,37 @@ impl<'a, B: Geometry> PairGraph<'a, B> {
         let mut exits = Exits::NONE;
         for taken in takable::<B>(position.other()).iter() {
             exits = with_captures(table, row, position, taken, ends, exits);
+        }
+        exits
+    }
+
+    /// The same, with the summaries of captures that are kept from one position with these own
+    /// stones to the next.
+    pub(crate) fn exits_by_kept(
+        &self,
+        row: &Row,
+        position: &Position<B>,
+        kept: &mut KeptCaptures,
+    ) -> Exits
+        requires counts { is_of self.now position.now ≡ true }
+        requires lawful { IsPosition B.shape position.now }
+        requires own { row.now.own ≡ position.now.own }
+        requires row { IsRow B.shape B.POINTS row.now }
+        requires kept { AreKept B.shape kept.old }
+        ensures value { result ≡ exits_of (capture_codes B.shape position.now) }
+        ensures kept { AreKept B.shape kept.new }
+    {
+        let other = position.other();
+        let ends = row.closing.less(other);
+        // Nothing is looked up for these, and so nothing is kept.
+        if ends == Points::EMPTY || other.count() == 3 {
+            return self.exits_by_row(row, position);
+        }
+        kept.follow(row.own);
+        let table = self.captured_table(position);
+        let mut exits = Exits::NONE;
+        for taken in takable::<B>(other).iter() {
+            exits = exits.joined(captures_of(table, row, position, taken, ends, kept));
         }
         exits
     }

@@ -11,6 +11,7 @@ pub mod exact;
 pub mod file_faults;
 pub mod graph;
 pub mod header;
+mod kept_captures;
 pub mod layout;
 pub mod levels;
 mod numbered_row;

@@ -3,11 +3,13 @@
 ghost use Rattle.std.specs.Prelude.{◌≡◌, ℕ, ◌+◌, ◌<◌, ◌≤◌, min, length, slice_index};
 ghost use Rattle.morris_index.specs.Pairs.{IsPair};
 ghost use Rattle.morris_table.specs.Entries.{entry_count};
+ghost use Rattle.morris_table.specs.KeptCaptures.{AreKept};
 ghost use Rattle.morris_table.specs.PairNets.{level_of, net_at};
 ghost use Rattle.morris_wave.specs.Exits.{exits_of};
 ghost use Rattle.morris_wave.specs.Solving.{exits_at};
 
 use crate::graph::PairGraph;
+use crate::kept_captures::KeptCaptures;
 use crate::layout::Layout;
 use crate::numbered_row::NumberedRow;
 use crate::rows::Row;
@@ -21,25 +23,28 @@ use morris_wave::Exits;
 fn read_row<B: Geometry>(
     graph: &PairGraph<B>,
     entries: &EntryRow<B>,
+    kept: &mut KeptCaptures,
     counts: &mut [u16],
     exits: &mut [Exits],
 ) -> usize
     requires pair { entries.now.pair ≡ graph.now }
     requires lawful { IsPair B.POINTS graph.now }
     requires room { length exits.old ≡ length counts.old }
+    requires kept { AreKept B.shape kept.old }
+    ensures kept { AreKept B.shape kept.new }
     ensures many { result ≡ min entries.now.len (length counts.old) }
     ensures counts { (k : ℕ) → k < result → slice_index counts.new k ≡ length ((net_at B.shape (level_of Layout.Classes graph.now)).quiet (entries.now.first + k)) }
     ensures exits { (k : ℕ) → k < result → exits_at exits.new k ≡ exits_of ((net_at B.shape (level_of Layout.Classes graph.now)).exits (entries.now.first + k)) }
 {
-    let kept = NumberedRow::of::<B>(&Row::of::<B>(entries.own()));
+    let row = NumberedRow::of::<B>(&Row::of::<B>(entries.own()));
     let many = entries.len().min(counts.len());
     for place in 0..many {
         let numbers = entries.numbers(place);
-        counts[place] = kept.quiet_moves::<B>(numbers);
+        counts[place] = row.quiet_moves::<B>(numbers);
         // Written in place before any call: most entries have no capture, and are done with this.
         exits[place] = Exits::NONE;
-        if kept.may_capture::<B>(numbers) {
-            exits[place] = graph.exits_by_row(&kept.row, &entries.position(place));
+        if row.may_capture::<B>(numbers) {
+            exits[place] = graph.exits_by_kept(&row.row, &entries.position(place), kept);
         }
     }
     many
@@ -63,9 +68,16 @@ pub(crate) fn read_rows<B: Geometry>(
 {
     // The proof learns here that the entries are few.
     let _ = classes.size();
+    let mut kept = KeptCaptures::new();
     let mut done = 0;
     while done < counts.len() {
         let entries = classes.row_from(first + done as u64);
-        done += read_row(graph, &entries, &mut counts[done..], &mut exits[done..]);
+        done += read_row(
+            graph,
+            &entries,
+            &mut kept,
+            &mut counts[done..],
+            &mut exits[done..],
+        );
     }
 }

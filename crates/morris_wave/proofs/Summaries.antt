@@ -1,6 +1,9 @@
 -- The summary of a list of codes, one code after another.
 use Rattle.std.proofs.Common.{◌≡◌, ℕ, zero, suc, ◌-◌, min, max, Bool, true, false, not, ◌&&◌, ◌||◌, cond, eqb, ltb, List, [], ◌∷◌, ◌++◌, Option, Some, None, map, refl, sym, ap, ◌∙◌, inl, inr, arith}
 use Rattle.std.specs.List.{list_any, filter}
+use Rattle.std.proofs.lemmas.List.{map-append}
+use Rattle.std.proofs.lemmas.List.Elements.{filter-append}
+use Rattle.std.proofs.lemmas.List.Folds.{list_any-append}
 use Rattle.std.proofs.lemmas.Bool.{false≢true, cases_Bool, and_cases, and_parts, both_ways, not-true, not-false, eq-eqb, ne_eqb, ltb-true, ltb-false}
 use Rattle.morris_wave.specs.declared.network.Exits.{Exits}
 use Rattle.morris_wave.specs.Exits.{is_odd, is_won_code, least, greatest, depths, exits_of}
@@ -23,6 +26,48 @@ greatest-more (x ∷ xs) y = ap (λ o. Some (elim o [ None ↦ x | Some z ↦ ma
     at : (o : Option ℕ) → Some (max x (greatest_with o y)) ≡ Some (greatest_with (Some (elim o [ None ↦ x | Some z ↦ max x z ])) y)
     at None = refl
     at (Some z) = let e : max x (max z y) ≡ max (max x z) y = omega arith in ap (λ n. Some n) e
+
+-- ---- the least and the greatest of two lists together, from those of each
+
+abbrev least_of : Option ℕ → Option ℕ → Option ℕ
+least_of known None = known
+least_of known (Some y) = Some (least_with known y)
+
+least-both : (before after : List ℕ) → least (before ++ after) ≡ least_of (least before) (least after)
+least-both [] after = alone (least after)
+  where
+    alone : (o : Option ℕ) → o ≡ least_of None o
+    alone None = refl
+    alone (Some y) = refl
+least-both (x ∷ xs) after = ap (λ o. Some (elim o [ None ↦ x | Some z ↦ min x z ])) (least-both xs after) ∙ at (least xs) (least after)
+  where
+    at : (o r : Option ℕ) → Some (elim (least_of o r) [ None ↦ x | Some z ↦ min x z ]) ≡ least_of (Some (elim o [ None ↦ x | Some z ↦ min x z ])) r
+    at o None = refl
+    at None (Some y) = refl
+    at (Some z) (Some y) = let e : min x (min z y) ≡ min (min x z) y = omega arith in ap (λ n. Some n) e
+
+pub least_joined : (before after : List ℕ) (known other : Option ℕ) → known ≡ least before → other ≡ least after → least_of known other ≡ least (before ++ after)
+least_joined before after known other e f = ap (λ o. least_of o other) e ∙ (ap (least_of (least before)) f ∙ sym (least-both before after))
+
+abbrev greatest_of : Option ℕ → Option ℕ → Option ℕ
+greatest_of known None = known
+greatest_of known (Some y) = Some (greatest_with known y)
+
+greatest-both : (before after : List ℕ) → greatest (before ++ after) ≡ greatest_of (greatest before) (greatest after)
+greatest-both [] after = alone (greatest after)
+  where
+    alone : (o : Option ℕ) → o ≡ greatest_of None o
+    alone None = refl
+    alone (Some y) = refl
+greatest-both (x ∷ xs) after = ap (λ o. Some (elim o [ None ↦ x | Some z ↦ max x z ])) (greatest-both xs after) ∙ at (greatest xs) (greatest after)
+  where
+    at : (o r : Option ℕ) → Some (elim (greatest_of o r) [ None ↦ x | Some z ↦ max x z ]) ≡ greatest_of (Some (elim o [ None ↦ x | Some z ↦ max x z ])) r
+    at o None = refl
+    at None (Some y) = refl
+    at (Some z) (Some y) = let e : max x (max z y) ≡ max (max x z) y = omega arith in ap (λ n. Some n) e
+
+pub greatest_joined : (before after : List ℕ) (known other : Option ℕ) → known ≡ greatest before → other ≡ greatest after → greatest_of known other ≡ greatest (before ++ after)
+greatest_joined before after known other e f = ap (λ o. greatest_of o other) e ∙ (ap (greatest_of (greatest before)) f ∙ sym (greatest-both before after))
 
 -- ---- the depths of one more code
 
@@ -93,6 +138,23 @@ summed lost won drawn = record { least_lost = lost; greatest_won = won; drawn = 
 
 same_summary : (a b c d : Option ℕ) (x y : Bool) → a ≡ b → c ≡ d → x ≡ y → summed a c x ≡ summed b d y
 same_summary a b c d x y e f g = rw (e, f, g) refl
+
+depths-append : (p : ℕ → Bool) (before after : List ℕ) → depths p (before ++ after) ≡ depths p before ++ depths p after
+depths-append p before after = ap (map (λ c. c - 1)) (filter-append p before after) ∙ map-append (λ c. c - 1) (filter p before) (filter p after)
+
+-- what is known of two lists together, from what is known of each
+pub exits_of-joined : (before after : List ℕ) (one other : Exits) → one ≡ exits_of before → other ≡ exits_of after
+    → (lost won : Option ℕ) (drawn : Bool)
+    → lost ≡ least (depths is_odd before ++ depths is_odd after)
+    → won ≡ greatest (depths is_won_code before ++ depths is_won_code after)
+    → drawn ≡ (one.drawn || other.drawn)
+    → summed lost won drawn ≡ exits_of (before ++ after)
+exits_of-joined before after one other is other_is lost won drawn e f g = same_summary _ _ _ _ _ _
+    (e ∙ ap least (sym (depths-append is_odd before after)))
+    (f ∙ ap greatest (sym (depths-append is_won_code before after)))
+    (g ∙ (ap (λ (x : Exits). x.drawn || other.drawn) is
+    ∙ (ap (λ (x : Exits). (exits_of before).drawn || x.drawn) other_is
+    ∙ sym (list_any-append (λ c. eqb c 0) before after))))
 
 pub exits_of-more : (codes : List ℕ) (code : ℕ) → exits_of (codes ++ code ∷ []) ≡ added (exits_of codes) code
 unfolding added

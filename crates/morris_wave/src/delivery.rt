@@ -56,8 +56,10 @@ fn deal<L: NodeList>(lists: &mut Vec<L>, finder: &Finder, nodes: &[u64]) -> Resu
     ensures sorted { OnOk result (AreSorted finder.now.cut (contents L.items lists.new.items)) }
     ensures dealt { OnOk result (Deals finder.now.cut (contents L.items lists.old.items) (contents L.items lists.new.items) nodes.now) }
 {
+    // A copy stays in registers: what is written to the lists might change one in memory.
+    let kept = *finder;
     for node in nodes {
-        put_into(lists, finder.find(*node) as usize, *node)?;
+        put_into(lists, kept.find(*node) as usize, *node)?;
     }
     Ok(())
 }

@@ -2,7 +2,7 @@
 ghost use Rattle.std.specs.Prelude.{◌≡◌, ℕ, ◌+◌, ◌<◌, ◌≤◌, ◌^◌, ◌==◌, ◌++◌, ◌∷◌, List, [], Option, length, slice_index, OnOk, OnErr, vec_len};
 ghost use Rattle.std.specs.List.{All, sum_by};
 ghost use Rattle.morris_wave.specs.Nets.{Net, IsNet, times};
-ghost use Rattle.morris_wave.specs.Exits.{due_of};
+ghost use Rattle.morris_wave.specs.Exits.{least, greatest, due_of};
 ghost use Rattle.morris_wave.specs.Summaries.{least_with, greatest_with, added};
 
 use std::alloc::{AllocError, Global};
@@ -42,6 +42,17 @@ impl Exits {
         ensures more { (codes : List ℕ) → self ≡ exits_of codes → result ≡ exits_of (codes ++ code ∷ []) }
     {
         one_more(self, code)
+    }
+
+    /// What is known of two lists of exits together.
+    pub fn joined(self, other: Exits) -> Exits
+        ensures { (before after : List ℕ) → self ≡ exits_of before → other ≡ exits_of after → result ≡ exits_of (before ++ after) }
+    {
+        Exits {
+            least_lost: least_of_both(self.least_lost, other.least_lost),
+            greatest_won: greatest_of_both(self.greatest_won, other.greatest_won),
+            drawn: self.drawn || other.drawn,
+        }
     }
 
     // Whether there is none, so that every exit is won before the first wave.
@@ -90,6 +101,26 @@ fn greatest_with(known: Option<u16>, depth: u16) -> u16
     match known {
         None => depth,
         Some(known) => known.max(depth),
+    }
+}
+
+// The least of two lists of depths together, from the least of each.
+fn least_of_both(known: Option<u16>, other: Option<u16>) -> Option<u16>
+    ensures { (before after : List ℕ) → known ≡ least before → other ≡ least after → result ≡ least (before ++ after) }
+{
+    match other {
+        None => known,
+        Some(depth) => Some(least_with(known, depth)),
+    }
+}
+
+// The greatest of two lists of depths together, from the greatest of each.
+fn greatest_of_both(known: Option<u16>, other: Option<u16>) -> Option<u16>
+    ensures { (before after : List ℕ) → known ≡ greatest before → other ≡ greatest after → result ≡ greatest (before ++ after) }
+{
+    match other {
+        None => known,
+        Some(depth) => Some(greatest_with(known, depth)),
     }
 }
 

@@ -15,8 +15,9 @@ use crate::nodes::NodeList;
 use crate::stretch::Stretch;
 use std::alloc::{AllocError, Global};
 
-// So many nodes are read at a time, so that nothing that was read stays with its node.
-const PIECE: usize = 1024;
+// So many nodes are read at a time, so that nothing that was read stays with its node. What a graph
+// keeps while it reads nodes that follow one another serves the more of them.
+const PIECE: usize = 16384;
 
 // What is known of a stretch while its nodes are read.
 #[derive(Drop)]

@@ -1,104 +1,63 @@
-use Rattle.std.proofs.Common.{◌≡◌, ℕ, ◌<◌, ◌-◌, suc, sym, ◌∙◌, ap, arith, true, false}
-use Rattle.morris_board.specs.Sets.{has}
+-- The numbers of the points are found by their rank, and then the points that have them.
+use Rattle.std.proofs.Common.{◌≡◌, ℕ, ◌-◌, ◌≤◌, refl, arith}
 use Rattle.morris_index.specs.Binomials.{choose}
 use Rattle.morris_index.specs.Numbering.{number_outside}
-use Rattle.morris_index.proofs.RankLaws.{number-outside, number-inside, number-count}
-use Rattle.morris_index.proofs.Unranking.{IsUnranking, unranking-start, unranking-more, unranking-inside, unranking-skip, unranking-take, unranking-end, point_before, one_less}
+use Rattle.morris_index.proofs.BinomialTable.{choose_small}
+use Rattle.morris_index.proofs.RankLaws.{number-count}
+use Rattle.morris_index.proofs.Spreading.{spread-ranked, listed-fits}
+use Rattle.morris_index.proofs.Unranking.{unranking-start, unranking-step, unranking-end, unranking-last, last_lt}
 use Rattle.morris_index.proofs.ranks.unrank.Goals as goal
+use Rattle.morris_index.proofs.ranks.unrank.Goals.{then-left-eq1, else-left-eq1}
+
+numbers_few : (outside points : ℕ) → points ≤ 24 → number_outside outside points ≤ 24
+numbers_few outside points board = omega (arith, number-count outside points)
+
+pub overflow_cast-rest : goal.overflow_cast-rest
+overflow_cast-rest c =
+    let few = numbers_few c.args.outside c.args.points c.requires.board in
+    omega (arith, c.requires.small, choose_small (number_outside c.args.outside c.args.points) c.args.count (omega (arith, few)) (omega (arith, c.requires.few)))
 
 pub loop-left-init : goal.loop-left-init
-loop-left-init c = record {
-  low = omega arith;
-  numbered = c.number_outside-number.ensures;
-  state = unranking-start c.args.points c.args.outside c.args.count c.args.rank c.requires.small;
-}
-
--- there is a point before, where stones are still to come
-some_before : (n outside count rank point left rest taken : ℕ) → 0 < left → IsUnranking n outside count rank point left rest taken → 0 < point
-some_before n outside count rank point left rest taken some s =
-    omega (arith, number-count outside point, unranking-more n outside count rank point left rest taken some s)
-
--- the number of the point before, where that point is numbered
-number_before : (outside number point : ℕ) → number ≡ number_outside outside point → 0 < point → has outside (point - 1) ≡ false
-    → number ≡ suc (number_outside outside (point - 1))
-number_before outside number point e some free =
-    let back : point ≡ suc (point - 1) = omega arith in
-    e ∙ ap (number_outside outside) back ∙ number-outside outside (point - 1) free
-
-number_same : (outside number point : ℕ) → number ≡ number_outside outside point → 0 < point → has outside (point - 1) ≡ true
-    → number ≡ number_outside outside (point - 1)
-number_same outside number point e some taken =
-    let back : point ≡ suc (point - 1) = omega arith in
-    e ∙ ap (number_outside outside) back ∙ number-inside outside (point - 1) taken
-
-pub overflow_sub-point : goal.overflow_sub-point
-overflow_sub-point c = some_before _ _ _ _ _ _ _ _ c.loop-left-test.true c.loop-left.invariant.state
-
-pub overflow_sub-number : goal.overflow_sub-number
-overflow_sub-number c =
-    let free : has c.args.outside (c.loop-left.point - 1) ≡ false = sym c.has.ensures ∙ c.if-not-has.true in
-    omega (arith, number_before c.args.outside c.loop-left.number c.loop-left.point c.loop-left.invariant.numbered (some_before _ _ _ _ _ _ _ _ c.loop-left-test.true c.loop-left.invariant.state) free)
-
-pub binomial-skipped-requires-clause-things : goal.binomial-skipped-requires-clause-things
-binomial-skipped-requires-clause-things c =
-    omega (arith, number-count c.args.outside c.loop-left.point, c.loop-left.invariant.numbered, c.loop-left.invariant.low)
-
-pub loop-left-smaller : goal.loop-left-smaller
-loop-left-smaller c = let some : 0 < c.loop-left.point = some_before _ _ _ _ _ _ _ _ c.loop-left-test.true c.loop-left.invariant.state in omega arith
-
-pub loop-left-smaller-then-skipped-rest : goal.loop-left-smaller-then-skipped-rest
-loop-left-smaller-then-skipped-rest c = let some : 0 < c.loop-left.point = some_before _ _ _ _ _ _ _ _ c.loop-left-test.true c.loop-left.invariant.state in omega arith
-
-pub loop-left-smaller-else-skipped-rest : goal.loop-left-smaller-else-skipped-rest
-loop-left-smaller-else-skipped-rest c = let some : 0 < c.loop-left.point = some_before _ _ _ _ _ _ _ _ c.loop-left-test.true c.loop-left.invariant.state in omega arith
+loop-left-init c = unranking-start (number_outside c.args.outside c.args.points) c.args.count c.args.rank c.requires.small
 
 pub loop-left-preserved : goal.loop-left-preserved
 loop-left-preserved c =
-    let some : 0 < c.loop-left.point = some_before _ _ _ _ _ _ _ _ c.loop-left-test.true c.loop-left.invariant.state in
-    let taken : has c.args.outside (c.loop-left.point - 1) ≡ true = sym c.has.ensures ∙ c.if-not-has.false in
-    record {
-      low = omega arith;
-      numbered = number_same c.args.outside c.loop-left.number c.loop-left.point c.loop-left.invariant.numbered some taken;
-      state =
-          unranking-inside _ _ _ _ _ _ _ _ (point_before _ _ _ _ _ _ _ _ some c.loop-left.invariant.state) taken;
-    }
+    let few = numbers_few c.args.outside c.args.points c.requires.board in
+    let lower : c.loop-left.rest - choose c.highest-number.result.0 c.loop-left.left ≡ c.highest-number.result.1 = omega (arith, c.highest-number.ensures.left) in
+    rw (c.with-numbers.ensures, ← lower)
+    (unranking-step _ _ _ _ _ _ _ (omega arith) c.loop-left.invariant few (omega (arith, c.highest-number.ensures.left)) c.highest-number.ensures.highest)
 
-pub loop-left-preserved-else-skipped-rest : goal.loop-left-preserved-else-skipped-rest
-loop-left-preserved-else-skipped-rest c =
-    let some : 0 < c.loop-left.point = some_before _ _ _ _ _ _ _ _ c.loop-left-test.true c.loop-left.invariant.state in
-    let free : has c.args.outside (c.loop-left.point - 1) ≡ false = sym c.has.ensures ∙ c.if-not-has.true in
-    let number : c.loop-left.number ≡ suc (number_outside c.args.outside (c.loop-left.point - 1)) =
-    number_before c.args.outside c.loop-left.number c.loop-left.point c.loop-left.invariant.numbered some free in
-    let same : c.loop-left.number - 1 ≡ number_outside c.args.outside (c.loop-left.point - 1) = omega arith in
-    record {
-      low = omega arith;
-      numbered = same;
-      state =
-          unranking-skip _ _ _ _ _ _ _ _ (point_before _ _ _ _ _ _ _ _ some c.loop-left.invariant.state)
-          (omega (arith, c.if-skipped-rest.false, c.binomial-skipped.ensures.value, ap (λ m. choose m c.loop-left.left) same));
-    }
+pub overflow_cast-rest-then-left-eq1 : goal.overflow_cast-rest-then-left-eq1
+overflow_cast-rest-then-left-eq1 c =
+    let few = numbers_few c.args.outside c.args.points c.requires.board in
+    omega (arith, last_lt _ _ _ c.loop-left.rest c.loop-left.numbers (rw c.if-left-eq1.true at c.loop-left.invariant) few)
 
-pub loop-left-preserved-then-skipped-rest : goal.loop-left-preserved-then-skipped-rest
-loop-left-preserved-then-skipped-rest c =
-    let some : 0 < c.loop-left.point = some_before _ _ _ _ _ _ _ _ c.loop-left-test.true c.loop-left.invariant.state in
-    let free : has c.args.outside (c.loop-left.point - 1) ≡ false = sym c.has.ensures ∙ c.if-not-has.true in
-    let number : c.loop-left.number ≡ suc (number_outside c.args.outside (c.loop-left.point - 1)) =
-    number_before c.args.outside c.loop-left.number c.loop-left.point c.loop-left.invariant.numbered some free in
-    let same : c.loop-left.number - 1 ≡ number_outside c.args.outside (c.loop-left.point - 1) = omega arith in
-    let more : c.loop-left.left ≡ suc (c.loop-left.left - 1) = omega arith in
-    let skipped : c.binomial-skipped.result ≡ choose (number_outside c.args.outside (c.loop-left.point - 1)) (suc (c.loop-left.left - 1)) =
-    c.binomial-skipped.ensures.value ∙ ap (λ m. choose m c.loop-left.left) same ∙ ap (choose (number_outside c.args.outside (c.loop-left.point - 1))) more in
-    record {
-      low = omega arith;
-      numbered = same;
-      state = rw (skipped, c.with-taken.ensures)
-          (unranking-take _ _ _ _ _ _ _ _
-          (one_less _ _ _ _ _ _ _ _ c.loop-left-test.true (point_before _ _ _ _ _ _ _ _ some c.loop-left.invariant.state))
-          (omega arith) c.requires.board free (omega (arith, skipped, c.if-skipped-rest.true)));
-    }
+pub with-numbers-requires-then-left-eq1 : goal.with-numbers-requires-then-left-eq1
+with-numbers-requires-then-left-eq1 c =
+    let few = numbers_few c.args.outside c.args.points c.requires.board in
+    omega (arith, last_lt _ _ _ c.loop-left.rest c.loop-left.numbers (rw c.if-left-eq1.true at c.loop-left.invariant) few)
+
+pub spread-requires : goal.spread-requires
+spread-requires c =
+    let few = numbers_few c.args.outside c.args.points c.requires.board in
+    listed-fits c.args.points (number_outside c.args.outside c.args.points) c.args.count c.args.rank c.if-left-eq1.numbers c.args.outside c.requires.board refl
+    (elim c.if-left-eq1.branch [
+      | then-left-eq1 w ↦ rw (w.numbers-is, w.with-numbers-then-left-eq1.ensures)
+          (unranking-last _ _ _ c.loop-left.rest c.loop-left.numbers (rw w.if-left-eq1.true at c.loop-left.invariant) few)
+      | else-left-eq1 w ↦
+          let none : c.loop-left.left ≡ 0 = omega (arith, w.if-left-eq1.false) in
+          rw w.numbers-is (unranking-end _ _ _ c.loop-left.rest c.loop-left.numbers (rw none at c.loop-left.invariant))
+    ])
 
 pub returns : goal.returns
 returns c =
-    let none : c.loop-left.left ≡ 0 = omega arith in
-    unranking-end c.args.points c.args.outside c.args.count c.args.rank c.loop-left.point c.loop-left.rest c.loop-left.taken
-    (rw none at c.loop-left.invariant.state)
+    let few = numbers_few c.args.outside c.args.points c.requires.board in
+    spread-ranked c.args.points c.args.outside c.args.count c.args.rank c.if-left-eq1.numbers c.spread.result c.requires.board
+    (elim c.if-left-eq1.branch [
+      | then-left-eq1 w ↦ rw (w.numbers-is, w.with-numbers-then-left-eq1.ensures)
+          (unranking-last _ _ _ c.loop-left.rest c.loop-left.numbers (rw w.if-left-eq1.true at c.loop-left.invariant) few)
+      | else-left-eq1 w ↦
+          let none : c.loop-left.left ≡ 0 = omega (arith, w.if-left-eq1.false) in
+          rw w.numbers-is (unranking-end _ _ _ c.loop-left.rest c.loop-left.numbers (rw none at c.loop-left.invariant))
+    ])
+    c.spread.ensures.within c.spread.ensures.apart c.spread.ensures.squeezed

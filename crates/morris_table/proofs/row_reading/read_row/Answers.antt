@@ -65,9 +65,9 @@ loop-place-preserved g c =
     let net = net_at b (level_of Classes c.args.graph.now) in
     let s : Sides = c.numbers-numbers.ensures.stands.0 in
     let at : IsInRow b g.B.Geometry.POINTS c.args.entries.now c.loop-place.place s = c.numbers-numbers.ensures.stands.1 in
-    let own : c.of-kept.result.row.own ≡ c.args.entries.now.own = ap (λ (r : Row). r.own) c.of-kept.ensures.row ∙ (c.of.ensures.own ∙ c.own.ensures.value) in
-    let numbers : AreNumbers b g.B.Geometry.POINTS c.of-kept.result.row.own c.numbers-numbers.result s =
-    are_numbers b g.B.Geometry.POINTS c.args.entries.now c.loop-place.place c.of-kept.result.row.own c.numbers-numbers.result s own at (c.numbers-numbers.ensures.value s at) in
+    let own : c.of-row.result.row.own ≡ c.args.entries.now.own = ap (λ (r : Row). r.own) c.of-row.ensures.row ∙ (c.of.ensures.own ∙ c.own.ensures.value) in
+    let numbers : AreNumbers b g.B.Geometry.POINTS c.of-row.result.row.own c.numbers-numbers.result s =
+    are_numbers b g.B.Geometry.POINTS c.args.entries.now c.loop-place.place c.of-row.result.row.own c.numbers-numbers.result s own at (c.numbers-numbers.ensures.value s at) in
     let quiet_here : c.quiet_moves.result ≡ length (net.quiet (c.args.entries.now.first + c.loop-place.place)) =
     c.quiet_moves.ensures s numbers
     ∙ quiet_there b g.met.B.Geometry.is_lawful g.met.B.Geometry.has_symmetries g.B.Geometry.POINTS g.met.B.Geometry.point_count
@@ -81,6 +81,10 @@ loop-place-preserved g c =
       counts_len = length-set c.loop-place.counts c.loop-place.place c.quiet_moves.result ∙ inv.counts_len;
       exits_len = c.if-may_capture.auto.exits ∙ (length-set c.loop-place.exits c.loop-place.place no_exits ∙ inv.exits_len);
       quiet = each_more (λ k. length (net.quiet (c.args.entries.now.first + k))) c.loop-place.counts c.loop-place.place c.quiet_moves.result inside quiet_here inv.quiet;
+      kept = elim c.if-may_capture.branch [
+        | then-may_capture w ↦ rw w.kept-is w.exits_by_kept.ensures.kept
+        | else-may_capture w ↦ rw w.kept-is inv.kept
+      ];
       outside = elim c.if-may_capture.branch [
         | then-may_capture w ↦
             let same : w.position.result ≡ s =
@@ -88,8 +92,8 @@ loop-place-preserved g c =
             ∙ led_there b g.met.B.Geometry.is_lawful g.met.B.Geometry.has_symmetries g.B.Geometry.POINTS g.met.B.Geometry.point_count
             c.args.graph.now c.requires.lawful c.args.entries.now c.requires.pair c.own.ensures.least c.loop-place.place s at (omega (arith, g.met.B.Geometry.few)) in
             rw w.exits-is
-            (written_twice (λ k. exits_of (net.exits (c.args.entries.now.first + k))) c.loop-place.exits c.loop-place.place no_exits w.exits_by_row.result room
-            (w.exits_by_row.ensures ∙ (ap (λ (t : Sides). exits_of (capture_codes b t)) same ∙ entry)) inv.outside)
+            (written_twice (λ k. exits_of (net.exits (c.args.entries.now.first + k))) c.loop-place.exits c.loop-place.place no_exits w.exits_by_kept.result room
+            (w.exits_by_kept.ensures.value ∙ (ap (λ (t : Sides). exits_of (capture_codes b t)) same ∙ entry)) inv.outside)
         | else-may_capture w ↦
             rw w.exits-is
             (exits_more (λ k. exits_of (net.exits (c.args.entries.now.first + k))) c.loop-place.exits c.loop-place.place no_exits room
@@ -101,7 +105,7 @@ pub quiet_moves-requires-clause-stands : goal.quiet_moves-requires-clause-stands
 quiet_moves-requires-clause-stands g c =
     let s : Sides = c.numbers-numbers.ensures.stands.0 in
     let at : IsInRow g.B.Geometry.shape g.B.Geometry.POINTS c.args.entries.now c.loop-place.place s = c.numbers-numbers.ensures.stands.1 in
-    let own : c.of-kept.result.row.own ≡ c.args.entries.now.own = ap (λ (r : Row). r.own) c.of-kept.ensures.row ∙ (c.of.ensures.own ∙ c.own.ensures.value) in (
+    let own : c.of-row.result.row.own ≡ c.args.entries.now.own = ap (λ (r : Row). r.own) c.of-row.ensures.row ∙ (c.of.ensures.own ∙ c.own.ensures.value) in (
       s,
-      are_numbers g.B.Geometry.shape g.B.Geometry.POINTS c.args.entries.now c.loop-place.place c.of-kept.result.row.own c.numbers-numbers.result s own at (c.numbers-numbers.ensures.value s at),
+      are_numbers g.B.Geometry.shape g.B.Geometry.POINTS c.args.entries.now c.loop-place.place c.of-row.result.row.own c.numbers-numbers.result s own at (c.numbers-numbers.ensures.value s at),
     )
