@@ -102,7 +102,7 @@ fn a_wave_that_decides_nothing_is_told_too(rt: HostRuntime) {
     ends(&rt, rt.alloc(), &lone, 2, 3, 4, &[4]);
 }
 
-// The graph is solved with no draw, and no wave is told.
+// The graph is solved with no draw in a wave, and no wave is told.
 fn is_settled_at_once<G: Graph + Send + Sync, R: Abort + Threads + Wait + Sync>(
     rt: &R,
     alloc: Global,

@@ -8,3 +8,4 @@ pub mod SeatSplits
 pub mod SeatJoins
 pub mod SeatLists
 pub mod TicketCounts
+pub mod InOrder

@@ -1,10 +1,11 @@
--- The shares in which workers make blocks.
-use Rattle.std.specs.Prelude.{◌≡◌, ◌⊎◌, ℕ, ◌+◌, ◌<◌, List, length, slice_index_or, Result, Err, Vec, vec_len, MatchResult}
-use Rattle.std.specs.List.{Contains}
+-- The blocks that workers make.
+use Rattle.std.specs.Prelude.{◌≡◌, ℕ, ◌+◌, ◌<◌, true, List, length, map, slice_index_or, Result, Vec, vec_len, MatchResult}
 use Rattle.std.specs.declared.alloc.Global.{Global}
 use Rattle.morris_wave.specs.Nets.{Net}
 use Rattle.morris_wave.specs.Values.{IsTooDeep}
 use Rattle.morris_wave.specs.Blocks.{BlockState}
+use Rattle.morris_workers.specs.Tickets.{numbers_of, has_ended}
+use Rattle.morris_workers.specs.declared.tickets.TicketSeat.{TicketSeat}
 use Rattle.morris_workers.specs.declared.fault.SolveFault.{SolveFault}
 use Rattle.morris_workers.specs.declared.fault.SolveFault.TheVariants.{Workers, Blocks, Memory, Missing, TooDeep}
 
@@ -25,6 +26,11 @@ IsMakingFault g TooDeep = IsTooDeep g
 abbrev pub IsShare : Net → ℕ → ℕ → Result (Vec BlockState Global) SolveFault → Type 0
 IsShare g start end share = MatchResult share (λ made. (start + vec_len made ≡ end) × AreNumbered start made.items) (IsMakingFault g)
 
--- a fault of blocks that are put together from shares: that of a share, or want of memory
-abbrev pub IsFaultOfShares : List (Result (Vec BlockState Global) SolveFault) → SolveFault → Type 0
-IsFaultOfShares shares fault = (fault ≡ Memory) ⊎ Contains shares (Err fault)
+-- the numbers of these blocks, in the same order
+abbrev pub block_numbers : List BlockState → List ℕ
+block_numbers blocks = map (λ s. s.number) blocks
+
+-- the blocks of the numbers that a seat drew until none was left, in the order in which it drew
+-- them, or why they aren't made
+abbrev pub AreDrawn : Net → TicketSeat → Result (Vec BlockState Global) SolveFault → Type 0
+AreDrawn g seat drawn = MatchResult drawn (λ made. (block_numbers made.items ≡ numbers_of seat) × (has_ended seat ≡ true)) (IsMakingFault g)

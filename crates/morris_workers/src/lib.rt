@@ -1,8 +1,8 @@
 //! Threads that solve a graph with exits, block by block and wave by wave.
 //!
-//! Each block stands in a [`Yard`] behind a lock of its own. [`solve`] makes the blocks, takes them
-//! from wave to wave by workers that draw the numbers of the blocks to send from, and gathers the
-//! codes.
+//! Each block stands in a [`Yard`] behind a lock of its own. [`solve`] makes the blocks and takes
+//! them from wave to wave by workers, which draw the numbers of the blocks to make and of those to
+//! send from, and gathers the codes.
 #![tactic(auto)]
 
 mod draws;

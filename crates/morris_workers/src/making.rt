@@ -1,64 +1,126 @@
 //! The blocks of a graph, made side by side.
-ghost use Rattle.std.specs.Prelude.{◌≡◌, ℕ, ◌+◌, ◌<◌, ◌≤◌, IfOk, IfErr, vec_len, slice_index_or};
-ghost use Rattle.morris_wave.specs.Blocks.{first_of};
-ghost use Rattle.morris_workers.specs.Making.{IsShare, IsFaultOfShares};
+ghost use Rattle.std.specs.Prelude.{◌≡◌, ◌≤◌, true, IfOk, IfErr, vec_len};
+ghost use Rattle.std.specs.List.{All};
+ghost use Rattle.std.specs.List.Sorted.{IsPermutation, IsNonDecreasingBy};
+ghost use Rattle.morris_workers.specs.Making.{IsShare, IsMakingFault, AreDrawn, block_numbers};
+ghost use Rattle.morris_workers.specs.Tickets.{IsSeatOf, IsNewSeatOf, limit_of, seats_of, all_numbers, has_ended};
 
 use crate::fault::{LAST_WAVE, SolveFault};
-use morris_wave::{Block, Cut, Graph, NodeList};
+use crate::tickets::{TicketSeat, Tickets};
+use morris_wave::{Block, Cut, Graph, Levels, NodeList};
 use std::alloc::{AllocError, Global};
-use std::ops::Range;
 use std::thread;
 use std::thread::Threads;
 
-// The blocks of these numbers. An exit that comes due after the last wave shows at once that the
-// graph is too deep. The last block is made first: the codes are gathered from the first block on,
-// and what was made last and is let go first goes back to the system.
-fn make_share<L: NodeList, G: Graph>(
+// What a worker hands back: its seat, and the blocks of the numbers that it drew.
+#[derive(Drop)]
+struct Made<N: Levels, L: NodeList> {
+    seat: TicketSeat,
+    blocks: Result<Vec<Block<N, L>>, SolveFault>,
+}
+
+// The blocks of the numbers that a worker draws until none is left. An exit that comes due after
+// the last wave shows at once that the graph is too deep.
+fn make_drawn<L: NodeList, G: Graph>(
     alloc: Global,
     graph: &G,
     cut: &Cut,
-    numbers: Range<u64>,
+    tickets: &Tickets,
+    seat: &mut TicketSeat,
 ) -> Result<Vec<Block<G::Name, L>>, SolveFault>
     requires size { cut.now.size ≡ (G.Name.net (G.level graph.now)).size }
     requires short { cut.now.size ≤ L.limit }
-    requires order { numbers.start ≤ numbers.end }
-    requires within { numbers.end ≤ cut.now.blocks }
-    ensures { IsShare (G.Name.net (G.level graph.now)) numbers.start numbers.end result }
+    requires limit { limit_of tickets.now ≡ cut.now.blocks }
+    requires seat { IsNewSeatOf tickets.now seat.old }
+    ensures seat { IsSeatOf tickets.now seat.new }
+    ensures drawn { AreDrawn (G.Name.net (G.level graph.now)) seat.new result }
 {
-    let mut made = Vec::with_capacity(alloc, (numbers.end - numbers.start) as usize)?;
-    for number in (numbers.start..numbers.end).rev() {
+    let mut made = Vec::new(alloc);
+    while let Some(number) = tickets.draw(seat) {
         let block = Block::make_as(alloc, graph, cut, number)?;
         if block.last_due() > u32::from(LAST_WAVE) {
             return Err(SolveFault::TooDeep);
         }
         made.push(block).map_err(AllocError::from)?;
     }
-    made.reverse();
     Ok(made)
 }
 
-// All blocks of the shares, in one list. The first fault of a share is the answer.
+// What one worker does: it makes its part of the blocks, and gives back its seat with them.
+fn make_part<L: NodeList, G: Graph>(
+    alloc: Global,
+    graph: &G,
+    cut: &Cut,
+    tickets: &Tickets,
+    mut seat: TicketSeat,
+) -> Made<G::Name, L>
+    requires size { cut.now.size ≡ (G.Name.net (G.level graph.now)).size }
+    requires short { cut.now.size ≤ L.limit }
+    requires limit { limit_of tickets.now ≡ cut.now.blocks }
+    requires seat { IsNewSeatOf tickets.now seat }
+    ensures seat { IsSeatOf tickets.now result.seat }
+    ensures drawn { AreDrawn (G.Name.net (G.level graph.now)) result.seat result.blocks }
+{
+    let blocks = make_drawn::<L, G>(alloc, graph, cut, tickets, &mut seat);
+    Made { seat, blocks }
+}
+
+// All seats, and the blocks of all of them, the first seat's first. The first fault is the answer.
+fn collected<L: NodeList, G: Graph>(
+    alloc: Global,
+    graph: &G,
+    tickets: &Tickets,
+    made: Vec<Made<G::Name, L>>,
+) -> Result<(Vec<TicketSeat>, Vec<Block<G::Name, L>>), SolveFault>
+    requires seats { All (λ part. IsSeatOf tickets.now part.seat) made.items }
+    requires drawn { All (λ part. AreDrawn (G.Name.net (G.level graph.now)) part.seat part.blocks) made.items }
+    ensures count { IfOk result (λ all. vec_len all.0 ≡ vec_len made) }
+    ensures seats { IfOk result (λ all. All (IsSeatOf tickets.now) all.0.items) }
+    ensures ended { IfOk result (λ all. All (λ seat. has_ended seat ≡ true) all.0.items) }
+    ensures numbers { IfOk result (λ all. block_numbers all.1.items ≡ all_numbers all.0.items) }
+    ensures fault { IfErr result (IsMakingFault (G.Name.net (G.level graph.now))) }
+{
+    let mut seats = Vec::with_capacity(alloc, made.len())?;
+    let mut all = Vec::new(alloc);
+    for part in made {
+        let Made { seat, blocks } = part;
+        seats.push(seat).map_err(AllocError::from)?;
+        all.append(&mut blocks?)?;
+    }
+    Ok((seats, all))
+}
+
+// Sorts blocks by their numbers.
+fn sort<N: Levels, L: NodeList>(blocks: &mut Vec<Block<N, L>>)
+    ensures same { IsPermutation blocks.old.items blocks.new.items }
+    ensures order { IsNonDecreasingBy (λ s. s.number) blocks.new.items }
+{
+    blocks.sort_unstable_by_key(|block| block.number());
+}
+
+// The blocks of all workers, in the order of their numbers.
 fn joined<L: NodeList, G: Graph>(
     alloc: Global,
     graph: &G,
-    shares: &Cut,
-    made: Vec<Result<Vec<Block<G::Name, L>>, SolveFault>>,
+    tickets: Tickets,
+    made: Vec<Made<G::Name, L>>,
 ) -> Result<Vec<Block<G::Name, L>>, SolveFault>
-    requires count { (1 ≤ shares.now.blocks) × (vec_len made ≡ shares.now.blocks) }
-    requires shares { (k : ℕ) (d : _) → k < shares.now.blocks → IsShare (G.Name.net (G.level graph.now)) (first_of shares.now k)
-        (first_of shares.now (k + 1)) (slice_index_or made.items k d) }
-    ensures blocks { IsShare (G.Name.net (G.level graph.now)) 0 shares.now.size result }
-    ensures fault { IfErr result (IsFaultOfShares made.items) }
+    requires some { 1 ≤ vec_len made }
+    requires back { vec_len made ≡ seats_of tickets }
+    requires seats { All (λ part. IsSeatOf tickets part.seat) made.items }
+    requires drawn { All (λ part. AreDrawn (G.Name.net (G.level graph.now)) part.seat part.blocks) made.items }
+    ensures { IsShare (G.Name.net (G.level graph.now)) 0 (limit_of tickets) result }
 {
-    let mut blocks = Vec::with_capacity(alloc, shares.size() as usize)?;
-    for share in made {
-        blocks.append(&mut share?)?;
-    }
+    let (seats, mut blocks) = collected::<L, G>(alloc, graph, &tickets, made)?;
+    // The proof learns here that each number below the limit was drawn once.
+    let _drawn = tickets.close(seats);
+    sort(&mut blocks);
     Ok(blocks)
 }
 
-/// The blocks of a cut, in the order of their numbers, with lists of the kind `L`. Each worker
-/// makes its share of them.
+/// The blocks of a cut, in the order of their numbers, with lists of the kind `L`. There is a
+/// worker for each share. The workers draw the numbers of the blocks that they make until none is
+/// left, so that they end at about the same time however much a block costs.
 ///
 /// # Errors
 ///
@@ -73,17 +135,20 @@ pub(crate) fn make_blocks<L: NodeList + Send, G: Graph + Send + Sync, R: Threads
 ) -> Result<Vec<Block<G::Name, L>>, SolveFault>
     requires size { cut.now.size ≡ (G.Name.net (G.level graph.now)).size }
     requires short { cut.now.size ≤ L.limit }
-    requires shares { shares.now.size ≡ cut.now.blocks }
     ensures { IsShare (G.Name.net (G.level graph.now)) 0 cut.now.blocks result }
 {
-    let made = thread::map_indices(
+    // Tickets have at most 64 seats.
+    let workers = shares.blocks().min(64) as usize;
+    let (tickets, seats) = Tickets::new(alloc, cut.blocks(), workers)?;
+    let shown = &tickets;
+    let made = thread::map_vec(
         rt,
-        alloc,
-        shares.blocks() as usize,
-        &|worker| -> Result<Vec<Block<G::Name, L>>, SolveFault>
-            requires { (cut.now.size ≡ (G.Name.net (G.level graph.now)).size) × (cut.now.size ≤ L.limit) × (shares.now.size ≡ cut.now.blocks) × (worker < shares.now.blocks) }
-            ensures { IsShare (G.Name.net (G.level graph.entry.now)) (first_of shares.entry.now worker) (first_of shares.entry.now (worker + 1)) result }
-        { make_share::<L, G>(alloc, graph, cut, shares.range(worker as u64)) },
+        seats,
+        &|seat| -> Made<G::Name, L>
+            requires { (cut.now.size ≡ (G.Name.net (G.level graph.now)).size) × (cut.now.size ≤ L.limit) × (limit_of shown.now ≡ cut.now.blocks)
+                × IsNewSeatOf shown.now seat }
+            ensures { IsSeatOf shown.entry.now result.seat × AreDrawn (G.Name.net (G.level graph.entry.now)) result.seat result.blocks }
+        { make_part::<L, G>(alloc, graph, cut, shown, seat) },
     )?;
-    joined::<L, G>(alloc, graph, shares, made)
+    joined::<L, G>(alloc, graph, tickets, made)
 }

@@ -189,15 +189,16 @@ fn solve_in<G: Graph + Send + Sync, A: Gate, R: Threads + Wait + Sync, W: Watch>
 /// cuts the graph into so many blocks, 1 to 1,024. The codes are those that `sweep` gives, for
 /// every number of workers and blocks and in whatever order the workers come.
 ///
-/// Wave by wave the workers draw the numbers of the blocks and ask the gate after each draw (see
-/// [`Gate`]). A worker that draws no number, or is told to leave, ends for that wave. A graph whose
-/// blocks are settled before the first wave is answered without any draw. A worker holds one lock
-/// at a time, and none while it looks at the graph.
+/// The workers draw the numbers of the blocks that they make, until none is left, and no gate is
+/// asked. Then, wave by wave, they draw the numbers of the blocks and ask the gate after each draw
+/// (see [`Gate`]). A worker that draws no number, or is told to leave, ends for that wave. A graph
+/// whose blocks are settled before the first wave is answered without any wave. A worker holds one
+/// lock at a time, and none while it looks at the graph.
 ///
 /// The blocks take what [`Block`] says, with lists of 4 bytes a node that let go of the waves past
 /// ([`Recent`]), or of 8 that keep all in a graph of more than [`SHORT_NODES`]. Each worker takes
 /// the fresh nodes and the batches of one block at a time, of as many bytes for each node that leads
-/// to a fresh one. A worker keeps lists that it sent, of up to 1 MiB together, for those of the
+/// to a fresh one. A worker keeps lists that it sent, of up to 512 KiB together, for those of the
 /// next blocks and waves. At the end these are let go, and then the answer takes 2 bytes a node,
 /// while the blocks are let go one after the other.
 ///

@@ -96,8 +96,8 @@ impl Tickets {
     }
 
     /// The next number, or `None` once all numbers below the limit are drawn. Condition: the seat
-    /// is of these tickets and was not answered with `None` before. It is one step on the counter,
-    /// waits for nobody and takes no memory.
+    /// is of these tickets and was not answered with `None` before. No seat draws more numbers than
+    /// the limit. It is one step on the counter, waits for nobody and takes no memory.
     pub fn draw(&self, mine: &mut TicketSeat) -> Option<u64>
         requires seat { IsSeatOf self.now mine.old }
         requires ready { has_ended mine.old ≡ false }
@@ -105,6 +105,7 @@ impl Tickets {
         ensures below { IfSome result (λ n. n < limit_of self.now) }
         ensures appended { IfSome result (λ n. numbers_of mine.new ≡ numbers_of mine.old ++ n ∷ []) }
         ensures same { IfNone result (numbers_of mine.new ≡ numbers_of mine.old) }
+        ensures few { IfSome result (λ _. length (numbers_of mine.new) ≤ limit_of self.now) }
         ensures ended { has_ended mine.new ≡ is_none result }
     {
         let number = self.table.shared.fetch_add::<Drawing>(&mut mine.seat, 0, 1);

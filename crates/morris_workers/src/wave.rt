@@ -16,7 +16,7 @@ use std::thread::Threads;
 
 // A worker puts lists that were sent aside as long as all of them together have no more bytes of
 // room than this.
-const KEPT_ROOM: usize = 1048576;
+const KEPT_ROOM: usize = 524288;
 
 // A worker sends once it has scattered so many fresh nodes or blocks. So the batches stay small,
 // and where few nodes are fresh a block is locked once for many sources.
