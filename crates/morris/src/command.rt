@@ -2,19 +2,19 @@
 ghost use Rattle.std.specs.Prelude.{◌≡◌, ◌≢◌, ◌-◌, ◌^◌, ◌<◌, ◌≤◌, ◌==◌, [], IsTrue, false, length, map, if◌then◌else◌};
 ghost use Rattle.morris_faults.specs.Faults.{Reports, ReportsFault, ReportsText};
 ghost use Rattle.morris_faults.specs.declared.fault.Fault.TheVariants as fault;
-ghost use Rattle.morris_progress.specs.Progress.{TellsInOrder};
 ghost use Rattle.morris_words.specs.Words.{IsInRange, faults_of, named_by};
 ghost use Rattle.morris_words.specs.declared.words.Task.TheVariants as task;
 ghost use Rattle.morris_commands.specs.Verify.{MayFail, input_of};
 ghost use Rattle.morris.specs.Command.{Answers, AnswersCount, AnswersQueries, AnswersTables, AsksToRead, Ends, HasMistake, TellsProgress, end_of, not_text, shown_of, status_of, takes_input};
 
 use morris_board::streams::{Sink, Source};
-use morris_commands::build::{Order, build_with};
+use morris_commands::build::{Order, build_on, layout_of};
 use morris_commands::look::look;
 use morris_commands::probe::probe_with;
 use morris_commands::stats::{stats_by_classes, stats_with};
 use morris_commands::verify::verify_with;
 use morris_faults::fault::Fault;
+use morris_faults::on_board;
 use morris_faults::print::{print, send};
 use morris_folder_commands::bundle::verify_bundle;
 use morris_folder_commands::from::verify_from;
@@ -28,7 +28,7 @@ use morris_queries::lookup::{lookup_lines, lookup_texts};
 use morris_queries::show::Show;
 use morris_queries::system::SystemLibrary;
 use morris_words::words;
-use morris_words::words::{Refusal, Request, Task, read_words};
+use morris_words::words::{Refusal, Task, read_words};
 use std::alloc::Global;
 use std::convert::AsStr;
 use std::fs::File;
@@ -80,7 +80,8 @@ pub fn command<
 {
     match read_words(alloc, words) {
         Ok(request) => {
-            let done = run(rt, alloc, request, input, output, errors);
+            let mut progress = Progress::new(rt, request.progress, errors);
+            let done = run(rt, alloc, request.task, input, output, &mut progress);
             finish(done, errors)
         }
         Err(Refusal::Help(text)) => finish(print(&text.as_str(), output), errors),
@@ -108,40 +109,8 @@ pub fn refuse_words<E: Sink>(out_of_memory: bool, errors: &mut E) -> u8
     2
 }
 
-/// Runs the command of a request, and tells on `errors` how far it is, where the request asks for
-/// it.
-fn run<
-    R: Threads + Wait + Clock + Sync + Files<File = File> + AllocGlobal,
-    I: Source,
-    O: Sink,
-    E: Sink,
->(
-    rt: &R,
-    alloc: Global,
-    request: Request<'_>,
-    input: &mut I,
-    output: &mut O,
-    errors: &mut E,
-) -> Result<(), Fault>
-    requires range { IsInRange request.task }
-    requires streams { MayFail (I.failures input.old) (O.failures output.old) }
-    ensures answer { Answers (input_of (I.remaining input.old) (I.failures input.old)) (input_of (I.remaining input.new) (I.failures input.new))
-        (O.contents output.old) (O.contents output.new) request.entry.task result }
-    ensures unread { takes_input request.entry.task ≡ false → input.new ≡ input.old }
-    ensures told { TellsInOrder E.contents E.failures errors.old errors.new }
-    ensures silent { request.entry.progress ≡ false → errors.new ≡ errors.old }
-{
-    let mut progress = Progress::new(rt, request.progress, errors);
-    perform(rt, alloc, request.task, input, output, &mut progress)
-}
-
 /// Runs the command of a task, and tells `teller` how far it is.
-fn perform<
-    R: Threads + Wait + Sync + Files<File = File> + AllocGlobal,
-    I: Source,
-    O: Sink,
-    T: Teller,
->(
+fn run<R: Threads + Wait + Sync + Files<File = File> + AllocGlobal, I: Source, O: Sink, T: Teller>(
     rt: &R,
     alloc: Global,
     task: Task<'_>,
@@ -253,19 +222,27 @@ fn build<R: Threads + Wait + Sync + Files<File = File> + AllocGlobal, O: Sink, T
         (O.contents output.old) (O.contents output.new) result }
     ensures told { T.becomes teller.old teller.new }
 {
-    let Some(path) = into else {
-        return build_with(rt, alloc, order, all, classes, output, teller);
-    };
-    let folder = &mut SystemFolder::new(rt, path);
-    let Order {
-        board,
-        pair,
-        workers,
-        blocks,
-    } = order;
-    build_into(
-        rt, alloc, board, pair, workers, blocks, classes, folder, output, teller,
-    )
+    match into {
+        Some(path) => {
+            let folder = &mut SystemFolder::new(rt, path);
+            let Order {
+                board,
+                pair,
+                workers,
+                blocks,
+            } = order;
+            build_into(
+                rt, alloc, board, pair, workers, blocks, classes, folder, output, teller,
+            )
+        }
+        None => {
+            let layout = layout_of(classes);
+            on_board!(
+                order.board,
+                build_on::<R, O, T>(rt, alloc, order, all, layout, output, teller)
+            )
+        }
+    }
 }
 
 /// Verifies the table files of a folder, where there is one, and else those on `input` with `all`,

@@ -2,6 +2,7 @@ pub mod ShelfLaws
 pub mod StatsLaws
 mod BundleLaws
 pub mod BuildLaws
+mod OwnLaws
 pub mod NearLaws
 pub mod BeforeLaws
 pub mod DeepestLaws

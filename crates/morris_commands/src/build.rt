@@ -2,8 +2,8 @@
 ghost use Rattle.std.specs.Prelude.{◌≡◌, ◌≢◌, ◌+◌, ◌-◌, ◌^◌, ◌<◌, ◌≤◌, None, true, false, is_some, length, IfErr, IfOk, OnOk};
 ghost use Rattle.std.specs.List.{flat_map};
 ghost use Rattle.morris_board.specs.Streams.{CountsFailure, HasSent};
-ghost use Rattle.morris_commands.specs.Build.{AnswersBuild, AnswersBuildOn, AnswersFiles, HasExact, HasExactAt, HasExactBut, HasTables, IsSpared, IsUnbuiltAt, IsUnbuiltFor, file_on, layout_asked, pairs_written, stones};
-ghost use Rattle.morris_commands.specs.Stats.{HasTooDeep, RestsOnTooDeep};
+ghost use Rattle.morris_commands.specs.Build.{AnswersBuild, AnswersBuildOn, AnswersFiles, HasExact, HasExactAt, HasExactBut, HasTables, IsSpared, IsUnbuiltAt, file_on, layout_asked, pairs_written, stones};
+ghost use Rattle.morris_commands.specs.Stats.{RestsOnTooDeep};
 ghost use Rattle.morris_commands.specs.Verify.{IsUnbuiltBefore};
 ghost use Rattle.morris_faults.specs.BoardNames.{board_of};
 ghost use Rattle.morris_faults.specs.Faults.{CountsWrites, is_write};
@@ -82,29 +82,10 @@ pub fn build_out<R: Threads + Wait + Sync, O: Sink>(
         workers,
         blocks,
     };
-    build_with(rt, alloc, order, all, classes, output, &mut Unwatched)
-}
-
-/// The body of [`build_out`], which the program runs: it tells `teller` how far it is.
-pub fn build_with<R: Threads + Wait + Sync, O: Sink, T: Teller>(
-    rt: &R,
-    alloc: Global,
-    order: Order<'_>,
-    all: bool,
-    classes: bool,
-    output: &mut O,
-    teller: &mut T,
-) -> Result<(), Fault>
-    requires { O.failures output.old < 2 ^ 64 - 1 }
-    ensures answer { AnswersBuild (board_of order.entry.board.now) order.entry.pair.now order.entry.workers order.entry.blocks all classes
-        (O.contents output.old) (O.contents output.new) result }
-    ensures counted { CountsWrites (O.failures output.old) (O.failures output.new) result }
-    ensures told { T.becomes teller.old teller.new }
-{
     let layout = layout_of(classes);
     on_board!(
-        order.board,
-        build_on::<R, O, T>(rt, alloc, order, all, layout, output, teller)
+        board,
+        build_on::<R, O, Unwatched>(rt, alloc, order, all, layout, output, &mut Unwatched)
     )
 }
 
@@ -119,7 +100,12 @@ pub fn layout_of(classes: bool) -> Layout
     }
 }
 
-fn build_on<B: Board, R: Threads + Wait + Sync, O: Sink, T: Teller>(
+/// Builds and writes on the board `B` what [`build_out`] does on the board of a name, in this
+/// layout; the name in the order isn't looked at. `teller` is told how far it is.
+///
+/// # Errors
+/// Those of [`build_out`], in the same order, but for [`Fault::Board`].
+pub fn build_on<B: Board, R: Threads + Wait + Sync, O: Sink, T: Teller>(
     rt: &R,
     alloc: Global,
     order: Order<'_>,
@@ -137,33 +123,10 @@ fn build_on<B: Board, R: Threads + Wait + Sync, O: Sink, T: Teller>(
     let pair = read_pair::<B>(order.pair)?;
     let team = Team::new(order.workers, order.blocks)?;
     let crew = Crew { rt, alloc, team };
-    let stock = build_below(crew, layout, all, pair, teller)?;
-    write_files(&stock, layout, pair, all, output)
-}
-
-/// The tables of all pairs below a pair, its own among them, in a layout; or, but for `all`, its own
-/// alone: the others are let go once no pair to come needs them.
-pub(crate) fn build_below<B: Board, R: Threads + Wait + Sync, T: Teller>(
-    crew: Crew<'_, R>,
-    layout: Layout,
-    all: bool,
-    pair: Pair<B>,
-    teller: &mut T,
-) -> Result<Stock<B>, Fault>
-    // The caller's proof learns here that the board has as many points as its shape says.
-    ensures points { B.shape.points ≡ B.POINTS }
-    ensures exact { IfOk result (λ stock. HasExact B.shape layout stock (pairs_written all pair)) }
-    ensures own { IfOk result (λ stock. HasExactAt B.shape layout stock pair) }
-    ensures within { OnOk result (¬ HasTooDeep B.shape pair) }
-    ensures refused { IfErr result (IsUnbuiltFor B.shape pair crew.entry.team.blocks) }
-    ensures unwritten { IfErr result (λ refused. is_write refused ≡ false) }
-    ensures told { T.becomes teller.old teller.new }
-{
-    let team = crew.team;
     teller.announce(pair, layout, Way::Built { team, all });
     let mut stock = build_before(crew, layout, all, pair, teller)?;
     build_onto(crew, &mut stock, layout, pair, teller)?;
-    Ok(stock)
+    write_files(&stock, layout, pair, all, output)
 }
 
 /// The tables that a pair needs, in a layout: those of all pairs below it but its own are built in
@@ -175,6 +138,8 @@ pub(crate) fn build_before<B: Board, R: Threads + Wait + Sync, T: Teller>(
     pair: Pair<B>,
     teller: &mut T,
 ) -> Result<Stock<B>, Fault>
+    // The caller's proof learns here that the board has as many points as its shape says.
+    ensures points { B.shape.points ≡ B.POINTS }
     ensures ready { IfOk result (λ stock. first_missing stock pair ≡ None) }
     ensures every { IfOk result (λ stock. all ≡ true → HasExactBut B.shape layout stock pair (below_of pair)) }
     ensures last { OnOk result (EndsIn (below_of pair) pair) }

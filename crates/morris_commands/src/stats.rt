@@ -8,7 +8,7 @@ ghost use Rattle.morris_faults.specs.BoardNames.{board_of};
 ghost use Rattle.morris_commands.specs.Stats.{AnswersCounts, AnswersOn, AnswersStats, HasTooDeep, IsRefusedAt, IsRefusedBefore, IsRefusedFor, RestsOnTooDeep};
 ghost use Rattle.morris_commands.specs.StatsByClasses.{AnswersByClasses, AnswersByClassesOn};
 
-use crate::build::{Order, build_below};
+use crate::build::{Order, build_before, build_onto};
 use crate::print_stats::Counted;
 use morris_board::board::{Board, Geometry};
 use morris_board::streams::Sink;
@@ -32,9 +32,9 @@ use std::thread::Threads;
 /// Counts the values of all positions of the pair that the text `pair` names on the board named
 /// `board`: how many positions there are, how many of them are lost or won in each depth that some
 /// position has, in ascending order, and how many are draws. The pairs below it are swept first, in
-/// order, since the values of a pair rest on theirs. `teller` is told how far it is. Where `deepest`
-/// is true, two lines more show positions of the pair with the greatest depths: one that is won,
-/// and one that is lost; of several the one with the least index.
+/// order, since the values of a pair rest on theirs. `teller` is told how far it is. Where
+/// `deepest` is true, two lines more show positions of the pair with the greatest depths: one that
+/// is won, and one that is lost; of several the one with the least index.
 ///
 /// # Errors
 /// [`Fault::Board`] where there is no such board, else [`Fault::PairText`], [`Fault::Counts`] or
@@ -78,8 +78,8 @@ fn stats_on<B: Board, S: Sink, T: Teller>(
     print_counts(alloc, &table, deepest, output)
 }
 
-/// Prints how many positions of a table's pair have each value, and the deepest ones, where they are
-/// asked for.
+/// Prints how many positions of a table's pair have each value, and the deepest ones, where they
+/// are asked for.
 fn print_counts<B: Geometry, S: Sink>(
     alloc: Global,
     table: &Exact<B>,
@@ -179,11 +179,11 @@ fn sweep_over<B: Board, T: Teller>(
     Ok(table)
 }
 
-/// Prints what [`stats_with`] prints, counted from tables with an entry for each class of positions. So
-/// many workers build each of these over so many blocks; the text is the same for every number of
-/// them. `teller` is told how far it is. Where `deepest` is true, two lines more show positions of
-/// the pair with the greatest depths: one that is won, and one that is lost; of several the one with
-/// the least index.
+/// Prints what [`stats_with`] prints, counted from tables with an entry for each class of
+/// positions. So many workers build each of these over so many blocks; the text is the same for
+/// every number of them. `teller` is told how far it is. Where `deepest` is true, two lines more
+/// show positions of the pair with the greatest depths: one that is won, and one that is lost; of
+/// several the one with the least index.
 ///
 /// # Errors
 /// [`Fault::Board`] where there is no such board, else [`Fault::PairText`], [`Fault::Counts`] or
@@ -230,9 +230,11 @@ fn by_classes_on<B: Board, R: Threads + Wait + Sync, S: Sink, T: Teller>(
     let pair = read_pair::<B>(order.pair)?;
     let team = Team::new(order.workers, order.blocks)?;
     let crew = Crew { rt, alloc, team };
-    // Those that the pair's rests on are let go once no pair to come needs them.
-    let all = false;
-    let stock = build_below(crew, Layout::Classes, all, pair, teller)?;
+    // The tables that the pair's rests on are let go once no pair to come needs them.
+    let (layout, all) = (Layout::Classes, false);
+    teller.announce(pair, layout, Way::Built { team, all });
+    let mut stock = build_before(crew, layout, all, pair, teller)?;
+    build_onto(crew, &mut stock, layout, pair, teller)?;
     let Some(table) = stock.get(pair) else {
         unreachable!()
     };

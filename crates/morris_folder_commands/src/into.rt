@@ -52,11 +52,11 @@ struct Filling<'a, B: Geometry, R> {
 /// bytes and its SHA-256 goes out on `output`. The folder is made where there is none. At the end
 /// the file of the digests is written. Each file is written whole or not at all.
 ///
-/// The rest is as [`build_with`](morris_commands::build::build_with) has it. Fewer than
+/// The rest is as [`build_out`](morris_commands::build::build_out) has it. Fewer than
 /// `u64::MAX - 1` calls of the folder may have failed before.
 ///
 /// # Errors
-/// Those of [`build_with`](morris_commands::build::build_with) for the words, in the same order;
+/// Those of [`build_out`](morris_commands::build::build_out) for the words, in the same order;
 /// nothing is then written, and the folder isn't touched. Else [`Fault::Folder`] where the folder
 /// can't be made. Else the first refusal: one of a build; [`Fault::Unwritten`] where a file can't
 /// be written; [`Fault::Write`], with all bytes that went out, at the first write to `output` that

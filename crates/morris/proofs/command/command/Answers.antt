@@ -1,6 +1,9 @@
 -- Want of memory is answered, with nothing printed.
-use Rattle.std.proofs.Common.{◌≡◌, Bool, false, refl, inl, inr, map, subst, true, Err}
+use Rattle.std.proofs.Common.{◌≡◌, ◌∙◌, ℕ, Bool, false, List, Option, refl, inl, inr, map, subst, sym, true, Err}
 use Rattle.morris.specs.Command.{AsksToRead, TellsProgress, takes_input}
+use Rattle.morris_progress.specs.Progress.{Becomes, TellsInOrder, has_begun_of, sink_of, tells_of}
+use Rattle.morris_progress.specs.ProgressLaws.{Becomes-in_order}
+use Rattle.morris_progress.specs.declared.progress.Progress.{Progress}
 use Rattle.morris_words.specs.Words.{IsAnswerToOneOf, faults_of, named_by}
 use Rattle.std.proofs.KnownBytes.{Keeps-refl}
 use Rattle.morris_faults.specs.declared.fault.Fault.TheVariants as fault
@@ -50,22 +53,46 @@ returns-in-Ok-clause-unread g c = λ unasked. c.run-done.ensures.unread (reads_n
     reads_nothing unasked true is = absurd (unasked (c.in-Ok.request, c.in-Ok.ensures.request, is))
     reads_nothing unasked false is = is
 
+-- What a command told is what the error sink got: some lines, or none where nobody is to be told.
+module _ {R E : Type 0} (contents : E → Option (List ℕ)) (failures : E → ℕ) (first last : Progress R E) (tells : Becomes contents failures first last)
+    (old new : E) (start : sink_of first ≡ old) (here : new ≡ sink_of last) where
+  told_in_order : has_begun_of first ≡ false → TellsInOrder contents failures old new
+  told_in_order begun = rw (here, sym start) (Becomes-in_order contents failures first last begun tells)
+
+  told_nothing : tells_of first ≡ false → new ≡ old
+  told_nothing unasked = here ∙ ((tells.silent unasked).1 ∙ start)
+
 -- A command was run for the words, and told how far it is only where they ask for it.
 pub returns-in-Ok-clause-answer : goal.returns-in-Ok-clause-answer
 returns-in-Ok-clause-answer g c = λ other. (
   c.run-done.result,
-  c.run-done.new.errors,
+  c.errors-1.given.0,
   inl (c.in-Ok.request, c.in-Ok.ensures.request, c.in-Ok.ensures.taken, c.run-done.ensures.answer),
   told (c.in-Ok.request.progress) refl,
   c.finish.ensures.status,
   c.finish.ensures.reported,
 )
   where
+    here : c.errors-1.given.0 ≡ sink_of c.run-done.new.teller
+    here = c.errors-1.given.1 (sym (c.run-done.ensures.told.same ∙ c.new-progress.ensures.lent))
+
     told : (b : Bool) → c.in-Ok.request.progress ≡ b
-        → TellsProgress g.E.Sink.contents g.E.Sink.failures (map g.W.AsStr.text c.args.words.now) c.args.errors.now c.run-done.new.errors
-    told true is = inr (c.in-Ok.request, c.in-Ok.ensures.request, is, c.run-done.ensures.told)
-    told false is = inl (c.run-done.ensures.silent is)
+        → TellsProgress g.E.Sink.contents g.E.Sink.failures (map g.W.AsStr.text c.args.words.now) c.args.errors.now c.errors-1.given.0
+    told true is =
+        inr (
+          c.in-Ok.request,
+          c.in-Ok.ensures.request,
+          is,
+          told_in_order g.E.Sink.contents g.E.Sink.failures c.new-progress.result c.run-done.new.teller c.run-done.ensures.told
+              c.args.errors.now c.errors-1.given.0 c.new-progress.ensures.sink here c.new-progress.ensures.new,
+        )
+    told false is =
+        inl (told_nothing g.E.Sink.contents g.E.Sink.failures c.new-progress.result c.run-done.new.teller c.run-done.ensures.told
+        c.args.errors.now c.errors-1.given.0 c.new-progress.ensures.sink here (c.new-progress.ensures.tells ∙ is))
 
 -- There is room for a failure more.
 pub finish-requires : goal.finish-requires
-finish-requires g c = c.run-done.ensures.told.0.room c.requires.errors
+finish-requires g c =
+    let here : c.errors-1.given.0 ≡ sink_of c.run-done.new.teller =
+    c.errors-1.given.1 (sym (c.run-done.ensures.told.same ∙ c.new-progress.ensures.lent)) in
+    rw here (c.run-done.ensures.told.told.room (rw c.new-progress.ensures.sink c.requires.errors))
