@@ -102,6 +102,13 @@ fn a_wave_that_decides_nothing_is_told_too(rt: HostRuntime) {
     ends(&rt, rt.alloc(), &lone, 2, 3, 4, &[4]);
 }
 
+#[test]
+fn waves_go_on_past_the_numbers_of_one_counter(rt: HostRuntime) {
+    // A counter has the numbers of 1,024 blocks for 976 waves. The exit is lost in 1,000.
+    let late = LoneGraph { level: 2 * 1001 };
+    ends(&rt, rt.alloc(), &late, 2, 1024, 1002, &[1002]);
+}
+
 // The graph is solved with no draw in a wave, and no wave is told.
 fn is_settled_at_once<G: Graph + Send + Sync, R: Abort + Threads + Wait + Sync>(
     rt: &R,

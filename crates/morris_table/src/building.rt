@@ -84,7 +84,7 @@ pub fn build_as<B: Board, A: Gate, R: Threads + Wait + Sync>(
     build_watched(rt, alloc, stock, pair, layout, gate, watch, workers, blocks)
 }
 
-/// [`build_as`] over the tables of a stock, and tells `watch` of each wave before it begins (see
+/// [`build_as`] over the tables of a stock, and tells `watch` of each wave, in their order (see
 /// [`Watch`]).
 ///
 /// # Errors

@@ -9,3 +9,4 @@ pub mod SeatJoins
 pub mod SeatLists
 pub mod TicketCounts
 pub mod InOrder
+pub mod Firsts

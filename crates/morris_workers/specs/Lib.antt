@@ -6,3 +6,4 @@ pub mod Making
 pub mod Draws
 pub mod Tickets
 pub mod TicketSteps
+pub mod Working

@@ -2,13 +2,14 @@
 //!
 //! Each block stands in a [`Yard`] behind a lock of its own. [`solve`] makes the blocks and takes
 //! them from wave to wave by workers, which draw the numbers of the blocks to make and of those to
-//! send from, and gathers the codes.
+//! send from, and wait for one another between two waves, and gathers the codes.
 #![tactic(auto)]
 
 mod draws;
 mod fault;
 mod gate;
 mod making;
+mod pace;
 mod solver;
 mod survey;
 mod tickets;

@@ -10,7 +10,7 @@ use crate::fault::{LAST_WAVE, SolveFault};
 use crate::gate::Gate;
 use crate::making::make_blocks;
 use crate::survey::survey;
-use crate::wave::run_wave;
+use crate::wave::run_from;
 use crate::yard::Yard;
 use morris_wave::{Block, Cut, Graph, Levels, NodeList, Recent, Unwatched, Watch, gather_from};
 use std::alloc::Global;
@@ -52,7 +52,7 @@ fn cut_into(size: u64, parts: u64) -> Cut
 }
 
 // Goes from wave to wave until all blocks are settled, and says at which wave they are. The watch
-// is told of each wave before it is run.
+// is told of each wave, in their order.
 fn run_waves<
     L: NodeList + Send + Sync,
     G: Graph + Send + Sync,
@@ -75,15 +75,21 @@ fn run_waves<
     ensures told { IfErr result (Tells (G.Name.net (G.level graph.now)) yard.now) }
     ensures watched { W.becomes watch.old watch.new }
 {
-    // Lists that the workers keep from wave to wave. They are let go with the last one, before the
-    // codes are gathered.
-    let spares = &mut Vec::new(alloc);
-    for wave in 0..=LAST_WAVE {
+    let mut wave = 0;
+    for _ in 0..=LAST_WAVE {
         if survey(rt, graph, yard, wave)? {
             return Ok(wave);
         }
-        watch.wave(wave + 1);
-        run_wave::<L, G, A, R>(rt, alloc, graph, gate, yard, shares, wave + 1, spares)?;
+        wave = run_from::<L, G, A, R, W>(
+            rt,
+            alloc,
+            graph,
+            gate,
+            yard,
+            shares,
+            wave.saturating_add(1),
+            watch,
+        )?;
     }
     // The survey of the last wave ends the waves. Of what stands behind locks no proof knows as
     // much.
@@ -190,10 +196,12 @@ fn solve_in<G: Graph + Send + Sync, A: Gate, R: Threads + Wait + Sync, W: Watch>
 /// every number of workers and blocks and in whatever order the workers come.
 ///
 /// The workers draw the numbers of the blocks that they make, until none is left, and no gate is
-/// asked. Then, wave by wave, they draw the numbers of the blocks and ask the gate after each draw
-/// (see [`Gate`]). A worker that draws no number, or is told to leave, ends for that wave. A graph
-/// whose blocks are settled before the first wave is answered without any wave. A worker holds one
-/// lock at a time, and none while it looks at the graph.
+/// asked. Then they draw the numbers of the blocks for one wave after the other and ask the gate
+/// after each draw (see [`Gate`]). A worker that drew for a wave waits until that wave begins, which
+/// it does once all blocks of the wave before are sent from and not all of them are settled. A
+/// worker that is told to leave ends, and its number stays undone; then no later wave begins. A
+/// graph whose blocks are settled before the first wave is answered without any wave. A worker holds
+/// one lock at a time, and none while it looks at the graph or waits for a wave.
 ///
 /// The blocks take what [`Block`] says, with lists of 4 bytes a node that let go of the waves past
 /// ([`Recent`]), or of 8 that keep all in a graph of more than [`SHORT_NODES`]. Each worker takes
@@ -205,7 +213,7 @@ fn solve_in<G: Graph + Send + Sync, A: Gate, R: Threads + Wait + Sync, W: Watch>
 /// # Errors
 ///
 /// `Workers`, then `Blocks`, for numbers out of range, before all else. Then `Memory` where memory
-/// is refused, in a wave before anything else that the wave would answer. `Missing` with the least
+/// is refused, in the waves before anything else that they would answer. `Missing` with the least
 /// number of a block that isn't complete, where a gate has sent workers away. `TooDeep` only where
 /// `sweep` answers it; such a graph is never answered with codes.
 pub fn solve<G: Graph + Send + Sync, A: Gate, R: Threads + Wait + Sync>(
@@ -229,8 +237,9 @@ pub fn solve<G: Graph + Send + Sync, A: Gate, R: Threads + Wait + Sync>(
 }
 
 /// [`solve`], with lists of 4 bytes a node where the graph has at most `short` nodes, up to
-/// [`SHORT_NODES`], and of 8 otherwise. It tells `watch` of each wave before it begins (see
-/// [`Watch`]): of waves 1, 2, .. and of no wave where the blocks are settled before the first one.
+/// [`SHORT_NODES`], and of 8 otherwise. On this thread it tells `watch` of each wave once it has
+/// begun, in their order (see [`Watch`]): of waves 1, 2, .. and of no wave where the blocks are
+/// settled before the first one.
 ///
 /// # Errors
 ///

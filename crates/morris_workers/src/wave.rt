@@ -1,13 +1,19 @@
-//! One wave, by several workers.
-ghost use Rattle.std.specs.Prelude.{◌≡◌, ◌⊎◌, ℕ, ◌<◌, ◌≤◌, false, length, IfOk, IsOk, OnOk, IfSome, IfErr, vec_len};
+//! Waves, by several workers.
+ghost use Rattle.std.specs.Prelude.{◌≡◌, ◌⊎◌, ℕ, ◌*◌, ◌<◌, ◌≤◌, false, length, IfOk, IsOk, OnOk, IfSome, IfErr, vec_len};
 ghost use Rattle.std.specs.List.{All};
 ghost use Rattle.morris_wave.specs.Blocks.{next_wave_of};
-ghost use Rattle.morris_workers.specs.Tickets.{IsSeatOf, IsNewSeatOf, HasDrawn, limit_of, has_ended};
+ghost use Rattle.morris_workers.specs.Tickets.{IsSeatOf, IsNewSeatOf, HasDrawn};
+ghost use Rattle.morris_workers.specs.Working.{IsNewWorker, HasWorked};
 
+use crate::fault::LAST_WAVE;
 use crate::gate::{Gate, Turn};
+use crate::pace::Pace;
+use crate::survey::survey;
 use crate::tickets::{TicketSeat, Tickets};
 use crate::yard::Yard;
-use morris_wave::{Batch, Block, Cut, Fresh, Graph, Levels, NodeList, scatter_reusing};
+use morris_wave::{
+    Batch, Block, Cut, Fresh, Graph, Levels, NodeList, Unwatched, Watch, scatter_reusing,
+};
 use std::alloc::{AllocError, Global};
 use std::ops::Range;
 use std::sync::Wait;
@@ -24,23 +30,20 @@ const FULL_NODES: usize = 4096;
 
 const FULL_SOURCES: usize = 16;
 
-// What one worker gets: its number, a seat to draw from, and lists for their room.
-#[derive(Drop)]
-struct Job<L: NodeList> {
-    worker: u64,
-    seat: TicketSeat,
-    spare: Vec<L>,
-}
+// One counter has at most so many numbers: those of the blocks for at least 976 waves.
+const MOST_NUMBERS: u64 = 1000000;
 
-// What a worker hands back: its seat, whether memory was refused, and lists for the next wave.
+// One worker: its number, a seat to draw from, the wave at which it is, and whether it was refused
+// memory.
 #[derive(Drop)]
-struct Done<L: NodeList> {
+struct Worker {
+    number: u64,
     seat: TicketSeat,
+    wave: u16,
     sent: Result<(), AllocError>,
-    spare: Vec<L>,
 }
 
-// What the workers of a wave share. Each has a share of the blocks, which it is the first to go to.
+// What the workers share. Each has a share of the blocks, which it is the first to go to.
 struct Site<'a, L: NodeList, G: Graph, A, R> {
     rt: &'a R,
     alloc: Global,
@@ -48,7 +51,10 @@ struct Site<'a, L: NodeList, G: Graph, A, R> {
     gate: &'a A,
     yard: &'a Yard<G::Name, L>,
     shares: &'a Cut,
-    wave: u16,
+    pace: &'a Pace,
+    // The waves that are to be run.
+    first: u16,
+    last: u16,
     ghost shared: { shares.now.size ≡ yard.now },
 }
 
@@ -61,14 +67,19 @@ impl<L: NodeList, G: Graph, A, R> Drop for Site<'_, L, G, A, R> {
             gate: _,
             yard: _,
             shares: _,
-            wave: _,
+            pace: _,
+            first: _,
+            last: _,
         } = self;
     }
 }
 
-// What a worker has scattered and not sent yet: for each source its batches, one for each block,
-// and how many fresh nodes they come from. Lists that were sent wait for the next batches.
+// What a worker has scattered at a wave and not sent yet: for each source its batches, one for each
+// block, and how many fresh nodes they come from. Lists that were sent wait for the next batches.
 struct Outbox<N: Levels, L: NodeList> {
+    wave: u16,
+    // From how many blocks the worker has scattered at the wave, sent or not.
+    taken: u64,
     sources: Vec<Vec<Batch<N, L>>>,
     fresh: usize,
     spare: Vec<L>,
@@ -77,6 +88,8 @@ struct Outbox<N: Levels, L: NodeList> {
 impl<N: Levels, L: NodeList> Drop for Outbox<N, L> {
     fn drop(self) {
         let Outbox {
+            wave: _,
+            taken: _,
             sources: _,
             fresh: _,
             spare: _,
@@ -85,23 +98,15 @@ impl<N: Levels, L: NodeList> Drop for Outbox<N, L> {
 }
 
 impl<N: Levels, L: NodeList> Outbox<N, L> {
-    // Nothing yet. The lists are for the batches to come.
-    fn new(alloc: Global, spare: Vec<L>) -> Outbox<N, L> {
+    // Nothing yet, at this wave.
+    fn new(alloc: Global, wave: u16) -> Outbox<N, L> {
         Outbox {
+            wave,
+            taken: 0,
             sources: Vec::new(alloc),
             fresh: 0,
-            spare,
+            spare: Vec::new(alloc),
         }
-    }
-
-    // The lists that wait. What wasn't sent is let go.
-    fn into_spare(self) -> Vec<L> {
-        let Outbox {
-            sources: _,
-            fresh: _,
-            spare,
-        } = self;
-        spare
     }
 
     // Whether it is time to send.
@@ -157,26 +162,40 @@ fn keep_room<N: Levels, L: NodeList>(
     Ok(room)
 }
 
+// The wave that comes so many after this one.
+fn wave_after(wave: u16, more: u64) -> u16 {
+    wave.saturating_add(u16::try_from(more).unwrap_or(u16::MAX))
+}
+
+// Tells a watch of the waves past the first of these, up to the last.
+fn tell<W: Watch>(watch: &mut W, first: u16, last: u16)
+    ensures { W.becomes watch.old watch.new }
+{
+    for wave in first..last {
+        watch.wave(wave + 1);
+    }
+}
+
 impl<'a, L: NodeList, G: Graph, A: Gate, R: Wait> Site<'a, L, G, A, R> {
     // Takes the blocks of a worker's share to this wave.
-    fn advance(&self, worker: u64)
+    fn advance(&self, worker: u64, wave: u16)
         requires { worker < self.now.shares.now.blocks }
     {
         let share = self.shares.range(worker);
         for number in share.start..share.end {
-            bring(&mut self.yard.lock(self.rt, number as usize), self.wave);
+            bring(&mut self.yard.lock(self.rt, number as usize), wave);
         }
     }
 
     // What a block found at this wave, if it is of the graph's level.
-    fn fresh(&self, source: usize) -> Result<Option<Fresh<G::Name>>, AllocError>
+    fn fresh(&self, source: usize, wave: u16) -> Result<Option<Fresh<G::Name>>, AllocError>
         requires { source < self.now.yard.now }
         ensures { IfOk result (λ found. IfSome found (λ fresh. G.level self.now.graph.now ≡ fresh.level)) }
     {
         // Asked here, since nobody looks at the graph who holds a lock.
         let level = self.graph.level();
         let mut block = self.yard.lock(self.rt, source);
-        bring(&mut block, self.wave);
+        bring(&mut block, wave);
         if block.level() != level {
             return Ok(None);
         }
@@ -184,12 +203,12 @@ impl<'a, L: NodeList, G: Graph, A: Gate, R: Wait> Site<'a, L, G, A, R> {
     }
 
     // Applies the batches of all these sources to their target.
-    fn apply(&self, target: usize, sources: &[Vec<Batch<G::Name, L>>])
+    fn apply(&self, target: usize, outbox: &Outbox<G::Name, L>)
         requires { target < self.now.yard.now }
     {
         let mut block = self.yard.lock(self.rt, target);
-        bring(&mut block, self.wave);
-        for batches in sources {
+        bring(&mut block, outbox.wave);
+        for batches in &outbox.sources {
             if let Some(batch) = batches.get(target) {
                 // A batch that isn't for this block at this wave changes nothing.
                 let _ = block.apply(batch);
@@ -198,11 +217,11 @@ impl<'a, L: NodeList, G: Graph, A: Gate, R: Wait> Site<'a, L, G, A, R> {
     }
 
     // Applies the batches of these places to the blocks there.
-    fn apply_all(&self, sources: &[Vec<Batch<G::Name, L>>], targets: Range<usize>)
+    fn apply_all(&self, outbox: &Outbox<G::Name, L>, targets: Range<usize>)
         requires { targets.end ≤ self.now.yard.now }
     {
         for target in targets.start..targets.end {
-            self.apply(target, sources);
+            self.apply(target, outbox);
         }
     }
 
@@ -212,8 +231,8 @@ impl<'a, L: NodeList, G: Graph, A: Gate, R: Wait> Site<'a, L, G, A, R> {
         requires { worker < self.now.shares.now.blocks }
     {
         let first = self.shares.range(worker).start as usize;
-        self.apply_all(&outbox.sources, first..self.yard.count());
-        self.apply_all(&outbox.sources, 0..first);
+        self.apply_all(outbox, first..self.yard.count());
+        self.apply_all(outbox, 0..first);
         outbox.empty()
     }
 
@@ -222,7 +241,7 @@ impl<'a, L: NodeList, G: Graph, A: Gate, R: Wait> Site<'a, L, G, A, R> {
         requires small { (G.Name.net (G.level self.now.graph.now)).size ≤ L.limit }
         requires source { source < self.now.yard.now }
     {
-        let Some(fresh) = self.fresh(source)? else {
+        let Some(fresh) = self.fresh(source, outbox.wave)? else {
             return Ok(());
         };
         let batches = scatter_reusing(self.alloc, self.graph, &fresh, &mut outbox.spare)?;
@@ -243,153 +262,253 @@ impl<'a, L: NodeList, G: Graph, A: Gate, R: Wait> Site<'a, L, G, A, R> {
         requires source { source < self.now.yard.now }
     {
         self.scatter(source, outbox)?;
+        outbox.taken = outbox.taken.saturating_add(1);
         if outbox.is_full() {
             self.send(worker, outbox)?;
         }
         Ok(())
     }
 
-    // Draws and sends until no number is left or the gate says to leave. What was drawn before is
-    // sent then too.
-    fn draw_all(
-        &self,
-        tickets: &Tickets,
-        worker: u64,
-        seat: &mut TicketSeat,
-        outbox: &mut Outbox<G::Name, L>,
-    ) -> Result<(), AllocError>
-        requires small { (G.Name.net (G.level self.now.graph.now)).size ≤ L.limit }
-        requires worker { worker < self.now.shares.now.blocks }
-        requires limit { limit_of tickets.now ≡ self.now.yard.now }
-        requires seat { IsSeatOf tickets.now seat.old }
-        requires ready { has_ended seat.old ≡ false }
-        ensures seat { IsSeatOf tickets.now seat.new }
-        ensures drawn { OnOk result (HasDrawn seat.new) }
+    // Sends what is left of the worker's wave. The last of the workers takes all of them to the
+    // next wave, unless the blocks are settled or one isn't complete.
+    fn finish(&self, worker: u64, outbox: &mut Outbox<G::Name, L>) -> Result<(), AllocError>
+        requires { worker < self.now.shares.now.blocks }
     {
-        // No worker draws more numbers than there are blocks, and then finds once that none is
-        // left.
-        for _ in 0..=self.yard.count() {
-            let Some(number) = tickets.draw(seat) else {
-                return self.send(worker, outbox);
-            };
-            match self.gate.pass(worker as usize, number) {
-                Turn::Go => self.take(worker, number as usize, outbox)?,
-                Turn::Leave => return self.send(worker, outbox),
+        if outbox.taken > 0 {
+            self.send(worker, outbox)?;
+            let all = self
+                .pace
+                .count(self.rt, outbox.taken, self.yard.count() as u64);
+            outbox.taken = 0;
+            if all {
+                self.go_on(outbox.wave);
             }
         }
         Ok(())
     }
 
-    // What one worker does in the wave. It gives back its seat and its lists, and says whether
-    // memory was refused; where it wasn't, the seat was drawn from.
-    fn work(&self, tickets: &Tickets, job: Job<L>) -> Done<L>
-        requires small { (G.Name.net (G.level self.now.graph.now)).size ≤ L.limit }
-        requires worker { job.worker < self.now.shares.now.blocks }
-        requires limit { limit_of tickets.now ≡ self.now.yard.now }
-        requires seat { IsNewSeatOf tickets.now job.seat }
-        ensures seat { IsSeatOf tickets.now result.seat }
-        ensures drawn { OnOk result.sent (HasDrawn result.seat) }
+    // Begins the wave after this one, or ends the work here.
+    fn go_on(&self, wave: u16) {
+        let open = matches!(survey(self.rt, self.graph, self.yard, wave), Ok(false));
+        if open && wave < self.last {
+            self.pace.begin(self.rt, wave + 1);
+        } else {
+            self.pace.end(self.rt);
+        }
+    }
+
+    // Goes to this wave once it begins, and says whether it has begun. What is left of the wave
+    // before is sent first.
+    fn enter<W: Watch>(
+        &self,
+        worker: u64,
+        wave: u16,
+        outbox: &mut Outbox<G::Name, L>,
+        watch: &mut W,
+    ) -> Result<bool, AllocError>
+        requires worker { worker < self.now.shares.now.blocks }
+        ensures told { W.becomes watch.old watch.new }
     {
-        let Job {
-            worker,
-            mut seat,
-            spare,
-        } = job;
-        self.advance(worker);
-        let mut outbox = Outbox::new(self.alloc, spare);
-        let sent = self.draw_all(tickets, worker, &mut seat, &mut outbox);
-        Done {
-            seat,
-            sent,
-            spare: outbox.into_spare(),
+        self.finish(worker, outbox)?;
+        if !self.pace.wait(self.rt, wave) {
+            return Ok(false);
+        }
+        tell(watch, outbox.wave, wave);
+        outbox.wave = wave;
+        self.advance(worker, wave);
+        Ok(true)
+    }
+
+    // Goes to this block at this wave, and says whether the worker is to go on.
+    fn visit<W: Watch>(
+        &self,
+        worker: u64,
+        wave: u16,
+        source: usize,
+        outbox: &mut Outbox<G::Name, L>,
+        watch: &mut W,
+    ) -> Result<bool, AllocError>
+        requires small { (G.Name.net (G.level self.now.graph.now)).size ≤ L.limit }
+        requires worker { worker < self.now.shares.now.blocks }
+        requires source { source < self.now.yard.now }
+        ensures told { W.becomes watch.old watch.new }
+    {
+        if wave != outbox.wave && !self.enter(worker, wave, outbox, watch)? {
+            return Ok(false);
+        }
+        match self.gate.pass(worker as usize, source as u64) {
+            Turn::Go => {
+                self.take(worker, source, outbox)?;
+                Ok(true)
+            }
+            Turn::Leave => {
+                self.send(worker, outbox)?;
+                Ok(false)
+            }
+        }
+    }
+
+    // Draws and sends until no number is left, no wave begins, or the gate says to leave. What was
+    // drawn before is sent then too. The numbers of a counter are those of the blocks, over and
+    // over, for one wave after the other.
+    fn draw_all<W: Watch>(
+        &self,
+        tickets: &Tickets,
+        worker: u64,
+        seat: &mut TicketSeat,
+        outbox: &mut Outbox<G::Name, L>,
+        watch: &mut W,
+    ) -> Result<(), AllocError>
+        requires small { (G.Name.net (G.level self.now.graph.now)).size ≤ L.limit }
+        requires worker { worker < self.now.shares.now.blocks }
+        requires some { 0 < self.now.yard.now }
+        requires seat { IsNewSeatOf tickets.now seat.old }
+        ensures seat { IsSeatOf tickets.now seat.new }
+        ensures drawn { OnOk result (HasDrawn seat.new) }
+        ensures told { W.becomes watch.old watch.new }
+    {
+        let blocks = self.yard.count() as u64;
+        while let Some(number) = tickets.draw(seat) {
+            let wave = wave_after(self.first, number / blocks);
+            let source = (number % blocks) as usize;
+            if !self.visit(worker, wave, source, outbox, watch)? {
+                self.pace.end(self.rt);
+                return Ok(());
+            }
+        }
+        self.finish(worker, outbox)
+    }
+
+    // What one worker does. Where it isn't refused memory, it draws.
+    fn work<W: Watch>(&self, tickets: &Tickets, worker: &mut Worker, watch: &mut W)
+        requires small { (G.Name.net (G.level self.now.graph.now)).size ≤ L.limit }
+        requires some { 0 < self.now.yard.now }
+        requires new { IsNewWorker tickets.now self.now.shares.now.blocks worker.old }
+        ensures worked { HasWorked tickets.now worker.new }
+        ensures told { W.becomes watch.old watch.new }
+    {
+        let mut outbox = Outbox::new(self.alloc, worker.wave);
+        worker.sent = self.draw_all(tickets, worker.number, &mut worker.seat, &mut outbox, watch);
+        worker.wave = outbox.wave;
+        if worker.sent.is_err() {
+            // Nobody is to wait for what this worker doesn't send.
+            self.pace.end(self.rt);
         }
     }
 }
 
-// A job for each seat, for the workers 0, 1, .., each with the lists that a worker of the wave
-// before handed back, if there was one.
-fn jobs_of<L: NodeList>(
+// A worker for each seat, with the numbers 0, 1, .., at this wave.
+fn workers_of(
     alloc: Global,
     tickets: &Tickets,
     seats: Vec<TicketSeat>,
-    spares: &mut Vec<Vec<L>>,
-) -> Result<Vec<Job<L>>, AllocError>
+    wave: u16,
+) -> Result<Vec<Worker>, AllocError>
     requires { All (IsNewSeatOf tickets.now) seats.items }
-    ensures count { IfOk result (λ jobs. vec_len jobs ≡ vec_len seats) }
-    ensures seats { IfOk result (λ jobs. All (λ job. IsNewSeatOf tickets.now job.seat) jobs.items) }
-    ensures workers { IfOk result (λ jobs. All (λ job. job.worker < vec_len seats) jobs.items) }
+    ensures count { IfOk result (λ workers. vec_len workers ≡ vec_len seats) }
+    ensures new { IfOk result (λ workers. All (IsNewWorker tickets.now (vec_len seats)) workers.items) }
 {
-    let mut jobs = Vec::with_capacity(alloc, seats.len())?;
+    let mut workers = Vec::with_capacity(alloc, seats.len())?;
     for seat in seats {
-        let worker = jobs.len() as u64;
-        let spare = spares.pop().unwrap_or(Vec::new(alloc));
-        jobs.push(Job {
-            worker,
+        let number = workers.len() as u64;
+        workers.push(Worker {
+            number,
             seat,
-            spare,
+            wave,
+            sent: Ok(()),
         })?;
     }
-    Ok(jobs)
+    Ok(workers)
 }
 
-// What is left to do once all workers are back: their lists are kept, the tickets are closed, and
-// if memory was refused anywhere that is the answer. Otherwise each of them has drawn.
-fn hand_back<L: NodeList>(
-    alloc: Global,
-    tickets: Tickets,
-    done: Vec<Done<L>>,
-    spares: &mut Vec<Vec<L>>,
-) -> Result<(), AllocError>
-    requires some { 1 ≤ vec_len done }
-    requires seats { All (λ back. IsSeatOf tickets back.seat) done.items }
-    requires drawn { All (λ back. OnOk back.sent (HasDrawn back.seat)) done.items }
-    ensures all { OnOk result (All (λ back. IsOk back.sent) done.items) }
-    ensures drawn { OnOk result (All (λ back. HasDrawn back.seat) done.items) }
+// Has all workers at work, each in a thread of its own where one can be started. The last one is at
+// work in this thread, and tells the watch. This thread starts the others one after the other: two
+// that are started at once, by different threads, often share a processor for long.
+#[cycle(threads)]
+fn work_all<
+    L: NodeList + Send + Sync,
+    G: Graph + Send + Sync,
+    A: Gate,
+    R: Threads + Wait + Sync,
+    W: Watch,
+>(site: &Site<'_, L, G, A, R>, tickets: &Tickets, workers: &mut [Worker], watch: &mut W)
+    requires small { (G.Name.net (G.level site.now.graph.now)).size ≤ L.limit }
+    requires some { 0 < site.now.yard.now }
+    requires new { All (IsNewWorker tickets.now site.now.shares.now.blocks) workers.old }
+    ensures count { length workers.new ≡ length workers.old }
+    ensures worked { All (HasWorked tickets.now) workers.new }
+    ensures told { W.becomes watch.old watch.new }
 {
-    let outcome = outcome_of(&done);
-    let mut seats = Vec::with_capacity(alloc, done.len())?;
-    for back in done {
-        let Done {
-            seat,
-            sent: _,
-            spare,
-        } = back;
-        seats.push(seat)?;
-        spares.push(spare)?;
+    let Some((first, rest)) = workers.split_first_mut() else {
+        return;
+    };
+    if rest.is_empty() {
+        site.work(tickets, first, watch);
+        return;
+    }
+    let mut aside = ||
+        requires { ((G.Name.net (G.level site.now.graph.now)).size ≤ L.limit) × (0 < site.now.yard.now)
+            × IsNewWorker tickets.now site.now.shares.now.blocks first.now }
+        ensures { HasWorked tickets.entry.now first.exit.now }
+    { site.work(tickets, first, &mut Unwatched) };
+    let mut here = ||
+        requires { ((G.Name.net (G.level site.now.graph.now)).size ≤ L.limit) × (0 < site.now.yard.now)
+            × All (IsNewWorker tickets.now site.now.shares.now.blocks) rest.now }
+        ensures { (length rest.exit.now ≡ length rest.entry.now) × All (HasWorked tickets.entry.now) rest.exit.now
+            × W.becomes watch.entry.now watch.exit.now }
+    { work_all(site, tickets, rest, watch) };
+    thread::join_mut(site.rt, &mut aside, &mut here);
+}
+
+// What is left to do once all workers are back: the tickets are closed, and if memory was refused
+// anywhere that is the answer. Otherwise each of them has drawn.
+fn hand_back(alloc: Global, tickets: Tickets, workers: Vec<Worker>) -> Result<(), AllocError>
+    requires some { 1 ≤ vec_len workers }
+    requires worked { All (HasWorked tickets) workers.items }
+    ensures all { OnOk result (All (λ worker. IsOk worker.sent) workers.items) }
+    ensures drawn { OnOk result (All (λ worker. HasDrawn worker.seat) workers.items) }
+{
+    let outcome = outcome_of(&workers);
+    let mut seats = Vec::with_capacity(alloc, workers.len())?;
+    for worker in workers {
+        seats.push(worker.seat)?;
     }
     let _ = tickets.close(seats);
     outcome
 }
 
 // Whether memory was refused to any of the workers.
-fn outcome_of<L: NodeList>(done: &[Done<L>]) -> Result<(), AllocError>
-    ensures { OnOk result (All (λ back. IsOk back.sent) done.now) }
+fn outcome_of(workers: &[Worker]) -> Result<(), AllocError>
+    ensures { OnOk result (All (λ worker. IsOk worker.sent) workers.now) }
 {
-    for back in done {
-        if back.sent.is_err() {
+    for worker in workers {
+        if worker.sent.is_err() {
             return Err(AllocError);
         }
     }
     Ok(())
 }
 
-/// Takes all blocks from a complete wave to this one, and sends what each of them found to all.
+/// Takes all blocks from wave to wave, from a complete wave to this one first, and answers at which
+/// they are once the blocks are settled, one of them isn't complete, or the numbers of one counter
+/// are drawn.
 ///
-/// Each worker first takes the blocks of its share to the wave. Then it draws numbers of blocks and
-/// asks the gate after each draw. On `Go` it sends what the block found to every block, maybe
-/// together with what it draws next; on `Leave` it ends, and nothing is sent from that block. A
-/// worker for which no thread can be started is run by another one. Blocks keep and batches carry
-/// lists of the kind `L`. The workers take lists from `spares` for their room, and put those that
-/// they keep for the next wave there.
+/// Each worker draws the numbers of the blocks over and over, for one wave after the other, and
+/// asks the gate after each draw. At each wave it first takes the blocks of its share there. On
+/// `Go` it sends what the block found to every block, maybe together with what it draws next; on
+/// `Leave` it ends, and nothing is sent from that block. A worker for which no thread can be
+/// started is run by another one. Blocks keep and batches carry lists of the kind `L`. The watch is
+/// told of each wave once it has begun, or later where this thread comes late.
 ///
 /// # Errors
 ///
 /// `AllocError` where memory is refused anywhere.
-pub(crate) fn run_wave<
+pub(crate) fn run_from<
     L: NodeList + Send + Sync,
     G: Graph + Send + Sync,
     A: Gate,
     R: Threads + Wait + Sync,
+    W: Watch,
 >(
     rt: &R,
     alloc: Global,
@@ -397,17 +516,21 @@ pub(crate) fn run_wave<
     gate: &A,
     yard: &Yard<G::Name, L>,
     shares: &Cut,
-    wave: u16,
-    spares: &mut Vec<Vec<L>>,
-) -> Result<(), AllocError>
+    first: u16,
+    watch: &mut W,
+) -> Result<u16, AllocError>
     requires small { (G.Name.net (G.level graph.now)).size ≤ L.limit }
     requires shared { shares.now.size ≡ yard.now }
-    requires few { yard.now ≤ 1024 }
+    requires few { (1 ≤ yard.now) × (yard.now ≤ 1024) }
     requires workers { (1 ≤ shares.now.blocks) × (shares.now.blocks ≤ 64) }
+    ensures told { W.becomes watch.old watch.new }
 {
-    let workers = shares.blocks() as usize;
-    let (tickets, seats) = Tickets::new(alloc, yard.count() as u64, workers)?;
-    let jobs = jobs_of(alloc, &tickets, seats, spares)?;
+    let blocks = yard.count() as u64;
+    let left = u64::from(LAST_WAVE.saturating_sub(first)) + 1;
+    let waves = (MOST_NUMBERS / blocks).min(left);
+    let (tickets, seats) = Tickets::new(alloc, blocks * waves, shares.blocks() as usize)?;
+    let mut workers = workers_of(alloc, &tickets, seats, first.saturating_sub(1))?;
+    let pace = Pace::new(first);
     let site = &Site {
         rt,
         alloc,
@@ -415,17 +538,14 @@ pub(crate) fn run_wave<
         gate,
         yard,
         shares,
-        wave,
+        pace: &pace,
+        first,
+        last: wave_after(first, waves.saturating_sub(1)),
     };
-    let shown = &tickets;
-    let done = thread::map_vec(
-        rt,
-        jobs,
-        &|job| -> Done<L>
-            requires { IsNewSeatOf shown.now job.seat × (job.worker < site.now.shares.now.blocks) × (limit_of shown.now ≡ site.now.yard.now)
-                × ((G.Name.net (G.level site.now.graph.now)).size ≤ L.limit) }
-            ensures { IsSeatOf shown.entry.now result.seat × OnOk result.sent (HasDrawn result.seat) }
-        { site.work(shown, job) },
-    )?;
-    hand_back(alloc, tickets, done, spares)
+    work_all(site, &tickets, workers.as_mut_slice(), watch);
+    let told = workers.last().map_or(first, |worker| worker.wave);
+    let wave = pace.wave(rt);
+    tell(watch, told, wave);
+    hand_back(alloc, tickets, workers)?;
+    Ok(wave)
 }

@@ -12,6 +12,6 @@ of_ok (Ok x) is h = h
 of_ok (Err e) is h = absurd (false≢true is)
 
 pub returns-clause-drawn : goal.returns-clause-drawn
-returns-clause-drawn g c =
-    let all : OnOk c.outcome_of-outcome.result (All (λ back. IsOk back.sent) c.args.done.items) = search rules in
-    on_ok_weaker c.outcome_of-outcome.result (λ each k d h. of_ok (slice_index_or c.args.done.items k d).sent (each k d h) (c.requires.drawn k d h)) all
+returns-clause-drawn c =
+    let all : OnOk c.outcome_of-outcome.result (All (λ worker. IsOk worker.sent) c.args.workers.items) = search rules in
+    on_ok_weaker c.outcome_of-outcome.result (λ each k d h. of_ok (slice_index_or c.args.workers.items k d).sent (each k d h) (c.requires.worked k d h).drawn) all

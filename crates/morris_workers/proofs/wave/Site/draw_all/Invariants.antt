@@ -1,10 +1,13 @@
-use Rattle.std.proofs.Common.{◌≡◌, ◌⊎◌, ◌<◌, false, length}
-use Rattle.morris_workers.specs.Tickets.{IsSeatOf, has_ended, numbers_of}
+use Rattle.std.proofs.Common.{◌≡◌, ◌-◌, false, length}
+use Rattle.morris_workers.specs.Tickets.{IsSeatOf, limit_of, has_ended, numbers_of}
 use Rattle.morris_workers.proofs.wave.Site.draw_all.Given as goal
 
-abbrev pub invariant-loop : goal.invariant-loop
-invariant-loop g l = record {
+abbrev pub decreases-loop-number : goal.decreases-loop-number
+decreases-loop-number g l = limit_of l.tickets - length (numbers_of l.seat)
+
+abbrev pub invariant-loop-number : goal.invariant-loop-number
+invariant-loop-number g l = record {
   seat : IsSeatOf l.tickets l.seat;
   ready : has_ended l.seat ≡ false;
-  drawn : (l.counter ≡ 0) ⊎ (0 < length (numbers_of l.seat));
+  told : g.W.Watch.becomes l.fn.watch l.watch;
 }
