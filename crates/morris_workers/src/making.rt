@@ -65,6 +65,53 @@ fn make_part<L: NodeList, G: Graph>(
     Made { seat, blocks }
 }
 
+// Has workers with these seats make their parts, each in a thread of its own where one can be
+// started. This thread starts them one after the other, for the reason of the waves' workers.
+#[cycle(making)]
+fn make_parts<L: NodeList + Send, G: Graph + Send + Sync, R: Threads + Sync>(
+    rt: &R,
+    alloc: Global,
+    graph: &G,
+    cut: &Cut,
+    tickets: &Tickets,
+    mut seats: Vec<TicketSeat>,
+) -> Result<Vec<Made<G::Name, L>>, AllocError>
+    requires size { cut.now.size ≡ (G.Name.net (G.level graph.now)).size }
+    requires short { cut.now.size ≤ L.limit }
+    requires limit { limit_of tickets.now ≡ cut.now.blocks }
+    requires new { All (IsNewSeatOf tickets.now) seats.items }
+    ensures count { IfOk result (λ made. vec_len made ≡ vec_len seats) }
+    ensures seats { IfOk result (λ made. All (λ part. IsSeatOf tickets.now part.seat) made.items) }
+    ensures drawn { IfOk result (λ made. All (λ part. AreDrawn (G.Name.net (G.level graph.now)) part.seat part.blocks) made.items) }
+{
+    let Some(seat) = seats.pop() else {
+        return Ok(Vec::new(alloc));
+    };
+    if seats.is_empty() {
+        let mut made = Vec::new(alloc);
+        made.push(make_part::<L, G>(alloc, graph, cut, tickets, seat))?;
+        return Ok(made);
+    }
+    let (part, others) = thread::join(
+        rt,
+        move || -> Made<G::Name, L>
+            requires { (cut.now.size ≡ (G.Name.net (G.level graph.now)).size) × (cut.now.size ≤ L.limit) × (limit_of tickets.now ≡ cut.now.blocks)
+                × IsNewSeatOf tickets.now seat }
+            ensures { IsSeatOf tickets.entry.now result.seat × AreDrawn (G.Name.net (G.level graph.entry.now)) result.seat result.blocks }
+        { make_part::<L, G>(alloc, graph, cut, tickets, seat) },
+        move || -> Result<Vec<Made<G::Name, L>>, AllocError>
+            requires { (cut.now.size ≡ (G.Name.net (G.level graph.now)).size) × (cut.now.size ≤ L.limit) × (limit_of tickets.now ≡ cut.now.blocks)
+                × All (IsNewSeatOf tickets.now) seats.items }
+            ensures count { IfOk result (λ made. vec_len made ≡ vec_len seats) }
+            ensures seats { IfOk result (λ made. All (λ part. IsSeatOf tickets.entry.now part.seat) made.items) }
+            ensures drawn { IfOk result (λ made. All (λ part. AreDrawn (G.Name.net (G.level graph.entry.now)) part.seat part.blocks) made.items) }
+        { make_parts::<L, G, R>(rt, alloc, graph, cut, tickets, seats) },
+    );
+    let mut made = others?;
+    made.push(part)?;
+    Ok(made)
+}
+
 // All seats, and the blocks of all of them, the first seat's first. The first fault is the answer.
 fn collected<L: NodeList, G: Graph>(
     alloc: Global,
@@ -140,15 +187,6 @@ pub(crate) fn make_blocks<L: NodeList + Send, G: Graph + Send + Sync, R: Threads
     // Tickets have at most 64 seats.
     let workers = shares.blocks().min(64) as usize;
     let (tickets, seats) = Tickets::new(alloc, cut.blocks(), workers)?;
-    let shown = &tickets;
-    let made = thread::map_vec(
-        rt,
-        seats,
-        &|seat| -> Made<G::Name, L>
-            requires { (cut.now.size ≡ (G.Name.net (G.level graph.now)).size) × (cut.now.size ≤ L.limit) × (limit_of shown.now ≡ cut.now.blocks)
-                × IsNewSeatOf shown.now seat }
-            ensures { IsSeatOf shown.entry.now result.seat × AreDrawn (G.Name.net (G.level graph.entry.now)) result.seat result.blocks }
-        { make_part::<L, G>(alloc, graph, cut, shown, seat) },
-    )?;
+    let made = make_parts::<L, G, R>(rt, alloc, graph, cut, &tickets, seats)?;
     joined::<L, G>(alloc, graph, tickets, made)
 }
