@@ -1,11 +1,12 @@
 ghost use Rattle.std.specs.Prelude.{◌≡◌, ◌<◌, ◌≤◌, ◌^◌};
 
+use crate::bares::{BareGraph, Bares};
 use crate::checks::{holds, same, same_codes, same_nodes};
 use crate::lones::{LoneGraph, Lones};
 use crate::pairs::{PairGraph, Pairs};
 use crate::runs::{advance, blocks_after, blocks_of, send};
 use crate::trios::TrioGraph;
-use morris_wave::{AdvanceFault, Block, Cut, Exits, Graph, Levels};
+use morris_wave::{AdvanceFault, Applied, Batch, Block, Cut, Exits, Graph, Levels, scatter};
 use std::alloc::Global;
 use std::process::Abort;
 
@@ -196,4 +197,62 @@ fn a_trio_finds_a_node_at_waves_6_9_and_10(rt: HostRuntime) {
     finds(&rt, rt.alloc(), 10, &[2]);
     finds(&rt, rt.alloc(), 42, &[]);
     finds(&rt, rt.alloc(), 43, &[]);
+}
+
+// Three nodes without any result, all of which are found at wave 1.
+const BARE: BareGraph = BareGraph { level: 3 };
+
+// The batches of the last two nodes that the block found, split off, and those of the first one.
+fn pieces(alloc: Global, block: &Block<Bares>) -> Option<(Vec<Batch<Bares>>, Vec<Batch<Bares>>)> {
+    if block.level() != BARE.level() {
+        return None;
+    }
+    let mut fresh = block.fresh(alloc).ok()?;
+    if fresh.nodes().len() < 2 {
+        return None;
+    }
+    let piece = fresh.split_off(1).ok()?;
+    let of_piece = scatter(alloc, &BARE, &piece).ok()?;
+    Some((of_piece, scatter(alloc, &BARE, &fresh).ok()?))
+}
+
+// What the block answers to the only one of these batches, and whether it is complete then.
+fn answers(
+    rt: &impl Abort,
+    block: &mut Block<Bares>,
+    batches: &[Batch<Bares>],
+    want: Applied,
+    is_complete: bool,
+) {
+    let [batch] = batches else {
+        panic!(rt; "not one batch");
+    };
+    holds(rt, block.apply(batch) == want, "answer");
+    holds(rt, block.is_complete() == is_complete, "complete");
+}
+
+// The last two nodes that the block found are split off.
+fn splits(rt: &impl Abort, alloc: Global, block: &Block<Bares>) {
+    let mut fresh = block.fresh(alloc).expect(rt, "memory");
+    same_nodes(rt, fresh.nodes(), &[0, 1, 2], "fresh");
+    assert!(rt; fresh.nodes().len() > 1);
+    let piece = fresh.split_off(1).expect(rt, "memory");
+    same_nodes(rt, fresh.nodes(), &[0], "rest");
+    same_nodes(rt, piece.nodes(), &[1, 2], "piece");
+}
+
+#[test]
+fn pieces_are_taken_in_from_the_last_one_on(rt: HostRuntime) {
+    let mut blocks = blocks_of(rt.alloc(), &BARE, 1).expect(&rt, "blocks");
+    holds(&rt, advance(&mut blocks).is_some(), "went on");
+    let [block] = blocks.as_mut_slice() else {
+        panic!(rt; "not one block");
+    };
+    splits(&rt, rt.alloc(), block);
+    let (piece, rest) = pieces(rt.alloc(), block).expect(&rt, "pieces");
+    answers(&rt, block, &rest, Applied::Again, false);
+    answers(&rt, block, &piece, Applied::Done, false);
+    answers(&rt, block, &piece, Applied::Again, false);
+    answers(&rt, block, &rest, Applied::Done, true);
+    answers(&rt, block, &rest, Applied::Again, true);
 }

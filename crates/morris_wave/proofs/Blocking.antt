@@ -1,9 +1,9 @@
 -- The steps of a block.
-use Rattle.std.proofs.Common.{◌≡◌, ℕ, ◌+◌, ◌-◌, ◌*◌, ◌<◌, ◌≤◌, Bool, true, false, ◌&&◌, ◌||◌, eqb, List, [], ◌++◌, length, get_or, set, take, drop, replicate, refl, sym, ap, ap₂, ◌∙◌, subst, ⊎_elim, arith, get_or-set_same, get_or-set_other, length-set, append-nil, take_all}
+use Rattle.std.proofs.Common.{◌≡◌, ℕ, ◌+◌, ◌-◌, ◌*◌, ◌<◌, ◌≤◌, Bool, true, false, not, ◌&&◌, ◌||◌, eqb, ltb, List, [], length, get_or, set, refl, sym, ap, ap₂, ◌∙◌, subst, ⊎_elim, arith, get_or-set_same, get_or-set_other, length-set}
 use Rattle.std.specs.List.{count_by, All}
 use Rattle.std.proofs.Math.Nat.{div-lt_iff_lt-mul, mul-le-mul_right}
-use Rattle.std.proofs.lemmas.Bool.{and_parts, or_right, eqb-true, eq-eqb, ne_eqb, cases_eq, cases_lt}
-use Rattle.std.proofs.lemmas.List.{get_or-replicate, get_or_past, get_or_default, same_lists, drop_all, length-replicate}
+use Rattle.std.proofs.lemmas.Bool.{and_parts, or_left, or_right, eqb-true, eq-eqb, ne_eqb, ltb-true, lt-ltb, le-ltb, cases_eq, cases_lt}
+use Rattle.std.proofs.lemmas.List.{get_or-replicate, length-replicate}
 use Rattle.std.proofs.lemmas.List.Sums.{AllPass-from_list_all}
 use Rattle.morris_wave.specs.Nets.{Net, IsNet, times}
 use Rattle.morris_wave.specs.Lists.{list_at}
@@ -13,13 +13,29 @@ use Rattle.morris_wave.specs.Solving.{every, none}
 use Rattle.morris_wave.specs.Keeping.{StretchHolds, Takes, left_of}
 use Rattle.morris_wave.specs.Counts.{AreFew}
 use Rattle.morris_wave.specs.Blocks.{Parts, IsCut, first_of, block_of, IsIn, BlockState, BlockHolds, is_complete, in_applied, count_of, first_wave, next_wave_of}
-use Rattle.morris_wave.specs.Batches.{BatchState, BatchHolds}
+use Rattle.morris_wave.specs.Batches.{is_from_to, BatchState, BatchHolds}
 use Rattle.morris_wave.proofs.Parts.{known_won_cong, known_lost_cong}
 use Rattle.morris_wave.proofs.Stretches.{take_enough, take_few, due_enough, due_few, take_holds, next_holds, holds_same, first_holds}
 
 or_false : (t : Bool) → t ≡ (t || false)
 or_false true = refl
 or_false false = refl
+
+-- A node is from the end of a piece on or in the piece, exactly where it is from its beginning on.
+one_piece : (j low high : ℕ) → low ≤ high → (not (ltb j high) || is_from_to low high j) ≡ (eqb low 0 || not (ltb j low))
+one_piece j low high le =
+    ⊎_elim
+    (λ l. ap₂ (λ p q. not q || (not p && q)) (lt-ltb j low l) (lt-ltb j high (omega (arith, l, le)))
+    ∙ sym (ap₂ (λ z p. z || not p) (ne_eqb low 0 (λ e. omega (arith, l, e))) (lt-ltb j low l)))
+    (λ l. from l ∙ sym (or_right (eqb low 0) (not (ltb j low)) (ap not (le-ltb j low l))))
+    (cases_lt j low)
+  where
+    from : low ≤ j → (not (ltb j high) || is_from_to low high j) ≡ true
+    from l =
+        ⊎_elim
+        (λ m. ap₂ (λ p q. not q || (not p && q)) (le-ltb j low l) (lt-ltb j high m))
+        (λ m. or_left (not (ltb j high)) (is_from_to low high j) (ap not (le-ltb j high m)))
+        (cases_lt j high)
 
 -- a node of the graph is in a block of the cut
 pub block_of-lt : (c : Parts) → IsCut c → (j : ℕ) → j < c.size → block_of c j < c.blocks
@@ -43,6 +59,7 @@ make_holds g law level number first cut codes counters due last_due most is_cut 
   size = size;
   number = inside;
   sources = length-replicate cut.blocks true;
+  starts = length-replicate cut.blocks 0;
   wave = omega arith;
   first_is = first_is;
   count_is = count_is;
@@ -61,16 +78,27 @@ module _ (g : Net) (law : IsNet g) (s : BlockState) (first : ℕ) (codes counter
   pub node_inside : (i : ℕ) → first ≤ i → i < first + length codes → IsIn s.cut s.number i
   node_inside i low high = (omega (arith, low, h.first_is), omega (arith, low, high, h.first_is, h.count_is))
 
-  -- a batch of a source that isn't applied yet
-  module _ (b : BatchState) (hb : BatchHolds g b) (cut : b.cut ≡ s.cut) (wave : b.wave ≡ s.wave) (target : b.target ≡ s.number) (fresh : get_or s.applied b.source false ≡ false) where
-    taken : (k : ℕ) → k < length codes → times (first + k) b.nodes ≡ count_by (λ j. eqb (block_of s.cut j) b.source && is_fresh g s.wave j) (g.quiet (first + k))
+  -- a batch that goes on with a source that isn't applied yet
+  module _ (b : BatchState) (hb : BatchHolds g b) (cut : b.cut ≡ s.cut) (wave : b.wave ≡ s.wave) (target : b.target ≡ s.number) (fresh : get_or s.applied b.source false ≡ false)
+      (turn : b.high ≡ get_or s.taken_from b.source 0) where
+    abbrev sent : ℕ → Bool
+    sent j = eqb (block_of s.cut j) b.source && is_from_to b.low b.high j
+
+    abbrev after : BlockState
+    after = record s { applied = set s.applied b.source (eqb b.low 0); taken_from = set s.taken_from b.source b.low }
+
+    taken : (k : ℕ) → k < length codes → times (first + k) b.nodes ≡ count_by (λ j. sent j && is_fresh g s.wave j) (g.quiet (first + k))
     taken k l =
         let at = node_inside (first + k) (omega arith) (omega (arith, l)) in
         hb.often (first + k) (omega (arith, at.0, ap₂ first_of cut target), omega (arith, at.1, ap₂ (λ c t. first_of c (t + 1)) cut target))
-        ∙ ap₂ (λ c w. count_by (λ j. eqb (block_of c j) b.source && is_fresh g w j) (g.quiet (first + k))) cut wave
+        ∙ ap₂ (λ c w. count_by (λ j. (eqb (block_of c j) b.source && is_from_to b.low b.high j) && is_fresh g w j) (g.quiet (first + k))) cut wave
 
-    apart : (j : ℕ) → eqb (block_of s.cut j) b.source ≡ true → in_applied s j ≡ false
-    apart j e = subst (λ x. get_or s.applied x false ≡ false) (sym (eqb-true (block_of s.cut j) b.source e)) fresh
+    apart : (j : ℕ) → sent j ≡ true → in_applied s j ≡ false
+    apart j e =
+        let of = and_parts (eqb (block_of s.cut j) b.source) (is_from_to b.low b.high j) e in
+        let between = and_parts (not (ltb j b.low)) (ltb j b.high) of.1 in
+        let below : ltb j (get_or s.taken_from b.source 0) ≡ true = lt-ltb j (get_or s.taken_from b.source 0) (omega (arith, ltb-true j b.high between.1, turn)) in
+        subst (λ x. (get_or s.applied x false || not (ltb j (get_or s.taken_from x 0))) ≡ false) (sym (eqb-true (block_of s.cut j) b.source of.0)) (ap₂ (λ a t. a || not t) fresh below)
 
     pub batch_inside : All (λ i. (first ≤ i) × (i < first + length codes)) b.nodes
     batch_inside p d l =
@@ -78,45 +106,65 @@ module _ (g : Net) (law : IsNet g) (s : BlockState) (first : ℕ) (codes counter
         (omega (arith, at.0, ap₂ first_of cut target, h.first_is), omega (arith, at.0, at.1, ap₂ first_of cut target, ap₂ (λ c t. first_of c (t + 1)) cut target, h.first_is, h.count_is))
 
     pub apply_enough : is_odd s.wave ≡ false → (k : ℕ) → k < length codes → times (first + k) b.nodes ≤ left_of (get_or counters k 0)
-    apply_enough even k l = take_enough g law s.wave (in_applied s) first codes counters due last_due h.kept (λ j. eqb (block_of s.cut j) b.source) b.nodes taken apart even k l
+    apply_enough even k l = take_enough g law s.wave (in_applied s) first codes counters due last_due h.kept sent b.nodes taken apart even k l
 
     pub apply_few : is_odd s.wave ≡ false → (k : ℕ) → k < length codes → most ≤ 255 → times (first + k) b.nodes ≤ get_or counters k 0
-    apply_few even k l le = take_few g law s.wave (in_applied s) first codes counters due last_due h.kept (λ j. eqb (block_of s.cut j) b.source) b.nodes taken apart even k l (omega (arith, h.few k l, le))
+    apply_few even k l le = take_few g law s.wave (in_applied s) first codes counters due last_due h.kept sent b.nodes taken apart even k l (omega (arith, h.few k l, le))
 
     source_in : b.source < length s.applied
     source_in = omega (arith, hb.source, h.sources, ap (λ c. c.blocks) cut)
 
-    joins : (j : ℕ) → (in_applied s j || eqb (block_of s.cut j) b.source) ≡ in_applied (record s { applied = set s.applied b.source true }) j
-    joins j =
-        ⊎_elim
-        (λ e. or_right (in_applied s j) (eqb (block_of s.cut j) b.source) (eq-eqb (block_of s.cut j) b.source e)
-        ∙ sym (subst (λ x. get_or (set s.applied b.source true) x false ≡ true) (sym e) (get_or-set_same s.applied b.source true false source_in)))
-        (λ e. ap (λ t. in_applied s j || t) (ne_eqb (block_of s.cut j) b.source e)
-        ∙ (sym (or_false (in_applied s j)) ∙ sym (get_or-set_other s.applied b.source (block_of s.cut j) true false e)))
-        (cases_eq (block_of s.cut j) b.source)
+    start_in : b.source < length s.taken_from
+    start_in = omega (arith, hb.source, h.starts, ap (λ c. c.blocks) cut)
+
+    joins_source : (j : ℕ) → block_of s.cut j ≡ b.source → (in_applied s j || sent j) ≡ in_applied after j
+    joins_source j e = before ∙ (one_piece j b.low b.high hb.order ∙ sym now)
+      where
+        before : (in_applied s j || sent j) ≡ (not (ltb j b.high) || is_from_to b.low b.high j)
+        before =
+            ap₂ (λ a t. (a || not (ltb j t)) || sent j) (subst (λ x. get_or s.applied x false ≡ false) (sym e) fresh) (subst (λ x. get_or s.taken_from x 0 ≡ b.high) (sym e) (sym turn))
+            ∙ ap (λ q. not (ltb j b.high) || (q && is_from_to b.low b.high j)) (eq-eqb (block_of s.cut j) b.source e)
+
+        now : in_applied after j ≡ (eqb b.low 0 || not (ltb j b.low))
+        now =
+            ap₂ (λ a t. a || not (ltb j t))
+            (subst (λ x. get_or (set s.applied b.source (eqb b.low 0)) x false ≡ eqb b.low 0) (sym e) (get_or-set_same s.applied b.source (eqb b.low 0) false source_in))
+            (subst (λ x. get_or (set s.taken_from b.source b.low) x 0 ≡ b.low) (sym e) (get_or-set_same s.taken_from b.source b.low 0 start_in))
+
+    joins_other : (j : ℕ) → (block_of s.cut j ≡ b.source → ⊥) → (in_applied s j || sent j) ≡ in_applied after j
+    joins_other j e =
+        ap (λ q. in_applied s j || (q && is_from_to b.low b.high j)) (ne_eqb (block_of s.cut j) b.source e)
+        ∙ (sym (or_false (in_applied s j))
+        ∙ sym (ap₂ (λ a t. a || not (ltb j t)) (get_or-set_other s.applied b.source (block_of s.cut j) (eqb b.low 0) false e) (get_or-set_other s.taken_from b.source (block_of s.cut j) b.low 0 e)))
+
+    joins : (j : ℕ) → (in_applied s j || sent j) ≡ in_applied after j
+    joins j = ⊎_elim (joins_source j) (joins_other j) (cases_eq (block_of s.cut j) b.source)
 
     pub apply_holds : (codes' counters' : List ℕ) → length codes' ≡ length codes → length counters' ≡ length counters → ((k : ℕ) → k < length counters' → get_or counters' k 0 < 65536)
-        → Takes s.wave first b.nodes codes codes' counters counters' → BlockHolds g (record s { applied = set s.applied b.source true }) first codes' counters' due last_due most
+        → Takes s.wave first b.nodes codes codes' counters counters' → BlockHolds g after first codes' counters' due last_due most
     apply_holds codes' counters' codes_len counters_len small takes = record {
       cut = h.cut;
       size = h.size;
       number = h.number;
-      sources = length-set s.applied b.source true ∙ h.sources;
+      sources = length-set s.applied b.source (eqb b.low 0) ∙ h.sources;
+      starts = length-set s.taken_from b.source b.low ∙ h.starts;
       wave = h.wave;
       first_is = h.first_is;
       count_is = codes_len ∙ h.count_is;
-      kept = holds_same g law s.wave (λ j. in_applied s j || eqb (block_of s.cut j) b.source) first codes' counters' due last_due
-          (take_holds g law s.wave (in_applied s) first codes counters due last_due h.kept (λ j. eqb (block_of s.cut j) b.source) b.nodes taken apart codes' counters' codes_len counters_len small takes)
-          (in_applied (record s { applied = set s.applied b.source true }))
-          (λ j l. known_won_cong g s.wave (λ i. in_applied s i || eqb (block_of s.cut i) b.source) (in_applied (record s { applied = set s.applied b.source true })) j (joins j))
-          (λ j l. known_lost_cong g s.wave (λ i. in_applied s i || eqb (block_of s.cut i) b.source) (in_applied (record s { applied = set s.applied b.source true })) j (joins j));
+      kept = holds_same g law s.wave (λ j. in_applied s j || sent j) first codes' counters' due last_due
+          (take_holds g law s.wave (in_applied s) first codes counters due last_due h.kept sent b.nodes taken apart codes' counters' codes_len counters_len small takes)
+          (in_applied after)
+          (λ j l. known_won_cong g s.wave (λ i. in_applied s i || sent i) (in_applied after) j (joins j))
+          (λ j l. known_lost_cong g s.wave (λ i. in_applied s i || sent i) (in_applied after) j (joins j));
       few = λ k l. h.few k (omega (arith, codes_len, l));
     }
 
   -- a complete wave
   module _ (complete : is_complete s ≡ true) where
     all_applied : (j : ℕ) → j < g.size → in_applied s j ≡ true
-    all_applied j l = AllPass-from_list_all (λ b. b) s.applied complete (block_of s.cut j) false (omega (arith, block_of-lt s.cut h.cut j (omega (arith, h.size, l)), h.sources))
+    all_applied j l =
+        or_left (get_or s.applied (block_of s.cut j) false) (not (ltb j (get_or s.taken_from (block_of s.cut j) 0)))
+        (AllPass-from_list_all (λ b. b) s.applied complete (block_of s.cut j) false (omega (arith, block_of-lt s.cut h.cut j (omega (arith, h.size, l)), h.sources)))
 
     pub complete_holds : StretchHolds g s.wave every first codes counters due last_due
     complete_holds =
@@ -129,12 +177,12 @@ module _ (g : Net) (law : IsNet g) (s : BlockState) (first : ℕ) (codes counter
     pub advance_few : s.wave < 65534 → is_odd (s.wave + 1) ≡ false → (k : ℕ) → k < length codes → most ≤ 255 → times (first + k) (list_at due (s.wave + 1)) ≤ get_or counters k 0
     advance_few last even k l le = due_few g law s.wave first codes counters due last_due complete_holds last even k l (omega (arith, h.few k l, le))
 
-    none_applied : (j : ℕ) → none j ≡ in_applied (next_wave_of s) j
-    none_applied j =
-        ⊎_elim
-        (λ l. sym (get_or-replicate s.cut.blocks (block_of s.cut j) false false l))
-        (λ l. sym (get_or_past (replicate s.cut.blocks false) (block_of s.cut j) false (omega (arith, length-replicate s.cut.blocks false, l))))
-        (cases_lt (block_of s.cut j) s.cut.blocks)
+    none_applied : (j : ℕ) → j < s.cut.size → none j ≡ in_applied (next_wave_of s) j
+    none_applied j l =
+        let inside = block_of-lt s.cut h.cut j l in
+        sym
+        (ap₂ (λ a t. a || not (ltb j t)) (get_or-replicate s.cut.blocks (block_of s.cut j) false false inside) (get_or-replicate s.cut.blocks (block_of s.cut j) s.cut.size 0 inside)
+        ∙ ap not (lt-ltb j s.cut.size l))
 
     pub advance_holds : s.wave < 65534 → (codes' counters' : List ℕ) → length codes' ≡ length codes → length counters' ≡ length counters
         → ((k : ℕ) → k < length counters' → get_or counters' k 0 < 65536) → Takes (s.wave + 1) first (list_at due (s.wave + 1)) codes codes' counters counters'
@@ -144,25 +192,17 @@ module _ (g : Net) (law : IsNet g) (s : BlockState) (first : ℕ) (codes counter
       size = h.size;
       number = h.number;
       sources = length-replicate s.cut.blocks false;
+      starts = length-replicate s.cut.blocks s.cut.size;
       wave = omega (arith, last);
       first_is = h.first_is;
       count_is = codes_len ∙ h.count_is;
       kept = holds_same g law (s.wave + 1) none first codes' counters' (set due (s.wave + 1) []) last_due
           (next_holds g law s.wave first codes counters due last_due complete_holds last codes' counters' codes_len counters_len small comes)
           (in_applied (next_wave_of s))
-          (λ j l. known_won_cong g (s.wave + 1) none (in_applied (next_wave_of s)) j (none_applied j)) (λ j l. known_lost_cong g (s.wave + 1) none (in_applied (next_wave_of s)) j (none_applied j));
+          (λ j l. known_won_cong g (s.wave + 1) none (in_applied (next_wave_of s)) j (none_applied j (omega (arith, h.size, l))))
+          (λ j l. known_lost_cong g (s.wave + 1) none (in_applied (next_wave_of s)) j (none_applied j (omega (arith, h.size, l))));
       few = λ k l. h.few k (omega (arith, codes_len, l));
     }
-
--- every element was overwritten
-pub cleared : (xs items : List Bool) (n : ℕ) → length xs ≡ length items → n ≡ length items → ((k : ℕ) → k < length xs → get_or xs k false ≡ false)
-    → take n (xs ++ drop (length xs) items) ≡ replicate n false
-cleared xs items n len is zeros =
-    ap (λ ys. take n (xs ++ ys)) (drop_all (length xs) items (omega arith))
-    ∙ (ap (take n) (append-nil xs)
-    ∙ (take_all n xs (omega arith)
-    ∙ same_lists xs (replicate n false) (omega (arith, length-replicate n false))
-    (λ k d l. get_or_default xs k d false l ∙ (zeros k l ∙ sym (get_or-replicate n k false d (omega arith))))))
 
 pub same_parts : (c d : Parts) → (eqb c.size d.size && eqb c.blocks d.blocks) ≡ true → c ≡ d
 same_parts c d h =

@@ -27,4 +27,5 @@ pub mod Settled
 pub mod Dealing
 pub mod Cutting
 pub mod Scattering
+pub mod Pieces
 pub mod Gathered

@@ -1,13 +1,13 @@
 -- The batches of one block's fresh nodes.
 use Rattle.std.proofs.Common.{◌≡◌, ℕ, suc, ◌+◌, ◌<◌, ◌&&◌, cond, eqb, List, [], ◌∷◌, ◌++◌, length, get_or, refl, sym, ap, ap₂, ◌∙◌, subst, ⊎_elim, arith}
 use Rattle.std.specs.List.{All, count_by, sum_by}
-use Rattle.std.proofs.lemmas.Bool.{cases_eq, cases_lt, cond-false, eq-eqb, ne_eqb, and_left}
+use Rattle.std.proofs.lemmas.Bool.{cases_eq, cases_lt, cond-false, eq-eqb, ne_eqb}
 use Rattle.std.proofs.lemmas.List.{length-map, length-append, map-append, get_or_at, get_or_append_left, get_or_push, length_push}
 use Rattle.std.proofs.lemmas.List.Sums.{sum_by-cons, sum_by-append}
 use Rattle.morris_wave.specs.Nets.{Net, IsNet, times}
 use Rattle.morris_wave.specs.Waves.{is_fresh}
 use Rattle.morris_wave.specs.Blocks.{Parts, IsIn, block_of}
-use Rattle.morris_wave.specs.Batches.{FreshState, FreshHolds, BatchState, BatchHolds}
+use Rattle.morris_wave.specs.Batches.{is_from_to, FreshState, FreshHolds, BatchState, BatchHolds}
 use Rattle.morris_wave.specs.Lists.{contents, list_at}
 use Rattle.morris_wave.specs.Delivery.{AreSorted, Deals, LeadTo, batch_of, IsBatchOf}
 use Rattle.morris_wave.proofs.Tests.{count-cons}
@@ -48,7 +48,7 @@ pub both_sides : (xs ys : List ℕ) → sum_by (λ x. times x ys) xs ≡ sum_by 
 both_sides [] ys = sym (zeros ys)
 both_sides (x ∷ xs) ys = omega (arith, sum_by-cons (λ z. times z ys) x xs, one_more x xs ys, both_sides xs ys)
 
-not_there : (j : ℕ) (xs : List ℕ) → All (λ x. x ≡ j → ⊥) xs → times j xs ≡ 0
+pub not_there : (j : ℕ) (xs : List ℕ) → All (λ x. x ≡ j → ⊥) xs → times j xs ≡ 0
 not_there j [] h = refl
 not_there j (x ∷ xs) h =
     omega (
@@ -75,14 +75,14 @@ fresh_inside g f h p d l = omega (arith, (h.inside p d l).1, first_of-le f.cut h
 
 module _ (g : Net) (law : IsNet g) (f : FreshState) (h : FreshHolds g f) where
   -- a node of another block isn't among the fresh ones
-  times_fresh : (j : ℕ) → j < f.cut.size → times j f.nodes ≡ cond {A = ℕ} (eqb (block_of f.cut j) f.source && is_fresh g f.wave j) 1 0
+  times_fresh : (j : ℕ) → j < f.cut.size → times j f.nodes ≡ cond {A = ℕ} ((eqb (block_of f.cut j) f.source && is_from_to f.low f.high j) && is_fresh g f.wave j) 1 0
   times_fresh j l =
       ⊎_elim
       (λ e. h.once j (subst (λ k. IsIn f.cut k j) e (is_in_block f.cut h.cut j l))
-      ∙ sym (ap (λ t. cond {A = ℕ} (t && is_fresh g f.wave j) 1 0) (eq-eqb (block_of f.cut j) f.source e)))
+      ∙ sym (ap (λ t. cond {A = ℕ} ((t && is_from_to f.low f.high j) && is_fresh g f.wave j) 1 0) (eq-eqb (block_of f.cut j) f.source e)))
       (λ e. not_there j f.nodes
       (λ p d q z. e (subst (λ x. block_of f.cut x ≡ f.source) z (block_is f.cut h.cut (get_or f.nodes p d) (fresh_inside g f h p d q) f.source (h.inside p d q))))
-      ∙ sym (cond-false {A = ℕ} (eqb (block_of f.cut j) f.source && is_fresh g f.wave j) 1 0 (and_left (eqb (block_of f.cut j) f.source) (is_fresh g f.wave j) (ne_eqb (block_of f.cut j) f.source e))))
+      ∙ sym (ap (λ t. cond {A = ℕ} ((t && is_from_to f.low f.high j) && is_fresh g f.wave j) 1 0) (ne_eqb (block_of f.cut j) f.source e)))
       (cases_eq (block_of f.cut j) f.source)
 
   pub batch_holds : (lists : List (List ℕ)) → length lists ≡ f.cut.blocks → AreSorted f.cut lists → LeadTo g f.cut lists f.nodes
@@ -90,16 +90,17 @@ module _ (g : Net) (law : IsNet g) (f : FreshState) (h : FreshHolds g f) where
   batch_holds lists len sorted lead t l = record {
     source = h.source;
     target = l;
+    order = h.order;
     inside = sorted t (omega arith);
     often = λ i inside. often i inside;
   }
     where
-      often : (i : ℕ) → IsIn f.cut t i → times i (list_at lists t) ≡ count_by (λ j. eqb (block_of f.cut j) f.source && is_fresh g f.wave j) (g.quiet i)
+      often : (i : ℕ) → IsIn f.cut t i → times i (list_at lists t) ≡ count_by (λ j. (eqb (block_of f.cut j) f.source && is_from_to f.low f.high j) && is_fresh g f.wave j) (g.quiet i)
       often i inside =
           let small : i < f.cut.size = omega (arith, inside.1, first_of-le f.cut h.cut (t + 1) (omega arith)) in
           subst (λ b. times i (list_at lists b) ≡ sum_by (λ x. times x (g.quiet i)) f.nodes) (block_is f.cut h.cut i small t inside) (lead i small)
           ∙ (both_sides f.nodes (g.quiet i)
-          ∙ sum_same (λ j. times j f.nodes) (λ j. cond {A = ℕ} (eqb (block_of f.cut j) f.source && is_fresh g f.wave j) 1 0) (g.quiet i)
+          ∙ sum_same (λ j. times j f.nodes) (λ j. cond {A = ℕ} ((eqb (block_of f.cut j) f.source && is_from_to f.low f.high j) && is_fresh g f.wave j) 1 0) (g.quiet i)
           (λ p d q. times_fresh (get_or (g.quiet i) p d) (omega (arith, law.inside i (omega (arith, h.size)) p d q, h.size))))
 
 -- the next of the lists, as the batch for the next block
@@ -122,6 +123,8 @@ sealed g f t nodes b e h = record {
   cut = ap (λ x. x.cut) e;
   wave = ap (λ x. x.wave) e;
   source = ap (λ x. x.source) e;
+  low = ap (λ x. x.low) e;
+  high = ap (λ x. x.high) e;
   target_is = ap (λ x. x.target) e;
   holds = h;
 }

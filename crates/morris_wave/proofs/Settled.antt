@@ -1,9 +1,10 @@
 -- What a block's tallies, list and entries say of its nodes.
 use Rattle.std.proofs.Common.{◌≡◌, ℕ, zero, suc, ◌+◌, ◌-◌, ◌<◌, ◌≤◌, Bool, true, false, ◌↔◌, not, ◌&&◌, cond, eqb, ltb, List, [], ◌∷◌, length, get_or, refl, sym, ap, ap₂, ◌∙◌, subst, ◌⊎◌, arith}
 use Rattle.std.specs.List.{All, list_any, count_by}
-use Rattle.std.specs.List.Sorted.{IsNonDecreasingBy}
-use Rattle.std.proofs.lemmas.Bool.{ne_eqb, lt-ltb, not-true, not_from_false, false_from_ne_true}
+use Rattle.std.specs.List.Sorted.{IsPermutation, IsNonDecreasingBy}
+use Rattle.std.proofs.lemmas.Bool.{ne_eqb, lt-ltb, le-ltb, not-true, not_from_false, false_from_ne_true}
 use Rattle.std.proofs.lemmas.List.{same_lists, get_or_default}
+use Rattle.std.proofs.lemmas.List.Sorted.{All-permutation, sum_by-IsPermutation}
 use Rattle.std.proofs.lemmas.List.FromFn.{get_or-map-range_with_len, length-map-range_with_len}
 use Rattle.morris_wave.specs.Nets.{Net, IsNet, times}
 use Rattle.morris_wave.specs.Exits.{is_odd, is_won_code, exits_of, last_due_of}
@@ -11,10 +12,11 @@ use Rattle.morris_wave.specs.Values.{HasCode, IsTooDeep}
 use Rattle.morris_wave.specs.Waves.{entry_at, is_decided_at, is_fresh}
 use Rattle.morris_wave.specs.Keeping.{Ranked}
 use Rattle.morris_wave.specs.Blocks.{IsIn, BlockState, BlockHolds, is_complete, in_applied, first_node, count_of, entries_of, IsLastDue, IsSettled}
+use Rattle.morris_wave.specs.Batches.{is_from_to}
 use Rattle.morris_wave.proofs.Tests.{count-cons}
 use Rattle.morris_wave.proofs.Known.{entry_code, entry_open}
 use Rattle.morris_wave.proofs.Stretches.{entry_is, decided_once, decided_order, fresh_once, new_node, no_depth, last_deep}
-use Rattle.morris_wave.proofs.Blocking.{inside_low, inside_high, node_inside, complete_holds}
+use Rattle.morris_wave.proofs.Blocking.{first_of-le, inside_low, inside_high, node_inside, complete_holds}
 
 -- each code is won, lost or 0
 pub three_kinds : (cs : List ℕ) → count_by is_won_code cs + count_by is_odd cs + count_by (λ c. eqb c 0) cs ≡ length cs
@@ -78,14 +80,29 @@ module _ (g : Net) (law : IsNet g) (s : BlockState) (first : ℕ) (codes counter
     pub list_order : IsNonDecreasingBy (entry_at g s.wave (in_applied s)) decided
     list_order = decided_order g law s.wave (in_applied s) first codes counters due last_due h.kept wave before here decided r
 
-  -- the fresh nodes
-  module _ (nodes : List ℕ) where
-    pub fresh_inside : All (λ i. (first ≤ i) × (i < first + length codes)) nodes → All (IsIn s.cut s.number) nodes
-    fresh_inside all p d l = let w = all p d l in node_inside g law s first codes counters due last_due h (get_or nodes p d) w.0 w.1
+  -- the fresh nodes, as they are found and in ascending order
+  module _ (found nodes : List ℕ) (same : IsPermutation found nodes) where
+    pub fresh_inside : All (λ i. (first ≤ i) × (i < first + length codes)) found → All (IsIn s.cut s.number) nodes
+    fresh_inside all =
+        All-permutation (IsIn s.cut s.number) found nodes same
+        (λ p d l. let w = all p d l in node_inside g law s first codes counters due last_due h (get_or found p d) w.0 w.1)
 
-    pub fresh_nodes : ((k : ℕ) → k < length codes → times (first + k) nodes ≡ cond {A = ℕ} (ltb 0 s.wave && eqb (get_or codes k 0) s.wave) 1 0)
+    pub fresh_between : All (λ i. (first ≤ i) × (i < first + length codes)) found → All (λ i. (0 ≤ i) × (i < s.cut.size)) nodes
+    fresh_between all p d l = let w = fresh_inside all p d l in (omega arith, omega (arith, w.1, first_of-le s.cut h.cut (s.number + 1) (omega (arith, h.number))))
+
+    pub fresh_nodes : ((k : ℕ) → k < length codes → times (first + k) found ≡ cond {A = ℕ} (ltb 0 s.wave && eqb (get_or codes k 0) s.wave) 1 0)
         → (i : ℕ) → IsIn s.cut s.number i → times i nodes ≡ cond {A = ℕ} (is_fresh g s.wave i) 1 0
-    fresh_nodes once i inside = fresh_once g law s.wave (in_applied s) first codes counters due last_due h.kept nodes once i (low i inside) (high i inside)
+    fresh_nodes once i inside =
+        sum_by-IsPermutation (λ x. cond {A = ℕ} (eqb x i) 1 0) found nodes same
+        ∙ fresh_once g law s.wave (in_applied s) first codes counters due last_due h.kept found once i (low i inside) (high i inside)
+
+    pub fresh_from_to : ((k : ℕ) → k < length codes → times (first + k) found ≡ cond {A = ℕ} (ltb 0 s.wave && eqb (get_or codes k 0) s.wave) 1 0)
+        → (i : ℕ) → IsIn s.cut s.number i → times i nodes ≡ cond {A = ℕ} (is_from_to 0 s.cut.size i && is_fresh g s.wave i) 1 0
+    fresh_from_to once i inside =
+        fresh_nodes once i inside
+        ∙ sym
+        (ap₂ (λ p q. cond {A = ℕ} ((not p && q) && is_fresh g s.wave i) 1 0) (le-ltb i 0 (omega arith))
+        (lt-ltb i s.cut.size (omega (arith, inside.1, first_of-le s.cut h.cut (s.number + 1) (omega (arith, h.number))))))
 
   -- the last exit that comes due
   pub last_due_is : IsLastDue g s last_due

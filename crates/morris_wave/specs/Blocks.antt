@@ -1,5 +1,5 @@
 -- Cuts of a graph into blocks, and what a block, its fresh nodes and a batch hold.
-use Rattle.std.specs.Prelude.{◌≡◌, ℕ, ◌+◌, ◌-◌, ◌*◌, ◌/◌, ◌^◌, ◌<◌, ◌≤◌, Bool, true, false, List, length, map, replicate, slice_index_or}
+use Rattle.std.specs.Prelude.{◌≡◌, ℕ, ◌+◌, ◌-◌, ◌*◌, ◌/◌, ◌^◌, ◌<◌, ◌≤◌, Bool, true, false, not, ◌||◌, nat_lt, List, length, map, replicate, slice_index_or}
 use Rattle.std.specs.List.{list_all, range_with_len}
 use Rattle.morris_wave.specs.Exits.{exits_of, last_due_of}
 use Rattle.morris_wave.specs.Nets.{Net}
@@ -32,21 +32,28 @@ block_of c i = ((i + 1) * c.blocks - 1) / c.size
 abbrev pub IsIn : Parts → ℕ → ℕ → Type 0
 IsIn c k i = (first_of c k ≤ i) × (i < first_of c (k + 1))
 
--- the state of a block: its place, its wave, and which sources are applied in this wave
+-- The state of a block: its place, its wave, which sources are applied in this wave, and of each
+-- source from which of its nodes on they are taken in.
 pub record BlockState : Type 0 where
   pub level : ℕ
   pub cut : Parts
   pub number : ℕ
   pub wave : ℕ
   pub applied : List Bool
+  pub taken_from : List ℕ
 
 -- all sources of this wave are applied
 abbrev pub is_complete : BlockState → Bool
 is_complete s = list_all (λ b. b) s.applied
 
--- whether the block of a node is applied
+-- from which node on the nodes of a source are taken in
+abbrev pub taken_of : BlockState → ℕ → ℕ
+taken_of s source = slice_index_or s.taken_from source 0
+
+-- whether the block of a node is applied, or its nodes are taken in from this one or an earlier one
+-- on
 abbrev pub in_applied : BlockState → ℕ → Bool
-in_applied s j = slice_index_or s.applied (block_of s.cut j) false
+in_applied s j = slice_index_or s.applied (block_of s.cut j) false || not (nat_lt j (taken_of s (block_of s.cut j)))
 
 -- the block's first node
 abbrev pub first_node : BlockState → ℕ
@@ -62,6 +69,7 @@ pub record BlockHolds (g : Net) (s : BlockState) (first : ℕ) (codes counters :
   pub size : g.size ≡ s.cut.size
   pub number : s.number < s.cut.blocks
   pub sources : length s.applied ≡ s.cut.blocks
+  pub starts : length s.taken_from ≡ s.cut.blocks
   pub wave : s.wave ≤ 65534
   pub first_is : first ≡ first_node s
   pub count_is : length codes ≡ count_of s
@@ -79,11 +87,11 @@ pub record IsBlock (g : Net) (s : BlockState) : Type 0 where
 
 -- before the first wave, where every source counts as applied
 abbrev pub first_wave : ℕ → Parts → ℕ → BlockState
-first_wave level cut number = record { level = level; cut = cut; number = number; wave = 0; applied = replicate cut.blocks true }
+first_wave level cut number = record { level = level; cut = cut; number = number; wave = 0; applied = replicate cut.blocks true; taken_from = replicate cut.blocks 0 }
 
--- the next wave, with no source applied
+-- the next wave, with no source applied, and no node of any taken in
 abbrev pub next_wave_of : BlockState → BlockState
-next_wave_of s = record s { wave = s.wave + 1; applied = replicate s.cut.blocks false }
+next_wave_of s = record s { wave = s.wave + 1; applied = replicate s.cut.blocks false; taken_from = replicate s.cut.blocks s.cut.size }
 
 -- the entries of the block's nodes, in their order
 abbrev pub entries_of : Net → BlockState → List ℕ

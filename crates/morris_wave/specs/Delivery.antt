@@ -21,7 +21,7 @@ LeadTo g c lists nodes = (i : ℕ) → i < c.size → times i (list_at lists (bl
 
 -- the batch of these nodes from a block's fresh nodes to the block `target`
 abbrev pub batch_of : FreshState → ℕ → List ℕ → BatchState
-batch_of f target nodes = record { level = f.level; cut = f.cut; wave = f.wave; source = f.source; target = target; nodes = nodes }
+batch_of f target nodes = record { level = f.level; cut = f.cut; wave = f.wave; source = f.source; low = f.low; high = f.high; target = target; nodes = nodes }
 
 -- the batch from a block's fresh nodes to the block `target`, with each predecessor as often as it
 -- leads to a fresh node
@@ -30,5 +30,7 @@ pub record IsBatchOf (g : Net) (f : FreshState) (target : ℕ) (b : BatchState) 
   pub cut : b.cut ≡ f.cut
   pub wave : b.wave ≡ f.wave
   pub source : b.source ≡ f.source
+  pub low : b.low ≡ f.low
+  pub high : b.high ≡ f.high
   pub target_is : b.target ≡ target
   pub holds : BatchHolds g b

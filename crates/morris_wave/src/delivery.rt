@@ -100,6 +100,8 @@ fn seal<N: Levels, L: NodeList>(fresh: &Fresh<N>, target: u64, nodes: L) -> Batc
         cut: fresh.cut,
         wave: fresh.wave,
         source: fresh.source,
+        low: fresh.low,
+        high: fresh.high,
         target,
         nodes,
         family: PhantomData,

@@ -1,5 +1,5 @@
 //! Blocks of a graph, which go from wave to wave, and what they find and send to one another.
-ghost use Rattle.std.specs.Prelude.{◌≡◌, ℕ, ◌+◌, ◌-◌, ◌<◌, ◌≤◌, Bool, true, false, ◌&&◌, ◌==◌, ◌↔◌, IsTrue, length, replicate, IfOk, OnOk, OnErr, IfErr, vec_len, slice_index, if◌then◌else◌};
+ghost use Rattle.std.specs.Prelude.{◌≡◌, ℕ, ◌+◌, ◌-◌, ◌<◌, ◌≤◌, Bool, true, false, ◌&&◌, ◌==◌, ◌↔◌, IsTrue, length, IfOk, OnOk, OnErr, IfErr, vec_len, slice_index, if◌then◌else◌};
 ghost use Rattle.std.specs.List.{All, count_by};
 ghost use Rattle.std.specs.List.Sorted.{IsNonDecreasingBy};
 ghost use Rattle.morris_wave.specs.Nets.{times};
@@ -19,7 +19,8 @@ use thiserror::Error;
 pub enum Applied {
     /// The batch was taken in, and its source counts as applied.
     Done,
-    /// The source was already applied in this wave. Nothing changed.
+    /// The source was already applied in this wave, or the batch is of a piece of it that comes twice
+    /// or out of turn. Nothing changed.
     Again,
     /// The batch is of another level, cut or wave, or for another block. Nothing changed.
     Stranger,
@@ -48,12 +49,15 @@ pub struct Tallies {
     pub undecided: u64,
 }
 
-/// The nodes of a block that have the depth one less than its wave.
+/// The nodes of a block that have the depth one less than its wave, or a piece of these.
 pub struct Fresh<N: Levels> {
     pub(crate) level: u64,
     pub(crate) cut: Cut,
     pub(crate) wave: u16,
     pub(crate) source: u64,
+    // These are all such nodes from `low` up to, not including, `high`.
+    pub(crate) low: u64,
+    pub(crate) high: u64,
     pub(crate) nodes: Vec<u64>,
     pub(crate) family: PhantomData<N>,
 }
@@ -63,10 +67,10 @@ impl<N: Levels> Model for Fresh<N> {
 
     ghost Value = { FreshState };
 
-    ghost view = { λ f. record { level = f.level; cut = f.cut; wave = f.wave; source = f.source; nodes = f.nodes.items } };
+    ghost view = { λ f. record { level = f.level; cut = f.cut; wave = f.wave; source = f.source; low = f.low; high = f.high; nodes = f.nodes.items } };
 
     ghost invariant = { λ f. FreshHolds (N.net f.level)
-        (record { level = f.level; cut = f.cut; wave = f.wave; source = f.source; nodes = f.nodes.items }) };
+        (record { level = f.level; cut = f.cut; wave = f.wave; source = f.source; low = f.low; high = f.high; nodes = f.nodes.items }) };
 }
 
 impl<N: Levels> Drop for Fresh<N> {
@@ -76,6 +80,8 @@ impl<N: Levels> Drop for Fresh<N> {
             cut: _,
             wave: _,
             source: _,
+            low: _,
+            high: _,
             nodes: _,
             family: _,
         } = self;
@@ -88,6 +94,9 @@ pub struct Batch<N: Levels, L: NodeList = Vec<u64>> {
     pub(crate) cut: Cut,
     pub(crate) wave: u16,
     pub(crate) source: u64,
+    // The fresh nodes are those from `low` up to, not including, `high`.
+    pub(crate) low: u64,
+    pub(crate) high: u64,
     pub(crate) target: u64,
     pub(crate) nodes: L,
     pub(crate) family: PhantomData<N>,
@@ -98,10 +107,10 @@ impl<N: Levels, L: NodeList> Model for Batch<N, L> {
 
     ghost Value = { BatchState };
 
-    ghost view = { λ b. record { level = b.level; cut = b.cut; wave = b.wave; source = b.source; target = b.target; nodes = L.items b.nodes } };
+    ghost view = { λ b. record { level = b.level; cut = b.cut; wave = b.wave; source = b.source; low = b.low; high = b.high; target = b.target; nodes = L.items b.nodes } };
 
     ghost invariant = { λ b. BatchHolds (N.net b.level)
-        (record { level = b.level; cut = b.cut; wave = b.wave; source = b.source; target = b.target; nodes = L.items b.nodes }) };
+        (record { level = b.level; cut = b.cut; wave = b.wave; source = b.source; low = b.low; high = b.high; target = b.target; nodes = L.items b.nodes }) };
 }
 
 impl<N: Levels, L: NodeList> Drop for Batch<N, L> {
@@ -111,6 +120,8 @@ impl<N: Levels, L: NodeList> Drop for Batch<N, L> {
             cut: _,
             wave: _,
             source: _,
+            low: _,
+            high: _,
             target: _,
             nodes: _,
             family: _,
@@ -123,7 +134,8 @@ impl<N: Levels, L: NodeList> Drop for Batch<N, L> {
 /// At wave `n` with some sources applied, a node is decided exactly where some exit is lost within
 /// `n - 1` plies or some quiet result is known and lost, or every exit is won within `n - 1` and
 /// every quiet result is known and won. A result is known where its depth is at most `n - 2`, or is
-/// `n - 1` and its block is applied. A decided node's entry is its code, an open node's is 0.
+/// `n - 1` and its block is applied, or the piece of its block's fresh nodes that it is in. A decided
+/// node's entry is its code, an open node's is 0.
 ///
 /// A block keeps 2 bytes a node, one more where some node of it has more than 254 quiet results, and
 /// one more once a depth is above 254. It keeps lists of the kind `L` of the nodes that are decided
@@ -136,6 +148,8 @@ pub struct Block<N: Levels, L: NodeList = Vec<u64>> {
     pub(crate) cut: Cut,
     number: u64,
     applied: Vec<bool>,
+    // The nodes of a source from this one on are taken in: they come in pieces, the last one first.
+    taken_from: Vec<u64>,
     pub(crate) kept: Stretch<L>,
     family: PhantomData<N>,
 }
@@ -146,10 +160,10 @@ impl<N: Levels, L: NodeList> Model for Block<N, L> {
 
     ghost Value = { BlockState };
 
-    ghost view = { λ b. record { level = b.level; cut = b.cut; number = b.number; wave = b.kept.entries.wave; applied = b.applied.items } };
+    ghost view = { λ b. record { level = b.level; cut = b.cut; number = b.number; wave = b.kept.entries.wave; applied = b.applied.items; taken_from = b.taken_from.items } };
 
     ghost invariant = { λ b. BlockHolds (N.net b.level)
-        (record { level = b.level; cut = b.cut; number = b.number; wave = b.kept.entries.wave; applied = b.applied.items })
+        (record { level = b.level; cut = b.cut; number = b.number; wave = b.kept.entries.wave; applied = b.applied.items; taken_from = b.taken_from.items })
         b.kept.entries.first b.kept.entries.entries.codes (counts_of b.kept.counters) b.kept.due b.kept.last_due (most_of b.kept.counters) };
 }
 
@@ -160,6 +174,7 @@ impl<N: Levels, L: NodeList> Drop for Block<N, L> {
             cut: _,
             number: _,
             applied: _,
+            taken_from: _,
             kept: _,
             family: _,
         } = self;
@@ -185,6 +200,8 @@ impl<N: Levels, L: NodeList> Batch<N, L> {
             cut: _,
             wave: _,
             source: _,
+            low: _,
+            high: _,
             target: _,
             nodes: list,
             family: _,
@@ -194,11 +211,42 @@ impl<N: Levels, L: NodeList> Batch<N, L> {
 }
 
 impl<N: Levels> Fresh<N> {
-    /// The fresh nodes, each once.
+    ghost use Rattle.morris_wave.specs.Batches.{rest_of, piece_of};
+
+    /// The fresh nodes, each once, in ascending order.
     pub fn nodes(&self) -> &[u64]
         ensures { result.now ≡ self.now.nodes }
     {
         self.nodes.as_slice()
+    }
+
+    /// Splits off the nodes from a place on, counted from 0. The batches of both pieces together say
+    /// what those of the whole would: a block takes in those of the piece that is split off first,
+    /// and its source is applied once it has taken in those of all pieces.
+    ///
+    /// # Errors
+    ///
+    /// `AllocError` where memory is refused. Nothing changed then.
+    pub fn split_off(&mut self, place: usize) -> Result<Fresh<N>, AllocError>
+        requires { place < length self.old.nodes }
+        ensures rest { OnOk result (self.new ≡ rest_of self.old place) }
+        ensures piece { IfOk result (λ f. f ≡ piece_of self.old place) }
+        ensures err { OnErr result (self.new ≡ self.old) }
+    {
+        let low = self.nodes[place];
+        let nodes = self.nodes.split_off(place)?;
+        let high = self.high;
+        self.high = low;
+        Ok(Fresh {
+            level: self.level,
+            cut: self.cut,
+            wave: self.wave,
+            source: self.source,
+            low,
+            high,
+            nodes,
+            family: PhantomData,
+        })
     }
 }
 
@@ -269,11 +317,13 @@ impl<N: Levels, L: NodeList> Block<N, L> {
         let range = cut.range(number);
         let kept = Stretch::read(alloc, graph, range.start, range.end)?;
         let applied = vec![in alloc; true; blocks]?;
+        let taken_from = vec![in alloc; 0; blocks]?;
         Ok(Block {
             level: graph.level(),
             cut: *cut,
             number,
             applied,
+            taken_from,
             kept,
             family: PhantomData,
         })
@@ -383,7 +433,8 @@ impl<N: Levels, L: NodeList> Block<N, L> {
         self.applied.iter().all(|applied| *applied)
     }
 
-    /// Takes in a batch, if it is for this block at its wave and its source isn't applied yet.
+    /// Takes in a batch, if it is for this block at its wave and goes on with a source that isn't
+    /// applied yet.
     ///
     /// The nodes of the batch lead to nodes whose depth is one less than the wave. At an odd wave
     /// these are lost, so each open node of the batch is won. At an even wave they are won, so a
@@ -400,11 +451,13 @@ impl<N: Levels, L: NodeList> Block<N, L> {
         {
             return Applied::Stranger;
         }
-        if self.applied[batch.source as usize] {
+        let source = batch.source as usize;
+        if self.applied[source] || batch.high != self.taken_from[source] {
             return Applied::Again;
         }
         self.kept.take_in(&batch.nodes);
-        self.applied[batch.source as usize] = true;
+        self.applied[source] = batch.low == 0;
+        self.taken_from[source] = batch.low;
         Applied::Done
     }
 
@@ -427,12 +480,13 @@ impl<N: Levels, L: NodeList> Block<N, L> {
             return Err(AdvanceFault::TooDeep);
         }
         self.kept.next_wave();
-        clear(&mut self.applied);
+        self.applied.fill(false);
+        self.taken_from.fill(self.cut.size());
         Ok(())
     }
 
-    /// The nodes of the block that have the depth one less than its wave, each once; none at wave
-    /// 0.
+    /// The nodes of the block that have the depth one less than its wave, each once, in ascending
+    /// order; none at wave 0.
     ///
     /// # Errors
     ///
@@ -446,12 +500,16 @@ impl<N: Levels, L: NodeList> Block<N, L> {
         ensures nodes { IfOk result (λ f. (i : ℕ) → IsIn self.now.cut self.now.number i
             → times i f.nodes ≡ (if is_fresh (N.net self.now.level) self.now.wave i then 1 else 0)) }
     {
-        let nodes = self.kept.entries.of_this_wave(alloc)?;
+        let high = self.cut.size();
+        let mut nodes = self.kept.entries.of_this_wave(alloc)?;
+        nodes.sort_unstable();
         Ok(Fresh {
             level: self.level,
             cut: self.cut,
             wave: self.kept.entries.wave,
             source: self.number,
+            low: 0,
+            high,
             nodes,
             family: PhantomData,
         })
@@ -469,14 +527,5 @@ impl<N: Levels, L: WholeList> Block<N, L> {
         ensures order { IsNonDecreasingBy (entry_at (N.net self.now.level) self.now.wave (in_applied self.now)) (L.items result.now) }
     {
         &self.kept.entries.decided
-    }
-}
-
-// Forgets which sources are applied.
-fn clear(applied: &mut Vec<bool>)
-    ensures { applied.new.items ≡ replicate (vec_len applied.old) false }
-{
-    for one in applied.iter_mut() {
-        *one = false;
     }
 }

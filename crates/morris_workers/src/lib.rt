@@ -21,4 +21,5 @@ pub use gate::{Gate, OpenGate, Turn};
 pub use morris_wave::{Unwatched, Watch};
 pub use solver::{SHORT_NODES, check_numbers, solve, solve_with};
 pub use tickets::{Drawn, TicketSeat, Tickets};
+pub use wave::PIECE_NODES;
 pub use yard::Yard;

@@ -205,10 +205,13 @@ fn solve_in<G: Graph + Send + Sync, A: Gate, R: Threads + Wait + Sync, W: Watch>
 ///
 /// The blocks take what [`Block`] says, with lists of 4 bytes a node that let go of the waves past
 /// ([`Recent`]), or of 8 that keep all in a graph of more than [`SHORT_NODES`]. Each worker takes
-/// the fresh nodes and the batches of one block at a time, of as many bytes for each node that leads
-/// to a fresh one. A worker keeps lists that it sent, of up to 512 KiB together, for those of the
-/// next blocks and waves. At the end these are let go, and then the answer takes 2 bytes a node,
-/// while the blocks are let go one after the other.
+/// the fresh nodes of one block at a time, of 8 bytes each, and goes back from [`PIECE_NODES`] of
+/// them at a time: the batches are of as many bytes as the lists for each node that leads to one of
+/// these. A worker keeps lists that it sent, of up to 512 KiB together, for those of the next pieces.
+/// At the end these are let go, and then the answer takes 2 bytes a node, while the blocks are let go
+/// one after the other.
+///
+/// [`PIECE_NODES`]: crate::PIECE_NODES
 ///
 /// # Errors
 ///

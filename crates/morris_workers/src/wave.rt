@@ -24,11 +24,13 @@ use std::thread::Threads;
 // room than this.
 const KEPT_ROOM: usize = 524288;
 
-// A worker sends once it has scattered so many fresh nodes or blocks. So the batches stay small,
-// and where few nodes are fresh a block is locked once for many sources.
-const FULL_NODES: usize = 4096;
+/// A worker goes back from at most so many fresh nodes of a block at a time, and sends what leads to
+/// them before it goes on. So the batches stay small, however much a block finds.
+pub const PIECE_NODES: usize = 4096;
 
-const FULL_SOURCES: usize = 16;
+// Where few nodes are fresh, a worker sends once it has scattered so many pieces, so that a block is
+// locked once for many sources.
+const FULL_PIECES: usize = 16;
 
 // One counter has at most so many numbers: those of the blocks for at least 976 waves.
 const MOST_NUMBERS: u64 = 1000000;
@@ -74,13 +76,13 @@ impl<L: NodeList, G: Graph, A, R> Drop for Site<'_, L, G, A, R> {
     }
 }
 
-// What a worker has scattered at a wave and not sent yet: for each source its batches, one for each
+// What a worker has scattered at a wave and not sent yet: for each piece its batches, one for each
 // block, and how many fresh nodes they come from. Lists that were sent wait for the next batches.
 struct Outbox<N: Levels, L: NodeList> {
     wave: u16,
-    // From how many blocks the worker has scattered at the wave, sent or not.
+    // From how many blocks the worker has scattered all pieces at the wave, sent or not.
     taken: u64,
-    sources: Vec<Vec<Batch<N, L>>>,
+    pieces: Vec<Vec<Batch<N, L>>>,
     fresh: usize,
     spare: Vec<L>,
 }
@@ -90,7 +92,7 @@ impl<N: Levels, L: NodeList> Drop for Outbox<N, L> {
         let Outbox {
             wave: _,
             taken: _,
-            sources: _,
+            pieces: _,
             fresh: _,
             spare: _,
         } = self;
@@ -103,7 +105,7 @@ impl<N: Levels, L: NodeList> Outbox<N, L> {
         Outbox {
             wave,
             taken: 0,
-            sources: Vec::new(alloc),
+            pieces: Vec::new(alloc),
             fresh: 0,
             spare: Vec::new(alloc),
         }
@@ -111,14 +113,14 @@ impl<N: Levels, L: NodeList> Outbox<N, L> {
 
     // Whether it is time to send.
     fn is_full(&self) -> bool {
-        self.fresh >= FULL_NODES || self.sources.len() >= FULL_SOURCES
+        self.fresh >= PIECE_NODES || self.pieces.len() >= FULL_PIECES
     }
 
     // Forgets what was sent, and keeps the lists.
     fn empty(&mut self) -> Result<(), AllocError> {
         self.fresh = 0;
         let mut room = room_of(&self.spare);
-        while let Some(batches) = self.sources.pop() {
+        while let Some(batches) = self.pieces.pop() {
             room = keep_room(batches, &mut self.spare, room)?;
         }
         Ok(())
@@ -202,13 +204,13 @@ impl<'a, L: NodeList, G: Graph, A: Gate, R: Wait> Site<'a, L, G, A, R> {
         Ok(Some(block.fresh(self.alloc)?))
     }
 
-    // Applies the batches of all these sources to their target.
+    // Applies the batches of all these pieces to their target, in their order.
     fn apply(&self, target: usize, outbox: &Outbox<G::Name, L>)
         requires { target < self.now.yard.now }
     {
         let mut block = self.yard.lock(self.rt, target);
         bring(&mut block, outbox.wave);
-        for batches in &outbox.sources {
+        for batches in &outbox.pieces {
             if let Some(batch) = batches.get(target) {
                 // A batch that isn't for this block at this wave changes nothing.
                 let _ = block.apply(batch);
@@ -236,21 +238,27 @@ impl<'a, L: NodeList, G: Graph, A: Gate, R: Wait> Site<'a, L, G, A, R> {
         outbox.empty()
     }
 
-    // Scatters what a block found.
-    fn scatter(&self, source: usize, outbox: &mut Outbox<G::Name, L>) -> Result<(), AllocError>
+    // Scatters a piece of what a block found, and sends once that is much.
+    fn scatter(
+        &self,
+        worker: u64,
+        piece: &Fresh<G::Name>,
+        outbox: &mut Outbox<G::Name, L>,
+    ) -> Result<(), AllocError>
         requires small { (G.Name.net (G.level self.now.graph.now)).size ≤ L.limit }
-        requires source { source < self.now.yard.now }
+        requires worker { worker < self.now.shares.now.blocks }
+        requires level { G.level self.now.graph.now ≡ piece.now.level }
     {
-        let Some(fresh) = self.fresh(source, outbox.wave)? else {
-            return Ok(());
-        };
-        let batches = scatter_reusing(self.alloc, self.graph, &fresh, &mut outbox.spare)?;
-        outbox.fresh = outbox.fresh.saturating_add(fresh.nodes().len());
-        outbox.sources.push(batches)?;
+        let batches = scatter_reusing(self.alloc, self.graph, piece, &mut outbox.spare)?;
+        outbox.fresh = outbox.fresh.saturating_add(piece.nodes().len());
+        outbox.pieces.push(batches)?;
+        if outbox.is_full() {
+            self.send(worker, outbox)?;
+        }
         Ok(())
     }
 
-    // Scatters what a block found, and sends once that is much.
+    // Scatters what a block found, piece by piece from its last nodes on, so that no batch is large.
     fn take(
         &self,
         worker: u64,
@@ -261,11 +269,14 @@ impl<'a, L: NodeList, G: Graph, A: Gate, R: Wait> Site<'a, L, G, A, R> {
         requires worker { worker < self.now.shares.now.blocks }
         requires source { source < self.now.yard.now }
     {
-        self.scatter(source, outbox)?;
-        outbox.taken = outbox.taken.saturating_add(1);
-        if outbox.is_full() {
-            self.send(worker, outbox)?;
+        if let Some(mut fresh) = self.fresh(source, outbox.wave)? {
+            while fresh.nodes().len() > PIECE_NODES {
+                let piece = fresh.split_off(fresh.nodes().len() - PIECE_NODES)?;
+                self.scatter(worker, &piece, outbox)?;
+            }
+            self.scatter(worker, &fresh, outbox)?;
         }
+        outbox.taken = outbox.taken.saturating_add(1);
         Ok(())
     }
 
@@ -495,10 +506,10 @@ fn outcome_of(workers: &[Worker]) -> Result<(), AllocError>
 ///
 /// Each worker draws the numbers of the blocks over and over, for one wave after the other, and
 /// asks the gate after each draw. At each wave it first takes the blocks of its share there. On
-/// `Go` it sends what the block found to every block, maybe together with what it draws next; on
-/// `Leave` it ends, and nothing is sent from that block. A worker for which no thread can be
-/// started is run by another one. Blocks keep and batches carry lists of the kind `L`. The watch is
-/// told of each wave once it has begun, or later where this thread comes late.
+/// `Go` it sends what the block found to every block, piece by piece, the last one maybe together
+/// with what it draws next; on `Leave` it ends, and nothing is sent from that block. A worker for
+/// which no thread can be started is run by another one. Blocks keep and batches carry lists of the
+/// kind `L`. The watch is told of each wave once it has begun, or later where this thread comes late.
 ///
 /// # Errors
 ///

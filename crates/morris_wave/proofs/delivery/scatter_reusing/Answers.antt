@@ -10,13 +10,13 @@ use Rattle.morris_wave.proofs.delivery.scatter_reusing.Goals as goal
 pub behind-requires-clause-inside : goal.behind-requires-clause-inside
 behind-requires-clause-inside g c κs within =
     let inside = c.fresh.inside in
-    let f : FreshState = record { level = inside.level; cut = inside.cut; wave = inside.wave; source = inside.source; nodes = inside.nodes.items } in
+    let f : FreshState = record { level = inside.level; cut = inside.cut; wave = inside.wave; source = inside.source; low = inside.low; high = inside.high; nodes = inside.nodes.items } in
     subst (λ (xs : List ℕ). All (λ j. j < inside.cut.size) xs) (sym c.deref.ensures.value) (fresh_inside (g.N.Levels.net inside.level) f c.fresh.invariant)
 
 pub seal-requires-after_bounds : goal.seal-requires-after_bounds
 seal-requires-after_bounds g c κs within =
     let inside = c.fresh.inside in
-    let f : FreshState = record { level = inside.level; cut = inside.cut; wave = inside.wave; source = inside.source; nodes = inside.nodes.items } in
+    let f : FreshState = record { level = inside.level; cut = inside.cut; wave = inside.wave; source = inside.source; low = inside.low; high = inside.high; nodes = inside.nodes.items } in
     let net = g.N.Levels.net inside.level in
     let lists = c.in_ok-lists.lists.items in
     let inv = c.loop-nodes.invariant in

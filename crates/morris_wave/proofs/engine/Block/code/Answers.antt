@@ -13,7 +13,7 @@ returns-clause-value g c =
     let net = g.N.Levels.net inside.level in
     let law = g.N.Levels.lawful inside.level in
     let codes = kept.entries.entries.codes in
-    let s : BlockState = record { level = inside.level; cut = inside.cut; number = inside.number; wave = kept.entries.wave; applied = inside.applied.items } in
+    let s : BlockState = record { level = inside.level; cut = inside.cut; number = inside.number; wave = kept.entries.wave; applied = inside.applied.items; taken_from = inside.taken_from.items } in
     let within : IsIn s.cut s.number c.args.i = subst (λ (t : BlockState). IsIn t.cut t.number c.args.i) (sym c.self.view_is) c.requires in
     subst (λ (t : BlockState). c.get.result ≡ entry_at (g.N.Levels.net t.level) t.wave (in_applied t) c.args.i) c.self.view_is
     (code_value net law s kept.entries.first codes (counts_of kept.counters) kept.due kept.last_due c.self.invariant c.args.i within c.get.result c.get.ensures)
@@ -25,7 +25,7 @@ returns-clause-exact g c = λ some.
     let net = g.N.Levels.net inside.level in
     let law = g.N.Levels.lawful inside.level in
     let codes = kept.entries.entries.codes in
-    let s : BlockState = record { level = inside.level; cut = inside.cut; number = inside.number; wave = kept.entries.wave; applied = inside.applied.items } in
+    let s : BlockState = record { level = inside.level; cut = inside.cut; number = inside.number; wave = kept.entries.wave; applied = inside.applied.items; taken_from = inside.taken_from.items } in
     let within : IsIn s.cut s.number c.args.i = subst (λ (t : BlockState). IsIn t.cut t.number c.args.i) (sym c.self.view_is) c.requires in
     subst (λ (t : BlockState). HasCode (g.N.Levels.net t.level) c.args.i c.get.result) c.self.view_is
     (code_exact net law s kept.entries.first codes (counts_of kept.counters) kept.due kept.last_due c.self.invariant c.args.i within c.get.result c.get.ensures some)
@@ -37,7 +37,7 @@ returns-clause-undecided g c =
     let net = g.N.Levels.net inside.level in
     let law = g.N.Levels.lawful inside.level in
     let codes = kept.entries.entries.codes in
-    let s : BlockState = record { level = inside.level; cut = inside.cut; number = inside.number; wave = kept.entries.wave; applied = inside.applied.items } in
+    let s : BlockState = record { level = inside.level; cut = inside.cut; number = inside.number; wave = kept.entries.wave; applied = inside.applied.items; taken_from = inside.taken_from.items } in
     let within : IsIn s.cut s.number c.args.i = subst (λ (t : BlockState). IsIn t.cut t.number c.args.i) (sym c.self.view_is) c.requires in
     subst (λ (t : BlockState). (c.get.result ≡ 0) ↔ (is_decided_at (g.N.Levels.net t.level) t.wave (in_applied t) c.args.i ≡ false)) c.self.view_is
     (code_open net law s kept.entries.first codes (counts_of kept.counters) kept.due kept.last_due c.self.invariant c.args.i within c.get.result c.get.ensures)

@@ -16,7 +16,7 @@ returns-clause-inside g c =
     let net = g.N.Levels.net inside.level in
     let law = g.N.Levels.lawful inside.level in
     let codes = kept.entries.entries.codes in
-    let s : BlockState = record { level = inside.level; cut = inside.cut; number = inside.number; wave = kept.entries.wave; applied = inside.applied.items } in
+    let s : BlockState = record { level = inside.level; cut = inside.cut; number = inside.number; wave = kept.entries.wave; applied = inside.applied.items; taken_from = inside.taken_from.items } in
     let e = kept.entries in
     subst (λ (t : BlockState). All (IsIn t.cut t.number) (g.L.NodeList.items e.decided)) c.self.view_is
     (list_inside net law s kept.entries.first codes (counts_of kept.counters) kept.due kept.last_due c.self.invariant e.wave e.before e.here (g.L.NodeList.items e.decided) (subst (λ (t : Bool). Ranked t kept.entries.first e.wave codes (g.L.NodeList.items e.decided) e.before e.here) g.met.L.WholeList.whole e.ranked))
@@ -28,7 +28,7 @@ returns-clause-once g c =
     let net = g.N.Levels.net inside.level in
     let law = g.N.Levels.lawful inside.level in
     let codes = kept.entries.entries.codes in
-    let s : BlockState = record { level = inside.level; cut = inside.cut; number = inside.number; wave = kept.entries.wave; applied = inside.applied.items } in
+    let s : BlockState = record { level = inside.level; cut = inside.cut; number = inside.number; wave = kept.entries.wave; applied = inside.applied.items; taken_from = inside.taken_from.items } in
     let e = kept.entries in
     subst (λ (t : BlockState). (i : ℕ) → IsIn t.cut t.number i → times i (g.L.NodeList.items e.decided) ≡ cond {A = ℕ} (is_decided_at (g.N.Levels.net t.level) t.wave (in_applied t) i) 1 0) c.self.view_is
     (list_once net law s kept.entries.first codes (counts_of kept.counters) kept.due kept.last_due c.self.invariant e.wave e.before e.here (g.L.NodeList.items e.decided) (subst (λ (t : Bool). Ranked t kept.entries.first e.wave codes (g.L.NodeList.items e.decided) e.before e.here) g.met.L.WholeList.whole e.ranked))
@@ -40,7 +40,7 @@ returns-clause-order g c =
     let net = g.N.Levels.net inside.level in
     let law = g.N.Levels.lawful inside.level in
     let codes = kept.entries.entries.codes in
-    let s : BlockState = record { level = inside.level; cut = inside.cut; number = inside.number; wave = kept.entries.wave; applied = inside.applied.items } in
+    let s : BlockState = record { level = inside.level; cut = inside.cut; number = inside.number; wave = kept.entries.wave; applied = inside.applied.items; taken_from = inside.taken_from.items } in
     let e = kept.entries in
     subst (λ (t : BlockState). IsNonDecreasingBy (entry_at (g.N.Levels.net t.level) t.wave (in_applied t)) (g.L.NodeList.items e.decided)) c.self.view_is
     (list_order net law s kept.entries.first codes (counts_of kept.counters) kept.due kept.last_due c.self.invariant e.wave e.before e.here (g.L.NodeList.items e.decided) (subst (λ (t : Bool). Ranked t kept.entries.first e.wave codes (g.L.NodeList.items e.decided) e.before e.here) g.met.L.WholeList.whole e.ranked))

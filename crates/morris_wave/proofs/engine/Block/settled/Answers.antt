@@ -13,7 +13,7 @@ returns-clause-settled g c =
     let net = g.N.Levels.net inside.level in
     let law = g.N.Levels.lawful inside.level in
     let codes = kept.entries.entries.codes in
-    let s : BlockState = record { level = inside.level; cut = inside.cut; number = inside.number; wave = kept.entries.wave; applied = inside.applied.items } in
+    let s : BlockState = record { level = inside.level; cut = inside.cut; number = inside.number; wave = kept.entries.wave; applied = inside.applied.items; taken_from = inside.taken_from.items } in
     let complete : is_complete s ≡ true = ap is_complete c.self.view_is ∙ (sym c.is_complete.ensures ∙ c.if-not-is_complete.false) in
     let due : kept.last_due ≤ kept.entries.wave = omega (arith, c.if-from-self.false, c.from.ensures) in
     subst (λ (t : BlockState). (not c.has_news.result ≡ true) ↔ IsSettled (g.N.Levels.net t.level) t) c.self.view_is
@@ -26,7 +26,7 @@ returns-clause-deep g c = λ e complete last.
     let net = g.N.Levels.net inside.level in
     let law = g.N.Levels.lawful inside.level in
     let codes = kept.entries.entries.codes in
-    let s : BlockState = record { level = inside.level; cut = inside.cut; number = inside.number; wave = kept.entries.wave; applied = inside.applied.items } in
+    let s : BlockState = record { level = inside.level; cut = inside.cut; number = inside.number; wave = kept.entries.wave; applied = inside.applied.items; taken_from = inside.taken_from.items } in
     subst (λ (t : BlockState). IsTooDeep (g.N.Levels.net t.level)) c.self.view_is
     (unsettled_deep net law s kept.entries.first codes (counts_of kept.counters) kept.due kept.last_due c.self.invariant (ap is_complete c.self.view_is ∙ complete) (ap (λ t. t.wave) c.self.view_is ∙ last) (inr (sym c.has_news.ensures ∙ not-false c.has_news.result e)))
 
@@ -37,6 +37,6 @@ returns-then-from-self-clause-deep g c = λ e complete last.
     let net = g.N.Levels.net inside.level in
     let law = g.N.Levels.lawful inside.level in
     let codes = kept.entries.entries.codes in
-    let s : BlockState = record { level = inside.level; cut = inside.cut; number = inside.number; wave = kept.entries.wave; applied = inside.applied.items } in
+    let s : BlockState = record { level = inside.level; cut = inside.cut; number = inside.number; wave = kept.entries.wave; applied = inside.applied.items; taken_from = inside.taken_from.items } in
     subst (λ (t : BlockState). IsTooDeep (g.N.Levels.net t.level)) c.self.view_is
     (unsettled_deep net law s kept.entries.first codes (counts_of kept.counters) kept.due kept.last_due c.self.invariant (ap is_complete c.self.view_is ∙ complete) (ap (λ t. t.wave) c.self.view_is ∙ last) (inl (omega (arith, c.if-from-self.true, c.from.ensures))))

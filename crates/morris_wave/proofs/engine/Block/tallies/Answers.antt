@@ -16,7 +16,7 @@ returns-clause-all g c =
     let inside = c.self.inside in
     let kept = inside.kept in
     let codes = kept.entries.entries.codes in
-    let s : BlockState = record { level = inside.level; cut = inside.cut; number = inside.number; wave = kept.entries.wave; applied = inside.applied.items } in
+    let s : BlockState = record { level = inside.level; cut = inside.cut; number = inside.number; wave = kept.entries.wave; applied = inside.applied.items; taken_from = inside.taken_from.items } in
     let entries = kept.entries.entries in
     let counted : entries.won + entries.lost + (c.len.result - (entries.won + entries.lost)) ≡ count_of s =
     omega (arith, entries.won_counted, entries.lost_counted, three_kinds codes, c.len.ensures, c.self.invariant.count_is) in
@@ -29,7 +29,7 @@ returns-clause-won g c =
     let net = g.N.Levels.net inside.level in
     let law = g.N.Levels.lawful inside.level in
     let codes = kept.entries.entries.codes in
-    let s : BlockState = record { level = inside.level; cut = inside.cut; number = inside.number; wave = kept.entries.wave; applied = inside.applied.items } in
+    let s : BlockState = record { level = inside.level; cut = inside.cut; number = inside.number; wave = kept.entries.wave; applied = inside.applied.items; taken_from = inside.taken_from.items } in
     subst (λ (t : BlockState). kept.entries.entries.won ≡ count_by is_won_code (entries_of (g.N.Levels.net t.level) t)) c.self.view_is
     (kept.entries.entries.won_counted ∙ ap (count_by is_won_code) (codes_entries net law s kept.entries.first codes (counts_of kept.counters) kept.due kept.last_due c.self.invariant))
 
@@ -40,7 +40,7 @@ returns-clause-lost g c =
     let net = g.N.Levels.net inside.level in
     let law = g.N.Levels.lawful inside.level in
     let codes = kept.entries.entries.codes in
-    let s : BlockState = record { level = inside.level; cut = inside.cut; number = inside.number; wave = kept.entries.wave; applied = inside.applied.items } in
+    let s : BlockState = record { level = inside.level; cut = inside.cut; number = inside.number; wave = kept.entries.wave; applied = inside.applied.items; taken_from = inside.taken_from.items } in
     subst (λ (t : BlockState). kept.entries.entries.lost ≡ count_by is_odd (entries_of (g.N.Levels.net t.level) t)) c.self.view_is
     (kept.entries.entries.lost_counted ∙ ap (count_by is_odd) (codes_entries net law s kept.entries.first codes (counts_of kept.counters) kept.due kept.last_due c.self.invariant))
 
@@ -51,7 +51,7 @@ returns-clause-undecided g c =
     let net = g.N.Levels.net inside.level in
     let law = g.N.Levels.lawful inside.level in
     let codes = kept.entries.entries.codes in
-    let s : BlockState = record { level = inside.level; cut = inside.cut; number = inside.number; wave = kept.entries.wave; applied = inside.applied.items } in
+    let s : BlockState = record { level = inside.level; cut = inside.cut; number = inside.number; wave = kept.entries.wave; applied = inside.applied.items; taken_from = inside.taken_from.items } in
     let entries = kept.entries.entries in
     let counted : c.len.result - (entries.won + entries.lost) ≡ count_by (λ (x : ℕ). eqb x 0) codes =
     omega (arith, entries.won_counted, entries.lost_counted, three_kinds codes, c.len.ensures) in
