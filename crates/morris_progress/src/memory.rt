@@ -12,9 +12,12 @@ use morris_index::binomials::binomial;
 use morris_index::pair::Pair;
 use morris_table::layout::Layout;
 
-/// Bytes of the program itself, of its threads and of the lists that its workers keep from one wave
-/// to the next.
-pub(crate) const BASE: u64 = 7_500_000;
+/// Bytes of the program itself.
+pub(crate) const BASE: u64 = 4_000_000;
+
+/// Bytes of a worker: its thread, the batches of the piece at which it is, and the lists that it
+/// keeps from one piece to the next.
+const WORKER: u64 = 2_800_000;
 
 /// Bytes of an entry of a table: its code.
 pub(crate) const CODE: u64 = 2;
@@ -86,8 +89,8 @@ pub(crate) fn bytes_of_making<B: Geometry>(pair: Pair<B>, entries: u64, team: Op
         .saturating_add(bytes_of_workers(pair, entries, team))
 }
 
-/// About how many bytes the workers hold of the blocks that they are at: the fresh entries of these,
-/// and for each of them the entries from which quiet moves lead to it. No two are at one block.
+/// About how many bytes the workers hold: what each of them has in any case, and the fresh entries of
+/// the block at which it is. No two are at one block.
 fn bytes_of_workers<B: Geometry>(pair: Pair<B>, entries: u64, team: Team) -> u64 {
     let closing = closing_share(pair.greater(), pair.lesser());
     let block = entries / team.blocks as u64;
@@ -100,28 +103,14 @@ fn bytes_of_workers<B: Geometry>(pair: Pair<B>, entries: u64, team: Team) -> u64
         3 * closing / 5
     };
     let fresh = (block.saturating_mul(share) / WHOLE).min(block);
-    let held = WIDE.saturating_add(moves_before(pair).saturating_mul(listed_bytes(entries)));
-    fresh
-        .saturating_mul(held)
+    WORKER
+        .saturating_add(fresh.saturating_mul(WIDE))
         .saturating_mul(team.workers.min(team.blocks) as u64)
 }
 
 /// How many bytes an entry of so many takes in a list.
 fn listed_bytes(entries: u64) -> u64 {
     if entries <= 1 << 32 { LISTED } else { WIDE }
-}
-
-/// About how many quiet moves of the player with fewer stones lead to a position: three stones jump
-/// to any free point, and more stones move along the 32 lines of the board.
-fn moves_before<B: Geometry>(pair: Pair<B>) -> u64 {
-    let stones = u64::from(pair.lesser());
-    let free = u64::from(B::POINTS - pair.greater() - pair.lesser());
-    let jumps = stones.saturating_mul(free);
-    if stones == 3 {
-        jumps
-    } else {
-        jumps.saturating_mul(64) / (24 * 23)
-    }
 }
 
 /// In how many of 1,000 positions of a pair captures decide, as far as the stones tell.
