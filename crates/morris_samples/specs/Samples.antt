@@ -53,14 +53,14 @@ lone_lawful level = record {
   codes = λ i l. All-cons (λ c. c ≤ 65535) ((level / 2) % 65536) (if (level % 2) == 1 then 0 ∷ [] else []) (omega arith) (drawn_codes ((level % 2) == 1));
 }
 
--- level % 4 nodes without any result
+-- level % 8192 nodes without any result
 abbrev pub bare_net : ℕ → Net
-bare_net level = record { size = level % 4; quiet = λ i. []; exits = λ i. [] }
+bare_net level = record { size = level % 8192; quiet = λ i. []; exits = λ i. [] }
 
 pub bare_lawful : (level : ℕ) → IsNet (bare_net level)
 bare_lawful level = record {
   small = omega arith;
-  inside = λ i l. All-nil (λ j. j < level % 4);
+  inside = λ i l. All-nil (λ j. j < level % 8192);
   few = λ i l. omega arith;
   codes = λ i l. All-nil (λ c. c ≤ 65535);
 }

@@ -5,7 +5,7 @@ ghost use Rattle.morris_samples.specs.Samples.{bare_net, bare_lawful};
 use morris_wave::{Exits, Graph, Levels};
 use std::alloc::AllocError;
 
-/// Level % 4 nodes without any result, so that each is lost in 0.
+/// Level % 8,192 nodes without any result, so that each is lost in 0.
 pub struct Bares;
 
 impl Levels for Bares {
@@ -31,7 +31,7 @@ impl Graph for BareGraph {
     }
 
     fn size(&self) -> u64 {
-        self.level % 4
+        self.level % 8192
     }
 
     fn quiet_count(&self, _i: u64) -> u16 {

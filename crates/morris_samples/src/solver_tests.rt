@@ -1,5 +1,6 @@
 ghost use Rattle.std.specs.Prelude.{◌≡◌, ◌<◌, ◌≤◌};
 
+use crate::bares::BareGraph;
 use crate::checks::{holds, same, same_codes};
 use crate::gates::{CountingGate, HoledGate, MeetingGate, PickyGate, ShutGate};
 use crate::lones::LoneGraph;
@@ -55,6 +56,15 @@ fn a_pair_is_solved_by_any_number_of_workers_and_blocks(rt: HostRuntime) {
     solves(&rt, rt.alloc(), &PAIR, &OpenGate, 1, 5, codes);
     solves(&rt, rt.alloc(), &PAIR, &OpenGate, 7, 3, codes);
     solves(&rt, rt.alloc(), &PAIR, &OpenGate, 64, 2, codes);
+}
+
+#[test]
+fn what_a_block_finds_is_sent_in_pieces(rt: HostRuntime) {
+    // All nodes are lost in 0, so that one block finds more of them than go into a piece.
+    let graph = BareGraph { level: 5000 };
+    let codes = [1u16; 5000];
+    solves(&rt, rt.alloc(), &graph, &OpenGate, 1, 1, &codes);
+    solves(&rt, rt.alloc(), &graph, &OpenGate, 3, 1, &codes);
 }
 
 // The graph is solved with lists of 64 bits a node, since it has more than no nodes.
