@@ -17,7 +17,7 @@ at_most_one : (t : Bool) → cond {A = ℕ} t 1 0 ≤ 1
 at_most_one true = omega arith
 at_most_one false = omega arith
 
-module _ (g : Net) (f : FreshState) (h : FreshHolds g f) (place : ℕ) (l : place < length f.nodes) where
+module _ (g : Net) (f : FreshState) (h : FreshHolds g f) (place : ℕ) (some : 0 < place) (l : place < length f.nodes) where
   abbrev rest : List ℕ
   rest = take place f.nodes
 
@@ -105,6 +105,7 @@ module _ (g : Net) (f : FreshState) (h : FreshHolds g f) (place : ℕ) (l : plac
     source = h.source;
     wave = h.wave;
     order = at_low;
+    some = λ _. omega (arith, (h.between 0 0 (omega (arith, l))).0, rest_less 0 0 (omega (arith, length-take place f.nodes, some, l)), get_or-take place f.nodes 0 0 some);
     inside = All-take (IsIn f.cut f.source) place f.nodes h.inside;
     between = λ p d q. ((All-take (λ i. (f.low ≤ i) × (i < f.high)) place f.nodes h.between p d q).0, rest_less p d q);
     once = rest_once;
@@ -118,6 +119,7 @@ module _ (g : Net) (f : FreshState) (h : FreshHolds g f) (place : ℕ) (l : plac
     source = h.source;
     wave = h.wave;
     order = omega (arith, at_high);
+    some = λ _. at_high;
     inside = All-drop (IsIn f.cut f.source) place f.nodes h.inside;
     between = λ p d q. (piece_above p d q, (All-drop (λ i. (f.low ≤ i) × (i < f.high)) place f.nodes h.between p d q).1);
     once = piece_once;

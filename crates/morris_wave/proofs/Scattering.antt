@@ -91,6 +91,7 @@ module _ (g : Net) (law : IsNet g) (f : FreshState) (h : FreshHolds g f) where
     source = h.source;
     target = l;
     order = h.order;
+    some = h.some;
     inside = sorted t (omega arith);
     often = λ i inside. often i inside;
   }

@@ -29,6 +29,7 @@ pub record FreshHolds (g : Net) (f : FreshState) : Type 0 where
   pub source : f.source < f.cut.blocks
   pub wave : f.wave ≤ 65534
   pub order : f.low ≤ f.high
+  pub some : 0 < f.high → f.low < f.high
   pub inside : All (IsIn f.cut f.source) f.nodes
   pub between : All (λ i. (f.low ≤ i) × (i < f.high)) f.nodes
   pub once : (i : ℕ) → IsIn f.cut f.source i → times i f.nodes ≡ (if is_from_to f.low f.high i && is_fresh g f.wave i then 1 else 0)
@@ -64,5 +65,6 @@ pub record BatchHolds (g : Net) (b : BatchState) : Type 0 where
   pub source : b.source < b.cut.blocks
   pub target : b.target < b.cut.blocks
   pub order : b.low ≤ b.high
+  pub some : 0 < b.high → b.low < b.high
   pub inside : All (IsIn b.cut b.target) b.nodes
   pub often : (i : ℕ) → IsIn b.cut b.target i → times i b.nodes ≡ count_by (λ j. is_sent b j && is_fresh g b.wave j) (g.quiet i)

@@ -13,8 +13,8 @@ use crate::nodes::{NodeList, put_into};
 use std::alloc::{AllocError, Global};
 use std::marker::PhantomData;
 
-// How many nodes a graph goes back from in one call: enough that what it keeps from node to node
-// serves many of them, and few enough that the list of their predecessors stays small.
+// How many nodes a graph goes back from in one call: enough that a call costs little beside them,
+// and few enough that the list of their predecessors stays small.
 const PIECE: usize = 256;
 
 // An empty list, one of those at hand if there is one.

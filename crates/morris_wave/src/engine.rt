@@ -1,7 +1,7 @@
 //! Blocks of a graph, which go from wave to wave, and what they find and send to one another.
 ghost use Rattle.std.specs.Prelude.{◌≡◌, ℕ, ◌+◌, ◌-◌, ◌<◌, ◌≤◌, Bool, true, false, ◌&&◌, ◌==◌, ◌↔◌, IsTrue, length, IfOk, OnOk, OnErr, IfErr, vec_len, slice_index, if◌then◌else◌};
 ghost use Rattle.std.specs.List.{All, count_by};
-ghost use Rattle.std.specs.List.Sorted.{IsNonDecreasingBy};
+ghost use Rattle.std.specs.List.Sorted.{IsNonDecreasing, IsNonDecreasingBy};
 ghost use Rattle.morris_wave.specs.Nets.{times};
 ghost use Rattle.morris_wave.specs.Waves.{entry_at, is_decided_at, is_fresh};
 
@@ -17,7 +17,7 @@ use thiserror::Error;
 /// What a block did with a batch.
 #[derive(Clone, Copy, Debug, PartialEq, Eq)]
 pub enum Applied {
-    /// The batch was taken in, and its source counts as applied.
+    /// The batch was taken in. Its source counts as applied once all pieces of it are.
     Done,
     /// The source was already applied in this wave, or the batch is of a piece of it that comes twice
     /// or out of turn. Nothing changed.
@@ -215,20 +215,22 @@ impl<N: Levels> Fresh<N> {
 
     /// The fresh nodes, each once, in ascending order.
     pub fn nodes(&self) -> &[u64]
-        ensures { result.now ≡ self.now.nodes }
+        ensures value { result.now ≡ self.now.nodes }
+        ensures ascending { IsNonDecreasing result.now }
     {
         self.nodes.as_slice()
     }
 
-    /// Splits off the nodes from a place on, counted from 0. The batches of both pieces together say
-    /// what those of the whole would: a block takes in those of the piece that is split off first,
-    /// and its source is applied once it has taken in those of all pieces.
+    /// Splits off the nodes from a place on, counted from 0, so that both have some. The batches of
+    /// both pieces together say what those of the whole would: a block takes in those of the piece
+    /// that is split off first, and its source is applied once it has taken in those of all pieces.
     ///
     /// # Errors
     ///
     /// `AllocError` where memory is refused. Nothing changed then.
     pub fn split_off(&mut self, place: usize) -> Result<Fresh<N>, AllocError>
-        requires { place < length self.old.nodes }
+        requires some { 0 < place }
+        requires inside { place < length self.old.nodes }
         ensures rest { OnOk result (self.new ≡ rest_of self.old place) }
         ensures piece { IfOk result (λ f. f ≡ piece_of self.old place) }
         ensures err { OnErr result (self.new ≡ self.old) }
@@ -425,8 +427,8 @@ impl<N: Levels, L: NodeList> Block<N, L> {
         !self.kept.entries.has_news()
     }
 
-    /// Whether all sources of this wave are applied: one batch of each block of the cut, itself
-    /// included.
+    /// Whether all sources of this wave are applied: what each block of the cut found was taken in,
+    /// what it found itself included.
     pub fn is_complete(&self) -> bool
         ensures { result ≡ is_complete self.now }
     {
@@ -443,6 +445,8 @@ impl<N: Levels, L: NodeList> Block<N, L> {
     pub fn apply<B: NodeList>(&mut self, batch: &Batch<N, B>) -> Applied
         ensures answer { result ≡ answer_to self.old batch.now }
         ensures state { self.new ≡ after_batch self.old batch.now }
+        // What was taken in isn't taken in again.
+        ensures once { result ≡ Applied.Done → answer_to self.new batch.now ≡ Applied.Again }
     {
         if batch.level != self.level
             || !batch.cut.is_same(&self.cut)
@@ -496,6 +500,9 @@ impl<N: Levels, L: NodeList> Block<N, L> {
         ensures cut { IfOk result (λ f. f.cut ≡ self.now.cut) }
         ensures wave { IfOk result (λ f. f.wave ≡ self.now.wave) }
         ensures source { IfOk result (λ f. f.source ≡ self.now.number) }
+        // All of them are one piece.
+        ensures low { IfOk result (λ f. f.low ≡ 0) }
+        ensures high { IfOk result (λ f. f.high ≡ self.now.cut.size) }
         ensures inside { IfOk result (λ f. All (IsIn self.now.cut self.now.number) f.nodes) }
         ensures nodes { IfOk result (λ f. (i : ℕ) → IsIn self.now.cut self.now.number i
             → times i f.nodes ≡ (if is_fresh (N.net self.now.level) self.now.wave i then 1 else 0)) }

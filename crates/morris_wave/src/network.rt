@@ -235,8 +235,8 @@ pub trait Graph {
     /// Lists the nodes that have one of `nodes` as a quiet result, each as often as it leads to
     /// them.
     ///
-    /// A graph for which what is found for one node serves the next one too writes its own body.
-    /// The vector is emptied first.
+    /// A graph that can add to a list writes its own body, without a second list. The vector is
+    /// emptied first.
     ///
     /// # Errors
     ///

@@ -28,6 +28,7 @@ invariant_of-result g c =
       source = h.number;
       wave = h.wave;
       order = omega arith;
+      some = λ l. l;
       between = fresh_between net law s kept.entries.first codes (counts_of kept.counters) kept.due kept.last_due c.self.invariant found nodes same c.in_ok-nodes.ensures.inside;
       ascending = IsNonDecreasingBy-from_sort (λ x. x) nodes c.sort_unstable.ensures.sorted;
       inside = fresh_inside net law s kept.entries.first codes (counts_of kept.counters) kept.due kept.last_due c.self.invariant found nodes same c.in_ok-nodes.ensures.inside;

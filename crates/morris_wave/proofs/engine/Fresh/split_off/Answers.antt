@@ -10,9 +10,9 @@ invariant_of-result g c =
     let net = g.N.Levels.net inside.level in
     let f : FreshState = record { level = inside.level; cut = inside.cut; wave = inside.wave; source = inside.source; low = inside.low; high = inside.high; nodes = inside.nodes.items } in
     let place = c.args.place in
-    let within : place < length inside.nodes.items = omega (arith, c.requires, ap (λ (t : FreshState). length t.nodes) c.self.view_is) in
+    let within : place < length inside.nodes.items = omega (arith, c.requires.inside, ap (λ (t : FreshState). length t.nodes) c.self.view_is) in
     let low : c.index-low.result.now ≡ get_or inside.nodes.items place 0 = get_or_read inside.nodes.items place c.index-low.result.now within c.index-low.ensures 0 in
-    let holds = piece_holds net f c.self.invariant place within in
+    let holds = piece_holds net f c.self.invariant place c.requires.some within in
     let of : ℕ → List ℕ → FreshState = λ n xs. record { level = inside.level; cut = inside.cut; wave = inside.wave; source = inside.source; low = n; high = inside.high; nodes = xs } in
     subst (λ (xs : List ℕ). FreshHolds net (of c.index-low.result.now xs)) (sym c.in_ok-nodes.ensures.tail) (subst (λ (n : ℕ). FreshHolds net (of n (drop place inside.nodes.items))) (sym low) holds)
 
@@ -22,8 +22,8 @@ invariant_of-self-2 g c =
     let net = g.N.Levels.net inside.level in
     let f : FreshState = record { level = inside.level; cut = inside.cut; wave = inside.wave; source = inside.source; low = inside.low; high = inside.high; nodes = inside.nodes.items } in
     let place = c.args.place in
-    let within : place < length inside.nodes.items = omega (arith, c.requires, ap (λ (t : FreshState). length t.nodes) c.self.view_is) in
+    let within : place < length inside.nodes.items = omega (arith, c.requires.inside, ap (λ (t : FreshState). length t.nodes) c.self.view_is) in
     let low : c.index-low.result.now ≡ get_or inside.nodes.items place 0 = get_or_read inside.nodes.items place c.index-low.result.now within c.index-low.ensures 0 in
-    let holds = rest_holds net f c.self.invariant place within in
+    let holds = rest_holds net f c.self.invariant place c.requires.some within in
     let of : ℕ → List ℕ → FreshState = λ n xs. record { level = inside.level; cut = inside.cut; wave = inside.wave; source = inside.source; low = inside.low; high = n; nodes = xs } in
     subst (λ (xs : List ℕ). FreshHolds net (of c.index-low.result.now xs)) (sym c.in_ok-nodes.ensures.items) (subst (λ (n : ℕ). FreshHolds net (of n (take place inside.nodes.items))) (sym low) holds)
