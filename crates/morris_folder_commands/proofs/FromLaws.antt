@@ -1,18 +1,18 @@
 -- The pairs of a board one after the other, and the files of a folder that are verified so.
-use Rattle.std.proofs.Common.{◌≡◌, ℕ, zero, suc, ◌+◌, ◌-◌, ◌<◌, ◌≤◌, Bool, true, false, ◌&&◌, leb, List, [], ◌∷◌, ◌++◌, map, length, take, drop, get_or, refl, sym, ◌∙◌, ap, subst, inl, inr, arith, Option, Some, None, option_map, Result, Ok, Err, MatchResult}
+use Rattle.std.proofs.Common.{◌≡◌, ℕ, zero, suc, ◌+◌, ◌-◌, ◌<◌, ◌≤◌, Bool, true, false, ◌&&◌, leb, List, [], ◌∷◌, ◌++◌, length, take, drop, get_or, refl, sym, ◌∙◌, ap, subst, inl, inr, arith, Option, Some, None, Result, Ok, Err, MatchResult}
 use Rattle.std.specs.List.{filter, list_all, slice_get}
 use Rattle.std.specs.Io.KnownBytes.{Appends, Keeps}
 use Rattle.std.proofs.lemmas.Bool.{and_parts, cases_Bool, both_ways}
 use Rattle.std.proofs.lemmas.List.{drop_more}
 use Rattle.std.proofs.lemmas.List.Folds.{list_all_at}
-use Rattle.std.proofs.lemmas.Option.{slice_get_within, get_or_from_slice_get, slice_get-map, slice_get-get_or}
+use Rattle.std.proofs.lemmas.Option.{slice_get_within, get_or_from_slice_get}
 use Rattle.std.proofs.KnownBytes.{Keeps-refl}
 use Rattle.morris_board.specs.Boards.{Shape}
 use Rattle.morris_board.specs.Positions.{is_between}
 use Rattle.morris_board.specs.Streams.{PartSent}
 use Rattle.morris_index.specs.declared.faults.PairFault.{PairFault}
 use Rattle.morris_index.specs.declared.faults.PairFault.TheVariants as pairs
-use Rattle.morris_index.specs.Pairs.{Counts, all_pairs, counts, pair_made}
+use Rattle.morris_index.specs.Pairs.{Counts, all_pairs, pair_made}
 use Rattle.morris_table.specs.Shelves.{Stored}
 use Rattle.morris_table.specs.Tables.{Table}
 use Rattle.morris_folders.specs.Files.{Files, HasNone}
@@ -23,20 +23,12 @@ use Rattle.morris_keeping.specs.declared.kept.KeptFault.{KeptFault}
 use Rattle.morris_keeping.specs.declared.kept.KeptFault.TheVariants as kept
 use Rattle.morris_faults.specs.declared.fault.Fault.{Fault}
 use Rattle.morris_faults.specs.declared.fault.Fault.TheVariants as fault
-use Rattle.morris_folder_commands.specs.declared.places.TheConstants as table
 use Rattle.morris_folder_commands.specs.From.{AtEnd, KeepsNear, Verifies, fits, kept_fault, pairs_of, verified_line}
 use Rattle.morris_folder_commands.specs.Filling.{PrintsLine}
 use Rattle.morris_folder_commands.specs.FromSteps.{AnswersFile, IsUnfitFile, TakesIn, place_is}
 use Rattle.morris_commands.specs.Probe.{Joins}
 
--- ---- the table of all pairs
-
-abbrev pub entry_pair : ℕ × ℕ → Counts
-entry_pair entry = counts entry.0 entry.1
-
-pairs-table : map entry_pair table.PAIRS ≡ all_pairs
-unfolding all_pairs
-pairs-table = refl
+-- ---- all pairs
 
 pub length-all_pairs : length all_pairs ≡ 28
 unfolding all_pairs
@@ -48,13 +40,6 @@ is_lawful d = is_between 3 d.greater 9 && is_between 3 d.lesser 9 && leb d.lesse
 all_lawful : list_all is_lawful all_pairs ≡ true
 unfolding all_pairs
 all_lawful = refl
-
--- what the code reads
-pub table_at : (place : ℕ) (d : ℕ × ℕ) → place < 28 → slice_get all_pairs place ≡ Some (entry_pair (get_or table.PAIRS place d))
-table_at place d low =
-    ap (λ t. slice_get t place) (sym pairs-table)
-    ∙ slice_get-map entry_pair table.PAIRS place
-    ∙ ap (option_map entry_pair) (slice_get-get_or table.PAIRS place d (omega arith))
 
 module _ (place : ℕ) (d : Counts) (is : slice_get all_pairs place ≡ Some d) where
   within : place < length all_pairs

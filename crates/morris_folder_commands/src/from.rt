@@ -12,7 +12,7 @@ ghost use Rattle.morris_keeping.specs.Names.{name_of};
 ghost use Rattle.morris_table.specs.Shelves.{first_missing};
 ghost use Rattle.morris_table.specs.Tables.{IsTable};
 
-use crate::places::{PAIRS, pair_at};
+use crate::places::pair_at;
 use crate::survey::look_ahead;
 use morris_board::board::{Board, Geometry};
 use morris_board::streams::Sink;
@@ -22,6 +22,7 @@ use morris_faults::fault::Fault;
 use morris_faults::on_board;
 use morris_faults::print::send_after;
 use morris_folders::folder::Folder;
+use morris_index::below::PAIR_COUNT;
 use morris_index::pair::Pair;
 use morris_keeping::kept::{KeptFault, read_table_file};
 use morris_progress::team::{Crew, Team};
@@ -93,7 +94,7 @@ fn from_on<B: Board, R: Threads + Sync, F: Folder, O: Sink, T: Teller>(
     let end = look_ahead::<B, F, T>(crew.alloc, board, folder, teller)?;
     let mut sent = 0;
     let mut found = false;
-    for place in 0..PAIRS.len() {
+    for place in 0..PAIR_COUNT {
         let Some(pair) = pair_at::<B>(place) else {
             continue;
         };

@@ -19,6 +19,7 @@ use morris_faults::pairs::read_pair;
 use morris_faults::print::send_after;
 use morris_folders::folder::Folder;
 use morris_folders::whole::{NotWhole, Step};
+use morris_index::below::PAIR_COUNT;
 use morris_index::pair::Pair;
 use morris_keeping::digests::write_digests;
 use morris_keeping::table_file::{Written, write_table_file};
@@ -30,9 +31,6 @@ use morris_table::stock::Stock;
 use std::alloc::Global;
 use std::sync::Wait;
 use std::thread::Threads;
-
-/// How many pairs there are at most.
-const PAIRS: usize = 28;
 
 /// The tables that go into a folder, and who builds them.
 #[derive_where(Clone, Copy)]
@@ -184,7 +182,7 @@ fn fill<B: Board, R: Threads + Wait + Sync, F: Folder, O: Sink, T: Teller>(
         pair,
     } = *filling;
     let Crew { alloc, team, .. } = crew;
-    let mut written = Vec::with_capacity(alloc, PAIRS)?;
+    let mut written = Vec::with_capacity(alloc, PAIR_COUNT)?;
     let mut stock = Stock::new(alloc)?;
     let mut sent = 0;
     teller.announce(pair, layout, Way::Built { team, all: false });

@@ -3,10 +3,11 @@ ghost use Rattle.std.specs.Prelude.{◌≡◌, ◌-◌, ◌^◌, ◌<◌, Err, I
 ghost use Rattle.morris_folders.specs.Files.{Keeps};
 ghost use Rattle.morris_folder_commands.specs.FromSteps.{EndsAt};
 
-use crate::places::{PAIRS, pair_at};
+use crate::places::pair_at;
 use morris_board::board::Geometry;
 use morris_faults::fault::Fault;
 use morris_folders::folder::Folder;
+use morris_index::below::PAIR_COUNT;
 use morris_keeping::header::{Header, read_header};
 use morris_keeping::kept::KeptFault;
 use morris_progress::size::{FolderSize, Size};
@@ -41,7 +42,7 @@ pub(crate) fn look_ahead<B: Geometry, F: Folder, T: Teller>(
 {
     // Where a file isn't opened here, there has to be room for one failure more.
     if !teller.is_told() || folder.failures() >= u64::MAX - 1 {
-        return Ok(PAIRS.len());
+        return Ok(PAIR_COUNT);
     }
     let Survey { size, end } = read_headers::<B, F>(alloc, board, folder)?;
     teller.announce_size(size);
@@ -64,7 +65,7 @@ fn read_headers<B: Geometry, F: Folder>(
     ensures kept { Keeps (F.files folder.old) (F.files folder.new) }
 {
     let mut so_far = FolderSize::NONE;
-    for place in 0..PAIRS.len() {
+    for place in 0..PAIR_COUNT {
         let Some(pair) = pair_at::<B>(place) else {
             continue;
         };
@@ -83,6 +84,6 @@ fn read_headers<B: Geometry, F: Folder>(
     }
     Ok(Survey {
         size: so_far.size,
-        end: PAIRS.len(),
+        end: PAIR_COUNT,
     })
 }

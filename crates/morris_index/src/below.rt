@@ -1,4 +1,4 @@
-//! The pairs below a pair.
+//! All pairs in one order, and the pairs below a pair.
 ghost use Rattle.std.specs.Prelude.{◌≡◌, ◌<◌, Some, slice_get};
 ghost use Rattle.std.specs.Iterator.{YieldsFirst, item_count};
 ghost use Rattle.morris_index.specs.Pairs.{counts, IsPair, all_pairs, is_below, below_of};
@@ -7,8 +7,11 @@ use crate::pair::Pair;
 use morris_board::board::Geometry;
 use std::marker::Model;
 
+/// How many pairs there are, from 3-3 to 9-9.
+pub const PAIR_COUNT: usize = 28;
+
 /// All pairs, the greater number first, in order of their sum and then of the greater one.
-const PAIRS: [(u8, u8); 28] = [
+const PAIRS: [(u8, u8); PAIR_COUNT] = [
     (3, 3),
     (4, 3),
     (4, 4),
@@ -86,8 +89,9 @@ impl<B: Geometry> Iterator for Below<B> {
     }
 }
 
-/// The numbers of the pair at a place of the table.
-fn pair_at(place: usize) -> (u8, u8)
+/// The numbers of the pair at a place, below [`PAIR_COUNT`], of all pairs: the greater number first,
+/// in order of their sum and then of the greater one. A board may have too few points for them.
+pub fn pair_at(place: usize) -> (u8, u8)
     requires { place < 28 }
     ensures { slice_get all_pairs place ≡ Some (counts result.0 result.1) }
 {
