@@ -260,7 +260,7 @@ module _ (n : ℕ) (c : Counts) where
 
 -- ---- how large the numbers are
 
-both_le : (x y a b : ℕ) → x ≤ a → y ≤ b → x * y ≤ a * b
+pub both_le : (x y a b : ℕ) → x ≤ a → y ≤ b → x * y ≤ a * b
 both_le x y a b h k = omega (arith, mul-le-mul_left {m = y} {n = b} x k, mul-le-mul_left {m = x} {n = a} b h)
 
 half_size-le : (n a b : ℕ) → n ≤ 24 → a ≤ 9 → b ≤ 9 → half_size n a b ≤ 1307504 * 1307504

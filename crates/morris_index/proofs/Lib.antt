@@ -14,6 +14,7 @@ pub mod RankTables
 pub mod Spreading
 pub mod PairLaws
 pub mod MoveLaws
+pub mod SourceLaws
 pub mod BelowLaws
 pub mod ResultLaws
 pub mod OrderLaws
@@ -31,4 +32,3 @@ pub mod FacingLaws
 pub mod NumberLaws
 pub mod RingLaws
 pub mod EntryRowLaws
-mod KeptRankLaws

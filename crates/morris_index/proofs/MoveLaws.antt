@@ -8,10 +8,15 @@ use Rattle.morris_board.proofs.PointsLaws.{has-without, has-above, count_of-with
 use Rattle.morris_index.specs.Binomials.{choose}
 use Rattle.morris_index.specs.Numbering.{rank_of, number_outside, half_index}
 use Rattle.morris_index.specs.Pairs.{Counts, IsPair, IsHalf, index_of}
-use Rattle.morris_index.specs.Moves.{taken_back, moved_on, start_of}
+use Rattle.morris_index.specs.Sums.{IsMoved, IsRenumbered, lower_moved, higher_moved, lower_renumbered, higher_renumbered}
+use Rattle.morris_index.specs.Moves.{taken_back, moved_on, start_of, lower_taken_back, higher_taken_back}
+use Rattle.morris_index.specs.declared.sums.MovedSums.{MovedSums}
+use Rattle.morris_index.specs.declared.sums.RenumberedSums.{RenumberedSums}
+use Rattle.std.proofs.Math.Nat.{add-mul, pow-le-pow_right}
+use Rattle.morris_index.proofs.ChooseLaws.{choose-le}
 use Rattle.morris_index.proofs.SetLaws.{with_point-lt}
-use Rattle.morris_index.proofs.IndexLaws.{IsPlaced, placed, within_24, counts_fit, half_size-few, index-first, index-second, map_number-none, half_index-few}
-use Rattle.morris_index.proofs.SumLaws.{without_point-lt, rest}
+use Rattle.morris_index.proofs.IndexLaws.{IsPlaced, placed, both_le, within_24, counts_fit, half_size-few, index-first, index-second, map_number-none, half_index-few}
+use Rattle.morris_index.proofs.SumLaws.{without_point-lt, rest, rank_is, rank_is', rank_down, rank_up, renumbered_down, renumbered_up}
 
 -- ---- a vacant point
 
@@ -132,6 +137,87 @@ module _ (n : ℕ) (low : n ≤ 24) (c : Counts) (s : Sides) (placed : IsPlaced 
   pub before_index : start_of n c (count_of s.other) + before_sum ≡ index_of n c (taken_back s u v)
   before_index = sym (index-parts n c (taken_back s u v) ∙ ap₂ (λ k h. start_of n c k + h) before_count (sym before_half))
 
+-- ---- the position before it, by what its two points come to
+
+-- the index of the position with the other player to move
+module _ (n : ℕ) (low : n ≤ 24) (s : Sides) (placed : IsPlaced n s) (own_few : count_of s.own ≤ 9) (other_few : count_of s.other ≤ 9) where
+  -- what the code adds up
+  abbrev pub turned_sum : ℕ
+  turned_sum = rank_of (members s.other) * choose (n - count_of s.other) (count_of s.own) + rank_of (map (number_outside s.other) (members s.own))
+
+  turned_placed : IsPlaced n (sides s.other s.own)
+  turned_placed = record {
+    own_within = placed.other_within;
+    other_within = placed.own_within;
+    apart = λ p y. elim (cases_Bool (has s.own p)) [
+      | inl x ↦ absurd (both_ways (has s.other p) (placed.apart p x) y)
+      | inr x ↦ x
+    ];
+  }
+
+  pub turned_rank : (mover : MovedSums) → IsMoved 0 s.other mover → mover.rank ≡ rank_of (members s.other)
+  turned_rank mover moved = rank_is 0 s.other mover moved (within_24 s.other n placed.other_within low) ∙ ap rank_of (map_number-none (members s.other))
+
+  pub turned_within : (waiting : RenumberedSums) → IsRenumbered s.other s.own waiting → waiting.rank ≡ rank_of (map (number_outside s.other) (members s.own))
+  turned_within waiting renumbered = rank_is' s.other s.own waiting renumbered (within_24 s.own n placed.own_within low)
+
+  pub turned_few : turned_sum < 1307504 * 1307504
+  unfolding half_index
+  turned_few = half_index-few n (sides s.other s.own) low turned_placed other_few own_few
+
+  pub turned_index : (c : Counts) → start_of n c (count_of s.other) + turned_sum ≡ index_of n c (sides s.other s.own)
+  unfolding half_index
+  turned_index c = sym (index-parts n c (sides s.other s.own))
+
+  pub turned_index-few : (c : Counts) → IsPair n c → index_of n c (sides s.other s.own) < 2 ^ 60
+  turned_index-few c pair = omega (arith, turned_index c, turned_few, start-few n c (count_of s.other) low pair)
+
+-- how many sets there are of the points of one player outside those of the other
+pub choices-few : (n a b : ℕ) → n ≤ 24 → choose (n - a) b ≤ 16777216
+choices-few n a b low = omega (arith, choose-le (n - a) b, pow-le-pow_right {n = 2} (omega arith) {i = n - a} {j = 24} (omega arith))
+
+-- what is added and taken away for one player's stones, times so many sets, and for the other's
+pub times_few : (x k y : ℕ) → x ≤ 1200000000 → k ≤ 16777216 → y ≤ 1200000000 → (x * k < 2 ^ 59) × (x * k + y < 2 ^ 60)
+times_few x k y h few h' =
+    let most : x * k ≤ 1200000000 * 16777216 = both_le x k 1200000000 16777216 h few in
+    (omega arith, omega arith)
+
+both_grow : (k r r' x x' w w' y y' : ℕ) → r' + x' ≡ r + x → w' + y' ≡ w + y → (r' * k + w') + (x' * k + y') ≡ (r * k + w) + (x * k + y)
+both_grow k r r' x x' w w' y y' e f = omega (arith, add-mul r' x' k, add-mul r x k, ap (λ z. z * k) e, f)
+
+module _ (n : ℕ) (low : n ≤ 24) (c : Counts) (s : Sides) (placed : IsPlaced n s) (own_few : count_of s.own ≤ 9) (other_few : count_of s.other ≤ 9) (u v : ℕ)
+    (u_in : u < n) (free_own : has s.own u ≡ false) (free_other : has s.other u ≡ false) (here : has s.other v ≡ true)
+    (mover : MovedSums) (moved : IsMoved 0 s.other mover) (waiting : RenumberedSums) (renumbered : IsRenumbered s.other s.own waiting) where
+  v_in : v < n
+  v_in = point-lt s.other n v placed.other_within here
+
+  -- the parts of an index that are found for a stone that is taken back to u
+  grown : (x x' y y' : ℕ) → rank_of (map (number_outside 0) (members (taken_back s u v).own)) + x' ≡ mover.rank + x
+      → rank_of (map (number_outside (taken_back s u v).own) (members s.own)) + y' ≡ waiting.rank + y
+      → index_of n c (taken_back s u v) + (x' * choose (n - count_of s.other) (count_of s.own) + y')
+      ≡ index_of n c (sides s.other s.own) + (x * choose (n - count_of s.other) (count_of s.own) + y)
+  grown x x' y y' e f =
+      omega (
+        arith,
+        both_grow (choose (n - count_of s.other) (count_of s.own)) (rank_of (members s.other)) (rank_of (map (number_outside 0) (members (taken_back s u v).own))) x x'
+            (rank_of (map (number_outside s.other) (members s.own))) (rank_of (map (number_outside (taken_back s u v).own) (members s.own))) y y'
+            (e ∙ ap (λ r. r + x) (turned_rank n low s placed own_few other_few mover moved)) (f ∙ ap (λ r. r + y) (turned_within n low s placed own_few other_few waiting renumbered)),
+        before_index n low c s placed own_few other_few u v u_in free_own free_other here,
+        turned_index n low s placed own_few other_few c,
+      )
+
+  pub lower_index : u < v → index_of n c (taken_back s u v) + lower_taken_back n s v ≡ index_of n c (sides s.other s.own) + lower_taken_back n s u
+  lower_index down =
+      grown (lower_moved 0 s.other u) (lower_moved 0 s.other v) (lower_renumbered s.other s.own u) (lower_renumbered s.other s.own v)
+      (rank_down 0 s.other u v (within_24 s.other n placed.other_within low) free_other here (omega arith) (omega (arith, v_in)) mover moved down)
+      (renumbered_down s.other s.own u v (within_24 s.own n placed.own_within low) placed.apart free_other here free_own (omega arith) (omega (arith, v_in)) waiting renumbered down)
+
+  pub higher_index : v < u → index_of n c (taken_back s u v) + higher_taken_back n s v ≡ index_of n c (sides s.other s.own) + higher_taken_back n s u
+  higher_index up =
+      grown (higher_moved 0 s.other u) (higher_moved 0 s.other v) (higher_renumbered s.other s.own u) (higher_renumbered s.other s.own v)
+      (rank_up 0 s.other u v (within_24 s.other n placed.other_within low) free_other here (omega arith) (omega (arith, v_in)) mover moved up)
+      (renumbered_up s.other s.own u v (within_24 s.own n placed.own_within low) placed.apart free_other here free_own (omega arith) (omega (arith, v_in)) waiting renumbered up)
+
 -- ---- the position after a quiet move
 
 module _ (n : ℕ) (low : n ≤ 24) (c : Counts) (s : Sides) (placed : IsPlaced n s) (own_few : count_of s.own ≤ 9) (other_few : count_of s.other ≤ 9) (u v : ℕ)
@@ -168,21 +254,3 @@ module _ (n : ℕ) (low : n ≤ 24) (c : Counts) (s : Sides) (placed : IsPlaced 
 
 pub regrouped : (a b c : ℕ) → a + b + c ≡ a + (b + c)
 regrouped a b c = omega arith
-
--- the index that the positions begin with in which the player to move has the stones that the
--- opponent has here
-pub start_few : (n : ℕ) (s : Sides) → n ≤ 24 → IsPlaced n s → count_of s.own ≤ 9 → count_of s.other ≤ 9
-    → rank_of (members s.other) * choose (n - count_of s.other) (count_of s.own) < 1307504 * 1307504
-unfolding half_index
-start_few n s low placed own_few other_few =
-    omega (
-      arith,
-      half_index-few n (sides s.other s.own) low (record {
-        own_within = placed.other_within;
-        other_within = placed.own_within;
-        apart = λ p y. elim (cases_Bool (has s.own p)) [
-          | inl x ↦ absurd (both_ways (has s.other p) (placed.apart p x) y)
-          | inr x ↦ x
-        ];
-      }) other_few own_few,
-    )

@@ -7,7 +7,7 @@ use Rattle.morris_board.specs.Sets.{has, members, count_of, with_point, without_
 use Rattle.morris_board.proofs.PointsLaws.{has-with, has-without, has-above}
 use Rattle.morris_index.specs.Binomials.{choose}
 use Rattle.morris_index.specs.Numbering.{rank_of, number_outside}
-use Rattle.morris_index.specs.Sums.{total, term, sum_below, bias, IsMoved, IsRenumbered}
+use Rattle.morris_index.specs.Sums.{total, term, sum_below, bias, IsMoved, IsRenumbered, lower_moved, higher_moved, lower_renumbered, higher_renumbered}
 use Rattle.morris_index.specs.declared.sums.MovedSums.{MovedSums}
 use Rattle.morris_index.specs.declared.sums.RenumberedSums.{RenumberedSums}
 use Rattle.std.proofs.Math.Nat.{pow-le-pow_right}
@@ -189,8 +189,7 @@ module _ (outside s u v : ℕ) (within : s < 2 ^ 24) (free : has s u ≡ false) 
 
   module _ (sums : MovedSums) (is : IsMoved outside s sums) where
     pub rank_down : u < v
-        → rank_of (map number (members (after s u v free here))) + (slice_index sums.later (count_below (has s) v) + choose (number v) (count_below (has s) v + 1))
-        ≡ sums.rank + (slice_index sums.later (count_below (has s) u) + choose (number u) (count_below (has s) u + 1))
+        → rank_of (map number (members (after s u v free here))) + lower_moved outside s v ≡ sums.rank + lower_moved outside s u
     rank_down down = omega (
       arith,
       after_rank,
@@ -202,8 +201,7 @@ module _ (outside s u v : ℕ) (within : s < 2 ^ 24) (free : has s u ≡ false) 
     )
 
     pub rank_up : v < u
-        → rank_of (map number (members (after s u v free here))) + (slice_index sums.earlier (count_below (has s) v) + choose (number v) (count_below (has s) v))
-        ≡ sums.rank + (slice_index sums.earlier (count_below (has s) u) + choose (number u) (count_below (has s) u))
+        → rank_of (map number (members (after s u v free here))) + higher_moved outside s v ≡ sums.rank + higher_moved outside s u
     rank_up up =
         let e : count_below (has s) v + 0 ≡ count_below (has s) v = omega arith in
         omega (
@@ -234,7 +232,7 @@ module _ (outside s u v : ℕ) (within : s < 2 ^ 24) (apart : (p : ℕ) → has 
 
   module _ (sums : RenumberedSums) (is : IsRenumbered outside s sums) where
     pub renumbered_down : u < v
-        → rank_of (map (number_outside new) (members s)) + slice_index sums.before (count_below (has s) v) ≡ sums.rank + slice_index sums.before (count_below (has s) u)
+        → rank_of (map (number_outside new) (members s)) + lower_renumbered outside s v ≡ sums.rank + lower_renumbered outside s u
     renumbered_down down = omega (
       arith,
       new_rank,
@@ -264,7 +262,7 @@ module _ (outside s u v : ℕ) (within : s < 2 ^ 24) (apart : (p : ℕ) → has 
     )
 
     pub renumbered_up : v < u
-        → rank_of (map (number_outside new) (members s)) + slice_index sums.after (count_below (has s) v) ≡ sums.rank + slice_index sums.after (count_below (has s) u)
+        → rank_of (map (number_outside new) (members s)) + higher_renumbered outside s v ≡ sums.rank + higher_renumbered outside s u
     renumbered_up up = omega (
       arith,
       new_rank,
@@ -345,6 +343,12 @@ number-near : (outside p : ℕ) → number_outside outside p ≤ p + 1
 number-near outside p = omega (arith, number-count outside p)
 
 module _ (outside s : ℕ) (sums : MovedSums) (is : IsMoved outside s sums) where
+  pub later_is : (n : ℕ) → n ≤ 24 → slice_index sums.later (count_below (has s) n) + choose (number_outside outside n) (count_below (has s) n + 1) ≡ lower_moved outside s n
+  later_is n low = omega (arith, is.later n low)
+
+  pub earlier_is : (n : ℕ) → n ≤ 24 → slice_index sums.earlier (count_below (has s) n) + choose (number_outside outside n) (count_below (has s) n) ≡ higher_moved outside s n
+  earlier_is n low = omega (arith, is.earlier n low)
+
   pub later-few : (n : ℕ) → n ≤ 24 → slice_index sums.later (count_below (has s) n) ≤ 1100000000
   later-few n low = omega (arith, is.later n low, sum-few s (number_outside outside) 1 n low (number-near outside))
 
@@ -354,15 +358,24 @@ module _ (outside s : ℕ) (sums : MovedSums) (is : IsMoved outside s sums) wher
   pub rank-few : sums.rank ≤ 1000000000
   rank-few = omega (arith, is.rank, sum-few s (number_outside outside) 1 24 (omega arith) (number-near outside))
 
+  pub rank_is : s < 2 ^ 24 → sums.rank ≡ rank_of (map (number_outside outside) (members s))
+  rank_is within = is.rank ∙ sym (rank_set 24 outside (omega arith) s within ∙ rank-total outside (has s) 24)
+
 module _ (outside s : ℕ) (sums : RenumberedSums) (is : IsRenumbered outside s sums) where
+  pub before_is : (n : ℕ) → n ≤ 24 → slice_index sums.before (count_below (has s) n) ≡ lower_renumbered outside s n
+  before_is n low = omega (arith, is.before n low)
+
+  pub after_is : (n : ℕ) → n ≤ 24 → slice_index sums.after (count_below (has s) n) ≡ higher_renumbered outside s n
+  after_is n low = omega (arith, is.after n low)
+
   pub before-few : (n : ℕ) → n ≤ 24 → slice_index sums.before (count_below (has s) n) ≤ 1100000000
   before-few n low = omega (arith, is.before n low, sum-few s (number_outside outside) 1 n low (number-near outside))
 
   pub after-few : (n : ℕ) → n ≤ 24 → slice_index sums.after (count_below (has s) n) ≤ 1100000000
   after-few n low = omega (arith, is.after n low, sum-few s (λ p. number_outside outside p + 1) 1 n low (λ p. omega (arith, number-count outside p)))
 
-  pub rank-few' : sums.rank ≤ 1000000000
-  rank-few' = omega (arith, is.rank, sum-few s (number_outside outside) 1 24 (omega arith) (number-near outside))
+  pub rank_is' : s < 2 ^ 24 → sums.rank ≡ rank_of (map (number_outside outside) (members s))
+  rank_is' within = is.rank ∙ sym (rank_set 24 outside (omega arith) s within ∙ rank-total outside (has s) 24)
 
 -- no more stones stand below a point than there are
 pub few_passed : (s p : ℕ) → s < 2 ^ 24 → count_of s ≤ 9 → p ≤ 24 → count_below (has s) p ≤ 9

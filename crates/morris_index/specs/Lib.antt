@@ -12,5 +12,4 @@ pub mod Carried
 pub mod Facing
 pub mod Standings
 pub mod Halves
-pub mod KeptRanks
 pub mod EntryRows

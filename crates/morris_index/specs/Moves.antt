@@ -6,8 +6,8 @@ use Rattle.morris_board.specs.Sets.{members, count_of, with_point, without_point
 use Rattle.morris_board.specs.Positions.{Sides, sides, IsPosition}
 use Rattle.morris_index.specs.Binomials.{choose}
 use Rattle.morris_index.specs.Numbering.{rank_of, half_size}
-use Rattle.morris_index.specs.Pairs.{Counts, IsPair, is_of}
-use Rattle.morris_index.specs.Sums.{IsMoved, IsRenumbered}
+use Rattle.morris_index.specs.Pairs.{Counts, IsPair, is_of, index_of}
+use Rattle.morris_index.specs.Sums.{IsMoved, IsRenumbered, lower_moved, higher_moved, lower_renumbered, higher_renumbered}
 use Rattle.morris_index.specs.declared.sums.MovedSums.{MovedSums}
 use Rattle.morris_index.specs.declared.sums.RenumberedSums.{RenumberedSums}
 
@@ -28,14 +28,24 @@ taken_back s u v = sides (with_point (without_point s.other v) u) s.own
 abbrev pub start_of : ℕ → Counts → ℕ → ℕ
 start_of n c own = if nat_eq own c.greater then 0 else half_size n c.greater c.lesser
 
+-- What p comes to, on n points, where a stone of the opponent is taken back between p and a greater
+-- point: the index of the position before is that of s with the other player to move, and what the
+-- point comes to that the stone goes back to, less what the one that it leaves does.
+abbrev pub lower_taken_back : ℕ → Sides → ℕ → ℕ
+lower_taken_back n s p = lower_moved 0 s.other p * choose (n - count_of s.other) (count_of s.own) + lower_renumbered s.other s.own p
+
+-- the same where it is taken back between p and a lesser point
+abbrev pub higher_taken_back : ℕ → Sides → ℕ → ℕ
+higher_taken_back n s p = higher_moved 0 s.other p * choose (n - count_of s.other) (count_of s.own) + higher_renumbered s.other s.own p
+
 -- what is kept of a position, on n points, for the indices of those before it
-pub record IsTakenBack (board : Shape) (n : ℕ) (q : InPair) (mover : MovedSums) (waiting : RenumberedSums) (first sets : ℕ) : Type 0 where
+pub record IsTakenBack (board : Shape) (n : ℕ) (q : InPair) (mover : MovedSums) (waiting : RenumberedSums) (index sets : ℕ) : Type 0 where
   pub counts : is_of q.pair q.position ≡ true
   pub lawful : IsPosition board q.position
   pub pair : IsPair n q.pair
   pub moved : IsMoved 0 q.position.other mover
   pub renumbered : IsRenumbered q.position.other q.position.own waiting
-  pub start : first ≡ start_of n q.pair (count_of q.position.other)
+  pub turned : index ≡ index_of n q.pair (sides q.position.other q.position.own)
   pub choices : sets ≡ choose (n - count_of q.position.other) (count_of q.position.own)
 
 -- The position after a quiet move from u to v: the stone stands on v, and the opponent is to move.

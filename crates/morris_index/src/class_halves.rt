@@ -78,13 +78,6 @@ impl<'a, B: Geometry> Half<'a, B> {
         }
     }
 
-    /// How many stones the player to move has.
-    pub(crate) fn own(&self) -> u8
-        ensures { result ≡ self.now.own }
-    {
-        self.own
-    }
-
     /// The first entry in which the player to move stands on the representative of the class of
     /// `own`, this representative, all symmetries that lead `own` there, and the class.
     pub(crate) fn leads_of(&self, own: Points) -> (u64, Outside, Points, u32)

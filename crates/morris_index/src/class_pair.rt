@@ -196,17 +196,6 @@ impl<B: Geometry> ClassPair<B> {
         Half::of(self.pair, own, other, classes, &self.ranks, first, choices)
     }
 
-    /// How many classes there are of three points, if a player has as many stones.
-    pub(crate) fn three_stone_classes(&self) -> usize
-        ensures { result ≤ 1307504 }
-    {
-        if self.pair.lesser() == 3 {
-            self.lesser.count() as usize
-        } else {
-            0
-        }
-    }
-
     /// The rank of `set` among the sets of as many points, which are `count`, that have none in
     /// common with `outside`.
     pub(crate) fn rank_outside(&self, set: Points, count: u8, outside: Outside) -> u64

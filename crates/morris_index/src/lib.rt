@@ -12,7 +12,6 @@ pub mod facing;
 pub mod falls;
 pub mod faults;
 mod halves;
-pub mod kept_ranks;
 pub mod pair;
 mod part_tables;
 mod parts;

@@ -1,20 +1,14 @@
 //! The entries of the positions before a position, where they are numbered by classes.
-ghost use Rattle.std.specs.Prelude.{◌≡◌, ℕ, ◌<◌, ◌^◌, ◌||◌, ◌++◌, not, true, false, map, OnOk};
-ghost use Rattle.morris_board.specs.Sets.{has, members, count_of};
-ghost use Rattle.morris_board.specs.Symmetries.{image_of};
-ghost use Rattle.morris_index.specs.Classes.{class_of, representative_of};
-ghost use Rattle.morris_index.specs.Numbering.{rank_of, number_outside};
+ghost use Rattle.std.specs.Prelude.{◌≡◌, ◌<◌, ◌||◌, ◌++◌, not, true, OnOk};
+ghost use Rattle.morris_board.specs.Sets.{has};
 ghost use Rattle.morris_index.specs.Pairs.{is_of};
 ghost use Rattle.morris_index.specs.Moves.{in_pair};
 ghost use Rattle.morris_index.specs.Carried.{entries_before, AddsEntries};
 
 use crate::class_halves::Half;
 use crate::class_pair::ClassPair;
-use crate::kept_ranks::KeptRanks;
 use crate::returning::Returning;
-use crate::rings::Outside;
 use morris_board::board::Geometry;
-use morris_board::points::Points;
 use morris_board::position::Position;
 use std::alloc::AllocError;
 use std::marker::Model;
@@ -68,52 +62,15 @@ impl<'a, B: Geometry> PredecessorEntries<'a, B> {
         }
     }
 
-    /// The rank of the image of the stones of the player to move under a symmetry of the board,
-    /// outside the representative of the class of `mover`.
-    fn rank(
-        &self,
-        mover: Points,
-        class: u32,
-        representative: Outside,
-        symmetry: u8,
-        ranks: &mut KeptRanks<B>,
-    ) -> u64
-        requires within { mover < 2 ^ B.POINTS }
-        requires count { count_of mover ≡ count_of self.now.position.other }
-        requires class { class ≡ class_of B.shape mover }
-        requires representative { representative ≡ representative_of B.shape mover }
-        requires symmetry { symmetry < B.SYMMETRIES }
-        requires apart { (p : ℕ) → has (image_of (B.shape.image symmetry) self.now.position.own) p ≡ true → has (representative_of B.shape mover) p ≡ false }
-        ensures { result ≡ rank_of (map (number_outside (representative_of B.shape mover)) (members (image_of (B.shape.image symmetry) self.now.position.own))) }
-    {
-        let own = self.position.own();
-        let count = self.before.own();
-        if let Some(rank) = ranks.get(own, count, class, symmetry) {
-            return rank;
-        }
-        let image = self.returning.image(symmetry);
-        let rank = self.pair.rank_outside(image, self.count, representative);
-        ranks.put(own, count, class, symmetry, rank);
-        rank
-    }
-
     /// Adds the entries of the positions from which a quiet move leads to the entry of this one and
     /// comes down to the move from `from` to `to`: the symmetry that leads the position after it
     /// leads that one to this, and takes the points of the move to `from` and `to`. There is an
     /// entry for each such move, mostly one. A stone of the opponent stands on `to`, and `from` is
     /// vacant.
     ///
-    /// `ranks` may be any that were kept; what is found is kept there too.
-    ///
     /// # Errors
     /// [`AllocError`] where memory runs out. Then some of the entries may have been added.
-    pub fn add(
-        &self,
-        from: u8,
-        to: u8,
-        ranks: &mut KeptRanks<B>,
-        out: &mut Vec<u64>,
-    ) -> Result<(), AllocError>
+    pub fn add(&self, from: u8, to: u8, out: &mut Vec<u64>) -> Result<(), AllocError>
         requires start { from < B.POINTS }
         requires vacant { not (has self.now.position.own from || has self.now.position.other from) ≡ true }
         requires end { has self.now.position.other to ≡ true }
@@ -122,11 +79,11 @@ impl<'a, B: Geometry> PredecessorEntries<'a, B> {
         ensures carried { OnOk result (out.new.items ≡ out.old.items ++ entries_before B.shape B.POINTS self.now.pair self.now.position from to) }
     {
         let mover = self.position.other().without(to).with(from);
-        let (start, representative, leading, class) = self.before.leads_of(mover);
+        let (start, representative, leading, _) = self.before.leads_of(mover);
         let carrying = leading.common(self.returning.symmetries);
         for symmetry in carrying.iter() {
-            let rank = self.rank(mover, class, representative, symmetry, ranks);
-            out.push(start + rank)?;
+            let image = self.returning.image(symmetry);
+            out.push(start + self.pair.rank_outside(image, self.count, representative))?;
         }
         Ok(())
     }

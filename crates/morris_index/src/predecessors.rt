@@ -1,8 +1,8 @@
 //! The indices of the positions before a position.
-ghost use Rattle.std.specs.Prelude.{◌≡◌, ◌<◌, ◌||◌, not, true};
-ghost use Rattle.morris_board.specs.Sets.{has};
+ghost use Rattle.std.specs.Prelude.{◌≡◌, ℕ, ◌<◌, ◌^◌, ◌||◌, ◌++◌, not, true, map, OnOk};
+ghost use Rattle.morris_board.specs.Sets.{has, members};
 ghost use Rattle.morris_index.specs.Pairs.{is_of, index_of};
-ghost use Rattle.morris_index.specs.Moves.{in_pair, taken_back};
+ghost use Rattle.morris_index.specs.Moves.{in_pair, taken_back, lower_taken_back, higher_taken_back};
 
 use crate::binomials::binomial;
 use crate::pair::Pair;
@@ -10,6 +10,7 @@ use crate::sums::{MovedSums, RenumberedSums};
 use morris_board::board::Geometry;
 use morris_board::points::Points;
 use morris_board::position::Position;
+use std::alloc::AllocError;
 use std::marker::Model;
 
 /// What is kept of a position, so that the index of each position before a quiet move to it is
@@ -25,9 +26,8 @@ pub struct PredecessorIndices<B: Geometry> {
     moved: MovedSums,
     /// The sums of the stones of the player to move, which stay.
     renumbered: RenumberedSums,
-    /// The index of the first position in which the player to move has as many stones as the
-    /// opponent has here.
-    start: u64,
+    /// The index of the position with the same stones in which the opponent is to move.
+    turned: u64,
     /// How many sets of as many stones as the player to move has here there are outside the stones
     /// of the opponent.
     choices: u64,
@@ -40,7 +40,7 @@ impl<B: Geometry> Model for PredecessorIndices<B> {
 
     ghost view = { λ indices. in_pair indices.pair indices.position };
 
-    ghost invariant = { λ indices. IsTakenBack B.shape B.POINTS (in_pair indices.pair indices.position) indices.moved indices.renumbered indices.start indices.choices };
+    ghost invariant = { λ indices. IsTakenBack B.shape B.POINTS (in_pair indices.pair indices.position) indices.moved indices.renumbered indices.turned indices.choices };
 }
 
 impl<B: Geometry> PredecessorIndices<B> {
@@ -53,14 +53,43 @@ impl<B: Geometry> PredecessorIndices<B> {
     {
         let own = position.own();
         let other = position.other();
+        let moved = MovedSums::of(other, Points::EMPTY);
+        let renumbered = RenumberedSums::of(own, other);
+        let choices = binomial(B::POINTS - other.count(), own.count());
         PredecessorIndices {
             pair: *pair,
             position: *position,
-            moved: MovedSums::of(other, Points::EMPTY),
-            renumbered: RenumberedSums::of(own, other),
-            start: pair.start_of(other.count()),
-            choices: binomial(B::POINTS - other.count(), own.count()),
+            moved,
+            renumbered,
+            turned: pair.start_of(other.count()) + (moved.rank * choices + renumbered.rank),
+            choices,
         }
+    }
+
+    /// What `point` comes to where a stone of the opponent is taken back between it and a greater
+    /// one: added to the index for the point that it goes back to, and taken away for the one that
+    /// it leaves.
+    fn lower(&self, point: u8) -> u64
+        requires { point < B.POINTS }
+        ensures value { result ≡ lower_taken_back B.POINTS self.now.position point }
+        ensures few { result < 2 ^ 60 }
+    {
+        let own = self.position.own();
+        let other = self.position.other();
+        self.moved.lower(Points::EMPTY, other, point) * self.choices
+            + self.renumbered.lower(other, own, point)
+    }
+
+    /// The same where it is taken back between `point` and a lesser one.
+    fn higher(&self, point: u8) -> u64
+        requires { point < B.POINTS }
+        ensures value { result ≡ higher_taken_back B.POINTS self.now.position point }
+        ensures few { result < 2 ^ 60 }
+    {
+        let own = self.position.own();
+        let other = self.position.other();
+        self.moved.higher(Points::EMPTY, other, point) * self.choices
+            + self.renumbered.higher(other, own, point)
     }
 
     /// The index of the position before a quiet move from `from` to `to` led to the position: a
@@ -71,10 +100,56 @@ impl<B: Geometry> PredecessorIndices<B> {
         requires end { has self.now.position.other to ≡ true }
         ensures { result ≡ index_of B.POINTS self.now.pair (taken_back self.now.position from to) }
     {
-        let own = self.position.own();
-        let other = self.position.other();
-        let rank = self.moved.rank(Points::EMPTY, other, to, from);
-        let rank_within = self.renumbered.rank(other, own, to, from);
-        self.start + (rank * self.choices + rank_within)
+        if from < to {
+            (self.turned + self.lower(from)) - self.lower(to)
+        } else {
+            (self.turned + self.higher(from)) - self.higher(to)
+        }
+    }
+
+    /// Adds what [`PredecessorIndices::add`] adds, for sources below `to`.
+    fn add_lower(&self, to: u8, sources: Points, out: &mut Vec<u64>) -> Result<(), AllocError>
+        requires end { has self.now.position.other to ≡ true }
+        requires sources { (p : ℕ) → has sources p ≡ true → (p < to) × (not (has self.now.position.own p || has self.now.position.other p) ≡ true) }
+        ensures { OnOk result (out.new.items ≡ out.old.items ++ map (λ p. index_of B.POINTS self.now.pair (taken_back self.now.position p to)) (members sources)) }
+    {
+        let turned = self.turned;
+        let gone = self.lower(to);
+        for from in sources.iter() {
+            out.push((turned + self.lower(from)) - gone)?;
+        }
+        Ok(())
+    }
+
+    /// Adds what [`PredecessorIndices::add`] adds, for sources past `to`.
+    fn add_higher(&self, to: u8, sources: Points, out: &mut Vec<u64>) -> Result<(), AllocError>
+        requires end { has self.now.position.other to ≡ true }
+        requires sources { (p : ℕ) → has sources p ≡ true → (to < p) × (p < B.POINTS) × (not (has self.now.position.own p || has self.now.position.other p) ≡ true) }
+        ensures { OnOk result (out.new.items ≡ out.old.items ++ map (λ p. index_of B.POINTS self.now.pair (taken_back self.now.position p to)) (members sources)) }
+    {
+        let turned = self.turned;
+        let gone = self.higher(to);
+        for from in sources.iter() {
+            out.push((turned + self.higher(from)) - gone)?;
+        }
+        Ok(())
+    }
+
+    /// Adds the indices of the positions before the quiet moves to `to` from each of `sources`, in
+    /// ascending order of these: a stone of the opponent stands on `to`, and the sources are
+    /// vacant.
+    ///
+    /// # Errors
+    /// [`AllocError`] where memory runs out. Then some of the indices may have been added.
+    pub fn add(&self, to: u8, sources: Points, out: &mut Vec<u64>) -> Result<(), AllocError>
+        requires end { has self.now.position.other to ≡ true }
+        requires sources { (p : ℕ) → has sources p ≡ true → (p < B.POINTS) × (not (has self.now.position.own p || has self.now.position.other p) ≡ true) }
+        ensures { OnOk result (out.new.items ≡ out.old.items ++ map (λ p. index_of B.POINTS self.now.pair (taken_back self.now.position p to)) (members sources)) }
+    {
+        // The proof learns here that `to` is a point of the board.
+        let _ = self.position.other();
+        let below = Points::below(to);
+        self.add_lower(to, sources.common(below), out)?;
+        self.add_higher(to, sources.less(below), out)
     }
 }

@@ -2,7 +2,7 @@
 ghost use Rattle.std.specs.Prelude.{◌≡◌, ℕ, suc, ◌+◌, ◌<◌, ◌≤◌, ◌^◌, true, false, map};
 ghost use Rattle.morris_board.specs.Sets.{has, members, count_of, with_point, without_point};
 ghost use Rattle.morris_index.specs.Numbering.{rank_of, number_outside};
-ghost use Rattle.morris_index.specs.Sums.{IsMoved, IsRenumbered};
+ghost use Rattle.morris_index.specs.Sums.{IsMoved, IsRenumbered, lower_moved, higher_moved, lower_renumbered, higher_renumbered};
 
 use crate::binomials::binomial;
 use crate::ranks::number_outside;
@@ -18,12 +18,12 @@ const BIAS: u64 = 33_554_432;
 pub(crate) struct MovedSums {
     /// For each number of stones, what the first so many of them add to the rank less what they add
     /// a place later, and [`BIAS`].
-    later: [u64; 10],
+    later: [u32; 10],
     /// For each number of stones, what the first so many of them add a place earlier less what they
     /// add to the rank, and [`BIAS`].
-    earlier: [u64; 10],
+    earlier: [u32; 10],
     /// The rank of the set.
-    rank: u64,
+    pub(crate) rank: u64,
 }
 
 impl MovedSums {
@@ -33,8 +33,8 @@ impl MovedSums {
         requires few { count_of set ≤ 9 }
         ensures { IsMoved outside set result }
     {
-        let mut later = [BIAS; 10];
-        let mut earlier = [BIAS; 10];
+        let mut later = [BIAS as u32; 10];
+        let mut earlier = [BIAS as u32; 10];
         let mut rank = 0;
         let mut rank_later = 0;
         let mut rank_earlier = 0;
@@ -45,14 +45,42 @@ impl MovedSums {
             rank += binomial(number, place);
             rank_later += binomial(number, place + 1);
             rank_earlier += binomial(number, place - 1);
-            later[place as usize] = (BIAS + rank) - rank_later;
-            earlier[place as usize] = (BIAS + rank_earlier) - rank;
+            later[place as usize] = ((BIAS + rank) - rank_later) as u32;
+            earlier[place as usize] = ((BIAS + rank_earlier) - rank) as u32;
         }
         MovedSums {
             later,
             earlier,
             rank,
         }
+    }
+
+    /// What `point` and the stones of `set`, the set of these sums, below it come to where a stone
+    /// moves between `point` and a greater one: added for the point that it goes to, and taken away
+    /// for the one that it leaves.
+    pub(crate) fn lower(&self, outside: Points, set: Points, point: u8) -> u64
+        requires sums { IsMoved outside set self.now }
+        requires board { set < 2 ^ 24 }
+        requires few { count_of set ≤ 9 }
+        requires point { point < 24 }
+        ensures value { result ≡ lower_moved outside set point }
+        ensures few { result ≤ 1200000000 }
+    {
+        let place = set.count_below(point);
+        u64::from(self.later[place as usize]) + binomial(number_outside(outside, point), place + 1)
+    }
+
+    /// The same where it moves between `point` and a lesser one.
+    pub(crate) fn higher(&self, outside: Points, set: Points, point: u8) -> u64
+        requires sums { IsMoved outside set self.now }
+        requires board { set < 2 ^ 24 }
+        requires few { count_of set ≤ 9 }
+        requires point { point < 24 }
+        ensures value { result ≡ higher_moved outside set point }
+        ensures few { result ≤ 1200000000 }
+    {
+        let place = set.count_below(point);
+        u64::from(self.earlier[place as usize]) + binomial(number_outside(outside, point), place)
     }
 
     /// The rank of `set`, the set of these sums, once its stone on `from` has gone to `to`.
@@ -66,18 +94,10 @@ impl MovedSums {
         requires to { to < 24 }
         ensures { result ≡ rank_of (map (number_outside outside) (members (with_point (without_point set from) to))) }
     {
-        let number_from = number_outside(outside, from);
-        let number_to = number_outside(outside, to);
-        let place_from = set.count_below(from);
-        let place_to = set.count_below(to);
         if to < from {
-            let gone = self.later[place_from as usize] + binomial(number_from, place_from + 1);
-            let come = self.later[place_to as usize] + binomial(number_to, place_to + 1);
-            (self.rank + come) - gone
+            (self.rank + self.lower(outside, set, to)) - self.lower(outside, set, from)
         } else {
-            let gone = self.earlier[place_from as usize] + binomial(number_from, place_from);
-            let come = self.earlier[place_to as usize] + binomial(number_to, place_to);
-            (self.rank + come) - gone
+            (self.rank + self.higher(outside, set, to)) - self.higher(outside, set, from)
         }
     }
 }
@@ -89,12 +109,12 @@ impl MovedSums {
 pub(crate) struct RenumberedSums {
     /// For each number of stones, what the first so many of them add to the rank less what they add
     /// by the number before, and [`BIAS`].
-    before: [u64; 10],
+    before: [u32; 10],
     /// For each number of stones, what the first so many of them add by the number after less what
     /// they add to the rank, and [`BIAS`].
-    after: [u64; 10],
+    after: [u32; 10],
     /// The rank of the set.
-    rank: u64,
+    pub(crate) rank: u64,
 }
 
 impl RenumberedSums {
@@ -104,8 +124,8 @@ impl RenumberedSums {
         requires few { count_of set ≤ 9 }
         ensures { IsRenumbered outside set result }
     {
-        let mut before = [BIAS; 10];
-        let mut after = [BIAS; 10];
+        let mut before = [BIAS as u32; 10];
+        let mut after = [BIAS as u32; 10];
         let mut rank = 0;
         let mut rank_before = 0;
         let mut rank_after = 0;
@@ -116,8 +136,8 @@ impl RenumberedSums {
             rank += binomial(number, place);
             rank_before += binomial(number.saturating_sub(1), place);
             rank_after += binomial(number + 1, place);
-            before[place as usize] = (BIAS + rank) - rank_before;
-            after[place as usize] = (BIAS + rank_after) - rank;
+            before[place as usize] = ((BIAS + rank) - rank_before) as u32;
+            after[place as usize] = ((BIAS + rank_after) - rank) as u32;
         }
         RenumberedSums {
             before,
@@ -126,26 +146,29 @@ impl RenumberedSums {
         }
     }
 
-    /// The rank of `set`, the set of these sums, once the stone on `from` of those outside which it
-    /// is numbered has gone to `to`.
-    pub(crate) fn rank(&self, outside: Points, set: Points, from: u8, to: u8) -> u64
+    /// What the stones of `set`, the set of these sums, below `point` come to where a stone outside
+    /// which they are numbered moves between `point` and a greater one: added for the point that it
+    /// goes to, and taken away for the one that it leaves.
+    pub(crate) fn lower(&self, outside: Points, set: Points, point: u8) -> u64
         requires sums { IsRenumbered outside set self.now }
         requires board { set < 2 ^ 24 }
         requires few { count_of set ≤ 9 }
-        requires apart { (p : ℕ) → has set p ≡ true → has outside p ≡ false }
-        requires start { has outside from ≡ true }
-        requires end { has outside to ≡ false }
-        requires vacant { has set to ≡ false }
-        requires from { from < 24 }
-        requires to { to < 24 }
-        ensures { result ≡ rank_of (map (number_outside (with_point (without_point outside from) to)) (members set)) }
+        requires point { point < 24 }
+        ensures value { result ≡ lower_renumbered outside set point }
+        ensures few { result ≤ 1200000000 }
     {
-        let passed_from = set.count_below(from) as usize;
-        let passed_to = set.count_below(to) as usize;
-        if to < from {
-            (self.rank + self.before[passed_to]) - self.before[passed_from]
-        } else {
-            (self.rank + self.after[passed_to]) - self.after[passed_from]
-        }
+        u64::from(self.before[set.count_below(point) as usize])
+    }
+
+    /// The same where it moves between `point` and a lesser one.
+    pub(crate) fn higher(&self, outside: Points, set: Points, point: u8) -> u64
+        requires sums { IsRenumbered outside set self.now }
+        requires board { set < 2 ^ 24 }
+        requires few { count_of set ≤ 9 }
+        requires point { point < 24 }
+        ensures value { result ≡ higher_renumbered outside set point }
+        ensures few { result ≤ 1200000000 }
+    {
+        u64::from(self.after[set.count_below(point) as usize])
     }
 }

@@ -10,7 +10,6 @@ use morris_board::grid::Grid;
 use morris_board::nine::Nine;
 use morris_board::position::Position;
 use morris_index::class_pair::ClassPair;
-use morris_index::kept_ranks::KeptRanks;
 use morris_index::pair::Pair;
 use morris_index::predecessor_entries::PredecessorEntries;
 use morris_index::successor_entries::SuccessorEntries;
@@ -108,8 +107,7 @@ fn assert_before<B: Geometry>(
     let other = position.other();
     assert!(rt; other.has(to) && !position.own().joined(other).has(from));
     let mut found = Vec::new(alloc);
-    let ranks = &mut KeptRanks::none(alloc);
-    let added = PredecessorEntries::of(entries, position).add(from, to, ranks, &mut found);
+    let added = PredecessorEntries::of(entries, position).add(from, to, &mut found);
     holds(
         rt,
         added.is_ok() && found.as_slice() == wanted,

@@ -85,6 +85,13 @@ module _ (l : Layout) (b : Shape) (n : ℕ) (c : Counts) (p : Sides) where
       ∙ flat_map-append (λ (m : Move). leads_from l b n c p m.from m.to) (map (λ u. move u v None) us) (move u v None ∷ [])
       ∙ ap (λ xs. flat_map (λ (m : Move). leads_from l b n c p m.from m.to) (map (λ u. move u v None) us) ++ xs) (append-nil (leads_from l b n c p u v)))
 
+-- among all positions, they are the indices of those before the moves
+pub leading_by_index : (b : Shape) (n : ℕ) (c : Counts) (p : Sides) (v : ℕ) (us : List ℕ)
+    → map (λ u. index_of n c (taken_back p u v)) us ≡ entries_leading Full b n c p (map (λ u. move u v None) us)
+unfolding entries_leading
+leading_by_index b n c p v [] = refl
+leading_by_index b n c p v (u ∷ us) = ap (λ (xs : List ℕ). index_of n c (taken_back p u v) ∷ xs) (leading_by_index b n c p v us)
+
 -- a step of the loop over the stones
 pub next_points : (ys : List ℕ) (v old new : ℕ) (xs : List ℕ) → ys ++ members old ≡ xs → members old ≡ v ∷ members new → (ys ++ v ∷ []) ++ members new ≡ xs
 next_points ys v old new xs h e = append_assoc ys (v ∷ []) (members new) ∙ (ap (λ zs. ys ++ zs) (sym e) ∙ h)

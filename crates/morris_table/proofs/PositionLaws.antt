@@ -3,11 +3,11 @@
 use Rattle.std.proofs.Common.{◌≡◌, ◌≢◌, ℕ, zero, suc, ◌-◌, ◌/◌, ◌%◌, ◌^◌, ◌<◌, ◌≤◌, true, [], ◌∷◌, refl, sym, ap, ap₂, ◌∙◌, inl, inr, arith}
 use Rattle.std.proofs.lemmas.Bool.{cases_Bool, cases_eq, cases_lt, both_ways, and_from, eq-eqb, false_from_ne_true}
 use Rattle.morris_board.specs.Boards.{Shape}
-use Rattle.morris_board.specs.Sets.{has, count_of}
+use Rattle.morris_board.specs.Sets.{count_of}
 use Rattle.morris_board.specs.Positions.{Sides, sides, IsPosition}
 use Rattle.morris_board.specs.Symmetries.{HasSymmetries}
 use Rattle.morris_index.specs.Binomials.{choose}
-use Rattle.morris_index.specs.Numbering.{number_outside, half_size, half_index, IsRanked}
+use Rattle.morris_index.specs.Numbering.{half_size, half_index, IsRanked}
 use Rattle.morris_index.specs.Pairs.{Counts, IsPair, has_counts, is_of, size_of, index_of}
 use Rattle.morris_index.specs.Classes.{representative_of, is_representative, classes_below, class_of, class_count}
 use Rattle.morris_index.specs.ClassPairs.{class_half_size, class_half_index, class_size_of, class_index_of}

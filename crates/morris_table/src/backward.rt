@@ -1,9 +1,7 @@
 //! The entries from which a quiet move leads to an entry.
-ghost use Rattle.std.specs.Prelude.{◌≡◌, ℕ, ◌<◌, ◌≤◌, ◌&&◌, [], ◌++◌, true, None, OnOk, OnErr, nat_lt, map, vec_len};
+ghost use Rattle.std.specs.Prelude.{◌≡◌, ℕ, ◌<◌, ◌≤◌, [], ◌++◌, true, OnOk, OnErr, vec_len};
 ghost use Rattle.std.specs.List.{All, sum_by};
-ghost use Rattle.morris_board.specs.Sets.{has, members};
-ghost use Rattle.morris_moves.specs.Rules.{move};
-ghost use Rattle.morris_moves.specs.Backward.{has_come};
+ghost use Rattle.morris_board.specs.Sets.{has};
 ghost use Rattle.morris_index.specs.Pairs.{IsPair, is_of};
 ghost use Rattle.morris_wave.specs.Nets.{times};
 ghost use Rattle.morris_table.specs.Entries.{entry_count, entry_index, has_own_entry};
@@ -13,33 +11,11 @@ ghost use Rattle.morris_table.specs.Backward.{moves_into, entries_leading, AddsB
 
 use crate::numbering::{Numbering, Predecessors};
 use morris_board::board::Geometry;
-use morris_board::points::Points;
 use morris_board::position::Position;
-use morris_index::kept_ranks::KeptRanks;
 use morris_index::predecessor_entries::PredecessorEntries;
 use morris_index::predecessors::PredecessorIndices;
 use morris_moves::backward::sources;
-use std::alloc::{AllocError, Global};
-
-/// Adds the entries from which the quiet moves of a stone to `to` from one of `points` lead to the
-/// entry of the position of `before`, in order of the point that it left.
-fn add_from<B: Geometry>(
-    before: &Predecessors<'_, B>,
-    to: u8,
-    points: Points,
-    ranks: &mut KeptRanks<B>,
-    out: &mut Vec<u64>,
-) -> Result<(), AllocError>
-    requires end { has (position_after before.now).position.other to ≡ true }
-    requires sources { (u : ℕ) → has points u ≡ (nat_lt u B.POINTS && has_come B.shape (position_after before.now).position (move u to None)) }
-    ensures { OnOk result (out.new.items ≡ out.old.items
-        ++ entries_leading (layout_before before.now) B.shape B.POINTS (position_after before.now).pair (position_after before.now).position (map (λ u. move u to None) (members points))) }
-{
-    for from in points.iter() {
-        before.add(from, to, ranks, out)?;
-    }
-    Ok(())
-}
+use std::alloc::AllocError;
 
 /// Adds the entries from which the quiet moves of a stone to `to` that led to `position` lead to
 /// its entry.
@@ -47,7 +23,6 @@ fn add_leading<B: Geometry>(
     before: &Predecessors<'_, B>,
     position: &Position<B>,
     to: u8,
-    ranks: &mut KeptRanks<B>,
     out: &mut Vec<u64>,
 ) -> Result<(), AllocError>
     requires position { (position_after before.now).position ≡ position.now }
@@ -57,7 +32,7 @@ fn add_leading<B: Geometry>(
 {
     // The proof learns the rules of a position where its stones are read.
     let _ = position.other();
-    add_from(before, to, sources(position, to), ranks, out)
+    before.add(to, sources(position, to), out)
 }
 
 /// Adds the entries from which a quiet move leads to the entry of the position of `before`: see
@@ -65,7 +40,6 @@ fn add_leading<B: Geometry>(
 fn add_all_leading<B: Geometry>(
     before: &Predecessors<'_, B>,
     position: &Position<B>,
-    ranks: &mut KeptRanks<B>,
     out: &mut Vec<u64>,
 ) -> Result<(), AllocError>
     requires position { (position_after before.now).position ≡ position.now }
@@ -75,17 +49,16 @@ fn add_all_leading<B: Geometry>(
     ensures { OnOk result (AddsBefore (layout_before before.now) B.shape B.POINTS (position_after before.now).pair position.now out.old.items out.new.items) }
 {
     for to in position.other().iter() {
-        add_leading(before, position, to, ranks, out)?;
+        add_leading(before, position, to, out)?;
     }
     Ok(())
 }
 
-/// Adds what [`list_entries_before`] lists, where ranks may be kept already; what is found is kept
-/// there too. After a refusal some of the entries may have been added.
+/// Adds what [`list_entries_before`] lists. After a refusal some of the entries may have been
+/// added.
 fn add_entries_before<B: Geometry>(
     numbering: &Numbering<B>,
     position: &Position<B>,
-    ranks: &mut KeptRanks<B>,
     out: &mut Vec<u64>,
 ) -> Result<(), AllocError>
     requires counts { is_of (pair_of numbering.now) position.now ≡ true }
@@ -97,11 +70,11 @@ fn add_entries_before<B: Geometry>(
     match numbering {
         Numbering::Full(pair) => {
             let indices = PredecessorIndices::of(pair, position);
-            add_all_leading(&Predecessors::Full(&indices), position, ranks, out)
+            add_all_leading(&Predecessors::Full(&indices), position, out)
         }
         Numbering::Classes(classes) => {
             let entries = PredecessorEntries::of(classes, position);
-            add_all_leading(&Predecessors::Classes(&entries), position, ranks, out)
+            add_all_leading(&Predecessors::Classes(&entries), position, out)
         }
     }
 }
@@ -129,9 +102,8 @@ pub(crate) fn list_entries_before<B: Geometry>(
     ensures few { OnOk result (vec_len out.new ≤ 65535) }
     ensures err { OnErr result (out.new.items ≡ []) }
 {
-    let ranks = &mut KeptRanks::none(*out.allocator());
     out.clear();
-    if let Err(refusal) = add_entries_before(numbering, position, ranks, out) {
+    if let Err(refusal) = add_entries_before(numbering, position, out) {
         out.clear();
         return Err(refusal);
     }
@@ -143,7 +115,6 @@ pub(crate) fn list_entries_before<B: Geometry>(
 ///
 /// The vector is emptied first. It is empty after a refusal.
 pub(crate) fn list_before_all<B: Geometry>(
-    alloc: Global,
     numbering: &Numbering<B>,
     entries: &[u64],
     out: &mut Vec<u64>,
@@ -155,10 +126,9 @@ pub(crate) fn list_before_all<B: Geometry>(
     ensures err { OnErr result (out.new.items ≡ []) }
 {
     out.clear();
-    let mut ranks = numbering.kept_ranks(alloc)?;
     for entry in entries {
         let position = numbering.position(*entry);
-        if add_entries_before(numbering, &position, &mut ranks, out).is_err() {
+        if add_entries_before(numbering, &position, out).is_err() {
             out.clear();
             return Err(AllocError);
         }

@@ -151,10 +151,10 @@ impl<'a, B: Board> Graph for ClassGraph<'a, B> {
 
     fn back_from(
         &self,
-        alloc: Global,
+        _alloc: Global,
         nodes: &[u64],
         out: &mut Vec<u64>,
     ) -> Result<(), AllocError> {
-        list_before_all(alloc, &self.numbering, nodes, out)
+        list_before_all(&self.numbering, nodes, out)
     }
 }

@@ -151,41 +151,9 @@ fn with_captures<B: Geometry>(
     exits
 }
 
-/// The summary of the captures of a stone that stands where no move closes a mill: that which is
-/// kept of the stones that are left, or one that is kept from now on.
-fn captures_kept<B: Geometry>(
-    table: &Exact<B>,
-    row: &Row,
-    position: &Position<B>,
-    taken: u8,
-    ends: Points,
-    kept: &mut KeptCaptures,
-) -> Exits
-    requires table { IsTableOf B.shape (captured_pair position.now) table.now }
-    requires row { IsRow B.shape B.POINTS row.now }
-    requires own { row.now.own ≡ position.now.own }
-    requires lawful { IsPosition B.shape position.now }
-    requires taken { has (takable B.shape position.now.other) taken ≡ true }
-    requires apart { has row.now.closing taken ≡ false }
-    requires ends { (v : ℕ) → has ends v ≡ (has row.now.closing v && not (has position.now.other v)) }
-    requires of { kept.old.own ≡ row.now.own }
-    requires kept { AreKept B.shape kept.old }
-    ensures value { result ≡ exits_by B.shape position.now (captures_to row.now.closers taken (members ends)) }
-    ensures of { kept.new.own ≡ kept.old.own }
-    ensures kept { AreKept B.shape kept.new }
-{
-    let other = position.other();
-    let left = other.without(taken);
-    if let Some(results) = kept.get(left) {
-        return results;
-    }
-    let results = with_captures(table, row, position, taken, ends, Exits::NONE);
-    kept.put(left, results);
-    results
-}
-
-/// The summary of the captures of the stone on `taken`: looked up among those that are kept, unless
-/// it stands where a move closes a mill, and so in the way of that move.
+/// The summary of the captures of the stone on `taken`: that which is kept of the stones that are
+/// left, or one that is kept from now on. Nothing is kept of a stone that stands where a move
+/// closes a mill, since it is in the way of that move.
 fn captures_of<B: Geometry>(
     table: &Exact<B>,
     row: &Row,
@@ -209,7 +177,14 @@ fn captures_of<B: Geometry>(
     if row.closing.has(taken) {
         return with_captures(table, row, position, taken, ends, Exits::NONE);
     }
-    captures_kept(table, row, position, taken, ends, kept)
+    let other = position.other();
+    let left = other.without(taken);
+    if let Some(results) = kept.get(left) {
+        return results;
+    }
+    let results = with_captures(table, row, position, taken, ends, Exits::NONE);
+    kept.put(left, results);
+    results
 }
 
 impl<'a, B: Geometry> PairGraph<'a, B> {
@@ -428,10 +403,10 @@ impl<'a, B: Board> Graph for PairGraph<'a, B> {
 
     fn back_from(
         &self,
-        alloc: Global,
+        _alloc: Global,
         nodes: &[u64],
         out: &mut Vec<u64>,
     ) -> Result<(), AllocError> {
-        list_before_all(alloc, &Numbering::Full(self.pair), nodes, out)
+        list_before_all(&Numbering::Full(self.pair), nodes, out)
     }
 }

@@ -1,13 +1,14 @@
 //! The entries of a table: how many there are, and which positions they are of.
-ghost use Rattle.std.specs.Prelude.{◌≡◌, ◌+◌, ◌<◌, ◌≤◌, ◌^◌, ◌||◌, ◌++◌, not, true, IfOk, OnOk, IsOk};
-ghost use Rattle.morris_board.specs.Sets.{has, count_of};
+ghost use Rattle.std.specs.Prelude.{◌≡◌, ℕ, ◌+◌, ◌<◌, ◌≤◌, ◌^◌, ◌||◌, ◌++◌, not, true, map, None, IfOk, OnOk, IsOk};
+ghost use Rattle.morris_board.specs.Sets.{has, members, count_of};
 ghost use Rattle.morris_board.specs.Positions.{sides, IsPosition};
+ghost use Rattle.morris_moves.specs.Rules.{move};
 ghost use Rattle.morris_index.specs.Pairs.{IsPair, is_of};
 ghost use Rattle.morris_index.specs.Moves.{in_pair, moved_on};
 ghost use Rattle.morris_index.specs.Standings.{are_of};
 ghost use Rattle.morris_table.specs.Entries.{entry_count, entry_index, has_own_entry};
 ghost use Rattle.morris_table.specs.Numberings.{layout_of, pair_of, layout_after, position_before, layout_before, position_after};
-ghost use Rattle.morris_table.specs.Backward.{leads_from};
+ghost use Rattle.morris_table.specs.Backward.{entries_leading};
 ghost use Rattle.morris_table.specs.Captured.{IsStandingIn};
 
 use crate::layout::Layout;
@@ -15,7 +16,6 @@ use morris_board::board::Geometry;
 use morris_board::points::Points;
 use morris_board::position::Position;
 use morris_index::class_pair::ClassPair;
-use morris_index::kept_ranks::KeptRanks;
 use morris_index::pair::Pair;
 use morris_index::predecessor_entries::PredecessorEntries;
 use morris_index::predecessors::PredecessorIndices;
@@ -129,18 +129,6 @@ impl<B: Geometry> Numbering<B> {
         }
     }
 
-    /// No ranks yet, with room for those that are worth keeping while entries before others are
-    /// listed; none in layout `Full`.
-    ///
-    /// # Errors
-    /// [`AllocError`] where memory runs out, which isn't asked for in layout `Full`.
-    pub(crate) fn kept_ranks(&self, alloc: Global) -> Result<KeptRanks<B>, AllocError> {
-        match self {
-            Numbering::Full(_) => Ok(KeptRanks::none(alloc)),
-            Numbering::Classes(classes) => KeptRanks::of(alloc, classes),
-        }
-    }
-
     /// The position that has the entry `index`, below [`Numbering::count`], for its own.
     pub(crate) fn position(&self, index: u64) -> Position<B>
         requires { index < entry_count B.shape B.POINTS (layout_of self.now) (pair_of self.now) }
@@ -226,30 +214,42 @@ pub(crate) enum Predecessors<'a, B: Geometry> {
     Classes(&'a PredecessorEntries<'a, B>),
 }
 
+/// Adds the entries from which the quiet moves to `to` from each of `sources` led to the entry of
+/// the position of `entries`: see [`Predecessors::add`].
+fn add_carried<B: Geometry>(
+    entries: &PredecessorEntries<'_, B>,
+    to: u8,
+    sources: Points,
+    out: &mut Vec<u64>,
+) -> Result<(), AllocError>
+    requires end { has entries.now.position.other to ≡ true }
+    requires sources { (p : ℕ) → has sources p ≡ true → (p < B.POINTS) × (not (has entries.now.position.own p || has entries.now.position.other p) ≡ true) }
+    ensures { OnOk result (out.new.items ≡ out.old.items
+        ++ entries_leading Layout.Classes B.shape B.POINTS entries.now.pair entries.now.position (map (λ u. move u to None) (members sources))) }
+{
+    for from in sources.iter() {
+        entries.add(from, to, out)?;
+    }
+    Ok(())
+}
+
 impl<'a, B: Geometry> Predecessors<'a, B> {
-    /// Adds the entries from which the quiet move from `from` to `to` led to the position's entry:
-    /// a stone of the opponent stands on `to`, and `from` is vacant. What is found of ranks by
-    /// classes is kept in `ranks`.
+    /// Adds the entries from which the quiet moves to `to` from each of `sources` led to the
+    /// position's entry, in order of the sources: a stone of the opponent stands on `to`, and the
+    /// sources are vacant.
     ///
     /// # Errors
     /// [`AllocError`] where memory runs out. Then some of the entries may have been added.
-    pub(crate) fn add(
-        &self,
-        from: u8,
-        to: u8,
-        ranks: &mut KeptRanks<B>,
-        out: &mut Vec<u64>,
-    ) -> Result<(), AllocError>
-        requires start { from < B.POINTS }
-        requires vacant { not (has (position_after self.now).position.own from || has (position_after self.now).position.other from) ≡ true }
+    pub(crate) fn add(&self, to: u8, sources: Points, out: &mut Vec<u64>) -> Result<(), AllocError>
         requires end { has (position_after self.now).position.other to ≡ true }
+        requires sources { (p : ℕ) → has sources p ≡ true
+            → (p < B.POINTS) × (not (has (position_after self.now).position.own p || has (position_after self.now).position.other p) ≡ true) }
         ensures { OnOk result (out.new.items ≡ out.old.items
-            ++ leads_from (layout_before self.now) B.shape B.POINTS (position_after self.now).pair (position_after self.now).position from to) }
+            ++ entries_leading (layout_before self.now) B.shape B.POINTS (position_after self.now).pair (position_after self.now).position (map (λ u. move u to None) (members sources))) }
     {
         match self {
-            Predecessors::Full(indices) => out.push(indices.index(from, to))?,
-            Predecessors::Classes(entries) => entries.add(from, to, ranks, out)?,
+            Predecessors::Full(indices) => indices.add(to, sources, out),
+            Predecessors::Classes(entries) => add_carried(entries, to, sources, out),
         }
-        Ok(())
     }
 }

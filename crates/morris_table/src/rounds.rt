@@ -10,7 +10,7 @@ use crate::graph::PairGraph;
 use crate::layout::Layout;
 use crate::numbering::Numbering;
 use crate::raw::Raw;
-use crate::sharing::{faces_agree_shared, first_shared};
+use crate::sharing::{Claim, Faces};
 use morris_board::board::{Board, Geometry};
 use morris_index::class_pair::ClassPair;
 use morris_wave::Watch;
@@ -31,87 +31,28 @@ fn round_count<B: Geometry>(raw: &Raw<B>) -> u64
     raw.len().div_ceil(ROUND)
 }
 
-/// The first entry that doesn't agree, by so many workers.
-fn first_of_rounds<B: Board, R: Threads + Sync, W: Watch>(
-    rt: &R,
-    alloc: Global,
-    graph: &PairGraph<B>,
-    raw: &Raw<B>,
-    workers: usize,
-    watch: &mut W,
-) -> Option<u64>
-    requires pair { graph.now ≡ raw.now.pair }
-    requires workers { (1 ≤ workers) × (workers ≤ 64) }
-    ensures first { MatchOption result ((k : ℕ) → k < entry_count B.shape B.POINTS raw.now.layout raw.now.pair → Agrees B.shape raw.now k) (IsFirstToDiffer B.shape raw.now) }
-    ensures watched { W.becomes watch.old watch.new }
-{
-    let count = raw.len();
-    for round in 0..round_count(raw) {
-        let first = round * ROUND;
-        let end = first + ROUND.min(count - first);
-        if let Some(index) = first_shared(rt, alloc, graph, raw, first, end, workers) {
-            return Some(index);
+impl<B: Board, R: Threads + Sync> Faces<'_, B, R> {
+    /// Whether the entries of all positions are known to agree that face some.
+    ///
+    /// # Errors
+    /// [`AllocError`] where memory is refused.
+    fn rounds_agree<W: Watch>(&self, watch: &mut W) -> Result<bool, AllocError>
+        ensures agree { IfOk result (λ yes. yes ≡ true → (k : ℕ) → k < entry_count B.shape B.POINTS self.now.claim.now.raw.now.layout self.now.claim.now.raw.now.pair
+            → FacesAgree B.shape self.now.claim.now.raw.now k) }
+        ensures watched { W.becomes watch.old watch.new }
+    {
+        let raw = self.claim.raw;
+        let count = raw.len();
+        for round in 0..round_count(raw) {
+            let first = round * ROUND;
+            let end = first + ROUND.min(count - first);
+            if !self.agree_shared(first, end)? {
+                return Ok(false);
+            }
+            watch.entries(end);
         }
-        watch.entries(end);
+        Ok(true)
     }
-    None
-}
-
-/// Whether the entries of all positions are known to agree that face some, by so many workers.
-///
-/// # Errors
-/// [`AllocError`] where memory is refused.
-fn rounds_agree<B: Board, R: Threads + Sync, W: Watch>(
-    rt: &R,
-    alloc: Global,
-    sets: &OwnSets<B>,
-    classes: &ClassPair<B>,
-    graph: &PairGraph<B>,
-    raw: &Raw<B>,
-    workers: usize,
-    watch: &mut W,
-) -> Result<bool, AllocError>
-    requires pair { graph.now ≡ raw.now.pair }
-    requires classes { classes.now ≡ raw.now.pair }
-    requires layout { raw.now.layout ≡ Layout.Classes }
-    requires workers { (1 ≤ workers) × (workers ≤ 64) }
-    ensures agree { IfOk result (λ yes. yes ≡ true → (k : ℕ) → k < entry_count B.shape B.POINTS raw.now.layout raw.now.pair → FacesAgree B.shape raw.now k) }
-    ensures watched { W.becomes watch.old watch.new }
-{
-    let count = raw.len();
-    for round in 0..round_count(raw) {
-        let first = round * ROUND;
-        let end = first + ROUND.min(count - first);
-        if !faces_agree_shared(rt, alloc, sets, classes, graph, raw, first, end, workers)? {
-            return Ok(false);
-        }
-        watch.entries(end);
-    }
-    Ok(true)
-}
-
-/// Whether the entries of all positions are known to agree that face one, by so many workers.
-///
-/// # Errors
-/// [`AllocError`] where memory is refused.
-fn faces_agree<B: Board, R: Threads + Sync, W: Watch>(
-    rt: &R,
-    alloc: Global,
-    classes: &ClassPair<B>,
-    graph: &PairGraph<B>,
-    raw: &Raw<B>,
-    workers: usize,
-    watch: &mut W,
-) -> Result<bool, AllocError>
-    requires pair { graph.now ≡ raw.now.pair }
-    requires classes { classes.now ≡ raw.now.pair }
-    requires layout { raw.now.layout ≡ Layout.Classes }
-    requires workers { (1 ≤ workers) × (workers ≤ 64) }
-    ensures faces { IfOk result (λ yes. yes ≡ true → (k : ℕ) → k < entry_count B.shape B.POINTS raw.now.layout raw.now.pair → FacesAgree B.shape raw.now k) }
-    ensures watched { W.becomes watch.old watch.new }
-{
-    let sets = OwnSets::make(alloc, raw.pair())?;
-    rounds_agree(rt, alloc, &sets, classes, graph, raw, workers, watch)
 }
 
 /// Whether all entries are known to agree, by what is known of those of all positions that face
@@ -129,26 +70,55 @@ fn all_agree<B: Geometry>(raw: &Raw<B>, faces: Result<bool, AllocError>) -> bool
     }
 }
 
-/// Whether all entries are known to agree, by so many workers. It isn't asked where they aren't
-/// those of classes.
-fn are_known<B: Board, R: Threads + Sync, W: Watch>(
-    rt: &R,
-    alloc: Global,
-    graph: &PairGraph<B>,
-    raw: &Raw<B>,
-    workers: usize,
-    watch: &mut W,
-) -> bool
-    requires pair { graph.now ≡ raw.now.pair }
-    requires workers { (1 ≤ workers) × (workers ≤ 64) }
-    ensures agree { result ≡ true → (k : ℕ) → k < entry_count B.shape B.POINTS raw.now.layout raw.now.pair → Agrees B.shape raw.now k }
-    ensures watched { W.becomes watch.old watch.new }
-{
-    match raw.numbering() {
-        Numbering::Full(_) => false,
-        Numbering::Classes(classes) => {
-            let faces = faces_agree(rt, alloc, classes, graph, raw, workers, watch);
-            all_agree(raw, faces)
+impl<B: Board, R: Threads + Sync> Claim<'_, B, R> {
+    /// The first entry that doesn't agree.
+    fn first_of_rounds<W: Watch>(&self, watch: &mut W) -> Option<u64>
+        ensures first { MatchOption result ((k : ℕ) → k < entry_count B.shape B.POINTS self.now.raw.now.layout self.now.raw.now.pair → Agrees B.shape self.now.raw.now k) (IsFirstToDiffer B.shape self.now.raw.now) }
+        ensures watched { W.becomes watch.old watch.new }
+    {
+        let count = self.raw.len();
+        for round in 0..round_count(self.raw) {
+            let first = round * ROUND;
+            let end = first + ROUND.min(count - first);
+            if let Some(index) = self.first_shared(first, end) {
+                return Some(index);
+            }
+            watch.entries(end);
+        }
+        None
+    }
+
+    /// Whether the entries of all positions are known to agree that face one.
+    ///
+    /// # Errors
+    /// [`AllocError`] where memory is refused.
+    fn faces_agree<W: Watch>(
+        &self,
+        classes: &ClassPair<B>,
+        watch: &mut W,
+    ) -> Result<bool, AllocError>
+        requires classes { classes.now ≡ self.now.raw.now.pair }
+        requires layout { self.now.raw.now.layout ≡ Layout.Classes }
+        ensures faces { IfOk result (λ yes. yes ≡ true → (k : ℕ) → k < entry_count B.shape B.POINTS self.now.raw.now.layout self.now.raw.now.pair → FacesAgree B.shape self.now.raw.now k) }
+        ensures watched { W.becomes watch.old watch.new }
+    {
+        let sets = OwnSets::make(self.alloc, self.raw.pair())?;
+        let faces = Faces {
+            claim: self,
+            classes,
+            sets: &sets,
+        };
+        faces.rounds_agree(watch)
+    }
+
+    /// Whether all entries are known to agree. It isn't asked where they aren't those of classes.
+    fn are_known<W: Watch>(&self, watch: &mut W) -> bool
+        ensures agree { result ≡ true → (k : ℕ) → k < entry_count B.shape B.POINTS self.now.raw.now.layout self.now.raw.now.pair → Agrees B.shape self.now.raw.now k }
+        ensures watched { W.becomes watch.old watch.new }
+    {
+        match self.raw.numbering() {
+            Numbering::Full(_) => false,
+            Numbering::Classes(classes) => all_agree(self.raw, self.faces_agree(classes, watch)),
         }
     }
 }
@@ -169,8 +139,15 @@ pub(crate) fn first_by<B: Board, R: Threads + Sync, W: Watch>(
     ensures first { MatchOption result ((k : ℕ) → k < entry_count B.shape B.POINTS raw.now.layout raw.now.pair → Agrees B.shape raw.now k) (IsFirstToDiffer B.shape raw.now) }
     ensures watched { W.becomes watch.old watch.new }
 {
-    if are_known(rt, alloc, graph, raw, workers, watch) {
+    let claim = Claim {
+        rt,
+        alloc,
+        workers,
+        graph,
+        raw,
+    };
+    if claim.are_known(watch) {
         return None;
     }
-    first_of_rounds(rt, alloc, graph, raw, workers, watch)
+    claim.first_of_rounds(watch)
 }

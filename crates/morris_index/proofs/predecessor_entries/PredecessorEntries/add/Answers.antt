@@ -1,10 +1,9 @@
 -- Each symmetry that carries the move gives one entry.
 use Rattle.std.proofs.Common.{◌≡◌, ◌||◌, ◌+◌, ◌++◌, not, true, map, refl, sym, ap, subst, ◌∙◌, arith}
 use Rattle.std.proofs.lemmas.List.{append-nil}
-use Rattle.morris_board.specs.Sets.{has, members, count_of, with_point, without_point}
+use Rattle.morris_board.specs.Sets.{has, members, with_point, without_point}
 use Rattle.morris_board.specs.Symmetries.{image_of, image_sides}
-use Rattle.morris_index.specs.Classes.{AreLeading, representative_of}
-use Rattle.morris_index.specs.Numbering.{rank_of, number_outside}
+use Rattle.morris_index.specs.Classes.{AreLeading}
 use Rattle.morris_index.specs.ClassPairs.{class_index_of}
 use Rattle.morris_index.specs.Moves.{InPair, in_pair, taken_back}
 use Rattle.morris_index.specs.Carried.{entries_before}
@@ -42,26 +41,8 @@ leads_of-start-requires-clause-count g c =
 pub loop-symmetry-init : goal.loop-symmetry-init
 loop-symmetry-init g c = record { split = refl; added = sym (append-nil _) }
 
-pub rank-rank-requires-clause-within : goal.rank-rank-requires-clause-within
-rank-rank-requires-clause-within g c =
-    let end : has c.self.inside.position.other c.args.to ≡ true = ap (λ (q : InPair). has q.position.other c.args.to) c.self.view_is ∙ c.requires.end in
-    let vacant : not (has c.self.inside.position.own c.args.from || has c.self.inside.position.other c.args.from) ≡ true =
-    ap (λ (q : InPair). not (has q.position.own c.args.from || has q.position.other c.args.from)) c.self.view_is ∙ c.requires.vacant in
-    let mover : c.with-mover.result ≡ (taken_back c.self.inside.position c.args.from c.args.to).own =
-    c.with-mover.ensures ∙ ap (λ x. with_point x c.args.from) (c.without.ensures ∙ ap (λ x. without_point x c.args.to) c.other.ensures.points) in
-    rw mover (before_here g.B.Geometry.shape g.B.Geometry.POINTS (omega (arith, g.met.B.Geometry.few)) g.met.B.Geometry.point_count g.met.B.Geometry.has_symmetries (in_pair c.self.inside.pair.now c.self.inside.position) c.self.inside.returning c.self.invariant.0 c.args.from c.args.to c.requires.start vacant end).own_within
-
-pub rank-rank-requires-clause-count : goal.rank-rank-requires-clause-count
-rank-rank-requires-clause-count g c =
-    let end : has c.self.inside.position.other c.args.to ≡ true = ap (λ (q : InPair). has q.position.other c.args.to) c.self.view_is ∙ c.requires.end in
-    let vacant : not (has c.self.inside.position.own c.args.from || has c.self.inside.position.other c.args.from) ≡ true =
-    ap (λ (q : InPair). not (has q.position.own c.args.from || has q.position.other c.args.from)) c.self.view_is ∙ c.requires.vacant in
-    let mover : c.with-mover.result ≡ (taken_back c.self.inside.position c.args.from c.args.to).own =
-    c.with-mover.ensures ∙ ap (λ x. with_point x c.args.from) (c.without.ensures ∙ ap (λ x. without_point x c.args.to) c.other.ensures.points) in
-    ap count_of mover ∙ mover_count g.B.Geometry.shape g.B.Geometry.POINTS (omega (arith, g.met.B.Geometry.few)) g.met.B.Geometry.point_count g.met.B.Geometry.has_symmetries (in_pair c.self.inside.pair.now c.self.inside.position) c.self.inside.returning c.self.invariant.0 c.args.from c.args.to c.requires.start vacant end ∙ ap (λ (q : InPair). count_of q.position.other) c.self.view_is
-
-pub rank-rank-requires-clause-symmetry : goal.rank-rank-requires-clause-symmetry
-rank-rank-requires-clause-symmetry g c =
+pub image-image-requires : goal.image-image-requires
+image-image-requires g c =
     let end : has c.self.inside.position.other c.args.to ≡ true = ap (λ (q : InPair). has q.position.other c.args.to) c.self.view_is ∙ c.requires.end in
     let vacant : not (has c.self.inside.position.own c.args.from || has c.self.inside.position.other c.args.from) ≡ true =
     ap (λ (q : InPair). not (has q.position.own c.args.from || has q.position.other c.args.from)) c.self.view_is ∙ c.requires.vacant in
@@ -71,10 +52,10 @@ rank-rank-requires-clause-symmetry g c =
     let items : c.into_iter-symmetry-iterator.result ≡ c.common-carrying.result = c.into_iter-symmetry-iterator.ensures.into_iter_gives ∙ c.iter-symmetry-items.ensures.points in
     let inside : has c.common-carrying.result c.in-Some.symmetry ≡ true =
     member_has c.common-carrying.result c.in-Some.symmetry c.loop-symmetry.yielded _ _ (c.loop-symmetry.invariant.split ∙ ap members items) c.in-Some.ensures.steps in
-    omega (arith, carrying_low g.B.Geometry.shape g.B.Geometry.POINTS (omega (arith, g.met.B.Geometry.few)) g.met.B.Geometry.point_count g.met.B.Geometry.has_symmetries (in_pair c.self.inside.pair.now c.self.inside.position) c.self.inside.returning c.self.invariant.0 c.args.from c.args.to c.requires.start vacant end c.leads_of-start.result.2 c.common-carrying.result leads c.common-carrying.ensures c.in-Some.symmetry inside, g.met.B.Geometry.symmetry_count)
+    omega (arith, carrying_low g.B.Geometry.shape g.B.Geometry.POINTS (omega (arith, g.met.B.Geometry.few)) g.met.B.Geometry.point_count g.met.B.Geometry.has_symmetries (in_pair c.self.inside.pair.now c.self.inside.position) c.self.inside.returning c.self.invariant.0 c.args.from c.args.to c.requires.start vacant end c.leads_of-start.result.2 c.common-carrying.result leads c.common-carrying.ensures c.in-Some.symmetry inside, g.met.B.Geometry.symmetry_count, g.met.B.Geometry.few_symmetries, c.self.invariant.0.returns.len)
 
-pub rank-rank-requires-clause-apart : goal.rank-rank-requires-clause-apart
-rank-rank-requires-clause-apart g c =
+pub rank_outside-requires-clause-board : goal.rank_outside-requires-clause-board
+rank_outside-requires-clause-board g c =
     let end : has c.self.inside.position.other c.args.to ≡ true = ap (λ (q : InPair). has q.position.other c.args.to) c.self.view_is ∙ c.requires.end in
     let vacant : not (has c.self.inside.position.own c.args.from || has c.self.inside.position.other c.args.from) ≡ true =
     ap (λ (q : InPair). not (has q.position.own c.args.from || has q.position.other c.args.from)) c.self.view_is ∙ c.requires.vacant in
@@ -84,9 +65,58 @@ rank-rank-requires-clause-apart g c =
     let items : c.into_iter-symmetry-iterator.result ≡ c.common-carrying.result = c.into_iter-symmetry-iterator.ensures.into_iter_gives ∙ c.iter-symmetry-items.ensures.points in
     let inside : has c.common-carrying.result c.in-Some.symmetry ≡ true =
     member_has c.common-carrying.result c.in-Some.symmetry c.loop-symmetry.yielded _ _ (c.loop-symmetry.invariant.split ∙ ap members items) c.in-Some.ensures.steps in
-    λ p y. ap (λ m. has (representative_of g.B.Geometry.shape m) p) mover
-    ∙ image_apart g.B.Geometry.shape g.B.Geometry.POINTS (omega (arith, g.met.B.Geometry.few)) g.met.B.Geometry.point_count g.met.B.Geometry.has_symmetries (in_pair c.self.inside.pair.now c.self.inside.position) c.self.inside.returning c.self.invariant.0 c.args.from c.args.to c.requires.start vacant end c.leads_of-start.result.2 c.common-carrying.result leads c.common-carrying.ensures c.in-Some.symmetry inside p
-    (ap (λ (q : InPair). has (image_of (g.B.Geometry.shape.image c.in-Some.symmetry) q.position.own) p) c.self.view_is ∙ y)
+    let at : c.image-image.result ≡ image_of (g.B.Geometry.shape.image c.in-Some.symmetry) c.self.inside.position.own =
+    c.image-image.ensures
+    ∙ image_kept g.B.Geometry.shape g.B.Geometry.POINTS (omega (arith, g.met.B.Geometry.few)) g.met.B.Geometry.point_count g.met.B.Geometry.has_symmetries (in_pair c.self.inside.pair.now c.self.inside.position) c.self.inside.returning c.self.invariant.0 c.args.from c.args.to c.requires.start vacant end c.leads_of-start.result.2 c.common-carrying.result leads c.common-carrying.ensures c.in-Some.symmetry inside in
+    rw at (image_24 g.B.Geometry.shape g.B.Geometry.POINTS (omega (arith, g.met.B.Geometry.few)) g.met.B.Geometry.point_count g.met.B.Geometry.has_symmetries (in_pair c.self.inside.pair.now c.self.inside.position) c.self.inside.returning c.self.invariant.0 c.args.from c.args.to c.requires.start vacant end c.leads_of-start.result.2 c.common-carrying.result leads c.common-carrying.ensures c.in-Some.symmetry inside)
+
+pub rank_outside-requires-clause-few : goal.rank_outside-requires-clause-few
+rank_outside-requires-clause-few g c =
+    let end : has c.self.inside.position.other c.args.to ≡ true = ap (λ (q : InPair). has q.position.other c.args.to) c.self.view_is ∙ c.requires.end in
+    let vacant : not (has c.self.inside.position.own c.args.from || has c.self.inside.position.other c.args.from) ≡ true =
+    ap (λ (q : InPair). not (has q.position.own c.args.from || has q.position.other c.args.from)) c.self.view_is ∙ c.requires.vacant in
+    let mover : c.with-mover.result ≡ (taken_back c.self.inside.position c.args.from c.args.to).own =
+    c.with-mover.ensures ∙ ap (λ x. with_point x c.args.from) (c.without.ensures ∙ ap (λ x. without_point x c.args.to) c.other.ensures.points) in
+    let leads : AreLeading g.B.Geometry.shape (taken_back c.self.inside.position c.args.from c.args.to).own c.leads_of-start.result.2 = rw mover at c.leads_of-start.ensures.symmetries in
+    let items : c.into_iter-symmetry-iterator.result ≡ c.common-carrying.result = c.into_iter-symmetry-iterator.ensures.into_iter_gives ∙ c.iter-symmetry-items.ensures.points in
+    let inside : has c.common-carrying.result c.in-Some.symmetry ≡ true =
+    member_has c.common-carrying.result c.in-Some.symmetry c.loop-symmetry.yielded _ _ (c.loop-symmetry.invariant.split ∙ ap members items) c.in-Some.ensures.steps in
+    let at : c.image-image.result ≡ image_of (g.B.Geometry.shape.image c.in-Some.symmetry) c.self.inside.position.own =
+    c.image-image.ensures
+    ∙ image_kept g.B.Geometry.shape g.B.Geometry.POINTS (omega (arith, g.met.B.Geometry.few)) g.met.B.Geometry.point_count g.met.B.Geometry.has_symmetries (in_pair c.self.inside.pair.now c.self.inside.position) c.self.inside.returning c.self.invariant.0 c.args.from c.args.to c.requires.start vacant end c.leads_of-start.result.2 c.common-carrying.result leads c.common-carrying.ensures c.in-Some.symmetry inside in
+    rw at (image_few g.B.Geometry.shape g.B.Geometry.POINTS (omega (arith, g.met.B.Geometry.few)) g.met.B.Geometry.point_count g.met.B.Geometry.has_symmetries (in_pair c.self.inside.pair.now c.self.inside.position) c.self.inside.returning c.self.invariant.0 c.args.from c.args.to c.requires.start vacant end c.leads_of-start.result.2 c.common-carrying.result leads c.common-carrying.ensures c.in-Some.symmetry inside)
+
+pub rank_outside-requires-clause-counted : goal.rank_outside-requires-clause-counted
+rank_outside-requires-clause-counted g c =
+    let end : has c.self.inside.position.other c.args.to ≡ true = ap (λ (q : InPair). has q.position.other c.args.to) c.self.view_is ∙ c.requires.end in
+    let vacant : not (has c.self.inside.position.own c.args.from || has c.self.inside.position.other c.args.from) ≡ true =
+    ap (λ (q : InPair). not (has q.position.own c.args.from || has q.position.other c.args.from)) c.self.view_is ∙ c.requires.vacant in
+    let mover : c.with-mover.result ≡ (taken_back c.self.inside.position c.args.from c.args.to).own =
+    c.with-mover.ensures ∙ ap (λ x. with_point x c.args.from) (c.without.ensures ∙ ap (λ x. without_point x c.args.to) c.other.ensures.points) in
+    let leads : AreLeading g.B.Geometry.shape (taken_back c.self.inside.position c.args.from c.args.to).own c.leads_of-start.result.2 = rw mover at c.leads_of-start.ensures.symmetries in
+    let items : c.into_iter-symmetry-iterator.result ≡ c.common-carrying.result = c.into_iter-symmetry-iterator.ensures.into_iter_gives ∙ c.iter-symmetry-items.ensures.points in
+    let inside : has c.common-carrying.result c.in-Some.symmetry ≡ true =
+    member_has c.common-carrying.result c.in-Some.symmetry c.loop-symmetry.yielded _ _ (c.loop-symmetry.invariant.split ∙ ap members items) c.in-Some.ensures.steps in
+    let at : c.image-image.result ≡ image_of (g.B.Geometry.shape.image c.in-Some.symmetry) c.self.inside.position.own =
+    c.image-image.ensures
+    ∙ image_kept g.B.Geometry.shape g.B.Geometry.POINTS (omega (arith, g.met.B.Geometry.few)) g.met.B.Geometry.point_count g.met.B.Geometry.has_symmetries (in_pair c.self.inside.pair.now c.self.inside.position) c.self.inside.returning c.self.invariant.0 c.args.from c.args.to c.requires.start vacant end c.leads_of-start.result.2 c.common-carrying.result leads c.common-carrying.ensures c.in-Some.symmetry inside in
+    rw at (c.self.invariant.1 ∙ sym (image_count g.B.Geometry.shape g.B.Geometry.POINTS (omega (arith, g.met.B.Geometry.few)) g.met.B.Geometry.point_count g.met.B.Geometry.has_symmetries (in_pair c.self.inside.pair.now c.self.inside.position) c.self.inside.returning c.self.invariant.0 c.args.from c.args.to c.requires.start vacant end c.leads_of-start.result.2 c.common-carrying.result leads c.common-carrying.ensures c.in-Some.symmetry inside))
+
+pub rank_outside-requires-clause-apart : goal.rank_outside-requires-clause-apart
+rank_outside-requires-clause-apart g c =
+    let end : has c.self.inside.position.other c.args.to ≡ true = ap (λ (q : InPair). has q.position.other c.args.to) c.self.view_is ∙ c.requires.end in
+    let vacant : not (has c.self.inside.position.own c.args.from || has c.self.inside.position.other c.args.from) ≡ true =
+    ap (λ (q : InPair). not (has q.position.own c.args.from || has q.position.other c.args.from)) c.self.view_is ∙ c.requires.vacant in
+    let mover : c.with-mover.result ≡ (taken_back c.self.inside.position c.args.from c.args.to).own =
+    c.with-mover.ensures ∙ ap (λ x. with_point x c.args.from) (c.without.ensures ∙ ap (λ x. without_point x c.args.to) c.other.ensures.points) in
+    let leads : AreLeading g.B.Geometry.shape (taken_back c.self.inside.position c.args.from c.args.to).own c.leads_of-start.result.2 = rw mover at c.leads_of-start.ensures.symmetries in
+    let items : c.into_iter-symmetry-iterator.result ≡ c.common-carrying.result = c.into_iter-symmetry-iterator.ensures.into_iter_gives ∙ c.iter-symmetry-items.ensures.points in
+    let inside : has c.common-carrying.result c.in-Some.symmetry ≡ true =
+    member_has c.common-carrying.result c.in-Some.symmetry c.loop-symmetry.yielded _ _ (c.loop-symmetry.invariant.split ∙ ap members items) c.in-Some.ensures.steps in
+    let at : c.image-image.result ≡ image_of (g.B.Geometry.shape.image c.in-Some.symmetry) c.self.inside.position.own =
+    c.image-image.ensures
+    ∙ image_kept g.B.Geometry.shape g.B.Geometry.POINTS (omega (arith, g.met.B.Geometry.few)) g.met.B.Geometry.point_count g.met.B.Geometry.has_symmetries (in_pair c.self.inside.pair.now c.self.inside.position) c.self.inside.returning c.self.invariant.0 c.args.from c.args.to c.requires.start vacant end c.leads_of-start.result.2 c.common-carrying.result leads c.common-carrying.ensures c.in-Some.symmetry inside in
+    rw (at, c.leads_of-start.ensures.representative, mover) (image_apart g.B.Geometry.shape g.B.Geometry.POINTS (omega (arith, g.met.B.Geometry.few)) g.met.B.Geometry.point_count g.met.B.Geometry.has_symmetries (in_pair c.self.inside.pair.now c.self.inside.position) c.self.inside.returning c.self.invariant.0 c.args.from c.args.to c.requires.start vacant end c.leads_of-start.result.2 c.common-carrying.result leads c.common-carrying.ensures c.in-Some.symmetry inside)
 
 pub overflow_add-start : goal.overflow_add-start
 overflow_add-start g c =
@@ -99,11 +129,11 @@ overflow_add-start g c =
     let items : c.into_iter-symmetry-iterator.result ≡ c.common-carrying.result = c.into_iter-symmetry-iterator.ensures.into_iter_gives ∙ c.iter-symmetry-items.ensures.points in
     let inside : has c.common-carrying.result c.in-Some.symmetry ≡ true =
     member_has c.common-carrying.result c.in-Some.symmetry c.loop-symmetry.yielded _ _ (c.loop-symmetry.invariant.split ∙ ap members items) c.in-Some.ensures.steps in
-    let rank : c.rank-rank.result ≡ rank_of (map (number_outside (representative_of g.B.Geometry.shape (taken_back c.self.inside.position c.args.from c.args.to).own)) (members (image_of (g.B.Geometry.shape.image c.in-Some.symmetry) c.self.inside.position.own))) =
-    c.rank-rank.ensures
-    ∙ ap (λ m. rank_of (map (number_outside (representative_of g.B.Geometry.shape m)) (members (image_of (g.B.Geometry.shape.image c.in-Some.symmetry) c.args.self.now.position.own)))) mover
-    ∙ ap (λ (q : InPair). rank_of (map (number_outside (representative_of g.B.Geometry.shape (taken_back c.self.inside.position c.args.from c.args.to).own)) (members (image_of (g.B.Geometry.shape.image c.in-Some.symmetry) q.position.own)))) (sym c.self.view_is) in
-    (omega (arith, rank, c.leads_of-start.ensures.few, entry_few g.B.Geometry.shape g.B.Geometry.POINTS (omega (arith, g.met.B.Geometry.few)) g.met.B.Geometry.point_count g.met.B.Geometry.has_symmetries (in_pair c.self.inside.pair.now c.self.inside.position) c.self.inside.returning c.self.invariant.0 c.args.from c.args.to c.requires.start vacant end c.leads_of-start.result.2 c.common-carrying.result leads c.common-carrying.ensures c.in-Some.symmetry inside))
+    let at : c.image-image.result ≡ image_of (g.B.Geometry.shape.image c.in-Some.symmetry) c.self.inside.position.own =
+    c.image-image.ensures
+    ∙ image_kept g.B.Geometry.shape g.B.Geometry.POINTS (omega (arith, g.met.B.Geometry.few)) g.met.B.Geometry.point_count g.met.B.Geometry.has_symmetries (in_pair c.self.inside.pair.now c.self.inside.position) c.self.inside.returning c.self.invariant.0 c.args.from c.args.to c.requires.start vacant end c.leads_of-start.result.2 c.common-carrying.result leads c.common-carrying.ensures c.in-Some.symmetry inside in
+    rw (c.rank_outside.ensures, at, c.leads_of-start.ensures.representative, mover)
+    (omega (arith, c.leads_of-start.ensures.few, entry_few g.B.Geometry.shape g.B.Geometry.POINTS (omega (arith, g.met.B.Geometry.few)) g.met.B.Geometry.point_count g.met.B.Geometry.has_symmetries (in_pair c.self.inside.pair.now c.self.inside.position) c.self.inside.returning c.self.invariant.0 c.args.from c.args.to c.requires.start vacant end c.leads_of-start.result.2 c.common-carrying.result leads c.common-carrying.ensures c.in-Some.symmetry inside))
 
 pub loop-symmetry-preserved : goal.loop-symmetry-preserved
 loop-symmetry-preserved g c =
@@ -116,12 +146,11 @@ loop-symmetry-preserved g c =
     let items : c.into_iter-symmetry-iterator.result ≡ c.common-carrying.result = c.into_iter-symmetry-iterator.ensures.into_iter_gives ∙ c.iter-symmetry-items.ensures.points in
     let inside : has c.common-carrying.result c.in-Some.symmetry ≡ true =
     member_has c.common-carrying.result c.in-Some.symmetry c.loop-symmetry.yielded _ _ (c.loop-symmetry.invariant.split ∙ ap members items) c.in-Some.ensures.steps in
-    let rank : c.rank-rank.result ≡ rank_of (map (number_outside (representative_of g.B.Geometry.shape (taken_back c.self.inside.position c.args.from c.args.to).own)) (members (image_of (g.B.Geometry.shape.image c.in-Some.symmetry) c.self.inside.position.own))) =
-    c.rank-rank.ensures
-    ∙ ap (λ m. rank_of (map (number_outside (representative_of g.B.Geometry.shape m)) (members (image_of (g.B.Geometry.shape.image c.in-Some.symmetry) c.args.self.now.position.own)))) mover
-    ∙ ap (λ (q : InPair). rank_of (map (number_outside (representative_of g.B.Geometry.shape (taken_back c.self.inside.position c.args.from c.args.to).own)) (members (image_of (g.B.Geometry.shape.image c.in-Some.symmetry) q.position.own)))) (sym c.self.view_is) in
-    let entry : c.leads_of-start.result.0 + c.rank-rank.result ≡ class_index_of g.B.Geometry.shape g.B.Geometry.POINTS c.self.inside.pair.now (image_sides (g.B.Geometry.shape.image c.in-Some.symmetry) (taken_back c.self.inside.position c.args.from c.args.to)) =
-    rw (rank, c.leads_of-start.ensures.start, c.self.invariant.2, mover)
+    let at : c.image-image.result ≡ image_of (g.B.Geometry.shape.image c.in-Some.symmetry) c.self.inside.position.own =
+    c.image-image.ensures
+    ∙ image_kept g.B.Geometry.shape g.B.Geometry.POINTS (omega (arith, g.met.B.Geometry.few)) g.met.B.Geometry.point_count g.met.B.Geometry.has_symmetries (in_pair c.self.inside.pair.now c.self.inside.position) c.self.inside.returning c.self.invariant.0 c.args.from c.args.to c.requires.start vacant end c.leads_of-start.result.2 c.common-carrying.result leads c.common-carrying.ensures c.in-Some.symmetry inside in
+    let entry : c.leads_of-start.result.0 + c.rank_outside.result ≡ class_index_of g.B.Geometry.shape g.B.Geometry.POINTS c.self.inside.pair.now (image_sides (g.B.Geometry.shape.image c.in-Some.symmetry) (taken_back c.self.inside.position c.args.from c.args.to)) =
+    rw (c.rank_outside.ensures, at, c.leads_of-start.ensures.start, c.leads_of-start.ensures.representative, c.self.invariant.2, mover)
     (entry_is g.B.Geometry.shape g.B.Geometry.POINTS (omega (arith, g.met.B.Geometry.few)) g.met.B.Geometry.point_count g.met.B.Geometry.has_symmetries (in_pair c.self.inside.pair.now c.self.inside.position) c.self.inside.returning c.self.invariant.0 c.args.from c.args.to c.requires.start vacant end c.leads_of-start.result.2 c.common-carrying.result leads c.common-carrying.ensures c.in-Some.symmetry inside) in
     record {
       split = split_after c.loop-symmetry.yielded _ c.in-Some.symmetry _ _ c.in-Some.ensures.steps c.loop-symmetry.invariant.split;

@@ -1,41 +1,131 @@
-use Rattle.std.proofs.Common.{◌≡◌, ◌-◌, ap, ap₂, ◌∙◌, arith}
-use Rattle.morris_board.specs.Sets.{count_of}
+use Rattle.std.proofs.Common.{◌≡◌, ◌+◌, ◌-◌, ◌*◌, map, ap, ap₂, ◌∙◌, arith}
+use Rattle.morris_board.specs.Sets.{members, count_of}
 use Rattle.morris_index.specs.Binomials.{choose}
+use Rattle.morris_index.specs.Numbering.{rank_of, number_outside}
 use Rattle.morris_index.specs.Moves.{start_of}
-use Rattle.morris_index.proofs.MoveLaws.{own_24, other_24, other_fits}
+use Rattle.morris_index.specs.Sums.{IsMoved, IsRenumbered}
+use Rattle.morris_index.proofs.IndexLaws.{placed}
+use Rattle.morris_index.proofs.PairLaws.{own_count, other_count}
+use Rattle.morris_index.proofs.MoveLaws.{own_24, other_24, other_fits, turned_rank, turned_within, turned_few, turned_index}
 use Rattle.morris_index.proofs.predecessors.PredecessorIndices.of.Goals as goal
 
-pub of-requires-clause-board : goal.of-requires-clause-board
-of-requires-clause-board g c =
+pub of-moved-requires-clause-board : goal.of-moved-requires-clause-board
+of-moved-requires-clause-board g c =
     rw c.other-other.ensures.points
-    (other_24 g.B.Geometry.shape g.B.Geometry.POINTS g.met.B.Geometry.point_count (omega (arith, g.met.B.Geometry.few)) c.args.position.now c.own-own.ensures.lawful)
+    (other_24 g.B.Geometry.shape g.B.Geometry.POINTS g.met.B.Geometry.point_count (omega (arith, g.met.B.Geometry.few)) c.args.position.now c.other-other.ensures.lawful)
 
-pub of-requires-2-clause-board : goal.of-requires-2-clause-board
-of-requires-2-clause-board g c =
+pub of-renumbered-requires-clause-board : goal.of-renumbered-requires-clause-board
+of-renumbered-requires-clause-board g c =
     rw c.own-own.ensures.points
-    (own_24 g.B.Geometry.shape g.B.Geometry.POINTS g.met.B.Geometry.point_count (omega (arith, g.met.B.Geometry.few)) c.args.position.now c.own-own.ensures.lawful)
+    (own_24 g.B.Geometry.shape g.B.Geometry.POINTS g.met.B.Geometry.point_count (omega (arith, g.met.B.Geometry.few)) c.args.position.now c.other-other.ensures.lawful)
 
 pub overflow_sub-POINTS : goal.overflow_sub-POINTS
 overflow_sub-POINTS g c =
     omega (
       arith,
-      c.count-2.ensures.value,
+      c.count.ensures.value,
       c.POINTS.ensures,
       ap count_of c.other-other.ensures.points,
       other_fits g.B.Geometry.shape g.B.Geometry.POINTS g.met.B.Geometry.point_count (omega (arith, g.met.B.Geometry.few)) c.args.position.now c.own-own.ensures.lawful,
     )
 
+pub overflow_mul-result : goal.overflow_mul-result
+overflow_mul-result g c =
+    let moved : IsMoved 0 c.args.position.now.other c.of-moved.result = rw c.other-other.ensures.points at c.of-moved.ensures in
+    let renumbered : IsRenumbered c.args.position.now.other c.args.position.now.own c.of-renumbered.result =
+    rw (c.other-other.ensures.points, c.own-own.ensures.points) at c.of-renumbered.ensures in
+    let rank_is : c.of-moved.result.rank ≡ rank_of (members c.args.position.now.other) =
+    turned_rank g.B.Geometry.POINTS (omega (arith, g.met.B.Geometry.few)) c.args.position.now
+    (placed g.B.Geometry.shape g.B.Geometry.POINTS c.args.position.now g.met.B.Geometry.point_count c.own-own.ensures.lawful)
+    ((own_count c.args.position.now c.own-own.ensures.lawful.sized).1) ((other_count c.args.position.now c.own-own.ensures.lawful.sized).1) c.of-moved.result moved in
+    let within_is : c.of-renumbered.result.rank ≡ rank_of (map (number_outside c.args.position.now.other) (members c.args.position.now.own)) =
+    turned_within g.B.Geometry.POINTS (omega (arith, g.met.B.Geometry.few)) c.args.position.now
+    (placed g.B.Geometry.shape g.B.Geometry.POINTS c.args.position.now g.met.B.Geometry.point_count c.own-own.ensures.lawful)
+    ((own_count c.args.position.now c.own-own.ensures.lawful.sized).1) ((other_count c.args.position.now c.own-own.ensures.lawful.sized).1) c.of-renumbered.result renumbered in
+    let choices_is : c.binomial-choices.result ≡ choose (g.B.Geometry.POINTS - count_of c.args.position.now.other) (count_of c.args.position.now.own) =
+    c.binomial-choices.ensures.value ∙ ap₂ choose (ap₂ (λ n k. n - k) c.POINTS.ensures (c.count.ensures.value ∙ ap count_of c.other-other.ensures.points))
+    (c.count-2.ensures.value ∙ ap count_of c.own-own.ensures.points) in
+    rw (rank_is, choices_is) (omega (
+      arith,
+      turned_few g.B.Geometry.POINTS (omega (arith, g.met.B.Geometry.few)) c.args.position.now
+          (placed g.B.Geometry.shape g.B.Geometry.POINTS c.args.position.now g.met.B.Geometry.point_count c.own-own.ensures.lawful)
+          ((own_count c.args.position.now c.own-own.ensures.lawful.sized).1) ((other_count c.args.position.now c.own-own.ensures.lawful.sized).1),
+    ))
+
+pub overflow_add-result : goal.overflow_add-result
+overflow_add-result g c =
+    let moved : IsMoved 0 c.args.position.now.other c.of-moved.result = rw c.other-other.ensures.points at c.of-moved.ensures in
+    let renumbered : IsRenumbered c.args.position.now.other c.args.position.now.own c.of-renumbered.result =
+    rw (c.other-other.ensures.points, c.own-own.ensures.points) at c.of-renumbered.ensures in
+    let rank_is : c.of-moved.result.rank ≡ rank_of (members c.args.position.now.other) =
+    turned_rank g.B.Geometry.POINTS (omega (arith, g.met.B.Geometry.few)) c.args.position.now
+    (placed g.B.Geometry.shape g.B.Geometry.POINTS c.args.position.now g.met.B.Geometry.point_count c.own-own.ensures.lawful)
+    ((own_count c.args.position.now c.own-own.ensures.lawful.sized).1) ((other_count c.args.position.now c.own-own.ensures.lawful.sized).1) c.of-moved.result moved in
+    let within_is : c.of-renumbered.result.rank ≡ rank_of (map (number_outside c.args.position.now.other) (members c.args.position.now.own)) =
+    turned_within g.B.Geometry.POINTS (omega (arith, g.met.B.Geometry.few)) c.args.position.now
+    (placed g.B.Geometry.shape g.B.Geometry.POINTS c.args.position.now g.met.B.Geometry.point_count c.own-own.ensures.lawful)
+    ((own_count c.args.position.now c.own-own.ensures.lawful.sized).1) ((other_count c.args.position.now c.own-own.ensures.lawful.sized).1) c.of-renumbered.result renumbered in
+    let choices_is : c.binomial-choices.result ≡ choose (g.B.Geometry.POINTS - count_of c.args.position.now.other) (count_of c.args.position.now.own) =
+    c.binomial-choices.ensures.value ∙ ap₂ choose (ap₂ (λ n k. n - k) c.POINTS.ensures (c.count.ensures.value ∙ ap count_of c.other-other.ensures.points))
+    (c.count-2.ensures.value ∙ ap count_of c.own-own.ensures.points) in
+    rw (rank_is, choices_is, within_is) (omega (
+      arith,
+      turned_few g.B.Geometry.POINTS (omega (arith, g.met.B.Geometry.few)) c.args.position.now
+          (placed g.B.Geometry.shape g.B.Geometry.POINTS c.args.position.now g.met.B.Geometry.point_count c.own-own.ensures.lawful)
+          ((own_count c.args.position.now c.own-own.ensures.lawful.sized).1) ((other_count c.args.position.now c.own-own.ensures.lawful.sized).1),
+    ))
+
+pub overflow_add-result-2 : goal.overflow_add-result-2
+overflow_add-result-2 g c =
+    let moved : IsMoved 0 c.args.position.now.other c.of-moved.result = rw c.other-other.ensures.points at c.of-moved.ensures in
+    let renumbered : IsRenumbered c.args.position.now.other c.args.position.now.own c.of-renumbered.result =
+    rw (c.other-other.ensures.points, c.own-own.ensures.points) at c.of-renumbered.ensures in
+    let rank_is : c.of-moved.result.rank ≡ rank_of (members c.args.position.now.other) =
+    turned_rank g.B.Geometry.POINTS (omega (arith, g.met.B.Geometry.few)) c.args.position.now
+    (placed g.B.Geometry.shape g.B.Geometry.POINTS c.args.position.now g.met.B.Geometry.point_count c.own-own.ensures.lawful)
+    ((own_count c.args.position.now c.own-own.ensures.lawful.sized).1) ((other_count c.args.position.now c.own-own.ensures.lawful.sized).1) c.of-moved.result moved in
+    let within_is : c.of-renumbered.result.rank ≡ rank_of (map (number_outside c.args.position.now.other) (members c.args.position.now.own)) =
+    turned_within g.B.Geometry.POINTS (omega (arith, g.met.B.Geometry.few)) c.args.position.now
+    (placed g.B.Geometry.shape g.B.Geometry.POINTS c.args.position.now g.met.B.Geometry.point_count c.own-own.ensures.lawful)
+    ((own_count c.args.position.now c.own-own.ensures.lawful.sized).1) ((other_count c.args.position.now c.own-own.ensures.lawful.sized).1) c.of-renumbered.result renumbered in
+    let choices_is : c.binomial-choices.result ≡ choose (g.B.Geometry.POINTS - count_of c.args.position.now.other) (count_of c.args.position.now.own) =
+    c.binomial-choices.ensures.value ∙ ap₂ choose (ap₂ (λ n k. n - k) c.POINTS.ensures (c.count.ensures.value ∙ ap count_of c.other-other.ensures.points))
+    (c.count-2.ensures.value ∙ ap count_of c.own-own.ensures.points) in
+    rw (rank_is, choices_is, within_is) (omega (
+      arith,
+      c.start_of.ensures.few,
+      turned_few g.B.Geometry.POINTS (omega (arith, g.met.B.Geometry.few)) c.args.position.now
+          (placed g.B.Geometry.shape g.B.Geometry.POINTS c.args.position.now g.met.B.Geometry.point_count c.own-own.ensures.lawful)
+          ((own_count c.args.position.now c.own-own.ensures.lawful.sized).1) ((other_count c.args.position.now c.own-own.ensures.lawful.sized).1),
+    ))
+
 pub invariant_of-result : goal.invariant_of-result
 invariant_of-result g c =
-    let others : c.count.result ≡ count_of c.args.position.now.other = c.count.ensures.value ∙ ap count_of c.other-other.ensures.points in
-    let others' : c.count-2.result ≡ count_of c.args.position.now.other = c.count-2.ensures.value ∙ ap count_of c.other-other.ensures.points in
-    let owns : c.count-3.result ≡ count_of c.args.position.now.own = c.count-3.ensures.value ∙ ap count_of c.own-own.ensures.points in
+    let moved : IsMoved 0 c.args.position.now.other c.of-moved.result = rw c.other-other.ensures.points at c.of-moved.ensures in
+    let renumbered : IsRenumbered c.args.position.now.other c.args.position.now.own c.of-renumbered.result =
+    rw (c.other-other.ensures.points, c.own-own.ensures.points) at c.of-renumbered.ensures in
+    let rank_is : c.of-moved.result.rank ≡ rank_of (members c.args.position.now.other) =
+    turned_rank g.B.Geometry.POINTS (omega (arith, g.met.B.Geometry.few)) c.args.position.now
+    (placed g.B.Geometry.shape g.B.Geometry.POINTS c.args.position.now g.met.B.Geometry.point_count c.own-own.ensures.lawful)
+    ((own_count c.args.position.now c.own-own.ensures.lawful.sized).1) ((other_count c.args.position.now c.own-own.ensures.lawful.sized).1) c.of-moved.result moved in
+    let within_is : c.of-renumbered.result.rank ≡ rank_of (map (number_outside c.args.position.now.other) (members c.args.position.now.own)) =
+    turned_within g.B.Geometry.POINTS (omega (arith, g.met.B.Geometry.few)) c.args.position.now
+    (placed g.B.Geometry.shape g.B.Geometry.POINTS c.args.position.now g.met.B.Geometry.point_count c.own-own.ensures.lawful)
+    ((own_count c.args.position.now c.own-own.ensures.lawful.sized).1) ((other_count c.args.position.now c.own-own.ensures.lawful.sized).1) c.of-renumbered.result renumbered in
+    let choices_is : c.binomial-choices.result ≡ choose (g.B.Geometry.POINTS - count_of c.args.position.now.other) (count_of c.args.position.now.own) =
+    c.binomial-choices.ensures.value ∙ ap₂ choose (ap₂ (λ n k. n - k) c.POINTS.ensures (c.count.ensures.value ∙ ap count_of c.other-other.ensures.points))
+    (c.count-2.ensures.value ∙ ap count_of c.own-own.ensures.points) in
     record {
       counts = c.requires;
       lawful = c.own-own.ensures.lawful;
       pair = c.start_of.ensures.lawful;
-      moved = rw c.other-other.ensures.points at c.of.ensures;
-      renumbered = rw (c.other-other.ensures.points, c.own-own.ensures.points) at c.of-2.ensures;
-      start = c.start_of.ensures.value ∙ ap (start_of g.B.Geometry.POINTS c.args.pair.now) others;
-      choices = c.binomial.ensures.value ∙ ap₂ choose (ap₂ (λ n k. n - k) c.POINTS.ensures others') owns;
+      moved = moved;
+      renumbered = renumbered;
+      turned = ap₂ (λ x y. x + y)
+          (c.start_of.ensures.value ∙ ap (start_of g.B.Geometry.POINTS c.args.pair.now) (c.count-3.ensures.value ∙ ap count_of c.other-other.ensures.points))
+          (ap₂ (λ x y. x + y) (ap₂ (λ x y. x * y) rank_is choices_is) within_is)
+          ∙ turned_index g.B.Geometry.POINTS (omega (arith, g.met.B.Geometry.few)) c.args.position.now
+          (placed g.B.Geometry.shape g.B.Geometry.POINTS c.args.position.now g.met.B.Geometry.point_count c.own-own.ensures.lawful)
+          ((own_count c.args.position.now c.own-own.ensures.lawful.sized).1) ((other_count c.args.position.now c.own-own.ensures.lawful.sized).1) c.args.pair.now;
+      choices = choices_is;
     }

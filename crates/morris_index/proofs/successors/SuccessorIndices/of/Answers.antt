@@ -5,7 +5,7 @@ use Rattle.morris_index.specs.Numbering.{rank_of}
 use Rattle.morris_index.specs.Moves.{start_of}
 use Rattle.morris_index.proofs.IndexLaws.{placed, map_number-none}
 use Rattle.morris_index.proofs.PairLaws.{own_count, other_count}
-use Rattle.morris_index.proofs.MoveLaws.{own_24, other_24, other_fits, start_few}
+use Rattle.morris_index.proofs.MoveLaws.{own_24, other_24, other_fits, turned_few}
 use Rattle.morris_index.proofs.successors.SuccessorIndices.of.Goals as goal
 
 pub overflow_sub-POINTS : goal.overflow_sub-POINTS
@@ -33,7 +33,7 @@ overflow_mul-result g c =
     (c.count-2.ensures.value ∙ ap count_of c.own-own.ensures.points) in
     rw (rank_is, choices_is) (omega (
       arith,
-      start_few g.B.Geometry.POINTS c.args.position.now (omega (arith, g.met.B.Geometry.few))
+      turned_few g.B.Geometry.POINTS (omega (arith, g.met.B.Geometry.few)) c.args.position.now
           (placed g.B.Geometry.shape g.B.Geometry.POINTS c.args.position.now g.met.B.Geometry.point_count c.own-own.ensures.lawful)
           ((own_count c.args.position.now c.own-own.ensures.lawful.sized).1) ((other_count c.args.position.now c.own-own.ensures.lawful.sized).1),
     ))
@@ -48,7 +48,7 @@ overflow_add-result g c =
     rw (rank_is, choices_is) (omega (
       arith,
       c.start_of.ensures.few,
-      start_few g.B.Geometry.POINTS c.args.position.now (omega (arith, g.met.B.Geometry.few))
+      turned_few g.B.Geometry.POINTS (omega (arith, g.met.B.Geometry.few)) c.args.position.now
           (placed g.B.Geometry.shape g.B.Geometry.POINTS c.args.position.now g.met.B.Geometry.point_count c.own-own.ensures.lawful)
           ((own_count c.args.position.now c.own-own.ensures.lawful.sized).1) ((other_count c.args.position.now c.own-own.ensures.lawful.sized).1),
     ))

@@ -1,0 +1,82 @@
+use Rattle.std.proofs.Common.{◌≡◌, ◌<◌, ◌+◌, ◌-◌, ◌||◌, not, true, ap, ap₂, sym, ◌∙◌, arith}
+use Rattle.morris_board.specs.Sets.{has}
+use Rattle.morris_index.specs.Pairs.{index_of}
+use Rattle.morris_index.specs.Moves.{InPair, taken_back, lower_taken_back}
+use Rattle.morris_index.proofs.IndexLaws.{placed}
+use Rattle.morris_index.proofs.PairLaws.{own_count, other_count}
+use Rattle.morris_index.proofs.CarriedLaws.{member_has, split_after, pushed}
+use Rattle.morris_index.proofs.MoveLaws.{other_lt, vacant_own, vacant_other, turned_index-few, lower_index}
+use Rattle.morris_index.proofs.predecessors.PredecessorIndices.add_lower.Goals as goal
+
+pub lower-gone-requires : goal.lower-gone-requires
+lower-gone-requires g c =
+    let end : has c.self.inside.position.other c.args.to ≡ true = ap (λ (q : InPair). has q.position.other c.args.to) c.self.view_is ∙ c.requires.end in
+    other_lt g.B.Geometry.shape g.B.Geometry.POINTS g.met.B.Geometry.point_count (omega (arith, g.met.B.Geometry.few)) c.self.inside.position c.self.invariant.lawful c.args.to end
+
+pub lower-requires : goal.lower-requires
+lower-requires g c =
+    let end : has c.self.inside.position.other c.args.to ≡ true = ap (λ (q : InPair). has q.position.other c.args.to) c.self.view_is ∙ c.requires.end in
+    let here : has c.args.sources c.in-Some.from ≡ true =
+    member_has c.args.sources c.in-Some.from c.loop-from.yielded _ _ c.loop-from.invariant.split c.in-Some.ensures.steps in
+    let start : c.in-Some.from < g.B.Geometry.POINTS = omega (arith, (c.requires.sources c.in-Some.from here).0, other_lt g.B.Geometry.shape g.B.Geometry.POINTS g.met.B.Geometry.point_count (omega (arith, g.met.B.Geometry.few)) c.self.inside.position c.self.invariant.lawful c.args.to end) in
+    start
+
+pub overflow_add-turned : goal.overflow_add-turned
+overflow_add-turned g c =
+    omega (
+      arith,
+      c.self.invariant.turned,
+      c.lower.ensures.few,
+      turned_index-few g.B.Geometry.POINTS (omega (arith, g.met.B.Geometry.few)) c.self.inside.position
+          (placed g.B.Geometry.shape g.B.Geometry.POINTS c.self.inside.position g.met.B.Geometry.point_count c.self.invariant.lawful)
+          ((own_count c.self.inside.position c.self.invariant.lawful.sized).1) ((other_count c.self.inside.position c.self.invariant.lawful.sized).1) c.self.inside.pair c.self.invariant.pair,
+    )
+
+pub overflow_sub-turned : goal.overflow_sub-turned
+overflow_sub-turned g c =
+    let end : has c.self.inside.position.other c.args.to ≡ true = ap (λ (q : InPair). has q.position.other c.args.to) c.self.view_is ∙ c.requires.end in
+    let here : has c.args.sources c.in-Some.from ≡ true =
+    member_has c.args.sources c.in-Some.from c.loop-from.yielded _ _ c.loop-from.invariant.split c.in-Some.ensures.steps in
+    let start : c.in-Some.from < g.B.Geometry.POINTS = omega (arith, (c.requires.sources c.in-Some.from here).0, other_lt g.B.Geometry.shape g.B.Geometry.POINTS g.met.B.Geometry.point_count (omega (arith, g.met.B.Geometry.few)) c.self.inside.position c.self.invariant.lawful c.args.to end) in
+    let vacant : not (has c.self.inside.position.own c.in-Some.from || has c.self.inside.position.other c.in-Some.from) ≡ true =
+    ap (λ (q : InPair). not (has q.position.own c.in-Some.from || has q.position.other c.in-Some.from)) c.self.view_is ∙ (c.requires.sources c.in-Some.from here).1 in
+    let come : c.lower.result ≡ lower_taken_back g.B.Geometry.POINTS c.self.inside.position c.in-Some.from =
+    c.lower.ensures.value ∙ ap (λ (q : InPair). lower_taken_back g.B.Geometry.POINTS q.position c.in-Some.from) (sym c.self.view_is) in
+    let gone : c.lower-gone.result ≡ lower_taken_back g.B.Geometry.POINTS c.self.inside.position c.args.to =
+    c.lower-gone.ensures.value ∙ ap (λ (q : InPair). lower_taken_back g.B.Geometry.POINTS q.position c.args.to) (sym c.self.view_is) in
+    let grown : index_of g.B.Geometry.POINTS c.self.inside.pair (taken_back c.self.inside.position c.in-Some.from c.args.to) + c.lower-gone.result ≡ c.self.inside.turned + c.lower.result =
+    ap (λ x. index_of g.B.Geometry.POINTS c.self.inside.pair (taken_back c.self.inside.position c.in-Some.from c.args.to) + x) gone
+    ∙ (lower_index g.B.Geometry.POINTS (omega (arith, g.met.B.Geometry.few)) c.self.inside.pair c.self.inside.position
+    (placed g.B.Geometry.shape g.B.Geometry.POINTS c.self.inside.position g.met.B.Geometry.point_count c.self.invariant.lawful)
+    ((own_count c.self.inside.position c.self.invariant.lawful.sized).1) ((other_count c.self.inside.position c.self.invariant.lawful.sized).1)
+    c.in-Some.from c.args.to start (vacant_own _ _ vacant) (vacant_other _ _ vacant) end
+    c.self.inside.moved c.self.invariant.moved c.self.inside.renumbered c.self.invariant.renumbered (c.requires.sources c.in-Some.from here).0
+    ∙ ap₂ (λ x y. x + y) (sym c.self.invariant.turned) (sym come)) in
+    omega (arith, grown)
+
+pub loop-from-preserved : goal.loop-from-preserved
+loop-from-preserved g c =
+    let end : has c.self.inside.position.other c.args.to ≡ true = ap (λ (q : InPair). has q.position.other c.args.to) c.self.view_is ∙ c.requires.end in
+    let here : has c.args.sources c.in-Some.from ≡ true =
+    member_has c.args.sources c.in-Some.from c.loop-from.yielded _ _ c.loop-from.invariant.split c.in-Some.ensures.steps in
+    let start : c.in-Some.from < g.B.Geometry.POINTS = omega (arith, (c.requires.sources c.in-Some.from here).0, other_lt g.B.Geometry.shape g.B.Geometry.POINTS g.met.B.Geometry.point_count (omega (arith, g.met.B.Geometry.few)) c.self.inside.position c.self.invariant.lawful c.args.to end) in
+    let vacant : not (has c.self.inside.position.own c.in-Some.from || has c.self.inside.position.other c.in-Some.from) ≡ true =
+    ap (λ (q : InPair). not (has q.position.own c.in-Some.from || has q.position.other c.in-Some.from)) c.self.view_is ∙ (c.requires.sources c.in-Some.from here).1 in
+    let come : c.lower.result ≡ lower_taken_back g.B.Geometry.POINTS c.self.inside.position c.in-Some.from =
+    c.lower.ensures.value ∙ ap (λ (q : InPair). lower_taken_back g.B.Geometry.POINTS q.position c.in-Some.from) (sym c.self.view_is) in
+    let gone : c.lower-gone.result ≡ lower_taken_back g.B.Geometry.POINTS c.self.inside.position c.args.to =
+    c.lower-gone.ensures.value ∙ ap (λ (q : InPair). lower_taken_back g.B.Geometry.POINTS q.position c.args.to) (sym c.self.view_is) in
+    let grown : index_of g.B.Geometry.POINTS c.self.inside.pair (taken_back c.self.inside.position c.in-Some.from c.args.to) + c.lower-gone.result ≡ c.self.inside.turned + c.lower.result =
+    ap (λ x. index_of g.B.Geometry.POINTS c.self.inside.pair (taken_back c.self.inside.position c.in-Some.from c.args.to) + x) gone
+    ∙ (lower_index g.B.Geometry.POINTS (omega (arith, g.met.B.Geometry.few)) c.self.inside.pair c.self.inside.position
+    (placed g.B.Geometry.shape g.B.Geometry.POINTS c.self.inside.position g.met.B.Geometry.point_count c.self.invariant.lawful)
+    ((own_count c.self.inside.position c.self.invariant.lawful.sized).1) ((other_count c.self.inside.position c.self.invariant.lawful.sized).1)
+    c.in-Some.from c.args.to start (vacant_own _ _ vacant) (vacant_other _ _ vacant) end
+    c.self.inside.moved c.self.invariant.moved c.self.inside.renumbered c.self.invariant.renumbered (c.requires.sources c.in-Some.from here).0
+    ∙ ap₂ (λ x y. x + y) (sym c.self.invariant.turned) (sym come)) in
+    let index : c.self.inside.turned + c.lower.result - c.lower-gone.result ≡ index_of g.B.Geometry.POINTS c.self.inside.pair (taken_back c.self.inside.position c.in-Some.from c.args.to) = omega (arith, grown) in
+    record {
+      split = split_after c.loop-from.yielded _ c.in-Some.from _ _ c.in-Some.ensures.steps c.loop-from.invariant.split;
+      added = c.in_ok-push.ensures.items ∙ pushed _ c.args.out.now.items c.loop-from.yielded c.loop-from.out.items c.in-Some.from _ c.loop-from.invariant.added
+          (index ∙ ap (λ (q : InPair). index_of g.B.Geometry.POINTS q.pair (taken_back q.position c.in-Some.from c.args.to)) c.self.view_is);
+    }
