@@ -28,13 +28,14 @@ taken_back s u v = sides (with_point (without_point s.other v) u) s.own
 abbrev pub start_of : ℕ → Counts → ℕ → ℕ
 start_of n c own = if nat_eq own c.greater then 0 else half_size n c.greater c.lesser
 
--- What p comes to, on n points, where a stone of the opponent is taken back between p and a greater
--- point: the index of the position before is that of s with the other player to move, and what the
--- point comes to that the stone goes back to, less what the one that it leaves does.
+-- What p comes to, on n points, where p is an end of the way of a stone of the opponent that goes
+-- back to a lesser point: the index of the position before is that of s with the other player to
+-- move, and what the end comes to that the stone goes back to, less what the one does that it
+-- leaves.
 abbrev pub lower_taken_back : ℕ → Sides → ℕ → ℕ
 lower_taken_back n s p = lower_moved 0 s.other p * choose (n - count_of s.other) (count_of s.own) + lower_renumbered s.other s.own p
 
--- the same where it is taken back between p and a lesser point
+-- the same where it goes back to a greater point
 abbrev pub higher_taken_back : ℕ → Sides → ℕ → ℕ
 higher_taken_back n s p = higher_moved 0 s.other p * choose (n - count_of s.other) (count_of s.own) + higher_renumbered s.other s.own p
 

@@ -66,9 +66,8 @@ impl<B: Geometry> PredecessorIndices<B> {
         }
     }
 
-    /// What `point` comes to where a stone of the opponent is taken back between it and a greater
-    /// one: added to the index for the point that it goes back to, and taken away for the one that
-    /// it leaves.
+    /// What `point` comes to where a stone of the opponent goes back to a lesser point: added to the
+    /// index for the point that it goes back to, and taken away for the one that it leaves.
     fn lower(&self, point: u8) -> u64
         requires { point < B.POINTS }
         ensures value { result ≡ lower_taken_back B.POINTS self.now.position point }
@@ -80,7 +79,7 @@ impl<B: Geometry> PredecessorIndices<B> {
             + self.renumbered.lower(other, own, point)
     }
 
-    /// The same where it is taken back between `point` and a lesser one.
+    /// The same where it goes back to a greater point.
     fn higher(&self, point: u8) -> u64
         requires { point < B.POINTS }
         ensures value { result ≡ higher_taken_back B.POINTS self.now.position point }

@@ -56,8 +56,8 @@ impl MovedSums {
     }
 
     /// What `point` and the stones of `set`, the set of these sums, below it come to where a stone
-    /// moves between `point` and a greater one: added for the point that it goes to, and taken away
-    /// for the one that it leaves.
+    /// goes to a lesser point: added for the point that it goes to, and taken away for the one that
+    /// it leaves.
     pub(crate) fn lower(&self, outside: Points, set: Points, point: u8) -> u64
         requires sums { IsMoved outside set self.now }
         requires board { set < 2 ^ 24 }
@@ -70,7 +70,7 @@ impl MovedSums {
         u64::from(self.later[place as usize]) + binomial(number_outside(outside, point), place + 1)
     }
 
-    /// The same where it moves between `point` and a lesser one.
+    /// The same where it goes to a greater point.
     pub(crate) fn higher(&self, outside: Points, set: Points, point: u8) -> u64
         requires sums { IsMoved outside set self.now }
         requires board { set < 2 ^ 24 }
@@ -147,8 +147,8 @@ impl RenumberedSums {
     }
 
     /// What the stones of `set`, the set of these sums, below `point` come to where a stone outside
-    /// which they are numbered moves between `point` and a greater one: added for the point that it
-    /// goes to, and taken away for the one that it leaves.
+    /// which they are numbered goes to a lesser point: added for the point that it goes to, and taken
+    /// away for the one that it leaves.
     pub(crate) fn lower(&self, outside: Points, set: Points, point: u8) -> u64
         requires sums { IsRenumbered outside set self.now }
         requires board { set < 2 ^ 24 }
@@ -160,7 +160,7 @@ impl RenumberedSums {
         u64::from(self.before[set.count_below(point) as usize])
     }
 
-    /// The same where it moves between `point` and a lesser one.
+    /// The same where it goes to a greater point.
     pub(crate) fn higher(&self, outside: Points, set: Points, point: u8) -> u64
         requires sums { IsRenumbered outside set self.now }
         requires board { set < 2 ^ 24 }

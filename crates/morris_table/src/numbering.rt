@@ -205,7 +205,7 @@ impl<'a, B: Geometry> Successors<'a, B> {
 }
 
 /// What is kept of a position, so that the entries before a quiet move to it are found in constant
-/// time. It is borrowed: it may hold over 300 bytes, which each move of the enum would copy.
+/// time. It is borrowed: it may hold some 200 bytes, which each move of the enum would copy.
 #[derive(Drop)]
 pub(crate) enum Predecessors<'a, B: Geometry> {
     /// Among the entries of all positions.

@@ -21,8 +21,8 @@ pub record FreshState : Type 0 where
 abbrev pub is_from_to : ℕ → ℕ → ℕ → Bool
 is_from_to low high i = not (nat_lt i low) && nat_lt i high
 
--- exactly the nodes of the block from `low` to `high` of a depth one less than the wave, each once,
--- in ascending order
+-- Exactly the nodes of the block from `low` to `high` of a depth one less than the wave, each once,
+-- in ascending order. Some node is from `low` to `high`, unless that is 0.
 pub record FreshHolds (g : Net) (f : FreshState) : Type 0 where
   pub cut : IsCut f.cut
   pub size : g.size ≡ f.cut.size

@@ -1,4 +1,4 @@
--- Cuts of a graph into blocks, and what a block, its fresh nodes and a batch hold.
+-- Cuts of a graph into blocks, and what a block holds.
 use Rattle.std.specs.Prelude.{◌≡◌, ℕ, ◌+◌, ◌-◌, ◌*◌, ◌/◌, ◌^◌, ◌<◌, ◌≤◌, Bool, true, false, not, ◌||◌, nat_lt, List, length, map, replicate, slice_index_or}
 use Rattle.std.specs.List.{list_all, range_with_len}
 use Rattle.morris_wave.specs.Exits.{exits_of, last_due_of}

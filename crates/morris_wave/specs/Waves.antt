@@ -7,7 +7,7 @@ use Rattle.morris_wave.specs.Exits.{exits_lost, exits_won}
 use Rattle.morris_wave.specs.Values.{is_lost, is_won, is_decided, some_lost, all_won, code_within}
 
 -- A node is known at wave n when its depth is at most n - 2, or is n - 1 and the test holds of it:
--- its block is applied. At wave 0 nothing is known.
+-- its block is applied, or the piece of it that the node is in. At wave 0 nothing is known.
 unfoldable pub known_lost : Net → ℕ → (ℕ → Bool) → ℕ → Bool
 known_lost g zero applied j = false
 known_lost g (suc n) applied j = is_lost g n j || (applied j && is_lost g (suc n) j)
