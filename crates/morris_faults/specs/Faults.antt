@@ -1,5 +1,5 @@
 -- Which fault answers a refusal, and what an answer says of what was printed.
-use Rattle.std.specs.Prelude.{◌≡◌, ℕ, ◌+◌, ◌<◌, Bool, true, false, List, [], ◌∷◌, ◌++◌, length, take, codes, Option, Some, None, Result, Ok, Err, if◌then◌else◌}
+use Rattle.std.specs.Prelude.{◌≡◌, ℕ, ◌+◌, ◌<◌, ◌==◌, Bool, true, false, List, [], ◌∷◌, ◌++◌, length, take, codes, Option, Some, None, Result, Ok, Err, if◌then◌else◌}
 use Rattle.std.specs.Fmt.{decimal}
 use Rattle.std.specs.Io.KnownBytes.{Appends}
 use Rattle.morris_board.specs.Streams.{CountsFailure}
@@ -133,6 +133,10 @@ fault_number (fault.OtherPair greater lesser) = 31
 fault_number fault.NoFiles = 32
 fault_number (fault.Unanswered count) = 33
 fault_number fault.Digests = 34
+fault_number fault.Busy = 35
+fault_number fault.NoFolder = 36
+fault_number fault.Disagree = 37
+fault_number fault.Unlocked = 38
 fault_number (fault.InFile greater lesser f) = flaw_number f
 
 -- numbers of stones, with a hyphen (45) between them
@@ -175,6 +179,10 @@ flaw_text flaw.Read = codes "reading failed"
 flaw_text (flaw.Needs greater lesser) = codes "needs " ++ stones_text greater lesser
 flaw_text (flaw.Differs index) = codes "entry " ++ decimal index ++ codes " differs"
 
+-- how many lines have no answer, in words
+abbrev pub unanswered_text : ℕ → List ℕ
+unanswered_text count = if count == 1 then codes "1 line has no answer" else decimal count ++ codes " lines have no answer"
+
 -- the text of a fault
 abbrev pub fault_text : Fault → List ℕ
 fault_text fault.Length = codes "text is not one character per point"
@@ -206,8 +214,12 @@ fault_text (fault.Unwritten greater lesser) = codes "file of " ++ stones_text gr
 fault_text (fault.Unopened greater lesser) = codes "file of " ++ stones_text greater lesser ++ codes " can't be opened"
 fault_text (fault.OtherPair greater lesser) = codes "file of " ++ stones_text greater lesser ++ codes " has the table of another pair"
 fault_text fault.NoFiles = codes "no table files"
-fault_text (fault.Unanswered count) = decimal count ++ codes " lines have no answer"
+fault_text (fault.Unanswered count) = unanswered_text count
 fault_text fault.Digests = codes "file of digests can't be written"
+fault_text fault.Busy = codes "another build is at work in this folder"
+fault_text fault.NoFolder = codes "no such folder"
+fault_text fault.Disagree = codes "the files of this position and its moves disagree"
+fault_text fault.Unlocked = codes "folder can't be locked"
 fault_text (fault.InFile greater lesser f) = flaw_text f ++ codes ", in the file of " ++ stones_text greater lesser
 
 -- the flaw that a fault says a table file has, where it doesn't say which file
@@ -235,9 +247,13 @@ is_in_file _ = false
 abbrev pub in_file : Counts → Fault → Fault
 in_file c f = elim (flaw_in f) [ None ↦ f | Some found ↦ fault.InFile c.greater c.lesser found ]
 
--- the line of a fault: `fault N: TEXT`
+-- a fault with its number: `fault N: TEXT`
+unfoldable pub fault_words : Fault → List ℕ
+fault_words f = codes "fault " ++ decimal (fault_number f) ++ codes ": " ++ fault_text f
+
+-- the line of a fault
 unfoldable pub fault_line : Fault → List ℕ
-fault_line f = codes "fault " ++ decimal (fault_number f) ++ codes ": " ++ fault_text f ++ (10 ∷ [])
+fault_line f = fault_words f ++ (10 ∷ [])
 
 -- What was printed: all of the text where the answer is `Ok`, and its first `sent` bytes, not all
 -- of it, where it is `Write(sent)`.

@@ -88,6 +88,14 @@ pub enum Fault {
     Unanswered(u64),
     /// The file of digests can't be written.
     Digests,
+    /// Another build is at work in the folder.
+    Busy,
+    /// There is no such folder: the path stands for nothing, or for something else, or is empty.
+    NoFolder,
+    /// The table files say of a position what doesn't follow from what they say of its moves.
+    Disagree,
+    /// The lock of the folder can't be had, for another cause than that another build has it.
+    Unlocked,
     /// The file of the pair of these numbers of stones, the greater one first, has this flaw.
     InFile(u8, u8, Flaw),
 }
@@ -128,6 +136,10 @@ impl Fault {
             Fault::NoFiles => 32,
             Fault::Unanswered(_) => 33,
             Fault::Digests => 34,
+            Fault::Busy => 35,
+            Fault::NoFolder => 36,
+            Fault::Disagree => 37,
+            Fault::Unlocked => 38,
             Fault::InFile(_, _, flaw) => flaw.number(),
             _ => unreachable!(),
         }
@@ -177,8 +189,13 @@ impl Fault {
                 " has the table of another pair",
             ),
             Fault::NoFiles => Words::Plain("no table files"),
+            Fault::Unanswered(1) => Words::Plain("1 line has no answer"),
             Fault::Unanswered(count) => Words::Number("", count, " lines have no answer"),
             Fault::Digests => Words::Plain("file of digests can't be written"),
+            Fault::Busy => Words::Plain("another build is at work in this folder"),
+            Fault::NoFolder => Words::Plain("no such folder"),
+            Fault::Disagree => Words::Plain("the files of this position and its moves disagree"),
+            Fault::Unlocked => Words::Plain("folder can't be locked"),
             _ => unreachable!(),
         }
     }

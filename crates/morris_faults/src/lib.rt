@@ -7,5 +7,5 @@ pub mod fault;
 pub mod flaw;
 pub mod pairs;
 pub mod print;
-mod print_fault;
+pub mod print_fault;
 pub mod wording;

@@ -1,7 +1,7 @@
 //! What is printed of a fault.
 ghost use Rattle.std.specs.Prelude.{◌≡◌, ◌+◌, ◌-◌, ◌^◌, ◌<◌, ◌≤◌, OnOk};
 ghost use Rattle.morris_board.specs.Buffered.{Passes, sink_of, taken_of};
-ghost use Rattle.morris_faults.specs.Faults.{length_around, length_worded, said, worded};
+ghost use Rattle.morris_faults.specs.Faults.{fault_words, length_around, length_worded, said, worded};
 
 use crate::fault::Fault;
 use crate::pairs::put_stones;
@@ -19,11 +19,25 @@ impl Printed for Fault {
     ghost bytes = { λ fault. fault_line fault };
 
     fn put_into<S: Sink>(&self, out: &mut Buffered<'_, S>) -> Result<(), Failed> {
-        put_count(out, "fault ", u64::from(self.number()))?;
-        out.put(b": ")?;
-        put_wording(out, self.wording())?;
+        put_fault(out, *self)?;
         out.put_byte(b'\n')
     }
+}
+
+/// A fault with its number, as a line begins that tells it: `fault N: TEXT`.
+///
+/// # Errors
+/// [`Failed`] at the first write that fails.
+#[tactic(auto, using(morris_board::proofs::BufferedLaws::passed_laws), unfolding(crate::specs::Faults::fault_words))]
+pub fn put_fault<S: Sink>(out: &mut Buffered<'_, S>, fault: Fault) -> Result<(), Failed>
+    requires failures { S.failures (sink_of out.old) < 2 ^ 64 - 1 }
+    requires room { taken_of out.old < 2 ^ 61 }
+    ensures passed { Passes S.contents S.failures out.old out.new (fault_words fault) result }
+    ensures few { OnOk result (taken_of out.new ≤ taken_of out.old + 300) }
+{
+    put_count(out, "fault ", u64::from(fault.number()))?;
+    out.put(b": ")?;
+    put_wording(out, fault.wording())
 }
 
 /// The text of a fault.

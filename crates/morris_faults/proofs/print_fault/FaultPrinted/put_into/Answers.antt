@@ -1,47 +1,17 @@
-use Rattle.std.proofs.Common.{[], ◌∷◌, ◌++◌, codes}
-use Rattle.std.specs.Fmt.{decimal}
+use Rattle.std.proofs.Common.{[], ◌∷◌}
 use Rattle.std.proofs.lemmas.Result.{err_from_is_err_and}
-use Rattle.morris_board.proofs.BufferedLaws.{PartPassed-append, PartPassed-longer, both, goes_on}
-use Rattle.morris_faults.specs.Faults.{fault_line, fault_number, fault_text}
+use Rattle.morris_board.proofs.BufferedLaws.{PartPassed-longer, goes_on}
+use Rattle.morris_faults.specs.Faults.{fault_line, fault_words}
 use Rattle.morris_faults.proofs.print_fault.FaultPrinted.put_into.Goals as goal
 
-pub returns-in_err-put_count-clause-passed : goal.returns-in_err-put_count-clause-passed
+pub returns-in_err-put_fault-clause-passed : goal.returns-in_err-put_fault-clause-passed
 unfolding fault_line
-returns-in_err-put_count-clause-passed g c =
+returns-in_err-put_fault-clause-passed g c =
     let failed = err_from_is_err_and c.from_residual.result c.from_residual.ensures.1 in
-    let start = codes "fault " ++ decimal (fault_number c.args.self.now) in
     rw failed.1
-    (PartPassed-longer g.S.Sink.contents g.S.Sink.failures c.args.out.now c.put_count.new.out (start ++ codes ": " ++ fault_text c.args.self.now) (10 ∷ [])
-    (PartPassed-longer g.S.Sink.contents g.S.Sink.failures c.args.out.now c.put_count.new.out (start ++ codes ": ") (fault_text c.args.self.now)
-    (PartPassed-longer g.S.Sink.contents g.S.Sink.failures c.args.out.now c.put_count.new.out start (codes ": ")
-    (rw (c.from.ensures, c.number.ensures) at c.in_err-put_count.ensures.passed))))
-
-pub returns-in_err-put-clause-passed : goal.returns-in_err-put-clause-passed
-unfolding fault_line
-returns-in_err-put-clause-passed g c =
-    let failed = err_from_is_err_and c.from_residual-in_err-put.result c.from_residual-in_err-put.ensures.1 in
-    let start = codes "fault " ++ decimal (fault_number c.args.self.now) in
-    rw failed.1
-    (PartPassed-longer g.S.Sink.contents g.S.Sink.failures c.args.out.now c.put.new.self (start ++ codes ": " ++ fault_text c.args.self.now) (10 ∷ [])
-    (PartPassed-longer g.S.Sink.contents g.S.Sink.failures c.args.out.now c.put.new.self (start ++ codes ": ") (fault_text c.args.self.now)
-    (PartPassed-append g.S.Sink.contents g.S.Sink.failures c.args.out.now c.put_count.new.out c.put.new.self start (codes ": ")
-    (rw (c.from.ensures, c.number.ensures) at c.in_ok-put_count.ensures.passed) c.in_err-put.ensures.passed)))
-
-pub returns-in_err-put_wording-clause-passed : goal.returns-in_err-put_wording-clause-passed
-unfolding fault_line
-returns-in_err-put_wording-clause-passed g c =
-    let failed = err_from_is_err_and c.from_residual-in_err-put_wording.result c.from_residual-in_err-put_wording.ensures.1 in
-    let start = codes "fault " ++ decimal (fault_number c.args.self.now) in
-    rw failed.1
-    (PartPassed-longer g.S.Sink.contents g.S.Sink.failures c.args.out.now c.put_wording.new.out (start ++ codes ": " ++ fault_text c.args.self.now) (10 ∷ [])
-    (PartPassed-append g.S.Sink.contents g.S.Sink.failures c.args.out.now c.put.new.self c.put_wording.new.out (start ++ codes ": ") (fault_text c.args.self.now)
-    (both (rw (c.from.ensures, c.number.ensures) at c.in_ok-put_count.ensures.passed) c.in_ok-put.ensures.passed)
-    (rw c.wording.ensures.text at c.in_err-put_wording.ensures.passed)))
+    (PartPassed-longer g.S.Sink.contents g.S.Sink.failures c.args.out.now c.put_fault.new.out (fault_words c.args.self.now) (10 ∷ []) c.in_err-put_fault.ensures.passed)
 
 pub returns-clause-passed : goal.returns-clause-passed
 unfolding fault_line
 returns-clause-passed g c =
-    goes_on c.put_byte.new.self (10 ∷ []) c.put_byte.result
-    (both (both (rw (c.from.ensures, c.number.ensures) at c.in_ok-put_count.ensures.passed) c.in_ok-put.ensures.passed)
-    (rw c.wording.ensures.text at c.in_ok-put_wording.ensures.passed))
-    c.put_byte.ensures.passed
+    goes_on c.put_byte.new.self (10 ∷ []) c.put_byte.result c.in_ok-put_fault.ensures.passed c.put_byte.ensures.passed
