@@ -3,6 +3,7 @@ pub mod StatsLaws
 mod BundleLaws
 pub mod BuildLaws
 mod OwnLaws
+mod AloneLaws
 pub mod NearLaws
 pub mod BeforeLaws
 pub mod DeepestLaws

@@ -11,3 +11,4 @@ pub mod print_verified;
 pub mod probe;
 pub mod stats;
 pub mod verify;
+pub mod verify_in;

@@ -20,6 +20,7 @@ use morris_table::exact::Exact;
 use morris_table::raw::Raw;
 use morris_table::reading::read_next;
 use morris_table::shelf::Shelf;
+use morris_workers::Unwatched;
 use std::alloc::Global;
 
 /// How many table files are taken from the input at most.
@@ -28,8 +29,27 @@ const MOST_FILES: u8 = 64;
 /// Reports the position that `text` writes on the board named `board`: its value and its best
 /// moves, as the tables on the input have them. The input is a bundle, table files one after the
 /// other to its end, at most 64 of them. A table comes after those of the pairs that its pair
-/// needs; each is verified as it comes, and takes the place of an earlier one of its pair. `teller`
-/// is told how far it is.
+/// needs; each is verified as it comes, and takes the place of an earlier one of its pair.
+///
+/// # Errors
+/// Those of [`probe_with`].
+pub fn probe_in<I: Source, O: Sink>(
+    alloc: Global,
+    board: &str,
+    text: &str,
+    input: &mut I,
+    output: &mut O,
+) -> Result<(), Fault>
+    requires streams { MayFail (I.failures input.old) (O.failures output.old) }
+    ensures answer { AnswersProbe (board_of board.now) text.now (input_of (I.remaining input.old) (I.failures input.old))
+        (input_of (I.remaining input.new) (I.failures input.new)) (O.contents output.old) (O.contents output.new) result }
+    ensures unread { ¬ IsAsked (board_of board.now) text.now → input.new ≡ input.old }
+    ensures counted { CountsWrites (O.failures output.old) (O.failures output.new) result }
+{
+    probe_with(alloc, board, text, input, output, &mut Unwatched)
+}
+
+/// Reports what [`probe_in`] reports, and tells `teller` how far it is.
 ///
 /// # Errors
 /// [`Fault::Board`] where there is no such board, else [`Fault::Length`], [`Fault::Character`] or
@@ -154,7 +174,7 @@ fn join_shelf<B: Board, T: Teller>(
 }
 
 /// The table, once each of its entries is known to be right over the tables of a shelf.
-fn verify_over<B: Board>(shelf: &Shelf<B>, raw: Raw<B>) -> Result<Exact<B>, Fault>
+pub(crate) fn verify_over<B: Board>(shelf: &Shelf<B>, raw: Raw<B>) -> Result<Exact<B>, Fault>
     ensures ready { OnOk result (first_missing shelf.now raw.pair ≡ None) }
     ensures value { IfOk result (λ exact. exact ≡ raw) }
     ensures exact { OnOk result (IsTable B.shape raw) }

@@ -1,5 +1,5 @@
 //! The command `stats`.
-ghost use Rattle.std.specs.Prelude.{◌≡◌, ◌≢◌, ◌-◌, ◌^◌, ◌<◌, None, true, is_some, IfErr, IfOk, OnErr, OnOk};
+ghost use Rattle.std.specs.Prelude.{◌≡◌, ◌≢◌, ◌-◌, ◌^◌, ◌<◌, None, true, false, is_some, IfErr, IfOk, OnErr, OnOk};
 ghost use Rattle.morris_index.specs.Pairs.{Counts, EndsIn, below_of};
 ghost use Rattle.morris_table.specs.Known.{IsBeyondCodes};
 ghost use Rattle.morris_table.specs.Shelves.{first_missing, table_on};
@@ -25,6 +25,7 @@ use morris_table::exact::Exact;
 use morris_table::layout::Layout;
 use morris_table::shelf::Shelf;
 use morris_table::sweeping::sweep_pair_watched;
+use morris_workers::Unwatched;
 use std::alloc::Global;
 use std::sync::Wait;
 use std::thread::Threads;
@@ -32,9 +33,26 @@ use std::thread::Threads;
 /// Counts the values of all positions of the pair that the text `pair` names on the board named
 /// `board`: how many positions there are, how many of them are lost or won in each depth that some
 /// position has, in ascending order, and how many are draws. The pairs below it are swept first, in
-/// order, since the values of a pair rest on theirs. `teller` is told how far it is. Where
-/// `deepest` is true, two lines more show positions of the pair with the greatest depths: one that
-/// is won, and one that is lost; of several the one with the least index.
+/// order, since the values of a pair rest on theirs.
+///
+/// # Errors
+/// Those of [`stats_with`].
+pub fn stats<S: Sink>(
+    alloc: Global,
+    board: &str,
+    pair: &str,
+    output: &mut S,
+) -> Result<(), Fault>
+    requires { S.failures output.old < 2 ^ 64 - 1 }
+    ensures answer { AnswersStats (board_of board.now) pair.now false (S.contents output.old) (S.contents output.new) result }
+    ensures counted { CountsWrites (S.failures output.old) (S.failures output.new) result }
+{
+    stats_with(alloc, board, pair, false, output, &mut Unwatched)
+}
+
+/// Prints what [`stats`] prints, and tells `teller` how far it is. Where `deepest` is true, two
+/// lines more show positions of the pair with the greatest depths: one that is won, and one that is
+/// lost; of several the one with the least index.
 ///
 /// # Errors
 /// [`Fault::Board`] where there is no such board, else [`Fault::PairText`], [`Fault::Counts`] or
@@ -118,7 +136,7 @@ fn sweep_below<B: Board, T: Teller>(
 }
 
 /// The tables of all pairs below a pair but its own, among them those that it needs.
-fn sweep_before<B: Board, T: Teller>(
+pub(crate) fn sweep_before<B: Board, T: Teller>(
     alloc: Global,
     pair: Pair<B>,
     teller: &mut T,

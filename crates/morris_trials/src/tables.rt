@@ -35,6 +35,12 @@ pub(crate) fn file_of(alloc: Global, table: &Exact<Grid>) -> Option<Vec<u8>> {
     Some(sink.into_inner())
 }
 
+/// The file of 3-3.
+pub(crate) fn file_of_three(alloc: Global) -> Option<Vec<u8>> {
+    let shelf = shelf(alloc)?;
+    file_of(alloc, shelf.get(Pair::new(3, 3).ok()?)?)
+}
+
 /// Prints the length and the digest of a table's file, or why there is no table.
 pub(crate) fn tell_table<E: Display>(
     rt: &impl Print,
@@ -161,8 +167,7 @@ pub(crate) fn counts_codes(rt: &impl Print, alloc: Global) -> Option<()> {
 }
 
 pub(crate) fn reads_a_table(rt: &impl Print, alloc: Global) -> Option<()> {
-    let shelf = shelf(alloc)?;
-    let file = file_of(alloc, shelf.get(Pair::new(3, 3).ok()?)?)?;
+    let file = file_of_three(alloc)?;
     let mut source = FromRead::new(file.as_slice());
     mark(alloc)?;
     let first = read_table::<Grid, _>(alloc, &mut source);
@@ -217,8 +222,7 @@ pub(crate) fn reads_a_table_by_classes(rt: &impl Print, alloc: Global) -> Option
 }
 
 pub(crate) fn reads_the_next_table(rt: &impl Print, alloc: Global) -> Option<()> {
-    let shelf = shelf(alloc)?;
-    let file = file_of(alloc, shelf.get(Pair::new(3, 3).ok()?)?)?;
+    let file = file_of_three(alloc)?;
     let mut source = FromRead::new(file.as_slice());
     mark(alloc)?;
     let first = read_next::<Grid, _>(alloc, &mut source);
