@@ -3,6 +3,7 @@ use Rattle.std.specs.Prelude.{◌≡◌, ◌≢◌, ◌⊎◌, ◌==◌, ℕ, Bo
 use Rattle.std.specs.Vec.Iter.{into_iter_items}
 use Rattle.std.specs.declared.vec.IntoIter.{IntoIter}
 use Rattle.std.specs.Io.KnownBytes.{Keeps}
+use Rattle.std.specs.Option.{option_map}
 use Rattle.clap.specs.Words.{IsAmong, Kinds, Row, Text}
 use Rattle.clap.specs.declared.error.kind.ErrorKind.{ErrorKind}
 use Rattle.clap.specs.declared.error.kind.ErrorKind.TheVariants as kind
@@ -92,6 +93,13 @@ Answers before after old new (Verify board all (Some folder) workers) result = A
 Answers before after old new (Probe board text) result = AnswersProbe (board_of board.now) text.now before after old new result
 Answers before after old new (Lookup board from show texts) result = AnswersQueries board.now show (map (λ t. t.now) texts.items) before after old new result
 
+-- the path of the folder that a task works in, where it names one
+abbrev pub folder_of : Task → Option (List ℕ)
+folder_of (Build board pair workers blocks all into classes) = option_map (λ path. path.now) into
+folder_of (Verify board all from workers) = option_map (λ path. path.now) from
+folder_of (Lookup board from show texts) = Some from.now
+folder_of _ = None
+
 -- whether the command of a task reads its input
 abbrev pub takes_input : Task → Bool
 takes_input (Verify board all None workers) = true
@@ -104,6 +112,10 @@ takes_input _ = false
 abbrev pub TellsProgress : {E : Type 0} → (E → Option (List ℕ)) → (E → ℕ) → List Text → E → E → Type 0
 TellsProgress contents failures words old new =
     (new ≡ old) ⊎ ((request : Request) × AsksFor (named_by words) request × (request.progress ≡ true) × TellsInOrder contents failures old new)
+
+-- the path is that of the folder which the command that was named works in; or there is none
+abbrev pub NamesFolder : List Text → Option (List ℕ) → Type 0
+NamesFolder words path = (path ≡ None) ⊎ ((request : Request) × AsksFor (named_by words) request × (path ≡ folder_of request.task))
 
 -- the command that was named reads its input
 abbrev pub AsksToRead : Option (Text × List Row) → Type 0

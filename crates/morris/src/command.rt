@@ -1,12 +1,16 @@
 //! The command line: from its words to what goes out, and the exit status.
 ghost use Rattle.std.specs.Prelude.{◌≡◌, ◌≢◌, ◌-◌, ◌^◌, ◌<◌, ◌≤◌, ◌==◌, [], IsTrue, false, length, map, if◌then◌else◌};
-ghost use Rattle.morris_faults.specs.Faults.{Reports, ReportsFault, ReportsText};
+ghost use Rattle.morris_faults.specs.Faults.{ReportsFault, ReportsText};
 ghost use Rattle.morris_faults.specs.declared.fault.Fault.TheVariants as fault;
 ghost use Rattle.morris_words.specs.Words.{IsInRange, faults_of, named_by};
 ghost use Rattle.morris_words.specs.declared.words.Task.TheVariants as task;
 ghost use Rattle.morris_commands.specs.Verify.{MayFail, input_of};
-ghost use Rattle.morris.specs.Command.{Answers, AnswersCount, AnswersQueries, AnswersTables, AsksToRead, Ends, HasMistake, TellsProgress, end_of, not_text, shown_of, status_of, takes_input};
+ghost use Rattle.morris.specs.Reporting.{ReportsAt};
+ghost use Rattle.std.specs.Option.{option_map};
+ghost use Rattle.std.specs.Prelude.{Option, List, ℕ};
+ghost use Rattle.morris.specs.Command.{NamesFolder, folder_of, Answers, AnswersCount, AnswersQueries, AnswersTables, AsksToRead, Ends, HasMistake, TellsProgress, end_of, not_text, shown_of, status_of, takes_input};
 
+use crate::report::{Place, report};
 use morris_board::streams::{Sink, Source};
 use morris_commands::build::{Order, build_on, layout_of};
 use morris_commands::look::look;
@@ -19,6 +23,7 @@ use morris_faults::print::{print, send};
 use morris_folder_commands::bundle::verify_bundle;
 use morris_folder_commands::from::verify_from;
 use morris_folder_commands::into::build_into;
+use morris_folders::reason::Reason;
 use morris_folders::system::SystemFolder;
 use morris_progress::progress::Progress;
 use morris_progress::team::{Crew, Team};
@@ -76,17 +81,28 @@ pub fn command<
         × Ends (map W.text words.now) (input_of (I.remaining input.old) (I.failures input.old)) (input_of (I.remaining input.new) (I.failures input.new))
         (O.contents output.old) (O.contents output.new) answer
         × TellsProgress E.contents E.failures (map W.text words.now) errors.old midway
-        × (result ≡ status_of answer) × Reports E.contents E.failures midway errors.new answer }
+        × (result ≡ status_of answer)
+        × ((path : Option (List ℕ)) × (why : _) × NamesFolder (map W.text words.now) path × ReportsAt E.contents E.failures path why midway errors.new answer) }
 {
     match read_words(alloc, words) {
         Ok(request) => {
+            let path = folder_of(&request.task);
             let mut progress = Progress::new(rt, request.progress, errors);
-            let done = run(rt, alloc, request.task, input, output, &mut progress);
-            finish(done, errors)
+            let mut why = None;
+            let done = run(
+                rt,
+                alloc,
+                request.task,
+                &mut why,
+                input,
+                output,
+                &mut progress,
+            );
+            finish(done, Place { path, why }, errors)
         }
-        Err(Refusal::Help(text)) => finish(print(&text.as_str(), output), errors),
-        Err(Refusal::Version(text)) => finish(print(&text.as_str(), output), errors),
-        Err(Refusal::Memory) => finish(Err(Fault::Memory), errors),
+        Err(Refusal::Help(text)) => finish(print(&text.as_str(), output), Place::NONE, errors),
+        Err(Refusal::Version(text)) => finish(print(&text.as_str(), output), Place::NONE, errors),
+        Err(Refusal::Memory) => finish(Err(Fault::Memory), Place::NONE, errors),
         Err(Refusal::Wrong(text)) => {
             let _ = send(&text.as_str(), errors);
             2
@@ -103,17 +119,31 @@ pub fn refuse_words<E: Sink>(out_of_memory: bool, errors: &mut E) -> u8
     ensures told { out_of_memory ≡ false → ReportsText E.contents E.failures errors.old errors.new not_text }
 {
     if out_of_memory {
-        return finish(Err(Fault::Memory), errors);
+        return finish(Err(Fault::Memory), Place::NONE, errors);
     }
     let _ = send(&"error: a word of the command line is not text\n", errors);
     2
 }
 
-/// Runs the command of a task, and tells `teller` how far it is.
+/// The folder that a task works in, where it names one.
+fn folder_of<'a>(task: &Task<'a>) -> Option<&'a str>
+    ensures { option_map (λ path. path.now) result ≡ folder_of task.now }
+{
+    match task {
+        Task::Build { into, .. } => *into,
+        Task::Verify { from, .. } => *from,
+        Task::Lookup { from, .. } => Some(*from),
+        Task::Look { .. } | Task::Stats { .. } | Task::Probe { .. } => None,
+    }
+}
+
+/// Runs the command of a task, and tells `teller` how far it is. `why` is what the system said of
+/// the task's folder, where it refused something.
 fn run<R: Threads + Wait + Sync + Files<File = File> + AllocGlobal, I: Source, O: Sink, T: Teller>(
     rt: &R,
     alloc: Global,
     task: Task<'_>,
+    why: &mut Option<Reason>,
     input: &mut I,
     output: &mut O,
     teller: &mut T,
@@ -148,21 +178,23 @@ fn run<R: Threads + Wait + Sync + Files<File = File> + AllocGlobal, I: Source, O
             classes,
         } => {
             let order = order_of(board, pair, workers, blocks);
-            build(rt, alloc, order, all, into, classes, output, teller)
+            build(rt, alloc, order, all, into, classes, why, output, teller)
         }
         Task::Verify {
             board,
             all,
             from,
             workers,
-        } => verify(rt, alloc, board, all, from, workers, input, output, teller),
+        } => verify(
+            rt, alloc, board, all, from, workers, why, input, output, teller,
+        ),
         Task::Probe { board, text } => probe_with(alloc, board, text, input, output, teller),
         Task::Lookup {
             board,
             from,
             show,
             texts,
-        } => look_up(rt, alloc, board, from, show, texts, input, output),
+        } => look_up(rt, alloc, board, from, show, texts, why, input, output),
     }
 }
 
@@ -214,6 +246,7 @@ fn build<R: Threads + Wait + Sync + Files<File = File> + AllocGlobal, O: Sink, T
     all: bool,
     into: Option<&str>,
     classes: bool,
+    why: &mut Option<Reason>,
     output: &mut O,
     teller: &mut T,
 ) -> Result<(), Fault>
@@ -231,9 +264,11 @@ fn build<R: Threads + Wait + Sync + Files<File = File> + AllocGlobal, O: Sink, T
                 workers,
                 blocks,
             } = order;
-            build_into(
+            let done = build_into(
                 rt, alloc, board, pair, workers, blocks, classes, folder, output, teller,
-            )
+            );
+            *why = folder.why();
+            done
         }
         None => {
             let layout = layout_of(classes);
@@ -259,6 +294,7 @@ fn verify<
     all: bool,
     from: Option<&str>,
     workers: u8,
+    why: &mut Option<Reason>,
     input: &mut I,
     output: &mut O,
     teller: &mut T,
@@ -276,7 +312,9 @@ fn verify<
     match from {
         Some(path) => {
             let folder = &mut SystemFolder::new(rt, path);
-            verify_from(rt, alloc, board, team, folder, output, teller)
+            let done = verify_from(rt, alloc, board, team, folder, output, teller);
+            *why = folder.why();
+            done
         }
         None if all => verify_bundle(rt, alloc, board, team, input, output, teller),
         None => {
@@ -295,6 +333,7 @@ fn look_up<R: Files<File = File> + AllocGlobal, I: Source, O: Sink>(
     from: &str,
     show: words::Show,
     texts: Vec<&str>,
+    why: &mut Option<Reason>,
     input: &mut I,
     output: &mut O,
 ) -> Result<(), Fault>
@@ -305,11 +344,13 @@ fn look_up<R: Files<File = File> + AllocGlobal, I: Source, O: Sink>(
 {
     let library = &mut SystemLibrary::new(rt, from);
     let show = shown(show);
-    if texts.is_empty() {
-        end(lookup_lines(alloc, board, library, input, show, output))
+    let answered = if texts.is_empty() {
+        lookup_lines(alloc, board, library, input, show, output)
     } else {
-        end(lookup_texts(alloc, board, library, texts.as_slice(), show, output))
-    }
+        lookup_texts(alloc, board, library, texts.as_slice(), show, output)
+    };
+    *why = library.why();
+    end(answered)
 }
 
 /// How `lookup` ends: texts that have no answer are a fault.
@@ -335,16 +376,15 @@ fn shown(show: words::Show) -> Show
 }
 
 /// The exit status of a command; where it was refused, its fault goes to `errors`.
-fn finish<E: Sink>(done: Result<(), Fault>, errors: &mut E) -> u8
+fn finish<E: Sink>(done: Result<(), Fault>, place: Place<'_>, errors: &mut E) -> u8
     requires { E.failures errors.old < 2 ^ 64 - 1 }
     ensures status { result ≡ status_of done }
-    ensures reported { Reports E.contents E.failures errors.old errors.new done }
+    ensures reported { ReportsAt E.contents E.failures (option_map (λ path. path.now) place.entry.path) place.entry.why errors.old errors.new done }
 {
     match done {
         Ok(()) => 0,
         Err(fault) => {
-            // A fault of `errors` itself is ignored.
-            let _ = send(&fault, errors);
+            report(fault, place, errors);
             1
         }
     }

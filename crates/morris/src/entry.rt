@@ -1,11 +1,12 @@
 //! Where the program begins: what the system gave as words, and the exit status.
-ghost use Rattle.std.specs.Prelude.{◌≡◌, ◌≢◌, ◌-◌, ◌^◌, ◌<◌, ◌≤◌, IfErr, IfOk};
+ghost use Rattle.std.specs.Prelude.{◌≡◌, ◌≢◌, ◌-◌, ◌^◌, ◌<◌, ◌≤◌, ℕ, IfErr, IfOk, List, Option};
 ghost use Rattle.std.specs.IoError.{error_kind};
 ghost use Rattle.std.specs.Process.{exit_status};
 ghost use Rattle.std.specs.Vec.Iter.{into_iter_items};
 ghost use Rattle.std.specs.declared.io.ErrorKind.TheVariants.{OutOfMemory};
-ghost use Rattle.morris.specs.Command.{AsksToRead, Ends, HasMistake, TellsProgress, not_text, status_of, texts_of};
-ghost use Rattle.morris_faults.specs.Faults.{Reports, ReportsFault, ReportsText};
+ghost use Rattle.morris.specs.Command.{AsksToRead, Ends, HasMistake, NamesFolder, TellsProgress, not_text, status_of, texts_of};
+ghost use Rattle.morris_faults.specs.Faults.{ReportsFault, ReportsText};
+ghost use Rattle.morris.specs.Reporting.{ReportsAt};
 ghost use Rattle.morris_commands.specs.Verify.{input_of};
 ghost use Rattle.morris_words.specs.Words.{faults_of, named_by};
 ghost use Rattle.morris_faults.specs.declared.fault.Fault.TheVariants as fault;
@@ -49,7 +50,8 @@ pub fn answer_words<
         × Ends (texts_of given) (input_of (I.remaining input.old) (I.failures input.old)) (input_of (I.remaining input.new) (I.failures input.new))
         (O.contents output.old) (O.contents output.new) answer
         × TellsProgress E.contents E.failures (texts_of given) errors.old midway
-        × (exit_status result ≡ status_of answer) × Reports E.contents E.failures midway errors.new answer) }
+        × (exit_status result ≡ status_of answer)
+        × ((path : Option (List ℕ)) × (why : _) × NamesFolder (texts_of given) path × ReportsAt E.contents E.failures path why midway errors.new answer)) }
 
     // Where there are no words.
     ensures unheard { IfErr words (λ refused. (output.new ≡ output.old) × (input.new ≡ input.old)) }
