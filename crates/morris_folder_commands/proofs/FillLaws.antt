@@ -69,28 +69,28 @@ one_more {B = B} name ws w =
     flat_map-append f ws (w ∷ []) ∙ ap (λ lines. flat_map f ws ++ lines) (append-nil (f w))
 
 -- the end, by the same files
-pub ends_with : {B : Type 0} (name : List ℕ) (us ws : List (Written B)) (before after : Place) (result : Result (Unit {0}) Fault) → us ≡ ws
-    → Ends name (lines_of name us) before after result → Ends name (lines_of name ws) before after result
-ends_with name us ws before after result same ends = subst (λ files. Ends name (lines_of name files) before after result) same ends
+pub ends_with : {B : Type 0} (name kept : List ℕ) (us ws : List (Written B)) (before after : Place) (result : Result (Unit {0}) Fault) → us ≡ ws
+    → Ends name (kept ++ lines_of name us) before after result → Ends name (kept ++ lines_of name ws) before after result
+ends_with name kept us ws before after result same ends = subst (λ files. Ends name (kept ++ lines_of name files) before after result) same ends
 
-module _ (board : Shape) (l : Layout) (name : List ℕ) (blocks : ℕ) where
+module _ (board : Shape) (l : Layout) (name : List ℕ) (blocks : ℕ) (kept : List ℕ) where
   -- Some pairs are done: what the others lead to, to that all lead.
   abbrev pub Leads : Place → List Counts → List Counts → ℕ → List ℕ → Place → Type 0
   Leads start all pairs sent digests here =
-      (after : Place) (result : Result (Unit {0}) Fault) → Fills board l name blocks pairs sent digests here after result
-      → Fills board l name blocks all 0 [] start after result
+      (after : Place) (result : Result (Unit {0}) Fault) → Fills board l name blocks kept pairs sent digests here after result
+      → Fills board l name blocks kept all 0 [] start after result
 
   -- a pair that isn't built
   pub unbuilt : (start : Place) (all pairs : List Counts) (c : Counts) (sent : ℕ) (digests : List ℕ) (here : Place) (refused : Fault)
       → Leads start all (c ∷ pairs) sent digests here → IsUnbuiltAt board c blocks refused
-      → Fills board l name blocks all 0 [] start here (Err refused)
+      → Fills board l name blocks kept all 0 [] start here (Err refused)
   unfolding Fills
   unbuilt start all pairs c sent digests here refused leads why = leads here (Err refused) (inl (refused, refl, why, stays here))
 
   -- one that is built and not done
   pub undone : (start : Place) (all pairs : List Counts) (c : Counts) (sent : ℕ) (digests : List ℕ) (here after : Place) (t : Table) (refused : Fault)
       → Leads start all (c ∷ pairs) sent digests here → IsBuilt board l c t → ¬ IsBeyondCodes board c → IsUndone board name t sent here after refused
-      → Fills board l name blocks all 0 [] start after (Err refused)
+      → Fills board l name blocks kept all 0 [] start after (Err refused)
   unfolding Fills
   undone start all pairs c sent digests here after t refused leads built within why =
       leads after (Err refused) (inr (t, built, within, inl (refused, refl, why)))
@@ -109,14 +109,14 @@ module _ (board : Shape) (l : Layout) (name : List ℕ) (blocks : ℕ) where
         inr (
           next,
           done,
-          subst (λ d. Fills board l name blocks pairs (sent + length (filed_line board t)) d next after result) told
-              (subst (λ n. Fills board l name blocks pairs n more next after result) counted goes),
+          subst (λ d. Fills board l name blocks kept pairs (sent + length (filed_line board t)) d next after result) told
+              (subst (λ n. Fills board l name blocks kept pairs n more next after result) counted goes),
         ),
       ))
 
   -- all are done
   pub all_done : (start : Place) (all : List Counts) (sent : ℕ) (digests : List ℕ) (here after : Place) (result : Result (Unit {0}) Fault)
-      → Leads start all [] sent digests here → Ends name digests here after result → Fills board l name blocks all 0 [] start after result
+      → Leads start all [] sent digests here → Ends name (kept ++ digests) here after result → Fills board l name blocks kept all 0 [] start after result
   unfolding Fills
   all_done start all sent digests here after result leads ends = leads after result ends
 
@@ -124,8 +124,8 @@ module _ (board : Shape) (l : Layout) (name : List ℕ) (blocks : ℕ) where
   pub start_leads : {B : Type 0} (ws : List (Written B)) (start : Place) (all pairs : List Counts) → ws ≡ [] → pairs ≡ all
       → Leads start all pairs 0 (lines_of name ws) start
   start_leads ws start all pairs none same = λ after result goes.
-      subst (λ ps. Fills board l name blocks ps 0 [] start after result) same
-      (subst (λ us. Fills board l name blocks pairs 0 (lines_of name us) start after result) none goes)
+      subst (λ ps. Fills board l name blocks kept ps 0 [] start after result) same
+      (subst (λ us. Fills board l name blocks kept pairs 0 (lines_of name us) start after result) none goes)
 
   -- the pair that comes next
   pub next_leads : (start : Place) (all pairs after : List Counts) (c : Counts) (sent : ℕ) (digests : List ℕ) (here : Place) → pairs ≡ c ∷ after

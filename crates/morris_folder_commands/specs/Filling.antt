@@ -1,5 +1,5 @@
 -- The steps of `build --into`: what each leaves to do.
-use Rattle.std.specs.Prelude.{◌≡◌, ℕ, List, length, Option, Some, None, Result, Ok, Err}
+use Rattle.std.specs.Prelude.{◌≡◌, ℕ, List, ◌++◌, length, Option, Some, None, Result, Ok, Err}
 use Rattle.sha2.specs.Sha256.{sha256}
 use Rattle.morris_board.specs.Boards.{Shape}
 use Rattle.morris_board.specs.Streams.{AllSent, PartSent}
@@ -32,7 +32,8 @@ PrintsLine text sent old new (Ok now) = AllSent old new sent now text
 PrintsLine text sent old new (Err (fault.Write now)) = PartSent old new sent now text
 PrintsLine text sent old new (Err _) = ⊥
 
--- once the file of digests is written, or isn't, the folder is filled
-abbrev pub IsFilledBut : Shape → Layout → List ℕ → Counts → ℕ → Place → Place → List ℕ → Type 0
-IsFilledBut board l name pair blocks before here digests =
-    (after : Place) (result : Result (Unit {0}) Fault) → Ends name digests here after result → FillsFolder board l name pair blocks before after result
+-- once the file of digests is written, or isn't, the folder is filled; the list begins with the lines
+-- that were kept
+abbrev pub IsFilledBut : Shape → Layout → List ℕ → Counts → ℕ → List ℕ → Place → Place → List ℕ → Type 0
+IsFilledBut board l name pair blocks kept before here digests =
+    (after : Place) (result : Result (Unit {0}) Fault) → Ends name (kept ++ digests) here after result → FillsFolder board l name pair blocks kept before after result

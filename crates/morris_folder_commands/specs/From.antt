@@ -77,12 +77,18 @@ Verifies board files name (c ∷ pairs) stock found sent old new result =
     × AfterFile c old new result (Verifies board files name pairs near found sent old new result)
     (AfterTable board near sent old new result (λ joined more out. Verifies board files name pairs joined true more out new result)) answer)
 
--- What it answers on a board: there is no room for a stock, with nothing printed; otherwise what
--- comes of all pairs, over an empty one.
-abbrev pub AnswersFromOn : Shape → Option Files → List ℕ → Option (List ℕ) → Option (List ℕ) → Result (Unit {0}) Fault → Type 0
-AnswersFromOn board files name old new result =
+-- What it answers in a folder that is there: there is no room for a stock, with nothing printed;
+-- otherwise what comes of all pairs, over an empty one.
+abbrev pub AnswersFound : Shape → Option Files → List ℕ → Option (List ℕ) → Option (List ℕ) → Result (Unit {0}) Fault → Type 0
+AnswersFound board files name old new result =
     ((result ≡ Err fault.Memory) × Keeps old new)
     ⊎ ((empty : Stored) × ((c : Counts) → table_on empty c ≡ None) × Verifies board files name (pairs_of board) empty false 0 old new result)
+
+-- What it answers on a board: there is no such folder, with nothing printed; otherwise what it answers
+-- in the folder.
+abbrev pub AnswersFromOn : Shape → Option Files → List ℕ → Option (List ℕ) → Option (List ℕ) → Result (Unit {0}) Fault → Type 0
+AnswersFromOn board files name old new result =
+    ((result ≡ Err fault.NoFolder) × Keeps old new) ⊎ AnswersFound board files name old new result
 
 -- What `verify --from` answers: the fault of a board that isn't there, with nothing printed;
 -- otherwise what it answers on the board, whose name is that of its files.

@@ -26,6 +26,7 @@ use Rattle.morris_faults.specs.declared.fault.Fault.TheVariants as fault
 use Rattle.morris_commands.specs.Build.{IsUnbuiltAt}
 use Rattle.morris_faults.specs.Faults.{solve_fault}
 use Rattle.morris_faults.specs.PairText.{read_pair_of}
+use Rattle.morris_folder_commands.specs.Entering.{IsBegun, IsEntered, IsShut, IsUnbegun}
 
 -- ---- what is printed
 
@@ -71,6 +72,7 @@ unwritten_fault c step.Create = fault.Unwritten c.greater c.lesser
 unwritten_fault c step.Write = fault.Unwritten c.greater c.lesser
 unwritten_fault c step.Sync = fault.Unwritten c.greater c.lesser
 unwritten_fault c step.Rename = fault.Unwritten c.greater c.lesser
+unwritten_fault c step.Settle = fault.Unwritten c.greater c.lesser
 
 -- the file of a table isn't written: what stood under its name stands there, or the whole file
 abbrev pub IsUnfiled : Shape → List ℕ → Table → Option Files → Option Files → Fault → Type 0
@@ -98,6 +100,7 @@ digests_fault step.Create = fault.Digests
 digests_fault step.Write = fault.Digests
 digests_fault step.Sync = fault.Digests
 digests_fault step.Rename = fault.Digests
+digests_fault step.Settle = fault.Digests
 
 -- What is done at the end: the file of digests is written, with this text, or it isn't.
 abbrev pub Ends : List ℕ → List ℕ → Place → Place → Result (Unit {0}) Fault → Type 0
@@ -114,30 +117,38 @@ digest_of board name t = digest_line name t.pair (sha256 (file_of board t))
 -- The pairs are done one after the other: a table is built, its file written and its line printed
 -- before the next pair begins. The first refusal ends it: the pair isn't built, and all is as it
 -- was; or it is built and not done. `sent` bytes were printed before, and the files that were
--- written before have these digests.
-unfoldable pub Fills : Shape → Layout → List ℕ → ℕ → List Counts → ℕ → List ℕ → Place → Place → Result (Unit {0}) Fault → Type 0
-Fills board l name blocks [] sent digests before after result = Ends name digests before after result
-Fills board l name blocks (c ∷ pairs) sent digests before after result =
+-- written before have these digests. At the end the list has the lines that were kept, and then these.
+unfoldable pub Fills : Shape → Layout → List ℕ → ℕ → List ℕ → List Counts → ℕ → List ℕ → Place → Place → Result (Unit {0}) Fault → Type 0
+Fills board l name blocks kept [] sent digests before after result = Ends name (kept ++ digests) before after result
+Fills board l name blocks kept (c ∷ pairs) sent digests before after result =
     ((refused : Fault) × (result ≡ Err refused) × IsUnbuiltAt board c blocks refused × StaysPut before after)
     ⊎ ((t : Table) × IsBuilt board l c t × ¬ IsBeyondCodes board c
     × (((refused : Fault) × (result ≡ Err refused) × IsUndone board name t sent before after refused)
     ⊎ ((next : Place) × IsDone board name t before next
-    × Fills board l name blocks pairs (sent + length (filed_line board t)) (digests ++ digest_of board name t) next after result)))
+    × Fills board l name blocks kept pairs (sent + length (filed_line board t)) (digests ++ digest_of board name t) next after result)))
 
 -- ---- the answer
 
--- What it answers in a folder that is there: there is no room to begin, with nothing written;
--- otherwise the pairs below are done, the pair's own the last.
-abbrev pub FillsFolder : Shape → Layout → List ℕ → Counts → ℕ → Place → Place → Result (Unit {0}) Fault → Type 0
-FillsFolder board l name pair blocks before after result =
-    ((result ≡ Err fault.Memory) × StaysPut before after) ⊎ Fills board l name blocks (below_of pair) 0 [] before after result
+-- What it answers once the list of digests has the lines alone that are kept: there is no room to
+-- begin, with nothing written; otherwise the pairs below are done, the pair's own the last.
+abbrev pub FillsFolder : Shape → Layout → List ℕ → Counts → ℕ → List ℕ → Place → Place → Result (Unit {0}) Fault → Type 0
+FillsFolder board l name pair blocks kept before after result =
+    ((result ≡ Err fault.Memory) × StaysPut before after) ⊎ Fills board l name blocks kept (below_of pair) 0 [] before after result
 
--- What it answers of a pair: the folder can't be made, with nothing written; otherwise what it
--- answers once the folder is there, with the files that it had.
+-- What it answers in a folder that is locked: the list of digests can't be had, or not be left with
+-- the lines of those files alone that aren't replaced; otherwise what it answers once it is.
+abbrev pub AnswersLocked : Shape → Layout → List ℕ → Counts → ℕ → Place → Place → Result (Unit {0}) Fault → Type 0
+AnswersLocked board l name pair blocks before after result =
+    ((refused : Fault) × (result ≡ Err refused) × IsUnbegun name before.files after.files refused × Keeps before.out after.out)
+    ⊎ ((kept : List ℕ) × (begun : Place) × IsBegun name pair kept before.files begun.files × Keeps before.out begun.out
+    × FillsFolder board l name pair blocks kept begun after result)
+
+-- What it answers of a pair: the folder isn't made and locked, with nothing written; otherwise what
+-- it answers once it is, with the files that it had.
 abbrev pub AnswersFolder : Shape → Layout → List ℕ → Counts → ℕ → Place → Place → Result (Unit {0}) Fault → Type 0
 AnswersFolder board l name pair blocks before after result =
-    ((result ≡ Err fault.Folder) × StaysPut before after)
-    ⊎ ((made : Place) × StaysPut before made × FillsFolder board l name pair blocks made after result)
+    ((refused : Fault) × (result ≡ Err refused) × IsShut before.files after.files refused × Keeps before.out after.out)
+    ⊎ ((entered : Place) × IsEntered before.files entered.files × Keeps before.out entered.out × AnswersLocked board l name pair blocks entered after result)
 
 -- What it answers with so many workers and blocks: where there may not be so many, the fault that
 -- says so, with nothing written.

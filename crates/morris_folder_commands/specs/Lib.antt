@@ -3,3 +3,4 @@ pub mod Filling
 pub mod From
 pub mod FromSteps
 pub mod Bundle
+pub mod Entering

@@ -5,7 +5,7 @@ ghost use Rattle.morris_commands.specs.Verify.{MayFail, verified_text};
 ghost use Rattle.morris_faults.specs.BoardNames.{board_of};
 ghost use Rattle.morris_faults.specs.Faults.{CountsWrites, is_write};
 ghost use Rattle.morris_folder_commands.specs.Filling.{PrintsLine};
-ghost use Rattle.morris_folder_commands.specs.From.{AnswersFrom, AnswersFromOn, KeepsNear};
+ghost use Rattle.morris_folder_commands.specs.From.{AnswersFound, AnswersFrom, AnswersFromOn, KeepsNear};
 ghost use Rattle.morris_folder_commands.specs.FromSteps.{AnswersFile, TakesIn};
 ghost use Rattle.morris_folders.specs.Files.{Keeps};
 ghost use Rattle.morris_keeping.specs.Names.{name_of};
@@ -45,8 +45,8 @@ use std::thread::Threads;
 /// Fewer than `u64::MAX` calls of the folder may have failed before.
 ///
 /// # Errors
-/// [`Fault::Board`] where there is no such board, before the folder is touched. Else the first
-/// refusal: [`Fault::Unopened`] where a file can't be opened; [`Fault::OtherPair`] where it has the
+/// [`Fault::Board`] where there is no such board, before the folder is touched. Else
+/// [`Fault::NoFolder`] where there is no such folder. Else the first refusal: [`Fault::Unopened`] where a file can't be opened; [`Fault::OtherPair`] where it has the
 /// table of another pair; [`Fault::InFile`] where it has a flaw, as `read_table` of `morris_table`
 /// has it, where it needs a table that isn't there, or where an entry isn't what the rules give
 /// from the entries of its results; [`Fault::Memory`] where memory is refused; [`Fault::Write`],
@@ -85,6 +85,27 @@ fn from_on<B: Board, R: Threads + Sync, F: Folder, O: Sink, T: Teller>(
 ) -> Result<(), Fault>
     requires room { MayFail (F.failures folder.old) (O.failures output.old) }
     ensures answer { AnswersFromOn B.shape (F.files folder.old) board.now (O.contents output.old) (O.contents output.new) result }
+    ensures kept { Keeps (F.files folder.old) (F.files folder.new) }
+    ensures unfailed { OnOk result (F.failures folder.new ≡ F.failures folder.old) }
+    ensures counted { CountsWrites (O.failures output.old) (O.failures output.new) result }
+    ensures told { T.becomes teller.old teller.new }
+{
+    if folder.find().is_err() {
+        return Err(Fault::NoFolder);
+    }
+    verify_found::<B, R, F, O, T>(crew, board, folder, output, teller)
+}
+
+/// Verifies the tables of a folder that is there.
+fn verify_found<B: Board, R: Threads + Sync, F: Folder, O: Sink, T: Teller>(
+    crew: Crew<'_, R>,
+    board: &str,
+    folder: &mut F,
+    output: &mut O,
+    teller: &mut T,
+) -> Result<(), Fault>
+    requires room { MayFail (F.failures folder.old) (O.failures output.old) }
+    ensures answer { AnswersFound B.shape (F.files folder.old) board.now (O.contents output.old) (O.contents output.new) result }
     ensures kept { Keeps (F.files folder.old) (F.files folder.new) }
     ensures unfailed { OnOk result (F.failures folder.new ≡ F.failures folder.old) }
     ensures counted { CountsWrites (O.failures output.old) (O.failures output.new) result }

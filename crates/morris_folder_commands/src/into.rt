@@ -1,5 +1,5 @@
 //! The command `build` into a folder.
-ghost use Rattle.std.specs.Prelude.{◌≡◌, ℕ, ◌+◌, ◌-◌, ◌^◌, ◌<◌, ◌≤◌, List, Option, true, false, is_some, length, Err, IfErr, IfOk, MatchResult, OnOk};
+ghost use Rattle.std.specs.Prelude.{◌≡◌, ℕ, ◌+◌, ◌-◌, ◌^◌, ◌<◌, ◌≤◌, ◌++◌, List, Option, true, false, is_some, length, Err, IfErr, IfOk, MatchResult, OnOk};
 ghost use Rattle.morris_table.specs.Shelves.{table_on};
 ghost use Rattle.morris_commands.specs.Build.{layout_asked};
 ghost use Rattle.morris_faults.specs.Faults.{CountsWrites, is_write};
@@ -9,6 +9,7 @@ ghost use Rattle.morris_faults.specs.BoardNames.{board_of};
 ghost use Rattle.morris_faults.specs.PairText.{read_pair_of};
 ghost use Rattle.morris_keeping.specs.Digests.{digest_lines};
 
+use crate::entering::{begin_list, enter};
 use crate::print_filed::Filed;
 use morris_board::board::{Board, Geometry};
 use morris_board::streams::Sink;
@@ -21,7 +22,7 @@ use morris_folders::folder::Folder;
 use morris_folders::whole::{NotWhole, Step};
 use morris_index::below::PAIR_COUNT;
 use morris_index::pair::Pair;
-use morris_keeping::digests::write_digests;
+use morris_keeping::digests::write_list;
 use morris_keeping::table_file::{Written, write_table_file};
 use morris_progress::size::Way;
 use morris_progress::team::{Crew, Team};
@@ -47,8 +48,11 @@ struct Filling<'a, B: Geometry, R> {
 /// Builds the tables of all pairs below the one that the text `pair` names on the board named
 /// `board`, in order and the pair's own among them, and writes the file of each into a folder as
 /// soon as it is built, under the name of its pair; after each a line that tells its entries, its
-/// bytes and its SHA-256 goes out on `output`. The folder is made where there is none. At the end
-/// the file of the digests is written. Each file is written whole or not at all.
+/// bytes and its SHA-256 goes out on `output`. The folder is made where there is none, and locked
+/// from before its first file to after its last, so that no other build is at work in it. The file
+/// of the digests first forgets the files that are replaced; at the end it has the lines of those
+/// that are not, and then those of the files that were written. Each file is written whole or not at
+/// all.
 ///
 /// The rest is as [`build_out`](morris_commands::build::build_out) has it. Fewer than
 /// `u64::MAX - 1` calls of the folder may have failed before.
@@ -56,7 +60,10 @@ struct Filling<'a, B: Geometry, R> {
 /// # Errors
 /// Those of [`build_out`](morris_commands::build::build_out) for the words, in the same order;
 /// nothing is then written, and the folder isn't touched. Else [`Fault::Folder`] where the folder
-/// can't be made. Else the first refusal: one of a build; [`Fault::Unwritten`] where a file can't
+/// can't be made, else [`Fault::NoFolder`] where its path is empty or stands for something else, else
+/// [`Fault::Unlocked`] where it can't be locked, or [`Fault::Busy`] where another build is at work in
+/// it. Else [`Fault::Digests`] where the file of the digests can't be read or written. Else the first
+/// refusal: one of a build; [`Fault::Unwritten`] where a file can't
 /// be written; [`Fault::Write`], with all bytes that went out, at the first write to `output` that
 /// fails; at last [`Fault::Digests`] where the file of the digests can't be written; or
 /// [`Fault::Memory`] where memory is refused. The files that were written before stay.
@@ -126,7 +133,7 @@ fn into_on<B: Board, R: Threads + Wait + Sync, F: Folder, O: Sink, T: Teller>(
     into_folder(&filling, folder, output, teller)
 }
 
-/// Fills a folder, which is made where there is none, and writes the file of the digests.
+/// Fills a folder, which is made where there is none and locked, and writes the file of the digests.
 fn into_folder<B: Board, R: Threads + Wait + Sync, F: Folder, O: Sink, T: Teller>(
     filling: &Filling<'_, B, R>,
     folder: &mut F,
@@ -142,15 +149,37 @@ fn into_folder<B: Board, R: Threads + Wait + Sync, F: Folder, O: Sink, T: Teller
     ensures counted { CountsWrites (O.failures output.old) (O.failures output.new) result }
     ensures told { T.becomes teller.old teller.new }
 {
-    if folder.make().is_err() {
-        return Err(Fault::Folder);
-    }
+    enter(folder)?;
+    let kept = begin_list(filling.crew.alloc, filling.board, filling.pair, folder)?;
+    fill_locked(filling, kept.as_slice(), folder, output, teller)
+}
+
+/// Fills a folder that is locked, and writes the file of the digests, which begins with lines that
+/// were kept.
+fn fill_locked<B: Board, R: Threads + Wait + Sync, F: Folder, O: Sink, T: Teller>(
+    filling: &Filling<'_, B, R>,
+    kept: &[u8],
+    folder: &mut F,
+    output: &mut O,
+    teller: &mut T,
+) -> Result<(), Fault>
+    requires folder { F.failures folder.old < 2 ^ 64 - 2 }
+    requires locked { F.locked folder.old ≡ true }
+    requires output { O.failures output.old < 2 ^ 64 - 1 }
+    ensures points { B.shape.points ≡ B.POINTS }
+    ensures filled { FillsFolder B.shape filling.now.layout filling.now.board.now filling.now.pair filling.now.crew.team.blocks kept.now
+        (place_of (F.files folder.old) (O.contents output.old)) (place_of (F.files folder.new) (O.contents output.new)) result }
+    ensures unfailed { OnOk result (F.failures folder.new ≡ F.failures folder.old) }
+    ensures counted { CountsWrites (O.failures output.old) (O.failures output.new) result }
+    ensures told { T.becomes teller.old teller.new }
+{
     let written = fill(filling, folder, output, teller)?;
     end(
         filling.crew.alloc,
         filling.board,
-        folder,
+        kept,
         written.as_slice(),
+        folder,
     )
 }
 
@@ -163,14 +192,16 @@ fn fill<B: Board, R: Threads + Wait + Sync, F: Folder, O: Sink, T: Teller>(
     teller: &mut T,
 ) -> Result<Vec<Written<B>>, Fault>
     requires folder { F.failures folder.old < 2 ^ 64 - 2 }
+    requires locked { F.locked folder.old ≡ true }
     requires output { O.failures output.old < 2 ^ 64 - 1 }
     ensures points { B.shape.points ≡ B.POINTS }
-    ensures filled { MatchResult result
-        (λ written. IsFilledBut B.shape filling.now.layout filling.now.board.now filling.now.pair filling.now.crew.team.blocks
+    ensures filled { (kept : List ℕ) → MatchResult result
+        (λ written. IsFilledBut B.shape filling.now.layout filling.now.board.now filling.now.pair filling.now.crew.team.blocks kept
         (place_of (F.files folder.old) (O.contents output.old)) (place_of (F.files folder.new) (O.contents output.new))
         (digest_lines filling.now.board.now (λ w. w.pair) (λ w. w.digest) written.items))
-        (λ refused. FillsFolder B.shape filling.now.layout filling.now.board.now filling.now.pair filling.now.crew.team.blocks
+        (λ refused. FillsFolder B.shape filling.now.layout filling.now.board.now filling.now.pair filling.now.crew.team.blocks kept
         (place_of (F.files folder.old) (O.contents output.old)) (place_of (F.files folder.new) (O.contents output.new)) (Err refused)) }
+    ensures locked { F.locked folder.new ≡ true }
     ensures unfailed { OnOk result (F.failures folder.new ≡ F.failures folder.old) }
     ensures counted { CountsWrites (O.failures output.old) (O.failures output.new) result }
     ensures told { T.becomes teller.old teller.new }
@@ -205,9 +236,11 @@ fn keep_table<B: Geometry, F: Folder>(
     folder: &mut F,
 ) -> Result<Written<B>, Fault>
     requires failures { F.failures folder.old < 2 ^ 64 - 2 }
+    requires locked { F.locked folder.old ≡ true }
     requires there { is_some (table_on stock.now pair) ≡ true }
     ensures kept { KeepsTable B.shape board.now (table_on stock.now pair) (F.files folder.old) (F.files folder.new) result }
     ensures short { IfOk result (λ file. length (filed_text file.pair file.entries file.bytes file.digest) ≤ 2 ^ 10) }
+    ensures locked { F.locked folder.new ≡ true }
     ensures unfailed { OnOk result (F.failures folder.new ≡ F.failures folder.old) }
     ensures unwritten { IfErr result (λ refused. is_write refused ≡ false) }
 {
@@ -249,20 +282,22 @@ fn tell_file<B: Geometry, O: Sink>(
     }
 }
 
-/// Writes the file of the digests of these files.
+/// Writes the file of the digests: lines that were kept, and those of these files.
 fn end<B: Geometry, F: Folder>(
     alloc: Global,
     board: &str,
-    folder: &mut F,
+    kept: &[u8],
     written: &[Written<B>],
+    folder: &mut F,
 ) -> Result<(), Fault>
-    requires { F.failures folder.old < 2 ^ 64 - 2 }
-    ensures ended { (out : Option (List ℕ)) → Ends board.now (digest_lines board.now (λ w. w.pair) (λ w. w.digest) written.now) (place_of (F.files folder.old) out)
+    requires failures { F.failures folder.old < 2 ^ 64 - 2 }
+    requires locked { F.locked folder.old ≡ true }
+    ensures ended { (out : Option (List ℕ)) → Ends board.now (kept.now ++ digest_lines board.now (λ w. w.pair) (λ w. w.digest) written.now) (place_of (F.files folder.old) out)
         (place_of (F.files folder.new) out) result }
     ensures unfailed { OnOk result (F.failures folder.new ≡ F.failures folder.old) }
     ensures unwritten { IfErr result (λ refused. is_write refused ≡ false) }
 {
-    match write_digests(alloc, folder, board, written) {
+    match write_list(alloc, folder, board, kept, written) {
         Ok(()) => Ok(()),
         Err(
             NotWhole {

@@ -3,6 +3,7 @@
 #![tactic(auto)]
 
 pub mod bundle;
+mod entering;
 pub mod from;
 pub mod into;
 mod places;

@@ -9,7 +9,7 @@ use Rattle.morris_faults.specs.declared.fault.Fault.TheVariants as fault
 use Rattle.morris_keeping.specs.declared.kept.KeptFault.TheVariants as kept
 use Rattle.morris_folder_commands.proofs.FromLaws.{at_end, failed_file, kept_on, missing_file, skip_pair, take_pair, taken_on, taken_wrong}
 use Rattle.morris_folder_commands.proofs.SurveyLaws.{all_opened, ends_later, passes}
-use Rattle.morris_folder_commands.proofs.from.from_on.Goals as goal
+use Rattle.morris_folder_commands.proofs.from.verify_found.Goals as goal
 
 pub loop-place-init : goal.loop-place-init
 unfolding pairs_of

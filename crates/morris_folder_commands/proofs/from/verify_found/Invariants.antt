@@ -5,7 +5,7 @@ use Rattle.morris_index.specs.Pairs.{all_pairs}
 use Rattle.morris_folder_commands.specs.From.{fits}
 use Rattle.morris_folder_commands.specs.FromSteps.{EndsAt}
 use Rattle.morris_folder_commands.proofs.FromLaws.{Leads}
-use Rattle.morris_folder_commands.proofs.from.from_on.Given as goal
+use Rattle.morris_folder_commands.proofs.from.verify_found.Given as goal
 
 -- where the pairs that are left lead, there lead all; no file is changed; the file that wasn't
 -- opened before, if there is one, is still to come; what was told since the start makes up one

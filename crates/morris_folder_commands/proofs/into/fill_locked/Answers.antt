@@ -1,0 +1,13 @@
+-- A folder that is filled is ended.
+use Rattle.morris_folder_commands.specs.Into.{place_of}
+use Rattle.morris_folder_commands.proofs.FillLaws.{ends_with}
+use Rattle.morris_folder_commands.proofs.into.fill_locked.Goals as goal
+
+pub returns-clause-filled : goal.returns-clause-filled
+returns-clause-filled g c =
+    let told = g.O.Sink.contents c.fill.new.output in
+    let here = place_of (g.F.Folder.files c.fill.new.folder) told in
+    let after = place_of (g.F.Folder.files c.end.new.folder) told in
+    c.in_ok-written.ensures.filled c.args.kept.now after c.end.result
+    (ends_with c.args.filling.now.board.now c.args.kept.now _ c.in_ok-written.written.items here after c.end.result c.as_slice.ensures.value
+    (c.end.ensures.ended told))

@@ -1,0 +1,130 @@
+//! How a folder is entered in which files are replaced: it is locked, and its list of digests forgets
+//! them.
+ghost use Rattle.std.specs.Prelude.{◌≡◌, ◌-◌, ◌^◌, ◌<◌, [], true, false, IfErr, MatchResult, OnOk, Ok, Err};
+ghost use Rattle.morris_folders.specs.Files.{Goes};
+ghost use Rattle.morris_faults.specs.Faults.{is_write};
+ghost use Rattle.morris_folder_commands.specs.Entering.{BeginsList, IsCaused, IsEntered, IsLeft, IsShut, IsUnbegun};
+
+use morris_board::board::Geometry;
+use morris_board::streams::Failed;
+use morris_faults::fault::Fault;
+use morris_folders::folder::Folder;
+use morris_folders::whole::{NotWhole, Step};
+use morris_index::pair::Pair;
+use morris_keeping::digests::write_list;
+use morris_keeping::names::digests_name;
+use morris_keeping::old_list::{ListFault, kept_lines};
+use morris_keeping::table_file::Written;
+use std::alloc::Global;
+
+/// The name of the file by which a folder is locked. It stays there.
+const LOCK: &str = ".morris.lock";
+
+/// Makes a folder where there is none, and locks it for as long as `folder` is kept.
+///
+/// # Errors
+/// [`Fault::Folder`] where it can't be made; else [`Fault::NoFolder`] where its path is empty or
+/// stands for something else; else [`Fault::Unlocked`] where it can't be locked, or
+/// [`Fault::Busy`] where another has locked it.
+pub(crate) fn enter<F: Folder>(folder: &mut F) -> Result<(), Fault>
+    requires { F.failures folder.old < 2 ^ 64 - 2 }
+    ensures entered { MatchResult result (λ _. IsEntered (F.files folder.old) (F.files folder.new)) (IsShut (F.files folder.old) (F.files folder.new)) }
+    ensures caused { IfErr result (IsCaused (F.taken folder.old) (F.failures folder.old) (F.failures folder.new)) }
+    ensures locked { OnOk result (F.locked folder.new ≡ true) }
+    ensures unfailed { OnOk result (F.failures folder.new ≡ F.failures folder.old) }
+    ensures unwritten { IfErr result (λ refused. is_write refused ≡ false) }
+{
+    if folder.make().is_err() {
+        return Err(Fault::Folder);
+    }
+    if folder.find().is_err() {
+        return Err(Fault::NoFolder);
+    }
+    match folder.lock(LOCK) {
+        Ok(true) => Ok(()),
+        Ok(false) => Err(Fault::Busy),
+        Err(Failed) => Err(Fault::Unlocked),
+    }
+}
+
+/// The lines of a folder's list of digests, on the board of this name, but for those of the files
+/// that are replaced: of all pairs below a pair, its own among them. The list is left with these
+/// alone, so that it is right while files are replaced, and whatever ends the program then.
+///
+/// # Errors
+/// [`Fault::Memory`] where memory is refused; [`Fault::Digests`] where the list can't be read or
+/// written.
+pub(crate) fn begin_list<B: Geometry, F: Folder>(
+    alloc: Global,
+    board: &str,
+    replaced: Pair<B>,
+    folder: &mut F,
+) -> Result<Vec<u8>, Fault>
+    requires failures { F.failures folder.old < 2 ^ 64 - 2 }
+    requires locked { F.locked folder.old ≡ true }
+    ensures begun { MatchResult result (λ kept. BeginsList board.now replaced (F.files folder.old) (F.files folder.new) (Ok kept.items))
+        (IsUnbegun board.now (F.files folder.old) (F.files folder.new)) }
+    ensures locked { F.locked folder.new ≡ true }
+    ensures unfailed { OnOk result (F.failures folder.new ≡ F.failures folder.old) }
+    ensures unwritten { IfErr result (λ refused. is_write refused ≡ false) }
+{
+    let kept = match kept_lines(alloc, folder, board, replaced) {
+        Ok(kept) => kept,
+        Err(ListFault::Memory) => return Err(Fault::Memory),
+        Err(_) => return Err(Fault::Digests),
+    };
+    match leave_list::<B, F>(alloc, board, kept.as_slice(), folder) {
+        Ok(()) => Ok(kept),
+        Err(refused) => Err(refused),
+    }
+}
+
+/// Leaves the list of digests with these lines, and removes it where there are none.
+///
+/// # Errors
+/// [`Fault::Memory`] where memory is refused; [`Fault::Digests`] where the list can't be written or
+/// removed.
+fn leave_list<B: Geometry, F: Folder>(
+    alloc: Global,
+    board: &str,
+    kept: &[u8],
+    folder: &mut F,
+) -> Result<(), Fault>
+    requires { F.failures folder.old < 2 ^ 64 - 2 }
+    ensures left { MatchResult result (λ _. Goes (F.files folder.old) (F.files folder.new) (IsLeft board.now kept.now)) (IsUnbegun board.now (F.files folder.old) (F.files folder.new)) }
+    ensures held { F.locked folder.new ≡ F.locked folder.old }
+    ensures unfailed { OnOk result (F.failures folder.new ≡ F.failures folder.old) }
+    ensures unwritten { IfErr result (λ refused. is_write refused ≡ false) }
+{
+    if kept.is_empty() {
+        return remove_list(alloc, board, folder);
+    }
+    let none: &[Written<B>] = &[];
+    match write_list(alloc, folder, board, kept, none) {
+        Ok(()) => Ok(()),
+        Err(
+            NotWhole {
+                step: Step::Memory,
+                ..
+            },
+        ) => Err(Fault::Memory),
+        Err(_) => Err(Fault::Digests),
+    }
+}
+
+/// Removes the list of digests, if there is one.
+fn remove_list<F: Folder>(alloc: Global, board: &str, folder: &mut F) -> Result<(), Fault>
+    requires { F.failures folder.old < 2 ^ 64 - 1 }
+    ensures left { MatchResult result (λ _. Goes (F.files folder.old) (F.files folder.new) (IsLeft board.now [])) (IsUnbegun board.now (F.files folder.old) (F.files folder.new)) }
+    ensures held { F.locked folder.new ≡ F.locked folder.old }
+    ensures unfailed { OnOk result (F.failures folder.new ≡ F.failures folder.old) }
+    ensures unwritten { IfErr result (λ refused. is_write refused ≡ false) }
+{
+    let Ok(name) = digests_name(alloc, board) else {
+        return Err(Fault::Memory);
+    };
+    if folder.remove(name.as_str()).is_err() || folder.settle().is_err() {
+        return Err(Fault::Digests);
+    }
+    Ok(())
+}
