@@ -1,10 +1,10 @@
 -- A part that is written, renamed or removed, and what that leaves.
-use Rattle.std.proofs.Common.{◌≡◌, ◌≢◌, ℕ, List, Option, Some, None, true, false, sym, ap, subst, ◌∙◌, arith, length, length-append, inl, inr, ◌⊎◌}
+use Rattle.std.proofs.Common.{◌≡◌, ◌≢◌, ℕ, Bool, List, Option, Some, None, true, false, sym, ap, subst, ◌∙◌, arith, length, length-append, inl, inr, ◌⊎◌}
 use Rattle.std.specs.Prelude.{codes}
-use Rattle.morris_folders.specs.Files.{Files, Goes, AreUnrenamed}
-use Rattle.morris_folders.specs.Whole.{part_of, ArePart, AreNotPart, AreGivenUp, AreNotWhole, IsOfPart, IsAsItWas, may_leave}
+use Rattle.morris_folders.specs.Files.{Files, Goes, AreSame, AreUnrenamed}
+use Rattle.morris_folders.specs.Whole.{part_of, ArePart, AreNotPart, AreGivenUp, AreNotWhole, IsOfPart, IsAsItWas, MayBeGone, may_leave}
 use Rattle.morris_folders.specs.declared.whole.Step.{Step}
-use Rattle.morris_folders.specs.declared.whole.Step.TheVariants.{Memory, Create, Write, Sync, Rename}
+use Rattle.morris_folders.specs.declared.whole.Step.TheVariants.{Memory, Create, Write, Sync, Rename, Settle}
 use Rattle.morris_folders.specs.declared.whole.NotWhole.{NotWhole}
 
 -- one call after another
@@ -25,6 +25,24 @@ as-it-was Create name bytes old new of e = e
 as-it-was Write name bytes old new of e = e
 as-it-was Sync name bytes old new of e = e
 as-it-was Rename name bytes old new of e = absurd of
+as-it-was Settle name bytes old new of e = absurd of
+
+-- whether a step is the one that is named
+abbrev is_memory : Step → Bool
+is_memory Memory = true
+is_memory _ = false
+
+abbrev is_create : Step → Bool
+is_create Create = true
+is_create _ = false
+
+abbrev is_settle : Step → Bool
+is_settle Settle = true
+is_settle _ = false
+
+-- what may be gone may be gone once no file was changed
+gone-still : (part : List ℕ) (x y z : Files) → MayBeGone part x y → AreSame y z → MayBeGone part x z
+gone-still part x y z gone same = elim gone [ inl e ↦ inl (same part ∙ e) | inr e ↦ inr (same part ∙ e) ]
 
 -- a part that wasn't written
 pub unwritten : (part name bytes : List ℕ) (step : Step) (fault : NotWhole) → part ≡ part_of name → fault.step ≡ step → IsOfPart step
@@ -35,7 +53,9 @@ unwritten part name bytes step fault this same of x y z p q =
     record {
       kept = as-it-was fault.step name bytes x z (subst IsOfPart (sym same) of) (off name (part-apart name));
       no_part = λ may left. ap z (sym this) ∙ q.gone may left;
-      unchanged = λ none. λ other. q.unchanged none other ∙ p.unchanged (ap may_leave (sym same) ∙ none) other;
+      unchanged = λ first. absurd (subst IsOfPart (sym same ∙ first) of);
+      unmade = λ created. subst (λ under. MayBeGone under x z) this (gone-still part x y z (p.unmade (sym same ∙ created)) (q.unchanged (ap may_leave created)));
+      settled = λ last. absurd (subst IsOfPart (sym same ∙ last) of);
       others = λ other one two. off other two;
     }
 
@@ -50,7 +70,9 @@ unrenamed part name bytes fault this same w x y z p r q =
     record {
       kept = subst (λ step. IsAsItWas step name bytes w z) (sym same) either;
       no_part = λ may left. ap z (sym this) ∙ q.gone may left;
-      unchanged = λ none. absurd (let e : true ≡ false = sym (ap may_leave same) ∙ none in cc);
+      unchanged = λ first. absurd (let e : false ≡ true = sym (ap is_memory same) ∙ ap is_memory first in cc);
+      unmade = λ created. absurd (let e : false ≡ true = sym (ap is_create same) ∙ ap is_create created in cc);
+      settled = λ last. absurd (let e : false ≡ true = sym (ap is_settle same) ∙ ap is_settle last in cc);
       others = λ other one two. let off : other ≢ part = λ e. two (e ∙ this) in q.others other off ∙ (r.others other off one ∙ p.others other off);
     }
 

@@ -1,5 +1,5 @@
 -- Files of a folder, and what the calls on it do to them.
-use Rattle.std.specs.Prelude.{◌≡◌, ◌≢◌, ℕ, List, [], ⊤, Option, Some, None, Result, ◌⊎◌, MatchOption, MatchResult}
+use Rattle.std.specs.Prelude.{◌≡◌, ◌≢◌, ℕ, Bool, true, false, not, ◌||◌, List, [], ⊤, Option, Some, None, Result, Ok, Err, ◌⊎◌, MatchOption, MatchResult}
 
 -- the bytes of the file of each name, and none where there is no file of that name
 abbrev pub Files : Type 0
@@ -47,10 +47,11 @@ IsOpened remaining failures files name r = MatchResult r
     (λ answer. MatchOption answer (HasNone files name) (λ reader. IsReaderOf files name (remaining reader) × (failures reader ≡ 0)))
     (λ _. ⊤)
 
--- what `create` answers: a writer of no bytes, of which no call has failed
+-- what `create` answers: a writer of no bytes, of which no call has failed, where there was no file
+-- of this name
 abbrev pub IsCreated : {W E : Type 0} → (W → Option (List ℕ)) → (W → ℕ) → Option Files → Option Files → List ℕ → Result W E → Type 0
 IsCreated contents failures old new name r = MatchResult r
-    (λ writer. Goes old new (λ before after. AreSameBut name before after × (contents writer ≡ Some [])) × (failures writer ≡ 0))
+    (λ writer. Goes old new (λ before after. (before name ≡ None) × AreSameBut name before after × (contents writer ≡ Some [])) × (failures writer ≡ 0))
     (λ _. Keeps old new)
 
 -- the file of this name has these bytes, where they are known, and each other file is as it was
@@ -77,3 +78,23 @@ IsUnrenamed old new from to = Goes old new (AreUnrenamed from to)
 -- nothing stands under the name, and each other file is as it was
 abbrev pub IsRemoved : Option Files → Option Files → List ℕ → Type 0
 IsRemoved old new name = Goes old new (λ before after. AreSameBut name before after × (after name ≡ None))
+
+-- what stands under the name is what stood there, or nothing
+pub record AreUnremoved (name : List ℕ) (old new : Files) : Type 0 where
+  pub either : (new name ≡ old name) ⊎ (new name ≡ None)
+  pub others : AreSameBut name old new
+
+abbrev pub IsUnremoved : Option Files → Option Files → List ℕ → Type 0
+IsUnremoved old new name = Goes old new (AreUnremoved name)
+
+-- whether the lock is held once `lock` answered this: it is at `Ok(true)`, and otherwise as before
+abbrev pub IsLocked : {E : Type 0} → Bool → Bool → Result Bool E → Type 0
+IsLocked old new (Ok true) = new ≡ true
+IsLocked old new (Ok false) = new ≡ old
+IsLocked old new (Err e) = new ≡ old
+
+-- What `lock` answers where it is known whether another has the lock: it is had where it was held
+-- before, or where no other has it.
+abbrev pub FitsTaken : {E : Type 0} → Option Bool → Bool → Result Bool E → Type 0
+FitsTaken None held r = ⊤
+FitsTaken (Some taken) held r = MatchResult r (λ answer. answer ≡ (held || not taken)) (λ _. ⊤)

@@ -1,3 +1,5 @@
 pub mod Files
 pub mod Memory
+pub mod Reasons
+pub mod System
 pub mod Whole

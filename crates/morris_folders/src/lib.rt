@@ -3,5 +3,7 @@
 
 pub mod folder;
 pub mod memory;
+pub mod noting;
+pub mod reason;
 pub mod system;
 pub mod whole;

@@ -1,8 +1,8 @@
 //! A folder in memory, for tests: each of its calls can be told to fail.
-ghost use Rattle.std.specs.Prelude.{◌≡◌, ◌≢◌, ℕ, ◌+◌, ◌-◌, ◌^◌, ◌<◌, List, Some, None, OnOk, OnErr};
+ghost use Rattle.std.specs.Prelude.{◌≡◌, ◌≢◌, ℕ, ◌+◌, ◌-◌, ◌^◌, ◌<◌, false, List, Some, None, OnOk, OnErr};
 ghost use Rattle.std.specs.Option.{option_map};
 ghost use Rattle.morris_folders.specs.Files.{AreSame, AreSameBut};
-ghost use Rattle.morris_folders.specs.Memory.{count_of, files_of, failures_of};
+ghost use Rattle.morris_folders.specs.Memory.{count_of, files_of, failures_of, lock_of, locked_of, taken_of};
 
 use crate::folder::Folder;
 use morris_board::streams::{Failed, FromRead, Sink};
@@ -27,6 +27,13 @@ impl Failing {
     }
 }
 
+/// Who holds the lock of a folder: itself, another, or neither.
+#[derive(Clone, Copy, Debug, Drop)]
+struct Lock {
+    held: bool,
+    taken: bool,
+}
+
 /// A folder in memory. A call that is refused memory fails as one that was told to.
 #[derive(Drop)]
 pub struct MemoryFolder {
@@ -35,15 +42,18 @@ pub struct MemoryFolder {
     failing: Failing,
     failing_writes: u64,
     failed: u64,
+    lock: Lock,
 }
 
 impl MemoryFolder {
-    /// A folder without files. Of its calls those fail whose bits are set in `calls`, of the writes
+    /// A folder without files, of which no one holds the lock. Of its calls those fail whose bits are set in `calls`, of the writes
     /// of each of its writers those whose bits are set in `writes`: bit n is that of the call
     /// before which there were n.
     pub fn new(alloc: Global, calls: u64, writes: u64) -> MemoryFolder
         ensures none { (name : List ℕ) → files_of result name ≡ None }
         ensures failures { failures_of result ≡ 0 }
+        ensures unlocked { locked_of result ≡ false }
+        ensures free { taken_of result ≡ false }
     {
         MemoryFolder {
             alloc,
@@ -54,7 +64,21 @@ impl MemoryFolder {
             },
             failing_writes: writes,
             failed: 0,
+            lock: Lock {
+                held: false,
+                taken: false,
+            },
         }
+    }
+
+    /// Says whether another holds the lock from now on. It isn't a call that can be told to fail.
+    pub fn set_taken(&mut self, taken: bool)
+        ensures taken { taken_of self.new ≡ taken }
+        ensures held { locked_of self.new ≡ locked_of self.old }
+        ensures files { AreSame (files_of self.old) (files_of self.new) }
+        ensures failures { failures_of self.new ≡ failures_of self.old }
+    {
+        self.lock.taken = taken;
     }
 
     /// Puts a file with these bytes under a name, in the place of one that is there. It isn't a
@@ -67,6 +91,7 @@ impl MemoryFolder {
         ensures others { OnOk result (AreSameBut name.now (files_of self.old) (files_of self.new)) }
         ensures unchanged { OnErr result (AreSame (files_of self.old) (files_of self.new)) }
         ensures failures { failures_of self.new ≡ failures_of self.old }
+        ensures lock { lock_of self.new ≡ lock_of self.old }
     {
         let copy = Vec::from_slice(self.alloc, bytes)?;
         self.keep(name, copy)
@@ -95,6 +120,7 @@ impl MemoryFolder {
         ensures others { OnOk result (AreSameBut name.now (files_of self.old) (files_of self.new)) }
         ensures unchanged { OnErr result (AreSame (files_of self.old) (files_of self.new)) }
         ensures failures { failures_of self.new ≡ failures_of self.old }
+        ensures lock { lock_of self.new ≡ lock_of self.old }
     {
         let name = String::from_str(self.alloc, name)?;
         match self.files.insert(name, bytes) {
@@ -103,12 +129,39 @@ impl MemoryFolder {
         }
     }
 
+    /// Puts an empty file under a name, unless there is a file.
+    fn keep_some(&mut self, name: &str) -> Result<(), AllocError>
+        ensures others { AreSameBut name.now (files_of self.old) (files_of self.new) }
+        ensures failures { failures_of self.new ≡ failures_of self.old }
+        ensures lock { lock_of self.new ≡ lock_of self.old }
+    {
+        if self.files.contains_key(name) {
+            return Ok(());
+        }
+        self.keep(name, Vec::new(self.alloc))
+    }
+
+    /// Puts an empty file under a name, where there is no file.
+    fn keep_new(&mut self, name: &str) -> Result<(), AllocError>
+        ensures new { OnOk result (files_of self.old name.now ≡ None) }
+        ensures others { OnOk result (AreSameBut name.now (files_of self.old) (files_of self.new)) }
+        ensures unchanged { OnErr result (AreSame (files_of self.old) (files_of self.new)) }
+        ensures failures { failures_of self.new ≡ failures_of self.old }
+        ensures lock { lock_of self.new ≡ lock_of self.old }
+    {
+        if self.files.contains_key(name) {
+            return Err(AllocError);
+        }
+        self.keep(name, Vec::new(self.alloc))
+    }
+
     /// Puts the bytes of the file of one name under the other as well.
     fn copy(&mut self, from: &str, to: &str) -> Result<(), AllocError>
         ensures this { OnOk result (files_of self.new to.now ≡ files_of self.old from.now) }
         ensures others { OnOk result (AreSameBut to.now (files_of self.old) (files_of self.new)) }
         ensures unchanged { OnErr result (AreSame (files_of self.old) (files_of self.new)) }
         ensures failures { failures_of self.new ≡ failures_of self.old }
+        ensures lock { lock_of self.new ≡ lock_of self.old }
     {
         let Some(bytes) = self.files.get(from) else {
             return Err(AllocError);
@@ -123,6 +176,7 @@ impl MemoryFolder {
         ensures gone { name.now ≢ kept.now → files_of self.new name.now ≡ None }
         ensures others { AreSameBut name.now (files_of self.old) (files_of self.new) }
         ensures failures { failures_of self.new ≡ failures_of self.old }
+        ensures lock { lock_of self.new ≡ lock_of self.old }
     {
         if name != kept {
             self.take_away(name);
@@ -134,6 +188,7 @@ impl MemoryFolder {
         ensures gone { files_of self.new name.now ≡ None }
         ensures others { AreSameBut name.now (files_of self.old) (files_of self.new) }
         ensures failures { failures_of self.new ≡ failures_of self.old }
+        ensures lock { lock_of self.new ≡ lock_of self.old }
     {
         let _ = self.files.remove(name);
     }
@@ -143,6 +198,7 @@ impl MemoryFolder {
         requires { failures_of self.old < 2 ^ 64 - 1 }
         ensures files { AreSame (files_of self.old) (files_of self.new) }
         ensures counted { failures_of self.new ≡ failures_of self.old + 1 }
+        ensures lock { lock_of self.new ≡ lock_of self.old }
     {
         self.failed += 1;
         Failed
@@ -193,11 +249,30 @@ impl Folder for MemoryFolder {
 
     ghost failures = { failures_of };
 
+    ghost locked = { locked_of };
+
+    ghost taken = { λ s. Some (taken_of s) };
+
     fn make(&mut self) -> Result<(), Failed> {
         if self.failing.next_fails() {
             return Err(self.fail());
         }
         Ok(())
+    }
+
+    fn find(&mut self) -> Result<(), Failed> {
+        if self.failing.next_fails() {
+            return Err(self.fail());
+        }
+        Ok(())
+    }
+
+    fn lock(&mut self, name: &str) -> Result<bool, Failed> {
+        if self.failing.next_fails() || self.keep_some(name).is_err() {
+            return Err(self.fail());
+        }
+        self.lock.held = self.lock.held || !self.lock.taken;
+        Ok(self.lock.held)
     }
 
     fn open(&mut self, name: &str) -> Result<Option<FromRead<VecDeque<u8>>>, Failed> {
@@ -214,7 +289,7 @@ impl Folder for MemoryFolder {
     }
 
     fn create(&mut self, name: &str) -> Result<MemoryWriter, Failed> {
-        if self.failing.next_fails() || self.keep(name, Vec::new(self.alloc)).is_err() {
+        if self.failing.next_fails() || self.keep_new(name).is_err() {
             return Err(self.fail());
         }
         Ok(MemoryWriter {
@@ -234,6 +309,8 @@ impl Folder for MemoryFolder {
         Ok(())
     }
 
+    fn abandon(&mut self, _writer: MemoryWriter) {}
+
     fn rename(&mut self, from: &str, to: &str) -> Result<(), Failed> {
         if self.failing.next_fails() || self.copy(from, to).is_err() {
             return Err(self.fail());
@@ -247,6 +324,13 @@ impl Folder for MemoryFolder {
             return Err(self.fail());
         }
         self.take_away(name);
+        Ok(())
+    }
+
+    fn settle(&mut self) -> Result<(), Failed> {
+        if self.failing.next_fails() {
+            return Err(self.fail());
+        }
         Ok(())
     }
 

@@ -3,7 +3,7 @@ ghost use Rattle.std.specs.Prelude.{◌≡◌, ℕ, ◌+◌, ◌-◌, ◌^◌, �
 ghost use Rattle.std.specs.Io.KnownBytes.{Appends};
 ghost use Rattle.morris_board.specs.Streams.{CountsFailure};
 ghost use Rattle.morris_folders.specs.Files.{Goes};
-ghost use Rattle.morris_folders.specs.Whole.{AnswersPart, AnswersWhole, AreGivenUp, part_of, may_leave, failed_at, failed_in};
+ghost use Rattle.morris_folders.specs.Whole.{AnswersPart, AnswersWhole, AreGivenUp, IsMade, part_of, may_leave, failed_at, failed_in};
 
 use crate::folder::Folder;
 use morris_board::streams::{Failed, Sink};
@@ -45,6 +45,9 @@ pub enum Step {
     /// The part was to get the name of the file.
     #[error("not renamed")]
     Rename,
+    /// The names of the folder were to last.
+    #[error("not settled")]
+    Settle,
 }
 
 impl Step {
@@ -53,14 +56,15 @@ impl Step {
         ensures { result ≡ may_leave self }
     {
         match self {
-            Step::Memory | Step::Create => false,
+            Step::Memory | Step::Create | Step::Settle => false,
             Step::Write | Step::Sync | Step::Rename => true,
         }
     }
 }
 
 /// A file wasn't written whole. What stood under its name before stands there now, or the whole
-/// file does where the step is [`Rename`](Step::Rename).
+/// file does where the step is [`Rename`](Step::Rename); where it is [`Settle`](Step::Settle) the
+/// whole file does, and there is no part, but it may not last.
 #[derive(Debug, Clone, Copy, PartialEq, Eq, Error)]
 #[error("{step}")]
 pub struct NotWhole {
@@ -72,7 +76,9 @@ pub struct NotWhole {
 
 /// Writes the file of this name, in the place of one that is there, so that the name never stands
 /// for a part of the bytes, whatever ends the program: the bytes go to a part, a file of the name
-/// with `.part` at its end, which gets the name once all of them are there and are to last.
+/// with `.part` at its end, which gets the name once all of them are there and are to last. At the
+/// end the names of the folder are to last as well. What stood under the name of the part before
+/// is removed, and isn't written to.
 ///
 /// Fewer than `u64::MAX - 1` calls of the folder may have failed before.
 ///
@@ -87,6 +93,7 @@ pub fn write_whole<F: Folder, C: Contents>(
     requires { F.failures folder.old < 2 ^ 64 - 2 }
     ensures answer { AnswersWhole name.now (C.bytes contents.now) (F.files folder.old) (F.files folder.new) result }
     ensures counted { MatchResult result (λ _. F.failures folder.new ≡ F.failures folder.old) (λ fault. F.failures folder.new ≡ F.failures folder.old + failed_in fault) }
+    ensures held { F.locked folder.new ≡ F.locked folder.old }
 {
     let Ok(part) = part_name(alloc, name) else {
         return Err(NotWhole {
@@ -94,13 +101,35 @@ pub fn write_whole<F: Folder, C: Contents>(
             left: false,
         });
     };
-    let part = part.as_str();
+    write_by_part(folder, part.as_str(), name, contents)
+}
+
+/// Writes a file under the name of its part, and gives it its own.
+fn write_by_part<F: Folder, C: Contents>(
+    folder: &mut F,
+    part: &str,
+    name: &str,
+    contents: &C,
+) -> Result<(), NotWhole>
+    requires failures { F.failures folder.old < 2 ^ 64 - 2 }
+    requires part { part.now ≡ part_of name.now }
+    ensures answer { AnswersWhole name.now (C.bytes contents.now) (F.files folder.old) (F.files folder.new) result }
+    ensures counted { MatchResult result (λ _. F.failures folder.new ≡ F.failures folder.old) (λ fault. F.failures folder.new ≡ F.failures folder.old + failed_in fault) }
+    ensures held { F.locked folder.new ≡ F.locked folder.old }
+{
     if let Err(step) = write_part(folder, part, contents) {
         return Err(give_up(folder, part, step));
     }
     match folder.rename(part, name) {
+        Ok(()) => {}
+        Err(Failed) => return Err(give_up(folder, part, Step::Rename)),
+    }
+    match folder.settle() {
         Ok(()) => Ok(()),
-        Err(Failed) => Err(give_up(folder, part, Step::Rename)),
+        Err(Failed) => Err(NotWhole {
+            step: Step::Settle,
+            left: false,
+        }),
     }
 }
 
@@ -119,18 +148,35 @@ fn write_part<F: Folder, C: Contents>(folder: &mut F, part: &str, contents: &C) 
     requires { F.failures folder.old < 2 ^ 64 - 1 }
     ensures answer { AnswersPart part.now (C.bytes contents.now) (F.files folder.old) (F.files folder.new) result }
     ensures counted { MatchResult result (λ _. F.failures folder.new ≡ F.failures folder.old) (λ step. F.failures folder.new ≡ F.failures folder.old + failed_at step) }
+    ensures held { F.locked folder.new ≡ F.locked folder.old }
 {
-    let mut writer = match folder.create(part) {
+    let mut writer = match make_part(folder, part) {
         Ok(writer) => writer,
         Err(Failed) => return Err(Step::Create),
     };
     match contents.write_to(&mut writer) {
         Ok(()) => {}
-        Err(Failed) => return Err(Step::Write),
+        Err(Failed) => {
+            folder.abandon(writer);
+            return Err(Step::Write);
+        }
     }
     match folder.sync(part, writer) {
         Ok(()) => Ok(()),
         Err(Failed) => Err(Step::Sync),
+    }
+}
+
+/// Makes a part, in the place of what stands under its name.
+fn make_part<F: Folder>(folder: &mut F, part: &str) -> Result<F::Writer, Failed>
+    requires { F.failures folder.old < 2 ^ 64 - 1 }
+    ensures made { IsMade F.Writer.contents F.Writer.failures (F.files folder.old) (F.files folder.new) part.now result }
+    ensures counted { CountsFailure (F.failures folder.old) (F.failures folder.new) result }
+    ensures held { F.locked folder.new ≡ F.locked folder.old }
+{
+    match folder.remove(part) {
+        Ok(()) => folder.create(part),
+        Err(Failed) => Err(Failed),
     }
 }
 
@@ -141,6 +187,7 @@ fn give_up<F: Folder>(folder: &mut F, part: &str, step: Step) -> NotWhole
     ensures step { result.step ≡ step }
     ensures given_up { Goes (F.files folder.old) (F.files folder.new) (AreGivenUp part.now result) }
     ensures counted { F.failures folder.new + failed_at step ≡ F.failures folder.old + failed_in result }
+    ensures held { F.locked folder.new ≡ F.locked folder.old }
 {
     let left = step.may_leave() && folder.remove(part).is_err();
     NotWhole { step, left }
