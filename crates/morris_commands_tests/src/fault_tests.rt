@@ -45,7 +45,14 @@ fn faults_of_folders_have_their_texts(rt: HostRuntime) -> Result<(), Fail> {
     assert_fault(&rt, Fault::OtherPair(4, 3), 31, other)?;
     assert_fault(&rt, Fault::NoFiles, 32, "no table files")?;
     assert_fault(&rt, Fault::Unanswered(7), 33, "7 lines have no answer")?;
-    assert_fault(&rt, Fault::Digests, 34, "file of digests can't be written")
+    assert_fault(&rt, Fault::Unanswered(1), 33, "1 line has no answer")?;
+    assert_fault(&rt, Fault::Digests, 34, "file of digests can't be written")?;
+    let busy = "another build is at work in this folder";
+    assert_fault(&rt, Fault::Busy, 35, busy)?;
+    assert_fault(&rt, Fault::NoFolder, 36, "no such folder")?;
+    let disagree = "the files of this position and its moves disagree";
+    assert_fault(&rt, Fault::Disagree, 37, disagree)?;
+    assert_fault(&rt, Fault::Unlocked, 38, "folder can't be locked")
 }
 
 #[test]

@@ -135,9 +135,22 @@ fn files_that_are_missing_are_named(rt: HostRuntime) -> Result<(), Fail> {
 #[test]
 fn a_file_that_is_not_opened_is_named(rt: HostRuntime) -> Result<(), Fail> {
     let first = Err(Fault::Unopened(3, 3));
-    assert_answers(&rt, &mut folder_with(&rt, 0b1, true, true)?, first, "");
+    assert_answers(&rt, &mut folder_with(&rt, 0b10, true, true)?, first, "");
     let second = Err(Fault::Unopened(4, 3));
-    assert_answers(&rt, &mut folder_with(&rt, 0b10, true, true)?, second, FIRST);
+    assert_answers(
+        &rt,
+        &mut folder_with(&rt, 0b100, true, true)?,
+        second,
+        FIRST,
+    );
+    Ok(())
+}
+
+#[test]
+fn a_folder_that_is_not_found_is_told(rt: HostRuntime) -> Result<(), Fail> {
+    let folder = &mut folder_with(&rt, 0b1, true, true)?;
+    assert_answers(&rt, folder, Err(Fault::NoFolder), "");
+    assert!(rt; folder.failures() == 1);
     Ok(())
 }
 
@@ -150,11 +163,11 @@ fn the_entries_of_all_files_are_told_first(rt: HostRuntime) -> Result<(), Fail> 
     Ok(())
 }
 
-// The first two calls read the headers.
+// The first call finds the folder, and the next two read the headers.
 #[test]
 fn a_file_that_is_not_opened_at_first_is_not_opened_again(rt: HostRuntime) -> Result<(), Fail> {
     let mut told = Tally { whole: 0, done: 0 };
-    let folder = &mut folder_with(&rt, 0b10, true, true)?;
+    let folder = &mut folder_with(&rt, 0b100, true, true)?;
     let second = Err(Fault::Unopened(4, 3));
     assert_tells(&rt, folder, &mut told, second, FIRST);
     assert!(rt; told.whole == 1680 && told.done == 1680 && folder.failures() == 1);
