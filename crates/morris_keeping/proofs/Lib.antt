@@ -1,2 +1,3 @@
 pub mod KeptLaws
 pub mod HeaderLaws
+mod LineLaws

@@ -1,4 +1,5 @@
 pub mod Names
 pub mod Digests
+pub mod Lists
 pub mod Kept
 pub mod Headers

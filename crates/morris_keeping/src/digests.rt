@@ -12,38 +12,43 @@ use morris_folders::folder::Folder;
 use morris_folders::whole::{Contents, NotWhole, Step, write_whole};
 use std::alloc::{AllocError, Global};
 
-/// A text that is a file.
+/// The bytes of a list: lines that were kept of an older one, and those after them.
 #[derive(Drop)]
-struct Text<'a>(&'a str);
+struct ListBytes<'a> {
+    kept: &'a [u8],
+    lines: &'a str,
+}
 
-impl Contents for Text<'_> {
-    ghost bytes = { λ text. text.0.now };
+impl Contents for ListBytes<'_> {
+    ghost bytes = { λ list. list.kept.now ++ list.lines.now };
 
     fn write_to<S: Sink>(&self, sink: &mut S) -> Result<(), Failed> {
-        match put(sink, 0, self.0.as_bytes()) {
-            Ok(_) => Ok(()),
-            Err(_) => Err(Failed),
+        if put(sink, 0, self.kept).is_err() || put(sink, 0, self.lines.as_bytes()).is_err() {
+            return Err(Failed);
         }
+        Ok(())
     }
 }
 
-/// Writes the file of the digests of these files, which are those of tables of the board of this
-/// name, into their folder, whole or not at all: a line for each file, in order, as
-/// `sha256sum -c` reads it. The file is named as [`digests_name`] says.
+/// Writes the list of digests of files of tables of the board of this name into their folder, whole
+/// or not at all, as `sha256sum -c` reads it: the lines that were
+/// [kept](crate::old_list::kept_lines) of the list before, and then a line for each file that was
+/// written, in order. The list is a file with the name that [`digests_name`] says.
 ///
 /// Fewer than `u64::MAX - 1` calls of the folder may have failed before.
 ///
 /// # Errors
 /// [`NotWhole`] with the first step that failed. What stood under the name before stands there
 /// then, or the whole file does where the step is `Rename`.
-pub fn write_digests<B: Geometry, F: Folder>(
+pub fn write_list<B: Geometry, F: Folder>(
     alloc: Global,
     folder: &mut F,
     board: &str,
+    kept: &[u8],
     written: &[Written<B>],
 ) -> Result<(), NotWhole>
     requires { F.failures folder.old < 2 ^ 64 - 2 }
-    ensures answer { AnswersWhole (digests_name_of board.now) (digest_lines board.now (λ w. w.pair) (λ w. w.digest) written.now) (F.files folder.old) (F.files folder.new) result }
+    ensures answer { AnswersWhole (digests_name_of board.now) (kept.now ++ digest_lines board.now (λ w. w.pair) (λ w. w.digest) written.now) (F.files folder.old) (F.files folder.new) result }
     ensures counted { MatchResult result (λ _. F.failures folder.new ≡ F.failures folder.old) (λ fault. F.failures folder.new ≡ F.failures folder.old + failed_in fault) }
 {
     let (Ok(name), Ok(text)) = (digests_name(alloc, board), lines(alloc, board, written)) else {
@@ -52,7 +57,8 @@ pub fn write_digests<B: Geometry, F: Folder>(
             left: false,
         });
     };
-    write_whole(alloc, folder, name.as_str(), &Text(text.as_str()))
+    let lines = text.as_str();
+    write_whole(alloc, folder, name.as_str(), &ListBytes { kept, lines })
 }
 
 /// The lines of the digests of these files.

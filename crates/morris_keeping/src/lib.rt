@@ -5,5 +5,7 @@ pub mod digest;
 pub mod digests;
 pub mod header;
 pub mod kept;
+mod list_line;
 pub mod names;
+pub mod old_list;
 pub mod table_file;

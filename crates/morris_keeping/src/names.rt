@@ -1,5 +1,6 @@
 //! The names of the files of tables.
 ghost use Rattle.std.specs.Prelude.{◌≡◌, IfOk, string_bytes};
+ghost use Rattle.morris_index.specs.Pairs.{counts};
 ghost use Rattle.morris_keeping.specs.Names.{digests_name_of, name_of};
 
 use itoa::Buffer;
@@ -18,13 +19,25 @@ pub fn file_name<B: Geometry>(
 ) -> Result<String, AllocError>
     ensures { IfOk result (λ name. string_bytes name ≡ name_of board.now pair) }
 {
+    pair_name(alloc, board, pair.greater(), pair.lesser())
+}
+
+/// The name of the file of the table of the pair with these numbers of stones.
+pub(crate) fn pair_name(
+    alloc: Global,
+    board: &str,
+    greater: u8,
+    lesser: u8,
+) -> Result<String, AllocError>
+    ensures { IfOk result (λ name. string_bytes name ≡ name_of board.now (counts greater lesser)) }
+{
     let mut digits = Buffer::new();
     let mut name = String::with_capacity(alloc, 0)?;
     name.push_str(board)?;
     name.push_str("-")?;
-    name.push_str(digits.format(pair.greater()))?;
+    name.push_str(digits.format(greater))?;
     name.push_str("-")?;
-    name.push_str(digits.format(pair.lesser()))?;
+    name.push_str(digits.format(lesser))?;
     name.push_str(".nmmt")?;
     Ok(name)
 }

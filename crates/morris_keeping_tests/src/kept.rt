@@ -3,8 +3,9 @@ use morris_board::grid::Grid;
 use morris_folders::folder::Folder;
 use morris_folders::memory::MemoryFolder;
 use morris_index::pair::Pair;
-use morris_keeping::digests::write_digests;
+use morris_keeping::digests::write_list;
 use morris_keeping::kept::{KeptFault, read_table_file};
+use morris_keeping::old_list::kept_lines;
 use morris_keeping::table_file::{Written, write_table_file};
 use morris_table::exact::Exact;
 use morris_table::file_faults::ReadFault;
@@ -28,6 +29,15 @@ const WHOLE: [u8; 32] = [
 /// The file of the digests of that file alone.
 const LINE: &[u8] =
     b"f8c48a20f96d424748ed4c631d94d98d80b8b00be2f17eb8132b233d2b184076  grid-3-3.nmmt\n";
+
+/// A list of another file of 3-3 and one of 4-3.
+const TWO: &[u8] = b"\
+0000000000000000000000000000000000000000000000000000000000000033  grid-3-3.nmmt\n\
+0000000000000000000000000000000000000000000000000000000000000043  grid-4-3.nmmt\n";
+
+/// Its line of 4-3.
+const OTHER: &[u8] =
+    b"0000000000000000000000000000000000000000000000000000000000000043  grid-4-3.nmmt\n";
 
 /// The table of 3-3.
 fn three_three(alloc: Global) -> Option<Exact<Grid>> {
@@ -66,9 +76,30 @@ fn kept(alloc: Global, calls: u64) -> Option<(MemoryFolder, Written<Grid>)> {
 fn the_digests_stand_in_a_file_of_their_own(rt: HostRuntime) {
     let (mut folder, written) = kept(rt.alloc(), 0).expect(&rt, "the file of 3-3");
     assert!(rt; folder.failures() == 0);
-    let answer = write_digests(rt.alloc(), &mut folder, "grid", &[written]);
+    let answer = write_list(rt.alloc(), &mut folder, "grid", b"", &[written]);
     assert!(rt; answer == Ok(()) && folder.get("grid.sha256") == Some(LINE));
     assert!(rt; folder.count() == 2);
+}
+
+/// The list of these bytes and then the line of 3-3.
+fn with_line(alloc: Global, lines: &[u8]) -> Option<Vec<u8>> {
+    let mut list = Vec::from_slice(alloc, lines).ok()?;
+    list.extend_from_slice(LINE).ok()?;
+    Some(list)
+}
+
+// A build of 3-3 where 4-3 was built before.
+#[test]
+fn the_digests_of_other_files_stay(rt: HostRuntime) {
+    let alloc = rt.alloc();
+    let (mut folder, written) = kept(alloc, 0).expect(&rt, "the file of 3-3");
+    assert!(rt; folder.put("grid.sha256", TWO).is_ok() && folder.failures() == 0);
+    let kept = kept_lines(alloc, &mut folder, "grid", written.pair);
+    let kept = kept.ok().expect(&rt, "the lines that are kept");
+    assert!(rt; folder.failures() == 0);
+    let answer = write_list(alloc, &mut folder, "grid", kept.as_slice(), &[written]);
+    let list = with_line(alloc, OTHER).expect(&rt, "room for a list");
+    assert!(rt; answer == Ok(()) && folder.get("grid.sha256") == Some(list.as_slice()));
 }
 
 /// Whether the file of a pair is answered by a table of so many entries, by none, or by this fault.

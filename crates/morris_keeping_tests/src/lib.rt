@@ -4,3 +4,5 @@
 
 #[cfg(test)]
 mod kept;
+#[cfg(test)]
+mod lists;
