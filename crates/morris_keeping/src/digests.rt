@@ -39,7 +39,8 @@ impl Contents for ListBytes<'_> {
 ///
 /// # Errors
 /// [`NotWhole`] with the first step that failed. What stood under the name before stands there
-/// then, or the whole file does where the step is `Rename`.
+/// then, or the whole list does where the step is `Rename`; where it is `Settle` the whole list
+/// does.
 pub fn write_list<B: Geometry, F: Folder>(
     alloc: Global,
     folder: &mut F,
@@ -50,6 +51,7 @@ pub fn write_list<B: Geometry, F: Folder>(
     requires { F.failures folder.old < 2 ^ 64 - 2 }
     ensures answer { AnswersWhole (digests_name_of board.now) (kept.now ++ digest_lines board.now (λ w. w.pair) (λ w. w.digest) written.now) (F.files folder.old) (F.files folder.new) result }
     ensures counted { MatchResult result (λ _. F.failures folder.new ≡ F.failures folder.old) (λ fault. F.failures folder.new ≡ F.failures folder.old + failed_in fault) }
+    ensures held { F.locked folder.new ≡ F.locked folder.old }
 {
     let (Ok(name), Ok(text)) = (digests_name(alloc, board), lines(alloc, board, written)) else {
         return Err(NotWhole {

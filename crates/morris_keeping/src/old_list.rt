@@ -57,6 +57,7 @@ pub fn kept_lines<B: Geometry, F: Folder>(
     ensures answer { MatchResult result (λ kept. AreKeptLines board.now replaced (F.files folder.old) kept.items) (IsUnlisted board.now (F.files folder.old)) }
     ensures kept { Keeps (F.files folder.old) (F.files folder.new) }
     ensures counted { F.failures folder.new ≡ F.failures folder.old + failed_listing result }
+    ensures held { F.locked folder.new ≡ F.locked folder.old }
 {
     let list = list_of(alloc, folder, board)?;
     match keep_lines(alloc, board, replaced, list.as_slice()) {
@@ -71,6 +72,7 @@ fn list_of<F: Folder>(alloc: Global, folder: &mut F, board: &str) -> Result<Vec<
     ensures answer { MatchResult result (λ list. IsList board.now (F.files folder.old) list.items) (IsUnlisted board.now (F.files folder.old)) }
     ensures kept { Keeps (F.files folder.old) (F.files folder.new) }
     ensures counted { F.failures folder.new ≡ F.failures folder.old + failed_listing result }
+    ensures held { F.locked folder.new ≡ F.locked folder.old }
 {
     let Ok(name) = digests_name(alloc, board) else {
         return Err(ListFault::Memory);

@@ -53,7 +53,8 @@ pub struct Written<B: Geometry> {
 ///
 /// # Errors
 /// [`NotWhole`] with the first step that failed. What stood under the name before stands there
-/// then, or the whole file does where the step is `Rename`.
+/// then, or the whole file does where the step is `Rename`; where it is `Settle` the whole file
+/// does.
 pub fn write_table_file<B: Geometry, F: Folder>(
     alloc: Global,
     folder: &mut F,
@@ -63,6 +64,7 @@ pub fn write_table_file<B: Geometry, F: Folder>(
     requires { F.failures folder.old < 2 ^ 64 - 2 }
     ensures answer { AnswersTableFile B.shape board.now table.now (F.files folder.old) (F.files folder.new) result }
     ensures counted { MatchResult result (λ _. F.failures folder.new ≡ F.failures folder.old) (λ fault. F.failures folder.new ≡ F.failures folder.old + failed_in fault) }
+    ensures held { F.locked folder.new ≡ F.locked folder.old }
     ensures pair { IfOk result (λ written. written.pair ≡ table.now.pair) }
     ensures entries { IfOk result (λ written. written.entries ≡ length table.now.codes) }
     ensures bytes { IfOk result (λ written. written.bytes ≡ length (file_of B.shape table.now)) }

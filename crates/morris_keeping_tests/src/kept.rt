@@ -123,11 +123,11 @@ fn reads(
     answer == wanted
 }
 
-// The first three calls write the file of 3-3, and the next two open it.
+// The first five calls write the file of 3-3, and the next two open it.
 #[test]
 fn a_table_is_read_from_the_file_of_its_pair(rt: HostRuntime) {
     let alloc = rt.alloc();
-    let (mut folder, _) = kept(alloc, 0b1000).expect(&rt, "the file of 3-3");
+    let (mut folder, _) = kept(alloc, 0b100000).expect(&rt, "the file of 3-3");
     let folder = &mut folder;
     assert!(rt; reads(alloc, folder, (3, 3), Err(KeptFault::Unopened)));
     assert!(rt; reads(alloc, folder, (3, 3), Ok(Some(1680))));

@@ -162,11 +162,12 @@ fn a_list_that_cannot_be_opened_is_refused(rt: HostRuntime) {
     assert!(rt; folder.failures() == 1 && folder.get("grid.sha256") == Some(FIVE));
 }
 
-// The list before the first file is replaced has the lines that are kept and no other.
+// The list before the first file is replaced has the lines that are kept and no other. The first
+// five calls write it, and the seventh is to make the part of the next.
 #[test]
 fn a_list_is_written_whole_or_not_at_all(rt: HostRuntime) {
     let alloc = rt.alloc();
-    let mut folder = MemoryFolder::new(alloc, 0b1000, 0);
+    let mut folder = MemoryFolder::new(alloc, 0b1000000, 0);
     assert!(rt; folder.put("grid.sha256", FIVE).is_ok());
     assert!(rt; write_list::<Grid, MemoryFolder>(alloc, &mut folder, "grid", THREE, &[]).is_ok());
     assert!(rt; folder.get("grid.sha256") == Some(THREE) && folder.count() == 1);
