@@ -130,7 +130,9 @@ int32_t morris_prepare(uint32_t board, uint32_t *words, size_t room);
 int32_t morris_check(const morris_view *file, morris_header *out);
 
 /* Whether the digest at the end of a file, its last 32 bytes, is the SHA-256 of all bytes before
- * it. It reads the whole file, at some hundred megabytes a second.
+ * it. It reads the whole file, at some hundred megabytes a second. It shows damage, and no more:
+ * whoever writes a file can write the digest of any bytes. Whether the values of a file are right,
+ * only `morris verify` tells.
  *
  * MORRIS_SHORT where there are fewer than 32 bytes; MORRIS_DIGEST. */
 int32_t morris_digest(const morris_view *file);
@@ -142,10 +144,11 @@ int32_t morris_digest(const morris_view *file);
  * the file are read, and its header; a call takes less than a microsecond. The files may be of both
  * versions, and in any order.
  *
- * The library believes the files: where they are those that `morris build` wrote, which
- * `morris_digest` tells, the value is the position's value in the game. `words` are those that
- * `morris_prepare` filled for this board, `m` of them. Only how they begin and how many they are is
- * tested: with other words a file of version 2 may give a wrong value, and nothing worse.
+ * The library believes the files: where they are those that `morris build` wrote, the value is the
+ * position's value in the game. `morris verify BOARD --from FOLDER`, run once before, tells whether
+ * they are; no call of this library does. `words` are those that `morris_prepare` filled for this
+ * board, `m` of them. Only how they begin and how many they are is tested: with other words a file
+ * of version 2 may give a wrong value, and nothing worse.
  *
  * MORRIS_NO_BOARD; MORRIS_OFF_BOARD, MORRIS_OVERLAP, MORRIS_STONES; MORRIS_NO_TABLE; MORRIS_SHORT,
  * MORRIS_MAGIC, MORRIS_VERSION, MORRIS_OTHER_BOARD, MORRIS_NOT_PREPARED, MORRIS_ENTRIES,

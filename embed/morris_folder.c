@@ -38,29 +38,57 @@ const char *morris_error(int32_t status) {
     }
 }
 
+/* What the words of a folder point to that has none: no call takes a null pointer. */
+static uint32_t no_words;
+
+static void make_empty(morris_folder *folder) {
+    memset(folder->files, 0, sizeof folder->files);
+    folder->n = 0;
+    folder->words = &no_words;
+    folder->m = 0;
+}
+
+/* Closes a file, and keeps what errno says. */
+static void close_file(int file) {
+    int why = errno;
+    close(file);
+    errno = why;
+}
+
+/* Opens a file for reading, and nothing else: a FIFO is opened without a wait, and closed again. */
+static int open_file(const char *name, struct stat *about) {
+    int file = open(name, O_RDONLY | O_CLOEXEC | O_NONBLOCK | O_NOCTTY);
+    if (file < 0) {
+        errno = errno == ENXIO ? EINVAL : errno; /* a socket */
+        return -1;
+    }
+    if (fstat(file, about) == 0) {
+        if (S_ISREG(about->st_mode)) {
+            return file;
+        }
+        errno = EINVAL;
+    }
+    close_file(file);
+    return -1;
+}
+
 /* Maps a file: 1 where that was done, 0 where there is none, -1 where the system refused. */
 static int map_file(const char *name, morris_view *view) {
+    static const uint8_t none;
     struct stat about;
     void *bytes;
-    int file = open(name, O_RDONLY | O_CLOEXEC);
+    int file = open_file(name, &about);
     if (file < 0) {
         return errno == ENOENT ? 0 : -1;
     }
-    if (fstat(file, &about) != 0) {
-        int why = errno;
-        close(file);
-        errno = why;
-        return -1;
-    }
     if (about.st_size == 0) { /* nothing to map: too short for any call */
-        static const uint8_t none;
         close(file);
         view->bytes = &none;
         view->len = 0;
         return 1;
     }
     bytes = mmap(NULL, (size_t)about.st_size, PROT_READ, MAP_SHARED, file, 0);
-    close(file);
+    close_file(file);
     if (bytes == MAP_FAILED) {
         return -1;
     }
@@ -73,6 +101,10 @@ static int map_file(const char *name, morris_view *view) {
 static int32_t map_files(const char *path, const char *board, morris_folder *out) {
     char name[4096];
     int greater, lesser;
+    if (*path == '\0') { /* it isn't the root */
+        errno = ENOENT;
+        return MORRIS_SYSTEM;
+    }
     for (greater = 3; greater <= 9; greater++) {
         for (lesser = 3; lesser <= greater; lesser++) {
             int mapped, length;
@@ -96,7 +128,8 @@ static int32_t prepare_words(morris_folder *out) {
     size_t i;
     for (i = 0; i < out->n; i++) {
         if (out->files[i].len >= HEADER && out->files[i].bytes[VERSION] == BY_CLASSES) {
-            size_t count = out->board == MORRIS_NINE ? MORRIS_NINE_WORDS : morris_prepare_size(out->board);
+            size_t count =
+                out->board == MORRIS_NINE ? MORRIS_NINE_WORDS : morris_prepare_size(out->board);
             uint32_t *words = malloc(count * sizeof *words);
             if (words == NULL) {
                 return MORRIS_SYSTEM;
@@ -110,11 +143,9 @@ static int32_t prepare_words(morris_folder *out) {
 }
 
 int32_t morris_open_folder(const char *path, uint32_t board, morris_folder *out) {
-    static uint32_t none; /* a pointer that isn't null, where there are no words */
     int32_t status;
-    memset(out, 0, sizeof *out);
+    make_empty(out);
     out->board = board;
-    out->words = &none;
     if (board != MORRIS_NINE && board != MORRIS_GRID) {
         return MORRIS_NO_BOARD;
     }
@@ -140,5 +171,5 @@ void morris_close_folder(morris_folder *folder) {
     if (folder->m > 0) {
         free(folder->words);
     }
-    memset(folder, 0, sizeof *folder);
+    make_empty(folder);
 }

@@ -1,0 +1,45 @@
+"""What the callers in Python share: the module, and what they expect of its calls."""
+
+import os
+import subprocess
+import sys
+
+EMBED = os.path.dirname(os.path.dirname(os.path.abspath(__file__)))
+sys.path.insert(0, EMBED)
+import morris  # noqa: E402
+
+# No program takes so many seconds.
+MOST_SECONDS = 60
+
+
+def raised(call):
+    """What a call raises."""
+    try:
+        answer = call()
+    except Exception as error:
+        return error
+    raise AssertionError(f"nothing is raised, but {answer!r} answered")
+
+
+def raises(kind, call):
+    """Checks that a call raises just this, and gives it. It says something."""
+    error = raised(call)
+    assert type(error) is kind and str(error), f"{error!r} is raised, and not {kind.__name__}"
+    return error
+
+
+def refused(status, call):
+    """Checks that a call is refused for this."""
+    fault = raises(morris.Fault, call)
+    assert fault.status is status, fault
+
+
+def run_python(code, *words, **environment):
+    """Runs a program that has the module, and checks that it ends well and says no more than what
+    it prints, which is given."""
+    head = f"import sys\nsys.path.insert(0, {EMBED!r})\nimport morris\n"
+    how = {"capture_output": True, "text": True, "timeout": MOST_SECONDS}
+    how["env"] = {**os.environ, **environment}
+    done = subprocess.run([sys.executable, "-c", head + code, *words], **how)
+    assert (done.returncode, done.stderr) == (0, ""), (code, done)
+    return done.stdout

@@ -1,0 +1,95 @@
+"""Folders that the module for Python opens or refuses: paths.py FOLDER, which has the tables of
+Grid. A program that waits is killed."""
+
+import errno
+import os
+import pathlib
+import shutil
+import sys
+import tempfile
+
+from expect import MOST_SECONDS, morris, raised, raises, run_python
+
+TEXT = "XXXOOO..."
+NAME = "grid-3-3.nmmt"
+OPENS = f"""
+import signal
+signal.alarm({MOST_SECONDS // 3})
+try:
+    print(morris.open_tables(sys.argv[1], "grid").value("{TEXT}"))
+except OSError as error:
+    print(type(error).__name__, error.errno, error.filename == sys.argv[1])
+"""
+
+
+def opened(folder):
+    return morris.open_tables(folder, "grid")
+
+
+def what_stands_there(full):
+    """What has the name of a table file is opened where it is a file, and waited for never."""
+    no_file = f"OSError {errno.EINVAL} True\n"
+    value = f"{opened(full).value(TEXT)}\n"
+    with tempfile.TemporaryDirectory() as room:
+        os.mkfifo(f"{room}/fifo")
+        for make, said in (
+            (os.mkfifo, no_file),
+            (os.mkdir, no_file),
+            (lambda name: os.symlink("../fifo", name), no_file),
+            (lambda name: os.symlink("../../", name), no_file),
+            (lambda name: os.symlink("/dev/zero", name), no_file),
+            (lambda name: os.symlink(os.path.abspath(f"{full}/{NAME}"), name), value),
+            (lambda name: shutil.copy(f"{full}/{NAME}", name), value),
+        ):
+            os.mkdir(f"{room}/it")
+            make(f"{room}/it/{NAME}")
+            assert run_python(OPENS, f"{room}/it") == said, make
+            (os.rmdir if make is os.mkdir else os.remove)(f"{room}/it/{NAME}")
+            os.rmdir(f"{room}/it")
+
+
+def names_of_folders(full):
+    value = opened(full).value(TEXT)
+    with tempfile.TemporaryDirectory() as room:
+        for name in ("with space", "%s%n", "\u00e4\u26f5", os.fsdecode(b"\xff\xfe"), "new\nline"):
+            folder = os.path.join(room, name)
+            shutil.copytree(full, folder, ignore=lambda _, names: {it for it in names if it != NAME})
+            for path in (folder, pathlib.Path(folder), os.fsencode(folder), folder + "/"):
+                with opened(path) as tables:
+                    assert tables.value(TEXT) == value and tables.pairs == [(3, 3)]
+            # C reads a path up to its first NUL byte.
+            for path in (folder + "\0", os.fsencode(folder) + b"\0more", "\0" + folder):
+                raises(ValueError, lambda: opened(path))
+        for path in (room, pathlib.Path(room), room + "/none", os.fsencode(room), ""):
+            error = raises(FileNotFoundError, lambda: opened(path))
+            assert error.errno == errno.ENOENT and error.filename == os.fspath(path), error
+        raises(NotADirectoryError, lambda: opened(f"{folder}/{NAME}"))
+        assert raised(lambda: opened("x" * 5000)).errno == errno.ENAMETOOLONG
+    for path in (None, 7, 7.0, [full], (full,), {full}, bytearray(b"x"), object()):
+        raises(TypeError, lambda: opened(path))
+
+
+def pairs(full):
+    of_grid = [(3, 3), (4, 3), (4, 4), (5, 3), (5, 4), (6, 3)]
+    with opened(full) as tables:
+        assert tables.pairs == of_grid
+        tables.pairs.clear()
+        assert tables.pairs == of_grid
+    with tempfile.TemporaryDirectory() as room:
+        for name in ("grid-5-3.nmmt", NAME):
+            shutil.copy(f"{full}/{name}", room)
+        for name, given in (("grid-4-4.nmmt", b""), ("grid-9-9.nmmt", b"no table, but a text")):
+            pathlib.Path(room, name).write_bytes(given)
+        assert opened(room).pairs == [(3, 3), (5, 3)]
+
+
+def libraries(full):
+    """A library that isn't there, and one that is another."""
+    for name in (f"{full}/none.so", f"{full}/{NAME}", "libc.so.6"):
+        said = run_python(OPENS.replace(", error.filename == sys.argv[1]", ""), full, MORRIS_LIBRARY=name)
+        assert said == "OSError None\n", (name, said)
+
+
+for part in (what_stands_there, names_of_folders, pairs, libraries):
+    part(sys.argv[1])
+print("all right")
