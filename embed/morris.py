@@ -270,8 +270,7 @@ class _Files:
     """The open files of a folder. They are given back once nobody has them any more, neither
     `Tables` nor a call that is under way."""
 
-    def __init__(self, folder: _Folder, points: int) -> None:
-        self.points = points
+    def __init__(self, folder: _Folder) -> None:
         self.views = folder.files[:folder.n]
         # What each call is asked with.
         self.asked = (folder.board, folder.files, folder.n, folder.words, folder.m)
@@ -290,16 +289,15 @@ class Tables:
         if b"\0" in path:
             raise ValueError(f"a path has no NUL byte: {path!r}")
         self.board = board
-        number, points = _BOARDS[board]
         found = _Folder()
-        status = _library().morris_open_folder(path, number, found)
+        status = _library().morris_open_folder(path, _BOARDS[board][0], found)
         if status == Status.NO_TABLE:
             raise FileNotFoundError(errno.ENOENT, "no table files of the board", os.fspath(folder))
         if status == Status.SYSTEM:
             why = ctypes.get_errno()
             raise OSError(why, os.strerror(why), os.fspath(folder))
         _done(status)
-        self._files: Optional[_Files] = _Files(found, points)
+        self._files: Optional[_Files] = _Files(found)
 
     def __enter__(self) -> Tables:
         self._open_files()
@@ -334,6 +332,13 @@ class Tables:
         named = {(head[_GREATER], head[_LESSER]) for head in heads}
         return sorted(it for it in named if 3 <= it[1] <= it[0] <= 9)
 
+    def _status(self, call: str, position: Position, *out: object) -> int:
+        """What C answers for a position. No frame of a fault that comes of it has the files."""
+        masks = _masks(position, _BOARDS[self.board][1])
+        files = self._open_files()
+        status: int = getattr(_library(), call)(*files.asked, *masks, *out)
+        return status
+
     def value(self, position: Position) -> Value:
         """The value of a position for the player to move.
 
@@ -341,16 +346,15 @@ class Tables:
         a text or masks that don't fit the board; `Fault` with OVERLAP or STONES where no position
         is like that, with NO_TABLE where no file has its pair or the tables are closed, and with
         SHORT, MAGIC, VERSION, OTHER_BOARD, ENTRIES or TRAILING where the file is refused."""
-        files, out = self._open_files(), _Value()
-        _done(_library().morris_lookup(*files.asked, *_masks(position, files.points), out))
+        out = _Value()
+        _done(self._status("morris_lookup", position, out))
         return _value(out)
 
     def moves(self, position: Position) -> List[Outcome]:
         """The legal moves in order of start, end and taken, each with what it leads to. Raises what
         `value` raises, for the position itself or one that a move leads to."""
-        files, out, count = self._open_files(), (_Move * _MOST_MOVES)(), ctypes.c_size_t()
-        asked = (*files.asked, *_masks(position, files.points))
-        _done(_library().morris_moves(*asked, out, len(out), count))
+        out, count = (_Move * _MOST_MOVES)(), ctypes.c_size_t()
+        _done(self._status("morris_moves", position, out, len(out), count))
         return [
             Outcome(Move(m.start, m.end, None if m.taken == _NONE else m.taken), _value(m.value))
             for m in out[:count.value]
@@ -367,12 +371,19 @@ class Tables:
         OTHER_BOARD, COUNTS, CROWDED, ENTRIES or TRAILING for its header and length, with DIGEST for
         its digest; and with NO_TABLE where the tables are closed. Whether the values of a file are
         right, only `morris verify` tells: whoever writes it can write the digest of any values."""
-        files, header = self._open_files(), _Header()
+        _done(self._damage())
+
+    def _damage(self) -> int:
+        """The status of the first file that is damaged."""
+        files, header, library = self._open_files(), _Header(), _library()
         for view in files.views:
-            _done(_library().morris_check(view, header))
-            if header.board != files.asked[0]:
-                raise Fault(Status.OTHER_BOARD)
-            _done(_library().morris_digest(view))
+            status: int = library.morris_check(view, header)
+            if status == Status.OK and header.board != _BOARDS[self.board][0]:
+                status = Status.OTHER_BOARD
+            status = status or library.morris_digest(view)
+            if status != Status.OK:
+                return status
+        return Status.OK
 
 
 def open_tables(folder: Folder, board: str = "nine") -> Tables:

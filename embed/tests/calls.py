@@ -6,9 +6,8 @@ import sys
 import threading
 from itertools import combinations
 
-sys.path.insert(0, os.path.join(os.path.dirname(os.path.abspath(__file__)), ".."))
-import morris  # noqa: E402
-from morris import Kind  # noqa: E402
+from expect import morris, raises, refused
+from morris import Kind, Status
 
 MILLS = [{0, 1, 2}, {3, 4, 5}, {6, 7, 8}, {0, 3, 6}, {1, 4, 7}, {2, 5, 8}]
 
@@ -26,7 +25,8 @@ def rules(own: frozenset, other: frozenset) -> list:
                 continue
             went = own - {start} | {end}
             if any(end in mill and mill <= went for mill in MILLS):
-                free = [t for t in sorted(other) if not any(t in mill and mill <= other for mill in MILLS)]
+                mills = [mill for mill in MILLS if mill <= other]
+                free = [t for t in sorted(other) if not any(t in mill for mill in mills)]
                 found += [(start, end, t) for t in free or sorted(other)]
             else:
                 found.append((start, end, None))
@@ -35,15 +35,6 @@ def rules(own: frozenset, other: frozenset) -> list:
 
 def text(own: frozenset, other: frozenset) -> str:
     return "".join("X" if p in own else "O" if p in other else "." for p in range(9))
-
-
-def refused(status: int, call) -> None:
-    try:
-        call()
-    except morris.Fault as fault:
-        assert fault.status == status and str(fault), fault
-    else:
-        raise AssertionError(f"no fault {status}")
 
 
 def all_positions(tables: morris.Tables) -> int:
@@ -63,20 +54,16 @@ def all_positions(tables: morris.Tables) -> int:
 with morris.open_tables(sys.argv[1], "grid") as tables:
     tables.check_digests()
     print(all_positions(tables), "positions")
-    refused(4, lambda: tables.value("X..OOO..."))
-    refused(3, lambda: tables.value((7, 14)))
-    refused(2, lambda: tables.value((7, 1 << 9)))
+    refused(Status.STONES, lambda: tables.value("X..OOO..."))
+    refused(Status.OVERLAP, lambda: tables.value((7, 14)))
+    raises(ValueError, lambda: tables.value((7, 1 << 9)))
     found: list = []
-    threads = [threading.Thread(target=lambda: found.append(all_positions(tables))) for _ in range(2)]
+    ask = lambda: found.append(all_positions(tables))  # noqa: E731
+    threads = [threading.Thread(target=ask) for _ in range(2)]
     for thread in threads:
         thread.start()
     for thread in threads:
         thread.join()
     assert found[0] == found[1]
-for folder in (os.path.dirname(os.path.abspath(__file__)),):
-    try:
-        morris.open_tables(folder)
-        raise AssertionError("no files were found missing")
-    except FileNotFoundError:
-        pass
+raises(FileNotFoundError, lambda: morris.open_tables(os.path.dirname(os.path.abspath(__file__))))
 print("all right")

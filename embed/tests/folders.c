@@ -87,7 +87,7 @@ static void refused(const char *path, uint32_t board, int32_t status, int why) {
 
 /* What stands under the name of a table file is no file, and is taken away. */
 static void is_no_file(const char *what) {
-    printf("%s\n", what);
+    printf("%s, ", what);
     refused(IN, MORRIS_GRID, MORRIS_SYSTEM, EINVAL);
     IS(remove(NAME), 0);
 }
@@ -96,7 +96,7 @@ static void is_no_file(const char *what) {
 static void is_file(const char *what, int32_t status) {
     morris_folder t;
     int before = next_file();
-    printf("%s\n", what);
+    printf("%s, ", what);
     IS(open_in_time(IN, MORRIS_GRID, &t), MORRIS_OK);
     IS(next_file(), before);
     IS(t.n, 1);

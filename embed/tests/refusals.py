@@ -34,8 +34,9 @@ class Points(enum.IntFlag):
 
 def wrong_types():
     yield from (None, 7, 7.0, OWN << 32 | OTHER, TEXT.encode(), bytearray(TEXT, "ascii"), object())
-    yield from ({OWN, OTHER}, frozenset((OWN, OTHER)), {OWN: 1, OTHER: 2}, {OWN: 1, OTHER: 2}.keys())
-    yield from (iter((OWN, OTHER)), map(int, (OWN, OTHER)), range(OWN, OTHER + 1, OTHER - OWN))
+    two = (OWN, OTHER)
+    yield from (set(two), frozenset(two), dict.fromkeys(two), dict.fromkeys(two).keys(), iter(two))
+    yield from (map(int, two), range(OWN, OTHER + 1, OTHER - OWN), memoryview(bytes(two)))
     for mask in (float(OWN), str(OWN), b"7", None, True, False, Looks(), (OWN,), [OWN], 7j):
         yield from ((mask, OTHER), (OWN, mask), [mask, OTHER], [OWN, mask])
 

@@ -1,0 +1,55 @@
+"""The examples refuse what they aren't made for with a line: examples.py FOLDER PROGRAM.., of which
+the folder has the tables of Grid and of Nine 3-3."""
+
+import os
+import subprocess
+import sys
+import tempfile
+
+from expect import EMBED, MOST_SECONDS
+
+GRID = "XXXOO.O.."
+NINE = "XX.X...O.O.O............"
+WRONG = [NINE[:12], NINE + "XXXX", NINE[:-1], NINE + ".", GRID + ".", GRID[:-1], "", "X", NINE * 3]
+WRONG += [text.replace("X", it, 1) for text in (GRID, NINE) for it in "xo0 -\n\u0425"]
+WRONG += [text[:-1] + it for text in (GRID, NINE) for it in "xo0 -\n"]
+WRONG += [GRID[:-1] + "\xff".encode("latin1").decode(errors="surrogateescape"), "\u0425" * 12]
+
+
+def ran(program, *words):
+    how = {"capture_output": True, "text": True, "errors": "replace", "timeout": MOST_SECONDS}
+    done = subprocess.run([*program, *words], **how)
+    return done.returncode, done.stdout, done.stderr
+
+
+def refuses(program, status, *words):
+    """The program ends with this status and a line on standard error, and prints nothing."""
+    found = ran(program, *words)
+    assert found[:2] == (status, "") and found[2].count("\n") == 1, (program, words, found)
+
+
+def examine(program, folder):
+    assert ran(program, folder, GRID) == (0, "won in 3\n1-5\n", ""), program
+    assert ran(program, folder, NINE)[0] == 0
+    for text in WRONG:
+        refuses(program, 2, folder, text)
+    for words in ((), (folder,), (folder, GRID, GRID), (GRID,), (GRID, folder), ("/nowhere", "X")):
+        refuses(program, 2, *words)
+    for place in ("/nowhere", "", f"{folder}/grid-3-3.nmmt", os.path.dirname(__file__), "x" * 5000):
+        refuses(program, 1, place, GRID)
+    refuses(program, 1, folder, "X..OOO...")
+    refuses(program, 1, folder, "XXXXXXXXX")
+    refuses(program, 1, folder, "XXXXX.OOOOO.............")
+    with tempfile.TemporaryDirectory() as room:
+        os.mkfifo(f"{room}/grid-3-3.nmmt")
+        refuses(program, 1, room, GRID)
+        # A folder's name needn't be text.
+        name = os.path.join(os.fsencode(room), b"\xff")
+        os.symlink(os.path.abspath(folder), name)
+        assert ran(program, name, GRID) == (0, "won in 3\n1-5\n", ""), program
+
+
+programs = [[it] for it in sys.argv[2:]] + [[sys.executable, f"{EMBED}/examples/best.py"]]
+for program in programs:
+    examine(program, sys.argv[1])
+print("all right")
