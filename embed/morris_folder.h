@@ -17,8 +17,8 @@ extern "C" {
 /* What `morris_open_folder` opened: hand `files, n, words, m` to `morris_lookup` and
  * `morris_moves`. Any thread may read it. A copy is void once the folder is closed.
  *
- * An empty folder has no files: `n` and `m` are 0. It may be handed in as well, and no pointer in it
- * is null. One of which all bytes are 0 may be closed, but not be handed in before that. */
+ * An empty folder has no files: `n` and `m` are 0. It may be handed in as well: no pointer that a
+ * call takes is null. One of which all bytes are 0 may be closed, but not be handed in before. */
 typedef struct morris_folder {
     uint32_t board;
     morris_view files[MORRIS_MOST_FILES]; /* those that there are, each mapped for reading */
@@ -36,8 +36,9 @@ typedef struct morris_folder {
  * Answers MORRIS_OK; MORRIS_NO_BOARD; MORRIS_NO_TABLE where the folder has none of these files; or
  * MORRIS_SYSTEM, and errno says why a file couldn't be opened or mapped, or memory was refused:
  * EINVAL where what has the name of a table file isn't a regular file, but a folder, a FIFO or a
- * device, say, which nothing is read from or waited for. `out` needn't hold anything before, and
- * what it holds isn't given back. But for MORRIS_OK the folder is empty. */
+ * device, say, which nothing is read from or waited for; ENOENT where the path is empty. `out`
+ * needn't hold anything before, and what it holds isn't given back. But for MORRIS_OK the folder is
+ * empty. */
 #define MORRIS_SYSTEM 100
 int32_t morris_open_folder(const char *path, uint32_t board, morris_folder *out);
 

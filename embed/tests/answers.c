@@ -1,6 +1,6 @@
 /* Answers positions as `morris lookup --moves` does, so that the two can be compared: answers
- * FOLDER reads positions of one board from standard input, one a line. A status stands in the place
- * of an answer that was refused. */
+ * FOLDER reads positions of one board from standard input, one a line, and ends at what is none. A
+ * status stands in the place of an answer that was refused. */
 #include "morris_folder.h"
 
 #include <stdio.h>
@@ -59,14 +59,19 @@ int main(int argc, char **argv) {
     char line[64];
     int is_open = 0;
     while (argc == 2 && fgets(line, sizeof line, stdin) != NULL) {
-        uint32_t own = 0, other = 0, point;
+        uint32_t own = 0, other = 0, point, board;
+        size_t points = strcspn(line, "\n");
         int32_t status;
-        line[strcspn(line, "\n")] = '\0';
-        for (point = 0; line[point] != '\0' && point < 24; point++) {
+        line[points] = '\0';
+        if ((points != 24 && points != 9) || strspn(line, "XO.") != points) {
+            return 2;
+        }
+        for (point = 0; point < points; point++) {
             own |= (uint32_t)(line[point] == 'X') << point;
             other |= (uint32_t)(line[point] == 'O') << point;
         }
-        if (!is_open && morris_open_folder(argv[1], point == 9 ? MORRIS_GRID : MORRIS_NINE, &t) != MORRIS_OK) {
+        board = points == 9 ? MORRIS_GRID : MORRIS_NINE;
+        if (is_open ? t.board != board : morris_open_folder(argv[1], board, &t) != MORRIS_OK) {
             return 1;
         }
         is_open = 1;

@@ -92,11 +92,13 @@ def pools(wanted):
     """Faults and other errors come out of a pool of processes as they do out of a call."""
     for how in ("fork", "spawn"):
         context = multiprocessing.get_context(how)
-        with context.Pool(2) as pool:
+        with context.Pool(2) as pool, opened() as tables:
+            raises(TypeError, lambda: pool.apply(print, (tables,)))
             # All are asked before the first is awaited: an error doesn't hold up those behind it.
             asked = {it: pool.apply_async(ask, (it,)) for it in POSITIONS}
             assert answers(lambda it: asked[it].get(MOST_SECONDS)) == wanted, how
-        with ProcessPoolExecutor(2, mp_context=context) as pool:
+        with ProcessPoolExecutor(2, mp_context=context) as pool, opened() as tables:
+            raises(TypeError, pool.submit(print, tables).result)
             asked = {it: pool.submit(ask, it) for it in POSITIONS}
             assert answers(lambda it: asked[it].result(MOST_SECONDS)) == wanted, how
 
