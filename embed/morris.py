@@ -327,7 +327,8 @@ class Tables:
     def pairs(self) -> List[Tuple[int, int]]:
         """The pairs of numbers of stones, the greater one first, that a file names in its header,
         in order. Raises `Fault` (NO_TABLE) where the tables are closed."""
-        long = [view for view in self._open_files().views if view.len >= _HEADER]
+        files = self._open_files()
+        long = [view for view in files.views if view.len >= _HEADER]
         heads = [ctypes.string_at(view.bytes, _HEADER) for view in long]
         named = {(head[_GREATER], head[_LESSER]) for head in heads}
         return sorted(it for it in named if 3 <= it[1] <= it[0] <= 9)

@@ -30,6 +30,10 @@ class Meanwhile:
 
 morris._loaded = Meanwhile(morris._library())
 """
+CLOSED_AS_PAIRS_ARE_READ = """
+read = morris.ctypes.string_at
+morris.ctypes.string_at = lambda *words: (tables.close(), read(*words))[1]
+"""
 # A thread is in a call of the library when the program ends.
 BUSY = """
 import threading
@@ -143,6 +147,7 @@ def ends():
         CLOSED_MEANWHILE + "assert tables.value(position) == value",
         CLOSED_MEANWHILE + "assert len(tables.moves(position)) > 0",
         CLOSED_MEANWHILE + "tables.check_digests()",
+        CLOSED_AS_PAIRS_ARE_READ + "assert len(tables.pairs) == 6",
     ):
         run_python(CODE + end, folder)
 
