@@ -128,7 +128,7 @@ _OTHER = str.maketrans("XO.", "010")
 
 
 class Fault(Exception):
-    """A call was refused, for what `status` says."""
+    """A call was refused, for what `status` says; `text` is that in English."""
 
     def __init__(self, status: int, text: Optional[str] = None) -> None:
         self.status = Status(status)
@@ -280,7 +280,8 @@ class _Files:
 
 class Tables:
     """Open table files of one board. Made by `open_tables`, and closed by `close` or `with`, or
-    once nobody has them any more. `board` is the board's name."""
+    once nobody has them any more. `board` is the board's name. Any threads may ask and close them;
+    they can't be copied or pickled (`TypeError`), so each process opens its own."""
 
     def __init__(self, folder: Folder, board: str = "nine") -> None:
         if board not in _BOARDS:
@@ -310,7 +311,7 @@ class Tables:
         return f"<Tables of {self.board}, {'closed' if self._files is None else 'open'}>"
 
     def __reduce__(self) -> NoReturn:
-        raise TypeError("Tables can't be pickled or copied: open the folder once more instead")
+        raise TypeError("Tables can't be copied or pickled: open the folder once more instead")
 
     def close(self) -> None:
         """Gives the files back, once calls of other threads that are under way have ended. All that
