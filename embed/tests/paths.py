@@ -3,10 +3,10 @@ Grid. A program that waits is killed."""
 
 import errno
 import os
-import pathlib
 import shutil
 import sys
 import tempfile
+from pathlib import Path
 
 from expect import MOST_SECONDS, morris, raised, raises, run_python
 
@@ -55,19 +55,33 @@ def names_of_folders(full):
             folder = os.path.join(room, name)
             os.mkdir(folder)
             shutil.copy(f"{full}/{NAME}", folder)
-            for path in (folder, pathlib.Path(folder), os.fsencode(folder), folder + "/"):
+            for path in (folder, Path(folder), os.fsencode(folder), folder + "/"):
                 with opened(path) as tables:
                     assert tables.value(TEXT) == value and tables.pairs == [(3, 3)]
             # C reads a path up to its first NUL byte.
             for path in (folder + "\0", os.fsencode(folder) + b"\0more", "\0" + folder):
                 raises(ValueError, lambda: opened(path))
-        for path in (room, pathlib.Path(room), room + "/none", os.fsencode(room), ""):
+        for path in (room, Path(room), room + "/none", os.fsencode(room), ""):
             error = raises(FileNotFoundError, lambda: opened(path))
             assert error.errno == errno.ENOENT and error.filename == os.fspath(path), error
         raises(NotADirectoryError, lambda: opened(f"{folder}/{NAME}"))
         assert raised(lambda: opened("x" * 5000)).errno == errno.ENAMETOOLONG
     for path in (None, 7, 7.0, [full], (full,), {full}, bytearray(b"x"), object()):
         raises(TypeError, lambda: opened(path))
+
+
+def replaced(full):
+    """Files that are replaced by renaming, or taken away, leave open tables as they are."""
+    with tempfile.TemporaryDirectory() as room:
+        shutil.copy(f"{full}/{NAME}", room)
+        with opened(room) as tables:
+            value = tables.value(TEXT)
+            Path(room, "new").write_bytes(b"no table")
+            os.replace(f"{room}/new", f"{room}/{NAME}")
+            assert tables.value(TEXT) == value
+            os.remove(f"{room}/{NAME}")
+            assert tables.value(TEXT) == value
+        raises(FileNotFoundError, lambda: opened(room))
 
 
 def pairs(full):
@@ -80,7 +94,7 @@ def pairs(full):
         for name in ("grid-5-3.nmmt", NAME):
             shutil.copy(f"{full}/{name}", room)
         for name, given in (("grid-4-4.nmmt", b""), ("grid-9-9.nmmt", b"no table, but a text")):
-            pathlib.Path(room, name).write_bytes(given)
+            Path(room, name).write_bytes(given)
         assert opened(room).pairs == [(3, 3), (5, 3)]
 
 
@@ -91,6 +105,6 @@ def libraries(full):
         assert run_python(code, full, MORRIS_LIBRARY=name) == "OSError None\n", name
 
 
-for part in (what_stands_there, names_of_folders, pairs, libraries):
+for part in (what_stands_there, names_of_folders, replaced, pairs, libraries):
     part(sys.argv[1])
 print("all right")
