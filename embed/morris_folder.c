@@ -55,21 +55,23 @@ static void close_file(int file) {
     errno = why;
 }
 
-/* Opens a file for reading, and nothing else: a FIFO is opened without a wait, and closed again. */
+static int is_file(const struct stat *about) {
+    errno = S_ISREG(about->st_mode) ? errno : EINVAL;
+    return S_ISREG(about->st_mode);
+}
+
+/* Opens a regular file for reading. Nothing else is opened; what takes the file's place meanwhile is
+ * opened without a wait, as a FIFO would need, and closed again. */
 static int open_file(const char *name, struct stat *about) {
-    int file = open(name, O_RDONLY | O_CLOEXEC | O_NONBLOCK | O_NOCTTY);
-    if (file < 0) {
-        errno = errno == ENXIO ? EINVAL : errno; /* a socket */
-        return -1;
+    int file = -1;
+    if (stat(name, about) == 0 && is_file(about)) {
+        file = open(name, O_RDONLY | O_CLOEXEC | O_NONBLOCK | O_NOCTTY);
     }
-    if (fstat(file, about) == 0) {
-        if (S_ISREG(about->st_mode)) {
-            return file;
-        }
-        errno = EINVAL;
+    if (file >= 0 && !(fstat(file, about) == 0 && is_file(about))) {
+        close_file(file);
+        file = -1;
     }
-    close_file(file);
-    return -1;
+    return file;
 }
 
 /* Maps a file: 1 where that was done, 0 where there is none, -1 where the system refused. */

@@ -36,9 +36,8 @@ typedef struct morris_folder {
  * Answers MORRIS_OK; MORRIS_NO_BOARD; MORRIS_NO_TABLE where the folder has none of these files; or
  * MORRIS_SYSTEM, and errno says why a file couldn't be opened or mapped, or memory was refused:
  * EINVAL where what has the name of a table file isn't a regular file, but a folder, a FIFO or a
- * device, say, which nothing is read from or waited for; ENOENT where the path is empty. `out`
- * needn't hold anything before, and what it holds isn't given back. But for MORRIS_OK the folder is
- * empty. */
+ * device, say, which isn't opened or waited for; ENOENT where the path is empty. `out` needn't hold
+ * anything before, and what it holds isn't given back. But for MORRIS_OK the folder is empty. */
 #define MORRIS_SYSTEM 100
 int32_t morris_open_folder(const char *path, uint32_t board, morris_folder *out);
 

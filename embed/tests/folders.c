@@ -4,12 +4,16 @@
 #include "morris_folder.h"
 
 #include <errno.h>
+#include <fcntl.h>
+#include <signal.h>
 #include <stdio.h>
 #include <stdlib.h>
 #include <string.h>
 #include <sys/socket.h>
 #include <sys/stat.h>
 #include <sys/un.h>
+#include <sys/wait.h>
+#include <time.h>
 #include <unistd.h>
 
 /* No folder takes so many seconds to open. */
@@ -137,6 +141,59 @@ static void what_is_no_file(void) {
     IS(remove("fifo"), 0);
 }
 
+static void wait_a_little(void) {
+    struct timespec time = {0, 50000000};
+    nanosleep(&time, NULL);
+}
+
+/* A FIFO isn't opened: who waits for a reader waits on. */
+static void writer_waits(void) {
+    pid_t writer;
+    IS(mkfifo(NAME, 0600), 0);
+    writer = fork();
+    if (writer == 0) {
+        alarm(MOST_SECONDS);
+        _exit(open(NAME, O_WRONLY) < 0);
+    }
+    wait_a_little();
+    refused(IN, MORRIS_GRID, MORRIS_SYSTEM, EINVAL);
+    wait_a_little();
+    IS(waitpid(writer, NULL, WNOHANG), 0);
+    kill(writer, SIGKILL);
+    waitpid(writer, NULL, 0);
+    IS(remove(NAME), 0);
+}
+
+/* Somebody puts a FIFO in the place of a file, and a file in its place, again and again. */
+static void swapped_meanwhile(const char *file) {
+    pid_t swapper;
+    int i;
+    IS(mkfifo("fifo", 0600) + symlink(file, NAME), 0);
+    swapper = fork();
+    if (swapper == 0) {
+        alarm(MOST_SECONDS);
+    }
+    while (swapper == 0) {
+        int failed = symlink("../fifo", "new") + rename("new", NAME);
+        if (failed + symlink(file, "new") + rename("new", NAME) != 0) {
+            _exit(1);
+        }
+    }
+    for (i = 0; i < 10000; i++) {
+        morris_folder t;
+        if (open_in_time(IN, MORRIS_GRID, &t) == MORRIS_OK) {
+            IS(look(&t, 0x007), MORRIS_OK);
+        } else {
+            IS(errno, EINVAL);
+        }
+        morris_close_folder(&t);
+    }
+    kill(swapper, SIGKILL);
+    waitpid(swapper, NULL, 0);
+    remove("new"); /* which may be there */
+    IS(remove("fifo") + remove(NAME), 0);
+}
+
 static void what_is_one(const char *file) {
     IS(symlink(file, NAME), 0);
     is_file("a link to a file", MORRIS_OK);
@@ -176,6 +233,8 @@ int main(int argc, char **argv) {
         return 2;
     }
     what_is_no_file();
+    writer_waits();
+    swapped_meanwhile(file);
     what_is_one(file);
     paths();
     IS(remove(NAME) + remove(IN "/link") + remove(IN) + chdir("/") + remove(room), 0);
