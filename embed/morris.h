@@ -13,8 +13,8 @@
  *
  * A position is two masks: `own` has the stones of the player to move, 2 to 9, and `other` those of
  * the opponent, 3 to 9. They have no point in common. All stones are on the board: the table files
- * are those of the second phase of the game. Masks have 32 bits: C cuts a wider number to these, and
- * says so with -Wconversion alone.
+ * are those of the second phase of the game. Masks have 32 bits: C cuts a wider number to these,
+ * and says so with -Wconversion alone.
  *
  * Each call answers a status, MORRIS_OK or another, and writes its results only with MORRIS_OK, but
  * where it says otherwise. Any numbers and any bytes may be handed in. What the caller owes is that

@@ -60,8 +60,8 @@ static int is_file(const struct stat *about) {
     return S_ISREG(about->st_mode);
 }
 
-/* Opens a regular file for reading. Nothing else is opened; what takes the file's place meanwhile is
- * opened without a wait, as a FIFO would need, and closed again. */
+/* Opens a regular file for reading, and nothing else. What takes its place meanwhile is opened
+ * without the wait that a FIFO has, and closed again. */
 static int open_file(const char *name, struct stat *about) {
     int file = -1;
     if (stat(name, about) == 0 && is_file(about)) {
