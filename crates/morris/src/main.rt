@@ -6,6 +6,8 @@ mod entry;
 mod report;
 
 // The commands from one input to one output, each as one call, with what it is refused for.
+use entry::answer_words;
+use morris_board::streams::{FromRead, IntoWrite};
 pub use morris_commands::build::build_out;
 pub use morris_commands::look::look;
 pub use morris_commands::probe::probe_in;
@@ -13,9 +15,6 @@ pub use morris_commands::stats::stats;
 pub use morris_commands::verify_in::verify_in;
 pub use morris_faults::fault::Fault;
 pub use morris_faults::pairs::read_pair;
-
-use entry::answer_words;
-use morris_board::streams::{FromRead, IntoWrite};
 use std::env;
 use std::process::ExitCode;
 

@@ -7,20 +7,14 @@ use Rattle.morris_table.specs.Tables.{Table}
 use Rattle.morris_faults.specs.declared.fault.Fault.{Fault}
 use Rattle.morris_faults.specs.declared.fault.Fault.TheVariants as fault
 use Rattle.morris_commands.specs.Probe.{IsUnfit}
-use Rattle.morris_commands.specs.Stats.{IsRefusedBefore, RestsOnTooDeep}
+use Rattle.morris_commands.specs.Stats.{RestsOnTooDeep}
 use Rattle.morris_commands.specs.Verify.{IsUnverified}
 
-module _ (board : Shape) (t : Table) where
-  -- the pairs below aren't swept
-  pub unswept : (e : Fault) → IsRefusedBefore board t.pair e → IsUnverified board t 0 e
-  unswept fault.Memory h = tt
-  unswept fault.TooDeep h = h
-  unswept _ h = absurd h
-
-  -- they are, so that none is missing, and the table isn't right over theirs
-  pub unfit : (shelf : Stored) (e : Fault) → ¬ RestsOnTooDeep board t.pair → first_missing shelf t.pair ≡ None → IsUnfit board shelf t e → IsUnverified board t 0 e
-  unfit shelf (fault.Needs greater lesser) within ready h =
-      let bad : None ≡ Some (counts greater lesser) = sym ready ∙ h in
-      cc
-  unfit shelf (fault.Differs index) within ready h = (within, h.1)
-  unfit shelf _ within ready h = absurd h
+-- the pairs below are swept, so that none is missing, and the table isn't right over theirs
+pub unfit : (board : Shape) (t : Table) (shelf : Stored) (e : Fault) → ¬ RestsOnTooDeep board t.pair → first_missing shelf t.pair ≡ None
+    → IsUnfit board shelf t e → IsUnverified board t 0 e
+unfit board t shelf (fault.Needs greater lesser) within ready h =
+    let bad : None ≡ Some (counts greater lesser) = sym ready ∙ h in
+    cc
+unfit board t shelf (fault.Differs index) within ready h = (within, h.1)
+unfit board t shelf _ within ready h = absurd h

@@ -37,12 +37,7 @@ use std::thread::Threads;
 ///
 /// # Errors
 /// Those of [`stats_with`].
-pub fn stats<S: Sink>(
-    alloc: Global,
-    board: &str,
-    pair: &str,
-    output: &mut S,
-) -> Result<(), Fault>
+pub fn stats<S: Sink>(alloc: Global, board: &str, pair: &str, output: &mut S) -> Result<(), Fault>
     requires { S.failures output.old < 2 ^ 64 - 1 }
     ensures answer { AnswersStats (board_of board.now) pair.now false (S.contents output.old) (S.contents output.new) result }
     ensures counted { CountsWrites (S.failures output.old) (S.failures output.new) result }

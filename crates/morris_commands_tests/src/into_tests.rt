@@ -159,8 +159,7 @@ fn a_folder_that_another_has_locked_is_left_alone(rt: HostRuntime) -> Result<(),
 #[test]
 fn the_digests_of_other_files_are_kept(rt: HostRuntime) -> Result<(), Fail> {
     let mut folder = MemoryFolder::new(rt.alloc(), 0, 0);
-    let stale =
-        "1111111111111111111111111111111111111111111111111111111111111111  grid-3-3.nmmt\n";
+    let stale = "1111111111111111111111111111111111111111111111111111111111111111  grid-3-3.nmmt\n";
     let list = format!(in rt.alloc(); "{stale}{OTHER}")?;
     folder.put("grid.sha256", list.as_bytes())?;
     let (answer, _) = build_onto(&rt, &mut folder);
@@ -174,8 +173,7 @@ fn the_digests_of_other_files_are_kept(rt: HostRuntime) -> Result<(), Fail> {
 #[test]
 fn the_digests_of_files_to_be_replaced_are_forgotten_first(rt: HostRuntime) -> Result<(), Fail> {
     let mut folder = MemoryFolder::new(rt.alloc(), 1 << 12, 0);
-    let stale =
-        "1111111111111111111111111111111111111111111111111111111111111111  grid-3-3.nmmt\n";
+    let stale = "1111111111111111111111111111111111111111111111111111111111111111  grid-3-3.nmmt\n";
     let list = format!(in rt.alloc(); "{stale}{OTHER}")?;
     folder.put("grid.sha256", list.as_bytes())?;
     let (answer, _) = build_onto(&rt, &mut folder);

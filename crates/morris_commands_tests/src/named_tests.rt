@@ -58,7 +58,17 @@ fn files(
     classes: bool,
 ) -> Vec<u8> {
     let mut output = IntoWrite::new(Vec::new(rt.alloc()));
-    let _ = build_out(rt, rt.alloc(), "grid", pair, 1, 1, all, classes, &mut output);
+    let _ = build_out(
+        rt,
+        rt.alloc(),
+        "grid",
+        pair,
+        1,
+        1,
+        all,
+        classes,
+        &mut output,
+    );
     output.into_inner()
 }
 
@@ -89,11 +99,21 @@ fn assert_verifies(
 #[test]
 fn verify_in_tells_of_right_files(rt: HostRuntime) {
     let text = "verified 3-3: 1680 entries\n";
-    assert_verifies(&rt, files(&rt, "3-3", false, false).as_slice(), Ok(()), text);
+    assert_verifies(
+        &rt,
+        files(&rt, "3-3", false, false).as_slice(),
+        Ok(()),
+        text,
+    );
     let text = "verified 3-3: 320 entries\n";
     assert_verifies(&rt, files(&rt, "3-3", false, true).as_slice(), Ok(()), text);
     let text = "verified 4-3: 2520 entries\n";
-    assert_verifies(&rt, files(&rt, "4-3", false, false).as_slice(), Ok(()), text);
+    assert_verifies(
+        &rt,
+        files(&rt, "4-3", false, false).as_slice(),
+        Ok(()),
+        text,
+    );
     let text = "verified 4-3: 470 entries\n";
     assert_verifies(&rt, files(&rt, "4-3", false, true).as_slice(), Ok(()), text);
 }

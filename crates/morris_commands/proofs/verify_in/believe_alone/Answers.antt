@@ -1,12 +1,14 @@
+-- Why the table isn't believed, once the pairs below are swept.
 use Rattle.std.proofs.lemmas.Result.{IfErr-weaker}
 use Rattle.morris_commands.specs.Probe.{IsUnfit}
-use Rattle.morris_commands.specs.Stats.{IsRefusedBefore}
 use Rattle.morris_commands.specs.Verify.{IsUnverified}
-use Rattle.morris_commands.proofs.AloneLaws.{unfit, unswept}
+use Rattle.morris_commands.proofs.AloneLaws.{unfit}
 use Rattle.morris_commands.proofs.verify_in.believe_alone.Goals as goal
 
 pub returns-clause-refused : goal.returns-clause-refused
 returns-clause-refused g c =
     let board = g.B.Geometry.shape in
+    let within = rw c.pair.ensures.value at c.in_ok-shelf.ensures.within in
+    let ready = rw c.pair.ensures.value at c.in_ok-shelf.ensures.ready in
     IfErr-weaker _ (IsUnfit board c.in_ok-shelf.shelf c.args.raw) (IsUnverified board c.args.raw 0)
-    (λ e h. unfit board c.args.raw c.in_ok-shelf.shelf e c.in_ok-shelf.ensures.within c.in_ok-shelf.ensures.ready h) c.verify_over.ensures.refused
+    (λ e h. unfit board c.args.raw c.in_ok-shelf.shelf e within ready h) c.verify_over.ensures.refused
