@@ -1,6 +1,7 @@
 -- How the answers to the lines of an input go on with each byte.
 use Rattle.std.proofs.Common.{◌≡◌, ◌≢◌, ◌⊎◌, ℕ, ◌+◌, ◌≤◌, ◌<◌, min, false, List, [], ◌∷◌, ◌++◌, take, drop, get_or, length, codes, append_assoc, take-append-drop, Option, Result, Ok, Err, refl, sym, ap, subst, ◌∙◌, inl, inr, arith}
 use Rattle.std.specs.Prelude.{is_err, nat_eq, nat_le}
+use Rattle.std.specs.List.{flat_map}
 use Rattle.std.specs.Io.KnownBytes.{Consumes, Keeps}
 use Rattle.std.proofs.KnownBytes.{Consumes-kept, Consumes-trans}
 use Rattle.std.proofs.lemmas.Bool.{cases_lt, lt-leb, ne_eqb}
@@ -12,14 +13,18 @@ use Rattle.morris_folders.specs.Files.{Files}
 use Rattle.morris_queries.specs.declared.answer.Answered.{Answered}
 use Rattle.morris_queries.specs.declared.fault.QueryFault.{QueryFault}
 use Rattle.morris_queries.specs.declared.fault.QueryFault.TheVariants as query
+use Rattle.morris_queries.specs.declared.library.Unfound.{Unfound}
+use Rattle.morris_queries.specs.declared.library.Unfound.TheVariants as unfound
 use Rattle.morris_queries.specs.declared.show.Show.{Show}
 use Rattle.morris_queries.specs.declared.texts.Tally.{Tally}
 use Rattle.morris_queries.specs.Answers.{Answer, AnswersText, AnswersTexts, AreGiven, AreOut, ArePartOut, GoesOut, IsAnswer, IsTallied, counted_to}
 use Rattle.morris_queries.specs.InputLines.{begun_after, ended_by, text_in, texts_ended, texts_in, whole_lines}
+use Rattle.morris_queries.specs.Libraries.{Finds}
 use Rattle.morris_queries.specs.LineAnswers.{AnswersLines, IsReadTo, StopsIn}
-use Rattle.morris_queries.specs.Printing.{answer_text, first_line, shown_text, told_text}
+use Rattle.morris_queries.specs.Printing.{answer_text, first_line, shown_byte, shown_text, told_text}
+use Rattle.morris_queries.specs.Refusals.{find_fault}
 use Rattle.morris_queries.specs.Telling.{Agrees, Telling, told_to, told_text as told_of_text}
-use Rattle.morris_queries.proofs.AnswerLaws.{out_failed, out_none, texts_more}
+use Rattle.morris_queries.proofs.AnswerLaws.{out_failed, out_none, texts_more, unknown}
 use Rattle.morris_queries.proofs.LineLaws.{begun_after-byte, begun_after-feed, text_in-start, texts_ended-append, texts_ended-byte, texts_ended-feed}
 
 -- ---- the first 25 bytes of a text tell its answer
@@ -45,15 +50,18 @@ module _ (board : Shape) (few : board.points ≤ 24) (k t : List ℕ) (start : t
     | inr long ↦ read_long k long.0 ∙ sym (read_long t long.1)
   ]
 
-  shown_long : (u : List ℕ) → 24 < length u → shown_text board.points u ≡ take board.points (take 25 u) ++ codes ".."
+  abbrev shown_first : List ℕ → List ℕ
+  shown_first bytes = flat_map shown_byte (take board.points bytes) ++ codes " (too long)"
+
+  shown_long : (u : List ℕ) → 24 < length u → shown_text board.points u ≡ shown_first (take 25 u)
   shown_long u long =
       let past : nat_le (length u) board.points ≡ false = lt-leb _ _ (omega (arith, few, long)) in
-      rw past (ap (λ l. l ++ codes "..") (sym (take-take board.points 25 u (omega (arith, few)))))
+      rw past (ap (λ l. flat_map shown_byte l ++ codes " (too long)") (sym (take-take board.points 25 u (omega (arith, few)))))
 
   shown_same : shown_text board.points k ≡ shown_text board.points t
   shown_same = elim same_or_long [
     | inl same ↦ ap (shown_text board.points) same
-    | inr long ↦ shown_long k long.0 ∙ (ap (λ l. take board.points l ++ codes "..") start ∙ sym (shown_long t long.1))
+    | inr long ↦ shown_long k long.0 ∙ (ap shown_first start ∙ sym (shown_long t long.1))
   ]
 
   told_same : (show : Show) (told : Telling) → told_text board show k told ≡ told_text board show t told
@@ -146,6 +154,7 @@ module _ (board : Shape) (name : List ℕ) (known : Option Files) (show : Show) 
       let same : take h.0 texts ≡ take (min h.0 (length texts)) (texts ++ more) = sym (take-append-le _ texts more low ∙ take_min h.0 texts) in
       (min h.0 (length texts), h.1, subst (λ ts. AreGiven board name known show ts h.1) same h.2, h.3)
   stops_longer texts more old new query.Board h = absurd h
+  stops_longer texts more old new query.NoFolder h = absurd h
   stops_longer texts more old new query.Memory h = absurd h
   stops_longer texts more old new query.Read h = absurd h
 
@@ -197,6 +206,7 @@ module _ (board : Shape) (name : List ℕ) (known : Option Files) (show : Show) 
   lines_stopped before mid after old new read more (query.Write sent) got next stops =
       (read ++ more, Consumes-trans before mid after read more got next, stops_in (read ++ more) old new (query.Write sent) stops)
   lines_stopped before mid after old new read more query.Board got next stops = absurd stops
+  lines_stopped before mid after old new read more query.NoFolder got next stops = absurd stops
   lines_stopped before mid after old new read more query.Memory got next stops = absurd stops
   lines_stopped before mid after old new read more query.Read got next stops = absurd stops
 
@@ -204,6 +214,12 @@ module _ (board : Shape) (name : List ℕ) (known : Option Files) (show : Show) 
       → ReadTo read old new line tally → AnswersLines board name known show before after old new (Err query.Read)
   lines_unread before mid after old new read line tally got kept here =
       (read, Consumes-kept before mid after read got kept, (tally.refused, all_out (texts_ended read) old new tally here.out))
+
+  -- the place of the files isn't found
+  pub lines_unfound : (before after old new : Option (List ℕ)) (why : Unfound) → Finds known (Err why) → Keeps before after → Keeps old new
+      → AnswersLines board name known show before after old new (Err (find_fault why))
+  lines_unfound before after old new unfound.Memory h unread kept = (unread, kept)
+  lines_unfound before after old new unfound.Folder h unread kept = (unknown known unfound.Folder h, unread, kept)
 
 -- ---- the bytes of a piece
 

@@ -32,6 +32,7 @@ module _ {B L O F : Type 0} (board : Shape) (files_of : L → Option Files) wher
     reading_ended (Err (query.Write sent)) got nothing end here ended =
         (read, subst (Consumes before after) (append-nil read) (Consumes-trans before mid after read [] got nothing), ended name known start read here)
     reading_ended (Err query.Board) got nothing end here ended = absurd (ended name known start read here)
+    reading_ended (Err query.NoFolder) got nothing end here ended = absurd (ended name known start read here)
     reading_ended (Err query.Memory) got nothing end here ended = absurd (ended name known start read here)
     reading_ended (Err query.Read) got nothing end here ended = absurd (ended name known start read here)
 

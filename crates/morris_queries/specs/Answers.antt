@@ -96,13 +96,14 @@ CountsWrites old new (Err (query.Write sent)) = new ≡ old + 1
 CountsWrites old new (Err _) = new ≡ old
 
 -- What the call for a list of texts answers: how many were answered by a fault, where all answers
--- went out; a write that failed, of the answers to the first texts; or want of memory, before
--- anything went out.
+-- went out; a write that failed, of the answers to the first texts; or, before anything went out, that
+-- there is no such folder, where its files aren't known, or want of memory.
 abbrev pub AnswersTexts : Shape → List ℕ → Option Files → Show → List (List ℕ) → Option (List ℕ) → Option (List ℕ) → Result ℕ QueryFault → Type 0
 AnswersTexts board name known show texts old new (Ok refused) =
     (given : Given) × AreGiven board name known show texts given × Appends old new (printed_of board show given) × (refused ≡ counted_to (refused_in given))
 AnswersTexts board name known show texts old new (Err (query.Write sent)) =
     (n : ℕ) × (given : Given) × AreGiven board name known show (take n texts) given × WentIn old new (printed_of board show given) sent
+AnswersTexts board name known show texts old new (Err query.NoFolder) = (known ≡ None) × Keeps old new
 AnswersTexts board name known show texts old new (Err query.Memory) = Keeps old new
 AnswersTexts board name known show texts old new (Err _) = ⊥
 

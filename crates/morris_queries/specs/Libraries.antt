@@ -1,7 +1,12 @@
 -- Where the files of tables are found by their names.
-use Rattle.std.specs.Prelude.{◌≡◌, ℕ, List, [], ◌∷◌, ⊤, Option, Some, None, Result, MatchResult, bytes_eq, if◌then◌else◌}
+use Rattle.std.specs.Prelude.{◌≡◌, ℕ, List, [], ◌∷◌, ⊤, Option, Some, None, Result, Ok, MatchResult, bytes_eq, if◌then◌else◌}
 use Rattle.std.specs.Borrow.{Bor}
 use Rattle.morris_folders.specs.Files.{Files}
+
+-- what looking for the place of the files answers: where the files are known, that it is there
+abbrev pub Finds : {E : Type 0} → Option Files → Result (Unit {0}) E → Type 0
+Finds None answer = ⊤
+Finds (Some files) answer = answer ≡ Ok tt
 
 -- what is found under a name: the bytes that stand there, and nothing where there are none
 abbrev pub IsFound : {F : Type 0} → (F → Option (List ℕ)) → Option (List ℕ) → Option F → Type 0

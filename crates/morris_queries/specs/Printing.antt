@@ -1,7 +1,8 @@
 -- What is printed of an answer.
-use Rattle.std.specs.Prelude.{ℕ, ◌*◌, ◌≤◌, nat_le, List, [], ◌∷◌, ◌++◌, length, take, codes, Result, Ok, Err, if◌then◌else◌}
+use Rattle.std.specs.Prelude.{ℕ, ◌*◌, ◌≤◌, ◌&&◌, nat_eq, nat_le, List, [], ◌∷◌, ◌++◌, length, take, codes, Result, Ok, Err, if◌then◌else◌}
 use Rattle.std.specs.List.{flat_map}
 use Rattle.std.specs.Fmt.{decimal}
+use Rattle.hex.specs.Hex.{encode_lower}
 use Rattle.morris_board.specs.Boards.{Shape}
 use Rattle.morris_board.specs.Positions.{Sides, text_of}
 use Rattle.morris_moves.specs.MoveText.{move_text}
@@ -30,9 +31,18 @@ abbrev pub best_text : List Move → List ℕ
 best_text [] = []
 best_text (m ∷ ms) = codes ":" ++ flat_map spaced (m ∷ ms)
 
--- the text that was asked about: of one that is too long its first characters, and two dots
+-- A byte of the text that was asked about. A printable character of ASCII (32 to 126) is shown as it
+-- is, but a backslash (92) as two. Any other byte is shown as a backslash, an `x` and its two
+-- hexadecimal digits. So a terminal takes none for a command, and no byte for another.
+unfoldable pub shown_byte : ℕ → List ℕ
+shown_byte byte =
+    if nat_eq byte 92 then codes "\\\\" else (if nat_le 32 byte && nat_le byte 126 then byte ∷ [] else codes "\\x" ++ encode_lower (byte ∷ []))
+
+-- The text that was asked about, byte by byte. Of one that is too long so many bytes are shown as the
+-- board has points, and that it is too long.
 abbrev pub shown_text : ℕ → List ℕ → List ℕ
-shown_text points text = if nat_le (length text) points then text else take points text ++ codes ".."
+shown_text points text =
+    if nat_le (length text) points then flat_map shown_byte text else flat_map shown_byte (take points text) ++ codes " (too long)"
 
 -- the text, the value and the best moves, as a line
 unfoldable pub first_line : ℕ → List ℕ → Telling → List ℕ

@@ -1,7 +1,8 @@
 //! Why questions aren't answered to their end.
 ghost use Rattle.std.specs.Prelude.{◌≡◌};
-ghost use Rattle.morris_queries.specs.Refusals.{query_fault};
+ghost use Rattle.morris_queries.specs.Refusals.{find_fault, query_fault};
 
+use crate::library::Unfound;
 use morris_faults::fault::Fault;
 use thiserror::Error;
 
@@ -11,7 +12,10 @@ pub enum QueryFault {
     /// There is no board of that name.
     #[error("no such board")]
     Board,
-    /// Want of memory for the places of open files.
+    /// There is no such folder.
+    #[error("no such folder")]
+    NoFolder,
+    /// Want of memory for the places of open files, or while the folder was looked for.
     #[error("out of memory")]
     Memory,
     /// A read failed.
@@ -28,9 +32,21 @@ impl From<QueryFault> for Fault {
     fn from(refused: QueryFault) -> Fault {
         match refused {
             QueryFault::Board => Fault::Board,
+            QueryFault::NoFolder => Fault::NoFolder,
             QueryFault::Memory => Fault::Memory,
             QueryFault::Read => Fault::Read,
             QueryFault::Write(sent) => Fault::Write(sent),
+        }
+    }
+}
+
+impl From<Unfound> for QueryFault {
+    ghost from_gives = { λ unfound refused. refused ≡ find_fault unfound };
+
+    fn from(unfound: Unfound) -> QueryFault {
+        match unfound {
+            Unfound::Memory => QueryFault::Memory,
+            Unfound::Folder => QueryFault::NoFolder,
         }
     }
 }

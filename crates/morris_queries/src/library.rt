@@ -1,7 +1,7 @@
 //! Where the files of tables are found by their names.
 ghost use Rattle.std.specs.Prelude.{◌≡◌, Option};
 ghost use Rattle.morris_folders.specs.Files.{Files};
-ghost use Rattle.morris_queries.specs.Libraries.{Opens};
+ghost use Rattle.morris_queries.specs.Libraries.{Finds, Opens};
 
 use morris_lookup::storage::Storage;
 
@@ -10,8 +10,17 @@ use morris_lookup::storage::Storage;
 pub enum Unopened {
     /// Want of memory.
     Memory,
-    /// The file is there, and can't be opened.
+    /// What has the name can't be opened as a file.
     Failed,
+}
+
+/// Why the place of the files isn't found.
+#[derive(Clone, Copy, Debug, PartialEq, Eq)]
+pub enum Unfound {
+    /// Want of memory.
+    Memory,
+    /// There is no such folder.
+    Folder,
 }
 
 /// Files under names, which nobody changes meanwhile.
@@ -19,8 +28,17 @@ pub trait Library {
     /// The bytes of a file that is open.
     type Bytes: Storage + Drop;
 
-    /// The bytes of the file of each name, where they are known. Then no call fails.
+    /// The bytes of the file of each name, where they are known. Then their place is found, and no
+    /// call fails.
     ghost files: { Self → Option Files };
+
+    /// Looks for the place of the files, which may be before any of them is opened.
+    ///
+    /// # Errors
+    /// Those of [`Unfound`].
+    fn find(&mut self) -> Result<(), Unfound>
+        ensures found { Finds (files self.old) result }
+        ensures kept { files self.new ≡ files self.old };
 
     /// Opens the file of this name; `None` where there isn't one.
     ///

@@ -1,5 +1,5 @@
 //! The answers to the lines of an input.
-ghost use Rattle.std.specs.Prelude.{◌≡◌, ℕ, ◌-◌, ◌^◌, ◌<◌, ◌∷◌, [], List, Option, take, OnOk};
+ghost use Rattle.std.specs.Prelude.{◌≡◌, ℕ, ◌-◌, ◌^◌, ◌<◌, ◌∷◌, [], List, Option, Err, take, OnOk};
 ghost use Rattle.morris_board.specs.Streams.{CountsFailure};
 ghost use Rattle.morris_folders.specs.Files.{Files};
 ghost use Rattle.morris_queries.specs.Answers.{AnswersText, CountsWrites};
@@ -166,8 +166,9 @@ fn answer_line<B: Geometry, L: Library, O: Sink>(
 /// more. Of a line 26 bytes are kept, however long it is.
 ///
 /// # Errors
-/// [`QueryFault::Memory`] where there is no room for the places of open files, before anything is
-/// read; [`QueryFault::Read`] at the first read that fails, and after `u64::MAX` reads;
+/// [`QueryFault::NoFolder`] where the place of the files isn't there, and then
+/// [`QueryFault::Memory`] where there is no room for the places of open files, both before anything
+/// is read; [`QueryFault::Read`] at the first read that fails, and after `u64::MAX` reads;
 /// [`QueryFault::Write`], with the bytes that went out, at the first write that fails.
 pub fn answer_lines<B: Geometry, L: Library, I: Source, O: Sink>(
     alloc: Global,
@@ -181,9 +182,11 @@ pub fn answer_lines<B: Geometry, L: Library, I: Source, O: Sink>(
     requires writing { O.failures output.old < 2 ^ 64 - 1 }
     ensures kept { L.files library.new ≡ L.files library.old }
     ensures answer { AnswersLines B.shape board.now (L.files library.old) show (I.remaining input.old) (I.remaining input.new) (O.contents output.old) (O.contents output.new) result }
+    ensures unread { result ≡ Err QueryFault.NoFolder → input.new ≡ input.old }
     ensures unfailed { OnOk result (I.failures input.new ≡ I.failures input.old) }
     ensures counted { CountsWrites (O.failures output.old) (O.failures output.new) result }
 {
+    library.find()?;
     let Ok(mut tables) = no_files::<B, L>(alloc) else {
         return Err(QueryFault::Memory);
     };

@@ -21,9 +21,10 @@ use std::alloc::Global;
 /// it, and stays open.
 ///
 /// # Errors
-/// [`QueryFault::Board`] where there is no such board; [`QueryFault::Memory`] where there is no room
-/// for the places of open files; in both cases nothing was written. [`QueryFault::Write`], with the
-/// bytes that went out, at the first write that fails.
+/// [`QueryFault::Board`] where there is no such board; then [`QueryFault::NoFolder`] where the place
+/// of the files isn't there; then [`QueryFault::Memory`] where there is no room for the places of
+/// open files; in these cases nothing was written. [`QueryFault::Write`], with the bytes that went
+/// out, at the first write that fails.
 pub fn lookup_texts<L: Library, O: Sink>(
     alloc: Global,
     board: &str,
@@ -68,6 +69,7 @@ pub fn lookup_lines<L: Library, I: Source, O: Sink>(
     ensures kept { L.files library.new ≡ L.files library.old }
     ensures answer { AnswersInput (board_of board.now) board.now (L.files library.old) show (I.remaining input.old) (I.remaining input.new) (O.contents output.old) (O.contents output.new) result }
     ensures unread { result ≡ Err QueryFault.Board → input.new ≡ input.old }
+    ensures unfound { result ≡ Err QueryFault.NoFolder → input.new ≡ input.old }
     ensures unfailed { OnOk result (I.failures input.new ≡ I.failures input.old) }
     ensures counted { CountsWrites (O.failures output.old) (O.failures output.new) result }
 {

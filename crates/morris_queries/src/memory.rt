@@ -2,7 +2,7 @@
 ghost use Rattle.std.specs.Prelude.{◌≡◌, IfSome, MatchOption, None, Some};
 ghost use Rattle.morris_queries.specs.Libraries.{file_named};
 
-use crate::library::{Library, Unopened};
+use crate::library::{Library, Unfound, Unopened};
 
 /// Files in memory, each with its name. Where two have one name, the first is found.
 #[derive(Clone, Copy)]
@@ -16,13 +16,17 @@ impl<'a> Library for Held<'a> {
 
     ghost files = { λ held. Some (file_named held.files.now) };
 
+    fn find(&mut self) -> Result<(), Unfound> {
+        Ok(())
+    }
+
     fn open(&mut self, name: &str) -> Result<Option<&'a [u8]>, Unopened> {
-        Ok(find(self.files, name))
+        Ok(bytes_named(self.files, name))
     }
 }
 
 /// The bytes of the first file of this name.
-fn find<'a>(files: &'a [(&'a str, &'a [u8])], name: &str) -> Option<&'a [u8]>
+fn bytes_named<'a>(files: &'a [(&'a str, &'a [u8])], name: &str) -> Option<&'a [u8]>
     ensures { MatchOption result (file_named files.now name.now ≡ None) (λ bytes. file_named files.now name.now ≡ Some bytes.now) }
 {
     for (known, bytes) in files {

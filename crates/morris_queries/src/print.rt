@@ -2,13 +2,15 @@
 //! write that fails.
 ghost use Rattle.std.specs.Prelude.{◌≡◌, ℕ, ◌+◌, ◌-◌, ◌*◌, ◌^◌, ◌<◌, ◌≤◌, ◌∷◌, ◌++◌, [], List, codes, length, OnOk};
 ghost use Rattle.std.specs.List.{flat_map};
+ghost use Rattle.hex.specs.Hex.{encode_lower};
 ghost use Rattle.morris_board.specs.Buffered.{Passes, sink_of, taken_of};
 ghost use Rattle.morris_board.specs.Positions.{text_of};
 ghost use Rattle.morris_moves.specs.MoveText.{move_text};
-ghost use Rattle.morris_queries.specs.Printing.{best_text, below_text, first_line, outcome_line, ply_line, shown_text, spaced, told_text, value_text, IsShort};
+ghost use Rattle.morris_queries.specs.Printing.{best_text, below_text, first_line, outcome_line, ply_line, shown_byte, shown_text, spaced, told_text, value_text, IsShort};
 
 use crate::show::Show;
 use crate::told::Told;
+use hex::encode_to_slice;
 use morris_board::board::Geometry;
 use morris_board::position::Position;
 use morris_board::streams::buffered::Buffered;
@@ -103,6 +105,34 @@ trait Listed {
         ensures few { OnOk result (taken_of out.new ≤ taken_of out.old + 128) };
 }
 
+/// In the text that was asked about.
+#[tactic(auto, unfolding(crate::specs::Printing::shown_byte))]
+impl Listed for u8 {
+    ghost text = { shown_byte };
+
+    fn put_listed<S: Sink>(&self, out: &mut Buffered<'_, S>) -> Result<(), Failed> {
+        match *self {
+            b'\\' => out.put(b"\\\\"),
+            b' '..=b'~' => out.put_byte(*self),
+            byte => put_escaped(out, byte),
+        }
+    }
+}
+
+/// A byte that isn't a printable character: a backslash, an `x`, and its two hexadecimal digits.
+#[tactic(auto, using(morris_board::proofs::BufferedLaws::passed_laws))]
+fn put_escaped<S: Sink>(out: &mut Buffered<'_, S>, byte: u8) -> Result<(), Failed>
+    requires failures { S.failures (sink_of out.old) < 2 ^ 64 - 1 }
+    requires room { taken_of out.old < 2 ^ 62 }
+    ensures passed { Passes S.contents S.failures out.old out.new (codes "\\x" ++ encode_lower (byte ∷ [])) result }
+    ensures few { OnOk result (taken_of out.new ≤ taken_of out.old + 128) }
+{
+    let mut digits = [0; 2];
+    let _ = encode_to_slice([byte], &mut digits);
+    out.put(b"\\x")?;
+    out.put(&digits)
+}
+
 /// In the list of the best moves.
 impl Listed for Move {
     ghost text = { spaced };
@@ -150,7 +180,7 @@ fn put_list<T: Listed, S: Sink>(out: &mut Buffered<'_, S>, list: &[T]) -> Result
 #[tactic(auto, using(morris_board::proofs::BufferedLaws::passed_laws))]
 fn put_best<S: Sink>(out: &mut Buffered<'_, S>, best: &[Move]) -> Result<(), Failed>
     requires failures { S.failures (sink_of out.old) < 2 ^ 64 - 1 }
-    requires room { taken_of out.old < 2 ^ 9 }
+    requires room { taken_of out.old < 2 ^ 13 }
     requires few { length best.now ≤ 9 * 24 * 9 }
     ensures passed { Passes S.contents S.failures out.old out.new (best_text best.now) result }
     ensures few { OnOk result (taken_of out.new < 2 ^ 20) }
@@ -162,21 +192,22 @@ fn put_best<S: Sink>(out: &mut Buffered<'_, S>, best: &[Move]) -> Result<(), Fai
     put_list(out, best)
 }
 
-/// The text that was asked about: of one that is too long its first characters, and two dots.
+/// The text that was asked about, of which no byte goes out that isn't a printable character. Of one
+/// that is too long the first bytes stand there, and that it is too long.
 #[tactic(auto, using(morris_board::proofs::BufferedLaws::passed_laws))]
 fn put_shown<S: Sink>(out: &mut Buffered<'_, S>, points: u8, text: &[u8]) -> Result<(), Failed>
     requires failures { S.failures (sink_of out.old) < 2 ^ 64 - 1 }
     requires room { taken_of out.old ≡ 0 }
     requires points { points ≤ 24 }
     ensures passed { Passes S.contents S.failures out.old out.new (shown_text points text.now) result }
-    ensures few { OnOk result (taken_of out.new ≤ 32) }
+    ensures few { OnOk result (taken_of out.new < 2 ^ 12) }
 {
     let points = usize::from(points);
     if text.len() <= points {
-        return out.put(text);
+        return put_list(out, text);
     }
-    out.put(&text[..points])?;
-    out.put(b"..")
+    put_list(out, &text[..points])?;
+    out.put(b" (too long)")
 }
 
 /// The text, the value and the best moves, as a line.

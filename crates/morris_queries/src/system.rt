@@ -1,27 +1,51 @@
 //! The files of a folder of the system.
 ghost use Rattle.std.specs.Prelude.{None};
 
-use crate::library::{Library, Unopened};
+use crate::library::{Library, Unfound, Unopened};
 use std::alloc::AllocError;
-use std::fs;
-use std::fs::File;
+use std::fs::{File, Metadata};
 use std::io::ErrorKind;
 use std::rt::Files;
+use std::{fs, io};
 
-/// The folder of the system with this path. It isn't looked for before a file is opened: where it
-/// isn't there, no file is.
+/// The folder of the system with this path. It isn't looked for before [`find`](Library::find):
+/// where it isn't there, no file is.
 ///
 /// Of the bytes of its files nothing is said: no contract knows what the system does.
 #[derive(Drop)]
 pub struct SystemLibrary<'a, R> {
     rt: &'a R,
     path: &'a str,
+    why: Option<ErrorKind>,
 }
 
 impl<'a, R: Files<File = File> + AllocGlobal> SystemLibrary<'a, R> {
     /// The folder with this path.
     pub fn new(rt: &'a R, path: &'a str) -> SystemLibrary<'a, R> {
-        SystemLibrary { rt, path }
+        SystemLibrary {
+            rt,
+            path,
+            why: None,
+        }
+    }
+
+    /// Why [`find`](Library::find) found no folder the last time: what the system said of the path;
+    /// `NotADirectory` where it stands for something else, and `InvalidInput` where it is empty.
+    /// `None` where it was found.
+    pub fn why(&self) -> Option<ErrorKind> {
+        self.why
+    }
+
+    /// Whether the path stands for a folder, links followed, or why not.
+    fn look(&self) -> Result<(), ErrorKind> {
+        if self.path.is_empty() {
+            return Err(ErrorKind::InvalidInput);
+        }
+        match fs::metadata(self.rt, self.path) {
+            Ok(found) if found.is_dir() => Ok(()),
+            Ok(_) => Err(ErrorKind::NotADirectory),
+            Err(fault) => Err(fault.kind()),
+        }
     }
 
     /// The path of the file of this name.
@@ -32,6 +56,16 @@ impl<'a, R: Files<File = File> + AllocGlobal> SystemLibrary<'a, R> {
         path.push_str(name)?;
         Ok(path)
     }
+
+    /// Opens the regular file of this path, links followed. Nothing else is opened: the opening of a
+    /// pipe waits for its other end. What was opened is looked at once more, since something else
+    /// may have come to stand there.
+    fn open_regular(&self, path: &str) -> io::Result<File> {
+        require_regular(&fs::metadata(self.rt, path)?)?;
+        let file = fs::open(self.rt, path)?;
+        require_regular(&file.metadata()?)?;
+        Ok(file)
+    }
 }
 
 impl<'a, R: Files<File = File> + AllocGlobal> Library for SystemLibrary<'a, R> {
@@ -39,11 +73,21 @@ impl<'a, R: Files<File = File> + AllocGlobal> Library for SystemLibrary<'a, R> {
 
     ghost files = { λ _. None };
 
+    fn find(&mut self) -> Result<(), Unfound> {
+        let looked = self.look();
+        self.why = looked.err();
+        match looked {
+            Ok(()) => Ok(()),
+            Err(ErrorKind::OutOfMemory) => Err(Unfound::Memory),
+            Err(_) => Err(Unfound::Folder),
+        }
+    }
+
     fn open(&mut self, name: &str) -> Result<Option<File>, Unopened> {
         let Ok(path) = self.path_of(name) else {
             return Err(Unopened::Memory);
         };
-        match fs::open(self.rt, path.as_str()) {
+        match self.open_regular(path.as_str()) {
             Ok(file) => Ok(Some(file)),
             Err(fault) => match fault.kind() {
                 ErrorKind::NotFound => Ok(None),
@@ -51,5 +95,14 @@ impl<'a, R: Files<File = File> + AllocGlobal> Library for SystemLibrary<'a, R> {
                 _ => Err(Unopened::Failed),
             },
         }
+    }
+}
+
+/// Refuses what isn't a regular file.
+fn require_regular(found: &Metadata) -> io::Result<()> {
+    if found.is_file() {
+        Ok(())
+    } else {
+        Err(io::Error::from(ErrorKind::InvalidInput))
     }
 }

@@ -52,8 +52,9 @@ impl Tally {
 /// that are answered by a fault. Files are opened when a position first needs them, and stay open.
 ///
 /// # Errors
-/// [`QueryFault::Memory`] where there is no room for the places of open files, before anything is
-/// answered; [`QueryFault::Write`], with the bytes that went out, at the first write that fails.
+/// [`QueryFault::NoFolder`] where the place of the files isn't there, and then
+/// [`QueryFault::Memory`] where there is no room for the places of open files, both before anything
+/// is answered; [`QueryFault::Write`], with the bytes that went out, at the first write that fails.
 pub fn answer_texts<B: Geometry, L: Library, O: Sink>(
     alloc: Global,
     board: &str,
@@ -67,6 +68,7 @@ pub fn answer_texts<B: Geometry, L: Library, O: Sink>(
     ensures answer { AnswersTexts B.shape board.now (L.files library.old) show (map (λ text. text.now) texts.now) (O.contents output.old) (O.contents output.new) result }
     ensures counted { CountsWrites (O.failures output.old) (O.failures output.new) result }
 {
+    library.find()?;
     let Ok(mut tables) = no_files::<B, L>(alloc) else {
         return Err(QueryFault::Memory);
     };

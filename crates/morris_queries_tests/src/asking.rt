@@ -11,8 +11,9 @@ use morris_queries::system::SystemLibrary;
 use morris_table::layout::Layout;
 use std::alloc::Global;
 use std::fs::File;
-use std::io::Write;
+use std::io::{ErrorKind, Write};
 use std::process::Abort;
+use std::rt::Files;
 
 /// What is answered over the two files, under these names, and how many answers are faults.
 fn asked<L: Library>(
@@ -53,7 +54,7 @@ XX.X: fault 1: text is not one character per point
 XX.OOO... lost in 0
 XXXOOO..?: fault 2: bad character at 8
 XXXXXXOOO: fault 13: needs 6-3
-XXXOOO.....: fault 1: text is not one character per point
+XXXOOO... (too long): fault 1: text is not one character per point
 XXXXXXXXX: fault 3: bad number of stones
 XXX.OO.O. won in 3: 2-3
 : fault 1: text is not one character per point
@@ -174,7 +175,7 @@ fn a_folder_on_a_disk_answers(rt: HostRuntime) {
     file.write_all(small.as_slice()).expect(&rt, "room");
     drop(file);
     let mut folder = SystemLibrary::new(&rt, ".");
-    assert!(rt; is_right(rt.alloc(), &mut folder));
+    assert!(rt; is_right(rt.alloc(), &mut folder) && folder.why() == None);
     let mut output = IntoWrite::new(Vec::new(rt.alloc()));
     let answer = lookup_texts(
         rt.alloc(),
@@ -185,4 +186,32 @@ fn a_folder_on_a_disk_answers(rt: HostRuntime) {
         &mut output,
     );
     assert!(rt; answer == Err(QueryFault::Board) && output.into_inner().is_empty());
+}
+
+/// Whether there is no folder of this path, for this reason: nothing is answered, and nothing is
+/// written.
+fn is_no_folder<R: Files<File = File> + AllocGlobal>(rt: &R, path: &str, why: ErrorKind) -> bool {
+    let mut folder = SystemLibrary::new(rt, path);
+    let mut output = IntoWrite::new(Vec::new(rt.alloc()));
+    let answer = lookup_texts(
+        rt.alloc(),
+        "grid",
+        &mut folder,
+        &["XXXOOO..."],
+        Show::Best,
+        &mut output,
+    );
+    answer == Err(QueryFault::NoFolder)
+        && output.into_inner().is_empty()
+        && folder.why() == Some(why)
+}
+
+#[test]
+fn what_is_no_folder_is_told(rt: HostRuntime) {
+    let file = File::create(&rt, "no-folder").expect(&rt, "a place to write");
+    drop(file);
+    assert!(rt; is_no_folder(&rt, "", ErrorKind::InvalidInput));
+    assert!(rt; is_no_folder(&rt, "no-folder", ErrorKind::NotADirectory));
+    assert!(rt; is_no_folder(&rt, "no-folder/below", ErrorKind::NotADirectory));
+    assert!(rt; is_no_folder(&rt, "misspelt", ErrorKind::NotFound));
 }

@@ -56,8 +56,8 @@ XXX.OO.O. won in 3: 2-3
 XX.X: fault 1: text is not one character per point
 : fault 1: text is not one character per point
 : fault 1: text is not one character per point
-XXXOOO.....: fault 1: text is not one character per point
-XXXOOO.....: fault 1: text is not one character per point
+XXXOOO... (too long): fault 1: text is not one character per point
+XXXOOO... (too long): fault 1: text is not one character per point
 OO.OXX.X. lost in 2: 4-2 4-6 4-8 5-2 5-6 5-8 7-2 7-6 7-8
 ";
 
@@ -75,6 +75,24 @@ fn lines_are_answered(rt: HostRuntime) {
     };
     let (text, refused) = answered(rt.alloc(), "grid", &mut held, drip);
     assert!(rt; text.as_slice() == ANSWERED.as_bytes() && refused == Ok(5));
+}
+
+// An escape (27), the first byte of a character that is cut off, a delete (127), a backslash and a
+// tabulator; of a line that is too long the first nine bytes.
+const BYTES: &[u8] = b"XX\x1b[2J.O\nXXXOO\xc3...\nX~ \x7f\x80\xff\n\\x1b\t\n\x1b[31mXXX.OO.O.\n";
+
+const SHOWN: &str = r"XX\x1b[2J.O: fault 1: text is not one character per point
+XXXOO\xc3...: fault 2: bad character at 5
+X~ \x7f\x80\xff: fault 1: text is not one character per point
+\\x1b\x09: fault 1: text is not one character per point
+\x1b[31mXXX. (too long): fault 1: text is not one character per point
+";
+
+#[test]
+fn bytes_that_are_not_printable_are_shown_by_their_digits(rt: HostRuntime) {
+    let mut held = Held { files: &[] };
+    let (text, refused) = answered(rt.alloc(), "grid", &mut held, BYTES);
+    assert!(rt; text.as_slice() == SHOWN.as_bytes() && refused == Ok(5));
 }
 
 #[test]
