@@ -1,5 +1,5 @@
 -- What is answered to texts, and what of the answers went out.
-use Rattle.std.specs.Prelude.{◌≡◌, ℕ, ◌+◌, ◌-◌, ◌^◌, ◌<◌, min, Bool, List, [], ◌∷◌, map, take, length, is_err, Option, Some, None, Result, Ok, Err, IfOk, if◌then◌else◌}
+use Rattle.std.specs.Prelude.{◌≡◌, ◌≢◌, ℕ, ◌+◌, ◌-◌, ◌^◌, ◌<◌, min, Bool, List, [], ◌∷◌, map, take, length, is_err, Option, Some, None, Result, Ok, Err, IfOk, if◌then◌else◌}
 use Rattle.std.specs.List.{flat_map, Contains}
 use Rattle.std.specs.Io.KnownBytes.{Appends, Keeps}
 use Rattle.morris_board.specs.Boards.{Shape}
@@ -7,6 +7,7 @@ use Rattle.morris_board.specs.Positions.{Sides, read_of}
 use Rattle.morris_board.specs.declared.faults.TextFault.{TextFault}
 use Rattle.morris_folders.specs.Files.{Files}
 use Rattle.morris_faults.specs.declared.fault.Fault.{Fault}
+use Rattle.morris_faults.specs.declared.fault.Fault.TheVariants as fault
 use Rattle.morris_faults.specs.Faults.{text_fault}
 use Rattle.morris_queries.specs.declared.answer.Answered.{Answered}
 use Rattle.morris_queries.specs.declared.texts.Tally.{Tally}
@@ -21,6 +22,12 @@ use Rattle.morris_queries.specs.Printing.{answer_text}
 abbrev pub Answer : Type 0
 Answer = Result Telling Fault
 
+-- what is answered of a position where the files are those of exact tables: what is so in the game, or
+-- a fault, which never is that the files disagree
+abbrev pub IsExactAnswer : Shape → Show → Sides → Answer → Type 0
+IsExactAnswer board show s (Ok t) = IsGame board show s t
+IsExactAnswer board show s (Err refused) = refused ≢ fault.Disagree
+
 -- The answer to a text, on the board of this name. A text that is no position's is answered by its
 -- own fault. Where the files are known, the answer is what they tell, unless memory ran out; and
 -- where they are those of exact tables, it is the game's.
@@ -28,7 +35,7 @@ pub record IsAnswer (board : Shape) (name : List ℕ) (known : Option Files) (sh
   pub refused : (fault : TextFault) → read_of board text ≡ Err fault → answer ≡ Err (text_fault fault)
   pub listed : (s : Sides) → read_of board text ≡ Ok s → IfOk answer (IsListed board s)
   pub told : (files : Files) → known ≡ Some files → Agrees answer (told_text board name files show text)
-  pub exact : (files : Files) → known ≡ Some files → AreExactIn board name files → (s : Sides) → read_of board text ≡ Ok s → IfOk answer (IsGame board show s)
+  pub exact : (files : Files) → known ≡ Some files → AreExactIn board name files → (s : Sides) → read_of board text ≡ Ok s → IsExactAnswer board show s answer
 
 -- a count, which stops at u64::MAX
 abbrev pub counted_to : ℕ → ℕ

@@ -1,5 +1,5 @@
 -- What the files of a folder tell of positions.
-use Rattle.std.specs.Prelude.{◌≡◌, ◌⊎◌, ℕ, zero, suc, Bool, true, false, ◌&&◌, nat_eq, List, [], ◌∷◌, map, filter, slice_get, Option, Some, None, unwrap_or, Result, Ok, Err, if◌then◌else◌}
+use Rattle.std.specs.Prelude.{◌≡◌, ◌⊎◌, ℕ, zero, suc, min, max, Bool, true, false, ◌&&◌, nat_eq, List, [], ◌∷◌, map, filter, fold, slice_get, Option, Some, None, unwrap_or, Result, Ok, Err, if◌then◌else◌}
 use Rattle.morris_board.specs.Boards.{Shape}
 use Rattle.morris_board.specs.Positions.{Sides, read_of}
 use Rattle.morris_board.specs.declared.faults.TextFault.{TextFault}
@@ -75,6 +75,24 @@ same_value _ _ = false
 abbrev pub best_among : Value → List Outcome → List Move
 best_among value outcomes = map (λ o. o.step) (filter (λ o. same_value o.value value) outcomes)
 
+-- ---- what a value follows from
+
+-- The better of two values for who may choose between them: a win, and of two wins the sooner; else a
+-- draw; else of two losses the later.
+abbrev pub better : Value → Value → Value
+better (Won depth) (Won other) = Won (min depth other)
+better (Won depth) _ = Won depth
+better _ (Won depth) = Won depth
+better (Lost depth) (Lost other) = Lost (max depth other)
+better _ _ = Draw
+
+-- The value of a position by the rules, from what its legal moves lead to: won in the least depth of
+-- the wins among them, if there is one; else a draw, if there is one; else lost in the greatest depth
+-- of the losses, and in 0 plies where there is no legal move. The depth is at most 65,535, since a
+-- file states none above 65,534: so none states a value that follows from one of 65,535.
+abbrev pub value_from : List Outcome → Value
+value_from outcomes = fold (λ best o. better best o.value) (Lost 0) outcomes
+
 abbrev pub outcome : Move → Value → Outcome
 outcome m value = record { step = m; value = value }
 
@@ -89,9 +107,17 @@ pub record Telling : Type 0 where
 abbrev pub telling : Value → List Move → List Outcome → List (Move × Sides) → Telling
 telling value best outcomes line = record { value = value; best = best; outcomes = outcomes; line = line }
 
--- the legal moves are all there, in order, and the best ones are those that lead to the value
+-- What is told of a position that its files agree on: this value, if it is the one that follows from
+-- what the moves lead to. Else the files of the position and its moves disagree.
+unfoldable pub told_from : Value → List Outcome → Result Telling Fault
+told_from value outcomes =
+    if same_value value (value_from outcomes) then Ok (telling value (best_among value outcomes) outcomes []) else Err fault.Disagree
+
+-- the legal moves are all there, in order, the value follows from what they lead to, and the best ones
+-- are those that lead to it
 pub record IsListed (board : Shape) (s : Sides) (t : Telling) : Type 0 where
   pub legal : map (λ (o : Outcome). o.step) t.outcomes ≡ moves_of board s
+  pub follows : t.value ≡ value_from t.outcomes
   pub best : t.best ≡ best_among t.value t.outcomes
 
 -- the first of a list and what comes of it, and where there is none the other
@@ -124,15 +150,16 @@ module _ (board : Shape) (name : List ℕ) (files : Files) where
   told_outcomes s [] = Ok []
   told_outcomes s (m ∷ ms) = followed (told_outcome s m) (λ o. followed (told_outcomes s ms) (λ os. Ok (o ∷ os)))
 
-  -- the value of a position, its best moves, and what each legal move leads to
+  -- the value of a position, its best moves, and what each legal move leads to; or that the files
+  -- disagree on it
   unfoldable pub told_of : Sides → Result Telling Fault
-  told_of s = followed (told_value s) (λ value.
-      followed (told_outcomes s (moves_of board s)) (λ os. Ok (telling value (best_among value os) os [])))
+  told_of s = followed (told_value s) (λ value. followed (told_outcomes s (moves_of board s)) (told_from value))
 
   -- The line of best play over so many plies at most: the first best move, the position after it,
-  -- and what follows from there. It ends where there is no best move.
+  -- and what follows from there. It ends where there is no best move. On each position of it the
+  -- files have to agree, on the last one too.
   unfoldable pub told_line : ℕ → Sides → Result (List (Move × Sides)) Fault
-  told_line zero s = Ok []
+  told_line zero s = followed (told_of s) (λ t. Ok [])
   told_line (suc plies) s = followed (told_of s) (λ t. with_first (slice_get t.best 0) (Ok []) (λ m.
       followed (told_line plies (result_of s m)) (λ rest. Ok ((m, result_of s m) ∷ rest))))
 

@@ -6,7 +6,7 @@ ghost use Rattle.morris_lookup.specs.Lookups.{depth_of};
 ghost use Rattle.morris_moves.specs.Rules.{moves_of};
 ghost use Rattle.morris_queries.specs.Folders.{Stays, Tells};
 ghost use Rattle.morris_queries.specs.Printing.{IsShort};
-ghost use Rattle.morris_queries.specs.Telling.{Agrees, Gives, IsListed, best_among, same_value, told_of, told_line, told_outcomes, told_shown};
+ghost use Rattle.morris_queries.specs.Telling.{Agrees, Gives, IsListed, best_among, better, same_value, value_from, told_of, told_line, told_outcomes, told_shown};
 
 use crate::library::Library;
 use crate::show::Show;
@@ -97,7 +97,8 @@ impl<B: Geometry, L: Library> Folder<'_, '_, '_, B, L> {
     ///
     /// # Errors
     /// Those of [`value`](Folder::value), for the position and then at the first legal move for
-    /// which there is one; [`Fault::Memory`].
+    /// which there is one; [`Fault::Disagree`] where the value doesn't follow from what the moves
+    /// lead to; [`Fault::Memory`].
     fn tell_best(&mut self, position: &Position<B>) -> Result<Told<B>, Fault>
         ensures stays { Stays B.shape L.files self.old self.new }
         ensures listed { IfOk result (IsListed B.shape position.now) }
@@ -106,6 +107,9 @@ impl<B: Geometry, L: Library> Folder<'_, '_, '_, B, L> {
     {
         let value = self.value(position)?;
         let outcomes = self.outcomes(position)?;
+        if !is_same(value, value_from(outcomes.as_slice())) {
+            return Err(Fault::Disagree);
+        }
         let best = best_of(self.alloc, value, outcomes.as_slice())?;
         Ok(Told {
             value,
@@ -116,7 +120,8 @@ impl<B: Geometry, L: Library> Folder<'_, '_, '_, B, L> {
     }
 
     /// The line of best play from a position: the first best move at each of at most so many plies,
-    /// each with the position after it. It ends where there is no best move.
+    /// each with the position after it. It ends where there is no best move. The position at its end
+    /// is looked at as each of the line is.
     ///
     /// # Errors
     /// Those of [`tell_best`](Folder::tell_best), at the first position of the line for which there
@@ -141,6 +146,7 @@ impl<B: Geometry, L: Library> Folder<'_, '_, '_, B, L> {
             here = play(&here, m);
             keep(&mut line, (m, here))?;
         }
+        let _ = self.tell_best(&here)?;
         Ok(line)
     }
 
@@ -189,6 +195,27 @@ fn is_same(one: Value, other: Value) -> bool
         (Value::Lost(depth), Value::Lost(other)) => depth == other,
         _ => false,
     }
+}
+
+/// The better of two values for who may choose between them.
+fn better(one: Value, other: Value) -> Value
+    ensures { result ≡ better one other }
+{
+    match (one, other) {
+        (Value::Won(depth), Value::Won(other)) => Value::Won(depth.min(other)),
+        (Value::Won(depth), _) | (_, Value::Won(depth)) => Value::Won(depth),
+        (Value::Lost(depth), Value::Lost(other)) => Value::Lost(depth.max(other)),
+        _ => Value::Draw,
+    }
+}
+
+/// The value of a position by the rules, from what its legal moves lead to.
+fn value_from(outcomes: &[Outcome]) -> Value
+    ensures { result ≡ value_from outcomes.now }
+{
+    outcomes
+        .iter()
+        .fold(Value::Lost(0), |best, outcome| better(best, outcome.value))
 }
 
 /// Of the moves with what they lead to, those that lead to this value.

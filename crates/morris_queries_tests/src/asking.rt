@@ -28,7 +28,7 @@ fn asked<L: Library>(
 }
 
 /// Whether texts are answered by this text and this number of faults.
-fn is_answered<L: Library>(
+pub(crate) fn is_answered<L: Library>(
     alloc: Global,
     held: &mut L,
     texts: &[&str],

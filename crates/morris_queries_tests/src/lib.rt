@@ -5,6 +5,8 @@
 #[cfg(test)]
 mod asking;
 #[cfg(test)]
+mod damaged;
+#[cfg(test)]
 mod failing;
 #[cfg(test)]
 mod lines;
