@@ -307,8 +307,8 @@ def in_words(code):
 
 
 def read_text(text, board):
-    """The position that a text of the command line shows."""
-    data = text.encode()
+    """The position that a text of the command line shows, or the bytes of a line."""
+    data = text if isinstance(text, bytes) else text.encode()
     if len(data) != len(board.points):
         fault("1: text is not one character per point")
     for place, byte in enumerate(data):

@@ -21,11 +21,11 @@ use Rattle.morris_queries.specs.declared.fault.QueryFault.TheVariants as query
 use Rattle.morris_queries.specs.declared.library.Unfound.{Unfound}
 use Rattle.morris_queries.specs.declared.library.Unfound.TheVariants as unfound
 use Rattle.morris_queries.specs.declared.texts.Tally.{Tally}
-use Rattle.morris_queries.specs.Answers.{Answer, IsAnswer, Given, AreGiven, AreOut, ArePartOut, AnswersText, AnswersTexts, CountsWrites, WentIn, IsTallied, counted_to, printed_of, refused_in}
+use Rattle.morris_queries.specs.Answers.{Answer, IsAnswer, IsExactAnswer, Given, AreGiven, AreOut, ArePartOut, AnswersText, AnswersTexts, CountsWrites, WentIn, IsTallied, counted_to, printed_of, refused_in}
 use Rattle.morris_queries.specs.Libraries.{Finds}
 use Rattle.morris_queries.specs.Printing.{answer_text}
 use Rattle.morris_queries.specs.Refusals.{find_fault}
-use Rattle.morris_queries.specs.Exactness.{AreExactIn, IsGame}
+use Rattle.morris_queries.specs.Exactness.{AreExactIn}
 use Rattle.morris_queries.specs.Telling.{Agrees, IsListed, told_to, told_text, told_shown}
 
 -- ---- one answer
@@ -45,14 +45,14 @@ answer_refused board name known show text fault e = record {
 pub answer_told : (board : Shape) (name : List ℕ) (known : Option Files) (show : Show) (text : List ℕ) (s : Sides) (answer : Answer)
     → read_of board text ≡ Ok s → IfOk answer (IsListed board s)
     → ((files : Files) → known ≡ Some files → Agrees answer (told_shown board name files show s))
-    → ((files : Files) → known ≡ Some files → AreExactIn board name files → IfOk answer (IsGame board show s))
+    → ((files : Files) → known ≡ Some files → AreExactIn board name files → IsExactAnswer board show s answer)
     → IsAnswer board name known show text answer
 unfolding told_text
 answer_told board name known show text s answer e legal told exact = record {
   refused = λ other is. cc;
   listed = λ u is. let same : s ≡ u = cc in subst (λ v. IfOk answer (IsListed board v)) same legal;
   told = λ files there. subst (Agrees answer) (sym (ap (told_to board name files show) e)) (told files there);
-  exact = λ files there right u is. let same : s ≡ u = cc in subst (λ v. IfOk answer (IsGame board show v)) same (exact files there right);
+  exact = λ files there right u is. let same : s ≡ u = cc in subst (λ v. IsExactAnswer board show v answer) same (exact files there right);
 }
 
 -- ---- what went out

@@ -1,6 +1,6 @@
 -- What is told where the files of a folder are those of exact tables is the game's.
 use Rattle.std.proofs.Common.{◌≡◌, ◌≢◌, ℕ, zero, suc, ◌+◌, ◌≤◌, ◌<◌, true, false, Bool, eqb, leb, List, [], ◌∷◌, ◌++◌, map, length, Option, Some, None, Result, Ok, Err, refl, sym, ap, subst, ◌∙◌, inl, inr, arith, append_assoc, append-nil}
-use Rattle.std.specs.Prelude.{IfOk, IfSome, ◌&&◌, ◌||◌, slice_get}
+use Rattle.std.specs.Prelude.{IfSome, ◌&&◌, ◌||◌, slice_get}
 use Rattle.std.specs.List.{Contains, AllPairs}
 use Rattle.std.proofs.lemmas.Bool.{cases_Bool, and_parts, leb-true, leb-false, eqb-true, eq-eqb, cases_eq, ne_eqb, both_ways}
 use Rattle.morris_board.specs.Boards.{Shape}
@@ -35,12 +35,19 @@ use Rattle.morris_lookup.proofs.OpeningLaws.{framed_file}
 use Rattle.morris_folders.specs.Files.{Files}
 use Rattle.morris_keeping.specs.Names.{name_of}
 use Rattle.morris_faults.specs.declared.fault.Fault.{Fault}
+use Rattle.morris_faults.specs.declared.fault.Fault.TheVariants as fault
+use Rattle.morris_faults.specs.Faults.{needs_fault, read_fault}
+use Rattle.morris_table.specs.declared.layout.Layout.{Layout}
+use Rattle.morris_table.specs.declared.file_faults.ReadFault.{ReadFault}
+use Rattle.morris_table.specs.declared.file_faults.ReadFault.TheVariants as read
+use Rattle.morris_queries.specs.Answers.{IsExactAnswer}
 use Rattle.morris_queries.specs.Exactness.{AreExactIn, IsExactBytes, LeadsTo, IsBestLine, HasLine, IsGame}
 use Rattle.morris_queries.specs.declared.show.Show.{Show}
 use Rattle.morris_queries.specs.declared.show.Show.TheVariants as show
-use Rattle.morris_queries.specs.Telling.{followed, with_first, Agrees, Telling, telling, best_among, same_value, outcome, told_of, told_line, told_shown, shown_line, told_value, told_outcome, told_outcomes, value_at, opened_as, table_in, stated_in}
+use Rattle.morris_queries.specs.Telling.{followed, with_first, Agrees, Telling, telling, best_among, same_value, same_counts, framed_as, value_from, outcome, told_from, told_of, told_line, told_shown, shown_line, told_value, told_outcome, told_outcomes, value_at, opened_as, table_in, stated_in}
 use Rattle.morris_queries.proofs.OpenLaws.{framed_found}
-use Rattle.morris_queries.proofs.TellingLaws.{agreed, first_there}
+use Rattle.morris_queries.proofs.AgreeLaws.{best-turned, follows, same_itself}
+use Rattle.morris_queries.proofs.TellingLaws.{agreed, first_there, from_same, from_told}
 
 -- ---- the pair of a position
 
@@ -213,19 +220,61 @@ module _ (board : Shape) (few : board.points ≤ 24) (y : HasSymmetries board) (
         from others (Ok value) (Err refused) rest e = cc
         from others (Err refused) q rest e = cc
 
+-- ---- faults of files
+
+-- no file by itself disagrees
+module _ (board : Shape) (name : List ℕ) (files : Files) where
+  value_never : (s : Sides) → told_value board name files s ≡ Err fault.Disagree → ⊥
+  unfolding told_value table_in
+  value_never s e = at_pair (pair_of s) e
+    where
+      read_never : (refusal : ReadFault) → read_fault refusal ≡ fault.Disagree → ⊥
+      read_never read.Short e = cc
+      read_never read.Magic e = cc
+      read_never read.Version e = cc
+      read_never read.BoardId e = cc
+      read_never read.Counts e = cc
+      read_never read.Crowded e = cc
+      read_never read.Count e = cc
+      read_never read.Digest e = cc
+      read_never read.Trailing e = cc
+      read_never read.Read e = cc
+      read_never read.Memory e = cc
+
+      framed : (c : Counts) (bytes : List ℕ) (r : Result (Layout × Counts) ReadFault)
+          → followed (framed_as c bytes r) (λ file. Ok (stated_in board s file)) ≡ Err fault.Disagree → ⊥
+      framed c bytes (Err refusal) e = let is : read_fault refusal ≡ fault.Disagree = cc in read_never refusal is
+      framed c bytes (Ok kind) e = elim (cases_Bool (same_counts kind.1 c)) [
+        | inl same ↦ let no : ◌≡◌ {A = Result Value Fault} (Ok (stated_in board s (open_file kind.0 c (Some bytes)))) (Err fault.Disagree) = rw same at e in cc
+        | inr other ↦ let no : ◌≡◌ {A = Result Value Fault} (Err (needs_fault c)) (Err fault.Disagree) = rw other at e in cc
+      ]
+
+      at_name : (c : Counts) (o : Option (List ℕ)) → followed (opened_as board c o) (λ file. Ok (stated_in board s file)) ≡ Err fault.Disagree → ⊥
+      at_name c None e = cc
+      at_name c (Some bytes) e = framed c bytes (framed_in board bytes) e
+
+      at_pair : (o : Option Counts) → value_at board name files s o ≡ Err fault.Disagree → ⊥
+      at_pair None e = cc
+      at_pair (Some c) e = at_name c (files (name_of name c)) e
+
+  outcomes_never : (s : Sides) (ms : List Move) → told_outcomes board name files s ms ≡ Err fault.Disagree → ⊥
+  unfolding told_outcomes
+  outcomes_never s [] e = cc
+  outcomes_never s (m ∷ ms) e = from (outcomes_never s ms) (told_value board name files (result_of s m)) refl (told_outcomes board name files s ms) refl e
+    where
+      from : (told_outcomes board name files s ms ≡ Err fault.Disagree → ⊥) → (r : Result Value Fault) → told_value board name files (result_of s m) ≡ r
+          → (q : Result (List Outcome) Fault) → told_outcomes board name files s ms ≡ q
+          → followed (followed r (λ value. Ok (outcome m (turned value)))) (λ p. followed q (λ ps. Ok (p ∷ ps))) ≡ Err fault.Disagree → ⊥
+      from others (Ok value) found (Ok ps) rest e = cc
+      from others (Ok value) found (Err refused) rest e = others (rest ∙ e)
+      from others (Err refused) found q rest e = let is : refused ≡ fault.Disagree = cc in value_never (result_of s m) (found ∙ ap (λ f. Err f) is)
+
 -- ---- best moves
 
 turned-best : (found next : Value) → turned next ≡ found → after_best found ≡ Some next
 turned-best found Draw e = subst (λ v. after_best v ≡ Some Draw) e refl
 turned-best found (Won depth) e = subst (λ v. after_best v ≡ Some (Won depth)) e refl
 turned-best found (Lost depth) e = subst (λ v. after_best v ≡ Some (Lost depth)) e refl
-
-best-turned : (found next : Value) → after_best found ≡ Some next → turned next ≡ found
-best-turned Draw next e = let is : next ≡ Draw = cc in ap turned is
-best-turned (Won zero) next e = cc
-best-turned (Won (suc depth)) next e = let is : next ≡ Lost depth = cc in ap turned is
-best-turned (Lost zero) next e = cc
-best-turned (Lost (suc depth)) next e = let is : next ≡ Won depth = cc in ap turned is
 
 same_true : (v w : Value) → same_value v w ≡ true → v ≡ w
 same_true Draw Draw e = refl
@@ -237,11 +286,6 @@ same_true (Won a) Draw e = cc
 same_true (Won a) (Lost b) e = cc
 same_true (Lost a) Draw e = cc
 same_true (Lost a) (Won b) e = cc
-
-same_itself : (v : Value) → same_value v v ≡ true
-same_itself Draw = refl
-same_itself (Won a) = eq-eqb a a refl
-same_itself (Lost a) = eq-eqb a a refl
 
 module _ (board : Shape) (s : Sides) (value : Value) where
   abbrev steps : List Outcome → List Move
@@ -312,9 +356,9 @@ module _ (board : Shape) (few : board.points ≤ 24) (y : HasSymmetries board) (
   told_right s position t e = from (told_value board name files s) refl (told_outcomes board name files s (moves_of board s)) refl e
     where
       from : (r : Result Value Fault) → told_value board name files s ≡ r → (q : Result (List Outcome) Fault) → told_outcomes board name files s (moves_of board s) ≡ q
-          → followed r (λ value. followed q (λ os. Ok (telling value (best_among value os) os []))) ≡ Ok t → IsRight board s t
+          → followed r (λ value. followed q (told_from value)) ≡ Ok t → IsRight board s t
       from (Ok value) found (Ok os) all e =
-          let same : telling value (best_among value os) os [] ≡ t = cc in
+          let same : telling value (best_among value os) os [] ≡ t = from_told value os t e in
           let positions = λ (m : Move) (c : Contains (moves_of board s) m). result-position board few s position m c in
           let here : IsValue board s value = exact_value board few y name files exact s position value found in
           let lead = all_lead board few y name files exact s (moves_of board s) positions os all in
@@ -330,7 +374,11 @@ module _ (board : Shape) (few : board.points ≤ 24) (y : HasSymmetries board) (
   best_line : (n : ℕ) (s : Sides) → IsPosition board s → (value : Value) → IsValue board s value → depth_of value ≡ n → (line : List (Move × Sides))
       → told_line board name files n s ≡ Ok line → IsBestLine board s value line
   unfolding told_line
-  best_line zero s position value here deep line e = let none : [] ≡ line = cc in subst (IsBestLine board s value) none deep
+  best_line zero s position value here deep line e = from (told_of board name files s) e
+    where
+      from : (r : Result Telling Fault) → followed r (λ t. Ok []) ≡ Ok line → IsBestLine board s value line
+      from (Ok t) e = let none : [] ≡ line = cc in subst (IsBestLine board s value) none deep
+      from (Err refused) e = cc
   best_line (suc k) s position value here deep line e = from (best_line k) (told_of board name files s) refl e
     where
       none_here : (t : Telling) → told_of board name files s ≡ Ok t → AreBestOf board s value (moves_of board s) t.best
@@ -415,6 +463,84 @@ module _ (board : Shape) (few : board.points ≤ 24) (y : HasSymmetries board) (
       from show.Moves (Err refused) found e = cc
       from show.Line (Err refused) found e = cc
 
-  pub game_told : (what : Show) (s : Sides) → IsPosition board s → (answer : Result Telling Fault) → Agrees answer (told_shown board name files what s) → IfOk answer (IsGame board what s)
+  -- ---- the files don't disagree
+
+  never_told : (s : Sides) → IsPosition board s → told_of board name files s ≡ Err fault.Disagree → ⊥
+  unfolding told_of
+  never_told s position e = from (told_value board name files s) refl (told_outcomes board name files s (moves_of board s)) refl e
+    where
+      positions : (m : Move) → Contains (moves_of board s) m → IsPosition board (result_of s m)
+      positions m c = result-position board few s position m c
+
+      from : (r : Result Value Fault) → told_value board name files s ≡ r → (q : Result (List Outcome) Fault) → told_outcomes board name files s (moves_of board s) ≡ q
+          → followed r (λ value. followed q (told_from value)) ≡ Err fault.Disagree → ⊥
+      from (Ok value) found (Ok os) all e =
+          let listed = steps_are board few y name files exact s (moves_of board s) os all in
+          let lead = all_lead board few y name files exact s (moves_of board s) positions os all in
+          let known = all_valued board few y name files exact s (moves_of board s) positions os all in
+          let is : value_from os ≡ value = follows board s os listed lead value (exact_value board few y name files exact s position value found) known in
+          let same : same_value value (value_from os) ≡ true = subst (λ v. same_value value v ≡ true) (sym is) (same_itself value) in
+          never_both_ways (telling value (best_among value os) os []) (sym (from_same value os same) ∙ e)
+      from (Ok value) found (Err refused) all e = let is : refused ≡ fault.Disagree = cc in outcomes_never board name files s (moves_of board s) (all ∙ ap (λ f. Err f) is)
+      from (Err refused) found q all e = let is : refused ≡ fault.Disagree = cc in value_never board name files s (found ∙ ap (λ f. Err f) is)
+
+      never_both_ways : (t : Telling) → ◌≡◌ {A = Result Telling Fault} (Ok t) (Err fault.Disagree) → ⊥
+      never_both_ways t e = cc
+
+  never_played : (n : ℕ) (s : Sides) → IsPosition board s → told_line board name files n s ≡ Err fault.Disagree → ⊥
+  unfolding told_line
+  never_played zero s position e = from (told_of board name files s) refl e
+    where
+      from : (r : Result Telling Fault) → told_of board name files s ≡ r → followed r (λ t. Ok []) ≡ Err fault.Disagree → ⊥
+      from (Ok t) found e = cc
+      from (Err refused) found e = let is : refused ≡ fault.Disagree = cc in never_told s position (found ∙ ap (λ f. Err f) is)
+  never_played (suc k) s position e = from (never_played k) (told_of board name files s) refl e
+    where
+      rest_of : ((u : Sides) → IsPosition board u → told_line board name files k u ≡ Err fault.Disagree → ⊥) → (m : Move) → IsPosition board (result_of s m)
+          → (q : Result (List (Move × Sides)) Fault) → told_line board name files k (result_of s m) ≡ q
+          → followed q (λ rest. Ok ((m, result_of s m) ∷ rest)) ≡ Err fault.Disagree → ⊥
+      rest_of on m there (Ok rest) played e = cc
+      rest_of on m there (Err refused) played e = on (result_of s m) there (played ∙ e)
+
+      at_first : ((u : Sides) → IsPosition board u → told_line board name files k u ≡ Err fault.Disagree → ⊥)
+          → (t : Telling) → told_of board name files s ≡ Ok t → (o : Option Move) → o ≡ slice_get t.best 0
+          → with_first o (Ok []) (λ m. followed (told_line board name files k (result_of s m)) (λ rest. Ok ((m, result_of s m) ∷ rest))) ≡ Err fault.Disagree → ⊥
+      at_first on t found None first e = cc
+      at_first on t found (Some m) first e =
+          let listed = (((told_right s position t found).best.each m).0 (first_there t.best m first)).0 in
+          rest_of on m (result-position board few s position m listed) (told_line board name files k (result_of s m)) refl e
+
+      from : ((u : Sides) → IsPosition board u → told_line board name files k u ≡ Err fault.Disagree → ⊥)
+          → (r : Result Telling Fault) → told_of board name files s ≡ r
+          → followed r (λ t. with_first (slice_get t.best 0) (Ok []) (λ m. followed (told_line board name files k (result_of s m)) (λ rest. Ok ((m, result_of s m) ∷ rest))))
+          ≡ Err fault.Disagree → ⊥
+      from on (Ok t) found e = at_first on t found (slice_get t.best 0) refl e
+      from on (Err refused) found e = let is : refused ≡ fault.Disagree = cc in never_told s position (found ∙ ap (λ f. Err f) is)
+
+  never_shown : (what : Show) (s : Sides) → IsPosition board s → told_shown board name files what s ≡ Err fault.Disagree → ⊥
+  unfolding told_shown
+  never_shown what s position e = from what (told_of board name files s) refl e
+    where
+      lined : (u : Telling) → (q : Result (List (Move × Sides)) Fault) → told_line board name files (depth_of u.value) s ≡ q
+          → followed q (λ line. Ok (telling u.value u.best u.outcomes line)) ≡ Err fault.Disagree → ⊥
+      lined u (Ok line) played e = cc
+      lined u (Err refused) played e = let is : refused ≡ fault.Disagree = cc in never_played (depth_of u.value) s position (played ∙ ap (λ f. Err f) is)
+
+      from : (kind : Show) (r : Result Telling Fault) → told_of board name files s ≡ r
+          → followed r (λ u. followed (shown_line board name files kind u.value s) (λ line. Ok (telling u.value u.best u.outcomes line))) ≡ Err fault.Disagree → ⊥
+      from show.Best (Ok u) found e = cc
+      from show.Moves (Ok u) found e = cc
+      from show.Line (Ok u) found e = lined u (told_line board name files (depth_of u.value) s) refl e
+      from show.Best (Err refused) found e = never_told s position (found ∙ e)
+      from show.Moves (Err refused) found e = never_told s position (found ∙ e)
+      from show.Line (Err refused) found e = never_told s position (found ∙ e)
+
+  pub game_told : (what : Show) (s : Sides) → IsPosition board s → (answer : Result Telling Fault) → Agrees answer (told_shown board name files what s) → IsExactAnswer board what s answer
   game_told what s position (Ok t) h = game_of what s position t (agreed t (told_shown board name files what s) h)
-  game_told what s position (Err refused) h = tt
+  game_told what s position (Err refused) h = λ is. elim h [
+    | inl e ↦ never_shown what s position (e ∙ ap (λ f. Err f) is)
+    | inr e ↦ memory (ap (λ f. Err f) (sym is) ∙ e)
+  ]
+    where
+      memory : ◌≡◌ {A = Result Telling Fault} (Err fault.Disagree) (Err fault.Memory) → ⊥
+      memory e = cc

@@ -3,6 +3,7 @@ pub mod OpenLaws
 pub mod FolderLaws
 pub mod TellingLaws
 pub mod Pieces
+pub mod AgreeLaws
 pub mod ExactLaws
 pub mod LineLaws
 pub mod LineAnswerLaws

@@ -1,5 +1,5 @@
 -- How the steps of an answer follow one another.
-use Rattle.std.proofs.Common.{◌≡◌, ℕ, suc, ◌≤◌, List, [], ◌∷◌, ◌++◌, map, length, Some, None, Result, Ok, Err, refl, sym, ap, ap₂, subst, ◌∙◌, inl, inr, arith, append_assoc, append-nil}
+use Rattle.std.proofs.Common.{◌≡◌, ℕ, suc, ◌≤◌, true, false, List, [], ◌∷◌, ◌++◌, map, length, Some, None, Result, Ok, Err, refl, sym, ap, ap₂, subst, ◌∙◌, inl, inr, arith, append_assoc, append-nil}
 use Rattle.std.specs.List.{Contains}
 use Rattle.std.specs.Prelude.{slice_get}
 use Rattle.std.proofs.lemmas.Bool.{cases_Bool}
@@ -14,7 +14,8 @@ use Rattle.morris_lookup.specs.declared.outcomes.Outcome.{Outcome}
 use Rattle.morris_lookup.specs.Lookups.{depth_of}
 use Rattle.morris_lookup.specs.Outcomes.{turned}
 use Rattle.morris_faults.specs.declared.fault.Fault.{Fault}
-use Rattle.morris_queries.specs.Telling.{followed, with_first, Agrees, IsRefusal, IsListed, Telling, telling, outcome, best_among, same_value, told_value, told_outcome, told_outcomes, told_of, told_line, shown_line, told_shown}
+use Rattle.morris_faults.specs.declared.fault.Fault.TheVariants as fault
+use Rattle.morris_queries.specs.Telling.{followed, with_first, Agrees, IsRefusal, IsListed, Telling, telling, outcome, best_among, same_value, value_from, told_from, told_value, told_outcome, told_outcomes, told_of, told_line, shown_line, told_shown}
 use Rattle.morris_queries.specs.declared.show.Show.{Show}
 use Rattle.morris_queries.specs.declared.show.Show.TheVariants as show
 
@@ -113,29 +114,47 @@ steps_more outcomes pushed seen m value so_far one =
 
 -- ---- what is told of a position
 
+pub from_same : (value : Value) (os : List Outcome) → same_value value (value_from os) ≡ true → told_from value os ≡ Ok (telling value (best_among value os) os [])
+unfolding told_from
+from_same value os same = rw same refl
+
+pub from_other : (value : Value) (os : List Outcome) → same_value value (value_from os) ≡ false → told_from value os ≡ Err fault.Disagree
+unfolding told_from
+from_other value os other = rw other refl
+
+-- what is told says the same
+pub from_told : (value : Value) (os : List Outcome) (t : Telling) → told_from value os ≡ Ok t → telling value (best_among value os) os [] ≡ t
+from_told value os t e = elim (cases_Bool (same_value value (value_from os))) [
+  | inl same ↦ let is = sym (from_same value os same) ∙ e in cc
+  | inr other ↦ let no = sym (from_other value os other) ∙ e in cc
+]
+
 module _ (board : Shape) (name : List ℕ) (files : Files) (s : Sides) where
   pub told_refused_value : (refused : Fault) → IsRefusal refused (told_value board name files s) → IsRefusal refused (told_of board name files s)
   unfolding told_of
   told_refused_value refused h =
-      refusal_followed refused (told_value board name files s)
-      (λ value. followed (told_outcomes board name files s (moves_of board s)) (λ os. Ok (telling value (best_among value os) os []))) h
+      refusal_followed refused (told_value board name files s) (λ value. followed (told_outcomes board name files s (moves_of board s)) (told_from value)) h
 
   pub told_refused_outcomes : (refused : Fault) (value : Value) → told_value board name files s ≡ Ok value
       → IsRefusal refused (told_outcomes board name files s (moves_of board s)) → IsRefusal refused (told_of board name files s)
   unfolding told_of
   told_refused_outcomes refused value found h =
-      refusal_after refused (told_value board name files s) value
-      (λ v. followed (told_outcomes board name files s (moves_of board s)) (λ os. Ok (telling v (best_among v os) os []))) found
-      (refusal_followed refused (told_outcomes board name files s (moves_of board s)) (λ os. Ok (telling value (best_among value os) os [])) h)
+      refusal_after refused (told_value board name files s) value (λ v. followed (told_outcomes board name files s (moves_of board s)) (told_from v)) found
+      (refusal_followed refused (told_outcomes board name files s (moves_of board s)) (told_from value) h)
 
-  pub told_found : (value : Value) (best : List Move) (os : List Outcome) (line : List (Move × Sides)) → told_value board name files s ≡ Ok value
-      → told_outcomes board name files s (moves_of board s) ≡ Ok os → best ≡ best_among value os → line ≡ []
-      → told_of board name files s ≡ Ok (telling value best os line)
-  unfolding told_of
-  told_found value best os line found all is none =
-      ap (λ r. followed r (λ v. followed (told_outcomes board name files s (moves_of board s)) (λ xs. Ok (telling v (best_among v xs) xs [])))) found
-      ∙ ap (λ r. followed r (λ xs. Ok (telling value (best_among value xs) xs []))) all
-      ∙ ap₂ (λ b l. Ok (telling value b os l)) (sym is) (sym none)
+  module _ (value : Value) (os : List Outcome) (found : told_value board name files s ≡ Ok value) (all : told_outcomes board name files s (moves_of board s) ≡ Ok os) where
+    told_both : told_of board name files s ≡ told_from value os
+    unfolding told_of
+    told_both =
+        ap (λ r. followed r (λ v. followed (told_outcomes board name files s (moves_of board s)) (told_from v))) found
+        ∙ ap (λ r. followed r (told_from value)) all
+
+    pub told_found : (best : List Move) (line : List (Move × Sides)) → best ≡ best_among value os → line ≡ [] → same_value value (value_from os) ≡ true
+        → told_of board name files s ≡ Ok (telling value best os line)
+    told_found best line is none same = told_both ∙ from_same value os same ∙ ap₂ (λ b l. Ok (telling value b os l)) (sym is) (sym none)
+
+    pub told_disagrees : same_value value (value_from os) ≡ false → told_of board name files s ≡ Err fault.Disagree
+    told_disagrees other = told_both ∙ from_other value os other
 
 pub best_few : (value : Value) (os : List Outcome) → length (best_among value os) ≤ length os
 best_few value [] = omega arith
@@ -206,16 +225,25 @@ module _ (board : Shape) (name : List ℕ) (files : Files) (s : Sides) (items : 
         ∙ prepended-more items (m, next) (told_line board name files k next)
         ∙ ap (λ xs. prepended xs (told_line board name files k next)) (sym added)
 
-  pub line_all : n ≡ 0 → all ≡ Ok items
-  unfolding told_line
-  line_all none = subst (λ i. all ≡ prepended items (told_line board name files i s)) none so_far ∙ ap (λ xs. Ok xs) (append-nil items)
+  -- all were shown
+  module _ (none : n ≡ 0) where
+    end_here : all ≡ prepended items (told_line board name files 0 s)
+    end_here = subst (λ i. all ≡ prepended items (told_line board name files i s)) none so_far
+
+    pub end_refused : (refused : Fault) → IsRefusal refused (told_of board name files s) → IsRefusal refused all
+    unfolding told_line
+    end_refused refused h = refusal_prepended refused items all (told_line board name files 0 s) end_here (refusal_followed refused (told_of board name files s) (λ t. Ok []) h)
+
+    pub line_all : (t : Telling) → told_of board name files s ≡ Ok t → all ≡ Ok items
+    unfolding told_line
+    line_all t found = end_here ∙ ap (λ r. prepended items (followed r (λ u. Ok []))) found ∙ ap (λ xs. Ok xs) (append-nil items)
 
 -- ---- what is shown
 
 module _ (board : Shape) (name : List ℕ) (files : Files) (s : Sides) where
   no_line : (r : Result Value Fault) (q : Result (List Outcome) Fault) (t : Telling)
-      → followed r (λ value. followed q (λ os. Ok (telling value (best_among value os) os []))) ≡ Ok t → t.line ≡ []
-  no_line (Ok value) (Ok os) t e = let same : telling value (best_among value os) os [] ≡ t = cc in ap (λ (u : Telling). u.line) (sym same)
+      → followed r (λ value. followed q (told_from value)) ≡ Ok t → t.line ≡ []
+  no_line (Ok value) (Ok os) t e = ap (λ (u : Telling). u.line) (sym (from_told value os t e))
   no_line (Ok value) (Err refused) t e = cc
   no_line (Err refused) q t e = cc
 
