@@ -103,9 +103,9 @@ best_is v best (o ∷ os) low each some =
     next = elim some [
       | inl is ↦ inl (ap (λ w. better w o.value) is ∙ (better-comm v o.value ∙ here))
       | inr p ↦ elim (Contains-cons_cases o os p.0 p.1) [
-          | inl is ↦ inl (ap (better best) (ap (λ (q : Outcome). q.value) is ∙ p.2) ∙ low)
-          | inr later ↦ inr (p.0, later, p.2)
-        ]
+        | inl is ↦ inl (ap (better best) (ap (λ (q : Outcome). q.value) is ∙ p.2) ∙ low)
+        | inr later ↦ inr (p.0, later, p.2)
+      ]
     ]
 
 -- ---- what moves lead to in the game

@@ -203,7 +203,8 @@ fn better(one: Value, other: Value) -> Value
 {
     match (one, other) {
         (Value::Won(depth), Value::Won(other)) => Value::Won(depth.min(other)),
-        (Value::Won(depth), _) | (_, Value::Won(depth)) => Value::Won(depth),
+        (Value::Won(depth), _) => Value::Won(depth),
+        (_, Value::Won(depth)) => Value::Won(depth),
         (Value::Lost(depth), Value::Lost(other)) => Value::Lost(depth.max(other)),
         _ => Value::Draw,
     }
@@ -213,9 +214,7 @@ fn better(one: Value, other: Value) -> Value
 fn value_from(outcomes: &[Outcome]) -> Value
     ensures { result ≡ value_from outcomes.now }
 {
-    outcomes
-        .iter()
-        .fold(Value::Lost(0), |best, outcome| better(best, outcome.value))
+    outcomes.iter().fold(Value::Lost(0), |best, outcome| better(best, outcome.value))
 }
 
 /// Of the moves with what they lead to, those that lead to this value.

@@ -11,9 +11,13 @@ use std::process::Abort;
 /// The entries of positions: 20 times the rank of the own three points, and the rank of the others
 /// among the six points that are left.
 const WON: usize = 6; // XXX.OO.O., won in 3, whose best move leads to the next
+
 const LOST: usize = 981; // OO.OXX.X., lost in 2, whose best move leads to the next
+
 const LAST: usize = 25; // XXOX.O.O., won in 1
+
 const DRAWN: usize = 0; // XXXOOO..., a draw, of which the move 0-6 leads to the next
+
 const AFTER: usize = 383; // .OOXXXO..
 
 /// Sets the code at an entry.
@@ -45,9 +49,11 @@ fn answers(alloc: Global, small: &[u8], text: &str, show: Show, wanted: &str, fa
 const WON_FAULT: &str = "\
 XXX.OO.O.: fault 37: the files of this position and its moves disagree
 ";
+
 const LOST_FAULT: &str = "\
 OO.OXX.X.: fault 37: the files of this position and its moves disagree
 ";
+
 const DRAWN_FAULT: &str = "\
 XXXOOO...: fault 37: the files of this position and its moves disagree
 ";
@@ -95,8 +101,26 @@ fn a_line_ends_at_the_first_position_that_disagrees(rt: HostRuntime) {
     let (mut small, _) = files(&rt, rt.alloc(), Layout::Full).expect(&rt, "two files");
     set_code(small.as_mut_slice(), LAST, 0);
     let told = "XXX.OO.O. won in 3: 2-3\n";
-    assert!(rt; answers(rt.alloc(), small.as_slice(), "XXX.OO.O.", Show::Best, told, 0));
-    assert!(rt; answers(rt.alloc(), small.as_slice(), "XXX.OO.O.", Show::Line, WON_FAULT, 1));
+    assert!(rt;
+        answers(
+            rt.alloc(),
+            small.as_slice(),
+            "XXX.OO.O.",
+            Show::Best,
+            told,
+            0
+        )
+    );
+    assert!(rt;
+        answers(
+            rt.alloc(),
+            small.as_slice(),
+            "XXX.OO.O.",
+            Show::Line,
+            WON_FAULT,
+            1
+        )
+    );
 }
 
 // A win in 1 is stated of a draw, and that its result is lost at once: the position and its moves
@@ -107,8 +131,26 @@ fn a_line_does_not_end_where_there_are_moves(rt: HostRuntime) {
     set_code(small.as_mut_slice(), DRAWN, 2);
     set_code(small.as_mut_slice(), AFTER, 1);
     let told = "XXXOOO... won in 1: 0-6\n";
-    assert!(rt; answers(rt.alloc(), small.as_slice(), "XXXOOO...", Show::Best, told, 0));
-    assert!(rt; answers(rt.alloc(), small.as_slice(), "XXXOOO...", Show::Line, DRAWN_FAULT, 1));
+    assert!(rt;
+        answers(
+            rt.alloc(),
+            small.as_slice(),
+            "XXXOOO...",
+            Show::Best,
+            told,
+            0
+        )
+    );
+    assert!(rt;
+        answers(
+            rt.alloc(),
+            small.as_slice(),
+            "XXXOOO...",
+            Show::Line,
+            DRAWN_FAULT,
+            1
+        )
+    );
 }
 
 // Where each entry is lost in 65,534, each move leads to a win in 65,535, which no file states; a
@@ -124,5 +166,14 @@ fn the_greatest_depth_agrees_with_none(rt: HostRuntime) {
     }
     assert!(rt; disagrees(rt.alloc(), small.as_slice(), "XXXOOO...", DRAWN_FAULT));
     let lost = "XX.OOO... lost in 0\n";
-    assert!(rt; answers(rt.alloc(), small.as_slice(), "XX.OOO...", Show::Line, lost, 0));
+    assert!(rt;
+        answers(
+            rt.alloc(),
+            small.as_slice(),
+            "XX.OOO...",
+            Show::Line,
+            lost,
+            0
+        )
+    );
 }
