@@ -1,5 +1,5 @@
 -- The value of a position in the game follows from the values of the results of its moves.
-use Rattle.std.proofs.Common.{◌≡◌, ◌⊎◌, ℕ, zero, suc, ◌+◌, ◌≤◌, ◌<◌, min, max, true, false, List, [], ◌∷◌, map, Some, refl, sym, ap, subst, ◌∙◌, inl, inr, arith}
+use Rattle.std.proofs.Common.{◌≡◌, ◌⊎◌, ℕ, zero, suc, true, false, List, [], ◌∷◌, map, Some, refl, sym, ap, subst, ◌∙◌, inl, inr, arith}
 use Rattle.std.specs.Prelude.{fold}
 use Rattle.std.specs.List.{Contains}
 use Rattle.std.proofs.lemmas.Bool.{eq-eqb, both_ways, cases_lt}
@@ -13,7 +13,7 @@ use Rattle.morris_moves.proofs.ValueLaws.{never_both}
 use Rattle.morris_table.specs.declared.value.Value.{Value}
 use Rattle.morris_table.specs.declared.value.Value.TheVariants.{Draw, Won, Lost}
 use Rattle.morris_table.specs.Codes.{IsValue}
-use Rattle.morris_probe.specs.Best.{LeadsOn, after_best}
+use Rattle.morris_probe.specs.Best.{after_best}
 use Rattle.morris_probe.proofs.BestLaws.{one_value}
 use Rattle.morris_probe.proofs.SomeBest.{HasValues, some_best}
 use Rattle.morris_lookup.specs.declared.outcomes.Outcome.{Outcome}

@@ -201,12 +201,19 @@ fn is_same(one: Value, other: Value) -> bool
 fn better(one: Value, other: Value) -> Value
     ensures { result ≡ better one other }
 {
-    match (one, other) {
-        (Value::Won(depth), Value::Won(other)) => Value::Won(depth.min(other)),
-        (Value::Won(depth), _) => Value::Won(depth),
-        (_, Value::Won(depth)) => Value::Won(depth),
-        (Value::Lost(depth), Value::Lost(other)) => Value::Lost(depth.max(other)),
-        _ => Value::Draw,
+    match one {
+        Value::Won(depth) => match other {
+            Value::Won(other) => Value::Won(depth.min(other)),
+            _ => one,
+        },
+        Value::Draw => match other {
+            Value::Won(_) => other,
+            _ => one,
+        },
+        Value::Lost(depth) => match other {
+            Value::Lost(other) => Value::Lost(depth.max(other)),
+            _ => other,
+        },
     }
 }
 
