@@ -1,8 +1,8 @@
 -- What an answer is, and how what went out of one text, and then of the next, makes up what went out
 -- of both.
-use Rattle.std.proofs.Common.{◌≡◌, ℕ, ◌+◌, ◌-◌, ◌^◌, ◌<◌, ◌≤◌, min, List, [], ◌∷◌, ◌++◌, Bor, get_or, take, map, length, Option, Some, None, Result, Ok, Err, refl, sym, ap, subst, ◌∙◌, inl, inr, arith, length-append, append-nil}
+use Rattle.std.proofs.Common.{◌≡◌, ℕ, ◌+◌, ◌-◌, ◌^◌, ◌<◌, ◌≤◌, min, List, [], ◌∷◌, ◌++◌, Bor, get_or, take, map, length, Option, Some, Result, Ok, Err, refl, sym, ap, subst, ◌∙◌, inl, inr, arith, length-append, append-nil}
 use Rattle.std.specs.Prelude.{IfOk, is_err, if◌then◌else◌}
-use Rattle.std.specs.Io.KnownBytes.{Appends, Keeps}
+use Rattle.std.specs.Io.KnownBytes.{Appends}
 use Rattle.std.proofs.KnownBytes.{Appends-nil, Appends-trans}
 use Rattle.std.proofs.Math.Seq.{take-append-add}
 use Rattle.std.proofs.lemmas.List.{take-append-le, take_more, get_or-map, length-map}
@@ -18,13 +18,9 @@ use Rattle.morris_queries.specs.declared.answer.Answered.{Answered}
 use Rattle.morris_queries.specs.declared.show.Show.{Show}
 use Rattle.morris_queries.specs.declared.fault.QueryFault.{QueryFault}
 use Rattle.morris_queries.specs.declared.fault.QueryFault.TheVariants as query
-use Rattle.morris_queries.specs.declared.library.Unfound.{Unfound}
-use Rattle.morris_queries.specs.declared.library.Unfound.TheVariants as unfound
 use Rattle.morris_queries.specs.declared.texts.Tally.{Tally}
 use Rattle.morris_queries.specs.Answers.{Answer, IsAnswer, IsExactAnswer, Given, AreGiven, AreOut, ArePartOut, AnswersText, AnswersTexts, CountsWrites, WentIn, IsTallied, counted_to, printed_of, refused_in}
-use Rattle.morris_queries.specs.Libraries.{Finds}
 use Rattle.morris_queries.specs.Printing.{answer_text}
-use Rattle.morris_queries.specs.Refusals.{find_fault}
 use Rattle.morris_queries.specs.Exactness.{AreExactIn}
 use Rattle.morris_queries.specs.Telling.{Agrees, IsListed, told_to, told_text, told_shown}
 
@@ -179,24 +175,6 @@ module _ (board : Shape) (name : List ℕ) (known : Option Files) (show : Show) 
       → IsTallied before after answered (Ok tt) → AreOut board name known show (texts ++ text ∷ []) old new after
   texts_more texts text old mid new before after (Ok done) all next tallied = out_more texts text old mid new before after done (Ok tt) all next tallied
   texts_more texts text old mid new before after (Err sent) all next tallied = cc
-
--- ---- where the place of the files isn't found
-
-pub unknown : (known : Option Files) (why : Unfound) → Finds known (Err why) → known ≡ None
-unknown None why h = refl
-unknown (Some files) why h = cc
-
--- nothing is answered
-pub texts_unfound : (board : Shape) (name : List ℕ) (known : Option Files) (show : Show) (texts : List (List ℕ)) (old new : Option (List ℕ)) (why : Unfound)
-    → Finds known (Err why) → Keeps old new → AnswersTexts board name known show texts old new (Err (find_fault why))
-texts_unfound board name known show texts old new unfound.Memory h kept = kept
-texts_unfound board name known show texts old new unfound.Folder h kept = (unknown known unfound.Folder h, kept)
-
-pub counts_unfound : (T : Type 0) (old : ℕ) (why : Unfound) → CountsWrites {T = T} old old (Err (find_fault why))
-counts_unfound T old unfound.Memory = refl
-counts_unfound T old unfound.Folder = refl
-
--- ---- failures
 
 -- the failures of the sink, after what was counted of the next text
 pub counts_stopped : (T : Type 0) (old mid new : ℕ) (before after : Tally) (answered : Result Answered ℕ) (refusal : QueryFault) → mid ≡ old → CountsFailure mid new answered

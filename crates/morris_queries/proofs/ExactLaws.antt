@@ -469,6 +469,9 @@ module _ (board : Shape) (few : board.points ≤ 24) (y : HasSymmetries board) (
   unfolding told_of
   never_told s position e = from (told_value board name files s) refl (told_outcomes board name files s (moves_of board s)) refl e
     where
+      never_both_ways : (t : Telling) → ◌≡◌ {A = Result Telling Fault} (Ok t) (Err fault.Disagree) → ⊥
+      never_both_ways t e = cc
+
       positions : (m : Move) → Contains (moves_of board s) m → IsPosition board (result_of s m)
       positions m c = result-position board few s position m c
 
@@ -484,14 +487,11 @@ module _ (board : Shape) (few : board.points ≤ 24) (y : HasSymmetries board) (
       from (Ok value) found (Err refused) all e = let is : refused ≡ fault.Disagree = cc in outcomes_never board name files s (moves_of board s) (all ∙ ap (λ f. Err f) is)
       from (Err refused) found q all e = let is : refused ≡ fault.Disagree = cc in value_never board name files s (found ∙ ap (λ f. Err f) is)
 
-      never_both_ways : (t : Telling) → ◌≡◌ {A = Result Telling Fault} (Ok t) (Err fault.Disagree) → ⊥
-      never_both_ways t e = cc
-
   never_played : (n : ℕ) (s : Sides) → IsPosition board s → told_line board name files n s ≡ Err fault.Disagree → ⊥
   unfolding told_line
   never_played zero s position e = from (told_of board name files s) refl e
     where
-      from : (r : Result Telling Fault) → told_of board name files s ≡ r → followed r (λ t. Ok []) ≡ Err fault.Disagree → ⊥
+      from : (r : Result Telling Fault) → told_of board name files s ≡ r → followed {B = List (Move × Sides)} r (λ t. Ok []) ≡ Err fault.Disagree → ⊥
       from (Ok t) found e = cc
       from (Err refused) found e = let is : refused ≡ fault.Disagree = cc in never_told s position (found ∙ ap (λ f. Err f) is)
   never_played (suc k) s position e = from (never_played k) (told_of board name files s) refl e

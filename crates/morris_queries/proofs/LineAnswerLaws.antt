@@ -13,18 +13,14 @@ use Rattle.morris_folders.specs.Files.{Files}
 use Rattle.morris_queries.specs.declared.answer.Answered.{Answered}
 use Rattle.morris_queries.specs.declared.fault.QueryFault.{QueryFault}
 use Rattle.morris_queries.specs.declared.fault.QueryFault.TheVariants as query
-use Rattle.morris_queries.specs.declared.library.Unfound.{Unfound}
-use Rattle.morris_queries.specs.declared.library.Unfound.TheVariants as unfound
 use Rattle.morris_queries.specs.declared.show.Show.{Show}
 use Rattle.morris_queries.specs.declared.texts.Tally.{Tally}
 use Rattle.morris_queries.specs.Answers.{Answer, AnswersText, AnswersTexts, AreGiven, AreOut, ArePartOut, GoesOut, IsAnswer, IsTallied, counted_to}
 use Rattle.morris_queries.specs.InputLines.{begun_after, ended_by, text_in, texts_ended, texts_in, whole_lines}
-use Rattle.morris_queries.specs.Libraries.{Finds}
-use Rattle.morris_queries.specs.LineAnswers.{AnswersLines, IsReadTo, StopsIn}
+use Rattle.morris_queries.specs.LineAnswers.{AnswersFound, AnswersLines, IsReadTo, StopsIn}
 use Rattle.morris_queries.specs.Printing.{answer_text, first_line, shown_byte, shown_text, told_text}
-use Rattle.morris_queries.specs.Refusals.{find_fault}
 use Rattle.morris_queries.specs.Telling.{Agrees, Telling, told_to, told_text as told_of_text}
-use Rattle.morris_queries.proofs.AnswerLaws.{out_failed, out_none, texts_more, unknown}
+use Rattle.morris_queries.proofs.AnswerLaws.{out_failed, out_none, texts_more}
 use Rattle.morris_queries.proofs.LineLaws.{begun_after-byte, begun_after-feed, text_in-start, texts_ended-append, texts_ended-byte, texts_ended-feed}
 
 -- ---- the first 25 bytes of a text tell its answer
@@ -215,11 +211,21 @@ module _ (board : Shape) (name : List ℕ) (known : Option Files) (show : Show) 
   lines_unread before mid after old new read line tally got kept here =
       (read, Consumes-kept before mid after read got kept, (tally.refused, all_out (texts_ended read) old new tally here.out))
 
-  -- the place of the files isn't found
-  pub lines_unfound : (before after old new : Option (List ℕ)) (why : Unfound) → Finds known (Err why) → Keeps before after → Keeps old new
-      → AnswersLines board name known show before after old new (Err (find_fault why))
-  lines_unfound before after old new unfound.Memory h unread kept = (unread, kept)
-  lines_unfound before after old new unfound.Folder h unread kept = (unknown known unfound.Folder h, unread, kept)
+  -- ---- where the place of the files was found
+
+  pub lines_found : (before after old new : Option (List ℕ)) (result : Result ℕ QueryFault) → AnswersLines board name known show before after old new result
+      → AnswersFound board name known show before after old new result
+  lines_found before after old new (Ok refused) h = h
+  lines_found before after old new (Err query.Read) h = h
+  lines_found before after old new (Err (query.Write sent)) h = h
+  lines_found before after old new (Err query.Memory) h = h
+  lines_found before after old new (Err query.Board) h = absurd h
+  lines_found before after old new (Err query.NoFolder) h = absurd h
+
+  -- it isn't the answer that there is none
+  pub found_then : (before after old new : Option (List ℕ)) (result : Result ℕ QueryFault) → result ≡ Err query.NoFolder
+      → AnswersLines board name known show before after old new result → ⊥
+  found_then before after old new result e h = subst (AnswersLines board name known show before after old new) e h
 
 -- ---- the bytes of a piece
 

@@ -24,8 +24,8 @@ StopsIn board name known show texts old new _ = ⊥
 -- What the call for the lines of an input answers: of the input some bytes were read. Done: it is at
 -- its end, and the answers to all its lines went out. A read failed: the answers to all lines that
 -- end in what was read went out; since any read may fail, they do so before the next read. A write
--- failed, of the answers to the first of those lines. No such folder, where its files aren't known, or
--- want of memory: nothing was read, and nothing went out.
+-- failed, of the answers to the first of those lines. Want of memory: nothing was read, and nothing
+-- went out.
 abbrev pub AnswersLines : Shape → List ℕ → Option Files → Show → Option (List ℕ) → Option (List ℕ) → Option (List ℕ) → Option (List ℕ) → Result ℕ QueryFault → Type 0
 AnswersLines board name known show before after old new (Ok refused) =
     (read : List ℕ) × Consumes before after read × IsAtEnd after × AnswersTexts board name known show (texts_in read) old new (Ok refused)
@@ -33,12 +33,18 @@ AnswersLines board name known show before after old new (Err query.Read) =
     (read : List ℕ) × Consumes before after read × ((refused : ℕ) × AnswersTexts board name known show (texts_ended read) old new (Ok refused))
 AnswersLines board name known show before after old new (Err (query.Write sent)) =
     (read : List ℕ) × Consumes before after read × AnswersTexts board name known show (texts_in read) old new (Err (query.Write sent))
-AnswersLines board name known show before after old new (Err query.NoFolder) = (known ≡ None) × Keeps before after × Keeps old new
 AnswersLines board name known show before after old new (Err query.Memory) = Keeps before after × Keeps old new
 AnswersLines board name known show before after old new (Err query.Board) = ⊥
+AnswersLines board name known show before after old new (Err query.NoFolder) = ⊥
+
+-- What it answers of a folder that may not be there: that there is no such folder, where its files
+-- aren't known, with nothing read and nothing printed; otherwise what it answers from its files.
+abbrev pub AnswersFound : Shape → List ℕ → Option Files → Show → Option (List ℕ) → Option (List ℕ) → Option (List ℕ) → Option (List ℕ) → Result ℕ QueryFault → Type 0
+AnswersFound board name known show before after old new (Err query.NoFolder) = (known ≡ None) × Keeps before after × Keeps old new
+AnswersFound board name known show before after old new result = AnswersLines board name known show before after old new result
 
 -- What the command answers to an input: that there is no board of the name, with nothing read and
 -- nothing printed; otherwise what it answers on the board.
 abbrev pub AnswersInput : Option Shape → List ℕ → Option Files → Show → Option (List ℕ) → Option (List ℕ) → Option (List ℕ) → Option (List ℕ) → Result ℕ QueryFault → Type 0
 AnswersInput None name known show before after old new result = (result ≡ Err query.Board) × Keeps before after × Keeps old new
-AnswersInput (Some board) name known show before after old new result = AnswersLines board name known show before after old new result
+AnswersInput (Some board) name known show before after old new result = AnswersFound board name known show before after old new result

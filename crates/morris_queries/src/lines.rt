@@ -5,7 +5,7 @@ ghost use Rattle.morris_folders.specs.Files.{Files};
 ghost use Rattle.morris_queries.specs.Answers.{AnswersText, CountsWrites};
 ghost use Rattle.morris_queries.specs.Folders.{IsOf, Stays};
 ghost use Rattle.morris_queries.specs.InputLines.{text_in};
-ghost use Rattle.morris_queries.specs.LineAnswers.{AnswersLines};
+ghost use Rattle.morris_queries.specs.LineAnswers.{AnswersFound, AnswersLines};
 ghost use Rattle.morris_queries.specs.Readings.{Ends, Stands, StaysOf, Takes};
 
 use crate::answer::{Answered, answer_text};
@@ -181,7 +181,7 @@ pub fn answer_lines<B: Geometry, L: Library, I: Source, O: Sink>(
     requires reading { I.failures input.old < 2 ^ 64 - 1 }
     requires writing { O.failures output.old < 2 ^ 64 - 1 }
     ensures kept { L.files library.new ≡ L.files library.old }
-    ensures answer { AnswersLines B.shape board.now (L.files library.old) show (I.remaining input.old) (I.remaining input.new) (O.contents output.old) (O.contents output.new) result }
+    ensures answer { AnswersFound B.shape board.now (L.files library.old) show (I.remaining input.old) (I.remaining input.new) (O.contents output.old) (O.contents output.new) result }
     ensures unread { result ≡ Err QueryFault.NoFolder → input.new ≡ input.old }
     ensures unfailed { OnOk result (I.failures input.new ≡ I.failures input.old) }
     ensures counted { CountsWrites (O.failures output.old) (O.failures output.new) result }

@@ -2,7 +2,7 @@ use Rattle.std.proofs.Common.{◌≡◌, ◌∙◌, ◌-◌, ◌+◌, Some, ap, 
 use Rattle.std.proofs.lemmas.Result.{err_from_is_err_and}
 use Rattle.morris_queries.specs.Telling.{told_line}
 use Rattle.morris_queries.proofs.FolderLaws.{stays_here, stays_on}
-use Rattle.morris_queries.proofs.TellingLaws.{refusal_from, agreed, first_legal, line_refused, line_ends, line_more, line_all, prepended-nil}
+use Rattle.morris_queries.proofs.TellingLaws.{refusal_from, agreed, first_legal, line_refused, line_ends, line_more, line_all, end_refused, prepended-nil}
 use Rattle.morris_queries.proofs.values.Folder.play_out.Goals as goal
 
 pub loop-init : goal.loop-init
@@ -50,7 +50,22 @@ loop-preserved g c = record {
       (agreed _ _ (c.in_ok-told.ensures.told name files (c.loop.invariant.stays.still name (Some files) of))) (rw c.best.ensures at c.in-Some.ensures.value) c.play-here.ensures c.in_ok-keep.ensures;
 }
 
+pub returns-in_err-tell_best-clause-stays : goal.returns-in_err-tell_best-clause-stays
+returns-in_err-tell_best-clause-stays g c = stays_on g.B.Geometry.shape g.L.Library.files c.args.self.now c.loop.self _ c.loop.invariant.stays c.in_err-tell_best.ensures.stays
+
+pub returns-in_err-tell_best-clause-told : goal.returns-in_err-tell_best-clause-told
+returns-in_err-tell_best-clause-told g c = λ name files of.
+    let failed = err_from_is_err_and c.from_residual-in_err-tell_best.result c.from_residual-in_err-tell_best.ensures.1 in
+    rw (failed.1, failed.2)
+    (end_refused g.B.Geometry.shape name files c.loop.here c.loop.line.items (c.args.plies - c.loop.counter) 0
+    (told_line g.B.Geometry.shape name files c.args.plies c.args.position.now) (c.loop.invariant.told name files of) (omega arith) c.in_err-tell_best.field-0.0
+    (refusal_from _ _ (c.in_err-tell_best.ensures.told name files (c.loop.invariant.stays.still name (Some files) of))))
+
+pub returns-clause-stays : goal.returns-clause-stays
+returns-clause-stays g c = stays_on g.B.Geometry.shape g.L.Library.files c.args.self.now c.loop.self _ c.loop.invariant.stays c.in_ok-tell_best.ensures.stays
+
 pub returns-clause-told : goal.returns-clause-told
 returns-clause-told g c = λ name files of.
     line_all g.B.Geometry.shape name files c.loop.here c.loop.line.items (c.args.plies - c.loop.counter) 0
-    (told_line g.B.Geometry.shape name files c.args.plies c.args.position.now) (c.loop.invariant.told name files of) (omega arith)
+    (told_line g.B.Geometry.shape name files c.args.plies c.args.position.now) (c.loop.invariant.told name files of) (omega arith) c.in_ok-tell_best.field-0
+    (agreed _ _ (c.in_ok-tell_best.ensures.told name files (c.loop.invariant.stays.still name (Some files) of)))

@@ -1,8 +1,8 @@
-use Rattle.std.proofs.Common.{◌≡◌, ◌≤◌, Some, ap, arith, length, inl}
+use Rattle.std.proofs.Common.{◌≡◌, ◌≤◌, ◌∙◌, Some, ap, arith, length, inl, sym}
 use Rattle.std.proofs.lemmas.Result.{err_from_is_err_and}
-use Rattle.morris_queries.specs.Telling.{best_among}
+use Rattle.morris_queries.specs.Telling.{best_among, same_value, value_from}
 use Rattle.morris_queries.proofs.FolderLaws.{stays_on}
-use Rattle.morris_queries.proofs.TellingLaws.{refusal_from, agrees_from, agreed, told_refused_value, told_refused_outcomes, told_found, best_few}
+use Rattle.morris_queries.proofs.TellingLaws.{refusal_from, agrees_from, agreed, told_refused_value, told_refused_outcomes, told_found, told_disagrees, best_few}
 use Rattle.morris_queries.proofs.values.Folder.tell_best.Goals as goal
 
 pub returns-in_err-value-clause-told : goal.returns-in_err-value-clause-told
@@ -31,9 +31,16 @@ pub returns-clause-stays : goal.returns-clause-stays
 returns-clause-stays g c =
     stays_on g.B.Geometry.shape g.L.Library.files c.args.self.now _ _ c.in_ok-value.ensures.stays c.in_ok-outcomes.ensures.stays
 
+pub returns-then-not-is_same-clause-told : goal.returns-then-not-is_same-clause-told
+returns-then-not-is_same-clause-told g c = λ name files of.
+    let found = c.value_from.ensures ∙ ap value_from c.as_slice.ensures.value in
+    inl (told_disagrees g.B.Geometry.shape name files c.args.position.now c.in_ok-value.value c.in_ok-outcomes.outcomes.items
+    (agreed _ _ (c.in_ok-value.ensures.told name files of)) (c.in_ok-outcomes.ensures.told name files (c.in_ok-value.ensures.stays.still name (Some files) of))
+    (sym (ap (same_value c.in_ok-value.value) found) ∙ (sym c.is_same.ensures ∙ c.if-not-is_same.true)))
+
 pub returns-clause-few : goal.returns-clause-few
 returns-clause-few g c =
-    let kept : c.in_ok-best.best.items ≡ best_among c.in_ok-value.value c.in_ok-outcomes.outcomes.items = rw c.as_slice.ensures.value at c.in_ok-best.ensures in
+    let kept : c.in_ok-best.best.items ≡ best_among c.in_ok-value.value c.in_ok-outcomes.outcomes.items = rw c.as_slice-2.ensures.value at c.in_ok-best.ensures in
     let best : length c.in_ok-best.best.items ≤ length c.in_ok-outcomes.outcomes.items = omega (arith, ap length kept, best_few c.in_ok-value.value c.in_ok-outcomes.outcomes.items) in
     record {
       best = omega (arith, best, c.in_ok-outcomes.ensures.few);
@@ -43,5 +50,8 @@ returns-clause-few g c =
 
 pub returns-clause-told : goal.returns-clause-told
 returns-clause-told g c = λ name files of.
-    inl (told_found g.B.Geometry.shape name files c.args.position.now c.in_ok-value.value c.in_ok-best.best.items c.in_ok-outcomes.outcomes.items c.new.result.items
-    (agreed _ _ (c.in_ok-value.ensures.told name files of)) (c.in_ok-outcomes.ensures.told name files (c.in_ok-value.ensures.stays.still name (Some files) of)) (rw c.as_slice.ensures.value at c.in_ok-best.ensures) c.new.ensures.items)
+    let found = c.value_from.ensures ∙ ap value_from c.as_slice.ensures.value in
+    inl (told_found g.B.Geometry.shape name files c.args.position.now c.in_ok-value.value c.in_ok-outcomes.outcomes.items
+    (agreed _ _ (c.in_ok-value.ensures.told name files of)) (c.in_ok-outcomes.ensures.told name files (c.in_ok-value.ensures.stays.still name (Some files) of))
+    c.in_ok-best.best.items c.new.result.items (rw c.as_slice-2.ensures.value at c.in_ok-best.ensures) c.new.ensures.items
+    (sym (ap (same_value c.in_ok-value.value) found) ∙ (sym c.is_same.ensures ∙ c.if-not-is_same.false)))
