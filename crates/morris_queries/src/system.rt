@@ -2,6 +2,7 @@
 ghost use Rattle.std.specs.Prelude.{None};
 
 use crate::library::{Library, Unfound, Unopened};
+use morris_folders::reason::Reason;
 use std::alloc::AllocError;
 use std::fs::{File, Metadata};
 use std::io::ErrorKind;
@@ -16,7 +17,7 @@ use std::{fs, io};
 pub struct SystemLibrary<'a, R> {
     rt: &'a R,
     path: &'a str,
-    why: Option<ErrorKind>,
+    why: Option<Reason>,
 }
 
 impl<'a, R: Files<File = File> + AllocGlobal> SystemLibrary<'a, R> {
@@ -29,22 +30,21 @@ impl<'a, R: Files<File = File> + AllocGlobal> SystemLibrary<'a, R> {
         }
     }
 
-    /// Why [`find`](Library::find) found no folder the last time: what the system said of the path;
-    /// `NotADirectory` where it stands for something else, and `InvalidInput` where it is empty.
-    /// `None` where it was found.
-    pub fn why(&self) -> Option<ErrorKind> {
+    /// Why [`find`](Library::find) found no folder the last time: what the system said of the path,
+    /// or what is wrong with it. `None` where it was found.
+    pub fn why(&self) -> Option<Reason> {
         self.why
     }
 
     /// Whether the path stands for a folder, links followed, or why not.
-    fn look(&self) -> Result<(), ErrorKind> {
+    fn look(&self) -> Result<(), Reason> {
         if self.path.is_empty() {
-            return Err(ErrorKind::InvalidInput);
+            return Err(Reason::Nameless);
         }
         match fs::metadata(self.rt, self.path) {
             Ok(found) if found.is_dir() => Ok(()),
-            Ok(_) => Err(ErrorKind::NotADirectory),
-            Err(fault) => Err(fault.kind()),
+            Ok(_) => Err(Reason::NotAFolder),
+            Err(fault) => Err(Reason::of(&fault)),
         }
     }
 
@@ -78,7 +78,7 @@ impl<'a, R: Files<File = File> + AllocGlobal> Library for SystemLibrary<'a, R> {
         self.why = looked.err();
         match looked {
             Ok(()) => Ok(()),
-            Err(ErrorKind::OutOfMemory) => Err(Unfound::Memory),
+            Err(Reason::Memory) => Err(Unfound::Memory),
             Err(_) => Err(Unfound::Folder),
         }
     }
