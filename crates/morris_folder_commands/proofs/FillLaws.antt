@@ -1,20 +1,15 @@
 -- A folder that is filled pair by pair.
-use Rattle.std.proofs.Common.{◌≡◌, ℕ, ◌+◌, ◌≤◌, ◌<◌, ◌^◌, ◌*◌, false, List, [], ◌∷◌, ◌++◌, length, Option, Some, None, Result, Ok, Err, refl, sym, ap, subst, ◌∙◌, inl, inr, arith, length-append}
+use Rattle.std.proofs.Common.{◌≡◌, ℕ, ◌+◌, false, List, [], ◌∷◌, ◌++◌, length, Option, Some, None, Result, Err, refl, ap, subst, ◌∙◌, inl, inr}
 use Rattle.std.specs.List.{flat_map}
-use Rattle.std.specs.Fmt.{decimal}
 use Rattle.std.proofs.KnownBytes.{Keeps-refl}
 use Rattle.morris_board.specs.Boards.{Shape}
 use Rattle.morris_board.specs.Streams.{AllSent}
-use Rattle.morris_index.specs.Pairs.{Counts, below_of}
+use Rattle.morris_index.specs.Pairs.{Counts}
 use Rattle.morris_table.specs.declared.layout.Layout.{Layout}
 use Rattle.morris_table.specs.Known.{IsBeyondCodes}
 use Rattle.morris_table.specs.Tables.{Table}
-use Rattle.morris_table.specs.TableFiles.{file_of}
 use Rattle.morris_folders.specs.Files.{Files}
 use Rattle.morris_folders.specs.Files as folder
-use Rattle.morris_folders.specs.declared.whole.Step.{Step}
-use Rattle.morris_folders.specs.declared.whole.Step.TheVariants as step
-use Rattle.sha2.specs.Sha256.{sha256}
 use Rattle.std.specs.Io.KnownBytes.{Appends}
 use Rattle.std.proofs.lemmas.Grind.{flat_map-append}
 use Rattle.std.proofs.lemmas.List.{append-nil}
@@ -27,7 +22,7 @@ use Rattle.morris_faults.specs.declared.fault.Fault.TheVariants as fault
 use Rattle.morris_commands.specs.Build.{IsUnbuiltAt}
 use Rattle.morris_faults.specs.Faults.{CountsWrites, is_write}
 use Rattle.morris_folder_commands.specs.Filling.{IsOf, PrintsLine}
-use Rattle.morris_folder_commands.specs.Into.{Ends, Fills, FillsFolder, IsBuilt, IsDone, IsFiled, IsUndone, Place, StaysPut, digest_of, filed_line, filed_text, place_of}
+use Rattle.morris_folder_commands.specs.Into.{Ends, Fills, IsBuilt, IsDone, IsFiled, IsUndone, Place, StaysPut, digest_of, filed_line, filed_text}
 
 -- nothing is changed where nothing was done
 pub files_kept : (files : Option Files) → folder.Keeps files files

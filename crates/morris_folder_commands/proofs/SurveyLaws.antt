@@ -4,7 +4,7 @@ use Rattle.std.specs.List.{slice_get}
 use Rattle.std.proofs.lemmas.Bool.{cases_lt}
 use Rattle.std.proofs.lemmas.Option.{slice_get_within}
 use Rattle.morris_board.specs.Boards.{Shape}
-use Rattle.morris_index.specs.Pairs.{Counts, all_pairs}
+use Rattle.morris_index.specs.Pairs.{all_pairs}
 use Rattle.morris_folder_commands.specs.From.{fits}
 use Rattle.morris_folder_commands.specs.FromSteps.{EndsAt, place_is}
 use Rattle.morris_folder_commands.proofs.FromLaws.{length-all_pairs}

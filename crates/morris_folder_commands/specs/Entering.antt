@@ -1,7 +1,6 @@
 -- What `build --into` does to a folder before its first pair: it locks the folder, and leaves in the
 -- list of digests the lines of those files alone that it doesn't replace.
-use Rattle.std.specs.Prelude.{◌≡◌, ◌≢◌, ⊤, ℕ, ◌+◌, Bool, false, List, [], ◌∷◌, codes, Option, Some, None, Result, Ok, Err}
-use Rattle.std.specs.Io.KnownBytes.{Keeps}
+use Rattle.std.specs.Prelude.{◌≡◌, ◌≢◌, ℕ, ◌+◌, Bool, false, List, [], ◌∷◌, codes, Option, Some, None, Result, Ok, Err}
 use Rattle.morris_index.specs.Pairs.{Counts}
 use Rattle.morris_folders.specs.Files.{AreSameBut, AreSameButTwo, Files, Goes}
 use Rattle.morris_folders.specs.Files as folder

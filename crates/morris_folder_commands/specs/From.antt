@@ -7,6 +7,7 @@ use Rattle.morris_index.specs.Pairs.{Counts, all_pairs}
 use Rattle.morris_table.specs.Shelves.{Stored, table_on}
 use Rattle.morris_table.specs.Tables.{Table}
 use Rattle.morris_folders.specs.Files.{Files}
+use Rattle.morris_folders.specs.Files as folder
 use Rattle.morris_keeping.specs.Kept.{AnswersKept}
 use Rattle.morris_keeping.specs.Names.{name_of}
 use Rattle.morris_keeping.specs.declared.kept.KeptFault.{KeptFault}
@@ -85,10 +86,11 @@ AnswersFound board files name old new result =
     ⊎ ((empty : Stored) × ((c : Counts) → table_on empty c ≡ None) × Verifies board files name (pairs_of board) empty false 0 old new result)
 
 -- What it answers on a board: there is no such folder, with nothing printed; otherwise what it answers
--- in the folder.
+-- in the folder, whose files are looked for and not changed.
 abbrev pub AnswersFromOn : Shape → Option Files → List ℕ → Option (List ℕ) → Option (List ℕ) → Result (Unit {0}) Fault → Type 0
 AnswersFromOn board files name old new result =
-    ((result ≡ Err fault.NoFolder) × Keeps old new) ⊎ AnswersFound board files name old new result
+    ((result ≡ Err fault.NoFolder) × Keeps old new)
+    ⊎ ((found : Option Files) × folder.Keeps files found × AnswersFound board found name old new result)
 
 -- What `verify --from` answers: the fault of a board that isn't there, with nothing printed;
 -- otherwise what it answers on the board, whose name is that of its files.

@@ -99,8 +99,8 @@ fn leave_list<B: Geometry, F: Folder>(
     if kept.is_empty() {
         return remove_list(alloc, board, folder);
     }
-    let none: &[Written<B>] = &[];
-    match write_list(alloc, folder, board, kept, none) {
+    let none: Vec<Written<B>> = Vec::new(alloc);
+    match write_list(alloc, folder, board, kept, none.as_slice()) {
         Ok(()) => Ok(()),
         Err(
             NotWhole {

@@ -35,11 +35,11 @@ pub enum ListFault {
     Long,
 }
 
-/// The lines that are kept of the list of digests that a folder has of the board of this name, where
-/// the files of all pairs below a pair, its own among them, are replaced: those of the files of other
-/// pairs, in order, each with a line feed at its end. Each stands in the list byte for byte as
-/// [`write_list`](crate::digests::write_list) writes it, but the digest, which may be any; all other
-/// lines are dropped. Nothing is kept where there is no list.
+/// The lines that are kept of the list of digests that a folder has of the board of this name,
+/// where the files of all pairs below a pair, its own among them, are replaced: those of the files
+/// of other pairs, in order, each with a line feed at its end. Each stands in the list byte for
+/// byte as [`write_list`](crate::digests::write_list) writes it, but the digest, which may be any;
+/// all other lines are dropped. Nothing is kept where there is no list.
 ///
 /// Fewer than `u64::MAX` calls of the folder may have failed before.
 ///

@@ -1,5 +1,5 @@
 -- A bundle is verified file by file.
-use Rattle.std.proofs.Common.{◌≡◌, ◌+◌, ◌-◌, ◌*◌, ◌≤◌, ◌∙◌, Ok, Err, arith, inr, refl, subst}
+use Rattle.std.proofs.Common.{◌≡◌, ◌-◌, ◌∙◌, Err, arith, inr, refl, subst}
 use Rattle.std.proofs.lemmas.Result.{err_from_is_err_and}
 use Rattle.morris_faults.specs.declared.fault.Fault.TheVariants as fault
 use Rattle.morris_folder_commands.specs.Bundle.{VerifiesBundle}

@@ -1,9 +1,7 @@
 -- The pairs are gone through one after the other.
-use Rattle.std.proofs.Common.{◌≡◌, ◌+◌, ◌*◌, ◌≤◌, true, false, List, drop, Some, None, Ok, Err, refl, sym, ap, subst, ◌∙◌, inl, inr, arith}
-use Rattle.std.specs.List.{filter}
+use Rattle.std.proofs.Common.{Ok, Err, refl, sym, subst, ◌∙◌, inr, arith}
 use Rattle.std.proofs.Math.Path.{ap₂}
 use Rattle.std.proofs.lemmas.Result.{err_from_is_err_and}
-use Rattle.morris_index.specs.Pairs.{all_pairs}
 use Rattle.morris_folder_commands.specs.From.{AtEnd, pairs_of}
 use Rattle.morris_faults.specs.declared.fault.Fault.TheVariants as fault
 use Rattle.morris_keeping.specs.declared.kept.KeptFault.TheVariants as kept

@@ -23,8 +23,8 @@ loop-below-init g c =
     record {
       split = whole;
       near = λ other m near. absurd (omega (arith, m.1));
-      leads = λ kept.
-          start_leads g.B.Geometry.shape c.args.filling.now.layout c.args.filling.now.board.now c.args.filling.now.crew.team.blocks kept c.in_ok-written.written.items
+      leads = λ stays.
+          start_leads g.B.Geometry.shape c.args.filling.now.layout c.args.filling.now.board.now c.args.filling.now.crew.team.blocks stays c.in_ok-written.written.items
           (place_of (g.F.Folder.files c.args.folder.now) (g.O.Sink.contents c.args.output.now)) (below_of c.args.filling.now.pair)
           c.into_iter-below-iterator.result c.in_ok-written.ensures.items whole;
       room = c.in_ok-written.ensures.exact;
@@ -38,7 +38,7 @@ loop-below-init g c =
 
 -- a pair that isn't built
 pub returns-in_err-build_onto-clause-filled : goal.returns-in_err-build_onto-clause-filled
-returns-in_err-build_onto-clause-filled g c = λ kept.
+returns-in_err-build_onto-clause-filled g c = λ stays.
     let failed = err_from_is_err_and c.from_residual-in_err-build_onto.result c.from_residual-in_err-build_onto.ensures.1 in
     let board = g.B.Geometry.shape in
     let name = c.args.filling.now.board.now in
@@ -49,13 +49,13 @@ returns-in_err-build_onto-clause-filled g c = λ kept.
     let l = c.loop-below in
     let here = place_of (g.F.Folder.files l.folder) (g.O.Sink.contents l.output) in
     let digests = lines_of name l.written.items in
-    let leads = next_leads board c.args.filling.now.layout name blocks kept start all _ c.next.new.self pair l.sent digests here c.in-Some.ensures.steps (l.invariant.leads kept) in
+    let leads = next_leads board c.args.filling.now.layout name blocks stays start all _ c.next.new.self pair l.sent digests here c.in-Some.ensures.steps (l.invariant.leads stays) in
     rw (failed.1, failed.2)
-    (inr (unbuilt board c.args.filling.now.layout name blocks kept start all c.next.new.self pair l.sent digests here _ leads c.in_err-build_onto.ensures.refused))
+    (inr (unbuilt board c.args.filling.now.layout name blocks stays start all c.next.new.self pair l.sent digests here _ leads c.in_err-build_onto.ensures.refused))
 
 -- one whose file isn't written
 pub returns-in_err-file-clause-filled : goal.returns-in_err-file-clause-filled
-returns-in_err-file-clause-filled g c = λ kept.
+returns-in_err-file-clause-filled g c = λ stays.
     let failed = err_from_is_err_and c.from_residual-in_err-file.result c.from_residual-in_err-file.ensures.1 in
     let board = g.B.Geometry.shape in
     let name = c.args.filling.now.board.now in
@@ -66,7 +66,7 @@ returns-in_err-file-clause-filled g c = λ kept.
     let l = c.loop-below in
     let here = place_of (g.F.Folder.files l.folder) (g.O.Sink.contents l.output) in
     let digests = lines_of name l.written.items in
-    let leads = next_leads board c.args.filling.now.layout name blocks kept start all _ c.next.new.self pair l.sent digests here c.in-Some.ensures.steps (l.invariant.leads kept) in
+    let leads = next_leads board c.args.filling.now.layout name blocks stays start all _ c.next.new.self pair l.sent digests here c.in-Some.ensures.steps (l.invariant.leads stays) in
     let exact = c.in_ok-build_onto.ensures.exact in
     let t = exact.0 in
     let built : IsBuilt board c.args.filling.now.layout pair t = record { of_pair = exact.2; of_layout = exact.3; exact = exact.4 } in
@@ -77,12 +77,12 @@ returns-in_err-file-clause-filled g c = λ kept.
     let unfiled : IsUnfiled board name t here.files files refused =
     subst (λ (o : Option Table). KeepsTable {B = g.row.B.Denot} board name o here.files files (Err refused)) exact.1 c.in_err-file.ensures.kept in
     rw (failed.1, failed.2)
-    (inr (undone board c.args.filling.now.layout name blocks kept start all c.next.new.self pair l.sent digests here after t refused leads built within
+    (inr (undone board c.args.filling.now.layout name blocks stays start all c.next.new.self pair l.sent digests here after t refused leads built within
     (inl (unfiled, Keeps-refl here.out))))
 
 -- one whose line isn't printed
 pub returns-in_err-sent-clause-filled : goal.returns-in_err-sent-clause-filled
-returns-in_err-sent-clause-filled g c = λ kept.
+returns-in_err-sent-clause-filled g c = λ stays.
     let failed = err_from_is_err_and c.from_residual-in_err-sent.result c.from_residual-in_err-sent.ensures.1 in
     let board = g.B.Geometry.shape in
     let name = c.args.filling.now.board.now in
@@ -93,7 +93,7 @@ returns-in_err-sent-clause-filled g c = λ kept.
     let l = c.loop-below in
     let here = place_of (g.F.Folder.files l.folder) (g.O.Sink.contents l.output) in
     let digests = lines_of name l.written.items in
-    let leads = next_leads board c.args.filling.now.layout name blocks kept start all _ c.next.new.self pair l.sent digests here c.in-Some.ensures.steps (l.invariant.leads kept) in
+    let leads = next_leads board c.args.filling.now.layout name blocks stays start all _ c.next.new.self pair l.sent digests here c.in-Some.ensures.steps (l.invariant.leads stays) in
     let exact = c.in_ok-build_onto.ensures.exact in
     let t = exact.0 in
     let built : IsBuilt board c.args.filling.now.layout pair t = record { of_pair = exact.2; of_layout = exact.3; exact = exact.4 } in
@@ -107,7 +107,7 @@ returns-in_err-sent-clause-filled g c = λ kept.
     subst (λ (o : Option Table). KeepsTable board name o here.files files (Ok w)) exact.1 c.in_ok-file.ensures.kept in
     let cut = line_cut (filed_text w.pair w.entries w.bytes w.digest) l.sent here.out out refused c.in_err-sent.ensures.printed in
     rw (failed.1, failed.2)
-    (inr (undone board c.args.filling.now.layout name blocks kept start all c.next.new.self pair l.sent digests here after t refused leads built within
+    (inr (undone board c.args.filling.now.layout name blocks stays start all c.next.new.self pair l.sent digests here after t refused leads built within
     (inr (cut.0, cut.1, kept.0, subst (PartSent here.out out l.sent cut.0) (line_is board t w kept.1) cut.2))))
 
 -- one that is done
@@ -140,10 +140,10 @@ loop-below-preserved g c =
           near-more board c.args.filling.now.layout c.args.filling.now.pair l.yielded c.next.new.self pair c.below-below-items.ensures.needs_first
           (ap (λ rest. l.yielded ++ rest) (sym c.in-Some.ensures.steps) ∙ l.invariant.split)
           l.stock c.spare.new.stock c.build_onto.new.stock l.invariant.near c.spare.ensures.near exact c.in_ok-build_onto.ensures.others;
-      leads = λ kept.
-          done_leads board c.args.filling.now.layout name blocks kept l.written.items c.push_reserved.new.self.items w start all c.next.new.self pair l.sent
+      leads = λ stays.
+          done_leads board c.args.filling.now.layout name blocks stays l.written.items c.push_reserved.new.self.items w start all c.next.new.self pair l.sent
           c.in_ok-sent.sent here next t
-          (next_leads board c.args.filling.now.layout name blocks kept start all _ c.next.new.self pair l.sent digests here c.in-Some.ensures.steps (l.invariant.leads kept))
+          (next_leads board c.args.filling.now.layout name blocks stays start all _ c.next.new.self pair l.sent digests here c.in-Some.ensures.steps (l.invariant.leads stays))
           built within kept.0 kept.1 c.in_ok-sent.ensures.printed c.push_reserved.ensures.items;
       room = c.push_reserved.ensures.capacity ∙ l.invariant.room;
       count = omega (arith, c.push_reserved.ensures.len, l.invariant.count, length-append l.yielded (pair ∷ []));
@@ -156,7 +156,7 @@ loop-below-preserved g c =
 
 -- no pair is left
 pub returns-clause-filled : goal.returns-clause-filled
-returns-clause-filled g c = λ kept after result ends.
+returns-clause-filled g c = λ stays after result ends.
     let board = g.B.Geometry.shape in
     let name = c.args.filling.now.board.now in
     let blocks = c.args.filling.now.crew.team.blocks in
@@ -165,8 +165,8 @@ returns-clause-filled g c = λ kept after result ends.
     let l = c.loop-below in
     let here = place_of (g.F.Folder.files l.folder) (g.O.Sink.contents l.output) in
     let digests = lines_of name l.written.items in
-    inr (all_done board c.args.filling.now.layout name blocks kept start all l.sent digests here after result
-    (no_leads board c.args.filling.now.layout name blocks kept start all _ l.sent digests here c.in-None.ensures.steps.0 (l.invariant.leads kept)) ends)
+    inr (all_done board c.args.filling.now.layout name blocks stays start all l.sent digests here after result
+    (no_leads board c.args.filling.now.layout name blocks stays start all _ l.sent digests here c.in-None.ensures.steps.0 (l.invariant.leads stays)) ends)
 
 pub returns-in_err-file-clause-told : goal.returns-in_err-file-clause-told
 returns-in_err-file-clause-told g c =
