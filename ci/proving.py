@@ -1,14 +1,19 @@
 """Builds crates of the repository from their proofs, each once those below it are built, several
 at a time where there are processors and memory for them.
 
-    python3 ci/proving.py NAME LOG    builds a program with all that it stands on, for ./morris
+    python3 ci/proving.py NAME LOG PARENT    builds a program with all that it stands on, for the
+                                             process PARENT, ./morris, which called it
 
 It says on standard error which crate it is at; what rt says goes to the file LOG, and that of a
-crate that isn't proved stands last there.
+crate that isn't proved stands last there. Where PARENT ends before, however it ends, it stops rt,
+and ends too.
 """
 
+import ctypes
+import functools
 import os
 import re
+import signal
 import subprocess
 import sys
 import tempfile
@@ -21,8 +26,11 @@ ONE_JOB = 3_000_000_000
 MORE_JOBS = 1_500_000_000
 # More jobs are no gain.
 MOST_JOBS = 4
+# The call, and its number, by which the system sends a process a signal when its parent ends.
+LIBC, PR_SET_PDEATHSIG = ctypes.CDLL(None), 1
 
 
+@functools.cache
 def listed():
     """The repository's crates in the order of crates.txt, each with those that it stands on."""
     rows = {}
@@ -34,6 +42,7 @@ def listed():
     return {name: [it for it in uses if it in rows] for name, uses in rows.items()}
 
 
+@functools.cache
 def crates_below(name):
     """All crates that a crate stands on, each after those that it stands on itself."""
     rows, found = listed(), []
@@ -65,9 +74,10 @@ def free_memory():
 
 
 class Proofs:
-    """The crates that are being built, and those that are."""
+    """The crates that are being built, and those that are, as long as it is wanted."""
 
-    def __init__(self, crates):
+    def __init__(self, crates, is_wanted):
+        self.is_wanted = is_wanted
         self.left = list(crates)
         self.built = set()
         # The process and the file of its output, and the number of jobs, by crate.
@@ -108,7 +118,7 @@ class Proofs:
 
     def ended(self):
         """Waits until one has ended, and gives its name, its status and what rt said."""
-        while True:
+        while self.is_wanted():
             for crate, (process, said, _) in self.running.items():
                 if process.poll() is not None:
                     del self.running[crate]
@@ -116,16 +126,25 @@ class Proofs:
                         said.seek(0)
                         return crate, process.returncode, said.read()
             time.sleep(0.1)
+        sys.exit(1)
 
     def stop(self):
-        for process, said, _ in self.running.values():
+        """Stops all runs of rt."""
+        for process, _, _ in self.running.values():
             process.terminate()
+        for process, said, _ in self.running.values():
             process.wait()
             said.close()
 
 
+def end_with_parent():
+    """Has SIGTERM come to this process when its parent ends, however that ends."""
+    LIBC.prctl(PR_SET_PDEATHSIG, signal.SIGTERM)
+
+
 def started(crate, jobs):
-    """A run of rt that builds a crate, and the file of its output."""
+    """A run of rt that builds a crate, and the file of its output. It ends with this process, and
+    takes what it started with it."""
     folder = f"{ROOT}/crates/{crate}"
     is_program = os.path.isfile(f"{folder}/src/main.rt")
     words = ["rt", "run"] if is_program else ["rt", "lib"]
@@ -133,16 +152,17 @@ def started(crate, jobs):
     words += ["--", "--help"] if is_program else []
     said = tempfile.TemporaryFile()
     how = {"cwd": folder, "stdin": subprocess.DEVNULL, "stdout": said, "stderr": said}
-    return subprocess.Popen(words, **how), said
+    return subprocess.Popen(words, preexec_fn=end_with_parent, **how), said
 
 
-def prove(crates, tell, log=None):
+def prove(crates, tell, log=None, is_wanted=lambda: True):
     """Builds these crates, among which are all that they stand on, the lowest first. Tells which it
-    is at, writes what rt says to a file, and gives whether all are built."""
+    is at, writes what rt says to a file, and gives whether all are built. Exits where that isn't
+    wanted any more."""
     # First the one for which the longest row of others waits.
     behind = lines_behind(crates)
     order = sorted(crates, key=lambda it: -behind[it])
-    proofs, number = Proofs(order), 0
+    proofs, number = Proofs(order, is_wanted), 0
     try:
         while proofs.left or proofs.running:
             for crate in proofs.begin():
@@ -161,11 +181,19 @@ def prove(crates, tell, log=None):
 
 
 def main():
-    name, log = sys.argv[1:]
+    name, log, parent = sys.argv[1:]
+    signals = []
+    for it in (signal.SIGTERM, signal.SIGHUP):
+        # (nohup has a process ignore the second)
+        if it == signal.SIGTERM or signal.getsignal(it) != signal.SIG_IGN:
+            signal.signal(it, lambda number, _: signals.append(number))
+    end_with_parent()
+    # The parent may have ended before that.
+    is_wanted = lambda: not signals and os.getppid() == int(parent)
     say = lambda text: print(f"morris: {text}", file=sys.stderr, flush=True)
     with open(log, "wb") as it:
         try:
-            return 0 if prove([*crates_below(name), name], say, it) else 1
+            return 0 if prove([*crates_below(name), name], say, it, is_wanted) else 1
         except KeyboardInterrupt:
             return 130
 
