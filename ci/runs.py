@@ -12,7 +12,8 @@ from concurrent.futures import ProcessPoolExecutor
 from typing import NamedTuple, Optional
 
 ROOT = os.path.dirname(os.path.dirname(os.path.abspath(__file__)))
-MORRIS = f"{ROOT}/crates/morris/out/morris"
+# Another program is named by ci/released alone.
+MORRIS = os.environ.get("MORRIS_PROGRAM", f"{ROOT}/crates/morris/out/morris")
 # What the program prints of positions and of a pair of the board grid.
 LOOKED = (
     b"XXX.OO.O.\nown 3 other 3\n0-3\n0-6\n0-8\n1-3\n1-6\n1-8\n2-3\n2-6\n2-8\nmoves 9\nwon in 3\n"
