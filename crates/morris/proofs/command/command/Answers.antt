@@ -1,6 +1,7 @@
 -- Want of memory is answered, with nothing printed.
-use Rattle.std.proofs.Common.{◌≡◌, ◌∙◌, ℕ, Bool, false, List, Option, refl, inl, inr, map, subst, sym, true, Err}
-use Rattle.morris.specs.Command.{AsksToRead, TellsProgress, takes_input}
+use Rattle.std.proofs.Common.{◌≡◌, ◌∙◌, ℕ, Bool, false, List, None, Option, refl, inl, inr, map, subst, sym, true, Err}
+use Rattle.morris.specs.Command.{AsksToRead, TellsProgress, folder_of, takes_input}
+use Rattle.morris.specs.Reporting.{ReportsAt}
 use Rattle.morris_progress.specs.Progress.{Becomes, TellsInOrder, has_begun_of, sink_of, tells_of}
 use Rattle.morris_progress.specs.ProgressLaws.{Becomes-in_order}
 use Rattle.morris_progress.specs.declared.progress.Progress.{Progress}
@@ -16,6 +17,9 @@ returns-in-Err-Memory-clause-answer g c = λ other. (
   inr (inr (refl, refl, Keeps-refl (g.O.Sink.contents c.args.output.now))),
   inl refl,
   c.finish-in-Err-Memory.ensures.status,
+  None,
+  None,
+  inl refl,
   c.finish-in-Err-Memory.ensures.reported,
 )
 
@@ -29,6 +33,9 @@ returns-in-Err-Help-clause-answer g c = λ other.
       inr (inl (inl asked, refl, (c.as_str.result.now, c.print.ensures.shown))),
       inl refl,
       c.finish-in-Err-Help.ensures.status,
+      None,
+      None,
+      inl refl,
       c.finish-in-Err-Help.ensures.reported,
     )
 
@@ -41,6 +48,9 @@ returns-in-Err-Version-clause-answer g c = λ other.
       inr (inl (inr asked, refl, (c.as_str-in-Err-Version.result.now, c.print-in-Err-Version.ensures.shown))),
       inl refl,
       c.finish-in-Err-Version.ensures.status,
+      None,
+      None,
+      inl refl,
       c.finish-in-Err-Version.ensures.reported,
     )
 
@@ -70,7 +80,11 @@ returns-in-Ok-clause-answer g c = λ other. (
   inl (c.in-Ok.request, c.in-Ok.ensures.request, c.in-Ok.ensures.taken, c.run-done.ensures.answer),
   told (c.in-Ok.request.progress) refl,
   c.finish.ensures.status,
-  c.finish.ensures.reported,
+  folder_of c.in-Ok.request.task,
+  c.run-done.new.why,
+  inr (c.in-Ok.request, c.in-Ok.ensures.request, refl),
+  subst (λ (path : Option (List ℕ)). ReportsAt g.E.Sink.contents g.E.Sink.failures path c.run-done.new.why c.errors-1.given.0 c.finish.new.errors c.run-done.result)
+      c.folder_of-path.ensures c.finish.ensures.reported,
 )
   where
     here : c.errors-1.given.0 ≡ sink_of c.run-done.new.teller

@@ -1,9 +1,9 @@
 -- The words are those that the system gave, and the exit status is that of the command.
-use Rattle.std.proofs.Common.{ℕ, Option, ◌≡◌, ◌∙◌, ap, inl, inr, List, map, refl, subst, sym, Result, Ok, Err, string_bytes}
+use Rattle.std.proofs.Common.{ℕ, None, Option, ◌≡◌, ◌∙◌, ap, inl, inr, List, map, refl, subst, sym, Result, Ok, Err, string_bytes}
 use Rattle.std.specs.Prelude.{IfOk}
 use Rattle.std.proofs.KnownBytes.{Keeps-refl}
 use Rattle.clap.specs.Words.{Text}
-use Rattle.morris.specs.Command.{AsksToRead, Ends, HasMistake, TellsProgress, texts_of}
+use Rattle.morris.specs.Command.{AsksToRead, Ends, HasMistake, NamesFolder, TellsProgress, texts_of}
 use Rattle.morris_commands.specs.Verify.{Input, input_of}
 use Rattle.morris_words.specs.Words.{faults_of, named_by}
 use Rattle.morris_faults.specs.declared.fault.Fault.{Fault}
@@ -45,6 +45,9 @@ returns-in-Ok-list_of-clause-answer g c =
       subst (λ (t : List Text). TellsProgress g.E.Sink.contents g.E.Sink.failures t c.args.errors.now ended.1) same ended.3,
       c.from.ensures ∙ ended.4,
       ended.5,
+      ended.6,
+      subst (λ (t : List Text). NamesFolder t ended.5) same ended.7,
+      ended.8,
     ))
 
 -- Memory for the list was refused: nothing was read and nothing printed.
@@ -57,5 +60,8 @@ returns-in-Err-list_of-clause-answer g c =
       inr (inr (refl, refl, Keeps-refl (g.O.Sink.contents c.args.output.now))),
       inl refl,
       c.from-in-Err-list_of.ensures ∙ c.refuse_words.ensures.status,
+      None,
+      None,
+      inl refl,
       c.refuse_words.ensures.reported refl,
     ))
