@@ -13,7 +13,7 @@ import time
 from concurrent.futures import ThreadPoolExecutor
 
 from folder_runs import GRID_BUILD, LOCK, check, check_list, check_sums, counted, fault, files_in
-from folder_runs import files_of, folder_of, lines_of, named, read, run, sums_of, verified, write
+from folder_runs import files_of, lines_of, named, read, run, sums_of, verified, write
 from rules import below
 from runs import MORRIS
 
@@ -126,7 +126,7 @@ def held(folder, pair):
 
 
 def check_lists(folder, tables):
-    """Lists that are damaged, that have lines of others, or that are too long to be lists."""
+    """Lists that are damaged, or that have lines of others."""
     line = sums_of("grid", {"6-3": tables.of[False]["6-3"]})
     digest, name = line[:64], line[66:-1]
     chance = random.Random(29)
@@ -153,6 +153,19 @@ def check_lists(folder, tables):
         write(f"{folder}/grid-6-3.nmmt", tables.of[False]["6-3"])
         write(f"{folder}/{LIST}", lines)
         check_listed(folder, tables, "4-3", False)
+        shutil.rmtree(folder)
+
+
+def check_odd_lists(folder, tables):
+    """Lists that lie outside, and lists that are too long to be any."""
+    line = sums_of("grid", {"6-3": tables.of[False]["6-3"]})
+    for name_it in (os.symlink, os.link):
+        os.mkdir(folder)
+        write(f"{folder}-outside", line)
+        name_it(f"{folder}-outside", f"{folder}/{LIST}")
+        check_listed(folder, tables, "4-3", False)
+        check("a list outside", read(f"{folder}-outside"), line)
+        os.remove(f"{folder}-outside")
         shutil.rmtree(folder)
     os.mkdir(folder)
     for lines in (bytes(MOST_OF_LIST + 1), line * 820, bytes(1 << 20)):
@@ -401,7 +414,8 @@ def check_locked(folder, tables):
     check("lookup in a folder that is locked", found, (0, b"XXX.OO.O. won in 3: 2-3\n", b""))
     os.close(file)
     build = Build(folder, True)
-    while lock_is_free(folder) and build.child.poll() is None:
+    # It removes the list once it has the lock.
+    while os.path.exists(f"{folder}/{LIST}") and build.child.poll() is None:
         time.sleep(0.0005)
     if build.stop():
         before = look_of(folder)
@@ -409,14 +423,6 @@ def check_locked(folder, tables):
         check("a build that is held up: what is in the folder", look_of(folder), before)
     build.go_on()
     check("that build", check_ended(ended_of([build], None, 0), tables), ["done"])
-
-
-def lock_is_free(folder):
-    file = lock(folder)
-    if file is None:
-        return False
-    os.close(file)
-    return True
 
 
 def calls_of(folder, words, top):
@@ -496,6 +502,7 @@ def check_all(room):
     tables = Tables()
     check_orders(f"{room}/orders", tables)
     check_lists(f"{room}/lists", tables)
+    check_odd_lists(f"{room}/odd-lists", tables)
     check_killed(f"{room}/killed")
     check_killed_of_any(f"{room}/any", tables)
     check_locked(f"{room}/locked", tables)

@@ -5,6 +5,7 @@ import ctypes
 import os
 import shutil
 import subprocess
+from contextlib import contextmanager
 
 from folder_runs import GRID_BUILD, LOCK, check, counted, fault, files_in, folder_of, lines_of
 from folder_runs import named, read, run, sums_of, thing_at, verified, write
@@ -358,12 +359,23 @@ def mounted(*words):
     return subprocess.run(["mount", *words], capture_output=True).returncode == 0
 
 
+@contextmanager
+def device(place, options):
+    """Mounts a device in memory, and answers whether that is done."""
+    done = mounted("-t", "tmpfs", "-o", options, "tmpfs", place)
+    try:
+        yield done
+    finally:
+        if done:
+            subprocess.run(["umount", "-l", place], check=True)
+
+
 def check_mounts(room, files):
     """A full device, and one that can only be read. Answers what was left out."""
-    place = f"{room}/mount"
+    place, left_out = f"{room}/mount", "full devices and devices that can only be read, since "
     os.mkdir(place)
     if shutil.which("mount") is None or not own_mounts():
-        return ["full devices and devices that can only be read, since nothing may be mounted"]
+        return [f"{left_out}nothing may be mounted"]
     # So many files a device has room for, its own folder and the lock among them.
     low = {"3-3": files["3-3"]}
     for room_for, done, text in (
@@ -374,11 +386,12 @@ def check_mounts(room, files):
         ("size=4k", low, "29: file of 4-3 can't be written"),
         ("size=12k", files, "34: file of digests can't be written"),
     ):
-        if not mounted("-t", "tmpfs", "-o", room_for, "tmpfs", place):
-            return ["full devices, since no tmpfs can be mounted"]
-        check_full(place, room_for, done, text)
-        subprocess.run(["umount", place], check=True)
-    return check_read_only(place, files)
+        with device(place, room_for) as there:
+            if not there:
+                return [f"{left_out}no device is made in memory"]
+            check_full(place, room_for, done, text)
+    with device(place, "size=1m") as there:
+        return check_read_only(place, files) if there else [f"{left_out}none is made in memory"]
 
 
 def check_full(place, room_for, done, text):
@@ -396,11 +409,8 @@ def check_full(place, room_for, done, text):
 def check_read_only(place, files):
     """A device that can only be read, and tables on it."""
     folder = f"{place}/tables"
-    if not mounted("-t", "tmpfs", "tmpfs", place):
-        return ["devices that can only be read, since no tmpfs can be mounted"]
     run([*GRID_BUILD, "--into", folder])
     if not mounted("-o", "remount,ro", place):
-        subprocess.run(["umount", place], check=True)
         return ["devices that can only be read, since none can be made such"]
     wanted = fault(f"28: folder can't be made: {place}/new: {READ_ONLY}")
     check("a folder on a device to read", run([*GRID_BUILD, "--into", f"{place}/new"]), wanted)
@@ -411,7 +421,6 @@ def check_read_only(place, files):
     for name, (text, _) in ASKED.items():
         found = run(["lookup", "grid", "--from", folder, text])
         check(f"lookup of {name} on a device to read", found, looked_up(name, None))
-    subprocess.run(["umount", place], check=True)
     return []
 
 
