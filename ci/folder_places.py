@@ -188,6 +188,15 @@ def check_missing(room, files):
         texts = (f"{first}: {folder}: {why}", f"{none}: {folder}: {why}")
         check_everywhere(name, folder, texts)
     check_everywhere("a device", "/dev/null", (f"{none}: /dev/null: {NOT_A_FOLDER}",) * 2)
+    # A path stays one line, and no terminal is harmed by it.
+    for name, shown in (
+        ("a\nfault 12: out of memory", r"a\x0afault 12: out of memory"),
+        ("\x1b[2J\\\u00e9\x7f", r"\x1b[2J\\\xc3\xa9\x7f"),
+    ):
+        below = f"{room}/{shown}/below: {NOT_THERE}"
+        check_everywhere(shown, f"{room}/{name}/below", (f"{unmade}: {below}", f"{none}: {below}"))
+    texts = (f"{it}: {'y' * 4096}: File name too long" for it in (unmade, none))
+    check_everywhere("a long name", "y" * 4097, texts)
     # What reads a folder doesn't make it.
     misspelt = f"{room}/tabels"
     for words in (["verify", "grid"], ["lookup", "grid", "XXX.OO.O."], ["lookup", "grid"]):
@@ -273,6 +282,7 @@ def check_permission(room, files):
     check_closed(top, how)
     check_unwritable(top, how, files)
     check_unreadable(top, how, files)
+    check_shared(top, how, files)
     return []
 
 
@@ -322,6 +332,16 @@ def check_unwritable(top, how, files):
         check("a folder that can be read", found, fault(f"{text}: {folder}: {NOT_PERMITTED}"))
         check("a folder that can be read: what is in it", files_in(folder), left)
     os.chmod(folder, 0o755)
+
+
+def check_shared(top, how, files):
+    """A folder of another user, who has built in it."""
+    folder = f"{top}/shared"
+    build = [*GRID_BUILD, "--into", folder]
+    run(build)
+    os.chmod(folder, 0o777)
+    os.chmod(f"{folder}/{LOCK}", 0o644)
+    check("a folder of another user", run(build, **how), (0, lines_of(files), b""))
 
 
 def check_unreadable(top, how, files):

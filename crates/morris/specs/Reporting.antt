@@ -1,6 +1,8 @@
 -- What is reported of a fault: its line, and of one of a folder which folder that is, and what the
 -- system said of it.
 use Rattle.std.specs.Prelude.{◌≡◌, ℕ, Bool, true, false, List, [], ◌∷◌, ◌++◌, codes, take, Option, Some, None, Result, Ok, Err, if◌then◌else◌}
+use Rattle.std.specs.List.{flat_map}
+use Rattle.morris_queries.specs.Printing.{shown_byte}
 use Rattle.morris_folders.specs.Reasons.{reason_text}
 use Rattle.morris_folders.specs.declared.reason.Reason.{Reason}
 use Rattle.morris_faults.specs.Faults.{ReportsText, fault_line, fault_words}
@@ -18,10 +20,11 @@ is_of_folder fault.NoFolder = true
 is_of_folder fault.Unlocked = true
 is_of_folder _ = false
 
--- a colon and the path as the words have it, at most 4,096 bytes of it; nothing of an empty one
+-- A colon and the path that the words have, at most 4,096 bytes of it, each of which is shown as in a
+-- text that was asked about: so it stays one line. Nothing of an empty one.
 abbrev pub path_text : List ℕ → List ℕ
 path_text [] = []
-path_text (byte ∷ bytes) = codes ": " ++ take 4096 (byte ∷ bytes)
+path_text (byte ∷ bytes) = codes ": " ++ flat_map shown_byte (take 4096 (byte ∷ bytes))
 
 -- a colon and what the system said, where it is known
 abbrev pub why_text : Option Reason → List ℕ

@@ -1,5 +1,5 @@
 //! How a fault is reported, and of which folder it is.
-ghost use Rattle.std.specs.Prelude.{◌≡◌, ◌-◌, ◌^◌, ◌<◌, ◌≤◌, OnOk};
+ghost use Rattle.std.specs.Prelude.{◌≡◌, ◌+◌, ◌-◌, ◌^◌, ◌<◌, ◌≤◌, OnOk};
 ghost use Rattle.std.specs.Option.{option_map};
 ghost use Rattle.morris_board.specs.Buffered.{Passes, sink_of, taken_of};
 ghost use Rattle.morris_faults.specs.Faults.{ReportsText};
@@ -11,6 +11,7 @@ use morris_faults::fault::Fault;
 use morris_faults::print::{Printed, send};
 use morris_faults::print_fault::put_fault;
 use morris_folders::reason::Reason;
+use morris_queries::print::put_visible;
 
 /// How much of a path is shown at most, in bytes: as much as the system takes.
 const MOST_OF_PATH: usize = 4096;
@@ -55,19 +56,19 @@ impl Printed for Placed<'_> {
 }
 
 /// A path after a colon, and nothing of an empty one.
-#[tactic(auto, using(morris_board::proofs::BufferedLaws::passed_laws))]
+#[tactic(auto, using(morris_board::proofs::BufferedLaws::passed_laws, std::proofs::lemmas::List::take_min))]
 fn put_path<S: Sink>(out: &mut Buffered<'_, S>, path: &str) -> Result<(), Failed>
     requires failures { S.failures (sink_of out.old) < 2 ^ 64 - 1 }
-    requires room { taken_of out.old < 2 ^ 60 }
+    requires room { taken_of out.old < 2 ^ 20 }
     ensures passed { Passes S.contents S.failures out.old out.new (path_text path.now) result }
-    ensures few { OnOk result (taken_of out.new ≤ taken_of out.old + 5000) }
+    ensures few { OnOk result (taken_of out.new ≤ taken_of out.old + 2 ^ 20) }
 {
     let bytes = path.as_bytes();
     if bytes.is_empty() {
         return Ok(());
     }
     out.put(b": ")?;
-    out.put(&bytes[..bytes.len().min(MOST_OF_PATH)])
+    put_visible(out, &bytes[..bytes.len().min(MOST_OF_PATH)])
 }
 
 /// What the system said, after a colon, where it is known.

@@ -46,10 +46,11 @@ use std::thread::Threads;
 ///
 /// # Errors
 /// [`Fault::Board`] where there is no such board, before the folder is touched. Else
-/// [`Fault::NoFolder`] where there is no such folder. Else the first refusal: [`Fault::Unopened`] where a file can't be opened; [`Fault::OtherPair`] where it has the
-/// table of another pair; [`Fault::InFile`] where it has a flaw, as `read_table` of `morris_table`
-/// has it, where it needs a table that isn't there, or where an entry isn't what the rules give
-/// from the entries of its results; [`Fault::Memory`] where memory is refused; [`Fault::Write`],
+/// [`Fault::NoFolder`] where there is no such folder. Else the first refusal: [`Fault::Unopened`]
+/// where a file can't be opened; [`Fault::OtherPair`] where it has the table of another pair;
+/// [`Fault::InFile`] where it has a flaw, as `read_table` of `morris_table` has it, where it needs
+/// a table that isn't there, or where an entry isn't what the rules give from the entries of its
+/// results; [`Fault::Memory`] where memory is refused; [`Fault::Write`],
 /// with all bytes that went out, at the first write to `output` that fails. Else [`Fault::NoFiles`]
 /// where the folder has none of these files.
 pub fn verify_from<R: Threads + Sync, F: Folder, O: Sink, T: Teller>(

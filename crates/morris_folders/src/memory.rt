@@ -46,9 +46,9 @@ pub struct MemoryFolder {
 }
 
 impl MemoryFolder {
-    /// A folder without files, of which no one holds the lock. Of its calls those fail whose bits are set in `calls`, of the writes
-    /// of each of its writers those whose bits are set in `writes`: bit n is that of the call
-    /// before which there were n.
+    /// A folder without files, of which no one holds the lock. Of its calls those fail whose bits
+    /// are set in `calls`, of the writes of each of its writers those whose bits are set in
+    /// `writes`: bit n is that of the call before which there were n.
     pub fn new(alloc: Global, calls: u64, writes: u64) -> MemoryFolder
         ensures none { (name : List ℕ) → files_of result name ≡ None }
         ensures failures { failures_of result ≡ 0 }

@@ -9,7 +9,7 @@ mod line;
 pub mod lines;
 pub mod lookup;
 pub mod memory;
-mod print;
+pub mod print;
 mod send;
 pub mod show;
 pub mod system;

@@ -176,6 +176,22 @@ fn put_list<T: Listed, S: Sink>(out: &mut Buffered<'_, S>, list: &[T]) -> Result
     Ok(())
 }
 
+/// A text of at most 4,096 bytes, byte by byte, so that it stays one line and no terminal takes a
+/// byte for a command: a backslash as two, and what is no printable character of ASCII as `\x` and
+/// two hexadecimal digits. Each byte takes 128 at most.
+///
+/// # Errors
+/// [`Failed`] at the first write that fails.
+pub fn put_visible<S: Sink>(out: &mut Buffered<'_, S>, text: &[u8]) -> Result<(), Failed>
+    requires failures { S.failures (sink_of out.old) < 2 ^ 64 - 1 }
+    requires room { taken_of out.old < 2 ^ 21 }
+    requires short { length text.now ≤ 4096 }
+    ensures passed { Passes S.contents S.failures out.old out.new (flat_map shown_byte text.now) result }
+    ensures few { OnOk result (taken_of out.new ≤ taken_of out.old + 2 ^ 19) }
+{
+    put_list(out, text)
+}
+
 /// The best moves after a colon, and nothing where there are none.
 #[tactic(auto, using(morris_board::proofs::BufferedLaws::passed_laws))]
 fn put_best<S: Sink>(out: &mut Buffered<'_, S>, best: &[Move]) -> Result<(), Failed>

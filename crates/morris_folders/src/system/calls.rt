@@ -74,16 +74,30 @@ pub(crate) fn lock_file<R: Files<File = File>>(rt: &R, path: &str) -> Result<Opt
         Err(fault) if fault.kind() == ErrorKind::NotFound => {}
         Err(fault) => return Err(Reason::of(&fault)),
     }
-    let file = OpenOptions::new()
-        .read(true)
-        .write(true)
-        .create(true)
-        .open(rt, path)?;
+    let file = open_lock(rt, path)?;
     is_regular(&file.metadata()?)?;
     match file.try_lock() {
         Ok(()) => Ok(Some(file)),
         Err(TryLockError::WouldBlock) => Ok(None),
         Err(TryLockError::Error(fault)) => Err(Reason::of(&fault)),
+    }
+}
+
+/// Opens a file to lock it, which is made where there is none. Where it is another user's, so that
+/// it may be read alone, it is opened for that, which is enough for a lock on most file systems.
+fn open_lock<R: Files<File = File>>(rt: &R, path: &str) -> Result<File, Reason> {
+    let opened = OpenOptions::new()
+        .read(true)
+        .write(true)
+        .create(true)
+        .open(rt, path);
+    match opened {
+        Ok(file) => Ok(file),
+        Err(refused) if refused.kind() == ErrorKind::PermissionDenied => match fs::open(rt, path) {
+            Ok(file) => Ok(file),
+            Err(_) => Err(Reason::of(&refused)),
+        },
+        Err(refused) => Err(Reason::of(&refused)),
     }
 }
 

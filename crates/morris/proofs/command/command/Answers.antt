@@ -17,10 +17,7 @@ returns-in-Err-Memory-clause-answer g c = λ other. (
   inr (inr (refl, refl, Keeps-refl (g.O.Sink.contents c.args.output.now))),
   inl refl,
   c.finish-in-Err-Memory.ensures.status,
-  None,
-  None,
-  inl refl,
-  c.finish-in-Err-Memory.ensures.reported,
+  (None, None, inl refl, c.finish-in-Err-Memory.ensures.reported),
 )
 
 -- Help is printed where it was asked for, and so is the version.
@@ -33,10 +30,7 @@ returns-in-Err-Help-clause-answer g c = λ other.
       inr (inl (inl asked, refl, (c.as_str.result.now, c.print.ensures.shown))),
       inl refl,
       c.finish-in-Err-Help.ensures.status,
-      None,
-      None,
-      inl refl,
-      c.finish-in-Err-Help.ensures.reported,
+      (None, None, inl refl, c.finish-in-Err-Help.ensures.reported),
     )
 
 pub returns-in-Err-Version-clause-answer : goal.returns-in-Err-Version-clause-answer
@@ -48,10 +42,7 @@ returns-in-Err-Version-clause-answer g c = λ other.
       inr (inl (inr asked, refl, (c.as_str-in-Err-Version.result.now, c.print-in-Err-Version.ensures.shown))),
       inl refl,
       c.finish-in-Err-Version.ensures.status,
-      None,
-      None,
-      inl refl,
-      c.finish-in-Err-Version.ensures.reported,
+      (None, None, inl refl, c.finish-in-Err-Version.ensures.reported),
     )
 
 -- A request for a command that reads its input was asked for by the words.
@@ -80,11 +71,13 @@ returns-in-Ok-clause-answer g c = λ other. (
   inl (c.in-Ok.request, c.in-Ok.ensures.request, c.in-Ok.ensures.taken, c.run-done.ensures.answer),
   told (c.in-Ok.request.progress) refl,
   c.finish.ensures.status,
-  folder_of c.in-Ok.request.task,
-  c.run-done.new.why,
-  inr (c.in-Ok.request, c.in-Ok.ensures.request, refl),
-  subst (λ (path : Option (List ℕ)). ReportsAt g.E.Sink.contents g.E.Sink.failures path c.run-done.new.why c.errors-1.given.0 c.finish.new.errors c.run-done.result)
-      c.folder_of-path.ensures c.finish.ensures.reported,
+  (
+    folder_of c.in-Ok.request.task,
+    c.run-done.new.why,
+    inr (c.in-Ok.request, c.in-Ok.ensures.request, refl),
+    subst (λ (path : Option (List ℕ)). ReportsAt g.E.Sink.contents g.E.Sink.failures path c.run-done.new.why c.errors-1.given.0 c.finish.new.errors c.run-done.result)
+        c.folder_of-path.ensures c.finish.ensures.reported,
+  ),
 )
   where
     here : c.errors-1.given.0 ≡ sink_of c.run-done.new.teller

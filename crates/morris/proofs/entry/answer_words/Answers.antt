@@ -44,10 +44,7 @@ returns-in-Ok-list_of-clause-answer g c =
       same_end (map string_bytes c.as_slice-words.result.now) (texts_of c.in-Ok.words) before after old new ended.0 same ended.2,
       subst (λ (t : List Text). TellsProgress g.E.Sink.contents g.E.Sink.failures t c.args.errors.now ended.1) same ended.3,
       c.from.ensures ∙ ended.4,
-      ended.5,
-      ended.6,
-      subst (λ (t : List Text). NamesFolder t ended.5) same ended.7,
-      ended.8,
+      (ended.5.0, ended.5.1, subst (λ (t : List Text). NamesFolder t ended.5.0) same ended.5.2, ended.5.3),
     ))
 
 -- Memory for the list was refused: nothing was read and nothing printed.
@@ -60,8 +57,5 @@ returns-in-Err-list_of-clause-answer g c =
       inr (inr (refl, refl, Keeps-refl (g.O.Sink.contents c.args.output.now))),
       inl refl,
       c.from-in-Err-list_of.ensures ∙ c.refuse_words.ensures.status,
-      None,
-      None,
-      inl refl,
-      c.refuse_words.ensures.reported refl,
+      (None, None, inl refl, c.refuse_words.ensures.reported refl),
     ))
