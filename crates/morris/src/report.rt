@@ -56,7 +56,7 @@ impl Printed for Placed<'_> {
 }
 
 /// A path after a colon, and nothing of an empty one.
-#[tactic(auto, using(morris_board::proofs::BufferedLaws::passed_laws, std::proofs::lemmas::List::take_min))]
+#[tactic(auto, using(morris_board::proofs::BufferedLaws::passed_laws))]
 fn put_path<S: Sink>(out: &mut Buffered<'_, S>, path: &str) -> Result<(), Failed>
     requires failures { S.failures (sink_of out.old) < 2 ^ 64 - 1 }
     requires room { taken_of out.old < 2 ^ 20 }
@@ -68,7 +68,7 @@ fn put_path<S: Sink>(out: &mut Buffered<'_, S>, path: &str) -> Result<(), Failed
         return Ok(());
     }
     out.put(b": ")?;
-    put_visible(out, &bytes[..bytes.len().min(MOST_OF_PATH)])
+    put_visible(out, &bytes[..MOST_OF_PATH.min(bytes.len())])
 }
 
 /// What the system said, after a colon, where it is known.
