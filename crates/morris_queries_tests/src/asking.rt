@@ -2,6 +2,7 @@
 // and moves follow from the rules.
 use crate::making::files;
 use morris_board::streams::IntoWrite;
+use morris_folders::reason::Reason;
 use morris_queries::fault::QueryFault;
 use morris_queries::library::Library;
 use morris_queries::lookup::lookup_texts;
@@ -11,7 +12,7 @@ use morris_queries::system::SystemLibrary;
 use morris_table::layout::Layout;
 use std::alloc::Global;
 use std::fs::File;
-use std::io::{ErrorKind, Write};
+use std::io::Write;
 use std::process::Abort;
 use std::rt::Files;
 
@@ -190,7 +191,7 @@ fn a_folder_on_a_disk_answers(rt: HostRuntime) {
 
 /// Whether there is no folder of this path, for this reason: nothing is answered, and nothing is
 /// written.
-fn is_no_folder<R: Files<File = File> + AllocGlobal>(rt: &R, path: &str, why: ErrorKind) -> bool {
+fn is_no_folder<R: Files<File = File> + AllocGlobal>(rt: &R, path: &str, why: Reason) -> bool {
     let mut folder = SystemLibrary::new(rt, path);
     let mut output = IntoWrite::new(Vec::new(rt.alloc()));
     let answer = lookup_texts(
@@ -210,8 +211,8 @@ fn is_no_folder<R: Files<File = File> + AllocGlobal>(rt: &R, path: &str, why: Er
 fn what_is_no_folder_is_told(rt: HostRuntime) {
     let file = File::create(&rt, "no-folder").expect(&rt, "a place to write");
     drop(file);
-    assert!(rt; is_no_folder(&rt, "", ErrorKind::InvalidInput));
-    assert!(rt; is_no_folder(&rt, "no-folder", ErrorKind::NotADirectory));
-    assert!(rt; is_no_folder(&rt, "no-folder/below", ErrorKind::NotADirectory));
-    assert!(rt; is_no_folder(&rt, "misspelt", ErrorKind::NotFound));
+    assert!(rt; is_no_folder(&rt, "", Reason::Nameless));
+    assert!(rt; is_no_folder(&rt, "no-folder", Reason::NotAFolder));
+    assert!(rt; is_no_folder(&rt, "no-folder/below", Reason::NotAFolder));
+    assert!(rt; is_no_folder(&rt, "misspelt", Reason::NotFound));
 }

@@ -1,5 +1,7 @@
 //! The commands that run on the thread of the caller, from one input to one output, on 3-3 of the
 //! board `grid`.
+ghost use Rattle.std.specs.Prelude.{◌≡◌, IfSome};
+
 use crate::tables::file_of_three;
 use crate::told::{mark, tell};
 use morris_board::streams::{FromRead, IntoWrite};
@@ -26,7 +28,9 @@ fn tell_printed(
 }
 
 /// A sink that asks for no memory: it has room for all that a command prints.
-fn room(alloc: Global) -> Option<IntoWrite<Vec<u8>>> {
+fn room(alloc: Global) -> Option<IntoWrite<Vec<u8>>>
+    ensures { IfSome result (λ sink. sink.failures ≡ 0) }
+{
     Some(IntoWrite::new(Vec::with_capacity(alloc, 4_096).ok()?))
 }
 
