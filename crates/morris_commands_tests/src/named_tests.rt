@@ -1,6 +1,6 @@
 // `stats`, `verify_in` and `probe_in` by themselves, on the thread of the caller: what they print,
 // what they refuse, and in which order.
-use crate::streams::{Full, drip};
+use crate::streams::{Full, dripping};
 use morris_board::streams::{FromRead, IntoWrite};
 use morris_commands::build::build_out;
 use morris_commands::probe::probe_in;
@@ -171,11 +171,11 @@ fn streams_that_fail_end_verify_in(rt: HostRuntime) {
     let right = files(&rt, "3-3", false, false);
     let mut output = IntoWrite::new(Vec::new(rt.alloc()));
     for room in [0, 1, 16, 3407, 3408] {
-        let mut input = drip(right.as_slice(), room);
+        let mut input = dripping(right.as_slice(), room);
         let answer = verify_in(rt.alloc(), "grid", &mut input, &mut output);
         assert!(rt; answer == Err(Fault::Read), "{room}");
     }
-    let mut input = drip(right.as_slice(), 0);
+    let mut input = dripping(right.as_slice(), 0);
     let answer = verify_in(rt.alloc(), "round", &mut input, &mut output);
     assert!(rt; answer == Err(Fault::Board));
     assert!(rt; output.into_inner().is_empty());
@@ -270,7 +270,7 @@ fn streams_that_fail_end_probe_in(rt: HostRuntime) {
     let low = files(&rt, "3-3", false, false);
     let mut output = IntoWrite::new(Vec::new(alloc));
     for room in 0..3409 {
-        let mut input = drip(low.as_slice(), room);
+        let mut input = dripping(low.as_slice(), room);
         let answer = probe_in(alloc, "grid", text, &mut input, &mut output);
         assert!(rt; answer == Err(Fault::Read), "{room}");
     }
@@ -282,7 +282,7 @@ fn streams_that_fail_end_probe_in(rt: HostRuntime) {
         ("grid", "XXXOO....", Fault::Stones),
     ];
     for (board, text, fault) in asked {
-        let mut input = drip(low.as_slice(), 0);
+        let mut input = dripping(low.as_slice(), 0);
         let answer = probe_in(alloc, board, text, &mut input, &mut output);
         assert!(rt; answer == Err(fault), "{text}");
     }

@@ -14,7 +14,7 @@ pub struct Drip<'a> {
 }
 
 /// A source that gives these bytes one by one, and fails after so many calls.
-pub fn drip(left: &[u8], room: u64) -> FromRead<Drip<'_>>
+pub fn dripping(left: &[u8], room: u64) -> FromRead<Drip<'_>>
     ensures { result.failures ≡ 0 }
 {
     let calls = 0;
