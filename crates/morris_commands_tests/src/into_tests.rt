@@ -115,17 +115,17 @@ fn a_call_that_fails_leaves_whole_files_alone(rt: HostRuntime) {
     assert_refused(&rt, 1 << 0, Fault::Folder, &[], 0);
     assert_refused(&rt, 1 << 1, Fault::NoFolder, &[], 0);
     assert_refused(&rt, 1 << 2, Fault::Unlocked, &[], 0);
-    for call in 3..6 {
-        assert_refused(&rt, 1 << call, Fault::Digests, &[], 1);
+    for calls in [1 << 3, 1 << 4, 1 << 5] {
+        assert_refused(&rt, calls, Fault::Digests, &[], 1);
     }
-    for call in 6..10 {
-        assert_refused(&rt, 1 << call, Fault::Unwritten(3, 3), &[], 1);
+    for calls in [1 << 6, 1 << 7, 1 << 8, 1 << 9] {
+        assert_refused(&rt, calls, Fault::Unwritten(3, 3), &[], 1);
     }
-    for call in 11..15 {
-        assert_refused(&rt, 1 << call, Fault::Unwritten(4, 3), &[FIRST], 2);
+    for calls in [1 << 11, 1 << 12, 1 << 13, 1 << 14] {
+        assert_refused(&rt, calls, Fault::Unwritten(4, 3), &[FIRST], 2);
     }
-    for call in 16..20 {
-        assert_refused(&rt, 1 << call, Fault::Digests, &[FIRST, SECOND], 3);
+    for calls in [1 << 16, 1 << 17, 1 << 18, 1 << 19] {
+        assert_refused(&rt, calls, Fault::Digests, &[FIRST, SECOND], 3);
     }
 }
 

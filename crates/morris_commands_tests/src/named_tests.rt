@@ -169,12 +169,16 @@ fn verify_in_refuses_files_that_are_damaged(rt: HostRuntime) -> Result<(), Fail>
 #[test]
 fn streams_that_fail_end_verify_in(rt: HostRuntime) {
     let right = files(&rt, "3-3", false, false);
-    let mut output = IntoWrite::new(Vec::new(rt.alloc()));
     for room in [0, 1, 16, 3407, 3408] {
+        let mut output = IntoWrite::new(Vec::new(rt.alloc()));
         let mut input = dripping(right.as_slice(), room);
         let answer = verify_in(rt.alloc(), "grid", &mut input, &mut output);
-        assert!(rt; answer == Err(Fault::Read), "{room}");
+        assert!(rt;
+            answer == Err(Fault::Read) && output.into_inner().is_empty(),
+            "{room}"
+        );
     }
+    let mut output = IntoWrite::new(Vec::new(rt.alloc()));
     let mut input = dripping(right.as_slice(), 0);
     let answer = verify_in(rt.alloc(), "round", &mut input, &mut output);
     assert!(rt; answer == Err(Fault::Board));
@@ -268,11 +272,14 @@ fn probe_in_refuses_bundles_that_are_wrong(rt: HostRuntime) -> Result<(), Fail> 
 fn streams_that_fail_end_probe_in(rt: HostRuntime) {
     let (alloc, text) = (rt.alloc(), "XXX.OO.O.");
     let low = files(&rt, "3-3", false, false);
-    let mut output = IntoWrite::new(Vec::new(alloc));
     for room in 0..3409 {
+        let mut output = IntoWrite::new(Vec::new(alloc));
         let mut input = dripping(low.as_slice(), room);
         let answer = probe_in(alloc, "grid", text, &mut input, &mut output);
-        assert!(rt; answer == Err(Fault::Read), "{room}");
+        assert!(rt;
+            answer == Err(Fault::Read) && output.into_inner().is_empty(),
+            "{room}"
+        );
     }
     // Words are refused before anything is read.
     let asked = [
@@ -282,11 +289,14 @@ fn streams_that_fail_end_probe_in(rt: HostRuntime) {
         ("grid", "XXXOO....", Fault::Stones),
     ];
     for (board, text, fault) in asked {
+        let mut output = IntoWrite::new(Vec::new(alloc));
         let mut input = dripping(low.as_slice(), 0);
         let answer = probe_in(alloc, board, text, &mut input, &mut output);
-        assert!(rt; answer == Err(fault), "{text}");
+        assert!(rt;
+            answer == Err(fault) && output.into_inner().is_empty(),
+            "{text}"
+        );
     }
-    assert!(rt; output.into_inner().is_empty());
     let mut input = FromRead::new(low.as_slice());
     let answer = probe_in(alloc, "grid", text, &mut input, &mut Full { failures: 0 });
     assert!(rt; answer == Err(Fault::Write(0)));
