@@ -104,9 +104,9 @@ fn a_wave_that_decides_nothing_is_told_too(rt: HostRuntime) {
 
 #[test]
 fn waves_go_on_past_the_numbers_of_one_counter(rt: HostRuntime) {
-    // A counter has the numbers of 1,024 blocks for 976 waves. The exit is lost in 1,000.
-    let late = LoneGraph { level: 2 * 1001 };
-    ends(&rt, rt.alloc(), &late, 2, 1024, 1002, &[1002]);
+    // A counter has the numbers of 64 blocks for 15,625 waves. The exit is lost in 16,000.
+    let late = LoneGraph { level: 2 * 16001 };
+    ends(&rt, rt.alloc(), &late, 2, 64, 16002, &[16002]);
 }
 
 // The graph is solved with no draw in a wave, and no wave is told.
