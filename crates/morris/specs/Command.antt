@@ -7,24 +7,26 @@ use Rattle.std.specs.Option.{option_map}
 use Rattle.clap.specs.Words.{IsAmong, Kinds, Row, Text}
 use Rattle.clap.specs.declared.error.kind.ErrorKind.{ErrorKind}
 use Rattle.clap.specs.declared.error.kind.ErrorKind.TheVariants as kind
-use Rattle.morris_faults.specs.declared.fault.Fault.{Fault}
-use Rattle.morris_faults.specs.declared.fault.Fault.TheVariants as fault
-use Rattle.morris_faults.specs.Faults.{Prints}
-use Rattle.morris_progress.specs.Progress.{TellsInOrder}
+use Rattle.morris_jobs.specs.declared.fault.Fault.{Fault}
+use Rattle.morris_jobs.specs.declared.fault.Fault.TheVariants as fault
+use Rattle.morris_jobs.specs.Faults.{Prints}
+use Rattle.morris_jobs.specs.Progress.{TellsInOrder}
 use Rattle.morris_words.specs.Words.{AsksFor, faults_of, named_by}
 use Rattle.morris_words.specs.declared.words.Request.{Request}
 use Rattle.morris_words.specs.declared.words.Task.{Task}
 use Rattle.morris_words.specs.declared.words.Task.TheVariants.{Look, Stats, Build, Verify, Probe, Lookup}
-use Rattle.morris_faults.specs.BoardNames.{board_of}
+use Rattle.morris_jobs.specs.BoardNames.{board_of}
 use Rattle.morris_commands.specs.Look.{Looks}
 use Rattle.morris_commands.specs.Stats.{AnswersStats}
 use Rattle.morris_commands.specs.StatsByClasses.{AnswersByClasses}
-use Rattle.morris_commands.specs.Build.{AnswersBuild, layout_asked}
+use Rattle.morris_commands.specs.Build.{AnswersBuild}
+use Rattle.morris_jobs.specs.Orders.{layout_asked}
 use Rattle.morris_folder_commands.specs.Bundle.{AnswersBundle}
 use Rattle.morris_folder_commands.specs.From.{AnswersFrom}
 use Rattle.morris_folder_commands.specs.Into.{AnswersInto, place_of}
 use Rattle.morris_commands.specs.Probe.{AnswersProbe}
-use Rattle.morris_commands.specs.Verify.{AnswersVerify, Input}
+use Rattle.morris_commands.specs.Verify.{AnswersVerify}
+use Rattle.morris_jobs.specs.Inputs.{Input}
 use Rattle.morris_queries.specs.Answers.{AnswersLookup}
 use Rattle.morris_queries.specs.LineAnswers.{AnswersInput}
 use Rattle.morris_queries.specs.Refusals.{query_fault}

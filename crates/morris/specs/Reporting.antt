@@ -5,9 +5,9 @@ use Rattle.std.specs.List.{flat_map}
 use Rattle.morris_queries.specs.Printing.{shown_byte}
 use Rattle.morris_folders.specs.Reasons.{reason_text}
 use Rattle.morris_folders.specs.declared.reason.Reason.{Reason}
-use Rattle.morris_faults.specs.Faults.{ReportsText, fault_line, fault_words}
-use Rattle.morris_faults.specs.declared.fault.Fault.{Fault}
-use Rattle.morris_faults.specs.declared.fault.Fault.TheVariants as fault
+use Rattle.morris_jobs.specs.Faults.{ReportsText, fault_line, fault_words}
+use Rattle.morris_jobs.specs.declared.fault.Fault.{Fault}
+use Rattle.morris_jobs.specs.declared.fault.Fault.TheVariants as fault
 
 -- whether a fault is one of the folder that the words name, or of the files in it
 abbrev pub is_of_folder : Fault → Bool

@@ -5,11 +5,11 @@ ghost use Rattle.std.specs.Process.{exit_status};
 ghost use Rattle.std.specs.Vec.Iter.{into_iter_items};
 ghost use Rattle.std.specs.declared.io.ErrorKind.TheVariants.{OutOfMemory};
 ghost use Rattle.morris.specs.Command.{AsksToRead, Ends, HasMistake, NamesFolder, TellsProgress, not_text, status_of, texts_of};
-ghost use Rattle.morris_faults.specs.Faults.{ReportsFault, ReportsText};
+ghost use Rattle.morris_jobs.specs.Faults.{ReportsFault, ReportsText};
 ghost use Rattle.morris.specs.Reporting.{ReportsAt};
-ghost use Rattle.morris_commands.specs.Verify.{input_of};
+ghost use Rattle.morris_jobs.specs.Inputs.{input_of};
 ghost use Rattle.morris_words.specs.Words.{faults_of, named_by};
-ghost use Rattle.morris_faults.specs.declared.fault.Fault.TheVariants as fault;
+ghost use Rattle.morris_jobs.specs.declared.fault.Fault.TheVariants as fault;
 
 use crate::command::{command, refuse_words};
 use morris_board::streams::{Sink, Source};

@@ -13,8 +13,8 @@ pub use morris_commands::look::look;
 pub use morris_commands::probe::probe_in;
 pub use morris_commands::stats::stats;
 pub use morris_commands::verify_in::verify_in;
-pub use morris_faults::fault::Fault;
-pub use morris_faults::pairs::read_pair;
+pub use morris_jobs::fault::Fault;
+pub use morris_jobs::pairs::read_pair;
 use std::env;
 use std::process::ExitCode;
 

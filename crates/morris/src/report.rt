@@ -2,15 +2,15 @@
 ghost use Rattle.std.specs.Prelude.{◌≡◌, ◌+◌, ◌-◌, ◌^◌, ◌<◌, ◌≤◌, OnOk};
 ghost use Rattle.std.specs.Option.{option_map};
 ghost use Rattle.morris_board.specs.Buffered.{Passes, sink_of, taken_of};
-ghost use Rattle.morris_faults.specs.Faults.{ReportsText};
+ghost use Rattle.morris_jobs.specs.Faults.{ReportsText};
 ghost use Rattle.morris.specs.Reporting.{is_of_folder, line_at, path_text, why_text};
 
-use morris_board::streams::buffered::Buffered;
 use morris_board::streams::{Failed, Sink};
-use morris_faults::fault::Fault;
-use morris_faults::print::{Printed, send};
-use morris_faults::print_fault::put_fault;
+use morris_board::streams::buffered::Buffered;
 use morris_folders::reason::Reason;
+use morris_jobs::fault::Fault;
+use morris_jobs::print::{Printed, send};
+use morris_jobs::print_fault::put_fault;
 use morris_queries::print::put_visible;
 
 /// How much of a path is shown at most, in bytes: as much as the system takes.

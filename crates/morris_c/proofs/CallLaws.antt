@@ -6,8 +6,8 @@ use Rattle.morris_board.specs.Boards.{Shape}
 use Rattle.morris_board.specs.Positions.{Sides, IsPosition}
 use Rattle.morris_views.specs.declared.fault.MaskFault.{MaskFault}
 use Rattle.morris_views.specs.declared.fault.MaskFault.TheVariants.{OffBoard, Overlap, Stones}
-use Rattle.morris_table.specs.declared.file_faults.ReadFault.{ReadFault}
-use Rattle.morris_table.specs.declared.file_faults.ReadFault.TheVariants as read
+use Rattle.morris_pairs.specs.declared.file_faults.ReadFault.{ReadFault}
+use Rattle.morris_pairs.specs.declared.file_faults.ReadFault.TheVariants as read
 use Rattle.morris_views.specs.declared.fault.ViewFault.{ViewFault}
 use Rattle.morris_views.specs.declared.fault.ViewFault.TheVariants as view
 use Rattle.morris_c.specs.Statuses.{read_status, view_status}

@@ -1,8 +1,8 @@
 -- The statuses that calls answer: 0 where a call did what was asked, and a number of its own for
 -- each fault.
 use Rattle.std.specs.Prelude.{ℕ}
-use Rattle.morris_table.specs.declared.file_faults.ReadFault.{ReadFault}
-use Rattle.morris_table.specs.declared.file_faults.ReadFault.TheVariants as read
+use Rattle.morris_pairs.specs.declared.file_faults.ReadFault.{ReadFault}
+use Rattle.morris_pairs.specs.declared.file_faults.ReadFault.TheVariants as read
 use Rattle.morris_views.specs.declared.fault.ViewFault.{ViewFault}
 use Rattle.morris_views.specs.declared.fault.ViewFault.TheVariants as view
 use Rattle.morris_views.specs.declared.fault.MaskFault.{MaskFault}

@@ -7,12 +7,12 @@ use Rattle.morris_board.specs.Symmetries.{HasSymmetries}
 use Rattle.morris_moves.specs.Values.{IsLostIn, IsWonIn}
 use Rattle.morris_moves.proofs.ValueLaws.{lost_is_even, won_is_odd}
 use Rattle.morris_index.specs.Pairs.{is_of}
-use Rattle.morris_table.specs.Codes.{IsCodeOf}
-use Rattle.morris_table.specs.Entries.{entry_index}
-use Rattle.morris_table.specs.EntryLaws.{laid}
-use Rattle.morris_table.specs.Tables.{IsTable, Table}
-use Rattle.morris_table.proofs.CodeLaws.{code_cases, code_of_lost, code_of_won, one_code}
-use Rattle.morris_table.proofs.PositionLaws.{IsAtEntry}
+use Rattle.morris_pairs.specs.Codes.{IsCodeOf}
+use Rattle.morris_pairs.specs.Entries.{entry_index}
+use Rattle.morris_pairs.specs.EntryLaws.{laid}
+use Rattle.morris_pairs.specs.Tables.{IsTable, Table}
+use Rattle.morris_pairs.proofs.CodeLaws.{code_cases, code_of_lost, code_of_won, one_code}
+use Rattle.morris_pairs.proofs.PositionLaws.{IsAtEntry}
 use Rattle.morris_census.specs.declared.deepest.Outcome.{Outcome}
 use Rattle.morris_census.specs.declared.deepest.Outcome.TheVariants.{Won, Lost}
 use Rattle.morris_census.proofs.EntryOrder.{in_order}

@@ -17,15 +17,15 @@ use Rattle.morris_index.proofs.ChooseLaws.{choose-none, choose-suc}
 use Rattle.morris_index.proofs.ClassPairLaws.{index-lt as class_index-lt, led_own}
 use Rattle.morris_index.proofs.FallLaws.{falls-listed, falls-once}
 use Rattle.morris_index.proofs.IndexLaws.{index-lt, index-same, placed, size-one, size-two}
-use Rattle.morris_table.specs.declared.layout.Layout.TheVariants.{Full, Classes}
-use Rattle.morris_table.specs.Codes.{IsCodeOf}
-use Rattle.morris_table.specs.EntryLaws.{laid}
-use Rattle.morris_table.specs.NetLaws.{at_index-is}
-use Rattle.morris_table.specs.PairNets.{at_index}
-use Rattle.morris_table.specs.Tables.{IsTable, greatest_code, table}
-use Rattle.morris_table.proofs.BackLawsLists.{Ascends-from_AllPairs}
-use Rattle.morris_table.proofs.PositionLaws.{position_at, position_of_entry}
-use Rattle.morris_table.proofs.TallyLaws.{le_greatest, tallies-from_counts}
+use Rattle.morris_pairs.specs.declared.layout.Layout.TheVariants.{Full, Classes}
+use Rattle.morris_pairs.specs.Codes.{IsCodeOf}
+use Rattle.morris_pairs.specs.EntryLaws.{laid}
+use Rattle.morris_pairs.specs.NetLaws.{at_index-is}
+use Rattle.morris_pairs.specs.PairNets.{at_index}
+use Rattle.morris_pairs.specs.Tables.{IsTable, greatest_code, table}
+use Rattle.morris_pairs.proofs.BackLawsLists.{Ascends-from_AllPairs}
+use Rattle.morris_pairs.proofs.PositionLaws.{position_at, position_of_entry}
+use Rattle.morris_pairs.proofs.TallyLaws.{le_greatest, tallies-from_counts}
 use Rattle.morris_census.specs.Census.{HasPositions, HasTallies, IsLedTo}
 use Rattle.morris_census.proofs.SumLaws.{length-numbered, weighed, weighed-all}
 

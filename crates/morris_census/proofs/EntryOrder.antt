@@ -17,9 +17,9 @@ use Rattle.morris_index.proofs.ClassPairLaws.{class_below, class_index-lt, led_i
 use Rattle.morris_index.proofs.ClassPairLaws.{index-first as class_index-first, index-second as class_index-second}
 use Rattle.morris_index.proofs.IndexLaws.{half_index-lt, halves_of, index-first, index-second, map_number-none, other_rank-lt, parts_lt, placed}
 use Rattle.morris_index.proofs.OrderLaws.{rank_less}
-use Rattle.morris_table.specs.declared.layout.Layout.{Layout}
-use Rattle.morris_table.specs.declared.layout.Layout.TheVariants.{Full, Classes}
-use Rattle.morris_table.specs.Entries.{entry_index, has_own_entry}
+use Rattle.morris_pairs.specs.declared.layout.Layout.{Layout}
+use Rattle.morris_pairs.specs.declared.layout.Layout.TheVariants.{Full, Classes}
+use Rattle.morris_pairs.specs.Entries.{entry_index, has_own_entry}
 
 module _ (board : Shape) (few : board.points ≤ 24) (y : HasSymmetries board) where
   -- how many sets of the opponent's stones there are beside those of the player to move

@@ -7,9 +7,9 @@ use Rattle.std.proofs.lemmas.List.Sums.{sum-map}
 use Rattle.morris_moves.proofs.ListLaws.{Ascends}
 use Rattle.morris_wave.specs.Nets.{times}
 use Rattle.morris_wave.proofs.Tests.{count_all, count_no}
-use Rattle.morris_table.specs.FilterLaws.{range_bounds}
-use Rattle.morris_table.proofs.BackLawsLists.{Contains-range, Ascends-range, Ascends-weaker, counted, found, at_most_one, count_by-map}
-use Rattle.morris_table.proofs.Doubles.{sum_same, count_sum, exchange}
+use Rattle.morris_pairs.specs.FilterLaws.{range_bounds}
+use Rattle.morris_pairs.proofs.BackLawsLists.{Contains-range, Ascends-range, Ascends-weaker, counted, found, at_most_one, count_by-map}
+use Rattle.morris_pairs.proofs.Doubles.{sum_same, count_sum, exchange}
 
 range_differs : (n : ℕ) → Ascends (λ (x y : ℕ). x ≡ y → ⊥) (range_with_len 0 n)
 range_differs n =

@@ -1,7 +1,7 @@
 -- The tallies of a table are few.
 use Rattle.std.proofs.Common.{◌≡◌, ℕ, suc, ◌+◌, ◌<◌, ◌≤◌, List, [], ◌∷◌, length, slice_index, arith, ap}
 use Rattle.std.proofs.lemmas.List.FromFn.{length-map-range_with_len}
-use Rattle.morris_table.specs.Tables.{greatest_code, tallies_of}
+use Rattle.morris_pairs.specs.Tables.{greatest_code, tallies_of}
 
 greatest-le : (codes : List ℕ) (n : ℕ) → ((i : ℕ) → i < length codes → slice_index codes i ≤ n) → greatest_code codes ≤ n
 greatest-le [] n small = omega arith

@@ -6,8 +6,8 @@ use Rattle.morris_board.specs.Positions.{Sides, IsPosition}
 use Rattle.morris_index.specs.ClassPairs.{led, class_index_of}
 use Rattle.morris_index.specs.Falls.{HasEntry}
 use Rattle.morris_index.specs.Pairs.{Counts, is_of}
-use Rattle.morris_table.specs.declared.layout.Layout.TheVariants.{Full}
-use Rattle.morris_table.specs.Tables.{IsTable, table, tallies_of}
+use Rattle.morris_pairs.specs.declared.layout.Layout.TheVariants.{Full}
+use Rattle.morris_pairs.specs.Tables.{IsTable, table, tallies_of}
 
 -- these are how many positions of the pair have each code, where each code is the game's value and
 -- exact depth

@@ -6,7 +6,7 @@ ghost use Rattle.morris_census.specs.Deepest.{HasDeepest};
 use crate::counting::count_positions;
 use crate::deepest::Deepest;
 use morris_board::board::Geometry;
-use morris_table::exact::Exact;
+use morris_pairs::exact::Exact;
 use std::alloc::{AllocError, Global};
 
 /// How many positions of a pair have each code, and which of them are deepest.

@@ -6,8 +6,8 @@ ghost use Rattle.morris_census.specs.Census.{HasPositions, HasTallies, IsLedTo, 
 use morris_board::board::Geometry;
 use morris_board::position::Position;
 use morris_index::class_pair::ClassPair;
-use morris_table::exact::Exact;
-use morris_table::layout::Layout;
+use morris_pairs::exact::Exact;
+use morris_pairs::layout::Layout;
 use std::alloc::{AllocError, Global};
 
 /// How many positions of a table's pair have each code, from 0 up to the greatest code of the

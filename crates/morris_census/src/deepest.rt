@@ -2,14 +2,14 @@
 ghost use Rattle.std.specs.Prelude.{◌≡◌, ◌<◌, true, length, IfOk};
 ghost use Rattle.morris_board.specs.Positions.{IsPosition};
 ghost use Rattle.morris_index.specs.Pairs.{is_of};
-ghost use Rattle.morris_table.specs.Entries.{entry_count, entry_index, has_own_entry};
+ghost use Rattle.morris_pairs.specs.Entries.{entry_count, entry_index, has_own_entry};
 ghost use Rattle.morris_census.specs.Deepest.{IsDeepest, IsGreatestTold, is_told_by};
 
 use morris_board::board::Geometry;
 use morris_board::position::Position;
 use morris_index::class_pair::ClassPair;
-use morris_table::exact::Exact;
-use morris_table::layout::Layout;
+use morris_pairs::exact::Exact;
+use morris_pairs::layout::Layout;
 use std::alloc::{AllocError, Global};
 
 /// What a position is for the player to move where it is no draw.

@@ -2,11 +2,11 @@
 use Rattle.std.proofs.Common.{◌≡◌, None, Some, sym, ◌∙◌}
 use Rattle.morris_board.specs.Boards.{Shape}
 use Rattle.morris_index.specs.Pairs.{counts}
-use Rattle.morris_table.specs.Shelves.{Stored, first_missing}
-use Rattle.morris_table.specs.Tables.{Table}
-use Rattle.morris_faults.specs.declared.fault.Fault.{Fault}
-use Rattle.morris_faults.specs.declared.fault.Fault.TheVariants as fault
-use Rattle.morris_commands.specs.Probe.{IsUnfit}
+use Rattle.morris_pairs.specs.Shelves.{Stored, first_missing}
+use Rattle.morris_pairs.specs.Tables.{Table}
+use Rattle.morris_jobs.specs.declared.fault.Fault.{Fault}
+use Rattle.morris_jobs.specs.declared.fault.Fault.TheVariants as fault
+use Rattle.morris_jobs.specs.Inputs.{IsUnfit}
 use Rattle.morris_commands.specs.Stats.{RestsOnTooDeep}
 use Rattle.morris_commands.specs.Verify.{IsUnverified}
 

@@ -6,12 +6,13 @@ use Rattle.std.proofs.lemmas.List.Elements.{Contains-append_left, Contains-appen
 use Rattle.morris_moves.proofs.ListLaws.{Contains-head}
 use Rattle.morris_board.specs.Boards.{Shape}
 use Rattle.morris_index.specs.Pairs.{Counts, NeedsFirst, below_of}
-use Rattle.morris_table.specs.declared.layout.Layout.{Layout}
-use Rattle.morris_table.specs.Known.{IsBeyondCodes}
-use Rattle.morris_table.specs.Shelves.{Stored, first_missing, table_on}
-use Rattle.morris_table.proofs.ShelfLaws.{cases_pair, none-missing}
-use Rattle.morris_commands.specs.Build.{HasExactAt, HasExactBut, IsSpared, stones}
-use Rattle.morris_commands.proofs.NearLaws.{IsNear, below-rises, needs-one_less}
+use Rattle.morris_pairs.specs.declared.layout.Layout.{Layout}
+use Rattle.morris_pairs.specs.Known.{IsBeyondCodes}
+use Rattle.morris_pairs.specs.Shelves.{Stored, first_missing, table_on}
+use Rattle.morris_pairs.proofs.ShelfLaws.{cases_pair, none-missing}
+use Rattle.morris_commands.specs.Build.{HasExactBut}
+use Rattle.morris_jobs.specs.Orders.{HasExactAt, IsSpared, stones}
+use Rattle.morris_jobs.proofs.NearLaws.{IsNear, below-rises, needs-one_less}
 use Rattle.morris_commands.proofs.ShelfLaws.{below_no_more}
 
 -- of all pairs so far but for one there are the tables that a pair to come may need, and codes

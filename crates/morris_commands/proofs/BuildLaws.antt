@@ -7,13 +7,14 @@ use Rattle.std.specs.Io.KnownBytes.{Appends}
 use Rattle.morris_board.specs.Boards.{Shape}
 use Rattle.morris_board.specs.Streams.{PartSent}
 use Rattle.morris_index.specs.Pairs.{Counts, below_of}
-use Rattle.morris_table.specs.declared.layout.Layout.{Layout}
-use Rattle.morris_table.specs.Shelves.{Stored}
-use Rattle.morris_table.specs.TableFiles.{file_of}
-use Rattle.morris_table.specs.Tables.{IsTable, Table}
+use Rattle.morris_pairs.specs.declared.layout.Layout.{Layout}
+use Rattle.morris_pairs.specs.Shelves.{Stored}
+use Rattle.morris_pairs.specs.TableFiles.{file_of}
+use Rattle.morris_pairs.specs.Tables.{IsTable, Table}
 use Rattle.morris_moves.proofs.ListLaws.{Contains-cons_cases, Contains-head, Contains-tail}
-use Rattle.morris_faults.specs.declared.fault.Fault.TheVariants as fault
-use Rattle.morris_commands.specs.Build.{AnswersFiles, AreTablesOf, HasExact, HasExactAt, HasTables, file_on, pairs_written}
+use Rattle.morris_jobs.specs.declared.fault.Fault.TheVariants as fault
+use Rattle.morris_commands.specs.Build.{AnswersFiles, AreTablesOf, HasExact, HasTables, file_on, pairs_written}
+use Rattle.morris_jobs.specs.Orders.{HasExactAt}
 
 module _ (f : Counts → List ℕ) where
   -- the files of all pairs are those of the pairs so far, of this one, and of the others

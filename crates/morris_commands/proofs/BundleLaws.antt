@@ -1,16 +1,17 @@
 -- Where a bundle leads that is taken file by file.
 use Rattle.std.proofs.Common.{◌≡◌, false, ℕ, zero, suc, ◌-◌, ◌+◌, ◌<◌, Option, Some, None, Result, Ok, Err, arith, inl, inr, refl, subst}
 use Rattle.morris_board.specs.Boards.{Shape}
-use Rattle.morris_table.specs.FileReading.{CountsRead, MayTakeRoom, Reads, StandsInFile, next_file_in}
-use Rattle.morris_table.specs.Shelves.{Stored}
-use Rattle.morris_table.specs.Tables.{Table}
-use Rattle.morris_table.specs.declared.file_faults.ReadFault.{ReadFault}
-use Rattle.morris_table.specs.declared.file_faults.ReadFault.TheVariants as read
-use Rattle.morris_faults.specs.declared.fault.Fault.{Fault}
-use Rattle.morris_faults.specs.declared.fault.Fault.TheVariants as fault
-use Rattle.morris_faults.specs.Faults.{is_write, read_fault}
-use Rattle.morris_commands.specs.Probe.{IsUnfit, Joins, Loaded, Loads}
-use Rattle.morris_commands.specs.Verify.{Input}
+use Rattle.morris_pairs.specs.FileReading.{CountsRead, MayTakeRoom, Reads, StandsInFile, next_file_in}
+use Rattle.morris_pairs.specs.Shelves.{Stored}
+use Rattle.morris_pairs.specs.Tables.{Table}
+use Rattle.morris_pairs.specs.declared.file_faults.ReadFault.{ReadFault}
+use Rattle.morris_pairs.specs.declared.file_faults.ReadFault.TheVariants as read
+use Rattle.morris_jobs.specs.declared.fault.Fault.{Fault}
+use Rattle.morris_jobs.specs.declared.fault.Fault.TheVariants as fault
+use Rattle.morris_jobs.specs.Faults.{is_write, read_fault}
+use Rattle.morris_commands.specs.Probe.{Loaded, Loads}
+use Rattle.morris_jobs.specs.Inputs.{IsUnfit, Joins}
+use Rattle.morris_jobs.specs.Inputs.{Input}
 
 -- no room is wanting where something was read
 pub no_room_wanting : {A : Type 0} (x : Option Table) → Ok x ≡ Err read.Memory → A

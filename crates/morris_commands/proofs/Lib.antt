@@ -4,6 +4,5 @@ mod BundleLaws
 pub mod BuildLaws
 mod OwnLaws
 mod AloneLaws
-pub mod NearLaws
 pub mod BeforeLaws
 pub mod DeepestLaws

@@ -6,15 +6,16 @@ use Rattle.std.proofs.lemmas.List.Elements.{Contains-push}
 use Rattle.morris_board.specs.Boards.{Shape}
 use Rattle.morris_index.specs.Pairs.{Counts, EndsIn, below_of}
 use Rattle.morris_workers.specs.Ranges.{range_fault}
-use Rattle.morris_table.specs.declared.layout.Layout.{Layout}
-use Rattle.morris_table.specs.Known.{IsBeyondCodes}
-use Rattle.morris_table.specs.Shelves.{Stored, table_on}
-use Rattle.morris_table.proofs.ShelfLaws.{cases_pair}
-use Rattle.morris_faults.specs.declared.fault.Fault.{Fault}
-use Rattle.morris_faults.specs.declared.fault.Fault.TheVariants as fault
-use Rattle.morris_faults.specs.PairText.{read_pair_of}
+use Rattle.morris_pairs.specs.declared.layout.Layout.{Layout}
+use Rattle.morris_pairs.specs.Known.{IsBeyondCodes}
+use Rattle.morris_pairs.specs.Shelves.{Stored, table_on}
+use Rattle.morris_pairs.proofs.ShelfLaws.{cases_pair}
+use Rattle.morris_jobs.specs.declared.fault.Fault.{Fault}
+use Rattle.morris_jobs.specs.declared.fault.Fault.TheVariants as fault
+use Rattle.morris_jobs.specs.PairText.{read_pair_of}
 use Rattle.morris_commands.specs.Build as build
-use Rattle.morris_commands.specs.Build.{AnswersBuildOn, AnswersBuilt, HasExact, HasExactAt, HasExactBut, IsUnbuiltAt, IsUnbuiltFor, pairs_written}
+use Rattle.morris_commands.specs.Build.{AnswersBuildOn, AnswersBuilt, HasExact, HasExactBut, IsUnbuiltFor, pairs_written}
+use Rattle.morris_jobs.specs.Orders.{HasExactAt, IsUnbuiltAt}
 use Rattle.morris_commands.specs.Stats.{HasTooDeep, RestsOnTooDeep}
 use Rattle.morris_commands.specs.StatsByClasses as classes
 use Rattle.morris_commands.specs.StatsByClasses.{AnswersByClassesOn, AnswersCounted}

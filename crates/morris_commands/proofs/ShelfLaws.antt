@@ -5,14 +5,14 @@ use Rattle.std.specs.List.{Contains}
 use Rattle.std.proofs.lemmas.Bool.{and_parts, leb-true}
 use Rattle.std.proofs.lemmas.List.Elements.{Contains-append_right, Contains-push_cases}
 use Rattle.morris_moves.proofs.ListLaws.{Contains-head}
-use Rattle.morris_table.specs.FilterLaws.{filter-contains}
+use Rattle.morris_pairs.specs.FilterLaws.{filter-contains}
 use Rattle.morris_board.specs.Boards.{Shape}
 use Rattle.morris_index.specs.Pairs.{Counts, NeedsFirst, all_pairs, below_of, is_below}
-use Rattle.morris_table.specs.Known.{IsBeyondCodes}
-use Rattle.morris_table.specs.Shelves.{Stored, first_missing, table_on}
-use Rattle.morris_table.proofs.ShelfLaws.{cases_pair, none-missing}
-use Rattle.morris_commands.specs.Build.{stones}
-use Rattle.morris_commands.proofs.NearLaws.{needs-one_less}
+use Rattle.morris_pairs.specs.Known.{IsBeyondCodes}
+use Rattle.morris_pairs.specs.Shelves.{Stored, first_missing, table_on}
+use Rattle.morris_pairs.proofs.ShelfLaws.{cases_pair, none-missing}
+use Rattle.morris_jobs.specs.Orders.{stones}
+use Rattle.morris_jobs.proofs.NearLaws.{needs-one_less}
 
 -- one below it has no more
 pub below_no_more : (c d : Counts) → Contains (below_of c) d → stones d ≤ stones c

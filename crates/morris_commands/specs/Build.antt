@@ -6,24 +6,20 @@ use Rattle.morris_board.specs.Boards.{Shape}
 use Rattle.morris_index.specs.Pairs.{Counts, below_of}
 use Rattle.morris_workers.specs.Ranges.{range_fault}
 use Rattle.morris_workers.specs.declared.fault.SolveFault.{SolveFault}
-use Rattle.morris_table.specs.declared.layout.Layout.{Layout}
-use Rattle.morris_table.specs.declared.layout.Layout.TheVariants.{Full, Classes}
-use Rattle.morris_table.specs.Known.{IsBeyondCodes}
-use Rattle.morris_table.specs.Shelves.{Stored, table_on}
-use Rattle.morris_table.specs.TableFiles.{file_of}
-use Rattle.morris_table.specs.Tables.{IsTable, Table}
-use Rattle.morris_faults.specs.declared.fault.Fault.{Fault}
-use Rattle.morris_faults.specs.declared.fault.Fault.TheVariants as fault
-use Rattle.morris_faults.specs.Faults.{Prints, solve_fault}
-use Rattle.morris_faults.specs.PairText.{read_pair_of}
+use Rattle.morris_pairs.specs.declared.layout.Layout.{Layout}
+use Rattle.morris_pairs.specs.declared.layout.Layout.TheVariants.{Full, Classes}
+use Rattle.morris_pairs.specs.Known.{IsBeyondCodes}
+use Rattle.morris_pairs.specs.Shelves.{Stored, table_on}
+use Rattle.morris_pairs.specs.TableFiles.{file_of}
+use Rattle.morris_pairs.specs.Tables.{IsTable, Table}
+use Rattle.morris_jobs.specs.declared.fault.Fault.{Fault}
+use Rattle.morris_jobs.specs.declared.fault.Fault.TheVariants as fault
+use Rattle.morris_jobs.specs.Faults.{Prints, solve_fault}
+use Rattle.morris_jobs.specs.PairText.{read_pair_of}
+use Rattle.morris_jobs.specs.Orders.{HasExactAt, layout_asked}
 use Rattle.morris_commands.specs.Stats.{HasTooDeep}
 
 -- ---- the files
-
--- the layout of the tables: an entry for each class of positions where that is asked for, and
--- otherwise one for each position
-abbrev pub layout_asked : Bool → Layout
-layout_asked classes = if classes then Classes else Full
 
 -- the pairs whose files are written: all those below a pair, in order, its own among them, or its
 -- own alone
@@ -50,10 +46,6 @@ file_on board shelf c = elim (table_on shelf c) [ None ↦ [] | Some t ↦ file_
 abbrev pub HasTables : Stored → List Counts → Type 0
 HasTables shelf pairs = (c : Counts) → Contains pairs c → is_some (table_on shelf c) ≡ true
 
--- the shelf has a table of this pair in a layout, in which each code is the game's
-abbrev pub HasExactAt : Shape → Layout → Stored → Counts → Type 0
-HasExactAt board l shelf c = (t : Table) × (table_on shelf c ≡ Some t) × (t.pair ≡ c) × (t.layout ≡ l) × IsTable board t
-
 -- it has such a table of each of these pairs
 abbrev pub HasExact : Shape → Layout → Stored → List Counts → Type 0
 HasExact board l shelf pairs = (c : Counts) → Contains pairs c → HasExactAt board l shelf c
@@ -62,23 +54,7 @@ HasExact board l shelf pairs = (c : Counts) → Contains pairs c → HasExactAt 
 abbrev pub HasExactBut : Shape → Layout → Stored → Counts → List Counts → Type 0
 HasExactBut board l shelf but pairs = (c : Counts) → Contains pairs c → c ≢ but → HasExactAt board l shelf c
 
--- how many stones a pair has
-abbrev pub stones : Counts → ℕ
-stones c = c.greater + c.lesser
-
--- what a pair or one after it may need is still there: it needs tables of one stone less
-abbrev pub IsSpared : Stored → Stored → Counts → Type 0
-IsSpared old new c = (d : Counts) → stones c ≤ stones d + 1 → table_on new d ≡ table_on old d
-
 -- ---- the refusals
-
--- Why a pair isn't built, where those that it needs are there: want of memory; a block of this
--- number was left incomplete; or codes don't suffice for the depths.
-abbrev pub IsUnbuiltAt : Shape → Counts → ℕ → Fault → Type 0
-IsUnbuiltAt board pair blocks fault.Memory = ⊤
-IsUnbuiltAt board pair blocks (fault.Missing number) = number < blocks
-IsUnbuiltAt board pair blocks fault.TooDeep = IsBeyondCodes board pair
-IsUnbuiltAt board pair blocks _ = ⊥
 
 -- why a pair isn't built after those below it
 abbrev pub IsUnbuiltFor : Shape → Counts → ℕ → Fault → Type 0

@@ -12,9 +12,9 @@ use Rattle.morris_moves.specs.Values.{AnswersWithin}
 use Rattle.morris_moves.specs.declared.search.Within.{Within}
 use Rattle.morris_moves.specs.declared.search.Within.TheVariants.{Lost, Won, Unknown}
 use Rattle.morris_probe.specs.Lines.{line, move_line, number_line}
-use Rattle.morris_faults.specs.declared.fault.Fault.{Fault}
-use Rattle.morris_faults.specs.declared.fault.Fault.TheVariants as fault
-use Rattle.morris_faults.specs.Faults.{Prints, text_fault}
+use Rattle.morris_jobs.specs.declared.fault.Fault.{Fault}
+use Rattle.morris_jobs.specs.declared.fault.Fault.TheVariants as fault
+use Rattle.morris_jobs.specs.Faults.{Prints, text_fault}
 
 -- `own A other B`
 abbrev pub counts_line : Sides → List ℕ

@@ -6,35 +6,18 @@ use Rattle.morris_board.specs.Boards.{Shape}
 use Rattle.morris_board.specs.Positions.{Sides, read_of}
 use Rattle.morris_board.specs.declared.faults.TextFault.{TextFault}
 use Rattle.morris_index.specs.Pairs.{Counts, counts}
-use Rattle.morris_table.specs.Agreement.{IsFirstToDiffer}
-use Rattle.morris_table.specs.FileReading.{CountsRead, MayTakeRoom, Reads, StandsInFile, next_file_in}
-use Rattle.morris_table.specs.Shelves.{Stored, first_missing, table_on}
-use Rattle.morris_table.specs.Tables.{IsTable, Table}
-use Rattle.morris_table.specs.declared.file_faults.ReadFault.{ReadFault}
-use Rattle.morris_table.specs.declared.file_faults.ReadFault.TheVariants as read
+use Rattle.morris_pairs.specs.Agreement.{IsFirstToDiffer}
+use Rattle.morris_pairs.specs.FileReading.{CountsRead, MayTakeRoom, Reads, StandsInFile, next_file_in}
+use Rattle.morris_pairs.specs.Shelves.{Stored, first_missing, table_on}
+use Rattle.morris_pairs.specs.Tables.{IsTable, Table}
+use Rattle.morris_pairs.specs.declared.file_faults.ReadFault.{ReadFault}
+use Rattle.morris_pairs.specs.declared.file_faults.ReadFault.TheVariants as read
 use Rattle.morris_probe.specs.Probing.{missing_table}
 use Rattle.morris_probe.specs.Reports.{IsReport}
-use Rattle.morris_faults.specs.declared.fault.Fault.{Fault}
-use Rattle.morris_faults.specs.declared.fault.Fault.TheVariants as fault
-use Rattle.morris_faults.specs.Faults.{Prints, text_fault, read_fault}
-use Rattle.morris_commands.specs.Verify.{Input}
-
--- ---- the shelf
-
--- The shelf takes a table in: those that its pair needs are there, each of its codes is the game's,
--- and it stands in the place of what was there for its pair.
-pub record Joins (board : Shape) (old new : Stored) (t : Table) : Type 0 where
-  pub ready : first_missing old t.pair ≡ None
-  pub exact : IsTable board t
-  pub this : table_on new t.pair ≡ Some t
-  pub others : (c : Counts) → c ≢ t.pair → table_on new c ≡ table_on old c
-
--- Why it doesn't: the first of the pairs that its pair needs whose table isn't there; otherwise the
--- first entry that isn't what the rules give from those of its results.
-abbrev pub IsUnfit : Shape → Stored → Table → Fault → Type 0
-IsUnfit board shelf t (fault.Needs greater lesser) = first_missing shelf t.pair ≡ Some (counts greater lesser)
-IsUnfit board shelf t (fault.Differs index) = (first_missing shelf t.pair ≡ None) × IsFirstToDiffer board t index
-IsUnfit board shelf t _ = ⊥
+use Rattle.morris_jobs.specs.declared.fault.Fault.{Fault}
+use Rattle.morris_jobs.specs.declared.fault.Fault.TheVariants as fault
+use Rattle.morris_jobs.specs.Faults.{Prints, text_fault, read_fault}
+use Rattle.morris_jobs.specs.Inputs.{Input, IsUnfit, Joins, most_files}
 
 -- ---- the bundle
 
@@ -69,10 +52,6 @@ Loads board (suc more) shelf before loaded =
     Reading board shelf before loaded (λ after t.
     ((refused : Fault) × IsUnfit board shelf t refused × (loaded ≡ (Err refused, after)))
     ⊎ ((next : Stored) × Joins board shelf next t × Loads board more next after loaded))
-
--- at most so many files are taken
-abbrev pub most_files : ℕ
-most_files = 64
 
 -- The tables of a bundle: room for a shelf may be missing; otherwise the files are taken on an
 -- empty one.

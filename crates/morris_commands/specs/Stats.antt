@@ -5,13 +5,13 @@ use Rattle.std.specs.Fmt.{decimal}
 use Rattle.std.specs.Io.KnownBytes.{Keeps}
 use Rattle.morris_board.specs.Boards.{Shape}
 use Rattle.morris_index.specs.Pairs.{Counts, below_of, pair_text, size_of}
-use Rattle.morris_table.specs.Known.{IsBeyondCodes}
+use Rattle.morris_pairs.specs.Known.{IsBeyondCodes}
 use Rattle.morris_census.specs.Census.{HasTallies}
 use Rattle.morris_probe.specs.Lines.{number_line}
-use Rattle.morris_faults.specs.declared.fault.Fault.{Fault}
-use Rattle.morris_faults.specs.declared.fault.Fault.TheVariants as fault
-use Rattle.morris_faults.specs.Faults.{Prints}
-use Rattle.morris_faults.specs.PairText.{read_pair_of}
+use Rattle.morris_jobs.specs.declared.fault.Fault.{Fault}
+use Rattle.morris_jobs.specs.declared.fault.Fault.TheVariants as fault
+use Rattle.morris_jobs.specs.Faults.{Prints}
+use Rattle.morris_jobs.specs.PairText.{read_pair_of}
 use Rattle.morris_commands.specs.Deepest.{ShowsDeepest}
 
 -- `a-b S positions`, where S is how many positions the pair has

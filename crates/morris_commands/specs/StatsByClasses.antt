@@ -5,10 +5,10 @@ use Rattle.morris_board.specs.Boards.{Shape}
 use Rattle.morris_index.specs.Pairs.{Counts}
 use Rattle.morris_workers.specs.Ranges.{range_fault}
 use Rattle.morris_workers.specs.declared.fault.SolveFault.{SolveFault}
-use Rattle.morris_faults.specs.declared.fault.Fault.{Fault}
-use Rattle.morris_faults.specs.declared.fault.Fault.TheVariants as fault
-use Rattle.morris_faults.specs.Faults.{solve_fault}
-use Rattle.morris_faults.specs.PairText.{read_pair_of}
+use Rattle.morris_jobs.specs.declared.fault.Fault.{Fault}
+use Rattle.morris_jobs.specs.declared.fault.Fault.TheVariants as fault
+use Rattle.morris_jobs.specs.Faults.{solve_fault}
+use Rattle.morris_jobs.specs.PairText.{read_pair_of}
 use Rattle.morris_commands.specs.Build.{IsUnbuiltFor}
 use Rattle.morris_commands.specs.Stats.{HasTooDeep, PrintsStats}
 

@@ -5,19 +5,17 @@ use Rattle.std.specs.List.{Contains}
 use Rattle.std.specs.Io.KnownBytes.{Keeps}
 use Rattle.morris_board.specs.Boards.{Shape}
 use Rattle.morris_index.specs.Pairs.{Counts, below_of, pair_text}
-use Rattle.morris_table.specs.Tables.{IsTable, Table}
-use Rattle.morris_table.specs.Agreement.{IsFirstToDiffer}
-use Rattle.morris_table.specs.FileReading.{CountsRead, MayTakeRoom, Reads, StandsInFile, bytes_past, only_file_in}
-use Rattle.morris_table.specs.declared.file_faults.ReadFault.{ReadFault}
-use Rattle.morris_table.specs.declared.file_faults.ReadFault.TheVariants as read
-use Rattle.morris_faults.specs.declared.fault.Fault.{Fault}
-use Rattle.morris_faults.specs.declared.fault.Fault.TheVariants as fault
-use Rattle.morris_faults.specs.Faults.{Prints, read_fault}
+use Rattle.morris_pairs.specs.Tables.{IsTable, Table}
+use Rattle.morris_pairs.specs.Agreement.{IsFirstToDiffer}
+use Rattle.morris_pairs.specs.FileReading.{CountsRead, MayTakeRoom, Reads, StandsInFile, bytes_past, only_file_in}
+use Rattle.morris_pairs.specs.declared.file_faults.ReadFault.{ReadFault}
+use Rattle.morris_pairs.specs.declared.file_faults.ReadFault.TheVariants as read
+use Rattle.morris_jobs.specs.declared.fault.Fault.{Fault}
+use Rattle.morris_jobs.specs.declared.fault.Fault.TheVariants as fault
+use Rattle.morris_jobs.specs.Faults.{Prints, read_fault}
+use Rattle.morris_jobs.specs.Inputs.{Input}
+use Rattle.morris_jobs.specs.Verified.{verified_text}
 use Rattle.morris_commands.specs.Stats.{RestsOnTooDeep}
-
--- `verified a-b: S entries`, where S is how many entries the file has
-unfoldable pub verified_text : Counts → ℕ → List ℕ
-verified_text pair entries = codes "verified " ++ pair_text pair ++ (codes ": " ++ decimal entries) ++ codes " entries\n"
 
 -- another pair is below this one, so that its table is built first
 abbrev pub RestsOnAnother : Counts → Type 0
@@ -56,19 +54,6 @@ AnswersTable board blocks t old new result =
 abbrev pub AnswersFile : {T : Type 0} → Shape → ℕ → Option (List ℕ) → Option (List ℕ) → Result T Fault → Result Table ReadFault → Type 0
 AnswersFile board blocks old new result (Err refused) = (result ≡ Err (read_fault refused)) × Keeps old new
 AnswersFile board blocks old new result (Ok t) = AnswersTable board blocks t old new result
-
--- an input before and after: the bytes that are still to be read, where they are known, and how
--- many calls have failed
-pub record Input : Type 0 where
-  pub bytes : Option (List ℕ)
-  pub failures : ℕ
-
-abbrev pub input_of : Option (List ℕ) → ℕ → Input
-input_of bytes failures = record { bytes = bytes; failures = failures }
-
--- there is room to count one more call that fails of what is read, and one of the output
-abbrev pub MayFail : ℕ → ℕ → Type 0
-MayFail read written = (read < 2 ^ 64 - 1) × (written < 2 ^ 64 - 1)
 
 -- What it answers on a board: what was read of the whole input, in the steps of a table's file, and
 -- the answer to that. Room is wanting in the file only where no step before room is first taken

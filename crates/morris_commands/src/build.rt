@@ -2,48 +2,34 @@
 ghost use Rattle.std.specs.Prelude.{◌≡◌, ◌≢◌, ◌+◌, ◌-◌, ◌^◌, ◌<◌, ◌≤◌, None, true, false, is_some, length, IfErr, IfOk, OnOk};
 ghost use Rattle.std.specs.List.{flat_map};
 ghost use Rattle.morris_board.specs.Streams.{CountsFailure, HasSent};
-ghost use Rattle.morris_commands.specs.Build.{AnswersBuild, AnswersBuildOn, AnswersFiles, HasExact, HasExactAt, HasExactBut, HasTables, IsSpared, IsUnbuiltAt, file_on, layout_asked, pairs_written, stones};
+ghost use Rattle.morris_commands.specs.Build.{AnswersBuild, AnswersBuildOn, AnswersFiles, HasExact, HasExactBut, HasTables, file_on, pairs_written};
 ghost use Rattle.morris_commands.specs.Stats.{RestsOnTooDeep};
 ghost use Rattle.morris_commands.specs.Verify.{IsUnbuiltBefore};
-ghost use Rattle.morris_faults.specs.BoardNames.{board_of};
-ghost use Rattle.morris_faults.specs.Faults.{CountsWrites, is_write};
+ghost use Rattle.morris_jobs.specs.BoardNames.{board_of};
+ghost use Rattle.morris_jobs.specs.Faults.{CountsWrites, is_write};
 ghost use Rattle.morris_index.specs.Pairs.{Counts, EndsIn, below_of};
-ghost use Rattle.morris_table.specs.Known.{IsBeyondCodes};
-ghost use Rattle.morris_table.specs.Shelves.{first_missing, table_on};
-ghost use Rattle.morris_table.specs.TableFiles.{file_of};
+ghost use Rattle.morris_pairs.specs.Shelves.{first_missing, table_on};
+ghost use Rattle.morris_pairs.specs.TableFiles.{file_of};
 
 use morris_board::board::{Board, Geometry};
 use morris_board::streams::Sink;
-use morris_faults::fault::Fault;
-use morris_faults::on_board;
-use morris_faults::pairs::read_pair;
 use morris_index::pair::Pair;
-use morris_progress::size::Way;
-use morris_progress::team::{Crew, Team};
-use morris_progress::teller::Teller;
-use morris_table::building::build_watched;
-use morris_table::exact::Exact;
-use morris_table::file_faults::Write;
-use morris_table::layout::Layout;
-use morris_table::stock::Stock;
-use morris_table::writing::write_table;
-use morris_workers::{OpenGate, Unwatched};
+use morris_jobs::fault::Fault;
+use morris_jobs::on_board;
+use morris_jobs::orders::{Order, build_onto, layout_of, spare};
+use morris_jobs::pairs::read_pair;
+use morris_jobs::size::Way;
+use morris_jobs::team::{Crew, Team};
+use morris_jobs::teller::Teller;
+use morris_pairs::exact::Exact;
+use morris_pairs::file_faults::Write;
+use morris_pairs::layout::Layout;
+use morris_pairs::stock::Stock;
+use morris_pairs::writing::write_table;
+use morris_workers::Unwatched;
 use std::alloc::Global;
 use std::sync::Wait;
 use std::thread::Threads;
-
-/// The tables that are asked for, and by whom they are to be built.
-#[derive(Clone, Copy, Debug)]
-pub struct Order<'a> {
-    /// The name of the board.
-    pub board: &'a str,
-    /// The text of the pair, whose table comes after those of all pairs below it.
-    pub pair: &'a str,
-    /// How many workers there are to be.
-    pub workers: usize,
-    /// Into how many blocks the entries of each pair are to be cut.
-    pub blocks: usize,
-}
 
 /// Builds the tables of all pairs below the one that the text `pair` names on the board named
 /// `board`, in order and the pair's own among them, and writes the file of the pair's table; or,
@@ -87,17 +73,6 @@ pub fn build_out<R: Threads + Wait + Sync, O: Sink>(
         board,
         build_on::<R, O, Unwatched>(rt, alloc, order, all, layout, output, &mut Unwatched)
     )
-}
-
-/// The layout of the tables, by whether entries for classes are asked for.
-pub fn layout_of(classes: bool) -> Layout
-    ensures { result ≡ layout_asked classes }
-{
-    if classes {
-        Layout::Classes
-    } else {
-        Layout::Full
-    }
 }
 
 /// Builds and writes on the board `B` what [`build_out`] does on the board of a name, in this
@@ -155,43 +130,6 @@ pub(crate) fn build_before<B: Board, R: Threads + Wait + Sync, T: Teller>(
         }
     }
     Ok(stock)
-}
-
-/// Lets the tables go that neither this pair needs nor any after it, unless all are to be kept.
-pub fn spare<B: Geometry>(stock: &mut Stock<B>, all: bool, pair: Pair<B>)
-    ensures near { IsSpared stock.old stock.new pair }
-    ensures all { all ≡ true → (c : Counts) → table_on stock.new c ≡ table_on stock.old c }
-    ensures gone { all ≡ false → (c : Counts) → stones c + 1 < stones pair → table_on stock.new c ≡ None }
-{
-    if !all {
-        stock.let_go(pair.greater() + pair.lesser() - 1);
-    }
-}
-
-/// Puts the table of a pair in a layout into a stock that has those that it needs.
-pub fn build_onto<B: Board, R: Threads + Wait + Sync, T: Teller>(
-    crew: Crew<'_, R>,
-    stock: &mut Stock<B>,
-    layout: Layout,
-    pair: Pair<B>,
-    teller: &mut T,
-) -> Result<(), Fault>
-    requires ready { first_missing stock.old pair ≡ None }
-    ensures exact { OnOk result (HasExactAt B.shape layout stock.new pair) }
-    ensures others { OnOk result ((other : Counts) → other ≢ pair → table_on stock.new other ≡ table_on stock.old other) }
-    ensures within { OnOk result (¬ IsBeyondCodes B.shape pair) }
-    ensures refused { IfErr result (IsUnbuiltAt B.shape pair crew.entry.team.blocks) }
-    ensures told { T.becomes teller.old teller.new }
-{
-    let Crew { rt, alloc, team } = crew;
-    let (gate, workers, blocks) = (&OpenGate, team.workers, team.blocks);
-    teller.begin_pair(pair);
-    let table = build_watched(
-        rt, alloc, stock, pair, layout, gate, teller, workers, blocks,
-    )?;
-    teller.end_pair(&table);
-    stock.put(table);
-    Ok(())
 }
 
 /// Writes the file of a pair's table, or those of all pairs below it, in a layout.

@@ -7,7 +7,6 @@ pub mod look;
 mod print_deepest;
 mod print_look;
 pub mod print_stats;
-pub mod print_verified;
 pub mod probe;
 pub mod stats;
 pub mod verify;

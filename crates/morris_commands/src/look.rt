@@ -1,16 +1,16 @@
 //! The command `look`.
 ghost use Rattle.std.specs.Prelude.{◌≡◌, ◌-◌, ◌^◌, ◌<◌, ◌≤◌};
-ghost use Rattle.morris_faults.specs.Faults.{CountsWrites};
-ghost use Rattle.morris_faults.specs.BoardNames.{board_of};
+ghost use Rattle.morris_jobs.specs.Faults.{CountsWrites};
+ghost use Rattle.morris_jobs.specs.BoardNames.{board_of};
 ghost use Rattle.morris_commands.specs.Look.{Looks, LooksOn};
 
 use crate::print_look::Looked;
 use morris_board::board::Geometry;
 use morris_board::position::Position;
 use morris_board::streams::Sink;
-use morris_faults::fault::Fault;
-use morris_faults::on_board;
-use morris_faults::print::print;
+use morris_jobs::fault::Fault;
+use morris_jobs::on_board;
+use morris_jobs::print::print;
 use morris_moves::look_ahead::within;
 
 /// Shows the position that `text` writes on the board named `board`: its text, how many stones each

@@ -8,9 +8,9 @@ ghost use Rattle.morris_commands.specs.Look.{counts_line, value_line, head_text,
 
 use morris_board::board::Geometry;
 use morris_board::position::Position;
-use morris_board::streams::buffered::Buffered;
 use morris_board::streams::{Failed, Sink};
-use morris_faults::print::Printed;
+use morris_board::streams::buffered::Buffered;
+use morris_jobs::print::Printed;
 use morris_moves::rules::moves;
 use morris_moves::search::Within;
 use morris_probe::print::{put_count, put_move_line, put_number_line, put_position};

@@ -1,17 +1,16 @@
 //! What `stats` prints, piece by piece. Each function ends at the first write that fails.
 ghost use Rattle.std.specs.Prelude.{◌≡◌, ◌+◌, ◌*◌, ◌^◌, ◌-◌, ◌<◌, ◌≤◌, length, drop, slice_index, OnOk};
 ghost use Rattle.morris_board.specs.Buffered.{Passes, sink_of, taken_of};
-ghost use Rattle.morris_index.specs.Pairs.{pair_text};
 ghost use Rattle.morris_commands.specs.Stats.{depth_line, depth_lines, draw_line, pair_line, stats_text};
 
 use crate::print_deepest::put_deepest;
 use morris_board::board::Geometry;
-use morris_board::streams::buffered::Buffered;
 use morris_board::streams::{Failed, Sink};
+use morris_board::streams::buffered::Buffered;
 use morris_census::deepest::Deepest;
-use morris_faults::pairs::put_stones;
-use morris_faults::print::Printed;
 use morris_index::pair::Pair;
+use morris_jobs::pairs::put_pair;
+use morris_jobs::print::Printed;
 use morris_probe::print::{put_count, put_number_line};
 
 /// What `stats` prints of a pair.
@@ -58,20 +57,6 @@ fn put_tallies<B: Geometry, S: Sink>(
     put_pair_line(out, pair)?;
     put_depths(out, decided)?;
     put_draws(out, draws)
-}
-
-/// The numbers of a pair.
-#[tactic(auto, using(morris_board::proofs::BufferedLaws::passed_laws))]
-pub fn put_pair<B: Geometry, S: Sink>(
-    out: &mut Buffered<'_, S>,
-    pair: Pair<B>,
-) -> Result<(), Failed>
-    requires failures { S.failures (sink_of out.old) < 2 ^ 64 - 1 }
-    requires room { taken_of out.old < 2 ^ 10 }
-    ensures passed { Passes S.contents S.failures out.old out.new (pair_text pair) result }
-    ensures few { OnOk result (taken_of out.new ≤ taken_of out.old + 41) }
-{
-    put_stones(out, pair.greater(), pair.lesser())
 }
 
 /// A pair and how many positions it has.

@@ -1,25 +1,26 @@
 //! The command `probe`.
 ghost use Rattle.std.specs.Prelude.{◌≡◌, ◌-◌, ◌^◌, ◌<◌, None, Some, false, IfErr, IfOk, OnOk};
-ghost use Rattle.morris_table.specs.Shelves.{first_missing};
-ghost use Rattle.morris_table.specs.Tables.{IsTable};
-ghost use Rattle.morris_faults.specs.Faults.{CountsWrites, is_write};
-ghost use Rattle.morris_faults.specs.BoardNames.{board_of};
-ghost use Rattle.morris_commands.specs.Probe.{AnswersOnBoard, AnswersProbe, IsAsked, IsUnfit, Joins, LoadsBundle, AnswersReport};
-ghost use Rattle.morris_commands.specs.Verify.{MayFail, input_of};
+ghost use Rattle.morris_pairs.specs.Shelves.{first_missing};
+ghost use Rattle.morris_pairs.specs.Tables.{IsTable};
+ghost use Rattle.morris_jobs.specs.Faults.{CountsWrites, is_write};
+ghost use Rattle.morris_jobs.specs.BoardNames.{board_of};
+ghost use Rattle.morris_commands.specs.Probe.{AnswersOnBoard, AnswersProbe, IsAsked, LoadsBundle, AnswersReport};
+ghost use Rattle.morris_jobs.specs.Inputs.{IsUnfit, Joins};
+ghost use Rattle.morris_jobs.specs.Inputs.{MayFail, input_of};
 
 use morris_board::board::Board;
 use morris_board::position::Position;
 use morris_board::streams::{Sink, Source};
-use morris_faults::fault::Fault;
-use morris_faults::on_board;
 use morris_index::pair::Pair;
+use morris_jobs::fault::Fault;
+use morris_jobs::on_board;
+use morris_jobs::size::Way;
+use morris_jobs::teller::Teller;
+use morris_pairs::exact::Exact;
+use morris_pairs::raw::Raw;
+use morris_pairs::reading::read_next;
+use morris_pairs::shelf::Shelf;
 use morris_probe::report::report;
-use morris_progress::size::Way;
-use morris_progress::teller::Teller;
-use morris_table::exact::Exact;
-use morris_table::raw::Raw;
-use morris_table::reading::read_next;
-use morris_table::shelf::Shelf;
 use morris_workers::Unwatched;
 use std::alloc::Global;
 
@@ -54,7 +55,7 @@ pub fn probe_in<I: Source, O: Sink>(
 /// # Errors
 /// [`Fault::Board`] where there is no such board, else [`Fault::Length`], [`Fault::Character`] or
 /// [`Fault::Stones`] where the text isn't that of a position, in this order and before anything is
-/// read. Else the first fault of the bundle: that of a file, as `read_next` of `morris_table` has
+/// read. Else the first fault of the bundle: that of a file, as `read_next` of `morris_pairs` has
 /// it; [`Fault::TooMany`] where a 65th file was read; [`Fault::Needs`] with the first pair that a
 /// table needs and that isn't there, or [`Fault::Differs`] with the index of the first entry that
 /// isn't what the rules give from the entries of its results. Else [`Fault::Needs`] with the pair

@@ -1,28 +1,29 @@
 //! The command `verify`.
 ghost use Rattle.std.specs.Prelude.{◌≡◌, ◌-◌, ◌^◌, ◌<◌, None, IfErr, IfOk, IfSome, OnOk};
-ghost use Rattle.morris_table.specs.Shelves.{first_missing};
-ghost use Rattle.morris_table.specs.Tables.{IsTable};
-ghost use Rattle.morris_faults.specs.Faults.{CountsWrites};
-ghost use Rattle.morris_faults.specs.BoardNames.{board_of};
+ghost use Rattle.morris_pairs.specs.Shelves.{first_missing};
+ghost use Rattle.morris_pairs.specs.Tables.{IsTable};
+ghost use Rattle.morris_jobs.specs.Faults.{CountsWrites};
+ghost use Rattle.morris_jobs.specs.BoardNames.{board_of};
 ghost use Rattle.morris_commands.specs.Stats.{RestsOnTooDeep};
-ghost use Rattle.morris_commands.specs.Verify.{AnswersInput, AnswersVerify, IsUnverified, IsWrong, MayFail, input_of};
+ghost use Rattle.morris_commands.specs.Verify.{AnswersInput, AnswersVerify, IsUnverified, IsWrong};
+ghost use Rattle.morris_jobs.specs.Inputs.{MayFail, input_of};
 
 use crate::build::build_before;
-use crate::print_verified::Verified;
 use morris_board::board::Board;
 use morris_board::streams::{Sink, Source};
-use morris_faults::fault::Fault;
-use morris_faults::on_board;
-use morris_faults::print::print;
-use morris_progress::size::Way;
-use morris_progress::team::Crew;
-use morris_progress::teller::Teller;
+use morris_jobs::fault::Fault;
+use morris_jobs::on_board;
+use morris_jobs::print::print;
+use morris_jobs::print_verified::Verified;
+use morris_jobs::size::Way;
+use morris_jobs::team::Crew;
+use morris_jobs::teller::Teller;
+use morris_pairs::exact::Exact;
+use morris_pairs::raw::Raw;
+use morris_pairs::reading::read_table;
+use morris_pairs::stock::Stock;
+use morris_pairs::verify::VerifyFault;
 use morris_table::building::build_watched;
-use morris_table::exact::Exact;
-use morris_table::raw::Raw;
-use morris_table::reading::read_table;
-use morris_table::stock::Stock;
-use morris_table::verify::VerifyFault;
 use morris_workers::OpenGate;
 use std::sync::Wait;
 use std::thread::Threads;
@@ -35,7 +36,7 @@ use std::thread::Threads;
 ///
 /// # Errors
 /// [`Fault::Board`] where there is no such board, before anything is read; else the fault of the
-/// file, as `read_table` of `morris_table` has it; else the first refusal of a pair below:
+/// file, as `read_table` of `morris_pairs` has it; else the first refusal of a pair below:
 /// [`Fault::Memory`] where memory is refused, [`Fault::Missing`] with the number of a block that
 /// was left incomplete, or [`Fault::TooDeep`] where depths in another pair, on which the file's
 /// rests, go past what a table can hold; else [`Fault::Differs`] with the index of the first entry

@@ -1,22 +1,23 @@
 //! The verification of one file on the thread of the caller.
 ghost use Rattle.std.specs.Prelude.{◌≡◌, ◌-◌, ◌^◌, ◌<◌, None, IfErr, IfOk, OnOk};
-ghost use Rattle.morris_table.specs.Tables.{IsTable};
-ghost use Rattle.morris_faults.specs.Faults.{CountsWrites};
-ghost use Rattle.morris_faults.specs.BoardNames.{board_of};
+ghost use Rattle.morris_pairs.specs.Tables.{IsTable};
+ghost use Rattle.morris_jobs.specs.Faults.{CountsWrites};
+ghost use Rattle.morris_jobs.specs.BoardNames.{board_of};
 ghost use Rattle.morris_commands.specs.Stats.{RestsOnTooDeep};
-ghost use Rattle.morris_commands.specs.Verify.{AnswersInput, AnswersVerify, IsUnverified, MayFail, input_of};
+ghost use Rattle.morris_commands.specs.Verify.{AnswersInput, AnswersVerify, IsUnverified};
+ghost use Rattle.morris_jobs.specs.Inputs.{MayFail, input_of};
 
-use crate::print_verified::Verified;
 use crate::probe::verify_over;
 use crate::stats::sweep_before;
 use morris_board::board::Board;
 use morris_board::streams::{Sink, Source};
-use morris_faults::fault::Fault;
-use morris_faults::on_board;
-use morris_faults::print::print;
-use morris_table::exact::Exact;
-use morris_table::raw::Raw;
-use morris_table::reading::read_table;
+use morris_jobs::fault::Fault;
+use morris_jobs::on_board;
+use morris_jobs::print::print;
+use morris_jobs::print_verified::Verified;
+use morris_pairs::exact::Exact;
+use morris_pairs::raw::Raw;
+use morris_pairs::reading::read_table;
 use morris_workers::Unwatched;
 use std::alloc::Global;
 

@@ -1,7 +1,7 @@
 // What `build_out` refuses of its own, and in which order.
 use morris_board::streams::IntoWrite;
 use morris_commands::build::build_out;
-use morris_faults::fault::Fault;
+use morris_jobs::fault::Fault;
 use std::process::Abort;
 use std::sync::Wait;
 use std::thread::Threads;

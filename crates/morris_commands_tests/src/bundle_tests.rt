@@ -1,10 +1,10 @@
 // Bundles of tables in memory that are verified.
 use crate::into_tests::build;
 use morris_board::streams::{FromRead, IntoWrite};
-use morris_faults::fault::Fault;
-use morris_faults::flaw::Flaw;
 use morris_folder_commands::bundle::verify_bundle;
-use morris_progress::team::Team;
+use morris_jobs::fault::Fault;
+use morris_jobs::flaw::Flaw;
+use morris_jobs::team::Team;
 use morris_workers::Unwatched;
 use std::alloc::{AllocError, Global};
 use std::process::Abort;

@@ -1,6 +1,6 @@
 // The numbers and texts of faults that the program's own words and graphs don't lead to.
-use morris_faults::fault::Fault;
-use morris_faults::flaw::Flaw;
+use morris_jobs::fault::Fault;
+use morris_jobs::flaw::Flaw;
 use std::process::Abort;
 use std::test::Fail;
 

@@ -1,10 +1,10 @@
 // Tables that are built into a folder in memory, while its calls fail one after the other.
 use morris_board::streams::IntoWrite;
 use morris_commands::build::build_out;
-use morris_faults::fault::Fault;
 use morris_folder_commands::into::build_into;
 use morris_folders::folder::Folder;
 use morris_folders::memory::MemoryFolder;
+use morris_jobs::fault::Fault;
 use morris_workers::Unwatched;
 use std::process::Abort;
 use std::sync::Wait;

@@ -6,7 +6,7 @@ use morris_commands::build::build_out;
 use morris_commands::probe::probe_in;
 use morris_commands::stats::stats;
 use morris_commands::verify_in::verify_in;
-use morris_faults::fault::Fault;
+use morris_jobs::fault::Fault;
 use sha2::{Digest, Sha256};
 use std::alloc::{AllocError, Global};
 use std::process::Abort;

@@ -1,6 +1,6 @@
 // Pairs that words name are one where both numbers are.
 use morris_board::nine::Nine;
-use morris_faults::pairs::read_pair;
+use morris_jobs::pairs::read_pair;
 use std::process::Abort;
 
 fn assert_one(rt: &impl Abort, a: &str, b: &str, is_one: bool) {

@@ -1,16 +1,16 @@
 -- Where a bundle leads that is verified file by file.
 use Rattle.std.proofs.Common.{◌≡◌, ℕ, zero, suc, ◌-◌, ◌+◌, ◌<◌, Bool, true, false, List, Option, Some, None, Result, Ok, Err, arith, refl, subst}
 use Rattle.morris_board.specs.Boards.{Shape}
-use Rattle.morris_table.specs.Shelves.{Stored}
-use Rattle.morris_table.specs.Tables.{Table}
-use Rattle.morris_table.specs.declared.file_faults.ReadFault.{ReadFault}
-use Rattle.morris_table.specs.declared.file_faults.ReadFault.TheVariants as read
-use Rattle.morris_faults.specs.declared.fault.Fault.{Fault}
-use Rattle.morris_faults.specs.declared.fault.Fault.TheVariants as fault
-use Rattle.morris_faults.specs.Faults.{is_write, read_fault}
+use Rattle.morris_pairs.specs.Shelves.{Stored}
+use Rattle.morris_pairs.specs.Tables.{Table}
+use Rattle.morris_pairs.specs.declared.file_faults.ReadFault.{ReadFault}
+use Rattle.morris_pairs.specs.declared.file_faults.ReadFault.TheVariants as read
+use Rattle.morris_jobs.specs.declared.fault.Fault.{Fault}
+use Rattle.morris_jobs.specs.declared.fault.Fault.TheVariants as fault
+use Rattle.morris_jobs.specs.Faults.{is_write, read_fault}
 use Rattle.morris_folder_commands.specs.Bundle.{Ending, IsNext, TakesNear, VerifiesBundle}
 use Rattle.morris_folder_commands.specs.From.{AtEnd}
-use Rattle.morris_commands.specs.Verify.{Input}
+use Rattle.morris_jobs.specs.Inputs.{Input}
 
 -- no room is wanting where something was read
 pub no_room_wanting : {A : Type 0} (x : Option Table) → Ok x ≡ Err read.Memory → A

@@ -5,9 +5,9 @@ use Rattle.std.proofs.KnownBytes.{Keeps-refl}
 use Rattle.morris_board.specs.Boards.{Shape}
 use Rattle.morris_board.specs.Streams.{AllSent}
 use Rattle.morris_index.specs.Pairs.{Counts}
-use Rattle.morris_table.specs.declared.layout.Layout.{Layout}
-use Rattle.morris_table.specs.Known.{IsBeyondCodes}
-use Rattle.morris_table.specs.Tables.{Table}
+use Rattle.morris_pairs.specs.declared.layout.Layout.{Layout}
+use Rattle.morris_pairs.specs.Known.{IsBeyondCodes}
+use Rattle.morris_pairs.specs.Tables.{Table}
 use Rattle.morris_folders.specs.Files.{Files}
 use Rattle.morris_folders.specs.Files as folder
 use Rattle.std.specs.Io.KnownBytes.{Appends}
@@ -17,10 +17,10 @@ use Rattle.std.proofs.Math.Path.{ap₂}
 use Rattle.morris_board.specs.Streams.{PartSent}
 use Rattle.morris_keeping.specs.Digests.{digest_line, digest_lines}
 use Rattle.morris_keeping.specs.declared.table_file.Written.{Written}
-use Rattle.morris_faults.specs.declared.fault.Fault.{Fault}
-use Rattle.morris_faults.specs.declared.fault.Fault.TheVariants as fault
-use Rattle.morris_commands.specs.Build.{IsUnbuiltAt}
-use Rattle.morris_faults.specs.Faults.{CountsWrites, is_write}
+use Rattle.morris_jobs.specs.declared.fault.Fault.{Fault}
+use Rattle.morris_jobs.specs.declared.fault.Fault.TheVariants as fault
+use Rattle.morris_jobs.specs.Orders.{IsUnbuiltAt}
+use Rattle.morris_jobs.specs.Faults.{CountsWrites, is_write}
 use Rattle.morris_folder_commands.specs.Filling.{IsOf, PrintsLine}
 use Rattle.morris_folder_commands.specs.Into.{Ends, Fills, IsBuilt, IsDone, IsFiled, IsUndone, Place, StaysPut, digest_of, filed_line, filed_text}
 

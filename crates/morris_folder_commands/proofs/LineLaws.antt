@@ -6,7 +6,7 @@ use Rattle.hex.specs.Hex.{encode_lower, lower_digits}
 use Rattle.hex.proofs.HexLemmas.{length-encode_with}
 use Rattle.morris_index.specs.Pairs.{Counts}
 use Rattle.morris_folder_commands.specs.Into.{filed_text}
-use Rattle.morris_commands.specs.Verify.{verified_text}
+use Rattle.morris_jobs.specs.Verified.{verified_text}
 
 -- a number of 64 bits has at most 20 digits
 digits : (n : ℕ) → n < 2 ^ 64 → length (decimal n) ≤ 20

@@ -4,18 +4,18 @@ use Rattle.std.specs.Prelude.{◌≡◌, ◌⊎◌, ℕ, zero, suc, Bool, true, 
 use Rattle.std.specs.Io.KnownBytes.{Keeps}
 use Rattle.morris_board.specs.Boards.{Shape}
 use Rattle.morris_index.specs.Pairs.{Counts}
-use Rattle.morris_table.specs.FileReading.{CountsRead, MayTakeRoom, Reads, StandsInFile, next_file_in}
-use Rattle.morris_table.specs.Shelves.{Stored, table_on}
-use Rattle.morris_table.specs.Tables.{Table}
-use Rattle.morris_table.specs.declared.file_faults.ReadFault.{ReadFault}
-use Rattle.morris_table.specs.declared.file_faults.ReadFault.TheVariants as read
-use Rattle.morris_faults.specs.declared.fault.Fault.{Fault}
-use Rattle.morris_faults.specs.declared.fault.Fault.TheVariants as fault
-use Rattle.morris_faults.specs.Faults.{read_fault}
+use Rattle.morris_pairs.specs.FileReading.{CountsRead, MayTakeRoom, Reads, StandsInFile, next_file_in}
+use Rattle.morris_pairs.specs.Shelves.{Stored, table_on}
+use Rattle.morris_pairs.specs.Tables.{Table}
+use Rattle.morris_pairs.specs.declared.file_faults.ReadFault.{ReadFault}
+use Rattle.morris_pairs.specs.declared.file_faults.ReadFault.TheVariants as read
+use Rattle.morris_jobs.specs.declared.fault.Fault.{Fault}
+use Rattle.morris_jobs.specs.declared.fault.Fault.TheVariants as fault
+use Rattle.morris_jobs.specs.Faults.{read_fault}
 use Rattle.morris_folder_commands.specs.From.{AtEnd, KeepsNear}
 use Rattle.morris_folder_commands.specs.FromSteps.{TakesIn}
-use Rattle.morris_commands.specs.Probe.{most_files}
-use Rattle.morris_commands.specs.Verify.{Input}
+use Rattle.morris_jobs.specs.Inputs.{most_files}
+use Rattle.morris_jobs.specs.Inputs.{Input}
 
 -- how it ends: what is answered, what is then left of the input, and what the output has taken
 abbrev pub Ending : Type 0

@@ -7,8 +7,8 @@ use Rattle.morris_folders.specs.Files as folder
 use Rattle.morris_folders.specs.Whole.{AreWhole, part_of}
 use Rattle.morris_keeping.specs.Lists.{AreKeptLines}
 use Rattle.morris_keeping.specs.Names.{digests_name_of}
-use Rattle.morris_faults.specs.declared.fault.Fault.{Fault}
-use Rattle.morris_faults.specs.declared.fault.Fault.TheVariants as fault
+use Rattle.morris_jobs.specs.declared.fault.Fault.{Fault}
+use Rattle.morris_jobs.specs.declared.fault.Fault.TheVariants as fault
 
 -- ---- the lock
 

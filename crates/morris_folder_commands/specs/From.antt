@@ -4,20 +4,20 @@ use Rattle.std.specs.Io.KnownBytes.{Appends, Keeps}
 use Rattle.morris_board.specs.Boards.{Shape}
 use Rattle.morris_board.specs.Streams.{PartSent}
 use Rattle.morris_index.specs.Pairs.{Counts, all_pairs}
-use Rattle.morris_table.specs.Shelves.{Stored, table_on}
-use Rattle.morris_table.specs.Tables.{Table}
+use Rattle.morris_pairs.specs.Shelves.{Stored, table_on}
+use Rattle.morris_pairs.specs.Tables.{Table}
 use Rattle.morris_folders.specs.Files.{Files}
 use Rattle.morris_folders.specs.Files as folder
 use Rattle.morris_keeping.specs.Kept.{AnswersKept}
 use Rattle.morris_keeping.specs.Names.{name_of}
 use Rattle.morris_keeping.specs.declared.kept.KeptFault.{KeptFault}
 use Rattle.morris_keeping.specs.declared.kept.KeptFault.TheVariants as kept
-use Rattle.morris_faults.specs.declared.fault.Fault.{Fault}
-use Rattle.morris_faults.specs.declared.fault.Fault.TheVariants as fault
-use Rattle.morris_faults.specs.Faults.{in_file, read_fault}
-use Rattle.morris_commands.specs.Build.{IsSpared, stones}
-use Rattle.morris_commands.specs.Probe.{IsUnfit, Joins}
-use Rattle.morris_commands.specs.Verify.{verified_text}
+use Rattle.morris_jobs.specs.declared.fault.Fault.{Fault}
+use Rattle.morris_jobs.specs.declared.fault.Fault.TheVariants as fault
+use Rattle.morris_jobs.specs.Faults.{in_file, read_fault}
+use Rattle.morris_jobs.specs.Orders.{IsSpared, stones}
+use Rattle.morris_jobs.specs.Inputs.{IsUnfit, Joins}
+use Rattle.morris_jobs.specs.Verified.{verified_text}
 
 -- whether a board has points for the stones of a pair
 abbrev pub fits : Shape → Counts → Bool

@@ -2,16 +2,16 @@
 use Rattle.std.specs.Prelude.{◌≡◌, ℕ, ◌+◌, ◌-◌, ◌^◌, ◌<◌, ◌⊎◌, List, true, false, slice_get, Option, Some, None, Result, Ok, Err}
 use Rattle.morris_board.specs.Boards.{Shape}
 use Rattle.morris_index.specs.Pairs.{Counts, all_pairs}
-use Rattle.morris_table.specs.Shelves.{Stored}
-use Rattle.morris_table.specs.Tables.{Table}
+use Rattle.morris_pairs.specs.Shelves.{Stored}
+use Rattle.morris_pairs.specs.Tables.{Table}
 use Rattle.morris_folders.specs.Files.{Files}
 use Rattle.morris_keeping.specs.Kept.{AnswersKept}
 use Rattle.morris_keeping.specs.declared.kept.KeptFault.{KeptFault}
-use Rattle.morris_faults.specs.declared.fault.Fault.{Fault}
-use Rattle.morris_faults.specs.Faults.{in_file}
+use Rattle.morris_jobs.specs.declared.fault.Fault.{Fault}
+use Rattle.morris_jobs.specs.Faults.{in_file}
 use Rattle.morris_folder_commands.specs.Filling.{PrintsLine}
 use Rattle.morris_folder_commands.specs.From.{fits, kept_fault, verified_line}
-use Rattle.morris_commands.specs.Probe.{IsUnfit, Joins}
+use Rattle.morris_jobs.specs.Inputs.{IsUnfit, Joins}
 
 -- the pair at a place of all pairs, where the board has points for it
 abbrev pub place_is : Shape → ℕ → Option Counts → Type 0

@@ -9,10 +9,10 @@ use Rattle.morris_board.specs.Streams.{PartSent}
 use Rattle.morris_index.specs.Pairs.{Counts, below_of, pair_text}
 use Rattle.morris_workers.specs.Ranges.{range_fault}
 use Rattle.morris_workers.specs.declared.fault.SolveFault.{SolveFault}
-use Rattle.morris_table.specs.declared.layout.Layout.{Layout}
-use Rattle.morris_table.specs.Known.{IsBeyondCodes}
-use Rattle.morris_table.specs.TableFiles.{file_of}
-use Rattle.morris_table.specs.Tables.{IsTable, Table}
+use Rattle.morris_pairs.specs.declared.layout.Layout.{Layout}
+use Rattle.morris_pairs.specs.Known.{IsBeyondCodes}
+use Rattle.morris_pairs.specs.TableFiles.{file_of}
+use Rattle.morris_pairs.specs.Tables.{IsTable, Table}
 use Rattle.morris_folders.specs.Files.{Files, Goes}
 use Rattle.morris_folders.specs.Files as folder
 use Rattle.morris_folders.specs.Whole.{AreWhole, AreNotWhole}
@@ -21,11 +21,11 @@ use Rattle.morris_folders.specs.declared.whole.Step.{Step}
 use Rattle.morris_folders.specs.declared.whole.Step.TheVariants as step
 use Rattle.morris_keeping.specs.Digests.{digest_line}
 use Rattle.morris_keeping.specs.Names.{digests_name_of, name_of}
-use Rattle.morris_faults.specs.declared.fault.Fault.{Fault}
-use Rattle.morris_faults.specs.declared.fault.Fault.TheVariants as fault
-use Rattle.morris_commands.specs.Build.{IsUnbuiltAt}
-use Rattle.morris_faults.specs.Faults.{solve_fault}
-use Rattle.morris_faults.specs.PairText.{read_pair_of}
+use Rattle.morris_jobs.specs.declared.fault.Fault.{Fault}
+use Rattle.morris_jobs.specs.declared.fault.Fault.TheVariants as fault
+use Rattle.morris_jobs.specs.Orders.{IsUnbuiltAt}
+use Rattle.morris_jobs.specs.Faults.{solve_fault}
+use Rattle.morris_jobs.specs.PairText.{read_pair_of}
 use Rattle.morris_folder_commands.specs.Entering.{IsBegun, IsEntered, IsShut, IsUnbegun}
 
 -- ---- what is printed

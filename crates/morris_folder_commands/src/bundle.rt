@@ -1,21 +1,21 @@
 //! The command `verify` over the table files of one input.
 ghost use Rattle.std.specs.Prelude.{◌≡◌, ◌-◌, ◌^◌, ◌<◌, None};
-ghost use Rattle.morris_faults.specs.Faults.{CountsWrites};
-ghost use Rattle.morris_faults.specs.BoardNames.{board_of};
+ghost use Rattle.morris_jobs.specs.Faults.{CountsWrites};
+ghost use Rattle.morris_jobs.specs.BoardNames.{board_of};
 ghost use Rattle.morris_folder_commands.specs.Bundle.{AnswersBundle, AnswersBundleOn};
 ghost use Rattle.morris_folder_commands.specs.From.{AtEnd};
-ghost use Rattle.morris_commands.specs.Verify.{MayFail, input_of};
+ghost use Rattle.morris_jobs.specs.Inputs.{MayFail, input_of};
 
 use crate::from::{keep_near, take_in};
 use morris_board::board::Board;
 use morris_board::streams::{Sink, Source};
-use morris_faults::fault::Fault;
-use morris_faults::on_board;
-use morris_progress::size::FolderSize;
-use morris_progress::team::{Crew, Team};
-use morris_progress::teller::Teller;
-use morris_table::reading::read_next;
-use morris_table::stock::Stock;
+use morris_jobs::fault::Fault;
+use morris_jobs::on_board;
+use morris_jobs::size::FolderSize;
+use morris_jobs::team::{Crew, Team};
+use morris_jobs::teller::Teller;
+use morris_pairs::reading::read_next;
+use morris_pairs::stock::Stock;
 use std::alloc::Global;
 use std::thread::Threads;
 
@@ -37,7 +37,7 @@ const MOST_FILES: u8 = 64;
 ///
 /// # Errors
 /// [`Fault::Board`] where there is no such board, before anything is read. Else the first refusal,
-/// after which nothing is read: that of a file, as `read_next` of `morris_table` has it;
+/// after which nothing is read: that of a file, as `read_next` of `morris_pairs` has it;
 /// [`Fault::InFile`], with the file's pair, where its table needs one that isn't there, or where an
 /// entry isn't what the rules give from the entries of its results; [`Fault::TooMany`] where a 65th
 /// file was read; [`Fault::Memory`] where memory is refused; [`Fault::Write`], with all bytes that

@@ -2,15 +2,15 @@
 //! them.
 ghost use Rattle.std.specs.Prelude.{◌≡◌, ◌-◌, ◌^◌, ◌<◌, [], true, false, IfErr, MatchResult, OnOk, Ok, Err};
 ghost use Rattle.morris_folders.specs.Files.{Goes};
-ghost use Rattle.morris_faults.specs.Faults.{is_write};
+ghost use Rattle.morris_jobs.specs.Faults.{is_write};
 ghost use Rattle.morris_folder_commands.specs.Entering.{BeginsList, IsCaused, IsEntered, IsLeft, IsShut, IsUnbegun};
 
 use morris_board::board::Geometry;
 use morris_board::streams::Failed;
-use morris_faults::fault::Fault;
 use morris_folders::folder::Folder;
 use morris_folders::whole::{NotWhole, Step};
 use morris_index::pair::Pair;
+use morris_jobs::fault::Fault;
 use morris_keeping::digests::write_list;
 use morris_keeping::names::digests_name;
 use morris_keeping::old_list::{ListFault, kept_lines};

@@ -1,35 +1,36 @@
 //! The command `verify` over the files of a folder.
 ghost use Rattle.std.specs.Prelude.{◌≡◌, ◌+◌, ◌-◌, ◌^◌, ◌<◌, ◌≤◌, None, false, IfErr, IfOk, OnOk};
-ghost use Rattle.morris_commands.specs.Probe.{IsUnfit, Joins};
-ghost use Rattle.morris_commands.specs.Verify.{MayFail, verified_text};
-ghost use Rattle.morris_faults.specs.BoardNames.{board_of};
-ghost use Rattle.morris_faults.specs.Faults.{CountsWrites, is_write};
+ghost use Rattle.morris_jobs.specs.Inputs.{IsUnfit, Joins};
+ghost use Rattle.morris_jobs.specs.Inputs.{MayFail};
+ghost use Rattle.morris_jobs.specs.Verified.{verified_text};
+ghost use Rattle.morris_jobs.specs.BoardNames.{board_of};
+ghost use Rattle.morris_jobs.specs.Faults.{CountsWrites, is_write};
 ghost use Rattle.morris_folder_commands.specs.Filling.{PrintsLine};
 ghost use Rattle.morris_folder_commands.specs.From.{AnswersFound, AnswersFrom, AnswersFromOn, KeepsNear};
 ghost use Rattle.morris_folder_commands.specs.FromSteps.{AnswersFile, TakesIn};
 ghost use Rattle.morris_folders.specs.Files.{Keeps};
 ghost use Rattle.morris_keeping.specs.Names.{name_of};
-ghost use Rattle.morris_table.specs.Shelves.{first_missing};
-ghost use Rattle.morris_table.specs.Tables.{IsTable};
+ghost use Rattle.morris_pairs.specs.Shelves.{first_missing};
+ghost use Rattle.morris_pairs.specs.Tables.{IsTable};
 
 use crate::places::pair_at;
 use crate::survey::look_ahead;
 use morris_board::board::{Board, Geometry};
 use morris_board::streams::Sink;
-use morris_commands::build::spare;
-use morris_commands::print_verified::Verified;
-use morris_faults::fault::Fault;
-use morris_faults::on_board;
-use morris_faults::print::send_after;
 use morris_folders::folder::Folder;
 use morris_index::below::PAIR_COUNT;
 use morris_index::pair::Pair;
+use morris_jobs::fault::Fault;
+use morris_jobs::on_board;
+use morris_jobs::orders::spare;
+use morris_jobs::print::send_after;
+use morris_jobs::print_verified::Verified;
+use morris_jobs::team::{Crew, Team};
+use morris_jobs::teller::Teller;
 use morris_keeping::kept::{KeptFault, read_table_file};
-use morris_progress::team::{Crew, Team};
-use morris_progress::teller::Teller;
-use morris_table::exact::Exact;
-use morris_table::raw::Raw;
-use morris_table::stock::Stock;
+use morris_pairs::exact::Exact;
+use morris_pairs::raw::Raw;
+use morris_pairs::stock::Stock;
 use std::alloc::Global;
 use std::thread::Threads;
 
@@ -48,7 +49,7 @@ use std::thread::Threads;
 /// [`Fault::Board`] where there is no such board, before the folder is touched. Else
 /// [`Fault::NoFolder`] where there is no such folder. Else the first refusal: [`Fault::Unopened`]
 /// where a file can't be opened; [`Fault::OtherPair`] where it has the table of another pair;
-/// [`Fault::InFile`] where it has a flaw, as `read_table` of `morris_table` has it, where it needs
+/// [`Fault::InFile`] where it has a flaw, as `read_table` of `morris_pairs` has it, where it needs
 /// a table that isn't there, or where an entry isn't what the rules give from the entries of its
 /// results; [`Fault::Memory`] where memory is refused; [`Fault::Write`],
 /// with all bytes that went out, at the first write to `output` that fails. Else [`Fault::NoFiles`]

@@ -5,13 +5,13 @@ ghost use Rattle.morris_folder_commands.specs.FromSteps.{EndsAt};
 
 use crate::places::pair_at;
 use morris_board::board::Geometry;
-use morris_faults::fault::Fault;
 use morris_folders::folder::Folder;
 use morris_index::below::PAIR_COUNT;
+use morris_jobs::fault::Fault;
+use morris_jobs::size::{FolderSize, Size};
+use morris_jobs::teller::Teller;
 use morris_keeping::header::{Header, read_header};
 use morris_keeping::kept::KeptFault;
-use morris_progress::size::{FolderSize, Size};
-use morris_progress::teller::Teller;
 use std::alloc::Global;
 
 /// What the headers of files say.

@@ -5,11 +5,11 @@ use Rattle.std.proofs.Math.Path.{ap₂}
 use Rattle.std.proofs.lemmas.Bool.{and_parts, eq-eqb, eqb-true, not-false}
 use Rattle.morris_board.specs.Boards.{Shape}
 use Rattle.morris_index.specs.Pairs.{Counts, counts}
-use Rattle.morris_table.specs.FileReading.{MayTakeRoom, Reads, and_then, is_end, only_file_in, unless}
-use Rattle.morris_table.specs.Tables.{Table}
-use Rattle.morris_table.specs.TableFiles.{file_of}
-use Rattle.morris_table.specs.declared.file_faults.ReadFault.{ReadFault}
-use Rattle.morris_table.specs.declared.file_faults.ReadFault.TheVariants as fault
+use Rattle.morris_pairs.specs.FileReading.{MayTakeRoom, Reads, and_then, is_end, only_file_in, unless}
+use Rattle.morris_pairs.specs.Tables.{Table}
+use Rattle.morris_pairs.specs.TableFiles.{file_of}
+use Rattle.morris_pairs.specs.declared.file_faults.ReadFault.{ReadFault}
+use Rattle.morris_pairs.specs.declared.file_faults.ReadFault.TheVariants as fault
 use Rattle.morris_folders.specs.Files.{Files, IsReaderOf}
 use Rattle.morris_keeping.specs.Kept.{AreRefused, HasFile}
 

@@ -3,10 +3,10 @@ use Rattle.std.specs.Prelude.{◌≡◌, ◌⊎◌, ⊤, ℕ, List, take, Option
 use Rattle.std.specs.Str.{bytes_eq}
 use Rattle.morris_board.specs.Boards.{Shape}
 use Rattle.morris_index.specs.Pairs.{Counts}
-use Rattle.morris_table.specs.declared.layout.Layout.{Layout}
-use Rattle.morris_table.specs.declared.layout.Layout.TheVariants.{Full, Classes}
-use Rattle.morris_table.specs.Entries.{entry_count}
-use Rattle.morris_table.specs.TableFiles.{header_of}
+use Rattle.morris_pairs.specs.declared.layout.Layout.{Layout}
+use Rattle.morris_pairs.specs.declared.layout.Layout.TheVariants.{Full, Classes}
+use Rattle.morris_pairs.specs.Entries.{entry_count}
+use Rattle.morris_pairs.specs.TableFiles.{header_of}
 use Rattle.morris_folders.specs.Files.{Files, HasNone}
 use Rattle.morris_keeping.specs.Kept.{HasFile}
 use Rattle.morris_keeping.specs.declared.header.Header.{Header}

@@ -2,11 +2,11 @@
 use Rattle.std.specs.Prelude.{◌≡◌, ◌≢◌, ⊤, ℕ, List, [], Option, Some, None, Result, Ok, Err, MatchResult}
 use Rattle.morris_board.specs.Boards.{Shape}
 use Rattle.morris_index.specs.Pairs.{Counts}
-use Rattle.morris_table.specs.FileReading.{MayTakeRoom, Reads, only_file_in}
-use Rattle.morris_table.specs.Tables.{Table}
-use Rattle.morris_table.specs.TableFiles.{file_of}
-use Rattle.morris_table.specs.declared.file_faults.ReadFault.{ReadFault}
-use Rattle.morris_table.specs.declared.file_faults.ReadFault.TheVariants as read
+use Rattle.morris_pairs.specs.FileReading.{MayTakeRoom, Reads, only_file_in}
+use Rattle.morris_pairs.specs.Tables.{Table}
+use Rattle.morris_pairs.specs.TableFiles.{file_of}
+use Rattle.morris_pairs.specs.declared.file_faults.ReadFault.{ReadFault}
+use Rattle.morris_pairs.specs.declared.file_faults.ReadFault.TheVariants as read
 use Rattle.morris_folders.specs.Files.{Files, Goes, HasNone}
 use Rattle.morris_folders.specs.Whole.{AreWhole, AreNotWhole}
 use Rattle.morris_folders.specs.declared.whole.NotWhole.{NotWhole}

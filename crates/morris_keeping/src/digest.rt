@@ -2,12 +2,12 @@
 ghost use Rattle.std.specs.Prelude.{◌≡◌, ℕ, ◌++◌, List};
 ghost use Rattle.sha2.specs.Hashers.{Holds256};
 ghost use Rattle.sha2.specs.Sha256.{sha256};
-ghost use Rattle.morris_table.specs.TableFiles.{code_bytes, file_of};
+ghost use Rattle.morris_pairs.specs.TableFiles.{code_bytes, file_of};
 
 use morris_board::board::Geometry;
-use morris_table::exact::Exact;
-use morris_table::header::Header;
-use morris_table::writing::copy_codes;
+use morris_pairs::exact::Exact;
+use morris_pairs::header::Header;
+use morris_pairs::writing::copy_codes;
 use sha2::{Digest, Sha256};
 
 /// How many bytes are digested at a time, at most.

@@ -1,7 +1,7 @@
 //! The header of the file of a pair's table, and what it says of a file that a folder has.
 ghost use Rattle.std.specs.Prelude.{◌≡◌, ℕ, ◌+◌, ◌-◌, ◌<◌, ◌^◌};
 ghost use Rattle.morris_folders.specs.Files.{Keeps};
-ghost use Rattle.morris_table.specs.TableFiles.{header_of};
+ghost use Rattle.morris_pairs.specs.TableFiles.{header_of};
 ghost use Rattle.morris_keeping.specs.Headers.{AnswersHeader, header_in};
 ghost use Rattle.morris_keeping.specs.Kept.{failed_opening};
 ghost use Rattle.morris_keeping.specs.Names.{name_of};
@@ -12,10 +12,10 @@ use morris_board::streams::Failed;
 use morris_folders::folder::Folder;
 use morris_index::class_sizes::class_size;
 use morris_index::pair::Pair;
-use morris_table::file_faults::ReadFault;
-use morris_table::header::{HEADER, Header as Fields, MAGIC, version_of};
-use morris_table::layout::Layout;
-use morris_table::reading::fill;
+use morris_pairs::file_faults::ReadFault;
+use morris_pairs::header::{HEADER, Header as Fields, MAGIC, version_of};
+use morris_pairs::layout::Layout;
+use morris_pairs::reading::fill;
 use std::alloc::Global;
 
 /// What the header of the file of a pair's table says of the table.
@@ -73,7 +73,7 @@ fn header_in<B: Geometry>(bytes: &[u8], pair: Pair<B>) -> Option<Header>
 }
 
 /// The header of the file of a pair's table in a layout, with so many entries.
-#[tactic(auto, unfolding(morris_table::specs::TableFiles::header_of, morris_table::specs::Headers::header_bytes))]
+#[tactic(auto, unfolding(morris_pairs::specs::TableFiles::header_of, morris_pairs::specs::Headers::header_bytes))]
 fn header_of<B: Geometry>(layout: Layout, pair: Pair<B>, entries: u64) -> [u8; HEADER]
     ensures { result ≡ header_of B.shape layout pair entries }
 {

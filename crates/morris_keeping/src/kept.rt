@@ -9,9 +9,9 @@ use morris_board::board::Geometry;
 use morris_board::streams::Failed;
 use morris_folders::folder::Folder;
 use morris_index::pair::Pair;
-use morris_table::file_faults::ReadFault;
-use morris_table::raw::Raw;
-use morris_table::reading::read_table;
+use morris_pairs::file_faults::ReadFault;
+use morris_pairs::raw::Raw;
+use morris_pairs::reading::read_table;
 use std::alloc::Global;
 use thiserror::Error;
 
@@ -36,7 +36,7 @@ pub enum KeptFault {
 /// the board of this name; `None` where there is no such file. The codes may be wrong.
 ///
 /// Fewer than `u64::MAX` calls of the folder may have failed before. A file that is there is read
-/// to its end, or up to the step that refuses it, as `read_table` of `morris_table` does.
+/// to its end, or up to the step that refuses it, as `read_table` of `morris_pairs` does.
 ///
 /// # Errors
 /// [`KeptFault::Memory`] where memory is refused for the name, else [`KeptFault::Unopened`] where

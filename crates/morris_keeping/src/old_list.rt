@@ -10,7 +10,7 @@ use morris_board::board::Geometry;
 use morris_board::streams::{Failed, Source};
 use morris_folders::folder::Folder;
 use morris_index::pair::Pair;
-use morris_table::reading::fill;
+use morris_pairs::reading::fill;
 use std::alloc::{AllocError, Global};
 use thiserror::Error;
 

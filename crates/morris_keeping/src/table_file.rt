@@ -1,7 +1,7 @@
 //! The file of one table.
 ghost use Rattle.std.specs.Prelude.{◌≡◌, ◌+◌, ◌-◌, ◌^◌, ◌<◌, IfOk, MatchResult, length};
 ghost use Rattle.sha2.specs.Sha256.{sha256};
-ghost use Rattle.morris_table.specs.TableFiles.{file_of};
+ghost use Rattle.morris_pairs.specs.TableFiles.{file_of};
 ghost use Rattle.morris_folders.specs.Whole.{failed_in};
 ghost use Rattle.morris_keeping.specs.Kept.{AnswersTableFile};
 
@@ -12,9 +12,9 @@ use morris_board::streams::{Failed, Sink};
 use morris_folders::folder::Folder;
 use morris_folders::whole::{Contents, NotWhole, Step, write_whole};
 use morris_index::pair::Pair;
-use morris_table::exact::Exact;
-use morris_table::file_faults::Write;
-use morris_table::writing::write_table;
+use morris_pairs::exact::Exact;
+use morris_pairs::file_faults::Write;
+use morris_pairs::writing::write_table;
 use std::alloc::Global;
 
 /// The file of a table.

@@ -7,10 +7,10 @@ use morris_keeping::digests::write_list;
 use morris_keeping::kept::{KeptFault, read_table_file};
 use morris_keeping::old_list::kept_lines;
 use morris_keeping::table_file::{Written, write_table_file};
-use morris_table::exact::Exact;
-use morris_table::file_faults::ReadFault;
-use morris_table::shelf::Shelf;
-use morris_table::sweeping::sweep_pair;
+use morris_pairs::exact::Exact;
+use morris_pairs::file_faults::ReadFault;
+use morris_pairs::shelf::Shelf;
+use morris_pairs::sweeping::sweep_pair;
 use std::alloc::Global;
 use std::process::Abort;
 

@@ -10,13 +10,13 @@ use Rattle.morris_board.specs.Boards.{Shape}
 use Rattle.morris_board.specs.Symmetries.{HasSymmetries}
 use Rattle.morris_board.specs.Positions.{Sides, IsPosition}
 use Rattle.morris_index.specs.Pairs.{Counts, is_of}
-use Rattle.morris_table.specs.declared.layout.Layout.{Layout}
-use Rattle.morris_table.specs.Codes.{IsCodeOf}
-use Rattle.morris_table.specs.Entries.{entry_count, entry_index}
-use Rattle.morris_table.specs.Tables.{Table, IsTable}
-use Rattle.morris_table.specs.TableFiles.{header_of, code_bytes, content_of, file_of}
-use Rattle.morris_table.proofs.FileLaws.{AreCodes, length-code_bytes, code_bytes-parts, file_of-parts, length-header_of, IsRaw-from_exact}
-use Rattle.morris_table.proofs.ReadingLaws.{ok_same}
+use Rattle.morris_pairs.specs.declared.layout.Layout.{Layout}
+use Rattle.morris_pairs.specs.Codes.{IsCodeOf}
+use Rattle.morris_pairs.specs.Entries.{entry_count, entry_index}
+use Rattle.morris_pairs.specs.Tables.{Table, IsTable}
+use Rattle.morris_pairs.specs.TableFiles.{header_of, code_bytes, content_of, file_of}
+use Rattle.morris_pairs.proofs.FileLaws.{AreCodes, length-code_bytes, code_bytes-parts, file_of-parts, length-header_of, IsRaw-from_exact}
+use Rattle.morris_pairs.proofs.ReadingLaws.{ok_same}
 use Rattle.morris_lookup.specs.Storage.{bytes_at, LiesWithin, ReadsAt}
 use Rattle.morris_lookup.specs.Opening.{OpenFile, framed_in, IsOpen}
 use Rattle.morris_lookup.specs.Lookups.{code_at, code_for, IsExactFile}

@@ -6,10 +6,10 @@ use Rattle.std.proofs.lemmas.List.{get_or_default}
 use Rattle.morris_board.specs.Boards.{Shape}
 use Rattle.morris_board.specs.Positions.{Sides, is_between}
 use Rattle.morris_index.specs.Pairs.{Counts, counts, pair_of}
-use Rattle.morris_table.specs.declared.value.Value.{Value}
-use Rattle.morris_table.specs.Codes.{value_in}
-use Rattle.morris_table.specs.Shelves.{has_place, place_of}
-use Rattle.morris_table.proofs.ShelfLaws.{place_of-lt, cases_pair}
+use Rattle.morris_pairs.specs.declared.value.Value.{Value}
+use Rattle.morris_pairs.specs.Codes.{value_in}
+use Rattle.morris_pairs.specs.Shelves.{has_place, place_of}
+use Rattle.morris_pairs.proofs.ShelfLaws.{place_of-lt, cases_pair}
 use Rattle.morris_lookup.specs.Opening.{OpenFile, IsOpen}
 use Rattle.morris_lookup.specs.Lookups.{code_for, IsExactFile}
 use Rattle.morris_lookup.specs.FileSets.{Files, file_for, AreFiles, AreExactFiles, said_in, said_at, said_of, missing_file}

@@ -11,18 +11,18 @@ use Rattle.morris_index.specs.Pairs.{Counts, IsPair, IsHalf}
 use Rattle.morris_index.proofs.IndexLaws.{half_size-few, size-one, size-two}
 use Rattle.morris_index.proofs.ClassCounts.{class_count-few}
 use Rattle.morris_index.proofs.ClassPairLaws.{class_size-few, size-one as class_size-one, size-two as class_size-two}
-use Rattle.morris_table.specs.declared.layout.Layout.{Layout}
-use Rattle.morris_table.specs.declared.layout.Layout.TheVariants.{Full, Classes}
-use Rattle.morris_table.specs.Entries.{entry_count}
-use Rattle.morris_table.specs.Tables.{Table, table}
-use Rattle.morris_table.specs.Raws.{IsRaw}
-use Rattle.morris_table.specs.TableFiles.{file_of}
-use Rattle.morris_table.specs.declared.header.Header.{Header}
-use Rattle.morris_table.specs.FileReading.{unless, and_then, header_at, kind_in, counted_in, heading_in, roomless_in, header_in, codes_in, body_in, file_in, IsOfBytes, IsHeadingRefusal}
-use Rattle.morris_table.specs.declared.file_faults.ReadFault.{ReadFault}
-use Rattle.morris_table.specs.declared.file_faults.ReadFault.TheVariants as fault
-use Rattle.morris_table.proofs.FileLaws.{header_in-short, file_in-file_of, length-file_of}
-use Rattle.morris_table.proofs.ReadingLaws.{ok_same}
+use Rattle.morris_pairs.specs.declared.layout.Layout.{Layout}
+use Rattle.morris_pairs.specs.declared.layout.Layout.TheVariants.{Full, Classes}
+use Rattle.morris_pairs.specs.Entries.{entry_count}
+use Rattle.morris_pairs.specs.Tables.{Table, table}
+use Rattle.morris_pairs.specs.Raws.{IsRaw}
+use Rattle.morris_pairs.specs.TableFiles.{file_of}
+use Rattle.morris_pairs.specs.declared.header.Header.{Header}
+use Rattle.morris_pairs.specs.FileReading.{unless, and_then, header_at, kind_in, counted_in, heading_in, roomless_in, header_in, codes_in, body_in, file_in, IsOfBytes, IsHeadingRefusal}
+use Rattle.morris_pairs.specs.declared.file_faults.ReadFault.{ReadFault}
+use Rattle.morris_pairs.specs.declared.file_faults.ReadFault.TheVariants as fault
+use Rattle.morris_pairs.proofs.FileLaws.{header_in-short, file_in-file_of, length-file_of}
+use Rattle.morris_pairs.proofs.ReadingLaws.{ok_same}
 use Rattle.morris_lookup.specs.declared.fault.OpenFault.TheVariants as opening
 use Rattle.morris_lookup.specs.Storage.{bytes_at, ReadsAt, CountsBytes}
 use Rattle.morris_lookup.specs.Opening.{file_size, measured_in, framed_in, IsFramingRefusal, Opens}

@@ -3,10 +3,10 @@ use Rattle.std.specs.Prelude.{◌≡◌, ℕ, List, length, slice_index_or, Opti
 use Rattle.morris_board.specs.Boards.{Shape}
 use Rattle.morris_board.specs.Positions.{Sides}
 use Rattle.morris_index.specs.Pairs.{Counts, pair_of}
-use Rattle.morris_table.specs.declared.value.Value.{Value}
-use Rattle.morris_table.specs.declared.value.Value.TheVariants.{Lost}
-use Rattle.morris_table.specs.Codes.{value_in}
-use Rattle.morris_table.specs.Shelves.{has_place, place_of}
+use Rattle.morris_pairs.specs.declared.value.Value.{Value}
+use Rattle.morris_pairs.specs.declared.value.Value.TheVariants.{Lost}
+use Rattle.morris_pairs.specs.Codes.{value_in}
+use Rattle.morris_pairs.specs.Shelves.{has_place, place_of}
 use Rattle.morris_lookup.specs.Opening.{OpenFile, IsOpen}
 use Rattle.morris_lookup.specs.Lookups.{code_for, IsExactFile}
 use Rattle.morris_lookup.specs.declared.fault.LookFault.{LookFault}

@@ -4,8 +4,8 @@ use Rattle.morris_board.specs.Boards.{Shape}
 use Rattle.morris_board.specs.Positions.{Sides}
 use Rattle.morris_moves.specs.declared.step.Move.{Move}
 use Rattle.morris_moves.specs.Rules.{result_of}
-use Rattle.morris_table.specs.declared.value.Value.{Value}
-use Rattle.morris_table.specs.Codes.{IsValue}
+use Rattle.morris_pairs.specs.declared.value.Value.{Value}
+use Rattle.morris_pairs.specs.Codes.{IsValue}
 use Rattle.morris_probe.specs.Best.{after_best, IsBest}
 
 -- The move is a best one, and leads to this position.

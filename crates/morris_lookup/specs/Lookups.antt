@@ -3,11 +3,11 @@ use Rattle.std.specs.Prelude.{◌≡◌, ℕ, ◌+◌, ◌*◌, List, Some}
 use Rattle.std.specs.Int.{w16, from_be_bytes}
 use Rattle.morris_board.specs.Boards.{Shape}
 use Rattle.morris_board.specs.Positions.{Sides}
-use Rattle.morris_table.specs.Entries.{entry_index}
-use Rattle.morris_table.specs.Tables.{Table, IsTable}
-use Rattle.morris_table.specs.declared.value.Value.{Value}
-use Rattle.morris_table.specs.declared.value.Value.TheVariants.{Draw, Won, Lost}
-use Rattle.morris_table.specs.TableFiles.{file_of}
+use Rattle.morris_pairs.specs.Entries.{entry_index}
+use Rattle.morris_pairs.specs.Tables.{Table, IsTable}
+use Rattle.morris_pairs.specs.declared.value.Value.{Value}
+use Rattle.morris_pairs.specs.declared.value.Value.TheVariants.{Draw, Won, Lost}
+use Rattle.morris_pairs.specs.TableFiles.{file_of}
 use Rattle.morris_lookup.specs.Storage.{bytes_at}
 use Rattle.morris_lookup.specs.Opening.{OpenFile}
 

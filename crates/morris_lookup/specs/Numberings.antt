@@ -1,7 +1,7 @@
 -- How the entries of an open file are numbered.
 use Rattle.morris_index.specs.Pairs.{Counts}
-use Rattle.morris_table.specs.declared.layout.Layout.{Layout}
-use Rattle.morris_table.specs.declared.layout.Layout.TheVariants as layout
+use Rattle.morris_pairs.specs.declared.layout.Layout.{Layout}
+use Rattle.morris_pairs.specs.declared.layout.Layout.TheVariants as layout
 use Rattle.morris_lookup.specs.declared.numbering.Numbering.{Numbering}
 use Rattle.morris_lookup.specs.declared.numbering.Numbering.TheVariants as numbering
 

@@ -3,11 +3,11 @@
 use Rattle.std.specs.Prelude.{◌≡◌, ◌≢◌, ℕ, ◌+◌, ◌*◌, nat_le, List, length, Option, Some, Result, Ok, Err, IfSome}
 use Rattle.morris_board.specs.Boards.{Shape}
 use Rattle.morris_index.specs.Pairs.{Counts, IsPair}
-use Rattle.morris_table.specs.declared.layout.Layout.{Layout}
-use Rattle.morris_table.specs.Entries.{entry_count}
-use Rattle.morris_table.specs.FileReading.{unless, and_then, header_in, MayTakeRoom}
-use Rattle.morris_table.specs.declared.file_faults.ReadFault.{ReadFault}
-use Rattle.morris_table.specs.declared.file_faults.ReadFault.TheVariants as read
+use Rattle.morris_pairs.specs.declared.layout.Layout.{Layout}
+use Rattle.morris_pairs.specs.Entries.{entry_count}
+use Rattle.morris_pairs.specs.FileReading.{unless, and_then, header_in, MayTakeRoom}
+use Rattle.morris_pairs.specs.declared.file_faults.ReadFault.{ReadFault}
+use Rattle.morris_pairs.specs.declared.file_faults.ReadFault.TheVariants as read
 use Rattle.morris_lookup.specs.declared.fault.OpenFault.{OpenFault}
 use Rattle.morris_lookup.specs.declared.fault.OpenFault.TheVariants as fault
 

@@ -5,9 +5,9 @@ use Rattle.morris_board.specs.Boards.{Shape}
 use Rattle.morris_board.specs.Positions.{Sides}
 use Rattle.morris_moves.specs.declared.step.Move.{Move}
 use Rattle.morris_moves.specs.Rules.{moves_of, result_of}
-use Rattle.morris_table.specs.declared.value.Value.{Value}
-use Rattle.morris_table.specs.declared.value.Value.TheVariants.{Draw, Won, Lost}
-use Rattle.morris_table.specs.Codes.{IsValue}
+use Rattle.morris_pairs.specs.declared.value.Value.{Value}
+use Rattle.morris_pairs.specs.declared.value.Value.TheVariants.{Draw, Won, Lost}
+use Rattle.morris_pairs.specs.Codes.{IsValue}
 use Rattle.morris_lookup.specs.declared.fault.LookFault.{LookFault}
 use Rattle.morris_lookup.specs.declared.fault.LookFault.TheVariants as fault
 use Rattle.morris_lookup.specs.declared.outcomes.Outcome.{Outcome}

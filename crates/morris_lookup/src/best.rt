@@ -16,7 +16,7 @@ use morris_board::board::Geometry;
 use morris_board::position::Position;
 use morris_moves::rules::{moves, play};
 use morris_moves::step::Move;
-use morris_table::value::Value;
+use morris_pairs::value::Value;
 use std::alloc::Global;
 
 /// The best moves of a position, in order of from, then to, then taken: those that lead to the

@@ -3,8 +3,8 @@ ghost use Rattle.std.specs.Prelude.{◌≡◌};
 
 use morris_board::board::Geometry;
 use morris_board::streams::Failed;
-use morris_table::file_faults::ReadFault;
-use morris_table::shelf::Needs;
+use morris_pairs::file_faults::ReadFault;
+use morris_pairs::shelf::Needs;
 use std::alloc::AllocError;
 use thiserror::Error;
 

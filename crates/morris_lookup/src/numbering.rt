@@ -1,17 +1,17 @@
 //! How the entries of a file are numbered, by its header.
 ghost use Rattle.std.specs.Prelude.{◌≡◌, ◌<◌, ◌≤◌, ◌^◌, true, IfOk, IfErr, IsOk, Ok};
 ghost use Rattle.morris_index.specs.Pairs.{IsPair, is_of};
-ghost use Rattle.morris_table.specs.Entries.{entry_count, entry_index};
-ghost use Rattle.morris_table.specs.FileReading.{heading_in, IsHeadingRefusal};
+ghost use Rattle.morris_pairs.specs.Entries.{entry_count, entry_index};
+ghost use Rattle.morris_pairs.specs.FileReading.{heading_in, IsHeadingRefusal};
 ghost use Rattle.morris_lookup.specs.Numberings.{layout_of, pair_of};
 
 use crate::class_lists::ClassLists;
 use morris_board::board::Geometry;
 use morris_board::position::Position;
 use morris_index::pair::Pair;
-use morris_table::file_faults::ReadFault;
-use morris_table::header::Header;
-use morris_table::layout::Layout;
+use morris_pairs::file_faults::ReadFault;
+use morris_pairs::header::Header;
+use morris_pairs::layout::Layout;
 use std::alloc::{AllocError, Global};
 
 /// How the entries of a pair are numbered, by their layout.
@@ -45,7 +45,7 @@ impl<B: Geometry> Numbering<B> {
     /// # Errors
     /// The first of `Magic`, `Version`, `BoardId`, `Counts` and `Crowded` that applies; then
     /// `Memory` where there is no room for the classes; then `Count`.
-    #[tactic(auto, unfolding(morris_table::specs::FileReading::heading_in, morris_table::specs::FileReading::counted_in))]
+    #[tactic(auto, unfolding(morris_pairs::specs::FileReading::heading_in, morris_pairs::specs::FileReading::counted_in))]
     pub(crate) fn of_header(alloc: Global, header: Header) -> Result<Numbering<B>, ReadFault>
         ensures found { IfOk result (λ made. heading_in B.shape header ≡ Ok (layout_of made, pair_of made)) }
         ensures refused { IfErr result (IsHeadingRefusal B.shape header) }

@@ -1,11 +1,11 @@
 //! A table file that was opened: its codes are read where they lie.
 ghost use Rattle.std.specs.Prelude.{◌≡◌, ◌≤◌, ◌↔◌, true, IsTrue, Ok, Err, Some, IfOk, IfErr, IfSome};
 ghost use Rattle.morris_index.specs.Pairs.{is_of};
-ghost use Rattle.morris_table.specs.Codes.{IsCodeOf, IsValue, value_in};
-ghost use Rattle.morris_table.specs.Raws.{IsRaw};
-ghost use Rattle.morris_table.specs.Tables.{Table};
-ghost use Rattle.morris_table.specs.FileReading.{IsOfBytes};
-ghost use Rattle.morris_table.specs.TableFiles.{file_of};
+ghost use Rattle.morris_pairs.specs.Codes.{IsCodeOf, IsValue, value_in};
+ghost use Rattle.morris_pairs.specs.Raws.{IsRaw};
+ghost use Rattle.morris_pairs.specs.Tables.{Table};
+ghost use Rattle.morris_pairs.specs.FileReading.{IsOfBytes};
+ghost use Rattle.morris_pairs.specs.TableFiles.{file_of};
 ghost use Rattle.morris_lookup.specs.Numberings.{layout_of, pair_of};
 ghost use Rattle.morris_lookup.specs.Opening.{measured_in, framed_in, IsFramingRefusal, IsOpeningRefusal, IsOpen, Opens};
 ghost use Rattle.morris_lookup.specs.Lookups.{code_for, depth_of, IsExactFile};
@@ -17,12 +17,12 @@ use morris_board::board::Geometry;
 use morris_board::position::Position;
 use morris_board::streams::Failed;
 use morris_index::pair::Pair;
-use morris_table::exact::value_of_code;
-use morris_table::file_faults::ReadFault;
-use morris_table::header::{HEADER, Header};
-use morris_table::layout::Layout;
-use morris_table::reading::DIGEST;
-use morris_table::value::Value;
+use morris_pairs::exact::value_of_code;
+use morris_pairs::file_faults::ReadFault;
+use morris_pairs::header::{HEADER, Header};
+use morris_pairs::layout::Layout;
+use morris_pairs::reading::DIGEST;
+use morris_pairs::value::Value;
 use std::alloc::Global;
 use std::marker::Model;
 

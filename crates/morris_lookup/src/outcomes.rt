@@ -12,7 +12,7 @@ use morris_board::board::Geometry;
 use morris_board::position::Position;
 use morris_moves::rules::{moves, play};
 use morris_moves::step::Move;
-use morris_table::value::Value;
+use morris_pairs::value::Value;
 use std::alloc::Global;
 
 /// A legal move and what it leads to.

@@ -2,8 +2,8 @@
 ghost use Rattle.std.specs.Prelude.{◌≡◌, ◌≢◌, ◌<◌, ◌≤◌, None, Some, Ok, IfOk, IfSome, MatchResult};
 ghost use Rattle.std.specs.Option.{option_copied};
 ghost use Rattle.morris_index.specs.Pairs.{Counts, IsPair};
-ghost use Rattle.morris_table.specs.Codes.{IsValue};
-ghost use Rattle.morris_table.specs.Shelves.{place_of};
+ghost use Rattle.morris_pairs.specs.Codes.{IsValue};
+ghost use Rattle.morris_pairs.specs.Shelves.{place_of};
 ghost use Rattle.morris_lookup.specs.Opening.{IsOpen};
 ghost use Rattle.morris_lookup.specs.Lookups.{depth_of};
 ghost use Rattle.morris_lookup.specs.FileSets.{file_for, AreFiles, AreExactFiles, said_of, missing_file, IsValueRefusal};
@@ -14,8 +14,8 @@ use crate::storage::Storage;
 use morris_board::board::Geometry;
 use morris_board::position::Position;
 use morris_index::pair::Pair;
-use morris_table::shelf::Needs;
-use morris_table::value::Value;
+use morris_pairs::shelf::Needs;
+use morris_pairs::value::Value;
 use std::alloc::{AllocError, Global};
 use std::marker::Model;
 

@@ -4,8 +4,8 @@ use morris_board::grid::Grid;
 use morris_index::pair::Pair;
 use morris_lookup::fault::OpenFault;
 use morris_lookup::opened::Opened;
-use morris_table::file_faults::ReadFault;
-use morris_table::layout::Layout;
+use morris_pairs::file_faults::ReadFault;
+use morris_pairs::layout::Layout;
 use std::alloc::Global;
 use std::process::Abort;
 

@@ -11,9 +11,9 @@ use Rattle.morris_moves.specs.declared.step.Move.{Move}
 use Rattle.morris_moves.specs.Order.{Precedes}
 use Rattle.morris_moves.specs.Rules.{moves_of, result_of}
 use Rattle.morris_moves.proofs.ValueLaws.{lost_once, won_once, lost_not_won, lost_no_draw, won_no_draw}
-use Rattle.morris_table.specs.declared.value.Value.{Value}
-use Rattle.morris_table.specs.declared.value.Value.TheVariants.{Draw, Won, Lost}
-use Rattle.morris_table.specs.Codes.{IsValue}
+use Rattle.morris_pairs.specs.declared.value.Value.{Value}
+use Rattle.morris_pairs.specs.declared.value.Value.TheVariants.{Draw, Won, Lost}
+use Rattle.morris_pairs.specs.Codes.{IsValue}
 use Rattle.morris_probe.specs.Best.{after_best, LeadsOn, AreBest}
 
 -- ---- a position has one value

@@ -13,11 +13,11 @@ use Rattle.morris_moves.specs.Values.{IsLostIn}
 use Rattle.morris_index.specs.Pairs.{Counts, IsPair, pair_of, ordered, is_of, below_of}
 use Rattle.morris_index.proofs.BelowLaws.{below_of-last, below_of-needed}
 use Rattle.morris_index.proofs.ResultLaws.{pair_of-is_of}
-use Rattle.morris_table.specs.Shelves.{Stored, table_on, HasAllBelow}
-use Rattle.morris_table.specs.PairNets.{is_quiet}
-use Rattle.morris_table.specs.NetLaws.{quiet-stays, capture-leads}
-use Rattle.morris_table.proofs.CodeLaws.{code_of_stuck, no_moves}
-use Rattle.morris_table.proofs.GraphLaws.{IsPair-needed}
+use Rattle.morris_pairs.specs.Shelves.{Stored, table_on, HasAllBelow}
+use Rattle.morris_pairs.specs.PairNets.{is_quiet}
+use Rattle.morris_pairs.specs.NetLaws.{quiet-stays, capture-leads}
+use Rattle.morris_pairs.proofs.CodeLaws.{code_of_stuck, no_moves}
+use Rattle.morris_pairs.proofs.GraphLaws.{IsPair-needed}
 use Rattle.morris_probe.specs.Probing.{missing_table, without_table}
 
 -- ---- a player with two stones

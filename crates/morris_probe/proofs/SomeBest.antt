@@ -10,9 +10,9 @@ use Rattle.morris_moves.specs.Rules.{moves_of, result_of}
 use Rattle.morris_moves.specs.Values.{is_lost, is_won, IsLostIn, IsWonIn, IsDraw}
 use Rattle.morris_moves.proofs.ListLaws.{all_contained, contained_all, any_contained, contained_any, Contains-head, Contains-tail, Contains-cons_cases}
 use Rattle.morris_moves.proofs.ValueLaws.{won_longer, never_both}
-use Rattle.morris_table.specs.declared.value.Value.{Value}
-use Rattle.morris_table.specs.declared.value.Value.TheVariants.{Draw, Won, Lost}
-use Rattle.morris_table.specs.Codes.{IsValue}
+use Rattle.morris_pairs.specs.declared.value.Value.{Value}
+use Rattle.morris_pairs.specs.declared.value.Value.TheVariants.{Draw, Won, Lost}
+use Rattle.morris_pairs.specs.Codes.{IsValue}
 use Rattle.morris_probe.specs.Best.{LeadsOn}
 use Rattle.morris_probe.proofs.BestLaws.{AreBestOf}
 

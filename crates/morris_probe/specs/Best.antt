@@ -6,9 +6,9 @@ use Rattle.morris_board.specs.Positions.{Sides}
 use Rattle.morris_moves.specs.declared.step.Move.{Move}
 use Rattle.morris_moves.specs.Order.{Precedes}
 use Rattle.morris_moves.specs.Rules.{moves_of, result_of}
-use Rattle.morris_table.specs.declared.value.Value.{Value}
-use Rattle.morris_table.specs.declared.value.Value.TheVariants.{Draw, Won, Lost}
-use Rattle.morris_table.specs.Codes.{IsValue}
+use Rattle.morris_pairs.specs.declared.value.Value.{Value}
+use Rattle.morris_pairs.specs.declared.value.Value.TheVariants.{Draw, Won, Lost}
+use Rattle.morris_pairs.specs.Codes.{IsValue}
 
 -- The value of what a best move leads to, where the opponent is to move: after a draw a draw, after
 -- a win in d > 0 plies a loss in d - 1, and after a loss in d > 0 plies a win in d - 1. At depth 0

@@ -2,7 +2,7 @@
 use Rattle.std.specs.Prelude.{Option, Some, None, is_some, if◌then◌else◌}
 use Rattle.morris_board.specs.Positions.{Sides}
 use Rattle.morris_index.specs.Pairs.{Counts, pair_of}
-use Rattle.morris_table.specs.Shelves.{Stored, table_on}
+use Rattle.morris_pairs.specs.Shelves.{Stored, table_on}
 
 -- the pair, where there is one and the shelf has no table of it
 abbrev pub without_table : Stored → Option Counts → Option Counts

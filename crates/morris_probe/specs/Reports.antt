@@ -5,8 +5,8 @@ use Rattle.std.specs.Io.KnownBytes.{Appends, Keeps}
 use Rattle.morris_board.specs.Boards.{Shape}
 use Rattle.morris_board.specs.Positions.{Sides, text_of}
 use Rattle.morris_moves.specs.declared.step.Move.{Move}
-use Rattle.morris_table.specs.declared.value.Value.{Value}
-use Rattle.morris_table.specs.Codes.{IsValue}
+use Rattle.morris_pairs.specs.declared.value.Value.{Value}
+use Rattle.morris_pairs.specs.Codes.{IsValue}
 use Rattle.morris_probe.specs.Best.{AreBest}
 use Rattle.morris_probe.specs.Lines.{line, move_line, value_line}
 use Rattle.morris_probe.specs.declared.fault.ProbeFault.{ProbeFault}

@@ -3,7 +3,7 @@ ghost use Rattle.std.specs.Prelude.{◌≡◌, ◌↔◌, ◌<◌, ◌≤◌, �
 ghost use Rattle.std.specs.List.{Contains};
 ghost use Rattle.morris_moves.specs.declared.step.Move.{Move};
 ghost use Rattle.morris_moves.specs.Rules.{moves_of, result_of};
-ghost use Rattle.morris_table.specs.Codes.{IsValue};
+ghost use Rattle.morris_pairs.specs.Codes.{IsValue};
 ghost use Rattle.morris_probe.specs.Probing.{missing_table};
 ghost use Rattle.morris_probe.specs.Best.{after_best, AreBest};
 ghost use Rattle.morris_probe.specs.Refusals.{needed_by, is_write};
@@ -14,8 +14,8 @@ use morris_board::board::Geometry;
 use morris_board::position::Position;
 use morris_moves::rules::{moves, play};
 use morris_moves::step::Move;
-use morris_table::shelf::Shelf;
-use morris_table::value::Value;
+use morris_pairs::shelf::Shelf;
+use morris_pairs::value::Value;
 use std::alloc::{AllocError, Global};
 
 /// The best moves of a position, in order of from, then to, then taken: where it is won or lost in

@@ -2,7 +2,7 @@
 ghost use Rattle.std.specs.Prelude.{◌≡◌};
 
 use morris_board::board::Geometry;
-use morris_table::shelf::Needs;
+use morris_pairs::shelf::Needs;
 use std::alloc::AllocError;
 use thiserror::Error;
 

@@ -9,10 +9,10 @@ ghost use Rattle.morris_probe.specs.Lines.{line, number_line, move_line, value_l
 
 use morris_board::board::Geometry;
 use morris_board::position::Position;
-use morris_board::streams::buffered::Buffered;
 use morris_board::streams::{Failed, Sink};
+use morris_board::streams::buffered::Buffered;
 use morris_moves::step::Move;
-use morris_table::value::Value;
+use morris_pairs::value::Value;
 
 /// A position, as a line: its text. At most 25 bytes.
 #[tactic(auto, using(morris_board::proofs::BufferedLaws::passed_laws))]

@@ -14,11 +14,11 @@ use crate::print::{put_move_line, put_position, put_value};
 use crate::value::value;
 use morris_board::board::Geometry;
 use morris_board::position::Position;
-use morris_board::streams::buffered::Buffered;
 use morris_board::streams::{Failed, Sink};
+use morris_board::streams::buffered::Buffered;
 use morris_moves::step::Move;
-use morris_table::shelf::Shelf;
-use morris_table::value::Value;
+use morris_pairs::shelf::Shelf;
+use morris_pairs::value::Value;
 use std::alloc::Global;
 
 /// Writes the position's text, a line `draw`, `won in D` or `lost in D` with the depth in plies,

@@ -4,14 +4,14 @@ ghost use Rattle.std.specs.List.{Contains};
 ghost use Rattle.morris_board.specs.Sets.{count_of};
 ghost use Rattle.morris_moves.specs.declared.step.Move.{Move};
 ghost use Rattle.morris_moves.specs.Rules.{moves_of, result_of};
-ghost use Rattle.morris_table.specs.Codes.{IsValue};
+ghost use Rattle.morris_pairs.specs.Codes.{IsValue};
 ghost use Rattle.morris_probe.specs.Probing.{missing_table};
 
 use morris_board::board::Geometry;
 use morris_board::position::Position;
 use morris_index::pair::Pair;
-use morris_table::shelf::{Needs, Shelf};
-use morris_table::value::Value;
+use morris_pairs::shelf::{Needs, Shelf};
+use morris_pairs::value::Value;
 
 /// The value of a position in the game, read from the table of its pair. A player to move with two
 /// stones has lost in 0 plies: that needs no table. It takes no memory, and finds one index.

@@ -10,9 +10,9 @@ use Rattle.morris_moves.specs.Rules.{moves_of, result_of}
 use Rattle.morris_moves.specs.Values.{is_lost, is_won}
 use Rattle.morris_moves.proofs.ListLaws.{all_contained, contained_any, Contains-head, Contains-tail, Contains-cons_cases}
 use Rattle.morris_moves.proofs.ValueLaws.{never_both}
-use Rattle.morris_table.specs.declared.value.Value.{Value}
-use Rattle.morris_table.specs.declared.value.Value.TheVariants.{Draw, Won, Lost}
-use Rattle.morris_table.specs.Codes.{IsValue}
+use Rattle.morris_pairs.specs.declared.value.Value.{Value}
+use Rattle.morris_pairs.specs.declared.value.Value.TheVariants.{Draw, Won, Lost}
+use Rattle.morris_pairs.specs.Codes.{IsValue}
 use Rattle.morris_probe.specs.Best.{after_best}
 use Rattle.morris_probe.proofs.BestLaws.{one_value}
 use Rattle.morris_probe.proofs.SomeBest.{HasValues, some_best}

@@ -15,13 +15,13 @@ use Rattle.morris_moves.specs.Rules.{moves_of, result_of}
 use Rattle.morris_moves.specs.Values.{is_lost}
 use Rattle.morris_moves.proofs.OrderLaws.{moves_in_order}
 use Rattle.morris_moves.proofs.ListLaws.{Contains-head, Contains-tail, Contains-cons_cases}
-use Rattle.morris_table.specs.declared.value.Value.{Value}
-use Rattle.morris_table.specs.declared.value.Value.TheVariants.{Draw, Won, Lost}
-use Rattle.morris_table.specs.Codes.{IsValue}
-use Rattle.morris_table.specs.EntryLaws.{laid}
-use Rattle.morris_table.specs.NetLaws.{result-position}
-use Rattle.morris_table.specs.Tables.{Table}
-use Rattle.morris_table.proofs.FileLaws.{IsRaw-from_exact}
+use Rattle.morris_pairs.specs.declared.value.Value.{Value}
+use Rattle.morris_pairs.specs.declared.value.Value.TheVariants.{Draw, Won, Lost}
+use Rattle.morris_pairs.specs.Codes.{IsValue}
+use Rattle.morris_pairs.specs.EntryLaws.{laid}
+use Rattle.morris_pairs.specs.NetLaws.{result-position}
+use Rattle.morris_pairs.specs.Tables.{Table}
+use Rattle.morris_pairs.proofs.FileLaws.{IsRaw-from_exact}
 use Rattle.morris_probe.specs.Best.{LeadsOn, after_best}
 use Rattle.morris_probe.proofs.BestLaws.{AreBestOf, best_none, best_more, best_same, leads_off, best_all, one_value}
 use Rattle.morris_probe.proofs.SomeBest.{HasValues, some_listed}
@@ -34,12 +34,12 @@ use Rattle.morris_lookup.proofs.FileLookups.{exact_code}
 use Rattle.morris_lookup.proofs.OpeningLaws.{framed_file}
 use Rattle.morris_folders.specs.Files.{Files}
 use Rattle.morris_keeping.specs.Names.{name_of}
-use Rattle.morris_faults.specs.declared.fault.Fault.{Fault}
-use Rattle.morris_faults.specs.declared.fault.Fault.TheVariants as fault
-use Rattle.morris_faults.specs.Faults.{needs_fault, read_fault}
-use Rattle.morris_table.specs.declared.layout.Layout.{Layout}
-use Rattle.morris_table.specs.declared.file_faults.ReadFault.{ReadFault}
-use Rattle.morris_table.specs.declared.file_faults.ReadFault.TheVariants as read
+use Rattle.morris_jobs.specs.declared.fault.Fault.{Fault}
+use Rattle.morris_jobs.specs.declared.fault.Fault.TheVariants as fault
+use Rattle.morris_jobs.specs.Faults.{needs_fault, read_fault}
+use Rattle.morris_pairs.specs.declared.layout.Layout.{Layout}
+use Rattle.morris_pairs.specs.declared.file_faults.ReadFault.{ReadFault}
+use Rattle.morris_pairs.specs.declared.file_faults.ReadFault.TheVariants as read
 use Rattle.morris_queries.specs.Answers.{IsExactAnswer}
 use Rattle.morris_queries.specs.Exactness.{AreExactIn, IsExactBytes, LeadsTo, IsBestLine, HasLine, IsGame}
 use Rattle.morris_queries.specs.declared.show.Show.{Show}

@@ -5,19 +5,19 @@ use Rattle.std.proofs.lemmas.Bool.{eq-eqb, eqb-true, and_from, and_parts, cases_
 use Rattle.morris_board.specs.Boards.{Shape}
 use Rattle.morris_board.specs.Positions.{Sides}
 use Rattle.morris_index.specs.Pairs.{Counts, counts, pair_of}
-use Rattle.morris_table.specs.declared.layout.Layout.{Layout}
-use Rattle.morris_table.specs.declared.file_faults.ReadFault.{ReadFault}
-use Rattle.morris_table.specs.declared.file_faults.ReadFault.TheVariants as read
-use Rattle.morris_table.specs.declared.value.Value.{Value}
-use Rattle.morris_table.specs.declared.value.Value.TheVariants.{Lost}
-use Rattle.morris_table.specs.Codes.{value_in}
+use Rattle.morris_pairs.specs.declared.layout.Layout.{Layout}
+use Rattle.morris_pairs.specs.declared.file_faults.ReadFault.{ReadFault}
+use Rattle.morris_pairs.specs.declared.file_faults.ReadFault.TheVariants as read
+use Rattle.morris_pairs.specs.declared.value.Value.{Value}
+use Rattle.morris_pairs.specs.declared.value.Value.TheVariants.{Lost}
+use Rattle.morris_pairs.specs.Codes.{value_in}
 use Rattle.morris_lookup.specs.FileSets.{Files as OpenFiles, file_for, said_of, said_at, said_by, said_in, missing_file, without_file}
 use Rattle.morris_lookup.specs.Lookups.{code_for}
 use Rattle.morris_lookup.specs.Opening.{OpenFile, open_file, framed_in, IsFramingRefusal}
 use Rattle.morris_folders.specs.Files.{Files}
 use Rattle.morris_keeping.specs.Names.{name_of}
-use Rattle.morris_faults.specs.declared.fault.Fault.{Fault}
-use Rattle.morris_faults.specs.Faults.{needs_fault, read_fault}
+use Rattle.morris_jobs.specs.declared.fault.Fault.{Fault}
+use Rattle.morris_jobs.specs.Faults.{needs_fault, read_fault}
 use Rattle.morris_queries.specs.Libraries.{IsFound, Opens}
 use Rattle.morris_queries.specs.Telling.{Agrees, IsRefusal, AreOf, followed, same_counts, framed_as, opened_as, table_in, stated_in, value_at, told_value}
 use Rattle.morris_queries.proofs.TellingLaws.{refusal_followed}

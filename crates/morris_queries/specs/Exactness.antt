@@ -7,10 +7,10 @@ use Rattle.morris_board.specs.Positions.{Sides}
 use Rattle.morris_index.specs.Pairs.{Counts, IsPair}
 use Rattle.morris_moves.specs.declared.step.Move.{Move}
 use Rattle.morris_moves.specs.Rules.{result_of}
-use Rattle.morris_table.specs.declared.value.Value.{Value}
-use Rattle.morris_table.specs.Codes.{IsValue}
-use Rattle.morris_table.specs.Tables.{Table, IsTable}
-use Rattle.morris_table.specs.TableFiles.{file_of}
+use Rattle.morris_pairs.specs.declared.value.Value.{Value}
+use Rattle.morris_pairs.specs.Codes.{IsValue}
+use Rattle.morris_pairs.specs.Tables.{Table, IsTable}
+use Rattle.morris_pairs.specs.TableFiles.{file_of}
 use Rattle.morris_probe.specs.Best.{AreBest, after_best}
 use Rattle.morris_lookup.specs.declared.outcomes.Outcome.{Outcome}
 use Rattle.morris_lookup.specs.Lines.{IsBestStep}

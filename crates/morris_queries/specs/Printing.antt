@@ -7,11 +7,11 @@ use Rattle.morris_board.specs.Boards.{Shape}
 use Rattle.morris_board.specs.Positions.{Sides, text_of}
 use Rattle.morris_moves.specs.MoveText.{move_text}
 use Rattle.morris_moves.specs.declared.step.Move.{Move}
-use Rattle.morris_table.specs.declared.value.Value.{Value}
-use Rattle.morris_table.specs.declared.value.Value.TheVariants.{Draw, Won, Lost}
+use Rattle.morris_pairs.specs.declared.value.Value.{Value}
+use Rattle.morris_pairs.specs.declared.value.Value.TheVariants.{Draw, Won, Lost}
 use Rattle.morris_lookup.specs.declared.outcomes.Outcome.{Outcome}
-use Rattle.morris_faults.specs.declared.fault.Fault.{Fault}
-use Rattle.morris_faults.specs.Faults.{fault_line}
+use Rattle.morris_jobs.specs.declared.fault.Fault.{Fault}
+use Rattle.morris_jobs.specs.Faults.{fault_line}
 use Rattle.morris_queries.specs.declared.show.Show.{Show}
 use Rattle.morris_queries.specs.declared.show.Show.TheVariants as show
 use Rattle.morris_queries.specs.Telling.{Telling}

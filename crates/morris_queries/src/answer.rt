@@ -1,7 +1,7 @@
 //! The answer to one text.
 ghost use Rattle.std.specs.Prelude.{◌-◌, ◌^◌, ◌<◌, ◌≤◌, ◌++◌, ℕ, List, Option, codes, true, false, IfOk};
 ghost use Rattle.morris_board.specs.Streams.{CountsFailure};
-ghost use Rattle.morris_faults.specs.Faults.{fault_line};
+ghost use Rattle.morris_jobs.specs.Faults.{fault_line};
 ghost use Rattle.morris_folders.specs.Files.{Files};
 ghost use Rattle.morris_queries.specs.Answers.{AnswersText, IsAnswer, GoesOut};
 ghost use Rattle.morris_queries.specs.Folders.{IsOf, Stays};
@@ -16,7 +16,7 @@ use crate::values::Folder;
 use morris_board::board::Geometry;
 use morris_board::position::Position;
 use morris_board::streams::Sink;
-use morris_faults::fault::Fault;
+use morris_jobs::fault::Fault;
 
 /// An answer that went out.
 #[derive(Clone, Copy, Debug, PartialEq, Eq)]

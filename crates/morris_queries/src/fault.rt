@@ -3,7 +3,7 @@ ghost use Rattle.std.specs.Prelude.{◌≡◌};
 ghost use Rattle.morris_queries.specs.Refusals.{find_fault, query_fault};
 
 use crate::library::Unfound;
-use morris_faults::fault::Fault;
+use morris_jobs::fault::Fault;
 use thiserror::Error;
 
 /// Why questions aren't answered to their end.

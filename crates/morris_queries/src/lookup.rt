@@ -1,6 +1,6 @@
 //! The command `lookup`, for a list of texts and for the lines of an input.
 ghost use Rattle.std.specs.Prelude.{◌≡◌, ◌-◌, ◌^◌, ◌<◌, Err, OnOk, map};
-ghost use Rattle.morris_faults.specs.BoardNames.{board_of};
+ghost use Rattle.morris_jobs.specs.BoardNames.{board_of};
 ghost use Rattle.morris_queries.specs.Answers.{AnswersLookup, CountsWrites};
 ghost use Rattle.morris_queries.specs.LineAnswers.{AnswersInput};
 
@@ -12,7 +12,7 @@ use crate::texts::answer_texts;
 use morris_board::grid::Grid;
 use morris_board::nine::Nine;
 use morris_board::streams::{Sink, Source};
-use morris_faults::boards::{NamedBoard, read_board};
+use morris_jobs::boards::{NamedBoard, read_board};
 use std::alloc::Global;
 
 /// Answers texts of positions on the board named `board`, each in turn, from the table files of a

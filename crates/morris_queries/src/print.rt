@@ -13,13 +13,13 @@ use crate::told::Told;
 use hex::encode_to_slice;
 use morris_board::board::Geometry;
 use morris_board::position::Position;
-use morris_board::streams::buffered::Buffered;
 use morris_board::streams::{Failed, Sink};
-use morris_faults::print::Printed;
+use morris_board::streams::buffered::Buffered;
+use morris_jobs::print::Printed;
 use morris_lookup::outcomes::Outcome;
 use morris_moves::step::Move;
+use morris_pairs::value::Value;
 use morris_probe::print::{put_count, put_move};
-use morris_table::value::Value;
 
 /// What is printed as a word.
 trait Word {

@@ -13,11 +13,11 @@ use crate::show::Show;
 use crate::values::Folder;
 use morris_board::board::Geometry;
 use morris_board::position::Position;
-use morris_faults::fault::Fault;
+use morris_jobs::fault::Fault;
 use morris_lookup::outcomes::{Outcome, turned};
 use morris_moves::rules::{moves, play};
 use morris_moves::step::Move;
-use morris_table::value::Value;
+use morris_pairs::value::Value;
 use std::alloc::{AllocError, Global};
 use std::marker::Model;
 

@@ -10,15 +10,15 @@ ghost use Rattle.morris_queries.specs.Telling.{Agrees, AreOf, IsRefusal, opened_
 use crate::library::{Library, Unopened};
 use morris_board::board::Geometry;
 use morris_board::position::Position;
-use morris_faults::fault::Fault;
 use morris_index::pair::Pair;
+use morris_jobs::fault::Fault;
 use morris_keeping::names::file_name;
 use morris_lookup::fault::{LookFault, OpenFault};
 use morris_lookup::opened::Opened;
 use morris_lookup::storage::Storage;
 use morris_lookup::tables::Tables;
-use morris_table::shelf::Needs;
-use morris_table::value::Value;
+use morris_pairs::shelf::Needs;
+use morris_pairs::value::Value;
 use std::alloc::{AllocError, Global};
 
 /// The table files of a folder on a board, and those of them that are open: a file is opened when a
@@ -57,7 +57,7 @@ impl<'n, 'l, 't, B: Geometry, L: Library> Folder<'n, 'l, 't, B, L> {
     ///
     /// # Errors
     /// [`Fault::Needs`] with the pair where no file of that name is there, or it is one of another
-    /// pair; where it isn't a file of a table, the fault that `morris_table` has for it;
+    /// pair; where it isn't a file of a table, the fault that `morris_pairs` has for it;
     /// [`Fault::Read`] where it can't be opened or read; [`Fault::Memory`] where memory is refused.
     fn open_file(&mut self, pair: Pair<B>) -> Result<Opened<B, L::Bytes>, Fault>
         ensures stays { Stays B.shape L.files self.old self.new }

@@ -3,13 +3,13 @@
 use crate::making::files;
 use morris_board::streams::IntoWrite;
 use morris_folders::reason::Reason;
+use morris_pairs::layout::Layout;
 use morris_queries::fault::QueryFault;
 use morris_queries::library::Library;
 use morris_queries::lookup::lookup_texts;
 use morris_queries::memory::Held;
 use morris_queries::show::Show;
 use morris_queries::system::SystemLibrary;
-use morris_table::layout::Layout;
 use std::alloc::Global;
 use std::fs::File;
 use std::io::Write;

@@ -2,9 +2,9 @@
 // position doesn't follow from what it states of the results of the legal moves, that is the answer.
 use crate::asking::is_answered;
 use crate::making::files;
+use morris_pairs::layout::Layout;
 use morris_queries::memory::Held;
 use morris_queries::show::Show;
-use morris_table::layout::Layout;
 use std::alloc::Global;
 use std::process::Abort;
 

@@ -3,11 +3,11 @@ use crate::making::files;
 use morris_board::grid::Grid;
 use morris_folders::folder::Folder;
 use morris_folders::memory::MemoryFolder;
+use morris_pairs::layout::Layout;
 use morris_queries::fault::QueryFault;
 use morris_queries::memory::Held;
 use morris_queries::show::Show;
 use morris_queries::texts::answer_texts;
-use morris_table::layout::Layout;
 use std::process::Abort;
 
 #[test]

@@ -2,11 +2,11 @@
 // follow from the rules.
 use crate::making::files;
 use morris_board::streams::{FromRead, IntoWrite};
+use morris_pairs::layout::Layout;
 use morris_queries::fault::QueryFault;
 use morris_queries::lookup::lookup_lines;
 use morris_queries::memory::Held;
 use morris_queries::show::Show;
-use morris_table::layout::Layout;
 use std::alloc::Global;
 use std::io;
 use std::io::{ErrorKind, Read};

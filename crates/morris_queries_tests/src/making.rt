@@ -2,10 +2,10 @@
 use morris_board::grid::Grid;
 use morris_board::streams::IntoWrite;
 use morris_index::pair::Pair;
+use morris_pairs::layout::Layout;
+use morris_pairs::shelf::Shelf;
+use morris_pairs::writing::write_table;
 use morris_table::building::build_as;
-use morris_table::layout::Layout;
-use morris_table::shelf::Shelf;
-use morris_table::writing::write_table;
 use morris_workers::OpenGate;
 use std::alloc::Global;
 use std::sync::Wait;

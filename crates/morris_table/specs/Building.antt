@@ -1,35 +1,16 @@
--- What a build of the table of a pair answers.
+-- What a build of the table of a pair by several workers answers.
 use Rattle.std.specs.Prelude.{◌≡◌, ℕ, ◌<◌, Option, Some, None}
 use Rattle.morris_board.specs.Boards.{Shape}
 use Rattle.morris_index.specs.Pairs.{Counts}
-use Rattle.morris_wave.specs.Values.{IsTooDeep}
-use Rattle.morris_wave.specs.declared.solver.SweepFault.{SweepFault}
-use Rattle.morris_wave.specs.declared.solver.SweepFault.TheVariants as sweep
 use Rattle.morris_workers.specs.Ranges.{range_fault}
 use Rattle.morris_workers.specs.declared.fault.SolveFault.{SolveFault}
 use Rattle.morris_workers.specs.declared.fault.SolveFault.TheVariants as solve
-use Rattle.morris_table.specs.declared.layout.Layout.{Layout}
-use Rattle.morris_table.specs.declared.layout.Layout.TheVariants.{Full, Classes}
-use Rattle.morris_table.specs.declared.build_fault.BuildFault.{BuildFault}
-use Rattle.morris_table.specs.declared.build_fault.BuildFault.TheVariants.{Needs, Workers, Blocks, Memory, Missing, TooDeep}
-use Rattle.morris_table.specs.Known.{IsBeyondCodes}
-use Rattle.morris_table.specs.PairNets.{level_of, net_at}
-use Rattle.morris_table.specs.Shelves.{Stored, first_missing}
-use Rattle.morris_table.specs.Tables.{Table, IsTable}
-
--- What is built: the exact table of the pair in the layout. Codes of 16 bits suffice for the pair,
--- as its graph counts and in the words of the game.
-pub record IsBuilt (board : Shape) (l : Layout) (c : Counts) (t : Table) : Type 0 where
-  pub pair : t.pair ≡ c
-  pub layout : t.layout ≡ l
-  pub exact : IsTable board t
-  pub not_too_deep : ¬ IsTooDeep (net_at board (level_of l c))
-  pub within : ¬ IsBeyondCodes board c
-
--- codes of 16 bits don't suffice for it
-pub record IsPastCodes (board : Shape) (l : Layout) (c : Counts) : Type 0 where
-  pub too_deep : IsTooDeep (net_at board (level_of l c))
-  pub beyond : IsBeyondCodes board c
+use Rattle.morris_pairs.specs.declared.layout.Layout.{Layout}
+use Rattle.morris_pairs.specs.declared.layout.Layout.TheVariants.{Full, Classes}
+use Rattle.morris_pairs.specs.declared.build_fault.BuildFault.{BuildFault}
+use Rattle.morris_pairs.specs.declared.build_fault.BuildFault.TheVariants.{Needs, Workers, Blocks, Memory, Missing, TooDeep}
+use Rattle.morris_pairs.specs.Building.{IsPastCodes}
+use Rattle.morris_pairs.specs.Shelves.{Stored, first_missing}
 
 -- when memory may be wanting: once the numbers of workers and blocks are in range; in layout
 -- Classes it is asked for the classes before that
@@ -48,17 +29,6 @@ IsUnbuilt board shelf l c workers blocks Memory = (first_missing shelf c ≡ Non
 IsUnbuilt board shelf l c workers blocks (Missing number) = (first_missing shelf c ≡ None) × (range_fault workers blocks ≡ None) × (number < blocks)
 IsUnbuilt board shelf l c workers blocks TooDeep = (first_missing shelf c ≡ None) × (range_fault workers blocks ≡ None) × IsPastCodes board l c
 
--- Why a sweep doesn't make it, which has neither workers nor blocks.
-abbrev pub IsUnswept : {B : Type 0} → Shape → Stored → Counts → BuildFault B → Type 0
-IsUnswept board shelf c (Needs needs) = first_missing shelf c ≡ Some needs.0
-IsUnswept board shelf c Workers = ⊥
-IsUnswept board shelf c Blocks = ⊥
-IsUnswept board shelf c Memory = first_missing shelf c ≡ None
-IsUnswept board shelf c (Missing number) = ⊥
-IsUnswept board shelf c TooDeep = (first_missing shelf c ≡ None) × IsPastCodes board Full c
-
--- ---- faults
-
 -- what a refusal of the workers is here
 abbrev pub solved : {B : Type 0} → SolveFault → BuildFault B
 solved solve.Workers = Workers
@@ -66,8 +36,3 @@ solved solve.Blocks = Blocks
 solved solve.Memory = Memory
 solved (solve.Missing number) = Missing number
 solved solve.TooDeep = TooDeep
-
--- what a refusal of the sweep is here
-abbrev pub swept : {B : Type 0} → SweepFault → BuildFault B
-swept sweep.TooDeep = TooDeep
-swept sweep.Memory = Memory

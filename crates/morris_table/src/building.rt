@@ -2,23 +2,37 @@
 ghost use Rattle.std.specs.Prelude.{◌≡◌, None, IfOk, IfErr, OnOk};
 ghost use Rattle.morris_wave.specs.Blocks.{BlockState};
 ghost use Rattle.morris_workers.specs.Ranges.{range_fault};
-ghost use Rattle.morris_table.specs.Shelves.{first_missing};
-ghost use Rattle.morris_table.specs.Building.{IsBuilt, IsUnbuilt};
-ghost use Rattle.morris_table.specs.Headline.{IsBlockOf, TellsTheGame};
+ghost use Rattle.morris_pairs.specs.Shelves.{first_missing};
+ghost use Rattle.morris_pairs.specs.Building.{IsBuilt};
+ghost use Rattle.morris_table.specs.Building.{IsUnbuilt, solved};
+ghost use Rattle.morris_pairs.specs.Headline.{IsBlockOf, TellsTheGame};
 
-use crate::build_fault::BuildFault;
-use crate::class_graph::ClassGraph;
-use crate::exact::Exact;
-use crate::graph::PairGraph;
-use crate::layout::Layout;
-use crate::shelf::Shelf;
-use crate::stock::Stock;
-use morris_board::board::Board;
+use morris_board::board::{Board, Geometry};
 use morris_index::pair::Pair;
-use morris_workers::{Gate, SHORT_NODES, Unwatched, Watch, solve_with};
+use morris_pairs::build_fault::BuildFault;
+use morris_pairs::class_graph::ClassGraph;
+use morris_pairs::exact::Exact;
+use morris_pairs::graph::PairGraph;
+use morris_pairs::layout::Layout;
+use morris_pairs::shelf::Shelf;
+use morris_pairs::stock::Stock;
+use morris_workers::{Gate, SHORT_NODES, SolveFault, Unwatched, Watch, solve_with};
 use std::alloc::Global;
 use std::sync::Wait;
 use std::thread::Threads;
+
+/// Why a table isn't made whose graph the workers didn't solve.
+fn unbuilt<B: Geometry>(fault: SolveFault) -> BuildFault<B>
+    ensures { result ≡ solved fault }
+{
+    match fault {
+        SolveFault::Workers => BuildFault::Workers,
+        SolveFault::Blocks => BuildFault::Blocks,
+        SolveFault::Memory => BuildFault::Memory,
+        SolveFault::Missing(number) => BuildFault::Missing(number),
+        SolveFault::TooDeep => BuildFault::TooDeep,
+    }
+}
 
 /// The exact table of a pair, over the tables of the pairs that it needs. So many workers build it
 /// from the pair's graph, cut into so many blocks, and ask the gate before each piece of work.
@@ -114,22 +128,17 @@ pub fn build_watched<B: Board, A: Gate, V: Watch, R: Threads + Wait + Sync>(
     match layout {
         Layout::Full => {
             let graph = PairGraph::over(stock, pair)?;
-            let codes = solve_with(rt, alloc, &graph, gate, workers, blocks, SHORT_NODES, watch)?;
-            Ok(graph.into_table(codes))
+            match solve_with(rt, alloc, &graph, gate, workers, blocks, SHORT_NODES, watch) {
+                Ok(codes) => Ok(graph.into_table(codes)),
+                Err(fault) => Err(unbuilt(fault)),
+            }
         }
         Layout::Classes => {
             let graph = ClassGraph::over(alloc, stock, pair)?;
-            let entry_codes = solve_with(
-                rt,
-                alloc,
-                &graph,
-                gate,
-                workers,
-                blocks,
-                SHORT_NODES,
-                watch,
-            )?;
-            Ok(graph.into_table(entry_codes))
+            match solve_with(rt, alloc, &graph, gate, workers, blocks, SHORT_NODES, watch) {
+                Ok(entry_codes) => Ok(graph.into_table(entry_codes)),
+                Err(fault) => Err(unbuilt(fault)),
+            }
         }
     }
 }

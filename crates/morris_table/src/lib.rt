@@ -1,32 +1,10 @@
-//! Tables of the game's values, pair by pair.
+//! Tables of the game's values, pair by pair, made by several workers. All else that there is to a
+//! table stands in `morris_pairs`, which is proved beside the workers, and is found here too.
 #![tactic(auto)]
 
-mod agreeing;
-mod backward;
-pub mod build_fault;
 pub mod building;
-mod by_result;
-pub mod class_graph;
-pub mod exact;
-pub mod file_faults;
-pub mod graph;
-pub mod header;
-mod kept_captures;
-pub mod layout;
-pub mod levels;
-mod numbered_row;
-mod numbering;
-mod quiet_ends;
-pub mod raw;
-pub mod reading;
-mod rounds;
-mod row_reading;
-mod rows;
-mod sharing;
-pub mod shelf;
-pub mod stock;
-pub mod sweeping;
-pub mod value;
-pub mod verify;
-mod worths;
-pub mod writing;
+
+pub use morris_pairs::{
+    build_fault, class_graph, exact, file_faults, graph, header, layout, levels, raw, reading,
+    shelf, stock, sweeping, value, verify, writing,
+};

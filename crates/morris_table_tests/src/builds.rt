@@ -4,11 +4,11 @@ use crate::making::{
     agree, built, empty, file_of, pair, shelf_with, swept, three_by_classes, three_three,
 };
 use morris_board::grid::Grid;
-use morris_table::build_fault::BuildFault;
+use morris_pairs::build_fault::BuildFault;
+use morris_pairs::exact::Exact;
+use morris_pairs::layout::Layout;
+use morris_pairs::shelf::Needs;
 use morris_table::building::{build, build_as};
-use morris_table::exact::Exact;
-use morris_table::layout::Layout;
-use morris_table::shelf::Needs;
 use morris_workers::{Gate, OpenGate, Turn};
 use std::alloc::Global;
 use std::process::Abort;

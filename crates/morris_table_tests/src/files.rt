@@ -3,10 +3,10 @@ use crate::checks::{holds, same};
 use crate::making::{agree, empty, file_of, three_by_classes, three_three};
 use morris_board::grid::Grid;
 use morris_board::streams::FromRead;
-use morris_table::exact::Exact;
-use morris_table::layout::Layout;
-use morris_table::raw::Raw;
-use morris_table::reading::read_table;
+use morris_pairs::exact::Exact;
+use morris_pairs::layout::Layout;
+use morris_pairs::raw::Raw;
+use morris_pairs::reading::read_table;
 use std::alloc::Global;
 use std::process::Abort;
 

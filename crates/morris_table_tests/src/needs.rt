@@ -3,11 +3,11 @@ use crate::checks::holds;
 use crate::making::{empty, pair, shelf_of_three, swept};
 use morris_board::grid::Grid;
 use morris_index::pair::Pair;
-use morris_table::exact::Exact;
-use morris_table::graph::PairGraph;
-use morris_table::raw::Raw;
-use morris_table::shelf::{Needs, Shelf};
-use morris_table::verify::VerifyFault;
+use morris_pairs::exact::Exact;
+use morris_pairs::graph::PairGraph;
+use morris_pairs::raw::Raw;
+use morris_pairs::shelf::{Needs, Shelf};
+use morris_pairs::verify::VerifyFault;
 use std::process::Abort;
 
 /// The pair whose table the graph of a pair needs first and a shelf hasn't.

@@ -4,8 +4,8 @@ use crate::making::{position, shelf_of_three};
 use morris_board::board::Board;
 use morris_board::grid::Grid;
 use morris_board::streams::IntoWrite;
+use morris_pairs::shelf::Shelf;
 use morris_probe::report::report;
-use morris_table::shelf::Shelf;
 use std::alloc::Global;
 use std::process::Abort;
 

@@ -2,11 +2,11 @@
 use crate::checks::{holds, same};
 use crate::making::{empty, pair};
 use morris_board::nine::Nine;
+use morris_pairs::layout::Layout;
+use morris_pairs::raw::Raw;
+use morris_pairs::stock::Stock;
+use morris_pairs::verify::VerifyFault;
 use morris_table::building::build_as;
-use morris_table::layout::Layout;
-use morris_table::raw::Raw;
-use morris_table::stock::Stock;
-use morris_table::verify::VerifyFault;
 use morris_workers::OpenGate;
 use std::alloc::Global;
 use std::process::Abort;

@@ -1,7 +1,7 @@
 //! Tables that are let go.
 use crate::making::{pair, three_three};
 use morris_board::grid::Grid;
-use morris_table::stock::Stock;
+use morris_pairs::stock::Stock;
 
 #[test]
 fn a_table_of_fewer_stones_is_let_go(rt: HostRuntime) {

@@ -3,8 +3,8 @@ use crate::checks::holds;
 use crate::making::{position, three_three};
 use morris_board::grid::Grid;
 use morris_index::pair::Pair;
-use morris_table::exact::Exact;
-use morris_table::value::Value;
+use morris_pairs::exact::Exact;
+use morris_pairs::value::Value;
 use std::process::Abort;
 
 /// A table gives the position that a text shows this value.

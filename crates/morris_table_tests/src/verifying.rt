@@ -2,11 +2,11 @@
 use crate::checks::{holds, same};
 use crate::making::{empty, pair, three_three};
 use morris_board::grid::Grid;
-use morris_table::exact::Exact;
-use morris_table::layout::Layout;
-use morris_table::raw::Raw;
-use morris_table::shelf::Shelf;
-use morris_table::verify::VerifyFault;
+use morris_pairs::exact::Exact;
+use morris_pairs::layout::Layout;
+use morris_pairs::raw::Raw;
+use morris_pairs::shelf::Shelf;
+use morris_pairs::verify::VerifyFault;
 use std::alloc::Global;
 use std::process::Abort;
 

@@ -8,7 +8,7 @@ use morris_board::streams::{FromRead, IntoWrite};
 use morris_commands::probe::probe_in;
 use morris_commands::stats::stats;
 use morris_commands::verify_in::verify_in;
-use morris_faults::fault::Fault;
+use morris_jobs::fault::Fault;
 use std::alloc::Global;
 
 /// Prints what a command answered, which has printed this itself. A command that is refused memory

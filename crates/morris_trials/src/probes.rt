@@ -2,9 +2,9 @@
 use morris_board::nine::Nine;
 use morris_board::position::Position;
 use morris_board::streams::{FromRead, IntoWrite};
+use morris_pairs::reading::read_next;
+use morris_pairs::shelf::Shelf;
 use morris_probe::report::report;
-use morris_table::reading::read_next;
-use morris_table::shelf::Shelf;
 use std::alloc::Global;
 
 /// How many files may stand one after the other on the input.

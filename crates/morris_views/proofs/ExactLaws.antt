@@ -7,13 +7,13 @@ use Rattle.morris_board.specs.Boards.{Shape}
 use Rattle.morris_board.specs.Positions.{Sides, IsPosition}
 use Rattle.morris_board.specs.Symmetries.{HasSymmetries}
 use Rattle.morris_index.specs.Pairs.{Counts, counts, is_of}
-use Rattle.morris_table.specs.declared.value.Value.{Value}
-use Rattle.morris_table.specs.Codes.{IsValue, value_in}
-use Rattle.morris_table.specs.Entries.{entry_index}
-use Rattle.morris_table.specs.EntryLaws.{laid}
-use Rattle.morris_table.specs.Tables.{Table, IsTable}
-use Rattle.morris_table.specs.TableFiles.{header_of, code_bytes, content_of, file_of}
-use Rattle.morris_table.proofs.FileLaws.{file_of-parts, IsRaw-from_exact}
+use Rattle.morris_pairs.specs.declared.value.Value.{Value}
+use Rattle.morris_pairs.specs.Codes.{IsValue, value_in}
+use Rattle.morris_pairs.specs.Entries.{entry_index}
+use Rattle.morris_pairs.specs.EntryLaws.{laid}
+use Rattle.morris_pairs.specs.Tables.{Table, IsTable}
+use Rattle.morris_pairs.specs.TableFiles.{header_of, code_bytes, content_of, file_of}
+use Rattle.morris_pairs.proofs.FileLaws.{file_of-parts, IsRaw-from_exact}
 use Rattle.morris_lookup.proofs.OpeningLaws.{framed_file}
 use Rattle.morris_lookup.proofs.FileLookups.{code_at-file}
 use Rattle.morris_views.specs.declared.fault.ViewFault.{ViewFault}

@@ -13,15 +13,15 @@ use Rattle.morris_index.proofs.ClassPairLaws.{class_size-few, size-one, size-two
 use Rattle.morris_board.specs.Symmetries.{HasSymmetries}
 use Rattle.morris_views.specs.declared.check.HeaderRecord.{HeaderRecord}
 use Rattle.morris_views.specs.Checking.{header_said, header_record}
-use Rattle.morris_table.specs.declared.value.Value.TheVariants.{Lost}
-use Rattle.morris_table.specs.declared.layout.Layout.{Layout}
-use Rattle.morris_table.specs.declared.file_faults.ReadFault.{ReadFault}
-use Rattle.morris_table.specs.declared.file_faults.ReadFault.TheVariants as fault
-use Rattle.morris_table.specs.Entries.{entry_count}
-use Rattle.morris_table.specs.declared.layout.Layout.TheVariants.{Full, Classes}
-use Rattle.morris_table.specs.TableFiles.{magic}
-use Rattle.morris_table.specs.declared.header.Header.{Header}
-use Rattle.morris_table.specs.FileReading.{unless, are_counts, is_version, header_at, layout_in, kind_in, counted_in, heading_in, header_in}
+use Rattle.morris_pairs.specs.declared.value.Value.TheVariants.{Lost}
+use Rattle.morris_pairs.specs.declared.layout.Layout.{Layout}
+use Rattle.morris_pairs.specs.declared.file_faults.ReadFault.{ReadFault}
+use Rattle.morris_pairs.specs.declared.file_faults.ReadFault.TheVariants as fault
+use Rattle.morris_pairs.specs.Entries.{entry_count}
+use Rattle.morris_pairs.specs.declared.layout.Layout.TheVariants.{Full, Classes}
+use Rattle.morris_pairs.specs.TableFiles.{magic}
+use Rattle.morris_pairs.specs.declared.header.Header.{Header}
+use Rattle.morris_pairs.specs.FileReading.{unless, are_counts, is_version, header_at, layout_in, kind_in, counted_in, heading_in, header_in}
 use Rattle.morris_lookup.specs.Opening.{framed_in, measured_in}
 use Rattle.morris_views.specs.declared.fault.ViewFault.TheVariants as view
 use Rattle.morris_views.specs.Views.{entry_in, borne_out, counted_entry, is_by_classes, value_of_bytes, value_said, needs_words}

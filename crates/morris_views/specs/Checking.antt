@@ -2,10 +2,10 @@
 use Rattle.std.specs.Prelude.{ℕ, List, Result, Ok, Err}
 use Rattle.morris_board.specs.Boards.{Shape}
 use Rattle.morris_index.specs.Pairs.{Counts}
-use Rattle.morris_table.specs.declared.layout.Layout.{Layout}
-use Rattle.morris_table.specs.declared.file_faults.ReadFault.{ReadFault}
-use Rattle.morris_table.specs.Entries.{entry_count}
-use Rattle.morris_table.specs.TableFiles.{version_of}
+use Rattle.morris_pairs.specs.declared.layout.Layout.{Layout}
+use Rattle.morris_pairs.specs.declared.file_faults.ReadFault.{ReadFault}
+use Rattle.morris_pairs.specs.Entries.{entry_count}
+use Rattle.morris_pairs.specs.TableFiles.{version_of}
 use Rattle.morris_lookup.specs.Opening.{framed_in}
 use Rattle.morris_views.specs.declared.check.HeaderRecord.{HeaderRecord}
 

@@ -1,8 +1,8 @@
 -- Values and moves as records of numbers.
 use Rattle.std.specs.Prelude.{ℕ, Option, Some, None}
 use Rattle.morris_moves.specs.declared.step.Move.{Move}
-use Rattle.morris_table.specs.declared.value.Value.{Value}
-use Rattle.morris_table.specs.declared.value.Value.TheVariants.{Draw, Won, Lost}
+use Rattle.morris_pairs.specs.declared.value.Value.{Value}
+use Rattle.morris_pairs.specs.declared.value.Value.TheVariants.{Draw, Won, Lost}
 use Rattle.morris_views.specs.declared.records.ValueRecord.{ValueRecord}
 use Rattle.morris_views.specs.declared.records.MoveRecord.{MoveRecord}
 

@@ -4,16 +4,16 @@ use Rattle.std.specs.List.{Contains}
 use Rattle.morris_board.specs.Boards.{Shape}
 use Rattle.morris_board.specs.Positions.{Sides}
 use Rattle.morris_index.specs.Pairs.{Counts, pair_of}
-use Rattle.morris_table.specs.declared.layout.Layout.{Layout}
-use Rattle.morris_table.specs.declared.value.Value.{Value}
-use Rattle.morris_table.specs.declared.value.Value.TheVariants.{Lost}
-use Rattle.morris_table.specs.declared.file_faults.ReadFault.{ReadFault}
-use Rattle.morris_table.specs.declared.file_faults.ReadFault.TheVariants as read
-use Rattle.morris_table.specs.Codes.{value_in}
-use Rattle.morris_table.specs.Entries.{entry_count, entry_index}
-use Rattle.morris_table.specs.Tables.{Table, IsTable}
-use Rattle.morris_table.specs.TableFiles.{file_of}
-use Rattle.morris_table.specs.FileReading.{unless}
+use Rattle.morris_pairs.specs.declared.layout.Layout.{Layout}
+use Rattle.morris_pairs.specs.declared.value.Value.{Value}
+use Rattle.morris_pairs.specs.declared.value.Value.TheVariants.{Lost}
+use Rattle.morris_pairs.specs.declared.file_faults.ReadFault.{ReadFault}
+use Rattle.morris_pairs.specs.declared.file_faults.ReadFault.TheVariants as read
+use Rattle.morris_pairs.specs.Codes.{value_in}
+use Rattle.morris_pairs.specs.Entries.{entry_count, entry_index}
+use Rattle.morris_pairs.specs.Tables.{Table, IsTable}
+use Rattle.morris_pairs.specs.TableFiles.{file_of}
+use Rattle.morris_pairs.specs.FileReading.{unless}
 use Rattle.morris_lookup.specs.Opening.{framed_in}
 use Rattle.morris_lookup.specs.Lookups.{code_at}
 use Rattle.morris_views.specs.declared.fault.ViewFault.{ViewFault}

@@ -1,16 +1,16 @@
 //! Whether bytes are a table file.
 ghost use Rattle.std.specs.Prelude.{◌≡◌, ◌<◌, ◌^◌};
 ghost use Rattle.morris_index.specs.Pairs.{IsPair};
-ghost use Rattle.morris_table.specs.Entries.{entry_count};
+ghost use Rattle.morris_pairs.specs.Entries.{entry_count};
 ghost use Rattle.morris_views.specs.Checking.{header_said};
 
 use crate::framing::{bear_out, header_of};
 use morris_board::board::Geometry;
 use morris_index::class_sizes::class_size;
 use morris_index::pair::Pair;
-use morris_table::file_faults::ReadFault;
-use morris_table::header::version_of;
-use morris_table::layout::Layout;
+use morris_pairs::file_faults::ReadFault;
+use morris_pairs::header::version_of;
+use morris_pairs::layout::Layout;
 
 /// What the header of a table file says, as numbers that other languages read.
 #[repr(C)]

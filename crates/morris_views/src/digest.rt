@@ -2,7 +2,7 @@
 ghost use Rattle.std.specs.Prelude.{◌≡◌};
 ghost use Rattle.morris_views.specs.Digests.{has_digest};
 
-use morris_table::reading::DIGEST;
+use morris_pairs::reading::DIGEST;
 use sha2::{Digest, Sha256};
 
 /// Whether the last 32 bytes are the SHA-256 of all bytes before them. All bytes are read.

@@ -1,7 +1,7 @@
 //! Why there is no answer.
 ghost use Rattle.std.specs.Prelude.{◌≡◌};
 
-use morris_table::file_faults::ReadFault;
+use morris_pairs::file_faults::ReadFault;
 use thiserror::Error;
 
 /// The memory that the caller handed in is too small for the answer.

@@ -1,7 +1,7 @@
 //! What the header of a table file says, and the number of its bytes bears out.
 ghost use Rattle.std.specs.Prelude.{◌≡◌, ◌+◌, ◌*◌, ◌≤◌, ◌<◌, ◌^◌, true, length, take, IfOk, MatchResult};
 ghost use Rattle.morris_index.specs.Pairs.{is_of};
-ghost use Rattle.morris_table.specs.FileReading.{header_at};
+ghost use Rattle.morris_pairs.specs.FileReading.{header_at};
 ghost use Rattle.morris_views.specs.Files.{names_pair};
 ghost use Rattle.morris_views.specs.Prepared.{looks_prepared, IsPrepared};
 ghost use Rattle.morris_views.specs.Views.{entry_in, is_by_classes, Serves, borne_out, counted_entry};
@@ -12,10 +12,10 @@ use morris_board::board::Geometry;
 use morris_board::position::Position;
 use morris_index::pair::Pair;
 use morris_lookup::class_entries::{class_index, class_size};
-use morris_table::file_faults::ReadFault;
-use morris_table::header::{HEADER, Header};
-use morris_table::layout::Layout;
-use morris_table::reading::DIGEST;
+use morris_pairs::file_faults::ReadFault;
+use morris_pairs::header::{HEADER, Header};
+use morris_pairs::layout::Layout;
+use morris_pairs::reading::DIGEST;
 
 /// The entry of a position in the file of its pair.
 ///

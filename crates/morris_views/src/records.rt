@@ -3,7 +3,7 @@ ghost use Rattle.std.specs.Prelude.{◌≡◌, ◌<◌, ◌≤◌, IfSome};
 ghost use Rattle.morris_views.specs.Records.{value_record, move_record};
 
 use morris_moves::step::Move;
-use morris_table::value::Value;
+use morris_pairs::value::Value;
 
 /// A value as two numbers.
 #[repr(C)]

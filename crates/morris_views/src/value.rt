@@ -1,7 +1,7 @@
 //! The value of a position, by table files in memory.
 ghost use Rattle.std.specs.Prelude.{◌≡◌, ◌+◌, ◌*◌, ◌<◌, ◌≤◌, ◌^◌, true, length, IfOk, MatchOption};
 ghost use Rattle.morris_index.specs.Pairs.{is_of};
-ghost use Rattle.morris_table.specs.Codes.{IsValue};
+ghost use Rattle.morris_pairs.specs.Codes.{IsValue};
 ghost use Rattle.morris_lookup.specs.Lookups.{code_at, depth_of};
 ghost use Rattle.morris_views.specs.Files.{contents, names_pair};
 ghost use Rattle.morris_views.specs.Prepared.{looks_prepared};
@@ -13,9 +13,9 @@ use crate::view::{View, file_of_pair};
 use morris_board::board::Geometry;
 use morris_board::position::Position;
 use morris_index::pair::Pair;
-use morris_table::exact::value_of_code;
-use morris_table::header::HEADER;
-use morris_table::value::Value;
+use morris_pairs::exact::value_of_code;
+use morris_pairs::header::HEADER;
+use morris_pairs::value::Value;
 
 /// The value that files state for a position: that of the first file that names its pair in the
 /// header. A player to move with two stones has lost in 0 plies: that needs no file. Of the file

@@ -5,7 +5,7 @@ ghost use Rattle.morris_views.specs.Files.{names_pair, file_of_pair, contents};
 
 use morris_board::board::Geometry;
 use morris_index::pair::Pair;
-use morris_table::header::HEADER;
+use morris_pairs::header::HEADER;
 
 /// The bytes of a table file, which somebody else keeps and nobody changes meanwhile.
 #[repr(C)]

@@ -2,12 +2,12 @@
 use Rattle.std.proofs.Common.{◌≡◌, ◌∙◌, ℕ, Bool, false, List, None, Option, refl, inl, inr, map, subst, sym, true, Err}
 use Rattle.morris.specs.Command.{AsksToRead, TellsProgress, folder_of, takes_input}
 use Rattle.morris.specs.Reporting.{ReportsAt}
-use Rattle.morris_progress.specs.Progress.{Becomes, TellsInOrder, has_begun_of, sink_of, tells_of}
-use Rattle.morris_progress.specs.ProgressLaws.{Becomes-in_order}
-use Rattle.morris_progress.specs.declared.progress.Progress.{Progress}
+use Rattle.morris_jobs.specs.Progress.{Becomes, TellsInOrder, has_begun_of, sink_of, tells_of}
+use Rattle.morris_jobs.specs.ProgressLaws.{Becomes-in_order}
+use Rattle.morris_jobs.specs.declared.progress.Progress.{Progress}
 use Rattle.morris_words.specs.Words.{IsAnswerToOneOf, faults_of, named_by}
 use Rattle.std.proofs.KnownBytes.{Keeps-refl}
-use Rattle.morris_faults.specs.declared.fault.Fault.TheVariants as fault
+use Rattle.morris_jobs.specs.declared.fault.Fault.TheVariants as fault
 use Rattle.morris.proofs.command.command.Goals as goal
 
 pub returns-in-Err-Memory-clause-answer : goal.returns-in-Err-Memory-clause-answer

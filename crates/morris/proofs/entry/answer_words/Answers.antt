@@ -4,10 +4,10 @@ use Rattle.std.specs.Prelude.{IfOk}
 use Rattle.std.proofs.KnownBytes.{Keeps-refl}
 use Rattle.clap.specs.Words.{Text}
 use Rattle.morris.specs.Command.{AsksToRead, Ends, HasMistake, NamesFolder, TellsProgress, texts_of}
-use Rattle.morris_commands.specs.Verify.{Input, input_of}
+use Rattle.morris_jobs.specs.Inputs.{Input, input_of}
 use Rattle.morris_words.specs.Words.{faults_of, named_by}
-use Rattle.morris_faults.specs.declared.fault.Fault.{Fault}
-use Rattle.morris_faults.specs.declared.fault.Fault.TheVariants as fault
+use Rattle.morris_jobs.specs.declared.fault.Fault.{Fault}
+use Rattle.morris_jobs.specs.declared.fault.Fault.TheVariants as fault
 use Rattle.morris.proofs.entry.answer_words.Goals as goal
 
 of_ok : {T E : Type 0} (r : Result T E) (x : T) (P : T → Type 0) → r ≡ Ok x → P x → IfOk r P

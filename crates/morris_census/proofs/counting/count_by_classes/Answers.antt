@@ -4,9 +4,9 @@ use Rattle.std.proofs.lemmas.List.FromFn.{length-map-range_with_len}
 use Rattle.morris_board.specs.Boards.{Shape}
 use Rattle.morris_index.specs.ClassPairs.{class_size_of}
 use Rattle.morris_wave.specs.Nets.{times}
-use Rattle.morris_table.specs.declared.layout.Layout.TheVariants.{Classes}
-use Rattle.morris_table.specs.Tables.{IsTable, greatest_code, table, tallies_of}
-use Rattle.morris_table.proofs.TallyLaws.{le_greatest}
+use Rattle.morris_pairs.specs.declared.layout.Layout.TheVariants.{Classes}
+use Rattle.morris_pairs.specs.Tables.{IsTable, greatest_code, table, tallies_of}
+use Rattle.morris_pairs.proofs.TallyLaws.{le_greatest}
 use Rattle.morris_census.specs.Census.{IsRow}
 use Rattle.morris_census.proofs.EntryCounts.{entries_some-at, fallen, fallen_is-at, tallies_are}
 use Rattle.morris_census.proofs.SumLaws.{one_entry_few, one_entry_more, weighed}

@@ -1,5 +1,5 @@
 use Rattle.std.proofs.Common.{◌≡◌, ℕ, ◌+◌, ◌-◌, ◌*◌, ◌<◌, ◌≤◌, length, get_or}
-use Rattle.morris_table.specs.Tables.{greatest_code}
+use Rattle.morris_pairs.specs.Tables.{greatest_code}
 use Rattle.morris_census.specs.Census.{IsRow}
 use Rattle.morris_census.proofs.EntryCounts.{fallen}
 use Rattle.morris_census.proofs.SumLaws.{weighed}

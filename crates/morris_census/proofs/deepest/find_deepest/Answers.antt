@@ -1,8 +1,8 @@
 -- The position of the entry that was found is a deepest one, as the table is exact.
 use Rattle.std.proofs.Common.{◌≡◌, ℕ, ◌-◌, ◌≤◌, sym, subst, arith}
 use Rattle.morris_board.specs.Boards.{Shape}
-use Rattle.morris_table.specs.Entries.{entry_index}
-use Rattle.morris_table.proofs.PositionLaws.{IsAtEntry}
+use Rattle.morris_pairs.specs.Entries.{entry_index}
+use Rattle.morris_pairs.proofs.PositionLaws.{IsAtEntry}
 use Rattle.morris_census.specs.Deepest.{IsDeepestAt}
 use Rattle.morris_census.proofs.DeepLaws.{deepest_at, none_told}
 use Rattle.morris_census.proofs.deepest.find_deepest.Goals as goal

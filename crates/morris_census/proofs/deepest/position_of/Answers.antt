@@ -4,8 +4,8 @@ use Rattle.morris_board.specs.Positions.{Sides}
 use Rattle.morris_index.specs.Classes.{representative_of}
 use Rattle.morris_index.specs.ClassPairs.{led}
 use Rattle.morris_index.proofs.ClassPairLaws.{led_own}
-use Rattle.morris_table.specs.declared.layout.Layout.TheVariants.{Classes}
-use Rattle.morris_table.specs.Entries.{has_own_entry}
+use Rattle.morris_pairs.specs.declared.layout.Layout.TheVariants.{Classes}
+use Rattle.morris_pairs.specs.Entries.{has_own_entry}
 use Rattle.morris_census.proofs.deepest.position_of.Goals as goal
 
 -- the position of an entry is led to itself, so it has a representative for its own set

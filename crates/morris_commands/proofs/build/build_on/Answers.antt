@@ -3,6 +3,9 @@ use Rattle.std.proofs.Common.{Err, ap, ◌∙◌, inl, inr}
 use Rattle.std.proofs.KnownBytes.{Keeps-refl}
 use Rattle.std.proofs.lemmas.Result.{err_from_is_err_and}
 use Rattle.morris_commands.proofs.OwnLaws.{built_of_text, none_too_deep, unbuilt_before, unbuilt_itself, with_own}
+use Rattle.morris_jobs.proofs.FaultLaws.{counted_refused, unwritten}
+use Rattle.morris_jobs.specs.Orders.{IsUnbuiltAt}
+use Rattle.morris_commands.specs.Verify.{IsUnbuiltBefore}
 use Rattle.morris_commands.proofs.build.build_on.Goals as goal
 
 -- one that isn't built is refused, with nothing written: one below it, or the pair itself
@@ -50,3 +53,38 @@ returns-clause-answer g c =
     c.args.all (g.O.Sink.contents c.args.output.now) (g.O.Sink.contents c.write_files.new.output)
     c.write_files.result c.args.layout
     (inr (none_too_deep board pair c.in_ok-stock.ensures.within c.in_ok-build_onto.ensures.within, c.write_files.ensures.files))
+
+pub returns-in_err-pair-clause-told : goal.returns-in_err-pair-clause-told
+returns-in_err-pair-clause-told g c = g.met.T.Watch.stays c.args.teller.now
+
+pub returns-in_err-team-clause-told : goal.returns-in_err-team-clause-told
+returns-in_err-team-clause-told g c = g.met.T.Watch.stays c.args.teller.now
+
+pub returns-in_err-stock-clause-told : goal.returns-in_err-stock-clause-told
+returns-in_err-stock-clause-told g c = g.met.T.Watch.joins _ _ _ c.announce.ensures.told c.build_before.ensures.told
+
+pub returns-in_err-build_onto-clause-told : goal.returns-in_err-build_onto-clause-told
+returns-in_err-build_onto-clause-told g c =
+    g.met.T.Watch.joins _ _ _ (g.met.T.Watch.joins _ _ _ c.announce.ensures.told c.build_before.ensures.told) c.build_onto.ensures.told
+
+pub returns-clause-told : goal.returns-clause-told
+returns-clause-told g c =
+    g.met.T.Watch.joins _ _ _ (g.met.T.Watch.joins _ _ _ c.announce.ensures.told c.build_before.ensures.told) c.build_onto.ensures.told
+
+-- a refusal of a build isn't that of a write
+pub returns-in_err-stock-clause-counted : goal.returns-in_err-stock-clause-counted
+returns-in_err-stock-clause-counted g c =
+    let r = c.from_residual-in_err-stock.result in
+    let failed = err_from_is_err_and r c.from_residual-in_err-stock.ensures.1 in
+    counted_refused (g.O.Sink.failures c.args.output.now) r _ (failed.1 ∙ ap Err failed.2)
+    (unwritten (IsUnbuiltBefore g.B.Geometry.shape c.in_ok-pair.pair c.args.order.blocks) (λ sent none. none) _ (rw c.in_ok-team.ensures.1 at c.in_err-stock.ensures.refused))
+
+pub returns-in_err-build_onto-clause-counted : goal.returns-in_err-build_onto-clause-counted
+returns-in_err-build_onto-clause-counted g c =
+    let r = c.from_residual-in_err-build_onto.result in
+    let failed = err_from_is_err_and r c.from_residual-in_err-build_onto.ensures.1 in
+    counted_refused (g.O.Sink.failures c.args.output.now) r _ (failed.1 ∙ ap Err failed.2)
+    (unwritten (IsUnbuiltAt g.B.Geometry.shape c.in_ok-pair.pair c.args.order.blocks) (λ sent none. none) _ (rw c.in_ok-team.ensures.1 at c.in_err-build_onto.ensures.refused))
+
+pub returns-clause-counted : goal.returns-clause-counted
+returns-clause-counted g c = c.write_files.ensures.counted

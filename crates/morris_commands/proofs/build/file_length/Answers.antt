@@ -1,5 +1,5 @@
 use Rattle.std.proofs.Common.{arith}
-use Rattle.morris_table.proofs.FileLaws.{length-file_of}
+use Rattle.morris_pairs.proofs.FileLaws.{length-file_of}
 use Rattle.morris_commands.proofs.build.file_length.Goals as goal
 
 pub returns-clause-value : goal.returns-clause-value

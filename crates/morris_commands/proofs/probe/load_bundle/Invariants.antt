@@ -1,5 +1,5 @@
 use Rattle.std.proofs.Common.{◌≡◌, ◌-◌}
-use Rattle.morris_commands.specs.Verify.{input_of}
+use Rattle.morris_jobs.specs.Inputs.{input_of}
 use Rattle.morris_commands.proofs.BundleLaws.{Leads}
 use Rattle.morris_commands.proofs.probe.load_bundle.Given as goal
 

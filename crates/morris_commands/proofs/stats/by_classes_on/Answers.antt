@@ -2,7 +2,7 @@
 use Rattle.std.proofs.Common.{Err, ap, subst, ◌∙◌, inl, inr}
 use Rattle.std.proofs.KnownBytes.{Keeps-refl}
 use Rattle.std.proofs.lemmas.Result.{err_from_is_err_and}
-use Rattle.morris_faults.specs.declared.fault.Fault.TheVariants as fault
+use Rattle.morris_jobs.specs.declared.fault.Fault.TheVariants as fault
 use Rattle.morris_commands.specs.Stats.{AnswersCounts}
 use Rattle.morris_commands.specs.StatsByClasses.{AnswersCounted}
 use Rattle.morris_commands.proofs.OwnLaws.{counted_of_text, none_too_deep, unbuilt_before, unbuilt_itself}
@@ -55,3 +55,18 @@ returns-in_err-build_onto-clause-answer g c =
       unbuilt_itself board pair order.blocks c.in_ok-stock.ensures.last _ (rw c.in_ok-team.ensures.1 at c.in_err-build_onto.ensures.refused),
       Keeps-refl old,
     ))
+
+pub returns-in_err-pair-clause-told : goal.returns-in_err-pair-clause-told
+returns-in_err-pair-clause-told g c = g.met.T.Watch.stays c.args.teller.now
+
+pub returns-in_err-team-clause-told : goal.returns-in_err-team-clause-told
+returns-in_err-team-clause-told g c = g.met.T.Watch.stays c.args.teller.now
+
+pub returns-in_err-stock-clause-told : goal.returns-in_err-stock-clause-told
+returns-in_err-stock-clause-told g c = g.met.T.Watch.joins _ _ _ c.announce.ensures.told c.build_before.ensures.told
+
+pub returns-in_err-build_onto-clause-told : goal.returns-in_err-build_onto-clause-told
+returns-in_err-build_onto-clause-told g c = g.met.T.Watch.joins _ _ _ (g.met.T.Watch.joins _ _ _ c.announce.ensures.told c.build_before.ensures.told) c.build_onto.ensures.told
+
+pub returns-clause-told : goal.returns-clause-told
+returns-clause-told g c = g.met.T.Watch.joins _ _ _ (g.met.T.Watch.joins _ _ _ c.announce.ensures.told c.build_before.ensures.told) c.build_onto.ensures.told

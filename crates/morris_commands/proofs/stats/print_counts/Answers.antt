@@ -2,7 +2,7 @@
 use Rattle.std.proofs.Common.{◌++◌, Err, sym, ap, subst, ◌∙◌, inl, inr}
 use Rattle.std.proofs.KnownBytes.{Keeps-refl}
 use Rattle.std.proofs.lemmas.Result.{err_from_is_err_and}
-use Rattle.morris_faults.specs.Faults.{Prints}
+use Rattle.morris_jobs.specs.Faults.{Prints}
 use Rattle.morris_commands.specs.Deepest.{deepest_lines}
 use Rattle.morris_commands.specs.Stats.{stats_text}
 use Rattle.morris_commands.proofs.DeepestLaws.{shown}

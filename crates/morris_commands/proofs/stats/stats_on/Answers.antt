@@ -2,8 +2,8 @@
 use Rattle.std.proofs.Common.{◌≡◌, Ok, Err, sym, ap, subst, ◌∙◌, inl, inr}
 use Rattle.std.proofs.KnownBytes.{Keeps-refl}
 use Rattle.std.proofs.lemmas.Result.{err_from_is_err_and}
-use Rattle.morris_faults.specs.PairText.{read_pair_of}
-use Rattle.morris_faults.specs.declared.fault.Fault.TheVariants as fault
+use Rattle.morris_jobs.specs.PairText.{read_pair_of}
+use Rattle.morris_jobs.specs.declared.fault.Fault.TheVariants as fault
 use Rattle.morris_commands.specs.Stats.{AnswersCounts, AnswersPair, AnswersRead}
 use Rattle.morris_commands.proofs.stats.stats_on.Goals as goal
 
@@ -35,3 +35,12 @@ returns-in_err-table-clause-answer g c =
     ap (λ n. read_pair_of n c.args.text.now) c.in_err-table.ensures.points ∙ sym c.in_ok-pair.ensures in
     subst (λ found. AnswersRead board c.args.deepest old old c.from_residual-in_err-table.result found) (sym read)
     (inl (_, failed.1 ∙ ap Err failed.2, c.in_err-table.ensures.refused, Keeps-refl old))
+
+pub returns-in_err-pair-clause-told : goal.returns-in_err-pair-clause-told
+returns-in_err-pair-clause-told g c = g.met.T.Watch.stays c.args.teller.now
+
+pub returns-in_err-table-clause-told : goal.returns-in_err-table-clause-told
+returns-in_err-table-clause-told g c = c.sweep_below.ensures.told
+
+pub returns-clause-told : goal.returns-clause-told
+returns-clause-told g c = c.sweep_below.ensures.told

@@ -13,3 +13,6 @@ returns-in_err-exact-clause-told g c =
     let built = g.met.T.Watch.joins _ _ _ c.announce.ensures.told c.in_ok-stock.ensures.told in
     let begun = g.met.T.Watch.joins _ _ _ built c.begin_pair.ensures.told in
     g.met.T.Watch.joins _ _ _ begun c.in_err-exact.ensures.told
+
+pub returns-in_err-stock-clause-told : goal.returns-in_err-stock-clause-told
+returns-in_err-stock-clause-told g c = g.met.T.Watch.joins _ _ _ c.announce.ensures.told c.build_before.ensures.told

@@ -2,9 +2,9 @@
 use Rattle.std.proofs.Common.{◌≡◌, Ok, Err, length, refl, ap, subst, ◌∙◌, inl, inr}
 use Rattle.std.proofs.KnownBytes.{Keeps-refl}
 use Rattle.std.proofs.lemmas.Result.{err_from_is_err_and}
-use Rattle.morris_table.specs.declared.file_faults.ReadFault.TheVariants as read
-use Rattle.morris_faults.specs.Faults.{Prints}
-use Rattle.morris_commands.specs.Verify.{verified_text}
+use Rattle.morris_pairs.specs.declared.file_faults.ReadFault.TheVariants as read
+use Rattle.morris_jobs.specs.Faults.{Prints}
+use Rattle.morris_jobs.specs.Verified.{verified_text}
 use Rattle.morris_commands.proofs.verify.verify_on.Goals as goal
 
 pub returns-in_err-exact-clause-answer : goal.returns-in_err-exact-clause-answer
@@ -40,3 +40,12 @@ returns-clause-answer g c =
             c.print.ensures.shown,
       ),
     )
+
+pub returns-in_err-raw-clause-told : goal.returns-in_err-raw-clause-told
+returns-in_err-raw-clause-told g c = g.met.T.Watch.stays c.args.teller.now
+
+pub returns-in_err-exact-clause-told : goal.returns-in_err-exact-clause-told
+returns-in_err-exact-clause-told g c = c.believe.ensures.told
+
+pub returns-clause-told : goal.returns-clause-told
+returns-clause-told g c = c.believe.ensures.told

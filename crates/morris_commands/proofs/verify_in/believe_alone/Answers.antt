@@ -1,6 +1,6 @@
 -- Why the table isn't believed, once the pairs below are swept.
 use Rattle.std.proofs.lemmas.Result.{IfErr-weaker}
-use Rattle.morris_commands.specs.Probe.{IsUnfit}
+use Rattle.morris_jobs.specs.Inputs.{IsUnfit}
 use Rattle.morris_commands.specs.Verify.{IsUnverified}
 use Rattle.morris_commands.proofs.AloneLaws.{unfit}
 use Rattle.morris_commands.proofs.verify_in.believe_alone.Goals as goal

@@ -2,9 +2,9 @@
 use Rattle.std.proofs.Common.{◌≡◌, Ok, Err, length, refl, ap, subst, ◌∙◌, inl, inr}
 use Rattle.std.proofs.KnownBytes.{Keeps-refl}
 use Rattle.std.proofs.lemmas.Result.{err_from_is_err_and}
-use Rattle.morris_table.specs.declared.file_faults.ReadFault.TheVariants as read
-use Rattle.morris_faults.specs.Faults.{Prints}
-use Rattle.morris_commands.specs.Verify.{verified_text}
+use Rattle.morris_pairs.specs.declared.file_faults.ReadFault.TheVariants as read
+use Rattle.morris_jobs.specs.Faults.{Prints}
+use Rattle.morris_jobs.specs.Verified.{verified_text}
 use Rattle.morris_commands.proofs.verify_in.verify_alone.Goals as goal
 
 pub returns-in_err-exact-clause-answer : goal.returns-in_err-exact-clause-answer

@@ -1,9 +1,9 @@
 -- A bundle is verified file by file.
 use Rattle.std.proofs.Common.{◌≡◌, ◌-◌, ◌∙◌, Err, arith, inr, refl, subst}
 use Rattle.std.proofs.lemmas.Result.{err_from_is_err_and}
-use Rattle.morris_faults.specs.declared.fault.Fault.TheVariants as fault
+use Rattle.morris_jobs.specs.declared.fault.Fault.TheVariants as fault
 use Rattle.morris_folder_commands.specs.Bundle.{VerifiesBundle}
-use Rattle.morris_commands.specs.Verify.{input_of}
+use Rattle.morris_jobs.specs.Inputs.{input_of}
 use Rattle.morris_folder_commands.proofs.BundleLaws.{at_end, leads_on, leads_wrong, no_room_wanting, one_too_many, read_unwritten, refused_file}
 use Rattle.morris_folder_commands.proofs.bundle.bundle_on.Goals as goal
 

@@ -1,5 +1,5 @@
 use Rattle.std.proofs.Common.{◌≡◌, ◌*◌, ◌-◌, ◌≤◌, ◌^◌}
-use Rattle.morris_commands.specs.Verify.{input_of}
+use Rattle.morris_jobs.specs.Inputs.{input_of}
 use Rattle.morris_folder_commands.proofs.BundleLaws.{Leads}
 use Rattle.morris_folder_commands.proofs.bundle.bundle_on.Given as goal
 

@@ -4,11 +4,11 @@ use Rattle.std.proofs.KnownBytes.{Keeps-refl}
 use Rattle.std.proofs.lemmas.Result.{err_from_is_err_and}
 use Rattle.morris_board.specs.Streams.{PartSent}
 use Rattle.morris_index.specs.Pairs.{below_of}
-use Rattle.morris_table.specs.Tables.{Table}
+use Rattle.morris_pairs.specs.Tables.{Table}
 use Rattle.morris_folder_commands.specs.Filling.{IsOf, KeepsTable}
 use Rattle.morris_folder_commands.specs.Into.{IsBuilt, IsFiled, IsUnfiled, filed_text, place_of}
 use Rattle.morris_folder_commands.proofs.FillLaws.{all_done, done_leads, line_cut, line_is, lines_of, next_leads, no_leads, start_leads, unbuilt, undone}
-use Rattle.morris_commands.proofs.NearLaws.{near-more, near-ready}
+use Rattle.morris_jobs.proofs.NearLaws.{near-more, near-ready}
 use Rattle.morris_folder_commands.proofs.into.fill.Goals as goal
 
 pub build_onto-requires-clause-ready : goal.build_onto-requires-clause-ready

@@ -4,7 +4,7 @@ use Rattle.morris_index.specs.Pairs.{below_of}
 use Rattle.morris_keeping.specs.Digests.{digest_lines}
 use Rattle.morris_folder_commands.specs.Into.{place_of}
 use Rattle.morris_folder_commands.proofs.FillLaws.{Leads}
-use Rattle.morris_commands.proofs.NearLaws.{HasNear}
+use Rattle.morris_jobs.proofs.NearLaws.{HasNear}
 use Rattle.morris_folder_commands.proofs.into.fill.Given as goal
 
 -- there are the tables of the pairs so far that one to come may need; all their files are told of in

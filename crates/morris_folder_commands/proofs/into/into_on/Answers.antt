@@ -1,6 +1,6 @@
 -- The folder of the pair that the text names is filled, by as many workers and blocks as there may be.
 use Rattle.std.proofs.Common.{◌≡◌, Ok, sym, ap, subst, ◌∙◌}
-use Rattle.morris_faults.specs.PairText.{read_pair_of}
+use Rattle.morris_jobs.specs.PairText.{read_pair_of}
 use Rattle.morris_folder_commands.specs.Into.{AnswersFolder, AnswersRead, AnswersTeam, place_of}
 use Rattle.morris_folder_commands.proofs.into.into_on.Goals as goal
 

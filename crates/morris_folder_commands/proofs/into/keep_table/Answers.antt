@@ -1,8 +1,8 @@
 -- The line of a file is short.
 use Rattle.std.proofs.Common.{◌≤◌, ◌<◌, ◌^◌, ◌≡◌, length, sym, ap, subst, ◌∙◌, arith}
 use Rattle.sha2.proofs.Facts256.{length-sha256}
-use Rattle.morris_table.specs.TableFiles.{file_of}
-use Rattle.morris_table.proofs.FileLaws.{length-file_of}
+use Rattle.morris_pairs.specs.TableFiles.{file_of}
+use Rattle.morris_pairs.proofs.FileLaws.{length-file_of}
 use Rattle.morris_folder_commands.specs.Into.{filed_text}
 use Rattle.morris_folder_commands.proofs.LineLaws.{filed_short}
 use Rattle.morris_folder_commands.proofs.into.keep_table.Goals as goal

@@ -2,8 +2,8 @@
 use Rattle.std.proofs.Common.{◌≡◌, ◌+◌, ◌*◌, ◌/◌, ◌++◌, length, take, drop, sym, ap, ◌∙◌, subst, arith, append-nil, append_assoc, length-take}
 use Rattle.sha2.specs.Hashers.{Holds256}
 use Rattle.std.proofs.lemmas.List.{take_all}
-use Rattle.morris_table.specs.TableFiles.{code_bytes}
-use Rattle.morris_table.proofs.FileLaws.{code_bytes-piece}
+use Rattle.morris_pairs.specs.TableFiles.{code_bytes}
+use Rattle.morris_pairs.proofs.FileLaws.{code_bytes-piece}
 use Rattle.morris_keeping.proofs.digest.digest_codes.Goals as goal
 
 pub loop-first-init : goal.loop-first-init

@@ -1,7 +1,7 @@
 -- So far the hasher was fed the first codes.
 use Rattle.std.proofs.Common.{◌-◌, ℕ, ◌≤◌, ◌++◌, List, take}
 use Rattle.sha2.specs.Hashers.{Holds256}
-use Rattle.morris_table.specs.TableFiles.{code_bytes}
+use Rattle.morris_pairs.specs.TableFiles.{code_bytes}
 use Rattle.morris_keeping.proofs.digest.digest_codes.Given as goal
 
 abbrev pub invariant-loop-first : goal.invariant-loop-first

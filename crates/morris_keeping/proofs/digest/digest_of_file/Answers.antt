@@ -4,8 +4,8 @@ use Rattle.std.proofs.Math.Path.{ap₂}
 use Rattle.sha2.specs.Hashers.{Holds256}
 use Rattle.sha2.specs.Sha256.{sha256}
 use Rattle.morris_board.specs.Boards.{Shape}
-use Rattle.morris_table.specs.Tables.{Table}
-use Rattle.morris_table.specs.TableFiles.{code_bytes, content_of, file_of, header_of}
+use Rattle.morris_pairs.specs.Tables.{Table}
+use Rattle.morris_pairs.specs.TableFiles.{code_bytes, content_of, file_of, header_of}
 use Rattle.morris_keeping.proofs.digest.digest_of_file.Goals as goal
 
 -- the file, by what the hasher was fed

@@ -1,6 +1,6 @@
 use Rattle.std.proofs.Common.{◌≡◌, ◌≤◌, ◌∙◌, length, sym, ap, subst, arith}
 use Rattle.std.proofs.lemmas.Result.{err_from_is_err_and}
-use Rattle.morris_table.specs.FileReading.{heading_in, IsHeadingRefusal}
+use Rattle.morris_pairs.specs.FileReading.{heading_in, IsHeadingRefusal}
 use Rattle.morris_lookup.specs.Numberings.{layout_of, pair_of}
 use Rattle.morris_lookup.proofs.OpeningLaws.{frame_short, frame_header, frame_measure, frame_found}
 use Rattle.morris_lookup.proofs.opened.frame.Goals as goal

@@ -1,6 +1,6 @@
 use Rattle.std.proofs.Common.{◌++◌, codes}
 use Rattle.std.proofs.lemmas.Result.{err_from_is_err_and}
-use Rattle.morris_faults.specs.Faults.{fault_line}
+use Rattle.morris_jobs.specs.Faults.{fault_line}
 use Rattle.morris_queries.specs.Printing.{shown_text}
 use Rattle.morris_queries.proofs.AnswerLaws.{part_more, part_first}
 use Rattle.morris_queries.proofs.answer.send_fault.Goals as goal

@@ -1,7 +1,7 @@
 use Rattle.std.proofs.Common.{◌≡◌, ◌∙◌, ap, sym}
 use Rattle.std.proofs.lemmas.Result.{err_from_is_err_and}
-use Rattle.morris_table.specs.Entries.{entry_count}
-use Rattle.morris_table.specs.FileReading.{kind_in}
+use Rattle.morris_pairs.specs.Entries.{entry_count}
+use Rattle.morris_pairs.specs.FileReading.{kind_in}
 use Rattle.morris_views.proofs.ViewLaws.{header-short, header-refused, header-not_borne, header-found}
 use Rattle.morris_views.proofs.check.check.Goals as goal
 

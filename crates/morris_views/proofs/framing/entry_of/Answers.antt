@@ -1,7 +1,7 @@
 use Rattle.std.proofs.Common.{◌∙◌, sym, ap}
 use Rattle.std.proofs.lemmas.Result.{err_from_is_err_and}
-use Rattle.morris_table.specs.declared.layout.Layout.TheVariants.{Full, Classes}
-use Rattle.morris_table.specs.FileReading.{kind_in}
+use Rattle.morris_pairs.specs.declared.layout.Layout.TheVariants.{Full, Classes}
+use Rattle.morris_pairs.specs.FileReading.{kind_in}
 use Rattle.morris_views.proofs.ViewLaws.{entry-short, entry-refused, entry-named, read_by_classes, read_in_full, ok_always, ok_maps}
 use Rattle.morris_views.proofs.framing.entry_of.Goals as goal
 

@@ -1,6 +1,6 @@
 use Rattle.std.proofs.Common.{Ok, ◌∙◌, ap, arith}
 use Rattle.std.proofs.lemmas.Result.{err_from_is_err_and}
-use Rattle.morris_table.specs.Codes.{value_in}
+use Rattle.morris_pairs.specs.Codes.{value_in}
 use Rattle.morris_views.specs.Views.{value_of_bytes, value_at}
 use Rattle.morris_views.proofs.value.value_of_file.Goals as goal
 

@@ -2,7 +2,7 @@
 use Rattle.std.proofs.Common.{◌++◌, ◌∷◌, []}
 use Rattle.std.proofs.lemmas.Result.{err_from_is_err_and}
 use Rattle.morris_board.proofs.BufferedLaws.{PartPassed-append, PartPassed-longer, both, goes_on}
-use Rattle.morris_faults.specs.Faults.{fault_words}
+use Rattle.morris_jobs.specs.Faults.{fault_words}
 use Rattle.morris.specs.Reporting.{path_text, placed_line, why_text}
 use Rattle.morris.proofs.report.PlacedPrinted.put_into.Goals as goal
 

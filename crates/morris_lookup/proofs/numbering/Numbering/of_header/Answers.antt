@@ -1,8 +1,8 @@
 use Rattle.std.proofs.Common.{◌≡◌, sym, ◌∙◌, arith}
 use Rattle.std.proofs.lemmas.Bool.{false≢true}
 use Rattle.std.proofs.lemmas.Result.{err_from_is_err_and}
-use Rattle.morris_table.specs.Entries.{entry_count}
-use Rattle.morris_table.proofs.ReadingLaws.{room_refused}
+use Rattle.morris_pairs.specs.Entries.{entry_count}
+use Rattle.morris_pairs.proofs.ReadingLaws.{room_refused}
 use Rattle.morris_lookup.proofs.OpeningLaws.{count_refused}
 use Rattle.morris_lookup.proofs.numbering.Numbering.of_header.Goals as goal
 

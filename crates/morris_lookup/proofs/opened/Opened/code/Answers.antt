@@ -1,5 +1,5 @@
 use Rattle.std.proofs.Common.{◌+◌, ◌*◌, ◌≤◌, ◌<◌, ap, subst, arith}
-use Rattle.morris_table.specs.Entries.{entry_count}
+use Rattle.morris_pairs.specs.Entries.{entry_count}
 use Rattle.morris_lookup.specs.Opening.{OpenFile, open_file}
 use Rattle.morris_lookup.specs.Numberings.{layout_of, pair_of}
 use Rattle.morris_lookup.proofs.FileLookups.{lies_there, read_stated, read_answer, exact_code}

@@ -2,7 +2,7 @@ use Rattle.std.proofs.Common.{◌≡◌, ◌≤◌, ap, ◌∙◌, arith}
 use Rattle.std.proofs.lemmas.Bool.{both_ways}
 use Rattle.std.proofs.lemmas.Result.{err_from_is_err_and}
 use Rattle.morris_index.specs.Pairs.{Counts}
-use Rattle.morris_table.specs.declared.layout.Layout.{Layout}
+use Rattle.morris_pairs.specs.declared.layout.Layout.{Layout}
 use Rattle.morris_lookup.specs.Numberings.{layout_of, pair_of}
 use Rattle.morris_lookup.proofs.OpeningLaws.{opens_refused, kind_found}
 use Rattle.morris_lookup.proofs.opened.Opened.open.Goals as goal

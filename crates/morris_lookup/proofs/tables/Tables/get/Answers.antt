@@ -1,5 +1,5 @@
 use Rattle.std.proofs.Common.{◌≡◌, ◌∙◌}
-use Rattle.morris_table.proofs.ShelfLaws.{has_place-pair, from_copied}
+use Rattle.morris_pairs.proofs.ShelfLaws.{has_place-pair, from_copied}
 use Rattle.morris_lookup.specs.Opening.{IsOpen}
 use Rattle.morris_lookup.specs.FileSets.{AreFiles}
 use Rattle.morris_lookup.proofs.FileSetLaws.{file_read}

@@ -1,4 +1,4 @@
-use Rattle.morris_table.proofs.ShelfLaws.{has_place-pair}
+use Rattle.morris_pairs.proofs.ShelfLaws.{has_place-pair}
 use Rattle.morris_lookup.proofs.FileSetLaws.{put-this, put-other, put-lawful}
 use Rattle.morris_lookup.proofs.tables.Tables.put.Goals as goal
 

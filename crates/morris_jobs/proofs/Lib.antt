@@ -1,0 +1,3 @@
+-- Lemmas on the definitions of this crate.
+pub mod NearLaws
+pub mod FaultLaws

@@ -1,0 +1,14 @@
+-- Nothing changes before the next second.
+use Rattle.std.proofs.Common.{refl, inl}
+use Rattle.morris_jobs.specs.ProgressLaws.{Becomes-speaks, Becomes-stays, MayTell-speaks}
+use Rattle.morris_jobs.proofs.progress.Progress.tell_in_time.Goals as goal
+
+pub returns-then-second-self : goal.returns-then-second-self
+returns-then-second-self g c = record { told = Becomes-stays g.E.Sink.contents g.E.Sink.failures c.args.self.now; part = refl; line = inl refl }
+
+pub returns : goal.returns
+returns g c = record {
+  told = Becomes-speaks g.E.Sink.contents g.E.Sink.failures c.args.self.now _ c.tell.new.self _ refl refl refl refl refl c.tell.ensures;
+  part = c.tell.ensures.part;
+  line = MayTell-speaks g.E.Sink.contents g.E.Sink.failures c.args.self.now _ c.tell.new.self _ refl refl c.tell.ensures;
+}

@@ -1,0 +1,287 @@
+-- Which fault answers a refusal, and what an answer says of what was printed.
+use Rattle.std.specs.Prelude.{◌≡◌, ℕ, ◌+◌, ◌<◌, ◌==◌, Bool, true, false, List, [], ◌∷◌, ◌++◌, length, take, codes, Option, Some, None, Result, Ok, Err, if◌then◌else◌}
+use Rattle.std.specs.Fmt.{decimal}
+use Rattle.std.specs.Io.KnownBytes.{Appends}
+use Rattle.morris_board.specs.Streams.{CountsFailure}
+use Rattle.morris_board.specs.declared.faults.TextFault.{TextFault}
+use Rattle.morris_board.specs.declared.faults.TextFault.TheVariants as text
+use Rattle.morris_index.specs.declared.faults.PairFault.{PairFault}
+use Rattle.morris_index.specs.declared.faults.PairFault.TheVariants as pair
+use Rattle.morris_index.specs.Pairs.{Counts}
+use Rattle.morris_workers.specs.declared.fault.SolveFault.{SolveFault}
+use Rattle.morris_workers.specs.declared.fault.SolveFault.TheVariants as solve
+use Rattle.morris_pairs.specs.declared.build_fault.BuildFault.{BuildFault}
+use Rattle.morris_pairs.specs.declared.build_fault.BuildFault.TheVariants as build
+use Rattle.morris_pairs.specs.declared.file_faults.ReadFault.{ReadFault}
+use Rattle.morris_pairs.specs.declared.file_faults.ReadFault.TheVariants as read
+use Rattle.morris_pairs.specs.declared.verify.VerifyFault.{VerifyFault}
+use Rattle.morris_pairs.specs.declared.verify.VerifyFault.TheVariants as verify
+use Rattle.morris_probe.specs.Reports.{WentOut}
+use Rattle.morris_probe.specs.declared.fault.ProbeFault.{ProbeFault}
+use Rattle.morris_probe.specs.declared.fault.ProbeFault.TheVariants as probe
+use Rattle.morris_jobs.specs.declared.fault.Fault.{Fault}
+use Rattle.morris_jobs.specs.declared.fault.Fault.TheVariants as fault
+use Rattle.morris_jobs.specs.declared.flaw.Flaw.{Flaw}
+use Rattle.morris_jobs.specs.declared.flaw.Flaw.TheVariants as flaw
+use Rattle.morris_jobs.specs.declared.wording.Words.{Words}
+use Rattle.morris_jobs.specs.declared.wording.Words.TheVariants.{Plain, Number, Pair}
+use Rattle.morris_jobs.specs.declared.wording.Wording.{Wording}
+use Rattle.morris_jobs.specs.declared.wording.Wording.TheVariants.{Alone, InFile}
+
+-- the fault that a refused text is answered with
+abbrev pub text_fault : TextFault → Fault
+text_fault text.Length = fault.Length
+text_fault (text.Character place) = fault.Character place
+text_fault text.Stones = fault.Stones
+
+-- the fault that two refused numbers of stones are answered with
+abbrev pub pair_fault : PairFault → Fault
+pair_fault pair.Counts = fault.Counts
+pair_fault pair.Crowded = fault.Crowded
+
+-- the fault that a refused file is answered with
+abbrev pub read_fault : ReadFault → Fault
+read_fault read.Short = fault.Short
+read_fault read.Magic = fault.Magic
+read_fault read.Version = fault.Version
+read_fault read.BoardId = fault.BoardId
+read_fault read.Counts = fault.Counts
+read_fault read.Crowded = fault.Crowded
+read_fault read.Count = fault.Count
+read_fault read.Digest = fault.Digest
+read_fault read.Trailing = fault.Trailing
+read_fault read.Read = fault.Read
+read_fault read.Memory = fault.Memory
+
+-- the fault that a missing table is answered with
+abbrev pub needs_fault : Counts → Fault
+needs_fault c = fault.Needs c.greater c.lesser
+
+-- the fault that a table which isn't believed is answered with
+abbrev pub verify_fault : {B : Type 0} → VerifyFault B → Fault
+verify_fault (verify.Needs needs) = needs_fault needs.0
+verify_fault (verify.Differs index) = fault.Differs index
+
+-- the fault that a refusal of the workers is answered with
+abbrev pub solve_fault : SolveFault → Fault
+solve_fault solve.Workers = fault.Workers
+solve_fault solve.Blocks = fault.Blocks
+solve_fault solve.Memory = fault.Memory
+solve_fault (solve.Missing number) = fault.Missing number
+solve_fault solve.TooDeep = fault.TooDeep
+
+-- the fault that a refused build, or a refused sweep, is answered with
+abbrev pub build_fault : {B : Type 0} → BuildFault B → Fault
+build_fault (build.Needs needs) = needs_fault needs.0
+build_fault build.Workers = fault.Workers
+build_fault build.Blocks = fault.Blocks
+build_fault build.Memory = fault.Memory
+build_fault (build.Missing number) = fault.Missing number
+build_fault build.TooDeep = fault.TooDeep
+
+-- the fault that a refused probe is answered with
+abbrev pub probe_fault : {B : Type 0} → ProbeFault B → Fault
+probe_fault (probe.Needs needs) = needs_fault needs.0
+probe_fault probe.Memory = fault.Memory
+probe_fault (probe.Write sent) = fault.Write sent
+
+-- the number of a flaw
+abbrev pub flaw_number : Flaw → ℕ
+flaw_number flaw.Short = 15
+flaw_number flaw.Magic = 16
+flaw_number flaw.Version = 17
+flaw_number flaw.BoardId = 18
+flaw_number flaw.Counts = 4
+flaw_number flaw.Crowded = 5
+flaw_number flaw.Count = 19
+flaw_number flaw.Digest = 20
+flaw_number flaw.Trailing = 21
+flaw_number flaw.Read = 22
+flaw_number (flaw.Needs greater lesser) = 13
+flaw_number (flaw.Differs index) = 14
+
+-- the number of a fault; one that was met in a file has that of the file's flaw
+abbrev pub fault_number : Fault → ℕ
+fault_number fault.Length = 1
+fault_number (fault.Character place) = 2
+fault_number fault.Stones = 3
+fault_number fault.Counts = 4
+fault_number fault.Crowded = 5
+fault_number fault.Blocks = 6
+fault_number (fault.Missing number) = 8
+fault_number fault.TooDeep = 10
+fault_number fault.Workers = 11
+fault_number fault.Memory = 12
+fault_number (fault.Needs greater lesser) = 13
+fault_number (fault.Differs index) = 14
+fault_number fault.Short = 15
+fault_number fault.Magic = 16
+fault_number fault.Version = 17
+fault_number fault.BoardId = 18
+fault_number fault.Count = 19
+fault_number fault.Digest = 20
+fault_number fault.Trailing = 21
+fault_number fault.Read = 22
+fault_number (fault.Write sent) = 23
+fault_number fault.Board = 25
+fault_number fault.PairText = 26
+fault_number fault.TooMany = 27
+fault_number fault.Folder = 28
+fault_number (fault.Unwritten greater lesser) = 29
+fault_number (fault.Unopened greater lesser) = 30
+fault_number (fault.OtherPair greater lesser) = 31
+fault_number fault.NoFiles = 32
+fault_number (fault.Unanswered count) = 33
+fault_number fault.Digests = 34
+fault_number fault.Busy = 35
+fault_number fault.NoFolder = 36
+fault_number fault.Disagree = 37
+fault_number fault.Unlocked = 38
+fault_number (fault.InFile greater lesser f) = flaw_number f
+
+-- numbers of stones, with a hyphen (45) between them
+abbrev pub stones_text : ℕ → ℕ → List ℕ
+stones_text greater lesser = decimal greater ++ (45 ∷ decimal lesser)
+
+-- a text; a number between two texts; or the numbers of stones of a pair between two texts
+abbrev pub said : Words → List ℕ
+said (Plain text) = text.now
+said (Number before number after) = before.now ++ decimal number ++ after.now
+said (Pair before greater lesser after) = before.now ++ stones_text greater lesser ++ after.now
+
+-- how many bytes stand around the numbers
+abbrev pub length_around : Words → ℕ
+length_around (Plain text) = length text.now
+length_around (Number before number after) = length before.now + length after.now
+length_around (Pair before greater lesser after) = length before.now + length after.now
+
+-- words, and in which file
+abbrev pub worded : Wording → List ℕ
+worded (Alone words) = said words
+worded (InFile words greater lesser) = said words ++ codes ", in the file of " ++ stones_text greater lesser
+
+abbrev pub length_worded : Wording → ℕ
+length_worded (Alone words) = length_around words
+length_worded (InFile words greater lesser) = length_around words
+
+-- the text of a flaw
+abbrev pub flaw_text : Flaw → List ℕ
+flaw_text flaw.Short = codes "file is too short"
+flaw_text flaw.Magic = codes "not a table file"
+flaw_text flaw.Version = codes "unknown version"
+flaw_text flaw.BoardId = codes "another board"
+flaw_text flaw.Counts = codes "bad counts"
+flaw_text flaw.Crowded = codes "more stones than points"
+flaw_text flaw.Count = codes "wrong number of entries"
+flaw_text flaw.Digest = codes "digest is wrong"
+flaw_text flaw.Trailing = codes "bytes after the table"
+flaw_text flaw.Read = codes "reading failed"
+flaw_text (flaw.Needs greater lesser) = codes "needs " ++ stones_text greater lesser
+flaw_text (flaw.Differs index) = codes "entry " ++ decimal index ++ codes " differs"
+
+-- how many lines have no answer, in words
+abbrev pub unanswered_text : ℕ → List ℕ
+unanswered_text count = if count == 1 then codes "1 line has no answer" else decimal count ++ codes " lines have no answer"
+
+-- the text of a fault
+abbrev pub fault_text : Fault → List ℕ
+fault_text fault.Length = codes "text is not one character per point"
+fault_text (fault.Character place) = codes "bad character at " ++ decimal place
+fault_text fault.Stones = codes "bad number of stones"
+fault_text fault.Counts = flaw_text flaw.Counts
+fault_text fault.Crowded = flaw_text flaw.Crowded
+fault_text fault.Blocks = codes "blocks must be 1 to 1024"
+fault_text (fault.Missing number) = codes "block " ++ decimal number ++ codes " is not complete"
+fault_text fault.TooDeep = codes "depth is too great"
+fault_text fault.Workers = codes "workers must be 1 to 64"
+fault_text fault.Memory = codes "out of memory"
+fault_text (fault.Needs greater lesser) = flaw_text (flaw.Needs greater lesser)
+fault_text (fault.Differs index) = flaw_text (flaw.Differs index)
+fault_text fault.Short = flaw_text flaw.Short
+fault_text fault.Magic = flaw_text flaw.Magic
+fault_text fault.Version = flaw_text flaw.Version
+fault_text fault.BoardId = flaw_text flaw.BoardId
+fault_text fault.Count = flaw_text flaw.Count
+fault_text fault.Digest = flaw_text flaw.Digest
+fault_text fault.Trailing = flaw_text flaw.Trailing
+fault_text fault.Read = flaw_text flaw.Read
+fault_text (fault.Write sent) = codes "writing failed after " ++ decimal sent ++ codes " bytes"
+fault_text fault.Board = codes "no such board"
+fault_text fault.PairText = codes "not a pair"
+fault_text fault.TooMany = codes "more than 64 tables"
+fault_text fault.Folder = codes "folder can't be made"
+fault_text (fault.Unwritten greater lesser) = codes "file of " ++ stones_text greater lesser ++ codes " can't be written"
+fault_text (fault.Unopened greater lesser) = codes "file of " ++ stones_text greater lesser ++ codes " can't be opened"
+fault_text (fault.OtherPair greater lesser) = codes "file of " ++ stones_text greater lesser ++ codes " has the table of another pair"
+fault_text fault.NoFiles = codes "no table files"
+fault_text (fault.Unanswered count) = unanswered_text count
+fault_text fault.Digests = codes "file of digests can't be written"
+fault_text fault.Busy = codes "another build is at work in this folder"
+fault_text fault.NoFolder = codes "no such folder"
+fault_text fault.Disagree = codes "the files of this position and its moves disagree"
+fault_text fault.Unlocked = codes "folder can't be locked"
+fault_text (fault.InFile greater lesser f) = flaw_text f ++ codes ", in the file of " ++ stones_text greater lesser
+
+-- the flaw that a fault says a table file has, where it doesn't say which file
+abbrev pub flaw_in : Fault → Option Flaw
+flaw_in fault.Counts = Some flaw.Counts
+flaw_in fault.Crowded = Some flaw.Crowded
+flaw_in (fault.Needs greater lesser) = Some (flaw.Needs greater lesser)
+flaw_in (fault.Differs index) = Some (flaw.Differs index)
+flaw_in fault.Short = Some flaw.Short
+flaw_in fault.Magic = Some flaw.Magic
+flaw_in fault.Version = Some flaw.Version
+flaw_in fault.BoardId = Some flaw.BoardId
+flaw_in fault.Count = Some flaw.Count
+flaw_in fault.Digest = Some flaw.Digest
+flaw_in fault.Trailing = Some flaw.Trailing
+flaw_in fault.Read = Some flaw.Read
+flaw_in _ = None
+
+-- whether a fault says in which file a flaw was met
+abbrev pub is_in_file : Fault → Bool
+is_in_file (fault.InFile greater lesser f) = true
+is_in_file _ = false
+
+-- a fault as it is told where it was met in the file of a pair: a flaw says of which file it is
+abbrev pub in_file : Counts → Fault → Fault
+in_file c f = elim (flaw_in f) [ None ↦ f | Some found ↦ fault.InFile c.greater c.lesser found ]
+
+-- a fault with its number: `fault N: TEXT`
+unfoldable pub fault_words : Fault → List ℕ
+fault_words f = codes "fault " ++ decimal (fault_number f) ++ codes ": " ++ fault_text f
+
+-- the line of a fault
+unfoldable pub fault_line : Fault → List ℕ
+fault_line f = fault_words f ++ (10 ∷ [])
+
+-- What was printed: all of the text where the answer is `Ok`, and its first `sent` bytes, not all
+-- of it, where it is `Write(sent)`.
+abbrev pub Prints : {T : Type 0} → Option (List ℕ) → Option (List ℕ) → List ℕ → Result T Fault → Type 0
+Prints old new printed (Ok done) = Appends old new printed
+Prints old new printed (Err (fault.Write sent)) = (sent < length printed) × Appends old new (take sent printed)
+Prints old new printed (Err _) = ⊥
+
+-- whether the answer says that a write failed
+abbrev pub is_write : Fault → Bool
+is_write (fault.Write sent) = true
+is_write _ = false
+
+-- the failures of the sink rose by one where a write failed, and not otherwise
+abbrev pub CountsWrites : {T : Type 0} → ℕ → ℕ → Result T Fault → Type 0
+CountsWrites old new (Ok done) = new ≡ old
+CountsWrites old new (Err f) = new ≡ (if is_write f then old + 1 else old)
+
+-- a text was written to the error sink, or its first bytes up to the write that failed
+abbrev pub ReportsText : {E : Type 0} → (E → Option (List ℕ)) → (E → ℕ) → E → E → List ℕ → Type 0
+ReportsText contents failures old new text =
+    (sent : Result (Unit {0}) ℕ) × WentOut (contents old) (contents new) text sent × CountsFailure (failures old) (failures new) sent
+
+-- the line of a fault was written, or its first bytes
+abbrev pub ReportsFault : {E : Type 0} → (E → Option (List ℕ)) → (E → ℕ) → E → E → Fault → Type 0
+ReportsFault contents failures old new f = ReportsText contents failures old new (fault_line f)
+
+-- what was reported of an answer: nothing where it is `Ok`, and else its fault
+abbrev pub Reports : {E T : Type 0} → (E → Option (List ℕ)) → (E → ℕ) → E → E → Result T Fault → Type 0
+Reports contents failures old new (Ok done) = new ≡ old
+Reports contents failures old new (Err f) = ReportsFault contents failures old new f

@@ -1,0 +1,9 @@
+pub mod Faults
+pub mod BoardNames
+pub mod PairText
+pub mod Progress
+pub mod ProgressLaws
+pub mod Sizes
+pub mod Orders
+pub mod Inputs
+pub mod Verified

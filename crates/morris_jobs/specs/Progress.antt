@@ -1,0 +1,163 @@
+-- What is told of how far a command is.
+use Rattle.std.specs.Prelude.{◌≡◌, ◌⊎◌, ⊤, ℕ, ◌+◌, ◌-◌, ◌^◌, ◌<◌, ◌≤◌, max, Bool, true, false, List, [], ◌∷◌, ◌++◌, codes, Option, Result, is_ok}
+use Rattle.std.specs.Borrow.{GName}
+use Rattle.std.specs.Fmt.{decimal}
+use Rattle.morris_board.specs.Streams.{CountsFailure}
+use Rattle.morris_index.specs.Pairs.{Counts, counts}
+use Rattle.morris_probe.specs.Reports.{WentOut}
+use Rattle.morris_jobs.specs.declared.progress.News.{News}
+use Rattle.morris_jobs.specs.declared.progress.News.TheVariants as news
+use Rattle.morris_jobs.specs.declared.progress.SoFar.{SoFar}
+use Rattle.morris_jobs.specs.declared.progress.Progress.{Progress}
+use Rattle.morris_jobs.specs.Faults.{ReportsText}
+
+-- ---- the lines
+
+-- a label and a number
+unfoldable pub labelled : List ℕ → ℕ → List ℕ
+labelled label number = label ++ decimal number
+
+-- `progress: a-b`
+abbrev pub stones_text : ℕ → ℕ → List ℕ
+stones_text greater lesser = labelled (codes "progress: ") greater ++ (45 ∷ decimal lesser)
+
+-- `, D of N entries, S s`, where D of the N entries are done, S seconds after the start
+abbrev pub so_far_text : SoFar → List ℕ
+so_far_text s = labelled (codes ", ") s.done ++ labelled (codes " of ") s.whole ++ labelled (codes " entries, ") s.seconds ++ codes " s\n"
+
+-- `progress: N entries, about M MB of memory`
+abbrev pub whole_line : ℕ → ℕ → List ℕ
+whole_line entries megabytes = labelled (codes "progress: ") entries ++ labelled (codes " entries, about ") megabytes ++ codes " MB of memory\n"
+
+-- what is told: how much there is to do; the wave of a pair that begins; how many entries are done
+-- in the midst of a pair; the pair that is done
+abbrev pub news_line : News → List ℕ
+news_line (news.Whole entries megabytes) = whole_line entries megabytes
+news_line (news.Wave greater lesser wave so_far) = stones_text greater lesser ++ labelled (codes " wave ") wave ++ so_far_text so_far
+news_line (news.Part greater lesser so_far) = stones_text greater lesser ++ so_far_text so_far
+news_line (news.Done greater lesser so_far) = stones_text greater lesser ++ codes " done" ++ so_far_text so_far
+
+-- ---- what was told
+
+module _ {E : Type 0} (contents : E → Option (List ℕ)) (failures : E → ℕ) where
+  -- these lines were written, one after the other and nothing else; of one where a write failed,
+  -- its first bytes
+  unfoldable pub Told : E → E → List News → Type 0
+  Told old new [] = new ≡ old
+  Told old new (n ∷ rest) = (midway : E) × ReportsText contents failures old midway (news_line n) × Told midway new rest
+
+  -- some lines were told, and at most one write failed
+  pub record Tells (old new : E) : Type 0 where
+    pub lines : List News
+    pub told : Told old new lines
+    pub once : failures new ≤ failures old + 1
+    pub room : failures old < 2 ^ 64 - 1 → failures new < 2 ^ 64 - 1
+
+-- how much there is to do is the first of some lines, if there are any
+abbrev pub IsWholeFirst : List News → Type 0
+IsWholeFirst [] = ⊤
+IsWholeFirst (news.Whole entries megabytes ∷ rest) = ⊤
+IsWholeFirst (news.Wave greater lesser wave so_far ∷ rest) = ⊥
+IsWholeFirst (news.Part greater lesser so_far ∷ rest) = ⊥
+IsWholeFirst (news.Done greater lesser so_far ∷ rest) = ⊥
+
+-- such lines were told
+abbrev pub TellsInOrder : {E : Type 0} → (E → Option (List ℕ)) → (E → ℕ) → E → E → Type 0
+TellsInOrder contents failures old new = (tells : Tells contents failures old new) × IsWholeFirst tells.lines
+
+-- ---- who tells
+
+-- by what name the proofs know the borrow of the sink that is told
+abbrev pub lent_of : {R E : Type 0} → Progress R E → GName
+lent_of p = p.errors.ghost_name
+
+-- the sink that is told
+abbrev pub sink_of : {R E : Type 0} → Progress R E → E
+sink_of p = p.errors.now
+
+-- whether it is told anything
+abbrev pub tells_of : {R E : Type 0} → Progress R E → Bool
+tells_of p = p.tells
+
+-- whether it is known how much there is to do; how many entries that is, and how many are those of
+-- the pairs that are done
+abbrev pub has_begun_of : {R E : Type 0} → Progress R E → Bool
+has_begun_of p = p.has_begun
+
+abbrev pub whole_of : {R E : Type 0} → Progress R E → ℕ
+whole_of p = p.whole
+
+abbrev pub done_of : {R E : Type 0} → Progress R E → ℕ
+done_of p = p.done
+
+-- the numbers of stones of the pair at work, and how many of its entries are done
+abbrev pub at_work_of : {R E : Type 0} → Progress R E → Counts
+at_work_of p = counts p.greater p.lesser
+
+abbrev pub part_of : {R E : Type 0} → Progress R E → ℕ
+part_of p = p.part
+
+-- The lines of who begins to tell: first how much there is to do, of as many entries as there are;
+-- none before that is known, or where nothing is told any more.
+abbrev pub BeginsWithWhole : Bool → Bool → ℕ → List News → Type 0
+BeginsWithWhole has_begun tells whole [] = has_begun ≡ true → tells ≡ false
+BeginsWithWhole has_begun tells whole (news.Whole entries megabytes ∷ rest) = (has_begun ≡ true) × (entries ≡ whole)
+BeginsWithWhole has_begun tells whole (news.Wave greater lesser wave so_far ∷ rest) = ⊥
+BeginsWithWhole has_begun tells whole (news.Part greater lesser so_far ∷ rest) = ⊥
+BeginsWithWhole has_begun tells whole (news.Done greater lesser so_far ∷ rest) = ⊥
+
+-- So are the lines that make the one who tells what they are then, where it wasn't known before how
+-- much there is to do; otherwise that stays what it is.
+unfoldable pub TellsWholeFirst : {R E : Type 0} → Progress R E → Progress R E → List News → Type 0
+TellsWholeFirst old new lines =
+    (has_begun_of old ≡ false → BeginsWithWhole (has_begun_of new) (tells_of new) (whole_of new) lines)
+    × (has_begun_of old ≡ true → (has_begun_of new ≡ true) × (whole_of new ≡ whole_of old))
+
+-- What telling makes of who tells: of the same sink, which was told some lines, or nothing where it
+-- isn't told anything. Nothing more is told after a write that failed, and nothing before how much
+-- there is to do.
+pub record Becomes {R E : Type 0} (contents : E → Option (List ℕ)) (failures : E → ℕ) (old new : Progress R E) : Type 0 where
+  pub same : lent_of new ≡ lent_of old
+  pub silent : tells_of old ≡ false → (tells_of new ≡ false) × (sink_of new ≡ sink_of old)
+  pub told : Tells contents failures (sink_of old) (sink_of new)
+  pub unfailed : tells_of new ≡ true → failures (sink_of new) ≡ failures (sink_of old)
+  pub first : TellsWholeFirst old new told.lines
+
+-- ---- one line
+
+-- the line went out, or its first bytes up to the write that failed, and more is told only where it
+-- went out
+abbrev pub SaysLine : {R E : Type 0} → (E → Option (List ℕ)) → (E → ℕ) → Progress R E → Progress R E → News → Type 0
+SaysLine contents failures old new n =
+    (sent : Result (Unit {0}) ℕ) × WentOut (contents (sink_of old)) (contents (sink_of new)) (news_line n) sent
+    × CountsFailure (failures (sink_of old)) (failures (sink_of new)) sent × (tells_of new ≡ is_ok sent)
+
+-- What telling one of the news makes of who tells: what it was, where it isn't told anything or it
+-- isn't known how much there is to do; else its line went out, or nothing more is told where the
+-- sink has no room for a failure more.
+pub record Speaks {R E : Type 0} (contents : E → Option (List ℕ)) (failures : E → ℕ) (old new : Progress R E) (n : News) : Type 0 where
+  pub same : lent_of new ≡ lent_of old
+  pub begun : has_begun_of new ≡ has_begun_of old
+  pub whole : whole_of new ≡ whole_of old
+  pub done : done_of new ≡ done_of old
+  pub part : part_of new ≡ part_of old
+  pub silent : tells_of old ≡ false → (tells_of new ≡ false) × (sink_of new ≡ sink_of old)
+  pub early : has_begun_of old ≡ false → (tells_of new ≡ tells_of old) × (sink_of new ≡ sink_of old)
+  pub cramped : tells_of old ≡ true → has_begun_of old ≡ true → 2 ^ 64 - 3 ≤ failures (sink_of old)
+      → (tells_of new ≡ false) × (sink_of new ≡ sink_of old)
+  pub said : tells_of old ≡ true → has_begun_of old ≡ true → failures (sink_of old) < 2 ^ 64 - 3 → SaysLine contents failures old new n
+
+-- Whoever tells anything writes this line, or its first bytes up to the write that failed, where
+-- the sink has room for a failure more and for one after it.
+abbrev pub TellsLine : {R E : Type 0} → (E → Option (List ℕ)) → (E → ℕ) → Progress R E → Progress R E → News → Type 0
+TellsLine contents failures old new n =
+    tells_of old ≡ true → failures (sink_of old) < 2 ^ 64 - 3 → ReportsText contents failures (sink_of old) (sink_of new) (news_line n)
+
+-- that line, or none
+abbrev pub MayTell : {R E : Type 0} → (E → Option (List ℕ)) → (E → ℕ) → Progress R E → Progress R E → News → Type 0
+MayTell contents failures old new n = (sink_of new ≡ sink_of old) ⊎ TellsLine contents failures old new n
+
+-- how far it is where n more entries are done, as far as 64 bits hold the number
+abbrev pub CountsMore : {R E : Type 0} → Progress R E → ℕ → SoFar → Type 0
+CountsMore old n so_far =
+    done_of old + n < 2 ^ 64 → (so_far.done ≡ done_of old + n) × (so_far.whole ≡ max (whole_of old) (done_of old + n))

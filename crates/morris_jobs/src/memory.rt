@@ -1,0 +1,148 @@
+//! About how much memory it takes to make the table of a pair.
+//!
+//! It is summed up from what is kept at once: the entries of the blocks, the lists of those that
+//! come due by captures, what the workers hold of the blocks that they are at, and the tables of
+//! the pairs that captures lead to. Only how many entries come due by captures, and how many of a
+//! block are fresh at one wave, are estimates: they are counts of the usual board.
+ghost use Rattle.std.specs.Prelude.{◌^◌, ◌<◌, ◌≤◌};
+
+use crate::team::Team;
+use morris_board::board::Geometry;
+use morris_index::binomials::binomial;
+use morris_index::pair::Pair;
+use morris_pairs::layout::Layout;
+
+/// Bytes of the program itself.
+pub(crate) const BASE: u64 = 4_000_000;
+
+/// Bytes of a worker: its thread, the batches of the piece at which it is, and the lists that it
+/// keeps from one piece to the next.
+const WORKER: u64 = 2_800_000;
+
+/// Bytes of an entry of a table: its code.
+pub(crate) const CODE: u64 = 2;
+
+/// Bytes of a set of stones of a table by classes: 8 for the class that it is led to, and 5 for its
+/// part of what is kept of a class, which are 76 for some 16 sets.
+const SET: u64 = 13;
+
+/// Bytes of an entry of the pair that is built: its code, and a counter of the results that it waits
+/// for. Both have a byte while no depth is above 254.
+const OPEN: u64 = 2;
+
+/// Bytes of an entry in a list of a block, or in a batch that one block sends to another: its
+/// number, where the pair has no more than 2^32 entries.
+const LISTED: u64 = 4;
+
+/// Bytes of such a number where the pair has more, in a list of a sweep, and where a worker takes it
+/// out of a block to go back from its entry.
+const WIDE: u64 = 8;
+
+/// A whole, in the parts in which shares are counted.
+const WHOLE: u64 = 1000;
+
+/// In how many of 1,000 positions of the usual board the player to move can close a mill: by the
+/// stones of that player, 3 to 9, and in each row by those of the other one.
+const CLOSING: [[u16; 7]; 7] = [
+    [392, 372, 352, 332, 311, 291, 270],
+    [99, 93, 88, 82, 76, 70, 64],
+    [219, 206, 193, 179, 166, 152, 139],
+    [372, 349, 327, 304, 280, 257, 233],
+    [529, 499, 468, 436, 402, 368, 332],
+    [667, 633, 597, 557, 515, 471, 423],
+    [773, 739, 700, 657, 609, 556, 497],
+];
+
+/// About how many bytes a table of a pair with so many entries takes as long as it is kept: its
+/// codes, and by classes the sets of either player's stones.
+pub(crate) fn bytes_of_table<B: Geometry>(pair: Pair<B>, layout: Layout, entries: u64) -> u64 {
+    let codes = CODE.saturating_mul(entries);
+    match layout {
+        Layout::Full => codes,
+        Layout::Classes => {
+            let sets = binomial(B::POINTS, pair.greater()) + binomial(B::POINTS, pair.lesser());
+            codes.saturating_add(SET * sets)
+        }
+    }
+}
+
+/// About how many bytes it takes at once to make the table of a pair with so many entries, beside
+/// the table itself as it is kept: by a team, or by a sweep on one thread.
+pub(crate) fn bytes_of_making<B: Geometry>(pair: Pair<B>, entries: u64, team: Option<Team>) -> u64 {
+    let due = entries.saturating_mul(due_share(pair)) / WHOLE;
+    let Some(team) = team else {
+        // A sweep keeps the numbers of all decided entries, and all that it keeps until the table is
+        // made. There are some five of them for two that come due by captures.
+        let decided = (due.saturating_mul(5) / 2).min(entries);
+        return entries
+            .saturating_mul(OPEN)
+            .saturating_add(decided.saturating_mul(WIDE));
+    };
+    // Blocks are let go as their codes are put into the table, so both are never there as a whole.
+    let open = entries.saturating_mul(OPEN.max(CODE) - CODE);
+    // For four entries that come due by captures, one more is decided by quiet moves while most of
+    // them are in a list.
+    let listed = due
+        .saturating_add(due / 4)
+        .saturating_mul(listed_bytes(entries));
+    open.saturating_add(listed)
+        .saturating_add(bytes_of_workers(pair, entries, team))
+}
+
+/// About how many bytes the workers hold: what each of them has in any case, and the fresh entries of
+/// the block at which it is. No two are at one block.
+fn bytes_of_workers<B: Geometry>(pair: Pair<B>, entries: u64, team: Team) -> u64 {
+    let closing = closing_share(pair.greater(), pair.lesser());
+    let block = entries / team.blocks as u64;
+    // Where a capture leaves two stones, all entries with one are fresh at once, and in some blocks
+    // there are twice as many as on average. Else they are fresh at many waves, and some three in
+    // five at most at one of them.
+    let share = if pair.lesser() == 3 {
+        2 * closing
+    } else {
+        3 * closing / 5
+    };
+    let fresh = (block.saturating_mul(share) / WHOLE).min(block);
+    WORKER
+        .saturating_add(fresh.saturating_mul(WIDE))
+        .saturating_mul(team.workers.min(team.blocks) as u64)
+}
+
+/// How many bytes an entry of so many takes in a list.
+fn listed_bytes(entries: u64) -> u64 {
+    if entries <= 1 << 32 { LISTED } else { WIDE }
+}
+
+/// In how many of 1,000 positions of a pair captures decide, as far as the stones tell.
+fn due_share<B: Geometry>(pair: Pair<B>) -> u64 {
+    let (greater, lesser) = (pair.greater(), pair.lesser());
+    (closing_share(greater, lesser) + closing_share(lesser, greater)) / 2
+}
+
+/// The same of the positions in which the player to move has `own` stones, and the other player
+/// `other`.
+fn closing_share(own: u8, other: u8) -> u64
+    requires own { (3 ≤ own) × (own ≤ 9) }
+    requires other { (3 ≤ other) × (other ≤ 9) }
+    ensures { result < 2 ^ 16 }
+{
+    if is_decided(own, other - 1) {
+        u64::from(CLOSING[own as usize - 3][other as usize - 3])
+    } else {
+        0
+    }
+}
+
+/// Whether most positions are won or lost in which a player has `left` stones after a capture, and
+/// the player who captured `own`. Two stones have lost, and of positions with three on either side
+/// few are drawn. Else it takes three stones more to win, and four more against three stones, which
+/// may jump; and a player who has fewer stones after a capture loses where it is by four.
+fn is_decided(own: u8, left: u8) -> bool {
+    if left == 2 || (own == 3 && left == 3) {
+        true
+    } else if own > left {
+        own - left >= if left == 3 { 4 } else { 3 }
+    } else {
+        left - own >= 4
+    }
+}

@@ -1,0 +1,58 @@
+//! Pairs as texts: those that the words of the command line name, and how one is printed.
+ghost use Rattle.std.specs.Prelude.{◌≡◌, ◌+◌, ◌-◌, ◌^◌, ◌<◌, ◌≤◌, OnOk};
+ghost use Rattle.morris_board.specs.Buffered.{Passes, sink_of, taken_of};
+ghost use Rattle.morris_index.specs.Pairs.{pair_text};
+ghost use Rattle.morris_jobs.specs.Faults.{stones_text};
+ghost use Rattle.morris_jobs.specs.PairText.{read_pair_of};
+
+use crate::fault::Fault;
+use morris_board::board::Geometry;
+use morris_board::streams::{Failed, Sink};
+use morris_board::streams::buffered::Buffered;
+use morris_index::pair::Pair;
+use morris_probe::print::put_signed;
+
+/// The pair that a text names: a digit, a hyphen and a digit, as `4-3`, in either order.
+///
+/// # Errors
+/// [`Fault::PairText`] for any other text, else [`Fault::Counts`] where a number isn't 3 to 9, else
+/// [`Fault::Crowded`] where the board has fewer points than there are stones.
+pub fn read_pair<B: Geometry>(text: &str) -> Result<Pair<B>, Fault>
+    ensures { result ≡ read_pair_of B.POINTS text.now }
+{
+    match text.as_bytes() {
+        [a, b'-', b] if a.is_ascii_digit() && b.is_ascii_digit() => {
+            Ok(Pair::new(*a - b'0', *b - b'0')?)
+        }
+        _ => Err(Fault::PairText),
+    }
+}
+
+/// Puts numbers of stones, with a hyphen between them, into a buffer.
+///
+/// # Errors
+/// [`Failed`] at the first write that fails.
+#[tactic(auto, using(morris_board::proofs::BufferedLaws::passed_laws))]
+pub fn put_stones<S: Sink>(out: &mut Buffered<'_, S>, greater: u8, lesser: u8) -> Result<(), Failed>
+    requires failures { S.failures (sink_of out.old) < 2 ^ 64 - 1 }
+    requires room { taken_of out.old < 2 ^ 63 }
+    ensures passed { Passes S.contents S.failures out.old out.new (stones_text greater lesser) result }
+    ensures few { OnOk result (taken_of out.new ≤ taken_of out.old + 41) }
+{
+    out.put_number(u64::from(greater))?;
+    put_signed(out, b'-', lesser)
+}
+
+/// The numbers of a pair.
+#[tactic(auto, using(morris_board::proofs::BufferedLaws::passed_laws))]
+pub fn put_pair<B: Geometry, S: Sink>(
+    out: &mut Buffered<'_, S>,
+    pair: Pair<B>,
+) -> Result<(), Failed>
+    requires failures { S.failures (sink_of out.old) < 2 ^ 64 - 1 }
+    requires room { taken_of out.old < 2 ^ 10 }
+    ensures passed { Passes S.contents S.failures out.old out.new (pair_text pair) result }
+    ensures few { OnOk result (taken_of out.new ≤ taken_of out.old + 41) }
+{
+    put_stones(out, pair.greater(), pair.lesser())
+}

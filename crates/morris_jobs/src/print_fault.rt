@@ -1,0 +1,84 @@
+//! What is printed of a fault.
+ghost use Rattle.std.specs.Prelude.{◌≡◌, ◌+◌, ◌-◌, ◌^◌, ◌<◌, ◌≤◌, OnOk};
+ghost use Rattle.morris_board.specs.Buffered.{Passes, sink_of, taken_of};
+ghost use Rattle.morris_jobs.specs.Faults.{fault_words, length_around, length_worded, said, worded};
+
+use crate::fault::Fault;
+use crate::pairs::put_stones;
+use crate::print::Printed;
+use crate::wording::{Wording, Words};
+use morris_board::streams::{Failed, Sink};
+use morris_board::streams::buffered::Buffered;
+use morris_probe::print::put_count;
+
+/// The line of the fault.
+#[tactic(auto, using(morris_board::proofs::BufferedLaws::passed_laws), unfolding(crate::specs::Faults::fault_line))]
+impl Printed for Fault {
+    ghost use Rattle.morris_jobs.specs.Faults.{fault_line};
+
+    ghost bytes = { λ fault. fault_line fault };
+
+    fn put_into<S: Sink>(&self, out: &mut Buffered<'_, S>) -> Result<(), Failed> {
+        put_fault(out, *self)?;
+        out.put_byte(b'\n')
+    }
+}
+
+/// A fault with its number, as a line begins that tells it: `fault N: TEXT`.
+///
+/// # Errors
+/// [`Failed`] at the first write that fails.
+#[tactic(auto, using(morris_board::proofs::BufferedLaws::passed_laws), unfolding(crate::specs::Faults::fault_words))]
+pub fn put_fault<S: Sink>(out: &mut Buffered<'_, S>, fault: Fault) -> Result<(), Failed>
+    requires failures { S.failures (sink_of out.old) < 2 ^ 64 - 1 }
+    requires room { taken_of out.old < 2 ^ 61 }
+    ensures passed { Passes S.contents S.failures out.old out.new (fault_words fault) result }
+    ensures few { OnOk result (taken_of out.new ≤ taken_of out.old + 300) }
+{
+    put_count(out, "fault ", u64::from(fault.number()))?;
+    out.put(b": ")?;
+    put_wording(out, fault.wording())
+}
+
+/// The text of a fault.
+#[tactic(auto, using(morris_board::proofs::BufferedLaws::passed_laws))]
+fn put_wording<S: Sink>(out: &mut Buffered<'_, S>, wording: Wording) -> Result<(), Failed>
+    requires failures { S.failures (sink_of out.old) < 2 ^ 64 - 1 }
+    requires short { length_worded wording ≤ 64 }
+    requires room { taken_of out.old < 2 ^ 62 }
+    ensures passed { Passes S.contents S.failures out.old out.new (worded wording) result }
+    ensures few { OnOk result (taken_of out.new ≤ taken_of out.old + 200) }
+{
+    match wording {
+        Wording::Alone(words) => put_words(out, words),
+        Wording::InFile(words, greater, lesser) => {
+            put_words(out, words)?;
+            out.put(b", in the file of ")?;
+            put_stones(out, greater, lesser)
+        }
+    }
+}
+
+/// Words with their number or their pair.
+#[tactic(auto, using(morris_board::proofs::BufferedLaws::passed_laws))]
+fn put_words<S: Sink>(out: &mut Buffered<'_, S>, words: Words) -> Result<(), Failed>
+    requires failures { S.failures (sink_of out.old) < 2 ^ 64 - 1 }
+    requires short { length_around words ≤ 64 }
+    requires room { taken_of out.old < 2 ^ 62 }
+    ensures passed { Passes S.contents S.failures out.old out.new (said words) result }
+    ensures few { OnOk result (taken_of out.new ≤ taken_of out.old + 105) }
+{
+    match words {
+        Words::Plain(text) => out.put(text.as_bytes()),
+        Words::Number(before, number, after) => {
+            out.put(before.as_bytes())?;
+            out.put_number(number)?;
+            out.put(after.as_bytes())
+        }
+        Words::Pair(before, greater, lesser, after) => {
+            out.put(before.as_bytes())?;
+            put_stones(out, greater, lesser)?;
+            out.put(after.as_bytes())
+        }
+    }
+}

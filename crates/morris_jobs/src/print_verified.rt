@@ -1,0 +1,31 @@
+//! What `verify` prints.
+use crate::pairs::put_pair;
+use crate::print::Printed;
+use morris_board::board::Geometry;
+use morris_board::streams::{Failed, Sink};
+use morris_board::streams::buffered::Buffered;
+use morris_index::pair::Pair;
+use morris_probe::print::put_count;
+
+/// What `verify` prints of a table that was verified.
+#[derive(Drop)]
+pub struct Verified<B: Geometry> {
+    /// The table's pair.
+    pub pair: Pair<B>,
+    /// How many entries it has.
+    pub entries: u64,
+}
+
+#[tactic(auto, using(morris_board::proofs::BufferedLaws::passed_laws), unfolding(crate::specs::Verified::verified_text))]
+impl<B: Geometry> Printed for Verified<B> {
+    ghost use Rattle.morris_jobs.specs.Verified.{verified_text};
+
+    ghost bytes = { λ verified. verified_text verified.pair verified.entries };
+
+    fn put_into<S: Sink>(&self, out: &mut Buffered<'_, S>) -> Result<(), Failed> {
+        out.put(b"verified ")?;
+        put_pair(out, self.pair)?;
+        put_count(out, ": ", self.entries)?;
+        out.put(b" entries\n")
+    }
+}

@@ -1,0 +1,266 @@
+//! How far a command is, told line by line.
+ghost use Rattle.std.specs.Prelude.{◌≡◌, ℕ, ◌-◌, ◌^◌, ◌<◌, true, false, length, max};
+ghost use Rattle.morris_jobs.specs.Progress.{Becomes, CountsMore, MayTell, Speaks, TellsLine, at_work_of, has_begun_of, lent_of, part_of, sink_of, tells_of};
+ghost use Rattle.morris_jobs.specs.Sizes.{entries_below};
+
+use crate::print::send;
+use crate::size::{Size, Way};
+use crate::teller::Teller;
+use morris_board::board::Geometry;
+use morris_board::streams::Sink;
+use morris_index::pair::Pair;
+use morris_pairs::exact::Exact;
+use morris_pairs::layout::Layout;
+use morris_workers::Watch;
+use std::time::{Clock, Instant};
+
+/// One thing that is told.
+#[derive(Clone, Copy, Debug, PartialEq, Eq)]
+pub enum News {
+    /// Before all else: how many entries there are in all, and about how many megabytes of memory
+    /// it takes to find them.
+    Whole {
+        entries: u64,
+        megabytes: u64,
+    },
+    /// A wave, counted from 1, begins for the pair of these numbers of stones.
+    Wave {
+        greater: u8,
+        lesser: u8,
+        wave: u16,
+        so_far: SoFar,
+    },
+    /// So many entries are done, in the midst of the pair of these numbers of stones.
+    Part {
+        greater: u8,
+        lesser: u8,
+        so_far: SoFar,
+    },
+    /// The pair of these numbers of stones is done.
+    Done {
+        greater: u8,
+        lesser: u8,
+        so_far: SoFar,
+    },
+}
+
+/// How far it is.
+#[derive(Clone, Copy, Debug, PartialEq, Eq)]
+pub struct SoFar {
+    /// How many entries are done: those of the pairs that are, and those of the pair at work.
+    pub done: u64,
+    /// How many there are in all.
+    pub whole: u64,
+    /// How many seconds it has taken, rounded down.
+    pub seconds: u64,
+}
+
+/// Tells on a sink how far a command is, a line at a time, or nothing where nobody asked.
+///
+/// A line of a wave or of entries comes at most once a second; one of a pair that is done always.
+/// After a line that couldn't be written nothing more is told, and nothing else changes.
+#[derive(Drop)]
+pub struct Progress<'a, R, E> {
+    clock: &'a R,
+    errors: &'a mut E,
+    tells: bool,
+    // Nothing where the clock can't be read: then all is told at second 0.
+    began: Option<Instant>,
+    // When the last line of a pair was told: of a wave, of its entries or of its end.
+    last_second: u64,
+    has_begun: bool,
+    // The pair that is at work.
+    greater: u8,
+    lesser: u8,
+    // How many of its entries are done; how many those of the pairs that are done have, and how many
+    // entries there are.
+    part: u64,
+    done: u64,
+    whole: u64,
+}
+
+impl<'a, R: Clock, E: Sink> Progress<'a, R, E> {
+    /// Who tells on `errors`, if it is wanted, with the seconds from now on by `clock`.
+    pub fn new(clock: &'a R, wanted: bool, errors: &'a mut E) -> Progress<'a, R, E>
+        ensures lent { lent_of result ≡ errors.entry.ghost_name }
+        ensures sink { sink_of result ≡ errors.old }
+        ensures tells { tells_of result ≡ wanted }
+        ensures new { has_begun_of result ≡ false }
+    {
+        Progress {
+            clock,
+            errors,
+            tells: wanted,
+            began: Instant::now(clock).ok(),
+            last_second: 0,
+            has_begun: false,
+            greater: 0,
+            lesser: 0,
+            part: 0,
+            done: 0,
+            whole: 0,
+        }
+    }
+
+    fn so_far(&self) -> SoFar
+        ensures { CountsMore self.now (part_of self.now) result }
+    {
+        let done = self.done.saturating_add(self.part);
+        SoFar {
+            done,
+            whole: self.whole.max(done),
+            seconds: self.seconds(),
+        }
+    }
+
+    fn seconds(&self) -> u64 {
+        let Some(began) = self.began else {
+            return 0;
+        };
+        match began.elapsed(self.clock) {
+            Ok(passed) => passed.as_secs(),
+            Err(_) => 0,
+        }
+    }
+
+    /// Tells one of the news, and nothing more after a write that failed. Nothing is told before it
+    /// is known how much there is to do.
+    fn tell(&mut self, news: News)
+        ensures { Speaks E.contents E.failures self.old self.new news }
+    {
+        if !self.tells || !self.has_begun {
+            return;
+        }
+        // The caller has to have room for a failure of its own.
+        if self.errors.failures() >= u64::MAX - 2 {
+            self.tells = false;
+            return;
+        }
+        self.tells = send(&news, self.errors).is_ok();
+    }
+
+    /// Tells one of the news of this second, where none was told in it.
+    fn tell_in_time(&mut self, news: News, second: u64)
+        ensures told { Becomes E.contents E.failures self.old self.new }
+        ensures part { part_of self.new ≡ part_of self.old }
+        ensures line { MayTell E.contents E.failures self.old self.new news }
+    {
+        if second <= self.last_second {
+            return;
+        }
+        self.last_second = second;
+        self.tell(news);
+    }
+}
+
+/// Each line is told once it is known how much there is to do.
+impl<'a, R: Clock, E: Sink> Teller for Progress<'a, R, E> {
+    /// Whether any more lines are written.
+    fn is_told(&self) -> bool
+        ensures { result ≡ tells_of self.now }
+    {
+        self.tells
+    }
+
+    /// Tells how much there is to do, unless it was told before. Nothing is told before this.
+    fn announce_size(&mut self, size: Size)
+        ensures told { Becomes E.contents E.failures self.old self.new }
+        ensures first { has_begun_of self.old ≡ false
+            → (megabytes : ℕ) × TellsLine E.contents E.failures self.old self.new (News.Whole size.entries megabytes) }
+        ensures again { has_begun_of self.old ≡ true → self.new ≡ self.old }
+    {
+        if !self.tells || self.has_begun {
+            return;
+        }
+        let Size { entries, bytes } = size;
+        self.has_begun = true;
+        self.whole = entries;
+        let megabytes = bytes.div_ceil(1_000_000);
+        self.tell(News::Whole { entries, megabytes });
+    }
+
+    /// Tells how much there is to do where the tables of all pairs below a pair come about in this
+    /// way, unless it was told before. It takes no memory.
+    fn announce<B: Geometry>(&mut self, pair: Pair<B>, layout: Layout, way: Way)
+        ensures told { Becomes E.contents E.failures self.old self.new }
+        // As far as 64 bits hold the number of entries.
+        ensures first { has_begun_of self.old ≡ false → entries_below B.shape B.POINTS layout pair way < 2 ^ 64
+            → (megabytes : ℕ) × TellsLine E.contents E.failures self.old self.new (News.Whole (entries_below B.shape B.POINTS layout pair way) megabytes) }
+        ensures again { has_begun_of self.old ≡ true → self.new ≡ self.old }
+    {
+        // Nothing is counted for nobody.
+        if self.tells && !self.has_begun {
+            self.announce_size(Size::of(pair, layout, way));
+        }
+    }
+
+    /// A pair begins, of which no entry is done.
+    fn begin_pair<B: Geometry>(&mut self, pair: Pair<B>)
+        ensures told { Becomes E.contents E.failures self.old self.new }
+        ensures pair { at_work_of self.new ≡ pair }
+        ensures part { part_of self.new ≡ 0 }
+    {
+        self.greater = pair.greater();
+        self.lesser = pair.lesser();
+        self.part = 0;
+    }
+
+    /// Tells that the pair of an exact table is done, with all entries of the table.
+    fn end_pair<B: Geometry>(&mut self, table: &Exact<B>)
+        ensures told { Becomes E.contents E.failures self.old self.new }
+        ensures line { has_begun_of self.old ≡ true → (so_far : SoFar) × CountsMore self.old (length table.now.codes) so_far
+            × TellsLine E.contents E.failures self.old self.new (News.Done table.now.pair.greater table.now.pair.lesser so_far) }
+    {
+        let pair = table.pair();
+        self.part = 0;
+        self.done = self.done.saturating_add(table.len());
+        let so_far = self.so_far();
+        self.last_second = so_far.seconds;
+        self.tell(News::Done {
+            greater: pair.greater(),
+            lesser: pair.lesser(),
+            so_far,
+        });
+    }
+}
+
+/// Waves and entries are told at most once a second.
+impl<'a, R: Clock, E: Sink> Watch for Progress<'a, R, E> {
+    ghost use Rattle.std.specs.Prelude.{◌≡◌, max};
+    ghost use Rattle.morris_jobs.specs.Progress.{Becomes, CountsMore, MayTell, at_work_of, part_of};
+    ghost use Rattle.morris_jobs.specs.ProgressLaws.{Becomes-joins, Becomes-stays};
+
+    ghost becomes = { λ old new. Becomes E.contents E.failures old new };
+
+    fn wave(&mut self, wave: u16) {
+        let so_far = self.so_far();
+        let news = News::Wave {
+            greater: self.greater,
+            lesser: self.lesser,
+            wave,
+            so_far,
+        };
+        self.tell_in_time(news, so_far.seconds);
+    }
+
+    /// So many entries of the pair at work are done. Where more were told of before, they still are.
+    fn entries(&mut self, done: u64)
+        ensures told { Becomes E.contents E.failures self.old self.new }
+        ensures part { part_of self.new ≡ max (part_of self.old) done }
+        ensures line { (so_far : SoFar) × CountsMore self.old (max (part_of self.old) done) so_far
+            × MayTell E.contents E.failures self.old self.new (News.Part (at_work_of self.old).greater (at_work_of self.old).lesser so_far) }
+    {
+        self.part = self.part.max(done);
+        let so_far = self.so_far();
+        let news = News::Part {
+            greater: self.greater,
+            lesser: self.lesser,
+            so_far,
+        };
+        self.tell_in_time(news, so_far.seconds);
+    }
+
+    ghost stays = { λ told. Becomes-stays E.contents E.failures told };
+
+    ghost joins = { λ first midway last once again. Becomes-joins E.contents E.failures first midway last once again };
+}

@@ -1,0 +1,193 @@
+//! How much a command has to do: how many entries there are, and about how much memory it takes.
+ghost use Rattle.std.specs.Prelude.{◌≡◌, ◌+◌, ◌^◌, ◌<◌};
+ghost use Rattle.morris_jobs.specs.Sizes.{entries_below, entries_of, is_same};
+
+use crate::memory::{BASE, CODE, bytes_of_making, bytes_of_table};
+use crate::team::Team;
+use morris_board::board::Geometry;
+use morris_index::class_sizes::class_size;
+use morris_index::pair::Pair;
+use morris_pairs::layout::Layout;
+
+/// How the tables of a pair and of those below it come about, one after the other.
+#[derive(Clone, Copy, Debug, PartialEq, Eq)]
+pub enum Way {
+    /// They are swept, on one thread.
+    Swept,
+    /// A team builds them; `all` are kept, or only those that a pair to come needs.
+    Built { team: Team, all: bool },
+    /// They are read from files.
+    Read,
+    /// A team builds them, of which only those are kept that a pair to come needs; the pair's own, of
+    /// so many entries, was read.
+    Verified { team: Team, entries: u64 },
+}
+
+impl Way {
+    /// Whether tables are let go once no pair to come needs them.
+    fn lets_go(self) -> bool {
+        match self {
+            Way::Built { team: _, all } => !all,
+            Way::Verified { .. } => true,
+            Way::Swept | Way::Read => false,
+        }
+    }
+}
+
+/// How many bytes the tables take that a pair may need, as far as these were made: those of pairs
+/// with as many stones, and with one less.
+#[derive(Clone, Copy, Debug)]
+struct Near {
+    stones: u8,
+    here: u64,
+    before: u64,
+}
+
+impl Near {
+    const NONE: Near = Near {
+        stones: 0,
+        here: 0,
+        before: 0,
+    };
+
+    /// Before the table of a pair is made.
+    fn before<B: Geometry>(self, pair: Pair<B>) -> Near {
+        let stones = pair.greater() + pair.lesser();
+        if stones == self.stones {
+            return self;
+        }
+        Near {
+            stones,
+            here: 0,
+            before: self.here,
+        }
+    }
+
+    /// With a table of so many bytes.
+    fn with(self, bytes: u64) -> Near {
+        Near {
+            here: self.here.saturating_add(bytes),
+            ..self
+        }
+    }
+
+    fn bytes(self) -> u64 {
+        self.here.saturating_add(self.before)
+    }
+}
+
+/// So many entries, and about so many bytes of memory to find them, table by table.
+#[derive(Clone, Copy, Debug, PartialEq, Eq)]
+pub struct Size {
+    /// The entries of all tables.
+    pub entries: u64,
+    /// About how many bytes are taken at once at most.
+    pub bytes: u64,
+}
+
+impl Size {
+    /// Of no table.
+    const NONE: Size = Size {
+        entries: 0,
+        bytes: BASE,
+    };
+
+    /// With a table of so many entries more, where so many bytes are taken at once while it comes
+    /// about.
+    fn with(self, entries: u64, at_once: u64) -> Size
+        ensures { self.entries + entries < 2 ^ 64 → result.entries ≡ self.entries + entries }
+    {
+        Size {
+            entries: self.entries.saturating_add(entries),
+            bytes: self.bytes.max(at_once.saturating_add(BASE)),
+        }
+    }
+
+    /// Of the tables of all pairs below a pair in a layout, its own among them. It takes no memory.
+    pub fn of<B: Geometry>(pair: Pair<B>, layout: Layout, way: Way) -> Size
+        // As far as 64 bits hold the number, of which no board needs more than 45.
+        ensures { entries_below B.shape B.POINTS layout pair way < 2 ^ 64
+            → result.entries ≡ entries_below B.shape B.POINTS layout pair way }
+    {
+        let mut size = Size::NONE;
+        let mut near = Near::NONE;
+        let mut all = 0u64;
+        for below in pair.below() {
+            let entries = count_entries(below, pair, layout, way);
+            let table = bytes_of_table(below, layout, entries);
+            near = near.before(below).with(table);
+            all = all.saturating_add(table);
+            let kept = if way.lets_go() { near.bytes() } else { all };
+            let making = bytes_beside(below, entries, way);
+            size = size.with(entries, kept.saturating_add(making));
+        }
+        size
+    }
+}
+
+/// How much there is to do where the tables of the files of a folder are verified in the order of
+/// pairs. A table is let go once no pair to come needs it.
+#[derive(Clone, Copy, Debug)]
+pub struct FolderSize {
+    /// That of the files so far.
+    pub size: Size,
+    near: Near,
+}
+
+impl FolderSize {
+    /// Of no file.
+    pub const NONE: FolderSize = FolderSize {
+        size: Size::NONE,
+        near: Near::NONE,
+    };
+
+    /// With the file of a pair after those so far, whose table has so many entries.
+    pub fn with<B: Geometry>(self, pair: Pair<B>, entries: u64) -> FolderSize
+        // As far as 64 bits hold the number.
+        ensures { self.size.entries + entries < 2 ^ 64 → result.size.entries ≡ self.size.entries + entries }
+    {
+        let table = CODE.saturating_mul(entries);
+        let near = self.near.before(pair).with(table);
+        FolderSize {
+            size: self.size.with(entries, near.bytes()),
+            near,
+        }
+    }
+}
+
+/// Whether two pairs have the same numbers of stones.
+fn is_same<B: Geometry>(a: Pair<B>, b: Pair<B>) -> bool
+    ensures { result ≡ is_same a b }
+{
+    a.greater() == b.greater() && a.lesser() == b.lesser()
+}
+
+/// How many entries the table of a pair has in a layout, where it is one of those below `last`.
+fn count_entries<B: Geometry>(pair: Pair<B>, last: Pair<B>, layout: Layout, way: Way) -> u64
+    ensures { result ≡ entries_of B.shape B.POINTS layout last way pair }
+{
+    if let Way::Verified { team: _, entries } = way {
+        if is_same(pair, last) {
+            return entries;
+        }
+    }
+    match layout {
+        Layout::Full => pair.size(),
+        Layout::Classes => class_size(pair),
+    }
+}
+
+/// About how many bytes it takes to make the table of a pair with so many entries, beside all tables
+/// that are kept, its own among them.
+fn bytes_beside<B: Geometry>(pair: Pair<B>, entries: u64, way: Way) -> u64 {
+    match way {
+        Way::Swept => bytes_of_making(pair, entries, None),
+        Way::Built { team, .. } => bytes_of_making(pair, entries, Some(team)),
+        // The table that was read is there from the start, also while its pair is built beside it.
+        Way::Verified { team, entries: own } => {
+            let making = bytes_of_making(pair, entries, Some(team));
+            making.saturating_add(CODE.saturating_mul(own))
+        }
+        Way::Read => 0,
+    }
+}

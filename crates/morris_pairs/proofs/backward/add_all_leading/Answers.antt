@@ -1,0 +1,46 @@
+use Rattle.std.proofs.Common.{ℕ, ◌++◌, List, sym, ap, ◌∙◌, arith, append_assoc}
+use Rattle.std.proofs.lemmas.List.{append-nil}
+use Rattle.morris_board.specs.Sets.{members}
+use Rattle.morris_pairs.specs.Numberings.{layout_before, position_after}
+use Rattle.morris_pairs.specs.Backward.{moves_before, moves_into, entries_leading}
+use Rattle.morris_pairs.proofs.BackLawsLoops.{end_of, next_points, all_leading, leading_none, leading_more}
+use Rattle.morris_pairs.proofs.backward.add_all_leading.Goals as goal
+
+pub loop-to-init : goal.loop-to-init
+loop-to-init g c = record {
+  points = ap members (c.into_iter-to-iterator.ensures.into_iter_gives ∙ (c.iter-to-items.ensures.points ∙ c.other.ensures.points));
+  listed = sym (ap (λ (xs : List ℕ). c.args.out.now.items ++ xs)
+      (leading_none (layout_before c.args.before.now) g.B.Geometry.shape g.B.Geometry.POINTS (position_after c.args.before.now).pair c.args.position.now)
+      ∙ append-nil c.args.out.now.items);
+}
+
+pub add_leading-requires-clause-end : goal.add_leading-requires-clause-end
+add_leading-requires-clause-end g c =
+    end_of c.args.position.now.other c.loop-to.yielded c.in-Some.to (members c.next.new.self)
+    (ap (λ (zs : List ℕ). c.loop-to.yielded ++ zs) (sym c.in-Some.ensures.steps) ∙ c.loop-to.invariant.points)
+
+pub loop-to-preserved : goal.loop-to-preserved
+loop-to-preserved g c = record {
+  points = next_points c.loop-to.yielded c.in-Some.to c.loop-to.to-iterator c.next.new.self (members c.args.position.now.other) c.loop-to.invariant.points
+      c.in-Some.ensures.steps;
+  listed = c.in_ok-add_leading.ensures
+      ∙ (ap (λ (xs : List ℕ). xs ++ entries_leading (layout_before c.args.before.now) g.B.Geometry.shape g.B.Geometry.POINTS (position_after c.args.before.now).pair
+      c.args.position.now (moves_into g.B.Geometry.shape c.args.position.now c.in-Some.to g.B.Geometry.POINTS)) c.loop-to.invariant.listed
+      ∙ (append_assoc c.args.out.now.items _ _
+      ∙ ap (λ (xs : List ℕ). c.args.out.now.items ++ xs)
+      (leading_more (layout_before c.args.before.now) g.B.Geometry.shape g.B.Geometry.POINTS (position_after c.args.before.now).pair c.args.position.now c.loop-to.yielded c.in-Some.to)));
+}
+
+pub returns : goal.returns
+returns g c =
+    let all = all_leading (layout_before c.args.before.now) g.B.Geometry.shape g.B.Geometry.POINTS g.met.B.Geometry.point_count g.met.B.Geometry.few
+    g.met.B.Geometry.has_symmetries (position_after c.args.before.now).pair c.requires.pair c.args.position.now c.other.ensures.lawful c.requires.counts c.requires.own
+    c.loop-to.yielded c.loop-to.to-iterator c.loop-to.invariant.points c.in-None.ensures.steps.0 in
+    record {
+      added = entries_leading (layout_before c.args.before.now) g.B.Geometry.shape g.B.Geometry.POINTS (position_after c.args.before.now).pair c.args.position.now
+          (moves_before g.B.Geometry.shape c.args.position.now g.B.Geometry.POINTS c.loop-to.yielded);
+      follow = c.loop-to.invariant.listed;
+      often = λ j low. all.often j;
+      nodes = all.nodes;
+      few = omega (arith, all.few, g.met.B.Geometry.symmetry_count, g.met.B.Geometry.few_symmetries);
+    }

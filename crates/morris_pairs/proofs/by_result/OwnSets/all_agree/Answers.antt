@@ -1,0 +1,27 @@
+use Rattle.std.proofs.Common.{ℕ, List, length, slice_index_or, ap, subst, ◌∙◌, arith}
+use Rattle.std.specs.List.{All}
+use Rattle.std.proofs.lemmas.List.{take_all}
+use Rattle.std.proofs.lemmas.List.Elements.{All-more}
+use Rattle.morris_index.specs.Moves.{InPair}
+use Rattle.morris_pairs.specs.Faces.{EntryAgrees}
+use Rattle.morris_pairs.proofs.FaceLaws.{length-codes, codes-at}
+use Rattle.morris_pairs.proofs.by_result.OwnSets.all_agree.Goals as goal
+
+pub bounds-codes-place : goal.bounds-codes-place
+bounds-codes-place g c = omega (arith, c.loop-place-test.true, ap length c.requires.codes, length-codes g.B.Geometry.shape c.args.raw.now c.args.faces.now)
+
+pub agree-requires-clause-code : goal.agree-requires-clause-code
+agree-requires-clause-code g c =
+    ap (λ (xs : List ℕ). slice_index_or xs c.loop-place.place 0) c.requires.codes
+    ∙ codes-at g.B.Geometry.shape c.args.raw.now c.args.faces.now c.loop-place.place c.index-faces-place.result c.loop-place-test.true c.index-faces-place.is
+
+pub loop-place-preserved : goal.loop-place-preserved
+loop-place-preserved g c =
+    let P = EntryAgrees g.B.Geometry.shape c.args.raw.now in
+    All-more P c.args.faces.now c.loop-place.place c.index-faces-place.result c.loop-place-test.true c.loop-place.invariant
+    (subst P c.index-faces-place.is (c.agree.ensures c.if-not-agree.false))
+
+pub returns : goal.returns
+returns g c = λ _.
+    subst (λ (qs : List InPair). All (EntryAgrees g.B.Geometry.shape c.args.raw.now) qs)
+    (take_all c.loop-place.place c.args.faces.now (omega (arith, c.loop-place-test.false))) c.loop-place.invariant

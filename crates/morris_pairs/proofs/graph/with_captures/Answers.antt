@@ -1,0 +1,85 @@
+use Rattle.std.proofs.Common.{◌≡◌, ◌++◌, true, List, ℕ, slice_index, sym, ap, subst, ◌∙◌, arith}
+use Rattle.std.proofs.lemmas.List.{append-nil}
+use Rattle.morris_board.specs.Sets.{has, members, count_of, without_point}
+use Rattle.morris_moves.specs.declared.step.Move.{Move}
+use Rattle.morris_pairs.specs.Captured.{IsStandingIn, captures_at, captures_to}
+use Rattle.morris_pairs.specs.Graphs.{exits_by}
+use Rattle.morris_pairs.proofs.BackLawsLoops.{end_of, next_points}
+use Rattle.morris_pairs.proofs.CaptureLaws.{GoesOn, goes_none, goes_more, end_is, end_low, closers_close}
+use Rattle.morris_pairs.proofs.CapturedLaws.{taken_in, left_within, left_counts}
+use Rattle.morris_pairs.proofs.graph.with_captures.Goals as goal
+
+pub without-left-requires : goal.without-left-requires
+without-left-requires g c =
+    omega (arith, taken_in g.B.Geometry.shape g.B.Geometry.POINTS g.met.B.Geometry.point_count (omega (arith, g.met.B.Geometry.few)) c.args.position.now c.requires.lawful c.args.taken c.requires.taken)
+
+pub standing-standing-requires-clause-within : goal.standing-standing-requires-clause-within
+standing-standing-requires-clause-within g c =
+    rw (c.without-left.ensures, c.other.ensures.points) (left_within g.B.Geometry.shape g.B.Geometry.POINTS g.met.B.Geometry.point_count (omega (arith, g.met.B.Geometry.few)) c.args.position.now c.requires.lawful c.args.taken c.requires.taken)
+
+pub standing-standing-requires-clause-counts : goal.standing-standing-requires-clause-counts
+standing-standing-requires-clause-counts g c =
+    rw (c.without-left.ensures, c.other.ensures.points, c.count.ensures.value, c.own.ensures.points)
+    (left_counts g.B.Geometry.shape g.B.Geometry.POINTS g.met.B.Geometry.point_count (omega (arith, g.met.B.Geometry.few)) c.args.position.now c.requires.lawful c.args.taken c.requires.taken c.args.table.now c.requires.table)
+
+pub loop-to-init : goal.loop-to-init
+loop-to-init g c = record {
+  points = ap members (c.into_iter-to-iterator.ensures.into_iter_gives ∙ c.iter-to-items.ensures.points);
+  summed = goes_none g.B.Geometry.shape c.args.position.now c.args.known;
+}
+
+pub bounds-row-to : goal.bounds-row-to
+bounds-row-to g c =
+    let here : has c.args.ends c.in-Some.to ≡ true = end_of c.args.ends c.loop-to.yielded c.in-Some.to (members c.next.new.self)
+    (ap (λ (zs : List ℕ). c.loop-to.yielded ++ zs) (sym c.in-Some.ensures.steps) ∙ c.loop-to.invariant.points) in
+    omega (
+      arith,
+      c.requires.row.closers_len,
+      g.met.B.Geometry.few,
+      end_low g.B.Geometry.shape g.B.Geometry.POINTS g.met.B.Geometry.point_count (omega (arith, g.met.B.Geometry.few)) c.args.position.now c.requires.lawful
+          c.args.row.now c.requires.own c.requires.row c.args.ends c.requires.ends c.in-Some.to here,
+    )
+
+pub with_closers-exits-requires-clause-standing : goal.with_closers-exits-requires-clause-standing
+with_closers-exits-requires-clause-standing g c = (
+  c.args.taken,
+  record {
+    takes = c.requires.taken;
+    own = c.standing-standing.ensures.own ∙ (c.without-left.ensures ∙ ap (λ o. without_point o c.args.taken) c.other.ensures.points);
+    stands = subst (λ k. IsStandingIn g.B.Geometry.shape g.B.Geometry.POINTS c.args.table.now.layout c.args.table.now.pair k c.standing-standing.result)
+        (c.count.ensures.value ∙ ap count_of c.own.ensures.points) c.standing-standing.ensures.stands;
+  },
+)
+
+pub with_closers-exits-requires-clause-closers : goal.with_closers-exits-requires-clause-closers
+with_closers-exits-requires-clause-closers g c = λ u h.
+    let here : has c.args.ends c.in-Some.to ≡ true = end_of c.args.ends c.loop-to.yielded c.in-Some.to (members c.next.new.self)
+    (ap (λ (zs : List ℕ). c.loop-to.yielded ++ zs) (sym c.in-Some.ensures.steps) ∙ c.loop-to.invariant.points) in
+    let end = end_is g.B.Geometry.shape g.B.Geometry.POINTS g.met.B.Geometry.point_count (omega (arith, g.met.B.Geometry.few)) c.args.position.now c.requires.lawful
+    c.args.row.now c.requires.own c.requires.row c.args.ends c.requires.ends c.in-Some.to here in
+    closers_close g.B.Geometry.shape g.B.Geometry.POINTS g.met.B.Geometry.point_count (omega (arith, g.met.B.Geometry.few)) c.args.position.now c.requires.lawful
+    c.args.row.now c.requires.own c.requires.row u c.in-Some.to end.0 end.1 (ap (λ s. has s u) (sym c.from_mask-closers.ensures) ∙ h)
+
+pub loop-to-preserved : goal.loop-to-preserved
+loop-to-preserved g c = record {
+  points = next_points c.loop-to.yielded c.in-Some.to c.loop-to.to-iterator c.next.new.self _ c.loop-to.invariant.points c.in-Some.ensures.steps;
+  summed = goes_more g.B.Geometry.shape c.args.position.now c.args.known
+      (λ v. captures_at c.args.taken (slice_index c.args.row.now.closers v) v)
+      c.loop-to.exits c.with_closers-exits.result c.in-Some.to c.loop-to.yielded c.loop-to.invariant.summed
+      (subst (λ closers. (done : List Move) → c.loop-to.exits ≡ exits_by g.B.Geometry.shape c.args.position.now done
+      → c.with_closers-exits.result ≡ exits_by g.B.Geometry.shape c.args.position.now (done ++ captures_at c.args.taken closers c.in-Some.to))
+      c.from_mask-closers.ensures
+      (c.with_closers-exits.ensures c.args.taken (record {
+        takes = c.requires.taken;
+        own = c.standing-standing.ensures.own ∙ (c.without-left.ensures ∙ ap (λ o. without_point o c.args.taken) c.other.ensures.points);
+        stands = subst (λ k. IsStandingIn g.B.Geometry.shape g.B.Geometry.POINTS c.args.table.now.layout c.args.table.now.pair k c.standing-standing.result)
+            (c.count.ensures.value ∙ ap count_of c.own.ensures.points) c.standing-standing.ensures.stands;
+      })));
+}
+
+pub returns : goal.returns
+returns g c =
+    let each : c.loop-to.yielded ≡ members c.args.ends =
+    sym (append-nil _) ∙ (ap (λ (zs : List ℕ). c.loop-to.yielded ++ zs) (sym c.in-None.ensures.steps.0) ∙ c.loop-to.invariant.points) in
+    subst (λ vs. GoesOn g.B.Geometry.shape c.args.position.now c.args.known c.loop-to.exits (captures_to c.args.row.now.closers c.args.taken vs)) each
+    c.loop-to.invariant.summed

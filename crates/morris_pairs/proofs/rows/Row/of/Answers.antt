@@ -1,0 +1,74 @@
+use Rattle.std.proofs.Common.{◌≡◌, ℕ, ◌+◌, ◌<◌, ◌&&◌, true, false, not, suc, eqb, sym, ap, ◌∙◌, inl, inr, arith, refl}
+use Rattle.std.proofs.lemmas.Bool.{cases_eq, eq-eqb, ne_eqb, not-true, both_ways}
+use Rattle.std.proofs.lemmas.List.{length-set}
+use Rattle.morris_board.specs.Sets.{has}
+use Rattle.morris_index.proofs.Moving.{total, total-zero, total-suc}
+use Rattle.morris_pairs.specs.Rows.{arrivals, may_close, is_closing_end}
+use Rattle.morris_pairs.proofs.ComerLaws.{count-quiet, closing-some, closing-none, holds_more}
+use Rattle.morris_pairs.proofs.RowLaws.{each_more, below-start, below-yes, below-no}
+use Rattle.morris_pairs.proofs.rows.Row.of.Goals as goal
+use Rattle.morris_pairs.proofs.rows.Row.of.Goals.{then-ne, else-ne}
+
+pub loop-to-init : goal.loop-to-init
+loop-to-init g c = record {
+  len = refl;
+  each = λ v h. absurd (omega arith);
+  all = sym (total-zero (arrivals g.B.Geometry.shape c.args.own));
+  few = omega arith;
+  closers_len = refl;
+  closers = λ v h. absurd (omega arith);
+  closing = below-start (may_close g.B.Geometry.shape c.args.own);
+}
+
+some_mask : (s : ℕ) → not (eqb s 0) ≡ true → 0 < s
+some_mask s h = elim (cases_eq s 0) [
+  | inl e ↦ absurd (both_ways (eqb s 0) (not-true (eqb s 0) h) (eq-eqb s 0 e))
+  | inr d ↦ omega arith
+]
+
+no_mask : (s : ℕ) → not (eqb s 0) ≡ false → s ≡ 0
+no_mask s h = elim (cases_eq s 0) [
+  | inl e ↦ e
+  | inr d ↦ absurd (both_ways (not (eqb s 0)) h (ap not (ne_eqb s 0 d)))
+]
+
+pub loop-to-preserved : goal.loop-to-preserved
+loop-to-preserved g c =
+    let step : suc c.loop-to.to ≡ c.loop-to.to + 1 = omega arith in
+    let counted : c.from-count.result ≡ arrivals g.B.Geometry.shape c.args.own c.loop-to.to =
+    omega (
+      arith,
+      c.from-count.ensures,
+      c.count.ensures.value,
+      count-quiet g.B.Geometry.shape c.args.own c.loop-to.to c.arriving-quiet.result.0 c.arriving-quiet.ensures.quiet,
+    ) in
+    let kept : (u : ℕ) → has c.mask.result u ≡ (has c.args.own u && is_closing_end g.B.Geometry.shape c.args.own u c.loop-to.to) =
+    λ u. ap (λ s. has s u) c.mask.ensures ∙ c.arriving-quiet.ensures.closing u in
+    record {
+      len = length-set c.loop-to.arrivals c.loop-to.to c.from-count.result ∙ c.loop-to.invariant.len;
+      each = each_more (arrivals g.B.Geometry.shape c.args.own) c.loop-to.arrivals c.loop-to.to c.from-count.result
+          (omega (arith, c.loop-to.invariant.len, g.met.B.Geometry.few)) counted c.loop-to.invariant.each;
+      all = omega (
+        arith,
+        c.loop-to.invariant.all,
+        counted,
+        total-suc (arrivals g.B.Geometry.shape c.args.own) c.loop-to.to,
+        ap (total (arrivals g.B.Geometry.shape c.args.own)) step,
+      );
+      few = omega (arith, c.loop-to.invariant.few, c.count.ensures.few, c.from-count.ensures);
+      closers_len = length-set c.loop-to.closers c.loop-to.to c.mask.result ∙ c.loop-to.invariant.closers_len;
+      closers = holds_more (λ v x. (u : ℕ) → has x u ≡ (has c.args.own u && is_closing_end g.B.Geometry.shape c.args.own u v)) c.loop-to.closers c.loop-to.to c.mask.result
+          (omega (arith, c.loop-to.invariant.closers_len, g.met.B.Geometry.few)) kept c.loop-to.invariant.closers;
+      closing = elim c.if-ne.branch [
+        | then-ne w ↦
+            rw (w.closing-is, w.with-closing.ensures)
+            (below-yes (may_close g.B.Geometry.shape c.args.own) c.loop-to.closing c.loop-to.to c.loop-to.invariant.closing
+            (closing-some g.B.Geometry.shape c.args.own c.loop-to.to c.arriving-quiet.result.1 c.arriving-quiet.ensures.closing
+            (some_mask c.arriving-quiet.result.1 (sym c.ne.ensures ∙ w.if-ne.true)) (omega arith)))
+        | else-ne w ↦
+            rw w.closing-is
+            (below-no (may_close g.B.Geometry.shape c.args.own) c.loop-to.closing c.loop-to.to c.loop-to.invariant.closing
+            (closing-none g.B.Geometry.shape c.args.own c.loop-to.to c.arriving-quiet.result.1 c.arriving-quiet.ensures.closing
+            (no_mask c.arriving-quiet.result.1 (sym c.ne.ensures ∙ w.if-ne.false))))
+      ];
+    }

@@ -1,0 +1,22 @@
+use Rattle.std.proofs.Common.{◌≡◌, ℕ, arith, subst, true}
+use Rattle.morris_index.specs.Pairs.{Counts}
+use Rattle.morris_pairs.specs.Shelves.{has_place, table_on}
+use Rattle.morris_pairs.proofs.StockLaws.{left_at, goes_on-let_go, goes_on-keep, let_go-last}
+use Rattle.morris_pairs.proofs.stock.Stock.let_go.Goals as goal
+use Rattle.morris_pairs.proofs.stock.Stock.let_go.Goals.{then-stones_at-stones, else-stones_at-stones}
+
+pub loop-place-preserved : goal.loop-place-preserved
+loop-place-preserved g c = elim c.if-stones_at-stones.branch [
+  | then-stones_at-stones w ↦
+      rw w.self-is
+      (goes_on-let_go c.args.stones c.args.self.now c.loop-place.self c.loop-place.place c.loop-place.invariant _ (omega (arith, c.stones_at.ensures)) w.forget.ensures)
+  | else-stones_at-stones w ↦
+      rw w.self-is
+      (goes_on-keep c.args.stones c.args.self.now c.loop-place.self c.loop-place.place c.loop-place.invariant (omega (arith, c.stones_at.ensures)))
+]
+
+pub returns : goal.returns
+returns g c =
+    let last : c.loop-place.place ≡ 49 = omega arith in
+    let_go-last c.args.stones c.args.self.now c.loop-place.self
+    (subst (λ (n : ℕ). (d : Counts) → has_place d ≡ true → table_on c.loop-place.self d ≡ left_at c.args.stones c.args.self.now n d) last c.loop-place.invariant)

@@ -1,0 +1,36 @@
+-- What captures lead to, by the set of stones that they leave the opponent.
+use Rattle.std.specs.Prelude.{◌≡◌, ℕ, ◌<◌, not, ◌&&◌, List, map}
+use Rattle.std.specs.List.{All, flat_map}
+use Rattle.morris_board.specs.Boards.{Shape}
+use Rattle.morris_board.specs.Sets.{has, members, set_where}
+use Rattle.morris_board.specs.Positions.{sides}
+use Rattle.morris_moves.specs.Rules.{moved}
+use Rattle.morris_wave.specs.Exits.{exits_of}
+use Rattle.morris_pairs.specs.declared.kept_captures.KeptCaptures.{KeptCaptures}
+use Rattle.morris_pairs.specs.declared.kept_captures.Slot.{Slot}
+use Rattle.morris_pairs.specs.Codes.{code_to}
+use Rattle.morris_pairs.specs.Rows.{may_close, is_closing_end}
+
+-- the points at which a stone of `own` may close a mill where the opponent stands on `other`
+unfoldable pub open_ends : Shape → ℕ → ℕ → ℕ
+open_ends board own other = set_where board.points (λ v. may_close board own v && not (has other v))
+
+-- the stones of `own` that close a mill by going to v, where v is vacant
+unfoldable pub closers_at : Shape → ℕ → ℕ → ℕ
+closers_at board own v = set_where board.points (λ u. has own u && is_closing_end board own u v)
+
+-- The codes of what those captures lead to that leave the opponent `left`: one for each point that
+-- is free of `left` and for each stone of `own` that closes a mill by going there. The stone that is
+-- taken isn't asked for. It is to stand where no move closes a mill, and so in the way of none.
+unfoldable pub codes_left : Shape → ℕ → ℕ → List ℕ
+codes_left board own left =
+    flat_map (λ v. map (λ u. code_to 65534 board (sides left (moved own u v))) (members (closers_at board own v))) (members (open_ends board own left))
+
+-- what a slot has is the summary of the captures by `own` that leave its stones; without stones it
+-- is empty
+abbrev pub IsKept : Shape → ℕ → Slot → Type 0
+IsKept board own slot = 0 < slot.left → slot.results ≡ exits_of (codes_left board own slot.left)
+
+-- each slot has what it is to have, for the own stones whose captures are kept
+abbrev pub AreKept : Shape → KeptCaptures → Type 0
+AreKept board kept = All (IsKept board kept.own) kept.slots

@@ -1,0 +1,36 @@
+-- What the moves of the stones of one player are, by the numbers of the points that they leave
+-- free.
+use Rattle.std.specs.Prelude.{◌≡◌, ℕ, ◌+◌, ◌*◌, ◌%◌, ◌<◌, Bool, false, if◌then◌else◌}
+use Rattle.morris_board.specs.Sets.{has}
+use Rattle.morris_board.specs.Boards.{Shape}
+use Rattle.morris_board.specs.Positions.{Sides, IsPosition}
+use Rattle.morris_index.specs.Numbering.{number_outside}
+use Rattle.morris_index.specs.Parts.{squeezed_below}
+use Rattle.morris_pairs.specs.declared.numbered_row.NumberedRow.{NumberedRow}
+use Rattle.morris_pairs.specs.declared.numbered_row.SmallCounts.{SmallCounts}
+use Rattle.morris_pairs.specs.Rows.{arrivals, IsRow}
+
+-- a binary digit as a number
+abbrev pub digit : Bool → ℕ
+digit b = if b then 1 else 0
+
+-- the count of the number v, from its four binary digits
+unfoldable pub count_at : SmallCounts → ℕ → ℕ
+count_at counts v = digit (has counts.ones v) + 2 * digit (has counts.twos v) + 4 * digit (has counts.fours v) + 8 * digit (has counts.eights v)
+
+-- What is kept of the own stones: what is kept by points, and the same by the numbers of the points
+-- that they leave free. Of the arrivals at a point only what is over whole sixteens is kept: a player
+-- has at most nine stones, so that is all of them.
+pub record IsNumbered (board : Shape) (n : ℕ) (kept : NumberedRow) : Type 0 where
+  pub row : IsRow board n kept.row
+  pub each : (v : ℕ) → v < n → has kept.row.own v ≡ false
+      → count_at kept.arrivals (number_outside kept.row.own v) ≡ arrivals board kept.row.own v % 16
+  pub closing : (v : ℕ) → v < n → has kept.row.own v ≡ false
+      → has kept.closing (number_outside kept.row.own v) ≡ has kept.row.closing v
+
+-- s is a position in which the player to move has these stones, and the opponent those with the
+-- numbers in the list.
+pub record AreNumbers (board : Shape) (n stones list : ℕ) (s : Sides) : Type 0 where
+  pub lawful : IsPosition board s
+  pub own : s.own ≡ stones
+  pub numbers : list ≡ squeezed_below stones s.other n

@@ -1,0 +1,242 @@
+//! Which entries of a table agree with the entries that their moves lead to.
+ghost use Rattle.std.specs.Prelude.{◌≡◌, ℕ, ◌+◌, ◌<◌, ◌≤◌, ◌↔◌, ◌&&◌, true, not, None, slice_index, IfSome, IsTrue, MatchOption};
+ghost use Rattle.std.specs.List.{Contains};
+ghost use Rattle.morris_board.specs.Sets.{has};
+ghost use Rattle.morris_board.specs.Positions.{IsPosition};
+ghost use Rattle.morris_moves.specs.Rules.{closes, move, moves_from, moves_of, reach, result_of};
+ghost use Rattle.morris_index.specs.Pairs.{is_of};
+ghost use Rattle.morris_wave.specs.Exits.{exits_of, exits_lost};
+ghost use Rattle.morris_index.specs.Moves.{in_pair};
+ghost use Rattle.morris_pairs.specs.Entries.{entry_count, entry_index, has_own_entry};
+ghost use Rattle.morris_pairs.specs.Numberings.{layout_of, pair_of, layout_after, position_before};
+ghost use Rattle.morris_pairs.specs.PairNets.{capture_codes};
+ghost use Rattle.morris_pairs.specs.QuietEnds.{AreEnds};
+ghost use Rattle.morris_pairs.specs.Raws.{IsRaw};
+ghost use Rattle.morris_pairs.specs.Rows.{IsRow};
+ghost use Rattle.morris_pairs.specs.Worths.{best_of, code_of_worth};
+ghost use Rattle.morris_pairs.specs.Agreement.{code_from, result_codes, quiet_codes, Agrees, IsFirstIn, IsFirstToDiffer};
+
+use crate::graph::PairGraph;
+use crate::numbering::{Numbering, Successors};
+use crate::quiet_ends::QuietEnds;
+use crate::raw::Raw;
+use crate::rows::{Row, advance};
+use crate::worths::{code_of_worth, worth, worth_of};
+use morris_board::board::Geometry;
+use morris_board::points::Points;
+use morris_board::position::Position;
+use morris_wave::Exits;
+
+/// The entry of the position that a quiet move leads to.
+fn entry_after<B: Geometry>(
+    raw: &Raw<B>,
+    successors: &Successors<'_, B>,
+    position: &Position<B>,
+    from: u8,
+    to: u8,
+) -> u64
+    requires layout { layout_after successors.now ≡ raw.now.layout }
+    requires position { position_before successors.now ≡ in_pair raw.now.pair position.now }
+    requires counts { is_of raw.now.pair position.now ≡ true }
+    requires listed { Contains (moves_of B.shape position.now) (move from to None) }
+    ensures entry { result ≡ entry_index B.shape B.POINTS raw.now.layout raw.now.pair (result_of position.now (move from to None)) }
+    ensures inside { result < entry_count B.shape B.POINTS raw.now.layout raw.now.pair }
+{
+    // The proof learns here that the stones are those of a position, and the table's those of a
+    // pair.
+    let _ = position.own();
+    let _ = raw.pair();
+    successors.entry(from, to)
+}
+
+/// What the best result is worth of some whose best is worth `known` and those of the quiet moves
+/// of the stone on `from` to `ends`, as the table states them.
+fn best_from<B: Geometry>(
+    raw: &Raw<B>,
+    successors: &Successors<'_, B>,
+    position: &Position<B>,
+    from: u8,
+    ends: Points,
+    known: u32,
+) -> u32
+    requires counts { is_of raw.now.pair position.now ≡ true }
+    requires layout { layout_after successors.now ≡ raw.now.layout }
+    requires position { position_before successors.now ≡ in_pair raw.now.pair position.now }
+    requires start { has position.now.own from ≡ true }
+    requires inside { from < B.POINTS }
+    requires ends { (v : ℕ) → has ends v ≡ (has (reach B.shape position.now from) v && not (closes B.shape position.now.own from v)) }
+    ensures { result ≡ best_of known (quiet_codes B.shape raw.now position.now (moves_from B.shape position.now from)) }
+{
+    // The proof learns the rules of a position where its stones are read.
+    let _ = position.own();
+    let mut best = known;
+    for to in ends.iter() {
+        best = best.max(worth(raw.code(entry_after(raw, successors, position, from, to))));
+    }
+    best
+}
+
+/// Whether some capture leaves the opponent lost at once.
+fn wins_at_once(captures: Exits) -> bool
+    ensures { result ≡ exits_lost 1 captures }
+{
+    matches!(captures.least_lost, Some(depth) if depth < 1)
+}
+
+/// What the best result of a position is worth, from the summary of its captures and the stated
+/// codes of the others.
+fn best_after<B: Geometry>(
+    raw: &Raw<B>,
+    successors: &Successors<'_, B>,
+    position: &Position<B>,
+    ends: &QuietEnds,
+    captures: Exits,
+) -> u32
+    requires counts { is_of raw.now.pair position.now ≡ true }
+    requires layout { layout_after successors.now ≡ raw.now.layout }
+    requires position { position_before successors.now ≡ in_pair raw.now.pair position.now }
+    requires own { ends.now.own ≡ position.now.own }
+    requires ends { AreEnds B.shape B.POINTS ends.now }
+    requires captures { captures ≡ exits_of (capture_codes B.shape position.now) }
+    ensures { code_of_worth result ≡ code_from (result_codes B.shape raw.now position.now) }
+{
+    // The proof learns here that codes have 16 bits.
+    let _ = raw.pair();
+    let mut best = worth_of(captures);
+    for from in position.own().iter() {
+        best = best_from(
+            raw,
+            successors,
+            position,
+            from,
+            ends.from(position, from),
+            best,
+        );
+    }
+    best
+}
+
+/// What the captures of a position are worth that wins at once by one of them. Then the other
+/// results are left out, since none can do better.
+fn best_at_once<B: Geometry>(raw: &Raw<B>, position: &Position<B>, captures: Exits) -> Option<u32>
+    requires { captures ≡ exits_of (capture_codes B.shape position.now) }
+    ensures { IfSome result (λ best. code_of_worth best ≡ code_from (result_codes B.shape raw.now position.now)) }
+{
+    if wins_at_once(captures) {
+        Some(worth_of(captures))
+    } else {
+        None
+    }
+}
+
+/// What the best result of a position is worth, from the summary of its captures and the stated
+/// codes of the others.
+fn best_result<B: Geometry>(
+    raw: &Raw<B>,
+    position: &Position<B>,
+    ends: &QuietEnds,
+    captures: Exits,
+) -> u32
+    requires counts { is_of raw.now.pair position.now ≡ true }
+    requires own { ends.now.own ≡ position.now.own }
+    requires ends { AreEnds B.shape B.POINTS ends.now }
+    requires captures { captures ≡ exits_of (capture_codes B.shape position.now) }
+    ensures { code_of_worth result ≡ code_from (result_codes B.shape raw.now position.now) }
+{
+    if let Some(best) = best_at_once(raw, position, captures) {
+        return best;
+    }
+    let successors = Successors::of(raw.numbering(), position);
+    best_after(raw, &successors, position, ends, captures)
+}
+
+/// Whether `code`, which the table states for a position that has an entry for its own, agrees,
+/// where what the entries after the position need is kept.
+pub(crate) fn agrees_after<B: Geometry>(
+    raw: &Raw<B>,
+    code: u16,
+    successors: &Successors<'_, B>,
+    position: &Position<B>,
+    ends: &QuietEnds,
+    captures: Exits,
+) -> bool
+    requires code { code ≡ slice_index raw.now.codes (entry_index B.shape B.POINTS raw.now.layout raw.now.pair position.now) }
+    requires counts { is_of raw.now.pair position.now ≡ true }
+    requires lawful { IsPosition B.shape position.now }
+    requires own { has_own_entry B.shape raw.now.layout position.now ≡ true }
+    requires layout { layout_after successors.now ≡ raw.now.layout }
+    requires position { position_before successors.now ≡ in_pair raw.now.pair position.now }
+    requires stones { ends.now.own ≡ position.now.own }
+    requires ends { AreEnds B.shape B.POINTS ends.now }
+    requires captures { captures ≡ exits_of (capture_codes B.shape position.now) }
+    ensures { IsTrue result ↔ Agrees B.shape raw.now (entry_index B.shape B.POINTS raw.now.layout raw.now.pair position.now) }
+{
+    let _ = raw.pair();
+    let best = match best_at_once(raw, position, captures) {
+        Some(best) => best,
+        None => best_after(raw, successors, position, ends, captures),
+    };
+    u32::from(code) == code_of_worth(best)
+}
+
+/// Whether the entry `index` of the table agrees, which `position` has for its own.
+pub(crate) fn agrees<B: Geometry>(
+    raw: &Raw<B>,
+    index: u64,
+    position: &Position<B>,
+    ends: &QuietEnds,
+    captures: Exits,
+) -> bool
+    requires inside { index < entry_count B.shape B.POINTS raw.now.layout raw.now.pair }
+    requires counts { is_of raw.now.pair position.now ≡ true }
+    requires lawful { IsPosition B.shape position.now }
+    requires own { has_own_entry B.shape raw.now.layout position.now ≡ true }
+    requires at { entry_index B.shape B.POINTS raw.now.layout raw.now.pair position.now ≡ index }
+    requires stones { ends.now.own ≡ position.now.own }
+    requires ends { AreEnds B.shape B.POINTS ends.now }
+    requires captures { captures ≡ exits_of (capture_codes B.shape position.now) }
+    ensures { IsTrue result ↔ Agrees B.shape raw.now index }
+{
+    let _ = raw.pair();
+    let best = best_result(raw, position, ends, captures);
+    u32::from(raw.code(index)) == code_of_worth(best)
+}
+
+/// The first entry that doesn't agree of those from `first` up to, not including, `end`.
+pub(crate) fn first_in<B: Geometry>(
+    graph: &PairGraph<B>,
+    raw: &Raw<B>,
+    first: u64,
+    end: u64,
+) -> Option<u64>
+    requires pair { graph.now ≡ raw.now.pair }
+    requires inside { end ≤ entry_count B.shape B.POINTS raw.now.layout raw.now.pair }
+    ensures { MatchOption result ((k : ℕ) → first ≤ k → k < end → Agrees B.shape raw.now k) (IsFirstIn B.shape raw.now first end) }
+{
+    if first >= end {
+        return None;
+    }
+    let numbering = raw.numbering();
+    let mut position = numbering.position(first);
+    let mut row = Row::of::<B>(position.own());
+    let mut ends = QuietEnds::of::<B>(position.own());
+    for index in first..end {
+        let captures = graph.exits_by_row(&row, &position);
+        if !agrees(raw, index, &position, &ends, captures) {
+            return Some(index);
+        }
+        if index + 1 < end {
+            advance(numbering, &mut position, &mut row, index + 1);
+            ends.follow(&position);
+        }
+    }
+    None
+}
+
+/// The first entry that doesn't agree.
+pub(crate) fn first_to_differ<B: Geometry>(graph: &PairGraph<B>, raw: &Raw<B>) -> Option<u64>
+    requires { graph.now ≡ raw.now.pair }
+    ensures { MatchOption result ((k : ℕ) → k < entry_count B.shape B.POINTS raw.now.layout raw.now.pair → Agrees B.shape raw.now k) (IsFirstToDiffer B.shape raw.now) }
+{
+    first_in(graph, raw, 0, raw.len())
+}

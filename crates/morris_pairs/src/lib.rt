@@ -1,0 +1,32 @@
+//! The positions of a pair as entries of a table and as nodes of a graph: exact tables, their files,
+//! shelves of them, what a table is verified by, and a plain way to make one on one thread.
+#![tactic(auto)]
+
+mod agreeing;
+mod backward;
+pub mod build_fault;
+mod by_result;
+pub mod class_graph;
+pub mod exact;
+pub mod file_faults;
+pub mod graph;
+pub mod header;
+mod kept_captures;
+pub mod layout;
+pub mod levels;
+mod numbered_row;
+mod numbering;
+mod quiet_ends;
+pub mod raw;
+pub mod reading;
+mod rounds;
+mod row_reading;
+mod rows;
+mod sharing;
+pub mod shelf;
+pub mod stock;
+pub mod sweeping;
+pub mod value;
+pub mod verify;
+mod worths;
+pub mod writing;

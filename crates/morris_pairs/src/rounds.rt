@@ -1,0 +1,153 @@
+//! The entries of a table gone through round by round, so that it is told how far that is.
+ghost use Rattle.std.specs.Prelude.{◌≡◌, ℕ, ◌<◌, ◌≤◌, true, IfOk, MatchOption};
+ghost use Rattle.std.specs.Int.{div_ceil};
+ghost use Rattle.morris_pairs.specs.Agreement.{Agrees, IsFirstToDiffer};
+ghost use Rattle.morris_pairs.specs.Entries.{entry_count};
+ghost use Rattle.morris_pairs.specs.Faces.{FacesAgree};
+
+use crate::by_result::OwnSets;
+use crate::graph::PairGraph;
+use crate::layout::Layout;
+use crate::numbering::Numbering;
+use crate::raw::Raw;
+use crate::sharing::{Claim, Faces};
+use morris_board::board::{Board, Geometry};
+use morris_index::class_pair::ClassPair;
+use morris_wave::Watch;
+use std::alloc::{AllocError, Global};
+use std::thread::Threads;
+
+/// How many entries a round has, after which it is told how many are done: a multiple of
+/// [`STRETCH`](crate::sharing::STRETCH), and so many that it doesn't matter that the workers wait
+/// for one another at its end.
+const ROUND: u64 = 4_194_304;
+
+/// In how many rounds the entries of a table are gone through.
+fn round_count<B: Geometry>(raw: &Raw<B>) -> u64
+    ensures count { result ≡ div_ceil (entry_count B.shape B.POINTS raw.now.layout raw.now.pair) 4194304 }
+    // The caller's proof learns here that the board has as many points as its shape says.
+    ensures points { B.shape.points ≡ B.POINTS }
+{
+    raw.len().div_ceil(ROUND)
+}
+
+impl<B: Board, R: Threads + Sync> Faces<'_, B, R> {
+    /// Whether the entries of all positions are known to agree that face some.
+    ///
+    /// # Errors
+    /// [`AllocError`] where memory is refused.
+    fn rounds_agree<W: Watch>(&self, watch: &mut W) -> Result<bool, AllocError>
+        ensures agree { IfOk result (λ yes. yes ≡ true → (k : ℕ) → k < entry_count B.shape B.POINTS self.now.claim.now.raw.now.layout self.now.claim.now.raw.now.pair
+            → FacesAgree B.shape self.now.claim.now.raw.now k) }
+        ensures watched { W.becomes watch.old watch.new }
+    {
+        let raw = self.claim.raw;
+        let count = raw.len();
+        for round in 0..round_count(raw) {
+            let first = round * ROUND;
+            let end = first + ROUND.min(count - first);
+            if !self.agree_shared(first, end)? {
+                return Ok(false);
+            }
+            watch.entries(end);
+        }
+        Ok(true)
+    }
+}
+
+/// Whether all entries are known to agree, by what is known of those of all positions that face
+/// one: they are all entries.
+fn all_agree<B: Geometry>(raw: &Raw<B>, faces: Result<bool, AllocError>) -> bool
+    requires layout { raw.now.layout ≡ Layout.Classes }
+    requires faces { IfOk faces (λ yes. yes ≡ true → (k : ℕ) → k < entry_count B.shape B.POINTS raw.now.layout raw.now.pair → FacesAgree B.shape raw.now k) }
+    ensures { result ≡ true → (k : ℕ) → k < entry_count B.shape B.POINTS raw.now.layout raw.now.pair → Agrees B.shape raw.now k }
+{
+    // The proof learns here that the numbers of stones are those of a pair.
+    let _ = raw.pair();
+    match faces {
+        Ok(agree) => agree,
+        Err(_) => false,
+    }
+}
+
+impl<B: Board, R: Threads + Sync> Claim<'_, B, R> {
+    /// The first entry that doesn't agree.
+    fn first_of_rounds<W: Watch>(&self, watch: &mut W) -> Option<u64>
+        ensures first { MatchOption result ((k : ℕ) → k < entry_count B.shape B.POINTS self.now.raw.now.layout self.now.raw.now.pair → Agrees B.shape self.now.raw.now k) (IsFirstToDiffer B.shape self.now.raw.now) }
+        ensures watched { W.becomes watch.old watch.new }
+    {
+        let count = self.raw.len();
+        for round in 0..round_count(self.raw) {
+            let first = round * ROUND;
+            let end = first + ROUND.min(count - first);
+            if let Some(index) = self.first_shared(first, end) {
+                return Some(index);
+            }
+            watch.entries(end);
+        }
+        None
+    }
+
+    /// Whether the entries of all positions are known to agree that face one.
+    ///
+    /// # Errors
+    /// [`AllocError`] where memory is refused.
+    fn faces_agree<W: Watch>(
+        &self,
+        classes: &ClassPair<B>,
+        watch: &mut W,
+    ) -> Result<bool, AllocError>
+        requires classes { classes.now ≡ self.now.raw.now.pair }
+        requires layout { self.now.raw.now.layout ≡ Layout.Classes }
+        ensures faces { IfOk result (λ yes. yes ≡ true → (k : ℕ) → k < entry_count B.shape B.POINTS self.now.raw.now.layout self.now.raw.now.pair → FacesAgree B.shape self.now.raw.now k) }
+        ensures watched { W.becomes watch.old watch.new }
+    {
+        let sets = OwnSets::make(self.alloc, self.raw.pair())?;
+        let faces = Faces {
+            claim: self,
+            classes,
+            sets: &sets,
+        };
+        faces.rounds_agree(watch)
+    }
+
+    /// Whether all entries are known to agree. It isn't asked where they aren't those of classes.
+    fn are_known<W: Watch>(&self, watch: &mut W) -> bool
+        ensures agree { result ≡ true → (k : ℕ) → k < entry_count B.shape B.POINTS self.now.raw.now.layout self.now.raw.now.pair → Agrees B.shape self.now.raw.now k }
+        ensures watched { W.becomes watch.old watch.new }
+    {
+        match self.raw.numbering() {
+            Numbering::Full(_) => false,
+            Numbering::Classes(classes) => all_agree(self.raw, self.faces_agree(classes, watch)),
+        }
+    }
+}
+
+/// The first entry that doesn't agree, by so many workers. The watch is told after each round how
+/// many entries are done, from the first one on where the entries have to be gone through a second
+/// time. Where memory is refused, the caller goes through all entries.
+pub(crate) fn first_by<B: Board, R: Threads + Sync, W: Watch>(
+    rt: &R,
+    alloc: Global,
+    graph: &PairGraph<B>,
+    raw: &Raw<B>,
+    workers: usize,
+    watch: &mut W,
+) -> Option<u64>
+    requires pair { graph.now ≡ raw.now.pair }
+    requires workers { (1 ≤ workers) × (workers ≤ 64) }
+    ensures first { MatchOption result ((k : ℕ) → k < entry_count B.shape B.POINTS raw.now.layout raw.now.pair → Agrees B.shape raw.now k) (IsFirstToDiffer B.shape raw.now) }
+    ensures watched { W.becomes watch.old watch.new }
+{
+    let claim = Claim {
+        rt,
+        alloc,
+        workers,
+        graph,
+        raw,
+    };
+    if claim.are_known(watch) {
+        return None;
+    }
+    claim.first_of_rounds(watch)
+}

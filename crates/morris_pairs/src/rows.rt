@@ -1,0 +1,167 @@
+//! What the moves of the stones of one player are, whatever the opponent has.
+ghost use Rattle.std.specs.Prelude.{◌≡◌, ℕ, ◌+◌, ◌<◌, ◌^◌, ◌&&◌, true, false, length, filter};
+ghost use Rattle.morris_board.specs.Sets.{has, count_of, is_within};
+ghost use Rattle.morris_moves.specs.Rules.{closes, goes, moved, moves_of};
+ghost use Rattle.morris_index.specs.Pairs.{is_of};
+ghost use Rattle.morris_board.specs.Positions.{IsPosition};
+ghost use Rattle.morris_pairs.specs.Entries.{entry_count, entry_index, has_own_entry};
+ghost use Rattle.morris_pairs.specs.Numberings.{layout_of, pair_of};
+ghost use Rattle.morris_pairs.specs.PairNets.{is_quiet};
+ghost use Rattle.morris_pairs.specs.QuietEnds.{is_quiet_end};
+ghost use Rattle.morris_pairs.specs.Rows.{is_closing_end, IsRow};
+
+use crate::numbering::Numbering;
+use morris_board::board::Geometry;
+use morris_board::points::Points;
+use morris_board::position::Position;
+
+/// What is kept of the stones of one player.
+#[derive(Clone, Copy, Debug)]
+pub(crate) struct Row {
+    /// The stones.
+    pub(crate) own: Points,
+    /// For each point, how many of them may come there by a quiet move, where it is vacant.
+    pub(crate) arrivals: [u16; 24],
+    /// All of these together.
+    pub(crate) all: u16,
+    /// For each point, the mask of those that close a mill by going there, where it is vacant.
+    pub(crate) closers: [u32; 24],
+    /// The points at which a move closes a mill, where they are vacant.
+    pub(crate) closing: Points,
+}
+
+/// The stones that may come to `to`, where that is vacant.
+fn comers<B: Geometry>(own: Points, to: u8) -> Points
+    requires within { own < 2 ^ B.POINTS }
+    requires end { to < B.POINTS }
+    ensures { (u : ℕ) → has result u ≡ (has own u && goes B.shape (count_of own) u to) }
+{
+    let stones = own.count();
+    if 3 < stones {
+        own.common(B::neighbours(to))
+    } else if stones == 3 {
+        own
+    } else {
+        Points::EMPTY
+    }
+}
+
+/// The stones that fill `mill` by going to `to`, where none of them stands: those that aren't in
+/// it, where no other point of it is missing.
+fn fillers(own: Points, to: u8, mill: Points) -> Points
+    requires end { to < 32 }
+    requires free { has own to ≡ false }
+    ensures { (u : ℕ) → has result u ≡ (has own u && is_within mill (moved own u to)) }
+{
+    if mill.is_within(own.with(to)) {
+        own.less(mill)
+    } else {
+        Points::EMPTY
+    }
+}
+
+/// The stones that close a mill by going to `to`, where none of them stands.
+fn closers<B: Geometry>(own: Points, to: u8) -> Points
+    requires end { to < B.POINTS }
+    requires free { has own to ≡ false }
+    ensures { (u : ℕ) → has result u ≡ (has own u && closes B.shape own u to) }
+{
+    let (first, second) = B::mills_through(to);
+    fillers(own, to, first).joined(fillers(own, to, second))
+}
+
+/// The stones that may come to `to`, where that is vacant: those whose move is quiet, and those
+/// whose move closes a mill.
+fn arriving<B: Geometry>(own: Points, to: u8) -> (Points, Points)
+    requires within { own < 2 ^ B.POINTS }
+    requires end { to < B.POINTS }
+    ensures quiet { (u : ℕ) → has result.0 u ≡ (has own u && is_quiet_end B.shape own u to) }
+    ensures closing { (u : ℕ) → has result.1 u ≡ (has own u && is_closing_end B.shape own u to) }
+{
+    if own.has(to) {
+        return (Points::EMPTY, Points::EMPTY);
+    }
+    let comers = comers::<B>(own, to);
+    let closers = closers::<B>(own, to);
+    (comers.less(closers), comers.common(closers))
+}
+
+impl Row {
+    /// What is to be kept of these stones.
+    pub(crate) fn of<B: Geometry>(own: Points) -> Row
+        requires { own < 2 ^ B.POINTS }
+        ensures own { result.own ≡ own }
+        ensures row { IsRow B.shape B.POINTS result }
+    {
+        let mut arrivals = [0; 24];
+        let mut all = 0;
+        let mut closers = [0; 24];
+        let mut closing = Points::EMPTY;
+        for to in 0..B::POINTS {
+            let (quiet, shutting) = arriving::<B>(own, to);
+            let count = u16::from(quiet.count());
+            arrivals[to as usize] = count;
+            all += count;
+            closers[to as usize] = shutting.mask();
+            if shutting != Points::EMPTY {
+                closing = closing.with(to);
+            }
+        }
+        Row {
+            own,
+            arrivals,
+            all,
+            closers,
+            closing,
+        }
+    }
+
+    /// How many of the legal moves of a position with these own stones are quiet.
+    pub(crate) fn quiet_moves<B: Geometry>(&self, position: &Position<B>) -> u16
+        requires own { self.now.own ≡ position.now.own }
+        requires row { IsRow B.shape B.POINTS self.now }
+        ensures { result ≡ length (filter is_quiet (moves_of B.shape position.now)) }
+    {
+        let mut gone = 0;
+        for to in position.other().iter() {
+            gone += self.arrivals[to as usize];
+        }
+        self.all - gone
+    }
+
+    /// Goes on to what is kept of the own stones of a position, where they are others.
+    pub(crate) fn follow<B: Geometry>(&mut self, position: &Position<B>)
+        requires { IsRow B.shape B.POINTS self.old }
+        ensures row { IsRow B.shape B.POINTS self.new }
+        ensures own { self.new.own ≡ position.now.own }
+    {
+        let own = position.own();
+        if own != self.own {
+            *self = Row::of::<B>(own);
+        }
+    }
+}
+
+/// Goes on to the position that has the next entry for its own, and to what is kept of its own
+/// stones.
+pub(crate) fn advance<B: Geometry>(
+    numbering: &Numbering<B>,
+    position: &mut Position<B>,
+    row: &mut Row,
+    index: u64,
+)
+    requires counts { is_of (pair_of numbering.now) position.old ≡ true }
+    requires own { has_own_entry B.shape (layout_of numbering.now) position.old ≡ true }
+    requires before { entry_index B.shape B.POINTS (layout_of numbering.now) (pair_of numbering.now) position.old + 1 ≡ index }
+    requires inside { index < entry_count B.shape B.POINTS (layout_of numbering.now) (pair_of numbering.now) }
+    requires row { IsRow B.shape B.POINTS row.old }
+    ensures entry { entry_index B.shape B.POINTS (layout_of numbering.now) (pair_of numbering.now) position.new ≡ index }
+    ensures counts { is_of (pair_of numbering.now) position.new ≡ true }
+    ensures lawful { IsPosition B.shape position.new }
+    ensures own_entry { has_own_entry B.shape (layout_of numbering.now) position.new ≡ true }
+    ensures row { IsRow B.shape B.POINTS row.new }
+    ensures own { row.new.own ≡ position.new.own }
+{
+    *position = numbering.following(position, index);
+    row.follow(position);
+}

@@ -1,0 +1,241 @@
+//! Entries of a table shared out among workers, to find the first that doesn't agree.
+ghost use Rattle.std.specs.Prelude.{◌≡◌, ℕ, ◌%◌, ◌<◌, ◌≤◌, true, slice_index_or, vec_len, Ok, IfOk, MatchOption};
+ghost use Rattle.std.specs.List.{All};
+ghost use Rattle.morris_pairs.specs.Agreement.{Agrees, IsFirstIn};
+ghost use Rattle.morris_pairs.specs.Entries.{entry_count};
+ghost use Rattle.morris_pairs.specs.Faces.{FacesAgree};
+ghost use Rattle.morris_pairs.specs.Sharing.{IsLeastOf, IsOfShare, ShareAgrees};
+ghost use Rattle.morris_pairs.specs.declared.layout.Layout.TheVariants.{Classes};
+
+use crate::agreeing::first_in;
+use crate::by_result::{Lists, OwnSets};
+use crate::graph::PairGraph;
+use crate::raw::Raw;
+use morris_board::board::{Board, Geometry};
+use morris_index::class_pair::ClassPair;
+use std::alloc::{AllocError, Global};
+use std::thread;
+use std::thread::Threads;
+
+/// How many entries a stretch has. The workers take the stretches in turn, since an entry of one
+/// half of a pair may take several times as long as one of the other.
+pub(crate) const STRETCH: u64 = 4096;
+
+/// A table that is verified, and who verifies it.
+pub(crate) struct Claim<'a, B: Geometry, R> {
+    /// What starts the threads.
+    pub(crate) rt: &'a R,
+    /// From where memory is taken.
+    pub(crate) alloc: Global,
+    /// How many workers there are.
+    pub(crate) workers: usize,
+    /// The graph of the table's pair.
+    pub(crate) graph: &'a PairGraph<'a, B>,
+    /// The table.
+    pub(crate) raw: &'a Raw<B>,
+    ghost pair: { graph.now ≡ raw.now.pair },
+    ghost range: { (1 ≤ workers) × (workers ≤ 64) },
+}
+
+impl<B: Geometry, R> Drop for Claim<'_, B, R> {
+    fn drop(self) {
+        let Claim {
+            rt: _,
+            alloc: _,
+            workers: _,
+            graph: _,
+            raw: _,
+        } = self;
+    }
+}
+
+/// A table by classes that is verified by the positions that face those of its entries.
+pub(crate) struct Faces<'a, B: Geometry, R> {
+    /// The table, and who verifies it.
+    pub(crate) claim: &'a Claim<'a, B, R>,
+    /// How its entries are numbered.
+    pub(crate) classes: &'a ClassPair<B>,
+    /// What is kept of the sets of both numbers of stones.
+    pub(crate) sets: &'a OwnSets<B>,
+    ghost numbered: { classes.now ≡ claim.now.raw.now.pair },
+    ghost layout: { claim.now.raw.now.layout ≡ Classes },
+}
+
+impl<B: Geometry, R> Drop for Faces<'_, B, R> {
+    fn drop(self) {
+        let Faces {
+            claim: _,
+            classes: _,
+            sets: _,
+        } = self;
+    }
+}
+
+/// The least of these numbers.
+fn least_of(found: &[Option<u64>]) -> Option<u64>
+    ensures { IsLeastOf found.now result }
+{
+    let mut least: Option<u64> = None;
+    for place in 0..found.len() {
+        if let Some(index) = found[place] {
+            least = match least {
+                Some(known) => Some(known.min(index)),
+                None => Some(index),
+            };
+        }
+    }
+    least
+}
+
+impl<B: Geometry, R> Claim<'_, B, R> {
+    /// The first entry that doesn't agree of one worker's stretches among the entries from `first`,
+    /// a multiple of [`STRETCH`], up to, not including, `end`: the stretches whose numbers leave
+    /// the worker's when they are divided by how many workers there are.
+    fn first_of_share(&self, first: u64, end: u64, worker: u64) -> Option<u64>
+        requires whole { first % 4096 ≡ 0 }
+        requires inside { end ≤ entry_count B.shape B.POINTS self.now.raw.now.layout self.now.raw.now.pair }
+        requires worker { worker < self.now.workers }
+        ensures { IsOfShare B.shape self.now.raw.now first end self.now.workers worker result }
+    {
+        let workers = self.workers as u64;
+        for stretch in first / STRETCH..end.div_ceil(STRETCH) {
+            if stretch % workers == worker {
+                let start = stretch * STRETCH;
+                let stop = start + STRETCH.min(end - start);
+                if let Some(index) = first_in(self.graph, self.raw, start, stop) {
+                    return Some(index);
+                }
+            }
+        }
+        None
+    }
+}
+
+impl<B: Board, R: Threads + Sync> Claim<'_, B, R> {
+    /// What each worker finds among the entries from `first` up to, not including, `end`.
+    ///
+    /// # Errors
+    /// [`AllocError`] where memory is refused. Where a thread is, the caller's own does its work.
+    fn shares_of(&self, first: u64, end: u64) -> Result<Vec<Option<u64>>, AllocError>
+        requires whole { first % 4096 ≡ 0 }
+        requires inside { end ≤ entry_count B.shape B.POINTS self.now.raw.now.layout self.now.raw.now.pair }
+        ensures len { IfOk result (λ found. vec_len found ≡ self.now.workers) }
+        ensures each { IfOk result (λ found. (w : ℕ) (d : _) → w < self.now.workers
+            → IsOfShare B.shape self.now.raw.now first end self.now.workers w (slice_index_or found.items w d)) }
+    {
+        thread::map_indices(
+            self.rt,
+            self.alloc,
+            self.workers,
+            &|worker| -> Option<u64>
+                requires { (first % 4096 ≡ 0) × (end ≤ entry_count B.shape B.POINTS self.now.raw.now.layout self.now.raw.now.pair) × (worker < self.now.workers) }
+                ensures { IsOfShare B.shape self.entry.now.raw.now first end self.entry.now.workers worker result }
+            { self.first_of_share(first, end, worker as u64) },
+        )
+    }
+
+    /// The first entry that doesn't agree of those from `first`, a multiple of [`STRETCH`], up to,
+    /// not including, `end`. Where memory is refused, the caller goes through them.
+    pub(crate) fn first_shared(&self, first: u64, end: u64) -> Option<u64>
+        requires whole { first % 4096 ≡ 0 }
+        requires inside { end ≤ entry_count B.shape B.POINTS self.now.raw.now.layout self.now.raw.now.pair }
+        ensures { MatchOption result ((k : ℕ) → first ≤ k → k < end → Agrees B.shape self.now.raw.now k) (IsFirstIn B.shape self.now.raw.now first end) }
+    {
+        match self.shares_of(first, end) {
+            Ok(found) => least_of(&found),
+            Err(_) => first_in(self.graph, self.raw, first, end),
+        }
+    }
+}
+
+/// Whether each worker knows that the entries agree of which it asked.
+fn all_true(found: &[Result<bool, AllocError>]) -> bool
+    ensures { result ≡ true → All (λ r. r ≡ Ok true) found.now }
+{
+    for each in found {
+        let known = match each {
+            Ok(known) => *known,
+            Err(_) => false,
+        };
+        if !known {
+            return false;
+        }
+    }
+    true
+}
+
+impl<B: Geometry, R> Faces<'_, B, R> {
+    /// Whether the entries of all positions are known to agree that face those of one worker's
+    /// entries: its stretches are those of [`first_of_share`](Claim::first_of_share).
+    ///
+    /// # Errors
+    /// [`AllocError`] where memory is refused.
+    fn share_agrees(&self, first: u64, end: u64, worker: u64) -> Result<bool, AllocError>
+        requires inside { end ≤ entry_count B.shape B.POINTS self.now.claim.now.raw.now.layout self.now.claim.now.raw.now.pair }
+        requires worker { worker < self.now.claim.now.workers }
+        ensures { IfOk result (λ yes. yes ≡ true → ShareAgrees B.shape self.now.claim.now.raw.now first end self.now.claim.now.workers worker) }
+    {
+        let claim = self.claim;
+        let workers = claim.workers as u64;
+        let mut lists = Lists::new(claim.alloc);
+        let stretches = end.div_ceil(STRETCH);
+        for stretch in first / STRETCH..stretches {
+            if stretch % workers == worker {
+                let start = stretch * STRETCH;
+                let stop = start + STRETCH.min(end - start);
+                if !lists.faces_agree(
+                    self.sets,
+                    self.classes,
+                    claim.graph,
+                    claim.raw,
+                    start,
+                    stop,
+                )? {
+                    return Ok(false);
+                }
+            }
+        }
+        Ok(true)
+    }
+}
+
+impl<B: Board, R: Threads + Sync> Faces<'_, B, R> {
+    /// What each worker knows of its share of the entries from `first` up to, not including, `end`.
+    ///
+    /// # Errors
+    /// [`AllocError`] where memory is refused. Where a thread is, the caller's own does its work.
+    fn known_shares(
+        &self,
+        first: u64,
+        end: u64,
+    ) -> Result<Vec<Result<bool, AllocError>>, AllocError>
+        requires inside { end ≤ entry_count B.shape B.POINTS self.now.claim.now.raw.now.layout self.now.claim.now.raw.now.pair }
+        ensures len { IfOk result (λ known. vec_len known ≡ self.now.claim.now.workers) }
+        ensures each { IfOk result (λ known. (w : ℕ) (d : _) → w < self.now.claim.now.workers
+            → IfOk (slice_index_or known.items w d) (λ yes. yes ≡ true → ShareAgrees B.shape self.now.claim.now.raw.now first end self.now.claim.now.workers w)) }
+    {
+        thread::map_indices(
+            self.claim.rt,
+            self.claim.alloc,
+            self.claim.workers,
+            &|worker| -> Result<bool, AllocError>
+                requires { (end ≤ entry_count B.shape B.POINTS self.now.claim.now.raw.now.layout self.now.claim.now.raw.now.pair) × (worker < self.now.claim.now.workers) }
+                ensures { IfOk result (λ yes. yes ≡ true
+                    → ShareAgrees B.shape self.entry.now.claim.now.raw.now first end self.entry.now.claim.now.workers worker) }
+            { self.share_agrees(first, end, worker as u64) },
+        )
+    }
+
+    /// Whether the entries of all positions are known to agree that face those of the entries from
+    /// `first` up to, not including, `end`.
+    ///
+    /// # Errors
+    /// [`AllocError`] where memory is refused.
+    pub(crate) fn agree_shared(&self, first: u64, end: u64) -> Result<bool, AllocError>
+        requires inside { end ≤ entry_count B.shape B.POINTS self.now.claim.now.raw.now.layout self.now.claim.now.raw.now.pair }
+        ensures { IfOk result (λ yes. yes ≡ true → (k : ℕ) → first ≤ k → k < end → FacesAgree B.shape self.now.claim.now.raw.now k) }
+    {
+        let known = self.known_shares(first, end)?;
+        Ok(all_true(&known))
+    }
+}

@@ -1,6 +1,0 @@
-use Rattle.std.proofs.Common.{refl}
-use Rattle.morris_table.proofs.KeptLaws.{none_kept}
-use Rattle.morris_table.proofs.kept_captures.KeptCaptures.new.Goals as goal
-
-pub returns : goal.returns
-returns c = λ board. none_kept board 0 4096 _ refl

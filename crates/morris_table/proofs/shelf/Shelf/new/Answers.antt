@@ -1,5 +1,0 @@
-use Rattle.morris_table.proofs.ShelfLaws.{empty-closed}
-use Rattle.morris_table.proofs.shelf.Shelf.new.Goals as goal
-
-pub invariant_of-result : goal.invariant_of-result
-invariant_of-result g c = empty-closed _ _ c.in_ok-stock.ensures.lawful c.in_ok-stock.ensures.none
