@@ -1,3 +1,4 @@
 pub mod Parsed
 pub mod Requests
 pub mod ReadLaws
+pub mod ArgLaws

@@ -5,17 +5,20 @@ use Rattle.std.specs.Prelude.{Box, if◌then◌else◌}
 use Rattle.std.specs.Str.{bytes_eq}
 use Rattle.std.proofs.lemmas.Slice.Eq.{bytes_eq-Decides}
 use Rattle.clap.proofs.WalkLemmas.{one_text-rows}
-use Rattle.clap.specs.Words.{AddsArg, App, Rule, subcommand_rows, with_rule}
+use Rattle.clap.specs.Words.{AddsArg, AddsInTurn, App, Rule, subcommand_rows, with_rule}
 use Rattle.clap.specs.declared.builder.arg.Arg.{Arg}
 use Rattle.clap.specs.declared.builder.command.Command.{Command}
 use Rattle.clap.specs.Matches.{one_text}
 use Rattle.clap.specs.Values.{bool_text}
 use Rattle.clap.specs.Walk.{Row, Text, one_of, rows_of}
+use Rattle.clap.specs.Words.{found_of, subcommand_name_of, subcommand_rows_of}
+use Rattle.std.specs.Borrow.{Bor}
+use Rattle.clap.specs.declared.parser.matches.ArgMatches.{ArgMatches}
 use Rattle.clap.specs.declared.parser.matches.ArgMatches.TheViews.{out-SubCommand}
 use Rattle.clap.specs.declared.parser.matches.Found.{Found}
 use Rattle.clap.specs.declared.parser.matches.SubCommand.{SubCommand}
 use Rattle.clap.specs.declared.error.kind.ErrorKind.TheVariants.{ArgumentConflict}
-use Rattle.morris_words.specs.Words.{HasBuildValues, HasStatsValues, HasVerifyValues, Is, IsAnswerTo, IsAnswerToOneOf, IsArg, NamesCommand, clashes, has_clash, is_on}
+use Rattle.morris_words.specs.Words.{AreArgs, HasBuildValues, HasLookValues, HasLookupValues, HasProbeValues, HasStatsValues, HasVerifyValues, Is, IsAnswerTo, IsAnswerToOneOf, IsArg, NamesCommand, clashes, has_clash, is_on, with_rules}
 use Rattle.morris_words.specs.declared.words.Refusal.{Refusal}
 use Rattle.morris_words.specs.declared.words.Refusal.TheVariants.{Memory, Help, Version, Wrong}
 
@@ -24,6 +27,15 @@ pub with_arg : (before : Command) (arg : Arg) (after : Command) (a : App) (r : R
     → Is (with_rule a r) after
 with_arg before arg after a r was new adds =
     (adds.shape new.1 ∙ ap₂ with_rule was.0 new.0, adds.globals ∙ ap₂ (λ x y. x || y) was.1 new.1)
+
+-- and with several, one after the other
+pub with_args : (args : List Arg) (rules : List Rule) (before after : Command) (a : App) → Is a before → AreArgs rules args
+    → AddsInTurn AddsArg before args after → Is (with_rules a rules) after
+with_args [] [] before after a was are same = subst (Is a) same was
+with_args [] (r ∷ rules) before after a was are same = absurd are
+with_args (arg ∷ args) [] before after a was are adds = absurd are
+with_args (arg ∷ args) (r ∷ rules) before after a was are adds =
+    with_args args rules adds.0 after (with_rule a r) (with_arg before arg adds.0 a r was are.0 adds.1) are.1 adds.2
 
 pub not_both : {X : Type 0} (r : Option X) (x : X) → r ≡ None → r ≡ Some x → ⊥
 not_both r x none some =
@@ -74,21 +86,30 @@ named_rows (Some b) name rows is has = rw (inside _ _ is, inside _ _ has) refl
     inside : {X : Type 0} (x y : X) → Some x ≡ Some y → x ≡ y
     inside x y same = cc
 
+-- what was named, where a subcommand was found that has this name
+pub named_here : (m : ArgMatches) (o : Option (Bor Text × Bor ArgMatches)) (found : Bor Text × Bor ArgMatches) (name : Text)
+    → option_map (λ p. p.0.now) o ≡ subcommand_name_of m
+    → option_map (λ p. rows_of (found_of p.1.now)) o ≡ option_map (λ p. p.1) (subcommand_rows_of m) → o ≡ Some found → found.0.now ≡ name
+    → subcommand_rows_of m ≡ Some (name, rows_of (found_of found.1.now))
+named_here m o found name names has is same =
+    named_rows _ name (rows_of (found_of found.1.now)) (sym names ∙ (ap (option_map (λ p. p.0.now)) is ∙ ap (λ n. Some n) same))
+    (sym has ∙ ap (option_map (λ p. rows_of (found_of p.1.now))) is)
+
 -- texts with other bytes aren't equal
 differ : (a b : Text) → bytes_eq a b ≡ false → a ≡ b → ⊥
 differ a b other same =
     let bad : true ≡ false = sym ((bytes_eq-Decides a b).1 same) ∙ other in
     cc
 
--- the values of `build`, where that was named
-pub build_values : (rows : List Row) → NamesCommand (codes "build", rows) → HasBuildValues rows
-build_values rows named = elim named [
-  | inl has ↦ absurd (differ (codes "build") (codes "look") refl has.0)
-  | inr (inl has) ↦ absurd (differ (codes "build") (codes "stats") refl has.0)
-  | inr (inr (inl has)) ↦ has.1
-  | inr (inr (inr (inl has))) ↦ absurd (differ (codes "build") (codes "verify") refl has.0)
-  | inr (inr (inr (inr (inl has)))) ↦ absurd (differ (codes "build") (codes "probe") refl has.0)
-  | inr (inr (inr (inr (inr has)))) ↦ absurd (differ (codes "build") (codes "lookup") refl has.0)
+-- the values of `look`, where that was named
+pub look_values : (rows : List Row) → NamesCommand (codes "look", rows) → HasLookValues rows
+look_values rows named = elim named [
+  | inl has ↦ has.1
+  | inr (inl has) ↦ absurd (differ (codes "look") (codes "stats") refl has.0)
+  | inr (inr (inl has)) ↦ absurd (differ (codes "look") (codes "build") refl has.0)
+  | inr (inr (inr (inl has))) ↦ absurd (differ (codes "look") (codes "verify") refl has.0)
+  | inr (inr (inr (inr (inl has)))) ↦ absurd (differ (codes "look") (codes "probe") refl has.0)
+  | inr (inr (inr (inr (inr has)))) ↦ absurd (differ (codes "look") (codes "lookup") refl has.0)
 ]
 
 -- the values of `stats`, where that was named
@@ -102,6 +123,17 @@ stats_values rows named = elim named [
   | inr (inr (inr (inr (inr has)))) ↦ absurd (differ (codes "stats") (codes "lookup") refl has.0)
 ]
 
+-- the values of `build`, where that was named
+pub build_values : (rows : List Row) → NamesCommand (codes "build", rows) → HasBuildValues rows
+build_values rows named = elim named [
+  | inl has ↦ absurd (differ (codes "build") (codes "look") refl has.0)
+  | inr (inl has) ↦ absurd (differ (codes "build") (codes "stats") refl has.0)
+  | inr (inr (inl has)) ↦ has.1
+  | inr (inr (inr (inl has))) ↦ absurd (differ (codes "build") (codes "verify") refl has.0)
+  | inr (inr (inr (inr (inl has)))) ↦ absurd (differ (codes "build") (codes "probe") refl has.0)
+  | inr (inr (inr (inr (inr has)))) ↦ absurd (differ (codes "build") (codes "lookup") refl has.0)
+]
+
 -- the values of `verify`, where that was named
 pub verify_values : (rows : List Row) → NamesCommand (codes "verify", rows) → HasVerifyValues rows
 verify_values rows named = elim named [
@@ -111,4 +143,26 @@ verify_values rows named = elim named [
   | inr (inr (inr (inl has))) ↦ has.1
   | inr (inr (inr (inr (inl has)))) ↦ absurd (differ (codes "verify") (codes "probe") refl has.0)
   | inr (inr (inr (inr (inr has)))) ↦ absurd (differ (codes "verify") (codes "lookup") refl has.0)
+]
+
+-- the values of `probe`, where that was named
+pub probe_values : (rows : List Row) → NamesCommand (codes "probe", rows) → HasProbeValues rows
+probe_values rows named = elim named [
+  | inl has ↦ absurd (differ (codes "probe") (codes "look") refl has.0)
+  | inr (inl has) ↦ absurd (differ (codes "probe") (codes "stats") refl has.0)
+  | inr (inr (inl has)) ↦ absurd (differ (codes "probe") (codes "build") refl has.0)
+  | inr (inr (inr (inl has))) ↦ absurd (differ (codes "probe") (codes "verify") refl has.0)
+  | inr (inr (inr (inr (inl has)))) ↦ has.1
+  | inr (inr (inr (inr (inr has)))) ↦ absurd (differ (codes "probe") (codes "lookup") refl has.0)
+]
+
+-- the values of `lookup`, where that was named
+pub lookup_values : (rows : List Row) → NamesCommand (codes "lookup", rows) → HasLookupValues rows
+lookup_values rows named = elim named [
+  | inl has ↦ absurd (differ (codes "lookup") (codes "look") refl has.0)
+  | inr (inl has) ↦ absurd (differ (codes "lookup") (codes "stats") refl has.0)
+  | inr (inr (inl has)) ↦ absurd (differ (codes "lookup") (codes "build") refl has.0)
+  | inr (inr (inr (inl has))) ↦ absurd (differ (codes "lookup") (codes "verify") refl has.0)
+  | inr (inr (inr (inr (inl has)))) ↦ absurd (differ (codes "lookup") (codes "probe") refl has.0)
+  | inr (inr (inr (inr (inr has)))) ↦ has.1
 ]

@@ -29,6 +29,11 @@ use Rattle.morris_words.specs.declared.words.Refusal.TheVariants.{Memory, Help, 
 
 -- ---- the commands
 
+-- a command with these arguments more, one after the other
+abbrev pub with_rules : App → List Rule → App
+with_rules a [] = a
+with_rules a (r ∷ rules) = with_rules (with_rule a r) rules
+
 -- an argument that has to be given, in its place
 abbrev pub required_rule : Text → Rule
 required_rule name = record (new_rule name) { required = true }
@@ -134,6 +139,12 @@ Is a c = (app_of c ≡ a) × ((out-Command c).has_globals ≡ false)
 abbrev pub IsArg : Rule → Arg → Type 0
 IsArg r a = (rule_of a ≡ r) × (a.global ≡ false)
 
+-- so does each of these arguments, one rule for each
+abbrev pub AreArgs : List Rule → List Arg → Type 0
+AreArgs [] [] = ⊤
+AreArgs (r ∷ rules) (a ∷ args) = IsArg r a × AreArgs rules args
+AreArgs _ _ = ⊥
+
 -- ---- what the words ask for
 
 -- the command that the words name, with the values of its arguments
@@ -226,6 +237,11 @@ IsInRange (Stats board pair classes workers blocks deepest) = ((1 ≤ workers) �
 IsInRange (Build board pair workers blocks all into classes) = ((1 ≤ workers) × (workers ≤ 64)) × ((1 ≤ blocks) × (blocks ≤ 1024))
 IsInRange (Verify board all from workers) = (1 ≤ workers) × (workers ≤ 64)
 IsInRange _ = ⊤
+
+-- the request is what the named command asks for: no two of its arguments exclude each other, and
+-- its numbers are in range
+abbrev pub IsRequestOf : Option (Text × List Row) → Request → Type 0
+IsRequestOf named r = (clashes named ≡ []) × AsksFor named r × IsInRange r.task
 
 -- the argument of a name has a number from `low` to `high`
 pub record HasNumber (name : Text) (low high : ℕ) (rows : List Row) : Type 0 where

@@ -1,13 +1,13 @@
 //! The words of the command line, and the request that they make.
-ghost use Rattle.std.specs.Prelude.{◌≡◌, ℕ, ◌<◌, ◌≤◌, ◌^◌, [], IfErr, IfOk, IfSome, None, OnOk, Some, codes, is_some, map, option_map, true, unwrap_or};
+ghost use Rattle.std.specs.Prelude.{◌≡◌, List, ℕ, ◌<◌, ◌≤◌, ◌^◌, [], IfErr, IfOk, IfSome, None, OnOk, Some, codes, is_some, map, option_map, true, unwrap_or};
 ghost use Rattle.clap.specs.Values.{bool_text};
-ghost use Rattle.clap.specs.Words.{FailsBy, all_of, app_of, fault_of, first_of, found_of, kind_of, new_app, one_of, rows_of, subcommand_rows_of};
+ghost use Rattle.clap.specs.Words.{App, FailsBy, Rule, all_of, app_of, fault_of, first_of, found_of, kind_of, new_app, one_of, rows_of, subcommand_rows_of, with_subcommand};
 ghost use Rattle.clap.specs.declared.error.kind.ErrorKind.TheVariants.{ArgumentConflict};
-ghost use Rattle.morris_words.specs.Words.{AsksFor, HasBuildValues, HasFlag, HasLookValues, HasLookupValues, HasNumber, HasOption, HasProbeValues};
-ghost use Rattle.morris_words.specs.Words.{HasStatsValues, HasVerifyValues, Is, IsAnswerTo, IsAnswerToOneOf, IsArg, IsInRange, IsOption, IsShown};
+ghost use Rattle.morris_words.specs.Words.{AreArgs, AsksFor, HasBuildValues, HasFlag, HasLookValues, HasLookupValues, HasNumber, HasOption, HasProbeValues};
+ghost use Rattle.morris_words.specs.Words.{HasStatsValues, HasVerifyValues, Is, IsAnswerTo, IsAnswerToOneOf, IsArg, IsInRange, IsOption, IsRequestOf, IsShown};
 ghost use Rattle.morris_words.specs.Words.{NamesRequest, blocks_rule, build_app, clashes, depth_rule, faults_of, flag_rule, has_clash, look_app};
-ghost use Rattle.morris_words.specs.Words.{lookup_app, morris_app, named_by, number_of, option_rule, probe_app, required_option_rule, required_rule};
-ghost use Rattle.morris_words.specs.Words.{several_rule, stats_app, verify_app, workers_rule};
+ghost use Rattle.morris_words.specs.Words.{lookup_app, morris_app, named_by, number_of, option_rule, probe_app, program, required_option_rule, required_rule};
+ghost use Rattle.morris_words.specs.Words.{several_rule, stats_app, verify_app, with_rules, workers_rule};
 
 use crate::help;
 use clap::error::ErrorKind;
@@ -16,7 +16,7 @@ use std::alloc::{AllocError, Global};
 use std::convert::AsStr;
 
 /// What the words ask the program for.
-#[derive(Debug, Drop)]
+#[derive(Drop)]
 pub struct Request<'a> {
     /// What it is to do.
     pub task: Task<'a>,
@@ -25,7 +25,7 @@ pub struct Request<'a> {
 }
 
 /// What the words ask the program to do.
-#[derive(Debug, Drop)]
+#[derive(Drop)]
 pub enum Task<'a> {
     /// Show the position that `text` writes on the board named `board`: its legal moves, and its
     /// value as far as `depth` plies tell, 0 to 6 of them.
@@ -88,7 +88,7 @@ pub enum Task<'a> {
 }
 
 /// What `lookup` shows of a position.
-#[derive(Clone, Copy, Debug, PartialEq, Eq)]
+#[derive(Clone, Copy)]
 pub enum Show {
     /// Its value and its best moves.
     Best,
@@ -99,7 +99,7 @@ pub enum Show {
 }
 
 /// Why the words make no request.
-#[derive(Debug, Drop)]
+#[derive(Drop)]
 pub enum Refusal {
     /// Memory ran out.
     Memory,
@@ -177,80 +177,114 @@ const DEFAULT_WORKERS: &str = "2";
 
 const DEFAULT_BLOCKS: &str = "16";
 
-// The program, with its commands: each is one `subcommand` here, and one arm of `request_of`.
+// The program, with its commands: each is one of this list, and one arm of `request_of`.
 fn morris_command<'a>(alloc: Global) -> Result<Command<'a>, AllocError>
     ensures { IfOk result (λ c. app_of c ≡ morris_app) }
 {
+    let program = bare_program(alloc)?;
+    let program = with_command(program, look_command(alloc))?;
+    let program = with_command(program, stats_command(alloc))?;
+    let program = with_command(program, build_command(alloc))?;
+    let program = with_command(program, verify_command(alloc))?;
+    let program = with_command(program, probe_command(alloc))?;
+    with_command(program, lookup_command(alloc))
+}
+
+// The program, with no command yet.
+fn bare_program<'a>(alloc: Global) -> Result<Command<'a>, AllocError>
+    ensures { IfOk result (λ c. app_of c ≡ program) }
+{
     Command::new(alloc, "morris")
-        .bin_name("morris")?
         .about("Endgame tables for Nine Men's Morris")
         .version(VERSION)
         .after_help(help::PROGRAM)
         .subcommand_required(true)
-        .subcommand(look_command(alloc)?)?
-        .subcommand(stats_command(alloc)?)?
-        .subcommand(build_command(alloc)?)?
-        .subcommand(verify_command(alloc)?)?
-        .subcommand(probe_command(alloc)?)?
-        .subcommand(lookup_command(alloc)?)
+        .bin_name("morris")
 }
 
-// A command of this name, with no argument yet.
-fn command_of<'a>(alloc: Global, name: &'a str, about: &'a str, help: &'a str) -> Command<'a>
-    ensures { Is (new_app name.entry.now) result }
+// The program with one more command, once that is made.
+fn with_command<'a>(
+    program: Command<'a>,
+    made: Result<Command<'a>, AllocError>,
+) -> Result<Command<'a>, AllocError>
+    ensures { (before command : App) → app_of program.entry ≡ before → IfOk made.entry (Is command) → IfOk result (λ c. app_of c ≡ with_subcommand before command.top) }
 {
-    Command::new(alloc, name).about(about).after_help(help)
+    program.subcommand(made?)
+}
+
+// A command of this name with these arguments.
+fn command_of<'a>(
+    alloc: Global,
+    name: &'a str,
+    about: &'a str,
+    help: &'a str,
+    args: Vec<Arg<'a>>,
+) -> Result<Command<'a>, AllocError>
+    ensures { (rules : List Rule) → AreArgs rules args.entry.items → IfOk result (Is (with_rules (new_app name.entry.now) rules)) }
+{
+    Command::new(alloc, name)
+        .about(about)
+        .after_help(help)
+        .args(args)
 }
 
 fn look_command<'a>(alloc: Global) -> Result<Command<'a>, AllocError>
     ensures { IfOk result (Is look_app) }
 {
     let about = "Show a position, its legal moves and its value within N plies";
-    command_of(alloc, "look", about, help::LOOK)
-        .arg(required_arg(alloc, "BOARD", BOARD_HELP))?
-        .arg(required_arg(alloc, "TEXT", POSITION_HELP))?
-        .arg(depth_arg(alloc))
+    let args = vec![in alloc;
+        required_arg(alloc, "BOARD", BOARD_HELP),
+        required_arg(alloc, "TEXT", POSITION_HELP),
+        depth_arg(alloc),
+    ]?;
+    command_of(alloc, "look", about, help::LOOK, args)
 }
 
 fn stats_command<'a>(alloc: Global) -> Result<Command<'a>, AllocError>
     ensures { IfOk result (Is stats_app) }
 {
     let about = "Count the values of all positions with a pair's numbers of stones";
-    command_of(alloc, "stats", about, help::STATS)
-        .arg(required_arg(alloc, "BOARD", BOARD_HELP))?
-        .arg(required_arg(alloc, "PAIR", PAIR_HELP))?
-        .arg(flag_arg(alloc, "classes", CLASS_TABLES_HELP))?
-        .arg(workers_arg(alloc))?
-        .arg(blocks_arg(alloc))?
-        .arg(flag_arg(alloc, "deepest", DEEPEST_HELP))?
-        .arg(flag_arg(alloc, "progress", PROGRESS_HELP))
+    let args = vec![in alloc;
+        required_arg(alloc, "BOARD", BOARD_HELP),
+        required_arg(alloc, "PAIR", PAIR_HELP),
+        flag_arg(alloc, "classes", CLASS_TABLES_HELP),
+        workers_arg(alloc),
+        blocks_arg(alloc),
+        flag_arg(alloc, "deepest", DEEPEST_HELP),
+        flag_arg(alloc, "progress", PROGRESS_HELP),
+    ]?;
+    command_of(alloc, "stats", about, help::STATS, args)
 }
 
 fn build_command<'a>(alloc: Global) -> Result<Command<'a>, AllocError>
     ensures { IfOk result (Is build_app) }
 {
     let about = "Build the table of a pair, and write its file to standard output or a folder";
-    command_of(alloc, "build", about, help::BUILD)
-        .arg(required_arg(alloc, "BOARD", BOARD_HELP))?
-        .arg(required_arg(alloc, "PAIR", PAIR_HELP))?
-        .arg(workers_arg(alloc))?
-        .arg(blocks_arg(alloc))?
-        .arg(flag_arg(alloc, "all", ALL_HELP))?
-        .arg(option_arg(alloc, "into", "FOLDER", INTO_HELP))?
-        .arg(flag_arg(alloc, "classes", CLASSES_HELP))?
-        .arg(flag_arg(alloc, "progress", PROGRESS_HELP))
+    let args = vec![in alloc;
+        required_arg(alloc, "BOARD", BOARD_HELP),
+        required_arg(alloc, "PAIR", PAIR_HELP),
+        workers_arg(alloc),
+        blocks_arg(alloc),
+        flag_arg(alloc, "all", ALL_HELP),
+        option_arg(alloc, "into", "FOLDER", INTO_HELP),
+        flag_arg(alloc, "classes", CLASSES_HELP),
+        flag_arg(alloc, "progress", PROGRESS_HELP),
+    ]?;
+    command_of(alloc, "build", about, help::BUILD, args)
 }
 
 fn verify_command<'a>(alloc: Global) -> Result<Command<'a>, AllocError>
     ensures { IfOk result (Is verify_app) }
 {
     let about = "Check each entry of the table files on standard input or in a folder";
-    command_of(alloc, "verify", about, help::VERIFY)
-        .arg(required_arg(alloc, "BOARD", BOARD_HELP))?
-        .arg(flag_arg(alloc, "all", BUNDLE_HELP))?
-        .arg(option_arg(alloc, "from", "FOLDER", FROM_HELP))?
-        .arg(workers_arg(alloc))?
-        .arg(flag_arg(alloc, "progress", PROGRESS_HELP))
+    let args = vec![in alloc;
+        required_arg(alloc, "BOARD", BOARD_HELP),
+        flag_arg(alloc, "all", BUNDLE_HELP),
+        option_arg(alloc, "from", "FOLDER", FROM_HELP),
+        workers_arg(alloc),
+        flag_arg(alloc, "progress", PROGRESS_HELP),
+    ]?;
+    command_of(alloc, "verify", about, help::VERIFY, args)
 }
 
 fn probe_command<'a>(alloc: Global) -> Result<Command<'a>, AllocError>
@@ -258,22 +292,26 @@ fn probe_command<'a>(alloc: Global) -> Result<Command<'a>, AllocError>
 {
     let about =
         "Report the value and the best moves of a position, by table files on standard input";
-    command_of(alloc, "probe", about, help::PROBE)
-        .arg(required_arg(alloc, "BOARD", BOARD_HELP))?
-        .arg(required_arg(alloc, "TEXT", POSITION_HELP))?
-        .arg(flag_arg(alloc, "progress", PROGRESS_HELP))
+    let args = vec![in alloc;
+        required_arg(alloc, "BOARD", BOARD_HELP),
+        required_arg(alloc, "TEXT", POSITION_HELP),
+        flag_arg(alloc, "progress", PROGRESS_HELP),
+    ]?;
+    command_of(alloc, "probe", about, help::PROBE, args)
 }
 
 fn lookup_command<'a>(alloc: Global) -> Result<Command<'a>, AllocError>
     ensures { IfOk result (Is lookup_app) }
 {
     let about = "Look up positions in the table files of a folder";
-    command_of(alloc, "lookup", about, help::LOOKUP)
-        .arg(required_arg(alloc, "BOARD", BOARD_HELP))?
-        .arg(required_option_arg(alloc, "from", "FOLDER", TABLES_HELP))?
-        .arg(flag_arg(alloc, "moves", MOVES_HELP))?
-        .arg(flag_arg(alloc, "line", LINE_HELP))?
-        .arg(several_arg(alloc, "TEXT", POSITIONS_HELP))
+    let args = vec![in alloc;
+        required_arg(alloc, "BOARD", BOARD_HELP),
+        required_option_arg(alloc, "from", "FOLDER", TABLES_HELP),
+        flag_arg(alloc, "moves", MOVES_HELP),
+        flag_arg(alloc, "line", LINE_HELP),
+        several_arg(alloc, "TEXT", POSITIONS_HELP),
+    ]?;
+    command_of(alloc, "lookup", about, help::LOOKUP, args)
 }
 
 fn required_arg<'a>(alloc: Global, name: &'a str, help: &'a str) -> Arg<'a>
@@ -347,9 +385,7 @@ fn several_arg<'a>(alloc: Global, name: &'a str, help: &'a str) -> Arg<'a>
 
 fn request_of<'a>(alloc: Global, matches: &ArgMatches<'a>) -> Result<Request<'a>, Refusal>
     requires { NamesRequest (subcommand_rows_of matches.now) }
-    ensures taken { OnOk result (clashes (subcommand_rows_of matches.now) ≡ []) }
-    ensures request { IfOk result (AsksFor (subcommand_rows_of matches.now)) }
-    ensures range { IfOk result (λ request. IsInRange request.task) }
+    ensures request { IfOk result (IsRequestOf (subcommand_rows_of matches.now)) }
     ensures refused { IfErr result (IsAnswerToOneOf (clashes (subcommand_rows_of matches.now))) }
 {
     match matches.subcommand() {
@@ -365,8 +401,7 @@ fn request_of<'a>(alloc: Global, matches: &ArgMatches<'a>) -> Result<Request<'a>
 
 fn look_request<'a>(found: &ArgMatches<'a>) -> Request<'a>
     requires { HasLookValues (rows_of (found_of found.now)) }
-    ensures request { AsksFor (Some (codes "look", rows_of (found_of found.now))) result }
-    ensures range { IsInRange result.task }
+    ensures { IsRequestOf (Some (codes "look", rows_of (found_of found.now))) result }
 {
     Request {
         task: Task::Look {
@@ -380,8 +415,7 @@ fn look_request<'a>(found: &ArgMatches<'a>) -> Request<'a>
 
 fn stats_request<'a>(found: &ArgMatches<'a>) -> Request<'a>
     requires { HasStatsValues (rows_of (found_of found.now)) }
-    ensures request { AsksFor (Some (codes "stats", rows_of (found_of found.now))) result }
-    ensures range { IsInRange result.task }
+    ensures { IsRequestOf (Some (codes "stats", rows_of (found_of found.now))) result }
 {
     let classes = flag(found, "classes");
     Request {
@@ -399,9 +433,7 @@ fn stats_request<'a>(found: &ArgMatches<'a>) -> Request<'a>
 
 fn build_request<'a>(alloc: Global, found: &ArgMatches<'a>) -> Result<Request<'a>, Refusal>
     requires { HasBuildValues (rows_of (found_of found.now)) }
-    ensures taken { OnOk result (clashes (Some (codes "build", rows_of (found_of found.now))) ≡ []) }
-    ensures request { IfOk result (AsksFor (Some (codes "build", rows_of (found_of found.now)))) }
-    ensures range { IfOk result (λ request. IsInRange request.task) }
+    ensures request { IfOk result (IsRequestOf (Some (codes "build", rows_of (found_of found.now)))) }
     ensures refused { IfErr result (IsAnswerToOneOf (clashes (Some (codes "build", rows_of (found_of found.now))))) }
 {
     let (all, into) = (flag(found, "all"), optional(found, "into"));
@@ -424,9 +456,7 @@ fn build_request<'a>(alloc: Global, found: &ArgMatches<'a>) -> Result<Request<'a
 
 fn verify_request<'a>(alloc: Global, found: &ArgMatches<'a>) -> Result<Request<'a>, Refusal>
     requires { HasVerifyValues (rows_of (found_of found.now)) }
-    ensures taken { OnOk result (clashes (Some (codes "verify", rows_of (found_of found.now))) ≡ []) }
-    ensures request { IfOk result (AsksFor (Some (codes "verify", rows_of (found_of found.now)))) }
-    ensures range { IfOk result (λ request. IsInRange request.task) }
+    ensures request { IfOk result (IsRequestOf (Some (codes "verify", rows_of (found_of found.now)))) }
     ensures refused { IfErr result (IsAnswerToOneOf (clashes (Some (codes "verify", rows_of (found_of found.now))))) }
 {
     let (all, from) = (flag(found, "all"), optional(found, "from"));
@@ -446,8 +476,7 @@ fn verify_request<'a>(alloc: Global, found: &ArgMatches<'a>) -> Result<Request<'
 
 fn probe_request<'a>(found: &ArgMatches<'a>) -> Request<'a>
     requires { HasProbeValues (rows_of (found_of found.now)) }
-    ensures request { AsksFor (Some (codes "probe", rows_of (found_of found.now))) result }
-    ensures range { IsInRange result.task }
+    ensures { IsRequestOf (Some (codes "probe", rows_of (found_of found.now))) result }
 {
     Request {
         task: Task::Probe {
@@ -460,9 +489,7 @@ fn probe_request<'a>(found: &ArgMatches<'a>) -> Request<'a>
 
 fn lookup_request<'a>(alloc: Global, found: &ArgMatches<'a>) -> Result<Request<'a>, Refusal>
     requires { HasLookupValues (rows_of (found_of found.now)) }
-    ensures taken { OnOk result (clashes (Some (codes "lookup", rows_of (found_of found.now))) ≡ []) }
-    ensures request { IfOk result (AsksFor (Some (codes "lookup", rows_of (found_of found.now)))) }
-    ensures range { IfOk result (λ request. IsInRange request.task) }
+    ensures request { IfOk result (IsRequestOf (Some (codes "lookup", rows_of (found_of found.now)))) }
     ensures refused { IfErr result (IsAnswerToOneOf (clashes (Some (codes "lookup", rows_of (found_of found.now))))) }
 {
     let Some(show) = shown(found) else {

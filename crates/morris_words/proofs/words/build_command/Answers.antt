@@ -1,16 +1,11 @@
-use Rattle.std.proofs.lemmas.Result.{IfOk-weaker}
-use Rattle.morris_words.specs.Words.{build_app}
-use Rattle.morris_words.proofs.ReadLaws.{with_arg}
+use Rattle.std.proofs.Common.{[], ◌∷◌, List, codes, subst, sym}
+use Rattle.clap.specs.Words.{Rule}
+use Rattle.morris_words.specs.Words.{AreArgs, blocks_rule, build_app, flag_rule, option_rule, required_rule, workers_rule}
 use Rattle.morris_words.proofs.words.build_command.Goals as goal
 
 pub returns : goal.returns
 unfolding build_app
 returns c =
-    let one = with_arg _ _ _ _ _ c.command_of.ensures c.required_arg.ensures c.in_ok-arg.ensures in
-    let two = with_arg _ _ _ _ _ one c.required_arg-2.ensures c.in_ok-arg-2.ensures in
-    let three = with_arg _ _ _ _ _ two c.workers_arg.ensures c.in_ok-arg-3.ensures in
-    let four = with_arg _ _ _ _ _ three c.blocks_arg.ensures c.in_ok-arg-4.ensures in
-    let five = with_arg _ _ _ _ _ four c.flag_arg.ensures c.in_ok-arg-5.ensures in
-    let six = with_arg _ _ _ _ _ five c.option_arg.ensures c.in_ok-arg-6.ensures in
-    let seven = with_arg _ _ _ _ _ six c.flag_arg-2.ensures c.in_ok-arg-7.ensures in
-    IfOk-weaker c.arg-8.result _ _ (λ r h. with_arg _ _ _ _ _ seven c.flag_arg-3.ensures h) c.arg-8.ensures
+    let rules : List Rule = required_rule (codes "BOARD") ∷ required_rule (codes "PAIR") ∷ workers_rule ∷ blocks_rule ∷ flag_rule (codes "all") ∷ option_rule (codes "into") ∷ flag_rule (codes "classes") ∷ flag_rule (codes "progress") ∷ [] in
+    c.command_of.ensures rules
+    (subst (AreArgs rules) (sym c.in_ok-args.ensures.items) (c.required_arg.ensures, (c.required_arg-2.ensures, (c.workers_arg.ensures, (c.blocks_arg.ensures, (c.flag_arg.ensures, (c.option_arg.ensures, (c.flag_arg-2.ensures, (c.flag_arg-3.ensures, tt)))))))))

@@ -1,7 +1,7 @@
-use Rattle.std.proofs.Common.{◌≡◌, ◌∙◌, arith, codes, refl, sym, true}
+use Rattle.std.proofs.Common.{◌≡◌, ◌∙◌, [], Some, arith, codes, refl, rules, sym, true}
 use Rattle.clap.specs.Takes.{is_given}
 use Rattle.clap.specs.Words.{found_of, rows_of}
-use Rattle.morris_words.specs.Words.{has_clash, is_on}
+use Rattle.morris_words.specs.Words.{clashes, has_clash, is_on}
 use Rattle.morris_words.proofs.ReadLaws.{clash_answered, flag_on}
 use Rattle.morris_words.proofs.words.build_request.Goals as goal
 
@@ -16,11 +16,13 @@ overflow_cast-result c =
     let range = c.number.ensures.range 1 64 (omega arith) c.requires.workers in
     omega (arith, range.1)
 
-pub returns-clause-range : goal.returns-clause-range
-returns-clause-range c = (
-  c.number.ensures.range 1 64 (omega arith) c.requires.workers,
-  c.number-2.ensures.range 1 1024 (omega arith) c.requires.blocks,
-)
+pub returns-clause-request : goal.returns-clause-request
+returns-clause-request c =
+    let rows = rows_of (found_of c.args.found.now) in
+    let free : clashes (Some (codes "build", rows)) ≡ [] = search rules in
+    let workers = c.number.ensures.range 1 64 (omega arith) c.requires.workers in
+    let blocks = c.number-2.ensures.range 1 1024 (omega arith) c.requires.blocks in
+    (free, ((refl, c.given.ensures, c.given-2.ensures, c.number.ensures.value, c.number-2.ensures.value, c.flag-all.ensures, c.optional-into.ensures, c.flag.ensures), c.flag-2.ensures), (workers, blocks))
 
 pub returns-then-is_some-clause-refused : goal.returns-then-is_some-clause-refused
 returns-then-is_some-clause-refused c =

@@ -1,11 +1,11 @@
-use Rattle.std.proofs.lemmas.Result.{IfOk-weaker}
-use Rattle.morris_words.specs.Words.{look_app}
-use Rattle.morris_words.proofs.ReadLaws.{with_arg}
+use Rattle.std.proofs.Common.{[], ◌∷◌, List, codes, subst, sym}
+use Rattle.clap.specs.Words.{Rule}
+use Rattle.morris_words.specs.Words.{AreArgs, depth_rule, look_app, required_rule}
 use Rattle.morris_words.proofs.words.look_command.Goals as goal
 
 pub returns : goal.returns
 unfolding look_app
 returns c =
-    let one = with_arg _ _ _ _ _ c.command_of.ensures c.required_arg.ensures c.in_ok-arg.ensures in
-    let two = with_arg _ _ _ _ _ one c.required_arg-2.ensures c.in_ok-arg-2.ensures in
-    IfOk-weaker c.arg-3.result _ _ (λ r h. with_arg _ _ _ _ _ two c.depth_arg.ensures h) c.arg-3.ensures
+    let rules : List Rule = required_rule (codes "BOARD") ∷ required_rule (codes "TEXT") ∷ depth_rule ∷ [] in
+    c.command_of.ensures rules
+    (subst (AreArgs rules) (sym c.in_ok-args.ensures.items) (c.required_arg.ensures, (c.required_arg-2.ensures, (c.depth_arg.ensures, tt))))

@@ -1,13 +1,11 @@
-use Rattle.std.proofs.lemmas.Result.{IfOk-weaker}
-use Rattle.morris_words.specs.Words.{lookup_app}
-use Rattle.morris_words.proofs.ReadLaws.{with_arg}
+use Rattle.std.proofs.Common.{[], ◌∷◌, List, codes, subst, sym}
+use Rattle.clap.specs.Words.{Rule}
+use Rattle.morris_words.specs.Words.{AreArgs, flag_rule, lookup_app, required_option_rule, required_rule, several_rule}
 use Rattle.morris_words.proofs.words.lookup_command.Goals as goal
 
 pub returns : goal.returns
 unfolding lookup_app
 returns c =
-    let one = with_arg _ _ _ _ _ c.command_of.ensures c.required_arg.ensures c.in_ok-arg.ensures in
-    let two = with_arg _ _ _ _ _ one c.required_option_arg.ensures c.in_ok-arg-2.ensures in
-    let three = with_arg _ _ _ _ _ two c.flag_arg.ensures c.in_ok-arg-3.ensures in
-    let four = with_arg _ _ _ _ _ three c.flag_arg-2.ensures c.in_ok-arg-4.ensures in
-    IfOk-weaker c.arg-5.result _ _ (λ r h. with_arg _ _ _ _ _ four c.several_arg.ensures h) c.arg-5.ensures
+    let rules : List Rule = required_rule (codes "BOARD") ∷ required_option_rule (codes "from") ∷ flag_rule (codes "moves") ∷ flag_rule (codes "line") ∷ several_rule (codes "TEXT") ∷ [] in
+    c.command_of.ensures rules
+    (subst (AreArgs rules) (sym c.in_ok-args.ensures.items) (c.required_arg.ensures, (c.required_option_arg.ensures, (c.flag_arg.ensures, (c.flag_arg-2.ensures, (c.several_arg.ensures, tt))))))

@@ -1,4 +1,4 @@
-use Rattle.std.proofs.Common.{arith}
+use Rattle.std.proofs.Common.{arith, refl}
 use Rattle.morris_words.proofs.words.stats_request.Goals as goal
 
 pub number-requires : goal.number-requires
@@ -12,8 +12,14 @@ overflow_cast-result c =
     let range = c.number.ensures.range 1 64 (omega arith) c.requires.workers in
     omega (arith, range.1)
 
-pub returns-clause-range : goal.returns-clause-range
-returns-clause-range c = (
-  c.number.ensures.range 1 64 (omega arith) c.requires.workers,
-  c.number-2.ensures.range 1 1024 (omega arith) c.requires.blocks,
-)
+pub returns : goal.returns
+returns c =
+    let workers = c.number.ensures.range 1 64 (omega arith) c.requires.workers in
+    let blocks = c.number-2.ensures.range 1 1024 (omega arith) c.requires.blocks in (
+      refl,
+      (
+        (refl, c.given.ensures, c.given-2.ensures, c.flag-classes.ensures, c.number.ensures.value, c.number-2.ensures.value, c.flag.ensures),
+        c.flag-2.ensures,
+      ),
+      (workers, blocks),
+    )

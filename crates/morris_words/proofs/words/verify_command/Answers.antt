@@ -1,13 +1,11 @@
-use Rattle.std.proofs.lemmas.Result.{IfOk-weaker}
-use Rattle.morris_words.specs.Words.{verify_app}
-use Rattle.morris_words.proofs.ReadLaws.{with_arg}
+use Rattle.std.proofs.Common.{[], ◌∷◌, List, codes, subst, sym}
+use Rattle.clap.specs.Words.{Rule}
+use Rattle.morris_words.specs.Words.{AreArgs, flag_rule, option_rule, required_rule, verify_app, workers_rule}
 use Rattle.morris_words.proofs.words.verify_command.Goals as goal
 
 pub returns : goal.returns
 unfolding verify_app
 returns c =
-    let one = with_arg _ _ _ _ _ c.command_of.ensures c.required_arg.ensures c.in_ok-arg.ensures in
-    let two = with_arg _ _ _ _ _ one c.flag_arg.ensures c.in_ok-arg-2.ensures in
-    let three = with_arg _ _ _ _ _ two c.option_arg.ensures c.in_ok-arg-3.ensures in
-    let four = with_arg _ _ _ _ _ three c.workers_arg.ensures c.in_ok-arg-4.ensures in
-    IfOk-weaker c.arg-5.result _ _ (λ r h. with_arg _ _ _ _ _ four c.flag_arg-2.ensures h) c.arg-5.ensures
+    let rules : List Rule = required_rule (codes "BOARD") ∷ flag_rule (codes "all") ∷ option_rule (codes "from") ∷ workers_rule ∷ flag_rule (codes "progress") ∷ [] in
+    c.command_of.ensures rules
+    (subst (AreArgs rules) (sym c.in_ok-args.ensures.items) (c.required_arg.ensures, (c.flag_arg.ensures, (c.option_arg.ensures, (c.workers_arg.ensures, (c.flag_arg-2.ensures, tt))))))

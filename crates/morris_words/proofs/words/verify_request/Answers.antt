@@ -1,7 +1,7 @@
-use Rattle.std.proofs.Common.{◌≡◌, ◌∙◌, arith, codes, refl, sym, true}
+use Rattle.std.proofs.Common.{◌≡◌, ◌∙◌, [], Some, arith, codes, refl, rules, sym, true}
 use Rattle.clap.specs.Takes.{is_given}
 use Rattle.clap.specs.Words.{found_of, rows_of}
-use Rattle.morris_words.specs.Words.{has_clash, is_on}
+use Rattle.morris_words.specs.Words.{clashes, has_clash, is_on}
 use Rattle.morris_words.proofs.ReadLaws.{clash_answered, flag_on}
 use Rattle.morris_words.proofs.words.verify_request.Goals as goal
 
@@ -13,8 +13,12 @@ overflow_cast-result c =
     let range = c.number.ensures.range 1 64 (omega arith) c.requires.workers in
     omega (arith, range.1)
 
-pub returns-clause-range : goal.returns-clause-range
-returns-clause-range c = c.number.ensures.range 1 64 (omega arith) c.requires.workers
+pub returns-clause-request : goal.returns-clause-request
+returns-clause-request c =
+    let rows = rows_of (found_of c.args.found.now) in
+    let free : clashes (Some (codes "verify", rows)) ≡ [] = search rules in
+    let workers = c.number.ensures.range 1 64 (omega arith) c.requires.workers in
+    (free, ((refl, c.given.ensures, c.flag-all.ensures, c.optional-from.ensures, c.number.ensures.value), c.flag.ensures), workers)
 
 pub returns-then-is_some-clause-refused : goal.returns-then-is_some-clause-refused
 returns-then-is_some-clause-refused c =
