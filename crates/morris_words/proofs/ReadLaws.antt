@@ -1,11 +1,14 @@
 -- What a command takes, and what it reads of the values that its words gave.
-use Rattle.std.proofs.Common.{◌≡◌, ◌∙◌, ◌||◌, Bool, true, false, ap, ap₂, inl, inr, refl, subst, sym, List, [], ◌∷◌, Option, Some, None, codes, is_some, option_map}
+use Rattle.std.proofs.Common.{◌≡◌, ◌∙◌, ◌||◌, Bool, true, false, ap, ap₂, inl, inr, refl, subst, sym, List, [], ◌∷◌, Option, Some, None, Result, codes, is_some, option_map}
 use Rattle.std.specs.Box.{box_value}
+use Rattle.std.specs.Option.{option_zip}
+use Rattle.std.specs.Result.{result_ok}
+use Rattle.std.specs.Prelude.{Err, IfOk, Ok}
 use Rattle.std.specs.Prelude.{Box, if◌then◌else◌}
 use Rattle.std.specs.Str.{bytes_eq}
 use Rattle.std.proofs.lemmas.Slice.Eq.{bytes_eq-Decides}
 use Rattle.clap.proofs.WalkLemmas.{one_text-rows}
-use Rattle.clap.specs.Words.{AddsArg, AddsInTurn, App, Rule, subcommand_rows, with_rule}
+use Rattle.clap.specs.Words.{AddsArg, AddsInTurn, AddsSubcommand, App, Rule, app_of, subcommand_rows, with_rule, with_subcommand}
 use Rattle.clap.specs.declared.builder.arg.Arg.{Arg}
 use Rattle.clap.specs.declared.builder.command.Command.{Command}
 use Rattle.clap.specs.Matches.{one_text}
@@ -36,6 +39,18 @@ with_args [] (r ∷ rules) before after a was are same = absurd are
 with_args (arg ∷ args) [] before after a was are adds = absurd are
 with_args (arg ∷ args) (r ∷ rules) before after a was are adds =
     with_args args rules adds.0 after (with_rule a r) (with_arg before arg adds.0 a r was are.0 adds.1) are.1 adds.2
+
+-- and with one subcommand more, where both are there
+pub with_command : {E : Type 0} (program command : Result Command E) (p : Command × Command) (after : Command) (before added : App)
+    → IfOk program (λ c. app_of c ≡ before) → IfOk command (Is added) → option_zip (result_ok program) (result_ok command) ≡ Some p
+    → AddsSubcommand p.0 p.1 after → app_of after ≡ with_subcommand before added.top
+with_command (Ok program) (Ok command) p after before added was is both adds =
+    let same : (program, command) ≡ p = cc in
+    let old : app_of p.0 ≡ before = subst (λ (q : Command × Command). app_of q.0 ≡ before) same was in
+    let new : Is added p.1 = subst (λ (q : Command × Command). Is added q.1) same is in
+    adds.shape new.1 ∙ ap₂ with_subcommand old (ap (λ (a : App). a.top) new.0)
+with_command (Ok program) (Err refused) p after before added was is both adds = cc
+with_command (Err refused) command p after before added was is both adds = cc
 
 pub not_both : {X : Type 0} (r : Option X) (x : X) → r ≡ None → r ≡ Some x → ⊥
 not_both r x none some =

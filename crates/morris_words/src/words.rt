@@ -177,16 +177,15 @@ const DEFAULT_WORKERS: &str = "2";
 
 const DEFAULT_BLOCKS: &str = "16";
 
-// The program, with its commands: each is one of this list, and one arm of `request_of`.
+// The program, with its commands: each is one `with_command` here, and one arm of `request_of`.
 fn morris_command<'a>(alloc: Global) -> Result<Command<'a>, AllocError>
     ensures { IfOk result (λ c. app_of c ≡ morris_app) }
 {
-    let program = bare_program(alloc)?;
-    let program = with_command(program, look_command(alloc))?;
-    let program = with_command(program, stats_command(alloc))?;
-    let program = with_command(program, build_command(alloc))?;
-    let program = with_command(program, verify_command(alloc))?;
-    let program = with_command(program, probe_command(alloc))?;
+    let program = with_command(bare_program(alloc), look_command(alloc));
+    let program = with_command(program, stats_command(alloc));
+    let program = with_command(program, build_command(alloc));
+    let program = with_command(program, verify_command(alloc));
+    let program = with_command(program, probe_command(alloc));
     with_command(program, lookup_command(alloc))
 }
 
@@ -202,14 +201,17 @@ fn bare_program<'a>(alloc: Global) -> Result<Command<'a>, AllocError>
         .bin_name("morris")
 }
 
-// The program with one more command, once that is made.
+// The program with one more command, where there was memory for both.
 fn with_command<'a>(
-    program: Command<'a>,
-    made: Result<Command<'a>, AllocError>,
+    program: Result<Command<'a>, AllocError>,
+    command: Result<Command<'a>, AllocError>,
 ) -> Result<Command<'a>, AllocError>
-    ensures { (before command : App) → app_of program.entry ≡ before → IfOk made.entry (Is command) → IfOk result (λ c. app_of c ≡ with_subcommand before command.top) }
+    ensures { (before added : App) → IfOk program.entry (λ c. app_of c ≡ before) → IfOk command.entry (Is added) → IfOk result (λ c. app_of c ≡ with_subcommand before added.top) }
 {
-    program.subcommand(made?)
+    let Some((program, command)) = program.ok().zip(command.ok()) else {
+        return Err(AllocError);
+    };
+    program.subcommand(command)
 }
 
 // A command of this name with these arguments.

@@ -4,9 +4,9 @@ use Rattle.morris_words.proofs.words.morris_command.Goals as goal
 pub returns : goal.returns
 unfolding morris_app
 returns c =
-    let one = c.in_ok-program-2.ensures program look_app c.in_ok-program.ensures c.look_command.ensures in
-    let two = c.in_ok-program-3.ensures _ stats_app one c.stats_command.ensures in
-    let three = c.in_ok-program-4.ensures _ build_app two c.build_command.ensures in
-    let four = c.in_ok-program-5.ensures _ verify_app three c.verify_command.ensures in
-    let five = c.in_ok-program-6.ensures _ probe_app four c.probe_command.ensures in
-    c.with_command-6.ensures _ lookup_app five c.lookup_command.ensures
+    let one = c.with_command-program.ensures program look_app c.bare_program.ensures c.look_command.ensures in
+    let two = c.with_command-program-2.ensures _ stats_app one c.stats_command.ensures in
+    let three = c.with_command-program-3.ensures _ build_app two c.build_command.ensures in
+    let four = c.with_command-program-4.ensures _ verify_app three c.verify_command.ensures in
+    let five = c.with_command-program-5.ensures _ probe_app four c.probe_command.ensures in
+    c.with_command.ensures _ lookup_app five c.lookup_command.ensures

@@ -1,11 +1,13 @@
-use Rattle.std.proofs.Common.{◌∙◌, ap, ap₂}
+use Rattle.std.proofs.Common.{◌∙◌, ap₂, sym}
 use Rattle.std.proofs.lemmas.Result.{IfOk-weaker}
-use Rattle.clap.specs.Words.{App, with_subcommand}
-use Rattle.morris_words.specs.Words.{Is}
+use Rattle.std.specs.Option.{option_zip}
+use Rattle.morris_words.proofs.ReadLaws.{with_command}
 use Rattle.morris_words.proofs.words.with_command.Goals as goal
 
 pub returns : goal.returns
-returns c before command was is =
-    let made : Is command c.in_ok-made.field-0 = rw c.in_ok-made.was at is in
-    let top = ap (λ (a : App). a.top) made.0 in
-    IfOk-weaker c.subcommand.result _ _ (λ r h. h.shape made.1 ∙ ap₂ with_subcommand was top) c.subcommand.ensures
+returns c before added was is =
+    let both = ap₂ option_zip (sym c.ok.ensures.value) (sym c.ok-2.ensures.value) ∙ (sym c.zip.ensures ∙ c.in-Some.is) in
+    IfOk-weaker c.subcommand.result _ _ (λ r h. with_command c.args.program c.args.command _ r before added was is both h) c.subcommand.ensures
+
+pub returns-in_default : goal.returns-in_default
+returns-in_default c before added was is = tt
