@@ -16,8 +16,9 @@ use crate::stretch::Stretch;
 use std::alloc::{AllocError, Global};
 
 // So many nodes are read at a time, so that nothing that was read stays with its node. What a graph
-// keeps while it reads nodes that follow one another serves the more of them.
-const PIECE: usize = 16384;
+// keeps while it reads nodes that follow one another serves many of them, and what was read of a
+// piece still has room on the stack.
+const PIECE: usize = 4096;
 
 // What is known of a stretch while its nodes are read.
 #[derive(Drop)]
