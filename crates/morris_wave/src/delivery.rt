@@ -64,6 +64,33 @@ fn deal<L: NodeList>(lists: &mut Vec<L>, finder: &Finder, nodes: &[u64]) -> Resu
     Ok(())
 }
 
+// Puts the nodes that lead to one of these, each as often as it leads there, into the empty lists of
+// their blocks.
+fn deal_behind<G: Graph, L: NodeList>(
+    alloc: Global,
+    graph: &G,
+    cut: &Cut,
+    nodes: &[u64],
+    lists: &mut Vec<L>,
+) -> Result<(), AllocError>
+    requires small { cut.now.size ≤ L.limit }
+    requires size { (G.Name.net (G.level graph.now)).size ≡ cut.now.size }
+    requires inside { All (λ j. j < cut.now.size) nodes.now }
+    requires count { vec_len lists.old ≡ cut.now.blocks }
+    requires empty { (t : ℕ) → list_at (contents L.items lists.old.items) t ≡ [] }
+    ensures count { OnOk result (vec_len lists.new ≡ cut.now.blocks) }
+    ensures sorted { OnOk result (AreSorted cut.now (contents L.items lists.new.items)) }
+    ensures behind { OnOk result (LeadTo (G.Name.net (G.level graph.now)) cut.now (contents L.items lists.new.items) nodes.now) }
+{
+    let finder = Finder::new(cut);
+    let mut before = Vec::new(alloc);
+    for piece in nodes.chunks(PIECE) {
+        graph.back_from(alloc, piece, &mut before)?;
+        deal(lists, &finder, &before)?;
+    }
+    Ok(())
+}
+
 // The nodes that lead to one of these, each as often as it leads there, in one list for each block.
 fn behind<G: Graph, L: NodeList>(
     alloc: Global,
@@ -80,12 +107,7 @@ fn behind<G: Graph, L: NodeList>(
     ensures behind { IfOk result (λ v. LeadTo (G.Name.net (G.level graph.now)) cut.now (contents L.items v.items) nodes.now) }
 {
     let mut lists = no_lists(alloc, cut.blocks() as usize, spare)?;
-    let finder = Finder::new(cut);
-    let mut before = Vec::new(alloc);
-    for piece in nodes.chunks(PIECE) {
-        graph.back_from(alloc, piece, &mut before)?;
-        deal(&mut lists, &finder, &before)?;
-    }
+    deal_behind(alloc, graph, cut, nodes, &mut lists)?;
     Ok(lists)
 }
 

@@ -115,6 +115,26 @@ fn first_absent(cut: &Cut, places: &[Option<usize>]) -> Option<u64>
     None
 }
 
+// Where the block of each number stands, if each block of the cut came and nothing speaks against
+// one of them.
+fn places_of<N: Levels, L: NodeList>(
+    level: u64,
+    wave: u16,
+    cut: &Cut,
+    blocks: &[Block<N, L>],
+) -> Result<[Option<usize>; NUMBERS], GatherFault>
+    ensures places { IfOk result (λ places. ArePlaces blocks.now places) }
+    ensures walked { OnOk result (first_complaint level wave cut.now [] blocks.now ≡ None) }
+    ensures all { OnOk result (HasAll cut.now blocks.now) }
+    ensures fault { IfErr result (IsGatherFault level wave cut.now blocks.now) }
+{
+    let places = walk(level, wave, cut, blocks)?;
+    match first_absent(cut, &places) {
+        Some(number) => Err(GatherFault::Missing(number)),
+        None => Ok(places),
+    }
+}
+
 // The entries of a block.
 fn entries_of<N: Levels, L: NodeList>(block: &Block<N, L>) -> &Codes
     ensures cut { IsCut block.now.cut }
@@ -172,10 +192,7 @@ pub fn gather<N: Levels, L: NodeList>(
     ensures gathered { IfOk result (IsGathered (N.net level) level wave cut.now blocks.now) }
     ensures fault { IfErr result (IsGatherFault level wave cut.now blocks.now) }
 {
-    let places = walk(level, wave, cut, blocks)?;
-    if let Some(number) = first_absent(cut, &places) {
-        return Err(GatherFault::Missing(number));
-    }
+    let places = places_of(level, wave, cut, blocks)?;
     let codes = in_order(alloc, level, wave, cut, blocks, &places)?;
     Ok(codes)
 }
@@ -254,10 +271,7 @@ pub fn gather_from<N: Levels, L: NodeList>(
     ensures gathered { IfOk result (IsGathered (N.net level) level wave cut.now blocks.items) }
     ensures fault { IfErr result (IsGatherFault level wave cut.now blocks.items) }
 {
-    let places = walk(level, wave, cut, &blocks)?;
-    if let Some(number) = first_absent(cut, &places) {
-        return Err(GatherFault::Missing(number));
-    }
+    let places = places_of(level, wave, cut, &blocks)?;
     let codes = taken_in_order(alloc, level, wave, cut, blocks, &places)?;
     Ok(codes)
 }

@@ -14,7 +14,7 @@ use std::alloc::{AllocError, Global};
 use thiserror::Error;
 
 /// Why a graph wasn't swept.
-#[derive(Clone, Copy, Debug, PartialEq, Eq, Error)]
+#[derive(Clone, Copy, Debug, Error)]
 pub enum SweepFault {
     /// A depth is too great for a code of 16 bits.
     #[error("depth is too great")]
@@ -118,6 +118,34 @@ fn run<G: Graph, L: NodeList, W: Watch>(
     Ok(whole.is_quiet())
 }
 
+// Goes through all waves of a graph, and gives the code of each node.
+fn codes_of<G: Graph, W: Watch>(
+    alloc: Global,
+    graph: &G,
+    whole: &mut Stretch<Vec<u64>>,
+    watch: &mut W,
+) -> Result<Vec<u16>, SweepFault>
+    requires first { whole.old.entries.first ≡ 0 }
+    requires wave { whole.old.entries.wave ≡ 0 }
+    requires len { length whole.old.entries.entries.codes ≡ (G.Name.net (G.level graph.now)).size }
+    requires few { AreFew (G.Name.net (G.level graph.now)) 0 (G.Name.net (G.level graph.now)).size (most_of whole.old.counters) }
+    requires start { StretchHolds (G.Name.net (G.level graph.now)) 0 every 0
+        whole.old.entries.entries.codes (counts_of whole.old.counters) whole.old.due whole.old.last_due }
+    ensures len { IfOk result (λ v. vec_len v ≡ (G.Name.net (G.level graph.now)).size) }
+    ensures codes { IfOk result (λ v. (i : ℕ) → i < (G.Name.net (G.level graph.now)).size
+        → HasCode (G.Name.net (G.level graph.now)) i (slice_index v.items i)) }
+    ensures not_too_deep { OnOk result (¬ IsTooDeep (G.Name.net (G.level graph.now))) }
+    ensures too_deep { result ≡ Err SweepFault.TooDeep → IsTooDeep (G.Name.net (G.level graph.now)) }
+    ensures watched { W.becomes watch.old watch.new }
+{
+    if run(alloc, graph, whole, watch)? {
+        let codes = whole.entries.entries.codes.to_words(alloc)?;
+        Ok(codes)
+    } else {
+        Err(SweepFault::TooDeep)
+    }
+}
+
 /// The code of each node of a graph: 0 for a draw, otherwise one more than its depth.
 ///
 /// A node is lost in 0 plies where it has no result. It is won in one ply more than its least lost
@@ -133,7 +161,6 @@ fn run<G: Graph, L: NodeList, W: Watch>(
 ///
 /// `TooDeep` exactly where some node has a depth of 65,534 or more, or 65,534 is its least depth of
 /// a lost exit or its greatest depth of a won exit. `Memory` where memory is refused.
-#[tactic(auto, using(crate::proofs::Plies::ply_rules, crate::proofs::Plies::code_rules))]
 pub fn sweep<G: Graph>(alloc: Global, graph: &G) -> Result<Vec<u16>, SweepFault>
     ensures len { IfOk result (λ v. vec_len v ≡ (G.Name.net (G.level graph.now)).size) }
     ensures codes { IfOk result (λ v. (i : ℕ) → i < (G.Name.net (G.level graph.now)).size
@@ -155,7 +182,6 @@ pub fn sweep<G: Graph>(alloc: Global, graph: &G) -> Result<Vec<u16>, SweepFault>
 ///
 /// Those of [`sweep`]. Where memory is refused as the graph is read, the watch is told nothing. A
 /// wave that was told may still be refused.
-#[tactic(auto, using(crate::proofs::Plies::ply_rules, crate::proofs::Plies::code_rules))]
 pub fn sweep_watched<G: Graph, W: Watch>(
     alloc: Global,
     graph: &G,
@@ -173,10 +199,5 @@ pub fn sweep_watched<G: Graph, W: Watch>(
     ensures watched { W.becomes watch.old watch.new }
 {
     let mut whole: Stretch<Vec<u64>> = Stretch::read(alloc, graph, 0, graph.size())?;
-    if run(alloc, graph, &mut whole, watch)? {
-        let codes = whole.entries.entries.codes.to_words(alloc)?;
-        Ok(codes)
-    } else {
-        Err(SweepFault::TooDeep)
-    }
+    codes_of(alloc, graph, &mut whole, watch)
 }

@@ -1,5 +1,5 @@
-use Rattle.std.proofs.Common.{◌≡◌, ℕ, ◌<◌, List, [], ◌∷◌, ◌++◌, length, slice_index_or, sym, ap, ◌∙◌, subst, arith, append_assoc}
-use Rattle.std.proofs.lemmas.List.{length_push}
+use Rattle.std.proofs.Common.{◌≡◌, ℕ, ◌<◌, List, [], ◌∷◌, ◌++◌, length, slice_index_or, sym, ap, ◌∙◌, subst, arith, append_assoc, vec_len}
+use Rattle.std.proofs.lemmas.List.{length-append, length_push}
 use Rattle.std.specs.List.{All}
 use Rattle.morris_wave.specs.Batches.{FreshState, BatchState, BatchHolds}
 use Rattle.morris_wave.specs.Lists.{contents}
@@ -49,3 +49,27 @@ loop-nodes-preserved g c =
       subst (λ (bs : List BatchState). (t : ℕ) (d : BatchState) → t < length bs → IsBatchOf net c.args.fresh.now t (slice_index_or bs t d)) (sym pushed)
           (batches_more net c.args.fresh.now batches c.seal.result inv.2 batch),
     )
+
+pub returns-clause-count : goal.returns-clause-count
+returns-clause-count g c =
+    let inv = c.loop-nodes.invariant in
+    let rest = c.loop-nodes.nodes-iterator.rest in
+    let lists = c.in_ok-lists.lists in
+    let none : length rest.items ≡ 0 = omega (arith, c.in-None.ensures.steps.0, rest.ok.0) in
+    omega (
+      arith,
+      ap length inv.1,
+      length-append c.loop-nodes.yielded rest.items,
+      none,
+      ap length c.into_iter-nodes-iterator.ensures.into_iter_gives.0,
+      lists.ok.0,
+      inv.0,
+      c.loop-nodes.batches.ok.0,
+      c.in_ok-lists.ensures.count,
+      ap (λ (t : FreshState). t.cut.blocks) c.fresh.view_is,
+    )
+
+pub returns-clause-batches : goal.returns-clause-batches
+returns-clause-batches g c = λ t d l.
+    let count : vec_len c.loop-nodes.batches ≡ c.args.fresh.now.cut.blocks = returns-clause-count g c in
+    c.loop-nodes.invariant.2 t d (omega (arith, count, l, c.loop-nodes.batches.ok.0))

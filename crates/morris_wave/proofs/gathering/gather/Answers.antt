@@ -1,5 +1,5 @@
 use Rattle.std.proofs.Common.{[]}
-use Rattle.morris_wave.proofs.Gathered.{all_fit, all_there, gathered}
+use Rattle.morris_wave.proofs.Gathered.{all_fit, gathered}
 use Rattle.morris_wave.proofs.gathering.gather.Goals as goal
 
 pub in_order-requires-clause-fit : goal.in_order-requires-clause-fit
@@ -9,4 +9,4 @@ pub returns-clause-gathered : goal.returns-clause-gathered
 returns-clause-gathered g c =
     let a = c.args in
     gathered (g.N.Levels.net a.level) (g.N.Levels.lawful a.level) a.level a.wave a.cut.now a.blocks.now c.in_ok-codes.codes c.in_ok-places.ensures.walked
-    (all_there a.cut.now a.blocks.now c.in_ok-places.places c.in_ok-places.ensures.ok c.first_absent.ensures.few c.in_default.ensures.none) c.in_ok-codes.ensures
+    c.in_ok-places.ensures.all c.in_ok-codes.ensures

@@ -1,7 +1,7 @@
 use Rattle.std.proofs.Common.{◌≡◌, [], List, None, subst}
 use Rattle.morris_wave.specs.Blocks.{BlockState}
-use Rattle.morris_wave.specs.Gathering.{first_complaint, ArePlaces}
-use Rattle.morris_wave.proofs.Gathered.{all_fit, all_there, gathered}
+use Rattle.morris_wave.specs.Gathering.{first_complaint, HasAll}
+use Rattle.morris_wave.proofs.Gathered.{all_fit, gathered}
 use Rattle.morris_wave.proofs.gathering.gather_from.Goals as goal
 
 pub taken_in_order-requires-clause-fit : goal.taken_in_order-requires-clause-fit
@@ -16,6 +16,5 @@ returns-clause-gathered g c =
     let a = c.args in
     let walked : first_complaint a.level a.wave a.cut.now [] a.blocks.items ≡ None =
     subst (λ (bs : List BlockState). first_complaint a.level a.wave a.cut.now [] bs ≡ None) c.deref.ensures.value c.in_ok-places.ensures.walked in
-    let places : ArePlaces a.blocks.items c.in_ok-places.places = subst (λ (bs : List BlockState). ArePlaces bs c.in_ok-places.places) c.deref.ensures.value c.in_ok-places.ensures.ok in
-    gathered (g.N.Levels.net a.level) (g.N.Levels.lawful a.level) a.level a.wave a.cut.now a.blocks.items c.in_ok-codes.codes walked
-    (all_there a.cut.now a.blocks.items c.in_ok-places.places places c.first_absent.ensures.few c.in_default.ensures.none) c.in_ok-codes.ensures
+    let all : HasAll a.cut.now a.blocks.items = subst (λ (bs : List BlockState). HasAll a.cut.now bs) c.deref.ensures.value c.in_ok-places.ensures.all in
+    gathered (g.N.Levels.net a.level) (g.N.Levels.lawful a.level) a.level a.wave a.cut.now a.blocks.items c.in_ok-codes.codes walked all c.in_ok-codes.ensures

@@ -39,3 +39,25 @@ loop-place-preserved g c =
           (subst (λ (ws : List ℕ). HasRead net most first (place + 1) codes' (set counters place ((quiet + waits 0 e) % 65536)) ws new.last_due) (sym c.take.ensures.waves)
           (subst (λ (d : ℕ). HasRead net most first (place + 1) codes' (set counters place ((quiet + waits 0 e) % 65536)) (set old.waves.items place (due_within (due_wave e))) d) (sym c.take.ensures.last) more)));
     }
+
+pub take-requires-clause-inside : goal.take-requires-clause-inside
+take-requires-clause-inside g c =
+    let here : c.loop-place.place < length c.args.counts.now = omega (arith, c.loop-place-test.true, c.read_nodes.auto.counts) in
+    omega (arith, here, c.requires.inside, c.loop-place.invariant.len)
+
+pub take-requires-clause-few : goal.take-requires-clause-few
+take-requires-clause-few g c =
+    ltb-true (slice_index c.read_nodes.new.counts c.loop-place.place) g.C.CounterList.most (sym c.has_room.ensures ∙ c.if-not-has_room.false)
+
+pub take-requires-clause-unwritten : goal.take-requires-clause-unwritten
+take-requires-clause-unwritten g c =
+    let here : c.loop-place.place < length c.args.counts.now = omega (arith, c.loop-place-test.true, c.read_nodes.auto.counts) in
+    c.loop-place.invariant.read.unwritten (c.args.from + c.loop-place.place) (omega arith) (omega (arith, here, c.requires.inside, c.loop-place.invariant.len))
+
+pub returns-clause-read : goal.returns-clause-read
+returns-clause-read g c = λ _.
+    let net = g.G.Name.Levels.net (g.G.Graph.level c.args.graph.now) in
+    let now = c.loop-place.reading in
+    let all : c.args.from + c.loop-place.place ≡ c.args.from + length c.args.counts.now = omega (arith, c.loop-place-test.false, c.loop-place.auto.place-end, c.read_nodes.auto.counts) in
+    subst (λ (p : ℕ). HasRead net g.C.CounterList.most c.args.reading.now.entries.first p now.entries.entries.codes (g.C.CounterList.counts now.counters) now.waves.items now.last_due) all
+    c.loop-place.invariant.read

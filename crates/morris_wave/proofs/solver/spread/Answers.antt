@@ -118,3 +118,16 @@ returns-clause-done g c =
     let whole : take i fresh ≡ fresh = take_all i fresh (omega (arith, fresh_length (g.L.NodeList.items e.decided) e.before e.here e.ranked.within, c.loop-place-test.false, inv.6)) in
     spread_all net law e.wave 0 codes (counts_of now.counters) now.due now.last_due fresh listed
     (subst (λ (xs : List ℕ). StretchHolds net e.wave (among xs) 0 codes (counts_of now.counters) now.due now.last_due) whole inv.7)
+
+pub take_in-requires-clause-inside : goal.take_in-requires-clause-inside
+take_in-requires-clause-inside g c = λ p d l.
+    let inv = c.loop-place.invariant in
+    let node = c.in_ok-back.ensures.nodes p d l in
+    (omega (arith, inv.3), omega (arith, node, inv.3, inv.5, c.requires.len))
+
+pub back-requires : goal.back-requires
+back-requires g c =
+    let inv = c.loop-place.invariant in
+    let entries = c.loop-place.whole.entries in
+    let inside = entries.ranked.inside c.loop-place.place 0 (omega (arith, c.loop-place-test.true, inv.1, entries.ranked.within)) in
+    omega (arith, inside.1, c.node.ensures, inv.3, inv.5, c.requires.len)

@@ -2,7 +2,7 @@ use Rattle.std.proofs.Common.{◌≡◌, ℕ, ◌++◌, List, length}
 use Rattle.std.specs.Slice.Iter.{chunks_rest}
 use Rattle.morris_wave.specs.Lists.{contents}
 use Rattle.morris_wave.specs.Delivery.{AreSorted, LeadTo}
-use Rattle.morris_wave.proofs.delivery.behind.Given as goal
+use Rattle.morris_wave.proofs.delivery.deal_behind.Given as goal
 
 abbrev pub invariant-loop-piece : goal.invariant-loop-piece
 invariant-loop-piece g l =
