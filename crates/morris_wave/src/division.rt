@@ -16,7 +16,7 @@ const SHORT: u64 = 4294967296;
 const PARTS: u64 = 9007199254740992;
 
 /// The number of blocks isn't 1 to 1,024.
-#[derive(Clone, Copy, Debug, PartialEq, Eq, Error)]
+#[derive(Clone, Copy, Debug, Error)]
 #[error("blocks must be 1 to 1024")]
 pub struct Blocks;
 
@@ -24,7 +24,7 @@ pub struct Blocks;
 ///
 /// Block `k` of `blocks` holds the nodes from `size * k / blocks` up to, not including,
 /// `size * (k + 1) / blocks`, both rounded down.
-#[derive(Clone, Copy, Debug)]
+#[derive(Clone, Copy)]
 pub struct Cut {
     size: u64,
     blocks: u64,

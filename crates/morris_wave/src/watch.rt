@@ -27,7 +27,7 @@ pub trait Watch {
 }
 
 /// A watch for work of which nobody is told anything.
-#[derive(Clone, Copy, Debug)]
+#[derive(Clone, Copy)]
 pub struct Unwatched;
 
 impl Watch for Unwatched {
