@@ -2,7 +2,7 @@
 use Rattle.std.proofs.Common.{◌≡◌, ℕ, suc, ◌+◌, ◌-◌, ◌*◌, ◌/◌, ◌<◌, ◌≤◌, Bool, true, false, not, ◌&&◌, ◌||◌, cond, eqb, List, [], ◌∷◌, ◌++◌, Option, Some, None, is_some, length, get_or, set, take, drop, replicate, refl, sym, ap, ap₂, ◌∙◌, subst, ⊎_elim, arith, get_or-set_same, get_or-set_other, length-set, take_all, Vec}
 use Rattle.std.specs.List.{All, count_by}
 use Rattle.std.specs.declared.alloc.Global.{Global}
-use Rattle.std.proofs.Math.Nat.{mul-div_cancel, div-mul-le_self}
+use Rattle.std.proofs.Math.Nat.{mul-div_cancel, div-mul-le_self, zero-div}
 use Rattle.std.proofs.lemmas.Bool.{and_parts, or_cases, cases_Bool, cases_eq, cases_lt, eq-eqb, eqb-true, ltb-true, ne_eqb, or_left, or_right, both_ways, not-true, false_from_ne_true}
 use Rattle.std.proofs.lemmas.Nat.{le-div}
 use Rattle.std.proofs.lemmas.List.{drop_more, drop_all, take_more, get_or-replicate, length-replicate, get_or_past, get_or_append_left, get_or-append_right, length-append, length-take-le, get_or_default}
@@ -225,6 +225,19 @@ pub record KnownTo (g : Net) (wave : ℕ) (cut : Parts) (k : ℕ) (codes : List 
   pub early : 0 < k → wave ≤ 65534
   pub len : length codes ≡ first_of cut k
   pub each : (i : ℕ) → i < first_of cut k → get_or codes i 0 ≡ code_within g (wave + 1) i
+
+start : (cut : Parts) → first_of cut 0 ≡ 0
+start cut = ap (λ (x : ℕ). x / cut.blocks) (omega arith) ∙ zero-div cut.blocks
+
+-- of no block
+pub known_none : (g : Net) (wave : ℕ) (cut : Parts) (codes : List ℕ) → codes ≡ [] → KnownTo g wave cut 0 codes
+known_none g wave cut codes none = record {
+  is_cut = λ l. absurd (omega (arith, l));
+  size = λ l. absurd (omega (arith, l));
+  early = λ l. absurd (omega (arith, l));
+  len = ap length none ∙ sym (start cut);
+  each = λ i l. absurd (omega (arith, l, start cut));
+}
 
 -- and of one block more
 pub known_more : (net : ℕ → Net) (level wave : ℕ) (cut : Parts) (k : ℕ) (s : BlockState) (codes entries : List ℕ) → 1 ≤ cut.blocks → Fits level wave cut s → s.number ≡ k → KnownTo (net level) wave cut k codes

@@ -2,7 +2,7 @@ use Rattle.std.proofs.Common.{◌≡◌, ℕ, ◌+◌, ◌<◌, [], ◌∷◌, �
 use Rattle.std.proofs.lemmas.List.{length-append, length_push, get_or_at}
 use Rattle.morris_wave.specs.Blocks.{BlockState}
 use Rattle.morris_wave.specs.Gathering.{Fits}
-use Rattle.morris_wave.proofs.Gathered.{KnownTo, known_more, known_all}
+use Rattle.morris_wave.proofs.Gathered.{KnownTo, known_none, known_more, known_all}
 use Rattle.morris_wave.proofs.gathering.drained.Goals as goal
 
 pub loop-block-preserved : goal.loop-block-preserved
@@ -39,3 +39,6 @@ returns g c =
     let all : length before ≡ c.args.cut.now.blocks =
     omega (arith, ap length inv.0, length-append before c.loop-block.block-iterator.rest.items, none, ap length c.into_iter-block-iterator.ensures.into_iter_gives.0, c.requires.count, c.args.blocks.ok.0) in
     known_all (g.N.Levels.net c.args.level) c.args.wave c.args.cut.now (length before) c.loop-block.codes (omega (arith, c.blocks-blocks.ensures.some, c.blocks-blocks.ensures.count)) all inv.1
+
+pub loop-block-init : goal.loop-block-init
+loop-block-init g c = (refl, known_none (g.N.Levels.net c.args.level) c.args.wave c.args.cut.now c.in_ok-codes.codes.items c.in_ok-codes.ensures.items)

@@ -1,7 +1,7 @@
 use Rattle.std.proofs.Common.{◌≡◌, ℕ, ◌+◌, List, sym, ap, ◌∙◌, subst, arith}
 use Rattle.morris_wave.specs.Blocks.{BlockState}
 use Rattle.morris_wave.specs.Gathering.{Fits}
-use Rattle.morris_wave.proofs.Gathered.{KnownTo, known_more, known_all}
+use Rattle.morris_wave.proofs.Gathered.{KnownTo, known_none, known_more, known_all}
 use Rattle.morris_wave.proofs.gathering.in_order.Goals as goal
 
 pub offset_bounds-blocks-place : goal.offset_bounds-blocks-place
@@ -28,3 +28,6 @@ pub returns : goal.returns
 returns g c =
     known_all (g.N.Levels.net c.args.level) c.args.wave c.args.cut.now c.loop-number.number c.loop-number.codes (omega (arith, c.blocks-number-end.ensures.some, c.blocks-number-end.ensures.count))
     (omega (arith, c.loop-number-test.false, c.loop-number.auto.number-end, c.blocks-number-end.ensures.count)) c.loop-number.invariant
+
+pub loop-number-init : goal.loop-number-init
+loop-number-init g c = known_none (g.N.Levels.net c.args.level) c.args.wave c.args.cut.now c.in_ok-codes.codes.items c.in_ok-codes.ensures.items

@@ -1,8 +1,9 @@
-use Rattle.std.proofs.Common.{◌≡◌, ◌+◌, ◌<◌, ◌≤◌, ℕ, List, length, slice_index, sym, ap, subst, ◌∙◌, arith}
+use Rattle.std.proofs.Common.{◌≡◌, ◌+◌, ◌-◌, ◌<◌, ◌≤◌, ℕ, List, length, slice_index, sym, ap, subst, ◌∙◌, arith}
 use Rattle.morris_wave.specs.Nets.{times}
 use Rattle.morris_wave.specs.Lists.{list_at}
 use Rattle.morris_wave.specs.Keeping.{HasRead, ListsDue, StretchHolds}
 use Rattle.morris_wave.specs.Solving.{every}
+use Rattle.morris_wave.specs.Counts.{AreFew}
 use Rattle.morris_wave.proofs.Readings.{read_all, due_once}
 use Rattle.morris_wave.proofs.reading.read_with.Goals as goal
 
@@ -52,3 +53,21 @@ returns-clause-holds g c =
     subst (λ (cs : List ℕ). StretchHolds net 0 every c.args.first codes cs due r.last_due) (sym c.keep.ensures.counts)
     (read_all net most c.args.first codes (g.C.CounterList.counts r.counters) r.waves.items due r.last_due read
     (omega (arith, len, c.in_ok-reading.ensures.len, c.requires.end, c.requires.order)) (omega (arith, r.counted)) (omega (arith, r.waved, r.waves.ok.0)) listed)
+
+pub returns-clause-few : goal.returns-clause-few
+returns-clause-few g c =
+    let most = g.C.CounterList.most in
+    let net = g.G.Name.Levels.net (g.G.Graph.level c.args.graph.now) in
+    let before = c.in_ok-reading.reading in
+    let r = c.read_all.new.reading in
+    let codes = r.entries.entries.codes in
+    let read : HasRead net most c.args.first (length before.entries.entries.codes) codes (g.C.CounterList.counts r.counters) r.waves.items r.last_due =
+    subst (λ (f : ℕ). HasRead net most f (length before.entries.entries.codes) codes (g.C.CounterList.counts r.counters) r.waves.items r.last_due) c.in_ok-reading.ensures.first
+    (c.read_all.ensures.read c.if-not-read_all.false) in
+    subst (λ (m : ℕ). AreFew net c.args.first (c.args.end - c.args.first) m) (sym c.keep.ensures.most) (λ k l. read.few k (omega (arith, l, c.in_ok-reading.ensures.len)))
+
+pub read_all-requires-clause-read : goal.read_all-requires-clause-read
+read_all-requires-clause-read g c κs within =
+    let net = g.G.Name.Levels.net (g.G.Graph.level c.args.graph.now) in
+    let r = c.in_ok-reading.reading in
+    subst (λ (f : ℕ). HasRead net g.C.CounterList.most f 0 r.entries.entries.codes (g.C.CounterList.counts r.counters) r.waves.items r.last_due) (sym c.in_ok-reading.ensures.first) (c.in_ok-reading.ensures.read net)

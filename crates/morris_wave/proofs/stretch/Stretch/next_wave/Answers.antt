@@ -44,3 +44,9 @@ invariant_of-self g c =
           (gone_keeps s.due _ (λ xs. times (c.take_in.new.entries.first + k) xs ≤ 1) (omega arith) n
           (subst (λ (f : ℕ). times (f + k) (list_at s.due n) ≤ 1) (sym first) (s.once n k (omega (arith, l, len)))));
     }
+
+pub take_in-requires-clause-counters : goal.take_in-requires-clause-counters
+take_in-requires-clause-counters g c = omega (arith, ap length c.next_wave.ensures.codes, c.args.self.now.counted)
+
+pub take_in-requires-clause-small : goal.take_in-requires-clause-small
+take_in-requires-clause-small g c = c.args.self.now.small

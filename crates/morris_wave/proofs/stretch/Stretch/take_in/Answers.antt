@@ -13,3 +13,18 @@ invariant_of-self g c =
       inside = λ n p d l. let w = s.inside n p d l in (omega (arith, w.0, made.first), omega (arith, w.1, made.first, made.len));
       once = λ n k l. subst (λ (f : ℕ). times (f + k) (list_at s.due n) ≤ 1) (sym made.first) (s.once n k (omega (arith, l, made.len)));
     }
+
+pub take_in-requires-clause-inside : goal.take_in-requires-clause-inside
+take_in-requires-clause-inside g c = c.requires.inside
+
+pub take_in-requires-clause-counters : goal.take_in-requires-clause-counters
+take_in-requires-clause-counters g c = c.args.self.now.counted
+
+pub take_in-requires-clause-small : goal.take_in-requires-clause-small
+take_in-requires-clause-small g c = c.args.self.now.small
+
+pub take_in-requires-clause-enough : goal.take_in-requires-clause-enough
+take_in-requires-clause-enough g c = λ even k l. c.requires.enough even k (omega (arith, l, c.args.self.now.counted))
+
+pub returns-clause-taken : goal.returns-clause-taken
+returns-clause-taken g c = c.take_in.ensures.taken
