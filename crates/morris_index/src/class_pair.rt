@@ -15,9 +15,7 @@ ghost use Rattle.morris_index.specs.Carried.{IsReturning};
 ghost use Rattle.morris_index.specs.Standings.{are_of};
 
 use crate::binomials::binomial;
-use crate::class_halves::{
-    Half, class_half_index, class_half_position, class_half_row, class_half_size,
-};
+use crate::class_halves::{Half, class_half_row, class_half_size};
 use crate::classes::{Classes, first_leading};
 use crate::entry_rows::EntryRow;
 use crate::falls::FallsOn;
@@ -86,16 +84,17 @@ impl<B: Geometry> ClassPair<B> {
     pub fn make(alloc: Global, pair: Pair<B>) -> Result<ClassPair<B>, AllocError>
         ensures { IfOk result (λ made. made ≡ pair) }
     {
-        let greater = Classes::make(alloc, pair.greater())?;
-        let lesser = Classes::make(alloc, pair.lesser())?;
+        let (more, fewer, points) = (pair.greater(), pair.lesser(), B::POINTS);
+        let greater = Classes::make(alloc, more)?;
+        let lesser = Classes::make(alloc, fewer)?;
         let greater_returning = keep_returning(alloc, &greater)?;
         let lesser_returning = keep_returning(alloc, &lesser)?;
-        let greater_sets = SetList::make(alloc, B::POINTS - pair.lesser(), pair.greater())?;
-        let lesser_sets = SetList::make(alloc, B::POINTS - pair.greater(), pair.lesser())?;
+        let greater_sets = SetList::make(alloc, points - fewer, more)?;
+        let lesser_sets = SetList::make(alloc, points - more, fewer)?;
         let ranks = RankTable::make(alloc)?;
-        let first = class_half_size(&greater, pair.greater(), pair.lesser());
-        let greater_choices = binomial(B::POINTS - pair.greater(), pair.lesser());
-        let lesser_choices = binomial(B::POINTS - pair.lesser(), pair.greater());
+        let first = class_half_size(&greater, more, fewer);
+        let greater_choices = binomial(points - more, fewer);
+        let lesser_choices = binomial(points - fewer, more);
         Ok(ClassPair {
             pair,
             greater,
@@ -143,12 +142,10 @@ impl<B: Geometry> ClassPair<B> {
         ensures value { result ≡ class_index_of B.shape B.POINTS self.now position.now }
         ensures below { result < class_size_of B.shape B.POINTS self.now }
     {
-        let greater = self.pair.greater();
-        if position.own().count() == greater {
-            class_half_index(&self.greater, &self.ranks, position)
-        } else {
-            self.first + class_half_index(&self.lesser, &self.ranks, position)
-        }
+        let own = position.own();
+        let other = position.other();
+        let standing = self.standing(own, other.count());
+        self.entry_at(&standing, other)
     }
 
     /// The first entry in which the player to move stands on the representative of the class of
@@ -234,19 +231,7 @@ impl<B: Geometry> ClassPair<B> {
         ensures lawful { IsPosition B.shape result }
         ensures led { (s : Sides) → IsPosition B.shape s → is_of self.now s ≡ true → class_index_of B.shape B.POINTS self.now s ≡ index → result ≡ led B.shape s }
     {
-        let (greater, lesser) = (self.pair.greater(), self.pair.lesser());
-        let first = class_half_size(&self.greater, greater, lesser);
-        if index < first {
-            class_half_position(&self.greater, &self.lesser_sets, greater, lesser, index)
-        } else {
-            class_half_position(
-                &self.lesser,
-                &self.greater_sets,
-                lesser,
-                greater,
-                index - first,
-            )
-        }
+        self.row_from(index).position(0)
     }
 
     /// [`ClassPair::position`], where the position of the entry before is at hand. It is found from

@@ -1,11 +1,10 @@
 //! Lists of all sets of a number of points.
-ghost use Rattle.std.specs.Prelude.{◌≡◌, ℕ, ◌+◌, ◌<◌, ◌≤◌, ◌^◌, length, slice_index, IfOk};
+ghost use Rattle.std.specs.Prelude.{◌≡◌, ℕ, ◌+◌, ◌<◌, ◌≤◌, length, slice_index, IfOk};
 ghost use Rattle.morris_index.specs.Binomials.{choose};
-ghost use Rattle.morris_index.specs.Numbering.{number_outside, IsRanked, AreRanked};
+ghost use Rattle.morris_index.specs.Numbering.{IsRanked, AreRanked};
 
 use crate::binomials::binomial;
-use crate::ranks::{following, least, spread};
-use morris_board::board::Geometry;
+use crate::ranks::{following, least};
 use morris_board::points::Points;
 use std::alloc::{AllocError, Global};
 
@@ -45,17 +44,6 @@ impl SetList {
             count,
             sets,
         })
-    }
-
-    /// The set of points of the board outside `outside` with this rank, where as many points are
-    /// free as the list is of.
-    pub(crate) fn free_set<B: Geometry>(&self, outside: Points, rank: u64) -> Points
-        requires within { outside < 2 ^ B.POINTS }
-        requires free { number_outside outside B.POINTS ≡ self.now.points }
-        requires small { rank < choose self.now.points self.now.count }
-        ensures { IsRanked B.POINTS outside self.now.count rank result }
-    {
-        spread(Points::from_mask(self.sets[rank as usize]), outside)
     }
 
     /// The masks of the sets from a rank on.
