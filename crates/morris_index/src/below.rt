@@ -44,7 +44,6 @@ const PAIRS: [(u8, u8); PAIR_COUNT] = [
 
 /// An iterator over the pairs below a pair, in the order of [`Pair::below`].
 #[derive(Drop)]
-#[derive_where(Debug)]
 pub struct Below<B: Geometry> {
     /// The pair.
     pair: Pair<B>,

@@ -37,7 +37,7 @@ impl<B: Geometry> Model for Classes<B> {
 }
 
 /// What is kept of a set of points.
-#[derive(Clone, Copy, Debug)]
+#[derive(Clone, Copy)]
 struct Lead {
     /// Its class.
     class: u32,

@@ -12,7 +12,7 @@ use morris_board::points::Points;
 use std::alloc::{AllocError, Global};
 
 /// What is kept of a set: the symmetries that return from its images, and the masks of these.
-#[derive(Clone, Copy, Debug)]
+#[derive(Clone, Copy)]
 pub(crate) struct Returning {
     /// The symmetries whose inverse is the one that leads the image of the set under them.
     pub(crate) symmetries: Points,

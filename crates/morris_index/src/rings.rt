@@ -17,7 +17,7 @@ const RINGS: u32 = 65536;
 
 /// A set outside which points are numbered, with where the numbers of each ring's free points
 /// begin. Those of the first ring begin with 0.
-#[derive(Clone, Copy, Debug)]
+#[derive(Clone, Copy)]
 pub(crate) struct Outside {
     /// The set.
     pub(crate) points: Points,

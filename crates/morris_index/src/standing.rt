@@ -16,7 +16,7 @@ use morris_board::points::Points;
 
 /// Where the entries stand of the positions in which the player to move has given stones and the
 /// opponent a given number of stones. It is of one pair and of one of its numberings.
-#[derive(Clone, Copy, Debug)]
+#[derive(Clone, Copy)]
 pub struct Standing {
     /// The stones of the player to move.
     own: Points,
@@ -30,18 +30,6 @@ pub struct Standing {
     second: u8,
     /// How many of the points 0 to 15.
     third: u8,
-}
-
-impl Standing {
-    /// What is put where nothing is known.
-    pub const NOWHERE: Standing = Standing {
-        own: Points::EMPTY,
-        start: 0,
-        symmetry: 0,
-        place: Points::EMPTY,
-        second: 0,
-        third: 0,
-    };
 }
 
 impl<B: Geometry> Pair<B> {

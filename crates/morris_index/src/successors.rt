@@ -15,7 +15,6 @@ use std::marker::Model;
 /// What is kept of a position, so that the index of each position after a quiet move from it is
 /// found in constant time.
 #[derive(Drop)]
-#[derive_where(Debug)]
 pub struct SuccessorIndices<B: Geometry> {
     /// The pair that the position is one of.
     pair: Pair<B>,

@@ -14,7 +14,7 @@ const BIAS: u64 = 33_554_432;
 /// Sums over the stones of a set, from which its rank is found once one of them has moved. Those
 /// between the two points stand a place later in it where the stone goes to a lesser point, and a
 /// place earlier where it goes to a greater one.
-#[derive(Clone, Copy, Debug)]
+#[derive(Clone, Copy)]
 pub(crate) struct MovedSums {
     /// For each number of stones, what the first so many of them add to the rank less what they add
     /// a place later, and [`BIAS`].
@@ -105,7 +105,7 @@ impl MovedSums {
 /// Sums over the stones of a set that stays, from which its rank is found once one of the stones
 /// outside which it is numbered has moved. Those between the two points get the number before or
 /// after their own.
-#[derive(Clone, Copy, Debug)]
+#[derive(Clone, Copy)]
 pub(crate) struct RenumberedSums {
     /// For each number of stones, what the first so many of them add to the rank less what they add
     /// by the number before, and [`BIAS`].
