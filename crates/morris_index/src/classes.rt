@@ -64,18 +64,11 @@ impl<B: Geometry> Classes<B> {
         requires fits { count ≤ B.POINTS }
         ensures { IfOk result (λ classes. classes ≡ count) }
     {
-        let sets = binomial(B::POINTS, count);
         let mut kept = Kept {
-            leads: Vec::with_capacity(alloc, sets as usize)?,
+            leads: Vec::with_capacity(alloc, binomial(B::POINTS, count) as usize)?,
             representatives: Vec::new(alloc),
         };
-        let mut set = least(B::POINTS, Points::EMPTY, count);
-        for index in 0..sets {
-            keep::<B>(&mut kept, count, index, set)?;
-            if let Some(next) = following(B::POINTS, Points::EMPTY, set) {
-                set = next;
-            }
-        }
+        keep_all::<B>(&mut kept, count)?;
         Ok(Classes {
             count,
             kept,
@@ -158,6 +151,24 @@ pub(crate) fn first_leading<B: Geometry>(set: Points, leading: Points) -> u8
         Some(symmetry) => symmetry,
         None => unreachable!(),
     }
+}
+
+/// Keeps where all sets of `count` points are led, in the order of their ranks, where none is kept.
+fn keep_all<B: Geometry>(kept: &mut Kept, count: u8) -> Result<(), AllocError>
+    requires few { count ≤ 9 }
+    requires fits { count ≤ B.POINTS }
+    requires before { IsKept B.shape B.POINTS count 0 (classes_in kept.old.leads.items) (leading_in kept.old.leads.items) kept.old.representatives.items }
+    ensures { OnOk result (IsKept B.shape B.POINTS count (choose B.POINTS count) (classes_in kept.new.leads.items) (leading_in kept.new.leads.items) kept.new.representatives.items) }
+{
+    let sets = binomial(B::POINTS, count);
+    let mut set = least(B::POINTS, Points::EMPTY, count);
+    for index in 0..sets {
+        keep::<B>(kept, count, index, set)?;
+        if let Some(next) = following(B::POINTS, Points::EMPTY, set) {
+            set = next;
+        }
+    }
+    Ok(())
 }
 
 /// Keeps where the set of `count` points with this rank is led, where that of the sets of all

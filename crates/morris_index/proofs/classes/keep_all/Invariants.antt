@@ -3,7 +3,7 @@ use Rattle.std.proofs.Common.{◌<◌}
 use Rattle.morris_index.specs.Binomials.{choose}
 use Rattle.morris_index.specs.Numbering.{IsRanked}
 use Rattle.morris_index.specs.Classes.{classes_in, leading_in, IsKept}
-use Rattle.morris_index.proofs.classes.Classes.make.Given as goal
+use Rattle.morris_index.proofs.classes.keep_all.Given as goal
 
 abbrev pub invariant-loop-index : goal.invariant-loop-index
 invariant-loop-index g l = record {
