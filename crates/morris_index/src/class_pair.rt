@@ -1,17 +1,17 @@
 //! Pairs of numbers of stones, with their positions numbered by classes.
-ghost use Rattle.std.specs.Prelude.{◌≡◌, ◌≢◌, ◌↔◌, ℕ, ◌+◌, ◌<◌, ◌≤◌, ◌^◌, length, map, true, false, IfOk};
+ghost use Rattle.std.specs.Prelude.{◌≡◌, ◌≢◌, ◌↔◌, ℕ, ◌+◌, ◌-◌, ◌<◌, ◌≤◌, ◌^◌, length, map, true, false, IfOk};
 ghost use Rattle.std.specs.List.{AllPairs, Contains};
 ghost use Rattle.morris_board.specs.Sets.{has, members, count_of};
 ghost use Rattle.morris_board.specs.Positions.{Sides, sides, IsPosition};
 ghost use Rattle.morris_index.specs.Numbering.{rank_of, number_outside};
-ghost use Rattle.morris_index.specs.Pairs.{IsPair, is_of};
-ghost use Rattle.morris_index.specs.Classes.{symmetry_of, representative_of, AreLeading};
+ghost use Rattle.morris_index.specs.Pairs.{IsPair, IsHalf, is_of};
+ghost use Rattle.morris_index.specs.Classes.{symmetry_of, representative_of, class_count, AreLeading};
 ghost use Rattle.morris_index.specs.ClassPairs.{led, class_size_of, class_index_of};
 ghost use Rattle.morris_index.specs.ClassMoves.{class_start_of};
 ghost use Rattle.morris_index.specs.EntryRows.{row_end};
 ghost use Rattle.morris_index.specs.Falls.{HasEntry};
 ghost use Rattle.morris_index.specs.Halves.{half_of};
-ghost use Rattle.morris_index.specs.Carried.{IsReturning};
+ghost use Rattle.morris_index.specs.Carried.{IsReturning, IsReturningKept};
 ghost use Rattle.morris_index.specs.Standings.{are_of};
 
 use crate::binomials::binomial;
@@ -76,6 +76,25 @@ impl<B: Geometry> Model for ClassPair<B> {
         × (pair.lesser_sets.points ≡ B.POINTS - pair.pair.greater) × (pair.lesser_sets.count ≡ pair.pair.lesser) };
 }
 
+/// What is kept of the sets of `own` points: their classes, what is kept of the representatives, and
+/// the list of those among the points that a set of `other` points leaves free.
+fn keep_sets<B: Geometry>(
+    alloc: Global,
+    own: u8,
+    other: u8,
+) -> Result<(Classes<B>, Vec<Returning>, SetList), AllocError>
+    requires { IsHalf B.POINTS own other }
+    ensures classes { IfOk result (λ kept. kept.0 ≡ own) }
+    ensures returning { IfOk result (λ kept. IsReturningKept B.shape B.POINTS own (class_count B.shape own) kept.1.items) }
+    ensures points { IfOk result (λ kept. kept.2.points ≡ B.POINTS - other) }
+    ensures count { IfOk result (λ kept. kept.2.count ≡ own) }
+{
+    let sets = SetList::make(alloc, B::POINTS - other, own)?;
+    let classes = Classes::make(alloc, own)?;
+    let returning = keep_returning(alloc, &classes)?;
+    Ok((classes, returning, sets))
+}
+
 impl<B: Geometry> ClassPair<B> {
     /// The entries of a pair.
     ///
@@ -85,13 +104,9 @@ impl<B: Geometry> ClassPair<B> {
         ensures { IfOk result (λ made. made ≡ pair) }
     {
         let (more, fewer, points) = (pair.greater(), pair.lesser(), B::POINTS);
-        let greater = Classes::make(alloc, more)?;
-        let lesser = Classes::make(alloc, fewer)?;
-        let greater_returning = keep_returning(alloc, &greater)?;
-        let lesser_returning = keep_returning(alloc, &lesser)?;
-        let greater_sets = SetList::make(alloc, points - fewer, more)?;
-        let lesser_sets = SetList::make(alloc, points - more, fewer)?;
         let ranks = RankTable::make(alloc)?;
+        let (greater, greater_returning, greater_sets) = keep_sets::<B>(alloc, more, fewer)?;
+        let (lesser, lesser_returning, lesser_sets) = keep_sets::<B>(alloc, fewer, more)?;
         let first = class_half_size(&greater, more, fewer);
         let greater_choices = binomial(points - more, fewer);
         let lesser_choices = binomial(points - fewer, more);
