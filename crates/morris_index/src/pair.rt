@@ -16,8 +16,7 @@ use std::marker::{Model, PhantomData};
 /// Two numbers of stones, each 3 to 9 and together no more than the board has points. The pair
 /// stands for all positions in which one player has the greater number and the other the lesser
 /// one.
-#[derive(Clone, Copy)]
-#[derive_where(Debug, PartialEq, Eq)]
+#[derive_where(Clone, Copy, Debug, PartialEq, Eq)]
 pub struct Pair<B: Geometry> {
     /// The greater number.
     greater: u8,
