@@ -1,19 +1,22 @@
 -- The blocks of several workers, each of the numbers that it drew, in the order of their numbers.
-use Rattle.std.proofs.Common.{◌≡◌, ℕ, zero, suc, ◌+◌, ◌-◌, ◌<◌, ◌≤◌, true, cond, eqb, List, [], ◌∷◌, ◌++◌, length, get_or, take, drop, sym, ap, ap₂, subst, ◌∙◌, ⊎_elim, arith}
+use Rattle.std.proofs.Common.{◌≡◌, ℕ, zero, suc, ◌+◌, ◌-◌, ◌<◌, ◌≤◌, true, cond, eqb, Result, Ok, Err, Vec, Global, List, [], ◌∷◌, ◌++◌, length, get_or, take, drop, sym, ap, ap₂, subst, ◌∙◌, ⊎_elim, arith}
 use Rattle.std.specs.List.{All, list_any}
 use Rattle.std.specs.List.Sorted.{IsPermutation, IsNonDecreasing, IsNonDecreasingBy}
 use Rattle.std.proofs.lemmas.Bool.{cases_lt}
 use Rattle.std.proofs.lemmas.Grind.{flat_map-append}
 use Rattle.std.proofs.lemmas.List.{get_or-take, get_or-drop, get_or-map, length-take-le, length-drop, length-map, map-append, append-nil}
 use Rattle.std.proofs.lemmas.List.Concat.{flat_map-cons}
+use Rattle.std.proofs.lemmas.List.Elements.{All-nil, All-cons, All-push}
 use Rattle.std.proofs.lemmas.List.Folds.{list_any_at}
 use Rattle.std.proofs.lemmas.List.Sorted.{IsPermutation-map, length_permutation, All-permutation, sum_by-IsPermutation}
 use Rattle.std.proofs.lemmas.List.Sums.{sum_by-take-drop}
+use Rattle.std.proofs.lemmas.Result.{IfErr-at_err}
 use Rattle.morris_wave.specs.Blocks.{BlockState}
-use Rattle.morris_wave.specs.Nets.{times}
+use Rattle.morris_wave.specs.Nets.{Net, times}
 use Rattle.morris_wave.proofs.Ranks.{times_some}
-use Rattle.morris_workers.specs.Making.{AreNumbered, block_numbers}
+use Rattle.morris_workers.specs.Making.{AreNumbered, AreDrawn, AreAllDrawn, AreBoth, IsMakingFault, block_numbers}
 use Rattle.morris_workers.specs.Tickets.{numbers_of, all_numbers, has_ended}
+use Rattle.morris_workers.specs.declared.fault.SolveFault.{SolveFault}
 use Rattle.morris_workers.specs.declared.tickets.TicketSeat.{TicketSeat}
 
 -- one more seat, with the blocks of its numbers
@@ -22,6 +25,35 @@ pub one_more : (seats : List TicketSeat) (seat : TicketSeat) (blocks more : List
 one_more seats seat blocks more before is =
     let one : all_numbers (seat ∷ []) ≡ numbers_of seat = flat_map-cons numbers_of seat [] ∙ append-nil (numbers_of seat) in
     map-append (λ (s : BlockState). s.number) blocks more ∙ (ap₂ (λ (xs ys : List ℕ). xs ++ ys) before (is ∙ sym one) ∙ sym (flat_map-append numbers_of seats (seat ∷ [])))
+
+-- the blocks of a seat that is the only one
+pub alone : (g : Net) (seats : List TicketSeat) (last : TicketSeat) (mine : Result (Vec BlockState Global) SolveFault) → length seats ≡ 0 → AreDrawn g last mine → AreAllDrawn g (seats ++ last ∷ []) mine
+alone g (seat ∷ seats) last mine none drawn = absurd (omega arith)
+alone g [] last (Ok made) none drawn = record {
+  numbers = drawn.numbers ∙ sym (flat_map-cons numbers_of last [] ∙ append-nil (numbers_of last));
+  ended = All-cons (λ s. has_ended s ≡ true) last [] drawn.ended (All-nil (λ s. has_ended s ≡ true));
+  fault = tt;
+}
+alone g [] last (Err fault) none drawn = record { numbers = tt; ended = tt; fault = drawn.fault }
+
+-- the blocks of some seats and those of one more, put together
+pub with_last : (g : Net) (seats : List TicketSeat) (last : TicketSeat) (others mine all : Result (Vec BlockState Global) SolveFault)
+    → AreBoth others mine all → AreAllDrawn g seats others → AreDrawn g last mine → AreAllDrawn g (seats ++ last ∷ []) all
+with_last g seats last (Ok before) (Ok more) (Ok made) both drawn is = record {
+  numbers = ap block_numbers both ∙ one_more seats last before.items more.items drawn.numbers is.numbers;
+  ended = All-push (λ s. has_ended s ≡ true) seats last drawn.ended is.ended;
+  fault = tt;
+}
+with_last g seats last (Ok before) (Err e) (Ok made) both drawn is = absurd both
+with_last g seats last (Err e) mine (Ok made) both drawn is = absurd both
+with_last g seats last others mine (Err fault) both drawn is = record {
+  numbers = tt;
+  ended = tt;
+  fault = ⊎_elim
+      (λ e. subst (IsMakingFault g) (sym e) tt)
+      (λ either. ⊎_elim (λ e. IfErr-at_err (IsMakingFault g) e drawn.fault) (λ e. IfErr-at_err (IsMakingFault g) e is.fault) either)
+      both;
+}
 
 -- where each seat has ended, some seat has
 pub some_ended : (seats : List TicketSeat) → 1 ≤ length seats → All (λ seat. has_ended seat ≡ true) seats → list_any has_ended seats ≡ true

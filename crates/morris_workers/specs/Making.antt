@@ -1,10 +1,11 @@
 -- The blocks that workers make.
-use Rattle.std.specs.Prelude.{◌≡◌, ℕ, ◌+◌, ◌<◌, true, List, length, map, slice_index_or, Result, Vec, vec_len, MatchResult}
+use Rattle.std.specs.Prelude.{◌≡◌, ◌⊎◌, ℕ, ◌+◌, ◌<◌, true, List, ◌++◌, length, map, slice_index_or, Result, Err, Vec, vec_len, MatchResult, IfOk, OnOk, IfErr, IsOkAnd}
+use Rattle.std.specs.List.{All}
 use Rattle.std.specs.declared.alloc.Global.{Global}
 use Rattle.morris_wave.specs.Nets.{Net}
 use Rattle.morris_wave.specs.Values.{IsTooDeep}
 use Rattle.morris_wave.specs.Blocks.{BlockState}
-use Rattle.morris_workers.specs.Tickets.{numbers_of, has_ended}
+use Rattle.morris_workers.specs.Tickets.{numbers_of, all_numbers, has_ended}
 use Rattle.morris_workers.specs.declared.tickets.TicketSeat.{TicketSeat}
 use Rattle.morris_workers.specs.declared.fault.SolveFault.{SolveFault}
 use Rattle.morris_workers.specs.declared.fault.SolveFault.TheVariants.{Workers, Blocks, Memory, Missing, TooDeep}
@@ -32,5 +33,18 @@ block_numbers blocks = map (λ s. s.number) blocks
 
 -- the blocks of the numbers that a seat drew until none was left, in the order in which it drew
 -- them, or why they aren't made
-abbrev pub AreDrawn : Net → TicketSeat → Result (Vec BlockState Global) SolveFault → Type 0
-AreDrawn g seat drawn = MatchResult drawn (λ made. (block_numbers made.items ≡ numbers_of seat) × (has_ended seat ≡ true)) (IsMakingFault g)
+pub record AreDrawn (g : Net) (seat : TicketSeat) (drawn : Result (Vec BlockState Global) SolveFault) : Type 0 where
+  pub numbers : IfOk drawn (λ made. block_numbers made.items ≡ numbers_of seat)
+  pub ended : OnOk drawn (has_ended seat ≡ true)
+  pub fault : IfErr drawn (IsMakingFault g)
+
+-- the same of some seats, the first seat's blocks first
+pub record AreAllDrawn (g : Net) (seats : List TicketSeat) (drawn : Result (Vec BlockState Global) SolveFault) : Type 0 where
+  pub numbers : IfOk drawn (λ made. block_numbers made.items ≡ all_numbers seats)
+  pub ended : OnOk drawn (All (λ seat. has_ended seat ≡ true) seats)
+  pub fault : IfErr drawn (IsMakingFault g)
+
+-- the elements of two lists, or why there are none: a fault of either, or memory was refused
+abbrev pub AreBoth : {X : Type 0} → Result (Vec X Global) SolveFault → Result (Vec X Global) SolveFault → Result (Vec X Global) SolveFault → Type 0
+AreBoth first second both =
+    MatchResult both (λ all. IsOkAnd first (λ xs. IsOkAnd second (λ ys. all.items ≡ xs.items ++ ys.items))) (λ fault. (fault ≡ Memory) ⊎ ((first ≡ Err fault) ⊎ (second ≡ Err fault)))

@@ -1,8 +1,8 @@
-use Rattle.std.proofs.Common.{◌+◌, ◌*◌, vec_len}
+use Rattle.std.proofs.Common.{◌+◌, ◌*◌, length}
 use Rattle.morris_workers.proofs.making.+making.Given as goal
 
-abbrev pub decreases-make_parts : goal.decreases-make_parts
-decreases-make_parts g l = 2 * vec_len l.seats
+abbrev pub decreases-make_all : goal.decreases-make_all
+decreases-make_all g l = 2 * length l.seats.now
 
-abbrev pub decreases-join+arg3 : goal.decreases-join+arg3
-decreases-join+arg3 g l = 2 * vec_len l.seats + 1
+abbrev pub decreases-here : goal.decreases-here
+decreases-here g l = 2 * length l.rest.now + 1
