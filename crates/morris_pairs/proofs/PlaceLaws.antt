@@ -18,6 +18,10 @@ stands-here n a = ([], omega arith, Consumes-nil a)
 pub stands-take : (n count : ℕ) (buffer : List ℕ) (a b : Option (List ℕ)) → count ≤ n → Consumes a b (take count buffer) → StandsWithin n a b
 stands-take n count buffer a b few read = (take count buffer, omega (arith, length-take count buffer), read)
 
+-- at most as many bytes were read as there may be
+pub stands-fewer : (n m : ℕ) (a b : Option (List ℕ)) → n ≤ m → StandsWithin n a b → StandsWithin m a b
+stands-fewer n m a b few here = (here.0, omega (arith, here.1, few), here.2)
+
 -- what follows failed, and read nothing
 pub stands-kept : (n : ℕ) (a b c : Option (List ℕ)) → StandsWithin n a b → Keeps b c → StandsWithin n a c
 stands-kept n a b c here kept = (here.0, here.1, Consumes-kept a b c here.0 here.2 kept)

@@ -1,6 +1,6 @@
 -- How what the steps of a reader took from a source makes up its answer, where the source's bytes
 -- are known.
-use Rattle.std.proofs.Common.{◌≡◌, ℕ, ◌+◌, ◌*◌, ◌<◌, List, [], ◌∷◌, ◌++◌, length, take, Option, Some, None, Result, Ok, Err, IsOk, refl, sym, ap, ◌∙◌, arith, length-append, append-nil, append_assoc}
+use Rattle.std.proofs.Common.{◌≡◌, ℕ, ◌+◌, ◌*◌, ◌<◌, ◌≤◌, List, [], ◌∷◌, ◌++◌, length, take, Option, Some, None, Result, Ok, Err, IsOk, refl, sym, ap, ◌∙◌, arith, length-append, append-nil, append_assoc}
 use Rattle.std.proofs.lemmas.List.{take_at}
 use Rattle.std.specs.Io.KnownBytes.{Consumes, IsAtEnd}
 use Rattle.std.proofs.KnownBytes.{Consumes-nil}
@@ -14,7 +14,7 @@ use Rattle.morris_pairs.specs.declared.header.Header.{Header}
 use Rattle.morris_pairs.specs.Entries.{entry_count}
 use Rattle.morris_pairs.specs.Tables.{Table, table}
 use Rattle.morris_pairs.specs.TableFiles.{code_bytes}
-use Rattle.morris_pairs.specs.FileReading.{unless, and_then, is_end, header_at, kind_in, counted_in, heading_in, before_room, roomless_in, header_in, file_in, only_file_in, next_file_in, Reads, MayTakeRoom, EndsEarly}
+use Rattle.morris_pairs.specs.FileReading.{unless, and_then, is_end, header_at, kind_in, counted_in, heading_in, before_room, roomless_in, header_in, file_in, only_file_in, next_file_in, Reads, MayTakeRoom, EndsEarly, CountsRead, IsHeadingRefusal}
 use Rattle.morris_pairs.proofs.FileLaws.{AreCodes, body_in-parts, body_in-short, header_in-parts, header_in-short, file_in-parts, file_in-refused}
 use Rattle.morris_pairs.specs.declared.file_faults.ReadFault.{ReadFault}
 use Rattle.morris_pairs.specs.declared.file_faults.ReadFault.TheVariants as fault
@@ -44,6 +44,11 @@ module _ {A : Type 0} (found : List ℕ → Result (A × List ℕ) ReadFault) wh
   reads_refused (Some bytes) new fault.Trailing refused = refused bytes refl
   reads_refused (Some bytes) new fault.Read refused = tt
   reads_refused (Some bytes) new fault.Memory refused = tt
+
+  -- a read failed
+  pub reads_failed : (old new : Option (List ℕ)) (refusal : ReadFault) → refusal ≡ fault.Read → Reads found old new (Err refusal)
+  reads_failed None new refusal is = tt
+  reads_failed (Some bytes) new refusal is = rw is tt
 
   -- bytes were read that the steps refuse, whatever follows
   pub reads_err : (old new : Option (List ℕ)) (front : List ℕ) (refusal : ReadFault) → Consumes old new front
@@ -88,6 +93,58 @@ pub ends_short : (n : ℕ) (old new : Option (List ℕ)) (front : List ℕ) → 
 ends_short n None new front read end few = tt
 ends_short n (Some bytes) None front read end few = absurd read
 ends_short n (Some bytes) (Some left) front read end few = omega (arith, ap length read, length-append front left, ap length end)
+
+-- reading so many bytes more ended early
+pub early_after : (n m : ℕ) (front : List ℕ) (old mid : Option (List ℕ)) (refusal : ReadFault) → Consumes old mid front → length front + n ≤ m
+    → EndsEarly n mid refusal → EndsEarly m old refusal
+early_after n m front None mid fault.Short read few early = tt
+early_after n m front (Some bytes) None fault.Short read few early = absurd read
+early_after n m front (Some bytes) (Some left) fault.Short read few early = omega (arith, ap length read, length-append front left)
+early_after n m front old mid fault.Magic read few early = absurd early
+early_after n m front old mid fault.Version read few early = absurd early
+early_after n m front old mid fault.BoardId read few early = absurd early
+early_after n m front old mid fault.Counts read few early = absurd early
+early_after n m front old mid fault.Crowded read few early = absurd early
+early_after n m front old mid fault.Count read few early = absurd early
+early_after n m front old mid fault.Digest read few early = absurd early
+early_after n m front old mid fault.Trailing read few early = absurd early
+early_after n m front old mid fault.Memory read few early = tt
+early_after n m front old mid fault.Read read few early = tt
+
+-- no read had failed before the step that refuses
+pub counts_after : (old mid new : ℕ) (refusal : ReadFault) → mid ≡ old → CountsRead {A = ℕ} mid new (Err refusal)
+    → CountsRead {A = ℕ} old new (Err refusal)
+counts_after old mid new fault.Short none counted = counted ∙ none
+counts_after old mid new fault.Magic none counted = counted ∙ none
+counts_after old mid new fault.Version none counted = counted ∙ none
+counts_after old mid new fault.BoardId none counted = counted ∙ none
+counts_after old mid new fault.Counts none counted = counted ∙ none
+counts_after old mid new fault.Crowded none counted = counted ∙ none
+counts_after old mid new fault.Count none counted = counted ∙ none
+counts_after old mid new fault.Digest none counted = counted ∙ none
+counts_after old mid new fault.Trailing none counted = counted ∙ none
+counts_after old mid new fault.Memory none counted = counted ∙ none
+counts_after old mid new fault.Read none counted = counted ∙ ap (λ n. n + 1) none
+
+-- a header was refused, for which nothing is read
+pub counts_header : (board : Shape) (header : Header) (count : ℕ) (refusal : ReadFault) → IsHeadingRefusal board header refusal
+    → CountsRead {A = ℕ} count count (Err refusal)
+counts_header board header count fault.Short why = refl
+counts_header board header count fault.Magic why = refl
+counts_header board header count fault.Version why = refl
+counts_header board header count fault.BoardId why = refl
+counts_header board header count fault.Counts why = refl
+counts_header board header count fault.Crowded why = refl
+counts_header board header count fault.Count why = refl
+counts_header board header count fault.Digest why = refl
+counts_header board header count fault.Trailing why = refl
+counts_header board header count fault.Memory why = refl
+counts_header board header count fault.Read why = absurd why.1
+
+-- a read failed, and none before it
+pub counts_failed : (old mid new : ℕ) (refusal : ReadFault) → refusal ≡ fault.Read → mid ≡ old → new ≡ mid + 1
+    → CountsRead {A = ℕ} old new (Err refusal)
+counts_failed old mid new refusal is none counted = rw is (counted ∙ ap (λ n. n + 1) none)
 
 -- ---- one step after another
 

@@ -11,7 +11,7 @@ use morris_board::points::Points;
 use morris_wave::Exits;
 
 /// At most so many summaries are kept.
-const SLOTS: usize = 4096;
+const SLOTS: usize = 2048;
 
 /// A summary that is kept, or none.
 #[derive(Clone, Copy, Debug)]
@@ -40,7 +40,7 @@ pub(crate) struct KeptCaptures {
 
 /// The place of the slot of the captures that leave these stones: a hash of their set.
 fn slot_of(left: Points) -> usize
-    ensures { result < 4096 }
+    ensures { result < 2048 }
 {
     (left.mask().wrapping_mul(2_654_435_761) >> 16) as usize % SLOTS
 }

@@ -1,5 +1,5 @@
 //! Reading a table file.
-ghost use Rattle.std.specs.Prelude.{◌≡◌, ℕ, ◌+◌, ◌*◌, ◌-◌, ◌/◌, ◌%◌, ◌<◌, ◌≤◌, ◌^◌, ◌++◌, List, length, take, slice_index, Err, IsOk, IfOk, IfErr, OnErr, vec_len, vec_capacity};
+ghost use Rattle.std.specs.Prelude.{◌≡◌, ℕ, ◌+◌, ◌*◌, ◌-◌, ◌/◌, ◌%◌, ◌<◌, ◌≤◌, ◌^◌, ◌++◌, List, length, take, slice_index, Err, IsOk, IfOk, IfErr, OnOk, OnErr, vec_len, vec_capacity};
 ghost use Rattle.std.specs.Io.KnownBytes.{Consumes, IsAtEnd};
 ghost use Rattle.sha2.specs.Hashers.{Holds256};
 ghost use Rattle.morris_board.specs.Streams.{CountsFailure};
@@ -110,9 +110,7 @@ fn read_after<B: Geometry, S: Source>(
     let mut hasher = hasher_after(header);
     let codes = read_codes(alloc, source, numbering.count() as usize, &mut hasher)?;
     let mut digest = [0; DIGEST];
-    if fill(source, &mut digest)? < DIGEST {
-        return Err(ReadFault::Short);
-    }
+    read_whole(source, &mut digest)?;
     if digest != hasher.finalize() {
         return Err(ReadFault::Digest);
     }
@@ -143,9 +141,7 @@ fn read_codes<S: Source>(
     while codes.len() < count {
         let wanted = PIECE.min(2 * (count - codes.len()));
         let piece = &mut buffer[..wanted];
-        if fill(source, piece)? < wanted {
-            return Err(ReadFault::Short);
-        }
+        read_whole(source, piece)?;
         hasher.update(&*piece);
         push_codes(&mut codes, piece);
     }
@@ -164,6 +160,24 @@ fn push_codes(codes: &mut Vec<u16>, bytes: &[u8])
     for i in 0..bytes.len() / 2 {
         codes.push_reserved(u16::from_be_bytes([bytes[2 * i], bytes[2 * i + 1]]));
     }
+}
+
+/// Reads until the buffer is full.
+///
+/// # Errors
+/// `Short` where the source ends before that, and `Read` where a read failed.
+fn read_whole<S: Source>(source: &mut S, buffer: &mut [u8]) -> Result<(), ReadFault>
+    requires { S.failures source.old < 2 ^ 64 - 1 }
+    ensures bytes { OnOk result (Consumes (S.remaining source.old) (S.remaining source.new) buffer.new) }
+    ensures refused { IfErr result (EndsEarly (length buffer.new) (S.remaining source.old)) }
+    ensures place { OnErr result (StandsWithin (length buffer.new) (S.remaining source.old) (S.remaining source.new)) }
+    ensures counted { CountsRead (S.failures source.old) (S.failures source.new) result }
+{
+    let wanted = buffer.len();
+    if fill(source, buffer)? < wanted {
+        return Err(ReadFault::Short);
+    }
+    Ok(())
 }
 
 /// Reads until the buffer is full or the source at its end, and answers how many bytes that are.

@@ -164,7 +164,7 @@ fn all_true(found: &[Result<bool, AllocError>]) -> bool
     true
 }
 
-impl<B: Geometry, R> Faces<'_, B, R> {
+impl<'a, B: Geometry, R> Faces<'a, B, R> {
     /// Whether the entries of all positions are known to agree that face those of one worker's
     /// entries: its stretches are those of [`first_of_share`](Claim::first_of_share).
     ///
@@ -175,9 +175,24 @@ impl<B: Geometry, R> Faces<'_, B, R> {
         requires worker { worker < self.now.claim.now.workers }
         ensures { IfOk result (λ yes. yes ≡ true → ShareAgrees B.shape self.now.claim.now.raw.now first end self.now.claim.now.workers worker) }
     {
+        let mut lists = Lists::new(self.claim.alloc);
+        self.stretches_agree(&mut lists, first, end, worker)
+    }
+
+    /// [`share_agrees`](Faces::share_agrees), with the lists to go through the entries with.
+    fn stretches_agree(
+        &self,
+        lists: &mut Lists<'a, B>,
+        first: u64,
+        end: u64,
+        worker: u64,
+    ) -> Result<bool, AllocError>
+        requires inside { end ≤ entry_count B.shape B.POINTS self.now.claim.now.raw.now.layout self.now.claim.now.raw.now.pair }
+        requires worker { worker < self.now.claim.now.workers }
+        ensures { IfOk result (λ yes. yes ≡ true → ShareAgrees B.shape self.now.claim.now.raw.now first end self.now.claim.now.workers worker) }
+    {
         let claim = self.claim;
         let workers = claim.workers as u64;
-        let mut lists = Lists::new(claim.alloc);
         let stretches = end.div_ceil(STRETCH);
         for stretch in first / STRETCH..stretches {
             if stretch % workers == worker {

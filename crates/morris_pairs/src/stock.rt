@@ -44,7 +44,7 @@ impl<B: Geometry> Stock<B> {
     {
         let mut tables = Vec::with_capacity(alloc, PLACES)?;
         for _ in 0..PLACES {
-            tables.push(None)?;
+            tables.push_reserved(None);
         }
         Ok(Stock { tables })
     }

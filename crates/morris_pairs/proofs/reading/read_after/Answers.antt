@@ -18,8 +18,8 @@ use Rattle.morris_pairs.specs.FileReading.{body_length, file_in, header_in, head
 use Rattle.morris_pairs.specs.declared.file_faults.ReadFault.{ReadFault}
 use Rattle.morris_pairs.specs.declared.file_faults.ReadFault.TheVariants as fault
 use Rattle.morris_pairs.proofs.FileLaws.{length-code_bytes, unless-true, unless-false, file_of-read}
-use Rattle.morris_pairs.proofs.ReadingLaws.{reads_ok, roomless_of, reads_err, reads_end, reads_early, file_in-bad_header, file_in-short_body, file_in-whole}
-use Rattle.morris_pairs.proofs.PlaceLaws.{stands-take, stands-after, body_length-is}
+use Rattle.morris_pairs.proofs.ReadingLaws.{reads_ok, roomless_of, reads_err, reads_early, early_after, counts_after, counts_header, file_in-bad_header, file_in-short_body, file_in-whole}
+use Rattle.morris_pairs.proofs.PlaceLaws.{stands-after, body_length-is}
 use Rattle.morris_pairs.proofs.reading.read_after.Goals as goal
 
 -- a heading that is refused refuses the file
@@ -70,8 +70,9 @@ returns-in_err-codes-clause-memory g c = λ _.
     let named : heading_in board (header_at header) ≡ Ok kind = ap (heading_in board) (sym c.from_bytes.ensures) ∙ c.in_ok-numbering.ensures.found in
     roomless_of board (header_at header) kind named
 
-pub returns-then-branch-lt-DIGEST-clause-outcome : goal.returns-then-branch-lt-DIGEST-clause-outcome
-returns-then-branch-lt-DIGEST-clause-outcome g c =
+pub returns-in_err-read_whole-clause-outcome : goal.returns-in_err-read_whole-clause-outcome
+returns-in_err-read_whole-clause-outcome g c =
+    let failed = err_from_is_err_and c.from_residual-in_err-read_whole.result c.from_residual-in_err-read_whole.ensures.1 in
     let board = g.B.Geometry.shape in
     let header = c.args.header.now in
     let long : length header ≡ 16 = c.told-header in
@@ -79,14 +80,60 @@ returns-then-branch-lt-DIGEST-clause-outcome g c =
     let named : heading_in board (header_at header) ≡ Ok kind = ap (heading_in board) (sym c.from_bytes.ensures) ∙ c.in_ok-numbering.ensures.found in
     let sized : c.count.result ≡ entry_count board board.points kind.0 kind.1 = c.count.ensures.value ∙ ap (λ n. entry_count board n kind.0 kind.1) (sym g.met.B.Geometry.point_count) in
     let stated = code_bytes c.in_ok-codes.codes.items in
-    let part = take c.in_ok-fill.field-0 c.fill.new.buffer in
-    let len : length c.in_ok-codes.codes.items ≡ c.count.result = omega (arith, c.in_ok-codes.ensures.count) in
-    let few : length (stated ++ part) < 2 * c.count.result + 32 =
-    omega (arith, length-append stated part, length-code_bytes c.in_ok-codes.codes.items, length-take c.in_ok-fill.field-0 c.fill.new.buffer) in
-    reads_end {A = Table} (λ bytes. file_in board (header ++ bytes)) (g.S.Source.remaining c.args.source.now) (g.S.Source.remaining c.fill.new.source)
-    (stated ++ part) fault.Short (Consumes-trans _ _ _ _ _ c.in_ok-codes.ensures.bytes c.in_ok-fill.ensures.bytes)
-    (c.in_ok-fill.ensures.end (omega (arith, c.fill.auto.buffer)))
-    (file_in-short_body board header long kind c.count.result named sized (stated ++ part) few)
+    rw (failed.1, failed.2)
+    (reads_early {A = Table} (λ bytes. file_in board (header ++ bytes)) (2 * c.count.result + 32) (g.S.Source.remaining c.args.source.now)
+    (g.S.Source.remaining c.read_whole.new.source) c.in_err-read_whole.field-0.0
+    (early_after (length c.read_whole.new.buffer) (2 * c.count.result + 32) stated (g.S.Source.remaining c.args.source.now) (g.S.Source.remaining c.read_codes.new.source)
+    c.in_err-read_whole.field-0.0 c.in_ok-codes.ensures.bytes
+    (omega (arith, length-code_bytes c.in_ok-codes.codes.items, c.in_ok-codes.ensures.count, c.read_whole.auto.buffer)) c.in_err-read_whole.ensures.refused)
+    (λ bytes few. file_in-short_body board header long kind c.count.result named sized bytes few))
+
+pub returns-in_err-read_whole-clause-memory : goal.returns-in_err-read_whole-clause-memory
+returns-in_err-read_whole-clause-memory g c = λ _.
+    let board = g.B.Geometry.shape in
+    let header = c.args.header.now in
+    let long : length header ≡ 16 = c.told-header in
+    let kind : Layout × Counts = (layout_of c.in_ok-numbering.numbering, pair_of c.in_ok-numbering.numbering) in
+    let named : heading_in board (header_at header) ≡ Ok kind = ap (heading_in board) (sym c.from_bytes.ensures) ∙ c.in_ok-numbering.ensures.found in
+    roomless_of board (header_at header) kind named
+
+pub returns-in_err-numbering-clause-counted : goal.returns-in_err-numbering-clause-counted
+returns-in_err-numbering-clause-counted g c =
+    let failed = err_from_is_err_and c.from_residual.result c.from_residual.ensures.1 in
+    rw (failed.1, failed.2)
+    (counts_header g.B.Geometry.shape (c.from_bytes.result) (g.S.Source.failures c.args.source.now) c.in_err-numbering.field-0.0 c.in_err-numbering.ensures.refused)
+
+pub returns-in_err-codes-clause-counted : goal.returns-in_err-codes-clause-counted
+returns-in_err-codes-clause-counted g c =
+    let failed = err_from_is_err_and c.from_residual-in_err-codes.result c.from_residual-in_err-codes.ensures.1 in
+    rw (failed.1, failed.2)
+    (counts_after (g.S.Source.failures c.args.source.now) (g.S.Source.failures c.args.source.now) (g.S.Source.failures c.read_codes.new.source)
+    c.in_err-codes.field-0.0 refl c.in_err-codes.ensures.counted)
+
+pub returns-in_err-read_whole-clause-counted : goal.returns-in_err-read_whole-clause-counted
+returns-in_err-read_whole-clause-counted g c =
+    let failed = err_from_is_err_and c.from_residual-in_err-read_whole.result c.from_residual-in_err-read_whole.ensures.1 in
+    rw (failed.1, failed.2)
+    (counts_after (g.S.Source.failures c.args.source.now) (g.S.Source.failures c.read_codes.new.source) (g.S.Source.failures c.read_whole.new.source)
+    c.in_err-read_whole.field-0.0 c.in_ok-codes.ensures.counted c.in_err-read_whole.ensures.counted)
+
+pub returns-then-ne-clause-counted : goal.returns-then-ne-clause-counted
+returns-then-ne-clause-counted g c = c.in_ok-read_whole.ensures.counted ∙ c.in_ok-codes.ensures.counted
+
+pub returns-clause-counted : goal.returns-clause-counted
+returns-clause-counted g c = c.in_ok-read_whole.ensures.counted ∙ c.in_ok-codes.ensures.counted
+
+pub returns-in_err-read_whole-clause-place : goal.returns-in_err-read_whole-clause-place
+returns-in_err-read_whole-clause-place g c =
+    let failed = err_from_is_err_and c.from_residual-in_err-read_whole.result c.from_residual-in_err-read_whole.ensures.1 in
+    let size : body_length g.B.Geometry.shape (header_in g.B.Geometry.shape c.args.header.now) ≡ 2 * c.count.result + 32 =
+    body_length-is g.B.Geometry.shape g.B.Geometry.POINTS g.met.B.Geometry.point_count c.args.header.now c.told-header
+    (layout_of c.in_ok-numbering.numbering, pair_of c.in_ok-numbering.numbering) c.count.result
+    (ap (heading_in g.B.Geometry.shape) (sym c.from_bytes.ensures) ∙ c.in_ok-numbering.ensures.found) c.count.ensures.value in
+    let codes = c.in_ok-codes.codes.items in
+    stands-after (length c.read_whole.new.buffer) (body_length g.B.Geometry.shape (header_in g.B.Geometry.shape c.args.header.now)) (code_bytes codes)
+    (g.S.Source.remaining c.args.source.now) (g.S.Source.remaining c.read_codes.new.source) (g.S.Source.remaining c.read_whole.new.source) c.in_ok-codes.ensures.bytes
+    (omega (arith, size, length-code_bytes codes, c.in_ok-codes.ensures.count, c.read_whole.auto.buffer)) c.in_err-read_whole.ensures.place
 
 not_true : (b : Bool) → not b ≡ true → b ≡ false
 not_true true h = cc
@@ -106,19 +153,17 @@ returns-then-ne-clause-outcome g c =
     let sized : c.count.result ≡ entry_count board board.points kind.0 kind.1 = c.count.ensures.value ∙ ap (λ n. entry_count board n kind.0 kind.1) (sym g.met.B.Geometry.point_count) in
     let codes = c.in_ok-codes.codes.items in
     let stated = code_bytes codes in
-    let digest = c.fill.new.buffer in
+    let digest = c.read_whole.new.buffer in
     let len : length codes ≡ c.count.result = omega (arith, c.in_ok-codes.ensures.count) in
-    let whole : length digest ≡ 32 = omega (arith, c.fill.auto.buffer) in
-    let all : take c.in_ok-fill.field-0 digest ≡ digest = take_all c.in_ok-fill.field-0 digest (omega arith) in
-    let read = subst (Consumes (g.S.Source.remaining c.read_codes.new.source) (g.S.Source.remaining c.fill.new.source)) all c.in_ok-fill.ensures.bytes in
+    let whole : length digest ≡ 32 = omega (arith, c.read_whole.auto.buffer) in
     let right : c.finalize.result ≡ sha256 (header ++ stated) =
     c.finalize.ensures (header ++ stated) (c.in_ok-codes.ensures.hashed header c.hasher_after-hasher.ensures) in
     let differs : bytes_eq digest (sha256 (header ++ stated)) ≡ false =
     ap (bytes_eq digest) (sym right) ∙ not_true (bytes_eq digest c.finalize.result) (sym c.ne.ensures ∙ c.if-ne.true) in
-    reads_err {A = Table} (λ bytes. file_in board (header ++ bytes)) (g.S.Source.remaining c.args.source.now) (g.S.Source.remaining c.fill.new.source)
+    reads_err {A = Table} (λ bytes. file_in board (header ++ bytes)) (g.S.Source.remaining c.args.source.now) (g.S.Source.remaining c.read_whole.new.source)
     (stated ++ digest) fault.Digest
-    (Consumes-trans (g.S.Source.remaining c.args.source.now) (g.S.Source.remaining c.read_codes.new.source) (g.S.Source.remaining c.fill.new.source) stated digest
-    c.in_ok-codes.ensures.bytes read)
+    (Consumes-trans (g.S.Source.remaining c.args.source.now) (g.S.Source.remaining c.read_codes.new.source) (g.S.Source.remaining c.read_whole.new.source) stated digest
+    c.in_ok-codes.ensures.bytes c.in_ok-read_whole.ensures.bytes)
     (λ left. file_in-whole board header long kind c.count.result named sized codes digest left len (λ i _. c.in_ok-codes.ensures.small i) whole
     ∙ unless-false (bytes_eq digest (sha256 (header ++ stated))) fault.Digest (Ok (table kind.0 kind.1 codes, left)) differs)
 
@@ -132,20 +177,18 @@ returns-clause-outcome g c =
     let sized : c.count.result ≡ entry_count board board.points kind.0 kind.1 = c.count.ensures.value ∙ ap (λ n. entry_count board n kind.0 kind.1) (sym g.met.B.Geometry.point_count) in
     let codes = c.in_ok-codes.codes.items in
     let stated = code_bytes codes in
-    let digest = c.fill.new.buffer in
+    let digest = c.read_whole.new.buffer in
     let len : length codes ≡ c.count.result = omega (arith, c.in_ok-codes.ensures.count) in
-    let whole : length digest ≡ 32 = omega (arith, c.fill.auto.buffer) in
-    let all : take c.in_ok-fill.field-0 digest ≡ digest = take_all c.in_ok-fill.field-0 digest (omega arith) in
-    let read = subst (Consumes (g.S.Source.remaining c.read_codes.new.source) (g.S.Source.remaining c.fill.new.source)) all c.in_ok-fill.ensures.bytes in
+    let whole : length digest ≡ 32 = omega (arith, c.read_whole.auto.buffer) in
     let right : c.finalize.result ≡ sha256 (header ++ stated) =
     c.finalize.ensures (header ++ stated) (c.in_ok-codes.ensures.hashed header c.hasher_after-hasher.ensures) in
     let same : bytes_eq digest (sha256 (header ++ stated)) ≡ true =
     ap (bytes_eq digest) (sym right) ∙ not_false (bytes_eq digest c.finalize.result) (sym c.ne.ensures ∙ c.if-ne.false) in
     rw c.new.ensures
-    (reads_ok {A = Table} (λ bytes. file_in board (header ++ bytes)) (g.S.Source.remaining c.args.source.now) (g.S.Source.remaining c.fill.new.source)
+    (reads_ok {A = Table} (λ bytes. file_in board (header ++ bytes)) (g.S.Source.remaining c.args.source.now) (g.S.Source.remaining c.read_whole.new.source)
     (stated ++ digest) (table kind.0 kind.1 codes)
-    (Consumes-trans (g.S.Source.remaining c.args.source.now) (g.S.Source.remaining c.read_codes.new.source) (g.S.Source.remaining c.fill.new.source) stated digest
-    c.in_ok-codes.ensures.bytes read)
+    (Consumes-trans (g.S.Source.remaining c.args.source.now) (g.S.Source.remaining c.read_codes.new.source) (g.S.Source.remaining c.read_whole.new.source) stated digest
+    c.in_ok-codes.ensures.bytes c.in_ok-read_whole.ensures.bytes)
     (λ left. file_in-whole board header long kind c.count.result named sized codes digest left len (λ i _. c.in_ok-codes.ensures.small i) whole
     ∙ unless-true (bytes_eq digest (sha256 (header ++ stated))) fault.Digest (Ok (table kind.0 kind.1 codes, left)) same))
 
@@ -158,17 +201,15 @@ returns-clause-file g c =
     let sized : c.count.result ≡ entry_count board board.points kind.0 kind.1 = c.count.ensures.value ∙ ap (λ n. entry_count board n kind.0 kind.1) (sym g.met.B.Geometry.point_count) in
     let codes = c.in_ok-codes.codes.items in
     let stated = code_bytes codes in
-    let digest = c.fill.new.buffer in
+    let digest = c.read_whole.new.buffer in
     let counted : length codes ≡ entry_count board board.points kind.0 kind.1 = omega (arith, c.in_ok-codes.ensures.count, sized) in
-    let all : take c.in_ok-fill.field-0 digest ≡ digest = take_all c.in_ok-fill.field-0 digest (omega (arith, c.fill.auto.buffer)) in
-    let read = subst (Consumes (g.S.Source.remaining c.read_codes.new.source) (g.S.Source.remaining c.fill.new.source)) all c.in_ok-fill.ensures.bytes in
     let right : c.finalize.result ≡ sha256 (header ++ stated) =
     c.finalize.ensures (header ++ stated) (c.in_ok-codes.ensures.hashed header c.hasher_after-hasher.ensures) in
     let same : digest ≡ c.finalize.result =
     (bytes_eq-Decides digest c.finalize.result).0 (not_false (bytes_eq digest c.finalize.result) (sym c.ne.ensures ∙ c.if-ne.false)) in (
       stated ++ digest,
-      Consumes-trans (g.S.Source.remaining c.args.source.now) (g.S.Source.remaining c.read_codes.new.source) (g.S.Source.remaining c.fill.new.source) stated digest
-          c.in_ok-codes.ensures.bytes read,
+      Consumes-trans (g.S.Source.remaining c.args.source.now) (g.S.Source.remaining c.read_codes.new.source) (g.S.Source.remaining c.read_whole.new.source) stated digest
+          c.in_ok-codes.ensures.bytes c.in_ok-read_whole.ensures.bytes,
       ap (file_of board) c.new.ensures ∙ file_of-read board header digest codes kind c.fits-header c.told-header named counted (same ∙ right),
     )
 
@@ -181,30 +222,6 @@ returns-in_err-codes-clause-place g c =
     let here = c.in_err-codes.ensures.place in
     (here.0, omega (arith, here.1, size), here.2)
 
-pub returns-in_err-fill-clause-place : goal.returns-in_err-fill-clause-place
-returns-in_err-fill-clause-place g c =
-    let size : body_length g.B.Geometry.shape (header_in g.B.Geometry.shape c.args.header.now) ≡ 2 * c.count.result + 32 =
-    body_length-is g.B.Geometry.shape g.B.Geometry.POINTS g.met.B.Geometry.point_count c.args.header.now c.told-header
-    (layout_of c.in_ok-numbering.numbering, pair_of c.in_ok-numbering.numbering) c.count.result
-    (ap (heading_in g.B.Geometry.shape) (sym c.from_bytes.ensures) ∙ c.in_ok-numbering.ensures.found) c.count.ensures.value in
-    let codes = c.in_ok-codes.codes.items in
-    stands-after (length c.fill.new.buffer - 1) (body_length g.B.Geometry.shape (header_in g.B.Geometry.shape c.args.header.now)) (code_bytes codes)
-    (g.S.Source.remaining c.args.source.now) (g.S.Source.remaining c.read_codes.new.source) (g.S.Source.remaining c.fill.new.source) c.in_ok-codes.ensures.bytes
-    (omega (arith, size, length-code_bytes codes, c.in_ok-codes.ensures.count, c.fill.auto.buffer)) c.in_err-fill.ensures.place
-
-pub returns-then-branch-lt-DIGEST-clause-place : goal.returns-then-branch-lt-DIGEST-clause-place
-returns-then-branch-lt-DIGEST-clause-place g c =
-    let size : body_length g.B.Geometry.shape (header_in g.B.Geometry.shape c.args.header.now) ≡ 2 * c.count.result + 32 =
-    body_length-is g.B.Geometry.shape g.B.Geometry.POINTS g.met.B.Geometry.point_count c.args.header.now c.told-header
-    (layout_of c.in_ok-numbering.numbering, pair_of c.in_ok-numbering.numbering) c.count.result
-    (ap (heading_in g.B.Geometry.shape) (sym c.from_bytes.ensures) ∙ c.in_ok-numbering.ensures.found) c.count.ensures.value in
-    let codes = c.in_ok-codes.codes.items in
-    stands-after (length c.fill.new.buffer) (body_length g.B.Geometry.shape (header_in g.B.Geometry.shape c.args.header.now)) (code_bytes codes)
-    (g.S.Source.remaining c.args.source.now) (g.S.Source.remaining c.read_codes.new.source) (g.S.Source.remaining c.fill.new.source) c.in_ok-codes.ensures.bytes
-    (omega (arith, size, length-code_bytes codes, c.in_ok-codes.ensures.count, c.fill.auto.buffer))
-    (stands-take (length c.fill.new.buffer) c.in_ok-fill.field-0 c.fill.new.buffer (g.S.Source.remaining c.read_codes.new.source)
-    (g.S.Source.remaining c.fill.new.source) c.in_ok-fill.ensures.within c.in_ok-fill.ensures.bytes)
-
 pub returns-then-ne-clause-place : goal.returns-then-ne-clause-place
 returns-then-ne-clause-place g c =
     let size : body_length g.B.Geometry.shape (header_in g.B.Geometry.shape c.args.header.now) ≡ 2 * c.count.result + 32 =
@@ -212,11 +229,10 @@ returns-then-ne-clause-place g c =
     (layout_of c.in_ok-numbering.numbering, pair_of c.in_ok-numbering.numbering) c.count.result
     (ap (heading_in g.B.Geometry.shape) (sym c.from_bytes.ensures) ∙ c.in_ok-numbering.ensures.found) c.count.ensures.value in
     let codes = c.in_ok-codes.codes.items in
-    stands-after (length c.fill.new.buffer) (body_length g.B.Geometry.shape (header_in g.B.Geometry.shape c.args.header.now)) (code_bytes codes)
-    (g.S.Source.remaining c.args.source.now) (g.S.Source.remaining c.read_codes.new.source) (g.S.Source.remaining c.fill.new.source) c.in_ok-codes.ensures.bytes
-    (omega (arith, size, length-code_bytes codes, c.in_ok-codes.ensures.count, c.fill.auto.buffer))
-    (stands-take (length c.fill.new.buffer) c.in_ok-fill.field-0 c.fill.new.buffer (g.S.Source.remaining c.read_codes.new.source)
-    (g.S.Source.remaining c.fill.new.source) c.in_ok-fill.ensures.within c.in_ok-fill.ensures.bytes)
+    stands-after (length c.read_whole.new.buffer) (body_length g.B.Geometry.shape (header_in g.B.Geometry.shape c.args.header.now)) (code_bytes codes)
+    (g.S.Source.remaining c.args.source.now) (g.S.Source.remaining c.read_codes.new.source) (g.S.Source.remaining c.read_whole.new.source) c.in_ok-codes.ensures.bytes
+    (omega (arith, size, length-code_bytes codes, c.in_ok-codes.ensures.count, c.read_whole.auto.buffer))
+    (c.read_whole.new.buffer, omega arith, c.in_ok-read_whole.ensures.bytes)
 
 pub returns-clause-place : goal.returns-clause-place
 returns-clause-place g c =
@@ -225,8 +241,7 @@ returns-clause-place g c =
     (layout_of c.in_ok-numbering.numbering, pair_of c.in_ok-numbering.numbering) c.count.result
     (ap (heading_in g.B.Geometry.shape) (sym c.from_bytes.ensures) ∙ c.in_ok-numbering.ensures.found) c.count.ensures.value in
     let codes = c.in_ok-codes.codes.items in
-    stands-after (length c.fill.new.buffer) (body_length g.B.Geometry.shape (header_in g.B.Geometry.shape c.args.header.now)) (code_bytes codes)
-    (g.S.Source.remaining c.args.source.now) (g.S.Source.remaining c.read_codes.new.source) (g.S.Source.remaining c.fill.new.source) c.in_ok-codes.ensures.bytes
-    (omega (arith, size, length-code_bytes codes, c.in_ok-codes.ensures.count, c.fill.auto.buffer))
-    (stands-take (length c.fill.new.buffer) c.in_ok-fill.field-0 c.fill.new.buffer (g.S.Source.remaining c.read_codes.new.source)
-    (g.S.Source.remaining c.fill.new.source) c.in_ok-fill.ensures.within c.in_ok-fill.ensures.bytes)
+    stands-after (length c.read_whole.new.buffer) (body_length g.B.Geometry.shape (header_in g.B.Geometry.shape c.args.header.now)) (code_bytes codes)
+    (g.S.Source.remaining c.args.source.now) (g.S.Source.remaining c.read_codes.new.source) (g.S.Source.remaining c.read_whole.new.source) c.in_ok-codes.ensures.bytes
+    (omega (arith, size, length-code_bytes codes, c.in_ok-codes.ensures.count, c.read_whole.auto.buffer))
+    (c.read_whole.new.buffer, omega arith, c.in_ok-read_whole.ensures.bytes)

@@ -4,6 +4,9 @@ use Rattle.morris_pairs.proofs.SharingLaws.{stretch-agrees, stretch-passed, stre
 use Rattle.morris_pairs.proofs.sharing.Claim.first_of_share.Goals as goal
 use Rattle.morris_pairs.proofs.sharing.Claim.first_of_share.Goals.{then-stretch-workers+in_default, else-stretch-workers}
 
+pub loop-stretch-init : goal.loop-stretch-init
+loop-stretch-init g c = λ k from inside low mine. let never : ⊥ = omega (arith, from, low) in absurd never
+
 pub loop-stretch-preserved : goal.loop-stretch-preserved
 loop-stretch-preserved g c = elim c.if-stretch-workers.branch [
   | then-stretch-workers+in_default w ↦

@@ -1,7 +1,14 @@
-use Rattle.std.proofs.Common.{arith}
-use Rattle.morris_pairs.proofs.ShelfLaws.{empty-nothing}
+use Rattle.std.proofs.Common.{◌∙◌, arith, sym, length-append}
+use Rattle.morris_pairs.proofs.ShelfLaws.{empty-nothing, empty-push}
 use Rattle.morris_pairs.proofs.StockLaws.{empty-tables}
 use Rattle.morris_pairs.proofs.stock.Stock.new.Goals as goal
+
+pub loop-preserved : goal.loop-preserved
+loop-preserved g c = record {
+  count = omega (arith, c.push_reserved.ensures.len, c.loop.invariant.count);
+  room = omega (arith, c.push_reserved.ensures.capacity, c.loop.invariant.room);
+  empty = rw c.push_reserved.ensures.items (empty-push c.loop.tables.items c.loop.invariant.empty);
+}
 
 pub invariant_of-result : goal.invariant_of-result
 invariant_of-result g c = empty-tables _ c.loop.invariant.empty g.B.Geometry.shape (omega arith)
