@@ -91,7 +91,7 @@ fn sets_of<B: Geometry>(alloc: Global, count: u8) -> Result<Vec<OwnSet<B>>, Allo
     let classes = Classes::<B>::make(alloc, count)?;
     let mut sets = Vec::with_capacity(alloc, classes.count() as usize)?;
     for class in 0..classes.count() {
-        sets.push(OwnSet::of(classes.representative(class)))?;
+        sets.push_reserved(OwnSet::of(classes.representative(class)));
     }
     Ok(sets)
 }

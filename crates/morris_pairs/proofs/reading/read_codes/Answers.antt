@@ -1,9 +1,7 @@
 -- Where a piece ends early, fewer bytes were read than the codes have.
-use Rattle.std.proofs.Common.{◌≡◌, ◌-◌, ◌*◌, ◌+◌, ◌≤◌, [], ◌++◌, length, refl, sym, ap, ◌∙◌, subst, arith, rules, vec_len, append-nil, append_assoc, length-take}
-use Rattle.std.specs.Io.KnownBytes.{Consumes}
+use Rattle.std.proofs.Common.{◌≡◌, ◌-◌, ◌*◌, ◌+◌, [], ◌++◌, length, refl, ◌∙◌, arith, rules, vec_len, append-nil, append_assoc, length-take}
 use Rattle.std.proofs.lemmas.Result.{err_from_is_err_and}
 use Rattle.std.proofs.KnownBytes.{Consumes-nil, Consumes-trans}
-use Rattle.sha2.specs.Hashers.{Holds256}
 use Rattle.morris_pairs.specs.TableFiles.{code_bytes}
 use Rattle.morris_pairs.proofs.FileLaws.{length-code_bytes}
 use Rattle.morris_pairs.proofs.ReadingLaws.{early_after, counts_after}

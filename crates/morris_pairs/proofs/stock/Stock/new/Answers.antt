@@ -1,4 +1,4 @@
-use Rattle.std.proofs.Common.{◌∙◌, arith, sym, length-append}
+use Rattle.std.proofs.Common.{arith}
 use Rattle.morris_pairs.proofs.ShelfLaws.{empty-nothing, empty-push}
 use Rattle.morris_pairs.proofs.StockLaws.{empty-tables}
 use Rattle.morris_pairs.proofs.stock.Stock.new.Goals as goal
