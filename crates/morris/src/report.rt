@@ -5,8 +5,8 @@ ghost use Rattle.morris_board.specs.Buffered.{Passes, sink_of, taken_of};
 ghost use Rattle.morris_jobs.specs.Faults.{ReportsText};
 ghost use Rattle.morris.specs.Reporting.{is_of_folder, line_at, path_text, why_text};
 
-use morris_board::streams::{Failed, Sink};
 use morris_board::streams::buffered::Buffered;
+use morris_board::streams::{Failed, Sink};
 use morris_folders::reason::Reason;
 use morris_jobs::fault::Fault;
 use morris_jobs::print::{Printed, send};

@@ -8,8 +8,8 @@ ghost use Rattle.morris_commands.specs.Look.{counts_line, value_line, head_text,
 
 use morris_board::board::Geometry;
 use morris_board::position::Position;
-use morris_board::streams::{Failed, Sink};
 use morris_board::streams::buffered::Buffered;
+use morris_board::streams::{Failed, Sink};
 use morris_jobs::print::Printed;
 use morris_moves::rules::moves;
 use morris_moves::search::Within;

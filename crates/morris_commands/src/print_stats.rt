@@ -5,8 +5,8 @@ ghost use Rattle.morris_commands.specs.Stats.{depth_line, depth_lines, draw_line
 
 use crate::print_deepest::put_deepest;
 use morris_board::board::Geometry;
-use morris_board::streams::{Failed, Sink};
 use morris_board::streams::buffered::Buffered;
+use morris_board::streams::{Failed, Sink};
 use morris_census::deepest::Deepest;
 use morris_index::pair::Pair;
 use morris_jobs::pairs::put_pair;

@@ -5,8 +5,8 @@ ghost use Rattle.morris_board.specs.Buffered.{Passes, sink_of, taken_of};
 
 use hex::encode_to_slice;
 use morris_board::board::Geometry;
-use morris_board::streams::{Failed, Sink};
 use morris_board::streams::buffered::Buffered;
+use morris_board::streams::{Failed, Sink};
 use morris_jobs::pairs::put_pair;
 use morris_jobs::print::Printed;
 use morris_keeping::table_file::Written;

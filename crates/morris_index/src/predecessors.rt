@@ -16,7 +16,6 @@ use std::marker::Model;
 /// What is kept of a position, so that the index of each position before a quiet move to it is
 /// found in constant time.
 #[derive(Drop)]
-#[derive_where(Debug)]
 pub struct PredecessorIndices<B: Geometry> {
     /// The pair that the position is one of.
     pair: Pair<B>,

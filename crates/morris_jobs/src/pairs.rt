@@ -7,8 +7,8 @@ ghost use Rattle.morris_jobs.specs.PairText.{read_pair_of};
 
 use crate::fault::Fault;
 use morris_board::board::Geometry;
-use morris_board::streams::{Failed, Sink};
 use morris_board::streams::buffered::Buffered;
+use morris_board::streams::{Failed, Sink};
 use morris_index::pair::Pair;
 use morris_probe::print::put_signed;
 

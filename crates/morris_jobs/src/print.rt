@@ -6,8 +6,8 @@ ghost use Rattle.morris_probe.specs.Reports.{WentOut};
 ghost use Rattle.morris_jobs.specs.Faults.{CountsWrites, Prints};
 
 use crate::fault::Fault;
-use morris_board::streams::{Failed, Sink};
 use morris_board::streams::buffered::Buffered;
+use morris_board::streams::{Failed, Sink};
 
 /// A text that can be printed.
 pub trait Printed {

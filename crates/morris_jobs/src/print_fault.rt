@@ -7,8 +7,8 @@ use crate::fault::Fault;
 use crate::pairs::put_stones;
 use crate::print::Printed;
 use crate::wording::{Wording, Words};
-use morris_board::streams::{Failed, Sink};
 use morris_board::streams::buffered::Buffered;
+use morris_board::streams::{Failed, Sink};
 use morris_probe::print::put_count;
 
 /// The line of the fault.

@@ -5,8 +5,8 @@ ghost use Rattle.morris_jobs.specs.Progress.{labelled, so_far_text, stones_text,
 
 use crate::print::Printed;
 use crate::progress::{News, SoFar};
-use morris_board::streams::{Failed, Sink};
 use morris_board::streams::buffered::Buffered;
+use morris_board::streams::{Failed, Sink};
 use morris_probe::print::{put_count, put_signed};
 
 /// A label of at most 32 bytes and a number.

@@ -2,8 +2,8 @@
 use crate::pairs::put_pair;
 use crate::print::Printed;
 use morris_board::board::Geometry;
-use morris_board::streams::{Failed, Sink};
 use morris_board::streams::buffered::Buffered;
+use morris_board::streams::{Failed, Sink};
 use morris_index::pair::Pair;
 use morris_probe::print::put_count;
 

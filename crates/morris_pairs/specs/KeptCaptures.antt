@@ -33,4 +33,4 @@ IsKept board own slot = 0 < slot.left → slot.results ≡ exits_of (codes_left 
 
 -- each slot has what it is to have, for the own stones whose captures are kept
 abbrev pub AreKept : Shape → KeptCaptures → Type 0
-AreKept board kept = All (IsKept board kept.own) kept.slots
+AreKept board kept = All (IsKept board kept.own) kept.slots.items

@@ -36,6 +36,8 @@ pub struct ClassGraph<'a, B: Geometry> {
     graph: PairGraph<'a, B>,
     /// The entries, which are those of classes.
     numbering: Numbering<B>,
+    /// What gives memory for the captures that are kept while entries are read.
+    alloc: Global,
 }
 
 impl<'a, B: Geometry> Model for ClassGraph<'a, B> {
@@ -98,7 +100,11 @@ impl<'a, B: Geometry> ClassGraph<'a, B> {
         let _ = pair.greater();
         let graph = PairGraph::over(stock, pair)?;
         let numbering = Numbering::make(alloc, pair, Layout::Classes)?;
-        Ok(ClassGraph { graph, numbering })
+        Ok(ClassGraph {
+            graph,
+            numbering,
+            alloc,
+        })
     }
 
     /// The table of the pair in layout `Classes`, of the codes of all nodes in order.
@@ -140,7 +146,9 @@ impl<'a, B: Board> Graph for ClassGraph<'a, B> {
 
     fn read_nodes(&self, first: u64, counts: &mut [u16], exits: &mut [Exits]) {
         match &self.numbering {
-            Numbering::Classes(classes) => read_rows(&self.graph, classes, first, counts, exits),
+            Numbering::Classes(classes) => {
+                read_rows(self.alloc, &self.graph, classes, first, counts, exits)
+            }
             Numbering::Full(_) => unreachable!(),
         }
     }

@@ -9,9 +9,10 @@ ghost use Rattle.morris_pairs.specs.KeptCaptures.{codes_left, AreKept};
 
 use morris_board::points::Points;
 use morris_wave::Exits;
+use std::alloc::Global;
 
 /// At most so many summaries are kept.
-const SLOTS: usize = 2048;
+const SLOTS: usize = 4096;
 
 /// A summary that is kept, or none.
 #[derive(Clone, Copy, Debug)]
@@ -34,25 +35,29 @@ const EMPTY_SLOT: Slot = Slot {
 pub(crate) struct KeptCaptures {
     /// The own stones.
     pub(crate) own: Points,
-    /// The slots.
-    pub(crate) slots: [Slot; SLOTS],
+    /// The slots; none where memory for them was refused, and then nothing is kept.
+    pub(crate) slots: Vec<Slot>,
 }
 
 /// The place of the slot of the captures that leave these stones: a hash of their set.
 fn slot_of(left: Points) -> usize
-    ensures { result < 2048 }
+    ensures { result < 4096 }
 {
     (left.mask().wrapping_mul(2_654_435_761) >> 16) as usize % SLOTS
 }
 
 impl KeptCaptures {
     /// Nothing is kept yet.
-    pub(crate) fn new() -> KeptCaptures
+    pub(crate) fn new(alloc: Global) -> KeptCaptures
         ensures { (board : Shape) → AreKept board result }
     {
-        KeptCaptures {
-            own: Points::EMPTY,
-            slots: [EMPTY_SLOT; SLOTS],
+        let own = Points::EMPTY;
+        match vec![in alloc; EMPTY_SLOT; SLOTS] {
+            Ok(slots) => KeptCaptures { own, slots },
+            Err(_) => KeptCaptures {
+                own,
+                slots: Vec::new(alloc),
+            },
         }
     }
 
@@ -65,7 +70,7 @@ impl KeptCaptures {
             return;
         }
         self.own = own;
-        self.slots.fill(EMPTY_SLOT);
+        self.slots.as_mut_slice().fill(EMPTY_SLOT);
     }
 
     /// The summary of the captures that leave these stones, where it is kept.
@@ -73,11 +78,9 @@ impl KeptCaptures {
         requires { 0 < left }
         ensures { (board : Shape) → AreKept board self.now → IfSome result (λ results. results ≡ exits_of (codes_left board self.now.own left)) }
     {
-        let slot = self.slots[slot_of(left)];
-        if slot.left == left {
-            Some(slot.results)
-        } else {
-            None
+        match self.slots.get(slot_of(left)) {
+            Some(slot) if slot.left == left => Some(slot.results),
+            _ => None,
         }
     }
 
@@ -86,6 +89,8 @@ impl KeptCaptures {
         ensures own { self.new.own ≡ self.old.own }
         ensures kept { (board : Shape) → AreKept board self.old → results ≡ exits_of (codes_left board self.old.own left) → AreKept board self.new }
     {
-        self.slots[slot_of(left)] = Slot { left, results };
+        if let Some(slot) = self.slots.get_mut(slot_of(left)) {
+            *slot = Slot { left, results };
+        }
     }
 }

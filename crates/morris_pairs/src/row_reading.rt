@@ -17,6 +17,7 @@ use morris_board::board::Geometry;
 use morris_index::class_pair::ClassPair;
 use morris_index::entry_rows::EntryRow;
 use morris_wave::Exits;
+use std::alloc::Global;
 
 /// Reads the entries of a row from its first on, as many as there is room for, and says how many
 /// these are.
@@ -51,8 +52,10 @@ fn read_row<B: Geometry>(
 }
 
 /// Reads the entries from `first` on, as many as there is room for: the numbers of quiet moves of
-/// their positions, and the summaries of what their captures lead to.
+/// their positions, and the summaries of what their captures lead to. Where memory is refused,
+/// nothing is kept from entry to entry.
 pub(crate) fn read_rows<B: Geometry>(
+    alloc: Global,
     graph: &PairGraph<B>,
     classes: &ClassPair<B>,
     first: u64,
@@ -68,7 +71,7 @@ pub(crate) fn read_rows<B: Geometry>(
 {
     // The proof learns here that the entries are few.
     let _ = classes.size();
-    let mut kept = KeptCaptures::new();
+    let mut kept = KeptCaptures::new(alloc);
     let mut done = 0;
     while done < counts.len() {
         let entries = classes.row_from(first + done as u64);

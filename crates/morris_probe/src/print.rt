@@ -9,8 +9,8 @@ ghost use Rattle.morris_probe.specs.Lines.{line, number_line, move_line, value_l
 
 use morris_board::board::Geometry;
 use morris_board::position::Position;
-use morris_board::streams::{Failed, Sink};
 use morris_board::streams::buffered::Buffered;
+use morris_board::streams::{Failed, Sink};
 use morris_moves::step::Move;
 use morris_pairs::value::Value;
 

@@ -3,8 +3,8 @@ ghost use Rattle.std.specs.Prelude.{◌≡◌, ◌-◌, ◌^◌, ◌<◌, ◌≤
 ghost use Rattle.morris_board.specs.Buffered.{Passes, held_of, sink_of, taken_of};
 ghost use Rattle.morris_board.specs.Streams.{CountsFailure, HasSent};
 
-use morris_board::streams::{Failed, Sink};
 use morris_board::streams::buffered::Buffered;
+use morris_board::streams::{Failed, Sink};
 use morris_jobs::print::Printed;
 
 /// Sends a text to the last byte, and answers how many bytes it has; at the first write that fails,

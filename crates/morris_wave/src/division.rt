@@ -16,7 +16,7 @@ const SHORT: u64 = 4294967296;
 const PARTS: u64 = 9007199254740992;
 
 /// The number of blocks isn't 1 to 1,024.
-#[derive(Clone, Copy, Debug, Error)]
+#[derive(Clone, Copy, Debug, PartialEq, Eq, Error)]
 #[error("blocks must be 1 to 1024")]
 pub struct Blocks;
 

@@ -15,7 +15,7 @@ use std::ops::Range;
 use thiserror::Error;
 
 /// What a block did with a batch.
-#[derive(Clone, Copy, PartialEq, Eq)]
+#[derive(Clone, Copy, Debug, PartialEq, Eq)]
 pub enum Applied {
     /// The batch was taken in. Its source counts as applied once all pieces of it are.
     Done,
@@ -27,7 +27,7 @@ pub enum Applied {
 }
 
 /// Why a block doesn't go on to the next wave.
-#[derive(Clone, Copy, Debug, Error)]
+#[derive(Clone, Copy, Debug, PartialEq, Eq, Error)]
 pub enum AdvanceFault {
     /// Not all sources of this wave are applied.
     #[error("wave is not complete")]
@@ -39,7 +39,7 @@ pub enum AdvanceFault {
 
 /// How many entries of a block are won, lost and still open; together these are all nodes of the
 /// block.
-#[derive(Clone, Copy)]
+#[derive(Clone, Copy, Debug, PartialEq, Eq)]
 pub struct Tallies {
     /// Entries of even codes above 0.
     pub won: u64,

@@ -15,10 +15,9 @@ use crate::nodes::NodeList;
 use crate::stretch::Stretch;
 use std::alloc::{AllocError, Global};
 
-// So many nodes are read at a time, so that nothing that was read stays with its node. What a graph
-// keeps while it reads nodes that follow one another serves many of them, and what was read of a
-// piece still has room on the stack.
-const PIECE: usize = 4096;
+// So many nodes are read at a time, so that nothing that was read stays with its node. A graph may
+// keep something while it reads nodes that follow one another, and so many share that.
+const PIECE: usize = 16384;
 
 // What is known of a stretch while its nodes are read.
 #[derive(Drop)]
@@ -129,9 +128,16 @@ fn read_piece<G: Graph, L: NodeList, C: CounterList>(
     true
 }
 
-// Reads all nodes, a piece at a time, unless the counters are for nodes of fewer quiet results.
-// Says whether all of them were read.
-fn read_all<G: Graph, L: NodeList, C: CounterList>(graph: &G, reading: &mut Reading<L, C>) -> bool
+// Reads all nodes, a piece at a time, unless the counters are for nodes of fewer quiet results. In
+// `counts` and `exits` there is room for a piece. Says whether all of them were read.
+fn read_all<G: Graph, L: NodeList, C: CounterList>(
+    graph: &G,
+    reading: &mut Reading<L, C>,
+    counts: &mut [u16],
+    exits: &mut [Exits],
+) -> bool
+    requires counts { length counts.old ≡ 16384 }
+    requires exits { length exits.old ≡ 16384 }
     requires end { reading.old.entries.first + length reading.old.entries.entries.codes ≤ (G.Name.net (G.level graph.now)).size }
     requires wave { reading.old.entries.wave ≡ 0 }
     requires read { HasRead (G.Name.net (G.level graph.now)) C.most reading.old.entries.first 0
@@ -144,8 +150,6 @@ fn read_all<G: Graph, L: NodeList, C: CounterList>(graph: &G, reading: &mut Read
     ensures wide { 65535 < C.most → result ≡ true }
 {
     let count = reading.waves.len();
-    let mut counts = [0u16; PIECE];
-    let mut exits = [Exits::NONE; PIECE];
     for piece in 0..count / PIECE + 1 {
         let from = piece * PIECE;
         let len = (count - from).min(PIECE);
@@ -176,8 +180,10 @@ fn read_with<G: Graph, L: NodeList, C: CounterList>(
         s.entries.entries.codes (counts_of s.counters) s.due s.last_due)) }
     ensures wide { 65535 < C.most → IfOk result (λ read. IsSome read) }
 {
+    let mut counts = vec![in alloc; 0u16; PIECE]?;
+    let mut exits = vec![in alloc; Exits::NONE; PIECE]?;
     let mut reading: Reading<L, C> = Reading::open(alloc, first, (end - first) as usize)?;
-    if !read_all(graph, &mut reading) {
+    if !read_all(graph, &mut reading, &mut counts, &mut exits) {
         return Ok(None);
     }
     let due = Due::of(alloc, first, &reading.waves)?;

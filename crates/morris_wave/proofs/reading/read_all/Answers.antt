@@ -14,10 +14,10 @@ loop-piece-preserved g c =
     let most = g.C.CounterList.most in
     let codes = new.entries.entries.codes in
     let counters = g.C.CounterList.counts new.counters in
-    let here = c.loop-piece.piece * 4096 + length (take c.min-len.result c.loop-piece.counts) in
+    let here = c.loop-piece.piece * 16384 + length (take c.min-len.result c.loop-piece.counts) in
     let counts_taken = length-take c.min-len.result c.loop-piece.counts in
     let exits_taken = length-take c.min-len.result c.loop-piece.exits in
-    let next : here ≡ min ((c.loop-piece.piece + 1) * 4096) (length old.entries.entries.codes) =
+    let next : here ≡ min ((c.loop-piece.piece + 1) * 16384) (length old.entries.entries.codes) =
     omega (arith, counts_taken, inv.counts_len, c.min-len.ensures, c.len-count.ensures, c.loop-piece-test.true, inv.len, c.loop-piece.reading.waved) in
     record {
       len = made.len ∙ inv.len;

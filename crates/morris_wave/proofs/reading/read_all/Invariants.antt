@@ -7,7 +7,7 @@ invariant-loop-piece g l = record {
   len : length l.reading.entries.entries.codes ≡ length l.initial.reading.entries.entries.codes;
   first : l.reading.entries.first ≡ l.initial.reading.entries.first;
   wave : l.reading.entries.wave ≡ 0;
-  counts_len : length l.counts ≡ 4096;
-  exits_len : length l.exits ≡ 4096;
-  read : HasRead (g.G.Name.Levels.net (g.G.Graph.level l.graph)) g.C.CounterList.most l.initial.reading.entries.first (min (l.piece * 4096) (length l.initial.reading.entries.entries.codes)) l.reading.entries.entries.codes (g.C.CounterList.counts l.reading.counters) l.reading.waves.items l.reading.last_due;
+  counts_len : length l.counts ≡ 16384;
+  exits_len : length l.exits ≡ 16384;
+  read : HasRead (g.G.Name.Levels.net (g.G.Graph.level l.graph)) g.C.CounterList.most l.initial.reading.entries.first (min (l.piece * 16384) (length l.initial.reading.entries.entries.codes)) l.reading.entries.entries.codes (g.C.CounterList.counts l.reading.counters) l.reading.waves.items l.reading.last_due;
 }

@@ -1,6 +1,8 @@
-use Rattle.std.proofs.Common.{refl}
+use Rattle.std.proofs.Common.{refl, sym, subst}
+use Rattle.std.specs.List.{All}
+use Rattle.morris_pairs.specs.KeptCaptures.{IsKept}
 use Rattle.morris_pairs.proofs.KeptLaws.{none_kept}
 use Rattle.morris_pairs.proofs.kept_captures.KeptCaptures.new.Goals as goal
 
-pub returns : goal.returns
-returns c = λ board. none_kept board 0 2048 _ refl
+pub returns-in-Ok : goal.returns-in-Ok
+returns-in-Ok c = λ board. subst (λ slots. All (IsKept board 0) slots) (sym (c.in-Ok.ensures.items_if_clones_equal (λ y is. is))) (none_kept board 0 4096 _ refl)
