@@ -98,7 +98,8 @@ def furnish(crate, to, root=ROOT, built="crates/{0}"):
             if os.path.isdir(f"{root}/crates/{it}/{part}"):
                 copied(f"{root}/crates/{it}/{part}", f"{to}/crates/{it}/{part}")
     for it in crates[:-1]:
-        copied(f"{root}/{built.format(it)}/out/rlib", f"{to}/crates/{it}/out/rlib")
+        if os.path.isdir(f"{root}/{built.format(it)}/out/rlib"):
+            copied(f"{root}/{built.format(it)}/out/rlib", f"{to}/crates/{it}/out/rlib")
     with open(f"{root}/crates.txt", encoding="utf-8") as rows:
         kept = [it for it in rows if re.split(r"[\s:]", it, maxsplit=1)[0] in crates]
     Path(f"{to}/crates.txt").write_text("".join(kept), encoding="utf-8")

@@ -12,7 +12,7 @@ ghost use Rattle.morris.specs.Command.{NamesFolder, folder_of, Answers, AnswersC
 
 use crate::report::{Place, report};
 use morris_board::streams::{Sink, Source};
-use morris_commands::build::{Order, build_on, layout_of};
+use morris_commands::build::build_on;
 use morris_commands::look::look;
 use morris_commands::probe::probe_with;
 use morris_commands::stats::{stats_by_classes, stats_with};
@@ -24,6 +24,7 @@ use morris_folders::reason::Reason;
 use morris_folders::system::SystemFolder;
 use morris_jobs::fault::Fault;
 use morris_jobs::on_board;
+use morris_jobs::orders::{Order, layout_of};
 use morris_jobs::print::{print, send};
 use morris_jobs::progress::Progress;
 use morris_jobs::team::{Crew, Team};
