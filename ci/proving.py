@@ -145,6 +145,12 @@ class Room:
         os.close(self.lock)
 
 
+def free_memory():
+    """How much memory is free, in bytes."""
+    with open("/proc/meminfo", encoding="utf-8") as it:
+        return 1024 * int(re.search(r"MemAvailable:\s+(\d+)", it.read())[1])
+
+
 class Proofs:
     """The crates that are being built, and those that are, as long as it is wanted."""
 
