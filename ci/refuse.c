@@ -3,7 +3,8 @@
    REFUSED_REQUEST is the number of that request, counted from 1. With REFUSE_FROM_START all
    requests count. Without it, those count that come between a request of MARK bytes and the next
    such one, which crates/morris_trials makes around the call that it tries. Where the request came
-   and was refused, a byte goes to the file descriptor REFUSAL_TOLD_TO.
+   and was refused, the bytes that it was for go to the file descriptor REFUSAL_TOLD_TO, as a number
+   in the machine's own form.
 
    Where LARGEST_TOLD_TO is the number of a file descriptor, each request that is larger than all
    before it is told there, refused or not, as a number in the machine's own form. */
@@ -50,10 +51,10 @@ static void tell_if_largest(size_t size) {
         }
 }
 
-static _Bool is_refused(void) {
+static _Bool is_refused(size_t size) {
     if (!counting || __atomic_add_fetch(&asked, 1, __ATOMIC_SEQ_CST) != refused)
         return 0;
-    write(told_to, "r", 1);
+    write(told_to, &size, sizeof size);
     return 1;
 }
 
@@ -61,12 +62,12 @@ void *malloc(size_t size) {
     tell_if_largest(size);
     if (size == MARK)
         counting = !counting;
-    else if (is_refused())
+    else if (is_refused(size))
         return 0;
     return __libc_malloc(size);
 }
 
 void *realloc(void *block, size_t size) {
     tell_if_largest(size);
-    return is_refused() ? 0 : __libc_realloc(block, size);
+    return is_refused(size) ? 0 : __libc_realloc(block, size);
 }
