@@ -131,9 +131,6 @@ module _ (n : ℕ) (low : n ≤ 24) (c : Counts) (s : Sides) (placed : IsPlaced 
   unfolding half_index
   before_half = rw (map_number-none (members (taken_back s u v).own), before_count) refl
 
-  pub before_few : before_sum < 1307504 * 1307504
-  before_few = rw before_half (half_index-few n (taken_back s u v) low before_placed (rw before_count other_few) own_few)
-
   pub before_index : start_of n c (count_of s.other) + before_sum ≡ index_of n c (taken_back s u v)
   before_index = sym (index-parts n c (taken_back s u v) ∙ ap₂ (λ k h. start_of n c k + h) before_count (sym before_half))
 
