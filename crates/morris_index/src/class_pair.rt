@@ -15,7 +15,8 @@ ghost use Rattle.morris_index.specs.Carried.{IsReturning, IsReturningKept};
 ghost use Rattle.morris_index.specs.Standings.{are_of};
 
 use crate::binomials::binomial;
-use crate::class_halves::{Half, class_half_row, class_half_size};
+use crate::class_halves::{Half, class_half_row};
+use crate::class_sizes::class_half_size;
 use crate::classes::{Classes, first_leading};
 use crate::entry_rows::EntryRow;
 use crate::falls::FallsOn;
@@ -107,7 +108,7 @@ impl<B: Geometry> ClassPair<B> {
         let ranks = RankTable::make(alloc)?;
         let (greater, greater_returning, greater_sets) = keep_sets::<B>(alloc, more, fewer)?;
         let (lesser, lesser_returning, lesser_sets) = keep_sets::<B>(alloc, fewer, more)?;
-        let first = class_half_size(&greater, more, fewer);
+        let first = class_half_size::<B>(greater.count(), more, fewer);
         let greater_choices = binomial(points - more, fewer);
         let lesser_choices = binomial(points - fewer, more);
         Ok(ClassPair {
@@ -141,11 +142,10 @@ impl<B: Geometry> ClassPair<B> {
         ensures few { result ≤ 2 ^ 40 }
     {
         let (greater, lesser) = (self.pair.greater(), self.pair.lesser());
-        let first = class_half_size(&self.greater, greater, lesser);
         if greater == lesser {
-            first
+            self.first
         } else {
-            first + class_half_size(&self.lesser, lesser, greater)
+            self.first + class_half_size::<B>(self.lesser.count(), lesser, greater)
         }
     }
 
@@ -269,8 +269,7 @@ impl<B: Geometry> ClassPair<B> {
         ensures inside { index + result.len ≤ class_size_of B.shape B.POINTS self.now }
     {
         let (greater, lesser) = (self.pair.greater(), self.pair.lesser());
-        let half = class_half_size(&self.greater, greater, lesser);
-        if index < half {
+        if index < self.first {
             let (own, numbers) = class_half_row(
                 &self.greater,
                 &self.lesser_sets,
@@ -285,7 +284,7 @@ impl<B: Geometry> ClassPair<B> {
                 &self.greater_sets,
                 lesser,
                 greater,
-                index - half,
+                index - self.first,
             );
             EntryRow::of(self.pair, index, own, numbers)
         }

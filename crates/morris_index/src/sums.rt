@@ -1,5 +1,5 @@
 //! The ranks of sets that differ from a given one by a moved stone, from sums over its stones.
-ghost use Rattle.std.specs.Prelude.{◌≡◌, ℕ, suc, ◌+◌, ◌<◌, ◌≤◌, ◌^◌, true, false, map};
+ghost use Rattle.std.specs.Prelude.{◌≡◌, ◌+◌, ◌<◌, ◌≤◌, ◌^◌, true, false, map};
 ghost use Rattle.morris_board.specs.Sets.{has, members, count_of, with_point, without_point};
 ghost use Rattle.morris_index.specs.Numbering.{rank_of, number_outside};
 ghost use Rattle.morris_index.specs.Sums.{IsMoved, IsRenumbered, moved_end, renumbered_end};
