@@ -13,13 +13,11 @@ use Rattle.morris_index.specs.Binomials.{choose}
 use Rattle.morris_index.specs.Numbering.{rank_of, number_outside}
 use Rattle.morris_index.specs.Classes.{symmetry_of, representative_of, is_representative, classes_below, class_of, class_count}
 use Rattle.morris_index.specs.ClassPairs.{led, class_half_size, class_half_index}
-use Rattle.morris_index.specs.ClassMoves.{class_half_start}
 use Rattle.morris_index.proofs.IndexLaws.{IsPlaced, placed, other_apart, other_rank-lt, rank_outside-same, parts_lt, parts_same, number_outside-count, half_size-few}
 use Rattle.morris_index.proofs.ClassLaws.{symmetry_within, image_none, representative_within, representative_count, representative_twice, representative_symmetry, test_from, class_alone, class_lt}
 use Rattle.morris_index.specs.Numbering.{half_size, half_index}
 use Rattle.morris_index.specs.Pairs.{IsHalf}
 use Rattle.std.proofs.Math.Path.{ap₂}
-use Rattle.morris_index.proofs.BinomialTable.{choose_small}
 use Rattle.morris_index.proofs.PairLaws.{other_count}
 use Rattle.morris_index.specs.Pairs.{Counts, is_of}
 use Rattle.morris_index.specs.ClassPairs.{class_size_of, class_index_of}
@@ -71,18 +69,6 @@ module _ (board : Shape) (n : ℕ) (few : n ≤ 24) (points : board.points ≡ n
     pub class_index-lt : class_of board s.own < class_count board (count_of s.own) → class_half_index board n s < class_half_size board n (count_of s.own) (count_of s.other)
     unfolding class_half_index class_half_size
     class_index-lt class = parts_lt (class_of board s.own) led_rank (class_count board (count_of s.own)) (choose (n - count_of s.own) (count_of s.other)) class led_rank-lt
-
-    pub class_index-small : class_of board s.own < 2 ^ 32 → class_half_index board n s < 2 ^ 53
-    unfolding class_half_index
-    class_index-small class =
-        let most : choose (n - count_of s.own) (count_of s.other) ≤ 1307504 =
-        choose_small (n - count_of s.own) (count_of s.other) (omega arith) (omega (arith, (other_count s h.sized).1)) in
-        omega (arith, led_rank-lt, most, mul-le-mul_left {m = class_of board s.own} {n = 4294967296} (choose (n - count_of s.own) (count_of s.other)) (omega arith))
-
-    -- what the code adds up
-    pub class_index-is : (start rank : ℕ) → start ≡ class_half_start board n s.own (count_of s.other) → rank ≡ led_rank → start + rank ≡ class_half_index board n s
-    unfolding class_half_index
-    class_index-is start rank start_is rank_is = rw (start_is, rank_is) refl
 
   -- two positions with as many stones and the same number are led to the same position
   module _ (s t : Sides) (h : IsPosition board s) (k : IsPosition board t) (own : count_of s.own ≡ count_of t.own) (other : count_of s.other ≡ count_of t.other)

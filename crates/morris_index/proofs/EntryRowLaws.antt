@@ -15,7 +15,7 @@ use Rattle.morris_index.specs.Parts.{squeezed_below}
 use Rattle.morris_index.specs.Classes.{representative_of, class_of}
 use Rattle.morris_index.specs.ClassPairs.{led, class_half_size, class_size_of, class_index_of}
 use Rattle.morris_index.specs.ClassMoves.{class_half_start, class_start_of}
-use Rattle.morris_index.specs.EntryRows.{InRow, in_row, IsInRow, opposed, row_end, IsHalfRow, IsEntryRow}
+use Rattle.morris_index.specs.EntryRows.{InRow, in_row, IsInRow, opposed, IsHalfRow, IsEntryRow}
 use Rattle.morris_index.specs.Standings.{are_of}
 use Rattle.morris_index.proofs.ClassMoveLaws.{entry-parts}
 use Rattle.morris_index.proofs.ClassPairLaws.{led_itself, led_alone, index-lt}
@@ -107,17 +107,8 @@ module _ (board : Shape) (n : ℕ) (few : n ≤ 24) (points : board.points ≡ n
   half : IsHalfRow board n row.own other_count index numbers
   half = k.first.2
 
-  pub row_least : representative_of board row.own ≡ row.own
-  row_least = half.least
-
-  pub row_within : row.own < 2 ^ n
-  row_within = half.within
-
   pub row_some : 1 ≤ row.len
   row_some = omega (arith, half.some, k.len)
-
-  pub row_whole : row.first + row.len ≡ row_end board n row
-  row_whole = omega (arith, half.whole, k.first.1, k.len)
 
   free : number_outside row.own n ≡ n - count_of row.own
   free = omega (arith, number_outside-count n row.own half.within (omega arith))
@@ -128,9 +119,6 @@ module _ (board : Shape) (n : ℕ) (few : n ≤ 24) (points : board.points ≡ n
 
     ranked : IsRanked (n - count_of row.own) 0 other_count rank (slice_index numbers place)
     ranked = half.each place (omega (arith, k.len, inside))
-
-    pub numbers_within : slice_index numbers place < 2 ^ (n - count_of row.own)
-    numbers_within = ranked.within
 
     pub numbers_fit : slice_index numbers place < 2 ^ number_outside row.own 24
     numbers_fit = listed-fits n (n - count_of row.own) other_count rank (slice_index numbers place) row.own few free ranked

@@ -3,7 +3,7 @@
 use Rattle.std.proofs.Common.{◌≡◌, ℕ, ◌+◌, ◌^◌, ◌<◌, ◌≤◌, true, false, eqb, ltb, ◌&&◌, List, [], ◌++◌, map, filter, refl, sym, ◌∙◌, ap, ap₂, subst, inl, inr, arith}
 use Rattle.std.specs.List.{range_with_len, All, Contains}
 use Rattle.std.proofs.lemmas.Bool.{cases_lt, ltb-true, eq-eqb, eqb-true, and_parts, and_from}
-use Rattle.std.proofs.lemmas.List.Elements.{All-nil, All-append, All-contains_itself, All-weaker, Contains-append_left, Contains-append_right}
+use Rattle.std.proofs.lemmas.List.Elements.{All-append, All-contains_itself, All-weaker, Contains-append_left, Contains-append_right}
 use Rattle.morris_board.specs.Boards.{Shape}
 use Rattle.morris_board.specs.Sets.{has, members, count_of}
 use Rattle.morris_board.specs.Positions.{Sides, sides, IsPosition}
@@ -21,7 +21,7 @@ use Rattle.morris_index.proofs.IndexLaws.{IsPlaced, placed, other_apart, within_
 use Rattle.morris_index.proofs.PairLaws.{from_between, own_count, other_count}
 use Rattle.morris_index.proofs.ClassLaws.{representative_twice, symmetry_within}
 use Rattle.morris_index.proofs.ClassPairLaws.{led_position, led_own, led_own_count, led_other_count, led_itself, led_alone, index-lt}
-use Rattle.morris_index.proofs.CarriedLaws.{both_and, members-listed, carried_placed, carried_own, carried_entry, carried_few, other_same}
+use Rattle.morris_index.proofs.CarriedLaws.{both_and, members-listed, carried_placed, carried_own, carried_entry, carried_few}
 use Rattle.morris_index.proofs.StepLaws.{leads_from}
 use Rattle.morris_index.proofs.FallLaws.{kept-from, kept-has}
 
@@ -143,9 +143,6 @@ module _ (board : Shape) (n : ℕ) (few : n ≤ 24) (points : board.points ≡ n
 
       pub faced_apart : (q : ℕ) → has faced.other q ≡ true → has faced.own q ≡ false
       faced_apart = other_apart n (omega arith) _ (carried_placed board n few points y (turned p) turned_placed s s_in parts.0)
-
-      pub faced_others : count_of faced.other ≤ 9
-      faced_others = omega (arith, other_same board n few points y (turned p) turned_placed s s_in parts.0, own_most)
 
       pub is_faced : (entry : ℕ) → entry ≡ class_index_of board n c faced → IsFaced board n (in_pair c faced) entry
       is_faced entry e = record {
@@ -289,12 +286,6 @@ module _ (board : Shape) (n : ℕ) (few : n ≤ 24) (points : board.points ≡ n
       sym (led_itself board n few points y s.own s.other (placed board n s points h).own_within (placed board n s points h).other_within s_own)
       ∙ led_alone board n few points y c s t h k s_of t_of same
       ∙ led_itself board n few points y t.own t.other (placed board n t points k).own_within (placed board n t points k).other_within t_own
-
-  pub faces-none : (first : ℕ) → AreFaces board n c first first []
-  faces-none first = record {
-    pairs = All-nil (λ (q : InPair). q.pair ≡ c);
-    each = λ p h of own from to q m. absurd (omega arith);
-  }
 
   pub faces-more : (first k : ℕ) (faces : List InPair) (p : Sides) → IsPosition board p → is_of c p ≡ true → representative_of board p.own ≡ p.own
       → class_index_of board n c p ≡ k → AreFaces board n c first k faces → AreFaces board n c first (k + 1) (faces ++ facing board c p)

@@ -3,17 +3,17 @@ use Rattle.std.proofs.Common.{◌≡◌, ℕ, suc, ◌+◌, ◌-◌, ◌^◌, �
 use Rattle.std.proofs.lemmas.Bool.{cases_eq}
 use Rattle.std.proofs.lemmas.List.{get_or_append_left, get_or_push, get_or-map, length-map}
 use Rattle.morris_board.specs.Boards.{Shape}
-use Rattle.morris_board.specs.Sets.{has, count_of}
+use Rattle.morris_board.specs.Sets.{count_of}
 use Rattle.morris_board.specs.Symmetries.{HasSymmetries}
 use Rattle.morris_board.proofs.PointsLaws.{has-none}
 use Rattle.morris_index.specs.Binomials.{choose}
 use Rattle.morris_index.specs.Numbering.{IsRanked}
-use Rattle.morris_index.specs.Classes.{symmetry_of, representative_of, is_representative, classes_below, class_of, class_count, AreLeading, IsKept, IsClasses, classes_in, leading_in}
+use Rattle.morris_index.specs.Classes.{representative_of, is_representative, classes_below, class_of, class_count, AreLeading, IsKept, IsClasses, classes_in, leading_in}
 use Rattle.morris_index.specs.declared.classes.Lead.{Lead}
 use Rattle.morris_index.proofs.BinomialTable.{choose_small}
 use Rattle.morris_index.proofs.IndexLaws.{number_outside-none, rank_outside-lt, rank_outside-same}
 use Rattle.morris_index.proofs.OrderLaws.{rank_at, rank_less, mask_less}
-use Rattle.morris_index.proofs.ClassLaws.{representative_within, representative_count, representative_le, class_of-representative, symmetry_within, representative_twice, test_parts, test_from, test_other, test_count, first_leading, none_below, none_between, one_more, no_more, class_lt, class_alone}
+use Rattle.morris_index.proofs.ClassLaws.{representative_within, representative_count, representative_le, class_of-representative, representative_twice, test_parts, test_from, test_other, test_count, none_below, none_between, one_more, no_more, class_lt, class_alone}
 
 -- ---- ranked sets
 
@@ -196,9 +196,6 @@ module _ (board : Shape) (n count : ℕ) (low : n ≤ 24) (points : board.points
       pub leads_at : AreLeading board set (get_or leading (rank_at set) 0)
       leads_at = all.kept.leads (rank_at set) set rank_in here
 
-      pub symmetry_lt : symmetry_of board set < board.symmetries
-      symmetry_lt = symmetry_within board few y set (on_board set within)
-
       pub class_of-lt : class_of board set < class_count board count
       unfolding class_of class_count
       class_of-lt =
@@ -217,9 +214,6 @@ module _ (board : Shape) (n count : ℕ) (low : n ≤ 24) (points : board.points
           (test_from board count r own r_count)
           (test_from board count (representative_of board set) (representative_twice board few y set small) (representative_count board few y set small ∙ counted))
           (ap₂ (classes_below board) (sym r_count) (sym own) ∙ same ∙ ap (λ k. classes_below board k (representative_of board set)) counted)
-
-      pub first_at : (x p : ℕ) → AreLeading board set x → has x p ≡ true → ((k : ℕ) → k < p → has x k ≡ false) → p ≡ symmetry_of board set
-      first_at x p leads here below = first_leading board set x p y.some leads here below
 
     module _ (class : ℕ) (low_class : class < class_count board count) where
       abbrev found : ℕ

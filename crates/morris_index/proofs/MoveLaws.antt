@@ -1,6 +1,6 @@
 -- The index of a position that differs from a given one by a moved stone.
-use Rattle.std.proofs.Common.{◌≡◌, ℕ, ◌+◌, ◌-◌, ◌*◌, ◌^◌, ◌<◌, ◌≤◌, Bool, true, false, not, ◌&&◌, ◌||◌, eqb, map, refl, sym, ◌∙◌, ap, ap₂, inl, inr, ◌⊎◌, arith}
-use Rattle.std.proofs.lemmas.Bool.{cases_Bool, cases_eq, cases_lt, both_ways, eq-eqb, ne_eqb}
+use Rattle.std.proofs.Common.{◌≡◌, ℕ, ◌+◌, ◌-◌, ◌*◌, ◌^◌, ◌<◌, ◌≤◌, Bool, true, false, not, ◌&&◌, ◌||◌, eqb, ltb, map, refl, sym, ◌∙◌, ap, ap₂, inl, inr, ◌⊎◌, arith}
+use Rattle.std.proofs.lemmas.Bool.{cases_Bool, cases_eq, cases_lt, both_ways, eq-eqb, ne_eqb, ltb-true, ltb-false}
 use Rattle.morris_board.specs.Boards.{Shape}
 use Rattle.morris_board.specs.Sets.{has, members, count_of, with_point, without_point}
 use Rattle.morris_board.specs.Positions.{Sides, sides, IsPosition}
@@ -8,15 +8,15 @@ use Rattle.morris_board.proofs.PointsLaws.{has-without, has-above, count_of-with
 use Rattle.morris_index.specs.Binomials.{choose}
 use Rattle.morris_index.specs.Numbering.{rank_of, number_outside, half_index}
 use Rattle.morris_index.specs.Pairs.{Counts, IsPair, IsHalf, index_of}
-use Rattle.morris_index.specs.Sums.{IsMoved, IsRenumbered, lower_moved, higher_moved, lower_renumbered, higher_renumbered}
-use Rattle.morris_index.specs.Moves.{taken_back, moved_on, start_of, lower_taken_back, higher_taken_back}
+use Rattle.morris_index.specs.Sums.{IsMoved, IsRenumbered, moved_end, renumbered_end}
+use Rattle.morris_index.specs.Moves.{taken_back, moved_on, start_of, end_taken_back}
 use Rattle.morris_index.specs.declared.sums.MovedSums.{MovedSums}
 use Rattle.morris_index.specs.declared.sums.RenumberedSums.{RenumberedSums}
 use Rattle.std.proofs.Math.Nat.{add-mul, pow-le-pow_right}
 use Rattle.morris_index.proofs.ChooseLaws.{choose-le}
 use Rattle.morris_index.proofs.SetLaws.{with_point-lt}
 use Rattle.morris_index.proofs.IndexLaws.{IsPlaced, placed, both_le, within_24, counts_fit, half_size-few, index-first, index-second, map_number-none, half_index-few}
-use Rattle.morris_index.proofs.SumLaws.{without_point-lt, rest, rank_is, rank_is', rank_down, rank_up, renumbered_down, renumbered_up}
+use Rattle.morris_index.proofs.SumLaws.{without_point-lt, rest, differ, rank_is, rank_is', rank_down, rank_up, renumbered_down, renumbered_up}
 
 -- ---- a vacant point
 
@@ -131,9 +131,6 @@ module _ (n : ℕ) (low : n ≤ 24) (c : Counts) (s : Sides) (placed : IsPlaced 
   unfolding half_index
   before_half = rw (map_number-none (members (taken_back s u v).own), before_count) refl
 
-  pub before_few : before_sum < 1307504 * 1307504
-  before_few = rw before_half (half_index-few n (taken_back s u v) low before_placed (rw before_count other_few) own_few)
-
   pub before_index : start_of n c (count_of s.other) + before_sum ≡ index_of n c (taken_back s u v)
   before_index = sym (index-parts n c (taken_back s u v) ∙ ap₂ (λ k h. start_of n c k + h) before_count (sym before_half))
 
@@ -206,17 +203,22 @@ module _ (n : ℕ) (low : n ≤ 24) (c : Counts) (s : Sides) (placed : IsPlaced 
         turned_index n low s placed own_few other_few c,
       )
 
-  pub lower_index : u < v → index_of n c (taken_back s u v) + lower_taken_back n s v ≡ index_of n c (sides s.other s.own) + lower_taken_back n s u
+  lower_index : u < v → index_of n c (taken_back s u v) + end_taken_back true n s v ≡ index_of n c (sides s.other s.own) + end_taken_back true n s u
   lower_index down =
-      grown (lower_moved 0 s.other u) (lower_moved 0 s.other v) (lower_renumbered s.other s.own u) (lower_renumbered s.other s.own v)
+      grown (moved_end true 0 s.other u) (moved_end true 0 s.other v) (renumbered_end true s.other s.own u) (renumbered_end true s.other s.own v)
       (rank_down 0 s.other u v (within_24 s.other n placed.other_within low) free_other here (omega arith) (omega (arith, v_in)) mover moved down)
       (renumbered_down s.other s.own u v (within_24 s.own n placed.own_within low) placed.apart free_other here free_own (omega arith) (omega (arith, v_in)) waiting renumbered down)
 
-  pub higher_index : v < u → index_of n c (taken_back s u v) + higher_taken_back n s v ≡ index_of n c (sides s.other s.own) + higher_taken_back n s u
+  higher_index : v < u → index_of n c (taken_back s u v) + end_taken_back false n s v ≡ index_of n c (sides s.other s.own) + end_taken_back false n s u
   higher_index up =
-      grown (higher_moved 0 s.other u) (higher_moved 0 s.other v) (higher_renumbered s.other s.own u) (higher_renumbered s.other s.own v)
+      grown (moved_end false 0 s.other u) (moved_end false 0 s.other v) (renumbered_end false s.other s.own u) (renumbered_end false s.other s.own v)
       (rank_up 0 s.other u v (within_24 s.other n placed.other_within low) free_other here (omega arith) (omega (arith, v_in)) mover moved up)
       (renumbered_up s.other s.own u v (within_24 s.own n placed.own_within low) placed.apart free_other here free_own (omega arith) (omega (arith, v_in)) waiting renumbered up)
+
+  pub end_index : (lower : Bool) → ltb u v ≡ lower
+      → index_of n c (taken_back s u v) + end_taken_back lower n s v ≡ index_of n c (sides s.other s.own) + end_taken_back lower n s u
+  end_index true h = lower_index (ltb-true u v h)
+  end_index false h = higher_index (differ s.other u v free_other here (ltb-false u v h))
 
 -- ---- the position after a quiet move
 

@@ -37,15 +37,3 @@ other_count s h = between 3 (count_of s.other) 9 ((and_parts (is_between 2 (coun
 -- the test of a pair
 pub pair_passes : (n : ℕ) (c : Counts) → IsPair n c → is_pair n c ≡ true
 pair_passes n c h = rw (le-leb c.greater 9 h.most, le-leb c.lesser c.greater h.ordered, le-leb 3 c.lesser h.least, le-leb (c.greater + c.lesser) n h.fits) refl
-
-pub pair_passed : (n : ℕ) (c : Counts) → is_pair n c ≡ true → IsPair n c
-pair_passed n c h =
-    let first = and_parts (leb c.greater 9) (leb c.lesser c.greater && (leb 3 c.lesser && leb (c.greater + c.lesser) n)) h in
-    let second = and_parts (leb c.lesser c.greater) (leb 3 c.lesser && leb (c.greater + c.lesser) n) first.1 in
-    let third = and_parts (leb 3 c.lesser) (leb (c.greater + c.lesser) n) second.1 in
-    record {
-      most = leb-true _ _ first.0;
-      ordered = leb-true _ _ second.0;
-      least = leb-true _ _ third.0;
-      fits = leb-true _ _ third.1;
-    }

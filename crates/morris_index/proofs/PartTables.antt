@@ -97,17 +97,6 @@ ranked_at part place s part_low s_low few =
 
 -- ---- how large the numbers are
 
-pub squeezed_few : (o s : ℕ) → o < 64 → s < 64 → squeezed_below o s 6 < 64
-squeezed_few o s o_low s_low = ltb-true _ _ (rw (← squeezed_at o s o_low s_low) tested)
-  where
-    fits : list_all (λ k. list_all (λ m. ltb (get_or (get_or table.SQUEEZED k []) m 0) 64) (range_with_len 0 64)) (range_with_len 0 64) ≡ true
-    fits = refl
-
-    tested : ltb (get_or (get_or table.SQUEEZED o []) s 0) 64 ≡ true
-    tested =
-        below (λ m. ltb (get_or (get_or table.SQUEEZED o []) m 0) 64) 64
-        (below (λ k. list_all (λ m. ltb (get_or (get_or table.SQUEEZED k []) m 0) 64) (range_with_len 0 64)) 64 fits o o_low) s s_low
-
 abbrev is_ranked_few : ℕ → ℕ → ℕ → Bool
 is_ranked_few part place s = ltb (get_or (get_or (get_or table.RANKS part []) place []) s 0) 2147483648
 

@@ -4,7 +4,7 @@
 use Rattle.std.proofs.Common.{◌≡◌, ℕ, suc, ◌-◌, ◌<◌, ◌≤◌, true, [], ◌∷◌, refl, sym, ◌∙◌, inl, inr, ◌⊎◌, arith, Some, lit<}
 use Rattle.std.specs.List.{Contains}
 use Rattle.std.specs.Option.{option_to_list}
-use Rattle.std.proofs.lemmas.Bool.{cases_eq, cases_lt, eq-eqb, ne_eqb, le-leb, lt-leb, lt-ltb}
+use Rattle.std.proofs.lemmas.Bool.{cases_lt, eq-eqb, ne_eqb, le-leb, lt-leb, lt-ltb}
 use Rattle.std.proofs.lemmas.List.Elements.{Contains-append_left, Contains-append_right}
 use Rattle.morris_board.specs.Sets.{count_of}
 use Rattle.morris_board.specs.Positions.{Sides}
@@ -25,29 +25,6 @@ less_greater_in c h =
     (rw (lt-ltb c.lesser c.greater h) (only (counts (c.greater - 1) c.lesser)))
 
 -- ---- on two numbers
-
-pub ordered-le : (x y : ℕ) → y ≤ x → ordered x y ≡ counts x y
-ordered-le x y h = rw (le-leb y x h) refl
-
-pub ordered-lt : (x y : ℕ) → x < y → ordered x y ≡ counts y x
-ordered-lt x y h = rw (lt-leb y x h) refl
-
--- a quiet move stays in the pair
-pub ordered-quiet : (x y : ℕ) → ordered y x ≡ ordered x y
-ordered-quiet x y = elim (cases_lt x y) [
-  | inl l ↦ ordered-le y x (omega arith) ∙ sym (ordered-lt x y l)
-  | inr g ↦ elim (cases_eq x y) [
-    | inl e ↦ rw e refl
-    | inr d ↦ ordered-lt y x (omega arith) ∙ sym (ordered-le x y g)
-  ]
-]
-
--- a capture leads to a pair that this one needs, where more than two stones are left
-pub needed-capture : (x y : ℕ) → 3 < y → Contains (needed (ordered x y)) (ordered (y - 1) x)
-needed-capture x y h = elim (cases_lt x y) [
-  | inl l ↦ rw (ordered-lt x y l, ordered-le (y - 1) x (omega arith)) (less_greater_in (counts y x) l)
-  | inr g ↦ rw (ordered-le x y g, ordered-lt (y - 1) x (omega arith)) (less_lesser_in (counts x y) h)
-]
 
 -- ---- on positions
 

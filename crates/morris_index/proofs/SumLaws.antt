@@ -7,7 +7,7 @@ use Rattle.morris_board.specs.Sets.{has, members, count_of, with_point, without_
 use Rattle.morris_board.proofs.PointsLaws.{has-with, has-without, has-above}
 use Rattle.morris_index.specs.Binomials.{choose}
 use Rattle.morris_index.specs.Numbering.{rank_of, number_outside}
-use Rattle.morris_index.specs.Sums.{total, term, sum_below, bias, IsMoved, IsRenumbered, lower_moved, higher_moved, lower_renumbered, higher_renumbered}
+use Rattle.morris_index.specs.Sums.{total, term, sum_below, bias, IsMoved, IsRenumbered, moved_end, renumbered_end}
 use Rattle.morris_index.specs.declared.sums.MovedSums.{MovedSums}
 use Rattle.morris_index.specs.declared.sums.RenumberedSums.{RenumberedSums}
 use Rattle.std.proofs.Math.Nat.{pow-le-pow_right}
@@ -189,7 +189,7 @@ module _ (outside s u v : ℕ) (within : s < 2 ^ 24) (free : has s u ≡ false) 
 
   module _ (sums : MovedSums) (is : IsMoved outside s sums) where
     pub rank_down : u < v
-        → rank_of (map number (members (after s u v free here))) + lower_moved outside s v ≡ sums.rank + lower_moved outside s u
+        → rank_of (map number (members (after s u v free here))) + moved_end true outside s v ≡ sums.rank + moved_end true outside s u
     rank_down down = omega (
       arith,
       after_rank,
@@ -201,7 +201,7 @@ module _ (outside s u v : ℕ) (within : s < 2 ^ 24) (free : has s u ≡ false) 
     )
 
     pub rank_up : v < u
-        → rank_of (map number (members (after s u v free here))) + higher_moved outside s v ≡ sums.rank + higher_moved outside s u
+        → rank_of (map number (members (after s u v free here))) + moved_end false outside s v ≡ sums.rank + moved_end false outside s u
     rank_up up =
         let e : count_below (has s) v + 0 ≡ count_below (has s) v = omega arith in
         omega (
@@ -232,7 +232,7 @@ module _ (outside s u v : ℕ) (within : s < 2 ^ 24) (apart : (p : ℕ) → has 
 
   module _ (sums : RenumberedSums) (is : IsRenumbered outside s sums) where
     pub renumbered_down : u < v
-        → rank_of (map (number_outside new) (members s)) + lower_renumbered outside s v ≡ sums.rank + lower_renumbered outside s u
+        → rank_of (map (number_outside new) (members s)) + renumbered_end true outside s v ≡ sums.rank + renumbered_end true outside s u
     renumbered_down down = omega (
       arith,
       new_rank,
@@ -262,7 +262,7 @@ module _ (outside s u v : ℕ) (within : s < 2 ^ 24) (apart : (p : ℕ) → has 
     )
 
     pub renumbered_up : v < u
-        → rank_of (map (number_outside new) (members s)) + higher_renumbered outside s v ≡ sums.rank + higher_renumbered outside s u
+        → rank_of (map (number_outside new) (members s)) + renumbered_end false outside s v ≡ sums.rank + renumbered_end false outside s u
     renumbered_up up = omega (
       arith,
       new_rank,
@@ -343,10 +343,10 @@ number-near : (outside p : ℕ) → number_outside outside p ≤ p + 1
 number-near outside p = omega (arith, number-count outside p)
 
 module _ (outside s : ℕ) (sums : MovedSums) (is : IsMoved outside s sums) where
-  pub later_is : (n : ℕ) → n ≤ 24 → slice_index sums.later (count_below (has s) n) + choose (number_outside outside n) (count_below (has s) n + 1) ≡ lower_moved outside s n
+  pub later_is : (n : ℕ) → n ≤ 24 → slice_index sums.later (count_below (has s) n) + choose (number_outside outside n) (count_below (has s) n + 1) ≡ moved_end true outside s n
   later_is n low = omega (arith, is.later n low)
 
-  pub earlier_is : (n : ℕ) → n ≤ 24 → slice_index sums.earlier (count_below (has s) n) + choose (number_outside outside n) (count_below (has s) n) ≡ higher_moved outside s n
+  pub earlier_is : (n : ℕ) → n ≤ 24 → slice_index sums.earlier (count_below (has s) n) + choose (number_outside outside n) (count_below (has s) n) ≡ moved_end false outside s n
   earlier_is n low = omega (arith, is.earlier n low)
 
   pub later-few : (n : ℕ) → n ≤ 24 → slice_index sums.later (count_below (has s) n) ≤ 1100000000
@@ -362,10 +362,10 @@ module _ (outside s : ℕ) (sums : MovedSums) (is : IsMoved outside s sums) wher
   rank_is within = is.rank ∙ sym (rank_set 24 outside (omega arith) s within ∙ rank-total outside (has s) 24)
 
 module _ (outside s : ℕ) (sums : RenumberedSums) (is : IsRenumbered outside s sums) where
-  pub before_is : (n : ℕ) → n ≤ 24 → slice_index sums.before (count_below (has s) n) ≡ lower_renumbered outside s n
+  pub before_is : (n : ℕ) → n ≤ 24 → slice_index sums.before (count_below (has s) n) ≡ renumbered_end true outside s n
   before_is n low = omega (arith, is.before n low)
 
-  pub after_is : (n : ℕ) → n ≤ 24 → slice_index sums.after (count_below (has s) n) ≡ higher_renumbered outside s n
+  pub after_is : (n : ℕ) → n ≤ 24 → slice_index sums.after (count_below (has s) n) ≡ renumbered_end false outside s n
   after_is n low = omega (arith, is.after n low)
 
   pub before-few : (n : ℕ) → n ≤ 24 → slice_index sums.before (count_below (has s) n) ≤ 1100000000

@@ -1,13 +1,13 @@
 -- The positions that differ from a given one by a moved stone, and where they stand in the
 -- numbering.
-use Rattle.std.specs.Prelude.{◌≡◌, ℕ, ◌+◌, ◌-◌, ◌*◌, nat_eq, true, if◌then◌else◌}
+use Rattle.std.specs.Prelude.{◌≡◌, ℕ, ◌+◌, ◌-◌, ◌*◌, nat_eq, Bool, true, if◌then◌else◌}
 use Rattle.morris_board.specs.Boards.{Shape}
 use Rattle.morris_board.specs.Sets.{members, count_of, with_point, without_point}
 use Rattle.morris_board.specs.Positions.{Sides, sides, IsPosition}
 use Rattle.morris_index.specs.Binomials.{choose}
 use Rattle.morris_index.specs.Numbering.{rank_of, half_size}
 use Rattle.morris_index.specs.Pairs.{Counts, IsPair, is_of, index_of}
-use Rattle.morris_index.specs.Sums.{IsMoved, IsRenumbered, lower_moved, higher_moved, lower_renumbered, higher_renumbered}
+use Rattle.morris_index.specs.Sums.{IsMoved, IsRenumbered, moved_end, renumbered_end}
 use Rattle.morris_index.specs.declared.sums.MovedSums.{MovedSums}
 use Rattle.morris_index.specs.declared.sums.RenumberedSums.{RenumberedSums}
 
@@ -29,15 +29,11 @@ abbrev pub start_of : ℕ → Counts → ℕ → ℕ
 start_of n c own = if nat_eq own c.greater then 0 else half_size n c.greater c.lesser
 
 -- What p comes to, on n points, where p is an end of the way of a stone of the opponent that goes
--- back to a lesser point: the index of the position before is that of s with the other player to
--- move, and what the end comes to that the stone goes back to, less what the one does that it
--- leaves.
-abbrev pub lower_taken_back : ℕ → Sides → ℕ → ℕ
-lower_taken_back n s p = lower_moved 0 s.other p * choose (n - count_of s.other) (count_of s.own) + lower_renumbered s.other s.own p
-
--- the same where it goes back to a greater point
-abbrev pub higher_taken_back : ℕ → Sides → ℕ → ℕ
-higher_taken_back n s p = higher_moved 0 s.other p * choose (n - count_of s.other) (count_of s.own) + higher_renumbered s.other s.own p
+-- back to a lesser point, or to a greater one: the index of the position before is that of s with
+-- the other player to move, and what the end comes to that the stone goes back to, less what the
+-- one does that it leaves.
+abbrev pub end_taken_back : Bool → ℕ → Sides → ℕ → ℕ
+end_taken_back lower n s p = moved_end lower 0 s.other p * choose (n - count_of s.other) (count_of s.own) + renumbered_end lower s.other s.own p
 
 -- what is kept of a position, on n points, for the indices of those before it
 pub record IsTakenBack (board : Shape) (n : ℕ) (q : InPair) (mover : MovedSums) (waiting : RenumberedSums) (index sets : ℕ) : Type 0 where

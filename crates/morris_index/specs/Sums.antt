@@ -53,24 +53,20 @@ pub record IsRenumbered (outside set : ℕ) (sums : RenumberedSums) : Type 0 whe
   pub rank : sums.rank ≡ sum_below set (number_outside outside) 1 24
 
 -- What a point p and the points of a set below it come to, where p is an end of the way of a point
--- of the set that goes to a lesser point: those between the ends stand a place later then. The rank
--- grows by what the end comes to that it goes to, less what the one does that it leaves.
-abbrev pub lower_moved : ℕ → ℕ → ℕ → ℕ
-lower_moved outside set p = (bias + sum_below set (number_outside outside) 1 p) - sum_below set (number_outside outside) 2 p
+-- of the set that goes to a lesser point, or to a greater one: those between the ends stand a place
+-- later then, or a place earlier. The rank grows by what the end comes to that it goes to, less what
+-- the one does that it leaves.
+abbrev pub moved_end : Bool → ℕ → ℕ → ℕ → ℕ
+moved_end lower outside set p =
+    if lower then (bias + sum_below set (number_outside outside) 1 p) - sum_below set (number_outside outside) 2 p
     + choose (number_outside outside p) (count_below (has set) p + 1)
-
--- the same where it goes to a greater point: those between the ends stand a place earlier then
-abbrev pub higher_moved : ℕ → ℕ → ℕ → ℕ
-higher_moved outside set p = (bias + sum_below set (number_outside outside) 0 p) - sum_below set (number_outside outside) 1 p
+    else (bias + sum_below set (number_outside outside) 0 p) - sum_below set (number_outside outside) 1 p
     + choose (number_outside outside p) (count_below (has set) p)
 
 -- What the points of a set below p come to, where p is an end of the way of one of those outside
--- which they are numbered, which goes to a lesser point: those between get the number before theirs.
-abbrev pub lower_renumbered : ℕ → ℕ → ℕ → ℕ
-lower_renumbered outside set p =
-    (bias + sum_below set (number_outside outside) 1 p) - sum_below set (λ q. number_outside outside q - 1) 1 p
-
--- the same where it goes to a greater point: those between get the number after theirs
-abbrev pub higher_renumbered : ℕ → ℕ → ℕ → ℕ
-higher_renumbered outside set p =
-    (bias + sum_below set (λ q. number_outside outside q + 1) 1 p) - sum_below set (number_outside outside) 1 p
+-- which they are numbered: those between get the number before theirs where it goes to a lesser
+-- point, and the number after theirs where it goes to a greater one.
+abbrev pub renumbered_end : Bool → ℕ → ℕ → ℕ → ℕ
+renumbered_end lower outside set p =
+    if lower then (bias + sum_below set (number_outside outside) 1 p) - sum_below set (λ q. number_outside outside q - 1) 1 p
+    else (bias + sum_below set (λ q. number_outside outside q + 1) 1 p) - sum_below set (number_outside outside) 1 p

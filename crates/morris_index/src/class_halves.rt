@@ -94,16 +94,6 @@ impl<'a, B: Geometry> Half<'a, B> {
     }
 }
 
-/// How many entries there are for `own` stones of the player to move and `other` of the opponent.
-pub(crate) fn class_half_size<B: Geometry>(classes: &Classes<B>, own: u8, other: u8) -> u64
-    requires half { IsHalf B.POINTS own other }
-    requires classes { classes.now ≡ own }
-    ensures value { result ≡ class_half_size B.shape B.POINTS own other }
-    ensures few { result ≤ 2 ^ 39 }
-{
-    u64::from(classes.count()) * binomial(B::POINTS - own, other)
-}
-
 /// The stones of the player to move in the entry with this number among those with `own` stones of
 /// the player to move and `other` of the opponent; and the masks of the opponent's sets in it and
 /// in the further entries with these stones, as numbers of the points that are free.

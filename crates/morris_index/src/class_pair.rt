@@ -5,7 +5,7 @@ ghost use Rattle.morris_board.specs.Sets.{has, members, count_of};
 ghost use Rattle.morris_board.specs.Positions.{Sides, sides, IsPosition};
 ghost use Rattle.morris_index.specs.Numbering.{rank_of, number_outside};
 ghost use Rattle.morris_index.specs.Pairs.{IsPair, IsHalf, is_of};
-ghost use Rattle.morris_index.specs.Classes.{symmetry_of, representative_of, class_count, AreLeading};
+ghost use Rattle.morris_index.specs.Classes.{symmetry_of, representative_of, class_count};
 ghost use Rattle.morris_index.specs.ClassPairs.{led, class_size_of, class_index_of};
 ghost use Rattle.morris_index.specs.ClassMoves.{class_start_of};
 ghost use Rattle.morris_index.specs.EntryRows.{row_end};
@@ -15,7 +15,8 @@ ghost use Rattle.morris_index.specs.Carried.{IsReturning, IsReturningKept};
 ghost use Rattle.morris_index.specs.Standings.{are_of};
 
 use crate::binomials::binomial;
-use crate::class_halves::{Half, class_half_row, class_half_size};
+use crate::class_halves::{Half, class_half_row};
+use crate::class_sizes::class_half_size;
 use crate::classes::{Classes, first_leading};
 use crate::entry_rows::EntryRow;
 use crate::falls::FallsOn;
@@ -107,7 +108,7 @@ impl<B: Geometry> ClassPair<B> {
         let ranks = RankTable::make(alloc)?;
         let (greater, greater_returning, greater_sets) = keep_sets::<B>(alloc, more, fewer)?;
         let (lesser, lesser_returning, lesser_sets) = keep_sets::<B>(alloc, fewer, more)?;
-        let first = class_half_size(&greater, more, fewer);
+        let first = class_half_size::<B>(greater.count(), more, fewer);
         let greater_choices = binomial(points - more, fewer);
         let lesser_choices = binomial(points - fewer, more);
         Ok(ClassPair {
@@ -141,11 +142,10 @@ impl<B: Geometry> ClassPair<B> {
         ensures few { result ≤ 2 ^ 40 }
     {
         let (greater, lesser) = (self.pair.greater(), self.pair.lesser());
-        let first = class_half_size(&self.greater, greater, lesser);
         if greater == lesser {
-            first
+            self.first
         } else {
-            first + class_half_size(&self.lesser, lesser, greater)
+            self.first + class_half_size::<B>(self.lesser.count(), lesser, greater)
         }
     }
 
@@ -175,22 +175,9 @@ impl<B: Geometry> ClassPair<B> {
         ensures one { result.2 < B.SYMMETRIES }
         ensures few { result.0 ≤ 2 ^ 54 }
     {
-        let (start, representative, leading, _) = self.leads_of(own, other);
+        let half = self.half(own.count(), other);
+        let (start, representative, leading, _) = half.leads_of(own);
         (start, representative, first_leading::<B>(own, leading))
-    }
-
-    /// The same first entry, the representative, all symmetries that lead `own` there, and the
-    /// class.
-    pub(crate) fn leads_of(&self, own: Points, other: u8) -> (u64, Outside, Points, u32)
-        requires within { own < 2 ^ B.POINTS }
-        requires counts { are_of self.now (count_of own) other ≡ true }
-        ensures start { result.0 ≡ class_start_of B.shape B.POINTS self.now own other }
-        ensures representative { result.1 ≡ representative_of B.shape own }
-        ensures symmetries { AreLeading B.shape own result.2 }
-        ensures few { result.0 ≤ 2 ^ 54 }
-        ensures lawful { IsPair B.POINTS self.now }
-    {
-        self.half(own.count(), other).leads_of(own)
     }
 
     /// The entries in which the player to move has `own` stones and the opponent `other`.
@@ -244,6 +231,7 @@ impl<B: Geometry> ClassPair<B> {
         ensures index { class_index_of B.shape B.POINTS self.now result ≡ index }
         ensures counts { is_of self.now result ≡ true }
         ensures lawful { IsPosition B.shape result }
+        ensures own { representative_of B.shape result.own ≡ result.own }
         ensures led { (s : Sides) → IsPosition B.shape s → is_of self.now s ≡ true → class_index_of B.shape B.POINTS self.now s ≡ index → result ≡ led B.shape s }
     {
         self.row_from(index).position(0)
@@ -259,6 +247,7 @@ impl<B: Geometry> ClassPair<B> {
         ensures index { class_index_of B.shape B.POINTS self.now result ≡ index }
         ensures counts { is_of self.now result ≡ true }
         ensures lawful { IsPosition B.shape result }
+        ensures own { representative_of B.shape result.own ≡ result.own }
         ensures led { (s : Sides) → IsPosition B.shape s → is_of self.now s ≡ true → class_index_of B.shape B.POINTS self.now s ≡ index → result ≡ led B.shape s }
     {
         // The proof learns the rules of a position where its stones are read.
@@ -280,8 +269,7 @@ impl<B: Geometry> ClassPair<B> {
         ensures inside { index + result.len ≤ class_size_of B.shape B.POINTS self.now }
     {
         let (greater, lesser) = (self.pair.greater(), self.pair.lesser());
-        let half = class_half_size(&self.greater, greater, lesser);
-        if index < half {
+        if index < self.first {
             let (own, numbers) = class_half_row(
                 &self.greater,
                 &self.lesser_sets,
@@ -296,7 +284,7 @@ impl<B: Geometry> ClassPair<B> {
                 &self.greater_sets,
                 lesser,
                 greater,
-                index - half,
+                index - self.first,
             );
             EntryRow::of(self.pair, index, own, numbers)
         }

@@ -18,21 +18,24 @@ pub fn class_size<B: Geometry>(pair: Pair<B>) -> u64
     ensures { result ≡ class_size_of B.shape B.POINTS pair }
 {
     let (greater, lesser) = (pair.greater(), pair.lesser());
-    let first = class_half_size::<B>(greater, lesser);
+    let first = class_half_size::<B>(class_count::<B>(greater), greater, lesser);
     if greater == lesser {
         first
     } else {
-        first + class_half_size::<B>(lesser, greater)
+        first + class_half_size::<B>(class_count::<B>(lesser), lesser, greater)
     }
 }
 
-/// How many entries there are for `own` stones of the player to move and `other` of the opponent.
-fn class_half_size<B: Geometry>(own: u8, other: u8) -> u64
-    requires { IsHalf B.POINTS own other }
+/// How many entries there are for `own` stones of the player to move, whose sets have so many
+/// classes, and `other` of the opponent.
+pub(crate) fn class_half_size<B: Geometry>(classes: u32, own: u8, other: u8) -> u64
+    requires half { IsHalf B.POINTS own other }
+    requires classes { classes ≡ class_count B.shape own }
+    requires few { classes ≤ choose B.POINTS own }
     ensures value { result ≡ class_half_size B.shape B.POINTS own other }
     ensures few { result ≤ 2 ^ 39 }
 {
-    u64::from(class_count::<B>(own)) * binomial(B::POINTS - own, other)
+    u64::from(classes) * binomial(B::POINTS - own, other)
 }
 
 /// How many classes of sets of `count` points there are.

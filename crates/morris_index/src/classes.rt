@@ -125,7 +125,7 @@ impl<B: Geometry> Classes<B> {
         ensures class { class_of B.shape result ≡ class }
         ensures within { result < 2 ^ B.POINTS }
     {
-        self.outside_of(class).points()
+        self.outside_of(class).points
     }
 
     /// The same with what numbers outside it need.

@@ -50,7 +50,7 @@ impl<'a, B: Geometry> Faced<'a, B> {
         ensures counts { is_of self.now.pair self.now.position ≡ true }
         ensures own { representative_of B.shape self.now.position.own ≡ self.now.position.own }
     {
-        self.after.position()
+        self.after.position
     }
 
     /// Its entry.
@@ -87,31 +87,6 @@ fn turned<B: Geometry>(pair: &ClassPair<B>, position: &Position<B>) -> Position<
         Ok(turned) => turned,
         Err(_) => unreachable!(),
     }
-}
-
-/// The position that has an entry for its own.
-fn own_position<B: Geometry>(pair: &ClassPair<B>, entry: u64) -> Position<B>
-    requires { entry < class_size_of B.shape B.POINTS pair.now }
-    ensures entry { class_index_of B.shape B.POINTS pair.now result ≡ entry }
-    ensures counts { is_of pair.now result ≡ true }
-    ensures lawful { IsPosition B.shape result }
-    ensures own { representative_of B.shape result.own ≡ result.own }
-{
-    pair.position(entry)
-}
-
-/// The same, where the position of the entry before is at hand.
-fn own_following<B: Geometry>(pair: &ClassPair<B>, before: &Position<B>, entry: u64) -> Position<B>
-    requires counts { is_of pair.now before.now ≡ true }
-    requires own { representative_of B.shape before.now.own ≡ before.now.own }
-    requires before { class_index_of B.shape B.POINTS pair.now before.now + 1 ≡ entry }
-    requires inside { entry < class_size_of B.shape B.POINTS pair.now }
-    ensures entry { class_index_of B.shape B.POINTS pair.now result ≡ entry }
-    ensures counts { is_of pair.now result ≡ true }
-    ensures lawful { IsPosition B.shape result }
-    ensures own { representative_of B.shape result.own ≡ result.own }
-{
-    pair.following(before, entry)
 }
 
 /// What is kept of the stones of the player to move in positions of a pair, so that the positions
@@ -186,9 +161,9 @@ impl<'a, B: Geometry> Facing<'a, B> {
         ensures few { result.0 ≤ 2 ^ 54 }
         ensures carrying { (t : ℕ) → has result.2 t ≡ (nat_lt t B.SYMMETRIES && carries B.shape position.now position.now.other t) }
     {
-        let (start, representative, leading, class) = self
-            .pair
-            .leads_of(from.own(), from.other().count());
+        let own = from.own();
+        let half = self.pair.half(own.count(), from.other().count());
+        let (start, representative, leading, class) = half.leads_of(own);
         (start, representative, leading.common(self.returning), class)
     }
 
@@ -276,12 +251,12 @@ pub fn list_faced<'a, B: Geometry>(
     }
     // The proof learns here that the numbers of stones are those of a pair.
     let _ = pair.pair();
-    let mut position = own_position(pair, first);
+    let mut position = pair.position(first);
     let mut facing = Facing::of(pair, &position);
     for entry in first..end {
         facing.add(&position, out)?;
         if entry + 1 < end {
-            position = own_following(pair, &position, entry + 1);
+            position = pair.following(&position, entry + 1);
             facing.follow(&position);
         }
     }

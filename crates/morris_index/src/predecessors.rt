@@ -1,8 +1,8 @@
 //! The indices of the positions before a position.
-ghost use Rattle.std.specs.Prelude.{◌≡◌, ℕ, ◌<◌, ◌^◌, ◌||◌, ◌++◌, not, true, map, OnOk};
+ghost use Rattle.std.specs.Prelude.{◌≡◌, ℕ, ◌<◌, ◌^◌, ◌||◌, ◌++◌, not, nat_lt, true, map, OnOk};
 ghost use Rattle.morris_board.specs.Sets.{has, members};
 ghost use Rattle.morris_index.specs.Pairs.{is_of, index_of};
-ghost use Rattle.morris_index.specs.Moves.{in_pair, taken_back, lower_taken_back, higher_taken_back};
+ghost use Rattle.morris_index.specs.Moves.{in_pair, taken_back, end_taken_back};
 
 use crate::binomials::binomial;
 use crate::pair::Pair;
@@ -65,29 +65,19 @@ impl<B: Geometry> PredecessorIndices<B> {
         }
     }
 
-    /// What `point` comes to where a stone of the opponent goes back to a lesser point: added to the
-    /// index for the point that it goes back to, and taken away for the one that it leaves.
-    fn lower(&self, point: u8) -> u64
+    /// What `point` comes to where a stone of the opponent goes back to a lesser point, or else to a
+    /// greater one: added to the index for the point that it goes back to, and taken away for the
+    /// one that it leaves.
+    #[inline(always)]
+    fn end(&self, point: u8, lower: bool) -> u64
         requires { point < B.POINTS }
-        ensures value { result ≡ lower_taken_back B.POINTS self.now.position point }
+        ensures value { result ≡ end_taken_back lower B.POINTS self.now.position point }
         ensures few { result < 2 ^ 60 }
     {
         let own = self.position.own();
         let other = self.position.other();
-        self.moved.lower(Points::EMPTY, other, point) * self.choices
-            + self.renumbered.lower(other, own, point)
-    }
-
-    /// The same where it goes back to a greater point.
-    fn higher(&self, point: u8) -> u64
-        requires { point < B.POINTS }
-        ensures value { result ≡ higher_taken_back B.POINTS self.now.position point }
-        ensures few { result < 2 ^ 60 }
-    {
-        let own = self.position.own();
-        let other = self.position.other();
-        self.moved.higher(Points::EMPTY, other, point) * self.choices
-            + self.renumbered.higher(other, own, point)
+        self.moved.end(Points::EMPTY, other, point, lower) * self.choices
+            + self.renumbered.end(other, own, point, lower)
     }
 
     /// The index of the position before a quiet move from `from` to `to` led to the position: a
@@ -98,37 +88,30 @@ impl<B: Geometry> PredecessorIndices<B> {
         requires end { has self.now.position.other to ≡ true }
         ensures { result ≡ index_of B.POINTS self.now.pair (taken_back self.now.position from to) }
     {
-        if from < to {
-            (self.turned + self.lower(from)) - self.lower(to)
-        } else {
-            (self.turned + self.higher(from)) - self.higher(to)
-        }
+        let lower = from < to;
+        (self.turned + self.end(from, lower)) - self.end(to, lower)
     }
 
-    /// Adds what [`PredecessorIndices::add`] adds, for sources below `to`.
-    fn add_lower(&self, to: u8, sources: Points, out: &mut Vec<u64>) -> Result<(), AllocError>
+    /// Adds what [`PredecessorIndices::add`] adds, for sources that all lie below `to`, or all past
+    /// it.
+    // Inlined, so that each way has a loop of its own, without a test in it.
+    #[inline(always)]
+    fn add_from(
+        &self,
+        to: u8,
+        sources: Points,
+        lower: bool,
+        out: &mut Vec<u64>,
+    ) -> Result<(), AllocError>
         requires end { has self.now.position.other to ≡ true }
-        requires sources { (p : ℕ) → has sources p ≡ true → (p < to) × (not (has self.now.position.own p || has self.now.position.other p) ≡ true) }
+        requires sources { (p : ℕ) → has sources p ≡ true → (p < B.POINTS) × (not (has self.now.position.own p || has self.now.position.other p) ≡ true) }
+        requires side { (p : ℕ) → has sources p ≡ true → nat_lt p to ≡ lower }
         ensures { OnOk result (out.new.items ≡ out.old.items ++ map (λ p. index_of B.POINTS self.now.pair (taken_back self.now.position p to)) (members sources)) }
     {
         let turned = self.turned;
-        let gone = self.lower(to);
+        let gone = self.end(to, lower);
         for from in sources.iter() {
-            out.push((turned + self.lower(from)) - gone)?;
-        }
-        Ok(())
-    }
-
-    /// Adds what [`PredecessorIndices::add`] adds, for sources past `to`.
-    fn add_higher(&self, to: u8, sources: Points, out: &mut Vec<u64>) -> Result<(), AllocError>
-        requires end { has self.now.position.other to ≡ true }
-        requires sources { (p : ℕ) → has sources p ≡ true → (to < p) × (p < B.POINTS) × (not (has self.now.position.own p || has self.now.position.other p) ≡ true) }
-        ensures { OnOk result (out.new.items ≡ out.old.items ++ map (λ p. index_of B.POINTS self.now.pair (taken_back self.now.position p to)) (members sources)) }
-    {
-        let turned = self.turned;
-        let gone = self.higher(to);
-        for from in sources.iter() {
-            out.push((turned + self.higher(from)) - gone)?;
+            out.push((turned + self.end(from, lower)) - gone)?;
         }
         Ok(())
     }
@@ -147,7 +130,7 @@ impl<B: Geometry> PredecessorIndices<B> {
         // The proof learns here that `to` is a point of the board.
         let _ = self.position.other();
         let below = Points::below(to);
-        self.add_lower(to, sources.common(below), out)?;
-        self.add_higher(to, sources.less(below), out)
+        self.add_from(to, sources.common(below), true, out)?;
+        self.add_from(to, sources.less(below), false, out)
     }
 }

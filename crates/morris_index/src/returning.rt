@@ -80,7 +80,7 @@ pub(crate) fn returning_of<B: Geometry>(
     ensures { IsReturning B.shape own result }
 {
     let (class, representative, _) = classes.leads_of(rows, own);
-    if representative.points() == own {
+    if representative.points == own {
         kept[class as usize]
     } else {
         returning_from(classes, own)

@@ -54,13 +54,6 @@ impl Outside {
             third: number_outside(points, 16),
         }
     }
-
-    /// The set.
-    pub(crate) fn points(self) -> Points
-        ensures { result ≡ self }
-    {
-        self.points
-    }
 }
 
 /// The table by which sets are squeezed: for each ring of an outer set, and for each ring of a set,

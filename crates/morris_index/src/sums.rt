@@ -1,8 +1,8 @@
 //! The ranks of sets that differ from a given one by a moved stone, from sums over its stones.
-ghost use Rattle.std.specs.Prelude.{◌≡◌, ℕ, suc, ◌+◌, ◌<◌, ◌≤◌, ◌^◌, true, false, map};
+ghost use Rattle.std.specs.Prelude.{◌≡◌, ◌+◌, ◌<◌, ◌≤◌, ◌^◌, true, false, map};
 ghost use Rattle.morris_board.specs.Sets.{has, members, count_of, with_point, without_point};
 ghost use Rattle.morris_index.specs.Numbering.{rank_of, number_outside};
-ghost use Rattle.morris_index.specs.Sums.{IsMoved, IsRenumbered, lower_moved, higher_moved, lower_renumbered, higher_renumbered};
+ghost use Rattle.morris_index.specs.Sums.{IsMoved, IsRenumbered, moved_end, renumbered_end};
 
 use crate::binomials::binomial;
 use crate::ranks::number_outside;
@@ -56,31 +56,25 @@ impl MovedSums {
     }
 
     /// What `point` and the stones of `set`, the set of these sums, below it come to where a stone
-    /// goes to a lesser point: added for the point that it goes to, and taken away for the one that
-    /// it leaves.
-    pub(crate) fn lower(&self, outside: Points, set: Points, point: u8) -> u64
+    /// goes to a lesser point, or else to a greater one: added for the point that it goes to, and
+    /// taken away for the one that it leaves.
+    // Inlined, so that each caller's loop has the sums of one way alone.
+    #[inline(always)]
+    pub(crate) fn end(&self, outside: Points, set: Points, point: u8, lower: bool) -> u64
         requires sums { IsMoved outside set self.now }
         requires board { set < 2 ^ 24 }
         requires few { count_of set ≤ 9 }
         requires point { point < 24 }
-        ensures value { result ≡ lower_moved outside set point }
+        ensures value { result ≡ moved_end lower outside set point }
         ensures few { result ≤ 1200000000 }
     {
         let place = set.count_below(point);
-        u64::from(self.later[place as usize]) + binomial(number_outside(outside, point), place + 1)
-    }
-
-    /// The same where it goes to a greater point.
-    pub(crate) fn higher(&self, outside: Points, set: Points, point: u8) -> u64
-        requires sums { IsMoved outside set self.now }
-        requires board { set < 2 ^ 24 }
-        requires few { count_of set ≤ 9 }
-        requires point { point < 24 }
-        ensures value { result ≡ higher_moved outside set point }
-        ensures few { result ≤ 1200000000 }
-    {
-        let place = set.count_below(point);
-        u64::from(self.earlier[place as usize]) + binomial(number_outside(outside, point), place)
+        let number = number_outside(outside, point);
+        if lower {
+            u64::from(self.later[place as usize]) + binomial(number, place + 1)
+        } else {
+            u64::from(self.earlier[place as usize]) + binomial(number, place)
+        }
     }
 
     /// The rank of `set`, the set of these sums, once its stone on `from` has gone to `to`.
@@ -95,9 +89,9 @@ impl MovedSums {
         ensures { result ≡ rank_of (map (number_outside outside) (members (with_point (without_point set from) to))) }
     {
         if to < from {
-            (self.rank + self.lower(outside, set, to)) - self.lower(outside, set, from)
+            (self.rank + self.end(outside, set, to, true)) - self.end(outside, set, from, true)
         } else {
-            (self.rank + self.higher(outside, set, to)) - self.higher(outside, set, from)
+            (self.rank + self.end(outside, set, to, false)) - self.end(outside, set, from, false)
         }
     }
 }
@@ -147,28 +141,22 @@ impl RenumberedSums {
     }
 
     /// What the stones of `set`, the set of these sums, below `point` come to where a stone outside
-    /// which they are numbered goes to a lesser point: added for the point that it goes to, and taken
-    /// away for the one that it leaves.
-    pub(crate) fn lower(&self, outside: Points, set: Points, point: u8) -> u64
+    /// which they are numbered goes to a lesser point, or else to a greater one: added for the point
+    /// that it goes to, and taken away for the one that it leaves.
+    #[inline(always)]
+    pub(crate) fn end(&self, outside: Points, set: Points, point: u8, lower: bool) -> u64
         requires sums { IsRenumbered outside set self.now }
         requires board { set < 2 ^ 24 }
         requires few { count_of set ≤ 9 }
         requires point { point < 24 }
-        ensures value { result ≡ lower_renumbered outside set point }
+        ensures value { result ≡ renumbered_end lower outside set point }
         ensures few { result ≤ 1200000000 }
     {
-        u64::from(self.before[set.count_below(point) as usize])
-    }
-
-    /// The same where it goes to a greater point.
-    pub(crate) fn higher(&self, outside: Points, set: Points, point: u8) -> u64
-        requires sums { IsRenumbered outside set self.now }
-        requires board { set < 2 ^ 24 }
-        requires few { count_of set ≤ 9 }
-        requires point { point < 24 }
-        ensures value { result ≡ higher_renumbered outside set point }
-        ensures few { result ≤ 1200000000 }
-    {
-        u64::from(self.after[set.count_below(point) as usize])
+        let place = set.count_below(point);
+        if lower {
+            u64::from(self.before[place as usize])
+        } else {
+            u64::from(self.after[place as usize])
+        }
     }
 }

@@ -16,10 +16,10 @@ loop-entry-preserved g c =
     c.args.first c.loop-entry.entry c.loop-entry.out.items c.loop-entry.position before.lawful before.counts before.own (before.at c.loop-entry-test.true) before.listed) in
     elim c.if-entry-end.branch [
       | then-entry-end w ↦ record {
-        at = λ h. rw w.position-is w.own_following-position.ensures.entry;
-        counts = rw w.position-is w.own_following-position.ensures.counts;
-        lawful = rw w.position-is w.own_following-position.ensures.lawful;
-        own = rw w.position-is w.own_following-position.ensures.own;
+        at = λ h. rw w.position-is w.following-position.ensures.index;
+        counts = rw w.position-is w.following-position.ensures.counts;
+        lawful = rw w.position-is w.following-position.ensures.lawful;
+        own = rw w.position-is w.following-position.ensures.own;
         pair = rw w.facing-is (w.follow.ensures.pair ∙ before.pair);
         same = rw (w.position-is, w.facing-is) (sym w.follow.ensures.own);
         listed = listed;

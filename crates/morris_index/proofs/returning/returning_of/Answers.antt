@@ -11,7 +11,7 @@ bounds-kept-class g c = omega (arith, c.leads_of-class.ensures.below, c.requires
 pub returns-then-eq : goal.returns-then-eq
 returns-then-eq g c =
     let own : representative_of g.B.Geometry.shape c.args.own ≡ c.args.own =
-    sym c.leads_of-class.ensures.representative ∙ sym c.points.ensures ∙ eqb-true _ _ (sym c.eq.ensures ∙ c.if-eq.true) in
+    sym c.leads_of-class.ensures.representative ∙ sym c.representative.view_is ∙ eqb-true _ _ (sym c.eq.ensures ∙ c.if-eq.true) in
     let at : get_or c.args.kept.now (class_of g.B.Geometry.shape c.args.own) c.index-kept-class.result ≡ c.index-kept-class.result =
     ap (λ k. get_or c.args.kept.now k c.index-kept-class.result) (sym c.leads_of-class.ensures.class) ∙ sym c.index-kept-class.is in
     subst (IsReturning g.B.Geometry.shape c.args.own) at

@@ -16,3 +16,6 @@ returns-in-Some-clause-led g c = λ s h of e.
     ∙ led_alone g.B.Geometry.shape g.B.Geometry.POINTS (omega (arith, g.met.B.Geometry.few)) g.met.B.Geometry.point_count g.met.B.Geometry.has_symmetries c.args.self.now c.in-Some.next s c.in-Some.ensures.lawful h
     (next_is_of c.args.self.now c.args.before.now c.in-Some.next c.in-Some.ensures.own c.in-Some.ensures.other c.requires.counts) of
     (returns-in-Some-clause-index g c ∙ sym e)
+
+pub returns-in-Some-clause-own : goal.returns-in-Some-clause-own
+returns-in-Some-clause-own g c = rw c.in-Some.ensures.own c.requires.own

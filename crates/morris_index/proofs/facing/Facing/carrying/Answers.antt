@@ -5,6 +5,7 @@ use Rattle.morris_board.specs.Positions.{Sides}
 use Rattle.morris_index.specs.Carried.{carries, AreReturning}
 use Rattle.morris_index.specs.Classes.{AreLeading}
 use Rattle.morris_index.specs.ClassMoves.{class_start_of}
+use Rattle.morris_index.specs.Halves.{HalfOf}
 use Rattle.morris_index.specs.Moves.{InPair}
 use Rattle.morris_index.specs.Pairs.{is_of}
 use Rattle.morris_index.proofs.IndexLaws.{placed}
@@ -13,25 +14,26 @@ use Rattle.morris_index.proofs.facing.Facing.carrying.Goals as goal
 
 pub leads_of-start-requires-clause-within : goal.leads_of-start-requires-clause-within
 leads_of-start-requires-clause-within g c =
-    rw c.own.ensures.points (placed g.B.Geometry.shape g.B.Geometry.POINTS c.args.from.now g.met.B.Geometry.point_count c.own.ensures.lawful).own_within
+    rw c.own-own.ensures.points (placed g.B.Geometry.shape g.B.Geometry.POINTS c.args.from.now g.met.B.Geometry.point_count c.own-own.ensures.lawful).own_within
 
-pub leads_of-start-requires-clause-counts : goal.leads_of-start-requires-clause-counts
-leads_of-start-requires-clause-counts g c =
+pub half-half-requires : goal.half-half-requires
+half-half-requires g c =
     let of : is_of c.self.inside.pair.now c.args.position.now ≡ true =
     subst (λ (q : InPair). is_of q.pair c.args.position.now ≡ true) (sym c.self.view_is) c.requires.counts in
-    rw (c.own.ensures.points, c.count.ensures.value, c.other.ensures.points, c.requires.from) (turned_of c.self.inside.pair.now c.args.position.now of)
+    rw (c.count.ensures.value, c.own-own.ensures.points, c.count-2.ensures.value, c.other.ensures.points, c.requires.from) (turned_of c.self.inside.pair.now c.args.position.now of)
 
 pub returns-clause-start : goal.returns-clause-start
 returns-clause-start g c =
     rw (← c.self.view_is) (c.leads_of-start.ensures.start
+    ∙ ap (λ (h : HalfOf). class_start_of g.B.Geometry.shape g.B.Geometry.POINTS h.pair c.own-own.result h.other) c.half-half.ensures
     ∙ ap₂ (λ a b. class_start_of g.B.Geometry.shape g.B.Geometry.POINTS c.self.inside.pair.now a b)
-    (c.own.ensures.points ∙ ap (λ (s : Sides). s.own) c.requires.from)
-    (c.count.ensures.value ∙ ap count_of (c.other.ensures.points ∙ ap (λ (s : Sides). s.other) c.requires.from)))
+    (c.own-own.ensures.points ∙ ap (λ (s : Sides). s.own) c.requires.from)
+    (c.count-2.ensures.value ∙ ap count_of (c.other.ensures.points ∙ ap (λ (s : Sides). s.other) c.requires.from)))
 
 pub returns-clause-carrying : goal.returns-clause-carrying
 returns-clause-carrying g c =
     let leads : AreLeading g.B.Geometry.shape c.args.position.now.other c.leads_of-start.result.2 =
-    subst (λ x. AreLeading g.B.Geometry.shape x c.leads_of-start.result.2) (c.own.ensures.points ∙ ap (λ (s : Sides). s.own) c.requires.from) c.leads_of-start.ensures.symmetries in
+    subst (λ x. AreLeading g.B.Geometry.shape x c.leads_of-start.result.2) (c.own-own.ensures.points ∙ ap (λ (s : Sides). s.own) c.requires.from) c.leads_of-start.ensures.symmetries in
     let same : c.self.inside.position.own ≡ c.args.position.now.own = ap (λ (q : InPair). q.position.own) c.self.view_is ∙ sym c.requires.same in
     let returns : AreReturning g.B.Geometry.shape c.args.position.now.own c.self.inside.returning =
     subst (λ x. AreReturning g.B.Geometry.shape x c.self.inside.returning) same c.self.invariant.0.returns in

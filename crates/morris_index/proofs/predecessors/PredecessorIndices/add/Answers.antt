@@ -17,9 +17,9 @@ pub returns : goal.returns
 returns g c =
     let split : members c.common.result ++ members c.less.result ≡ members c.args.sources =
     members-split c.args.sources c.below-below.result c.common.result c.less.result _ c.below-below.ensures c.common.ensures c.less.ensures in
-    on_ok_weaker c.add_higher.result (λ (e : c.add_higher.new.out.items ≡ c.add_lower.new.out.items
+    on_ok_weaker c.add_from-2.result (λ (e : c.add_from-2.new.out.items ≡ c.add_from.new.out.items
     ++ map (λ p. index_of g.B.Geometry.POINTS c.args.self.now.pair (taken_back c.args.self.now.position p c.args.to)) (members c.less.result)).
-    e ∙ (ap (λ (xs : List ℕ). xs ++ map (λ p. index_of g.B.Geometry.POINTS c.args.self.now.pair (taken_back c.args.self.now.position p c.args.to)) (members c.less.result)) c.in_ok-add_lower.ensures
+    e ∙ (ap (λ (xs : List ℕ). xs ++ map (λ p. index_of g.B.Geometry.POINTS c.args.self.now.pair (taken_back c.args.self.now.position p c.args.to)) (members c.less.result)) c.in_ok-add_from.ensures
     ∙ (append_assoc c.args.out.now.items _ _
     ∙ ap (λ (xs : List ℕ). c.args.out.now.items ++ xs) (sym (map-append (λ p. index_of g.B.Geometry.POINTS c.args.self.now.pair (taken_back c.args.self.now.position p c.args.to)) (members c.common.result) (members c.less.result))
-    ∙ ap (map (λ p. index_of g.B.Geometry.POINTS c.args.self.now.pair (taken_back c.args.self.now.position p c.args.to))) split)))) c.add_higher.ensures
+    ∙ ap (map (λ p. index_of g.B.Geometry.POINTS c.args.self.now.pair (taken_back c.args.self.now.position p c.args.to))) split)))) c.add_from-2.ensures

@@ -1,23 +1,24 @@
 use Rattle.std.proofs.Common.{◌≡◌, ◌<◌, ◌+◌, ◌-◌, ◌||◌, not, true, ap, ap₂, sym, ◌∙◌, arith}
 use Rattle.morris_board.specs.Sets.{has}
 use Rattle.morris_index.specs.Pairs.{index_of}
-use Rattle.morris_index.specs.Moves.{InPair, taken_back, higher_taken_back}
+use Rattle.morris_index.specs.Moves.{InPair, taken_back, end_taken_back}
 use Rattle.morris_index.proofs.IndexLaws.{placed}
 use Rattle.morris_index.proofs.PairLaws.{own_count, other_count}
 use Rattle.morris_index.proofs.CarriedLaws.{member_has, split_after, pushed}
-use Rattle.morris_index.proofs.MoveLaws.{other_lt, vacant_own, vacant_other, turned_index-few, higher_index}
-use Rattle.morris_index.proofs.predecessors.PredecessorIndices.add_higher.Goals as goal
+use Rattle.morris_index.proofs.MoveLaws.{other_lt, vacant_own, vacant_other, turned_index-few, end_index}
+use Rattle.morris_index.proofs.predecessors.PredecessorIndices.add_from.Goals as goal
 
-pub higher-gone-requires : goal.higher-gone-requires
-higher-gone-requires g c =
+pub end-gone-requires : goal.end-gone-requires
+end-gone-requires g c =
     let end : has c.self.inside.position.other c.args.to ≡ true = ap (λ (q : InPair). has q.position.other c.args.to) c.self.view_is ∙ c.requires.end in
     other_lt g.B.Geometry.shape g.B.Geometry.POINTS g.met.B.Geometry.point_count (omega (arith, g.met.B.Geometry.few)) c.self.inside.position c.self.invariant.lawful c.args.to end
 
-pub higher-requires : goal.higher-requires
-higher-requires g c =
+pub end-requires : goal.end-requires
+end-requires g c =
+    let end : has c.self.inside.position.other c.args.to ≡ true = ap (λ (q : InPair). has q.position.other c.args.to) c.self.view_is ∙ c.requires.end in
     let here : has c.args.sources c.in-Some.from ≡ true =
     member_has c.args.sources c.in-Some.from c.loop-from.yielded _ _ c.loop-from.invariant.split c.in-Some.ensures.steps in
-    let start : c.in-Some.from < g.B.Geometry.POINTS = (c.requires.sources c.in-Some.from here).1 in
+    let start : c.in-Some.from < g.B.Geometry.POINTS = (c.requires.sources c.in-Some.from here).0 in
     start
 
 pub overflow_add-turned : goal.overflow_add-turned
@@ -25,7 +26,7 @@ overflow_add-turned g c =
     omega (
       arith,
       c.self.invariant.turned,
-      c.higher.ensures.few,
+      c.end.ensures.few,
       turned_index-few g.B.Geometry.POINTS (omega (arith, g.met.B.Geometry.few)) c.self.inside.position
           (placed g.B.Geometry.shape g.B.Geometry.POINTS c.self.inside.position g.met.B.Geometry.point_count c.self.invariant.lawful)
           ((own_count c.self.inside.position c.self.invariant.lawful.sized).1) ((other_count c.self.inside.position c.self.invariant.lawful.sized).1) c.self.inside.pair c.self.invariant.pair,
@@ -36,20 +37,20 @@ overflow_sub-turned g c =
     let end : has c.self.inside.position.other c.args.to ≡ true = ap (λ (q : InPair). has q.position.other c.args.to) c.self.view_is ∙ c.requires.end in
     let here : has c.args.sources c.in-Some.from ≡ true =
     member_has c.args.sources c.in-Some.from c.loop-from.yielded _ _ c.loop-from.invariant.split c.in-Some.ensures.steps in
-    let start : c.in-Some.from < g.B.Geometry.POINTS = (c.requires.sources c.in-Some.from here).1 in
+    let start : c.in-Some.from < g.B.Geometry.POINTS = (c.requires.sources c.in-Some.from here).0 in
     let vacant : not (has c.self.inside.position.own c.in-Some.from || has c.self.inside.position.other c.in-Some.from) ≡ true =
-    ap (λ (q : InPair). not (has q.position.own c.in-Some.from || has q.position.other c.in-Some.from)) c.self.view_is ∙ (c.requires.sources c.in-Some.from here).2 in
-    let come : c.higher.result ≡ higher_taken_back g.B.Geometry.POINTS c.self.inside.position c.in-Some.from =
-    c.higher.ensures.value ∙ ap (λ (q : InPair). higher_taken_back g.B.Geometry.POINTS q.position c.in-Some.from) (sym c.self.view_is) in
-    let gone : c.higher-gone.result ≡ higher_taken_back g.B.Geometry.POINTS c.self.inside.position c.args.to =
-    c.higher-gone.ensures.value ∙ ap (λ (q : InPair). higher_taken_back g.B.Geometry.POINTS q.position c.args.to) (sym c.self.view_is) in
-    let grown : index_of g.B.Geometry.POINTS c.self.inside.pair (taken_back c.self.inside.position c.in-Some.from c.args.to) + c.higher-gone.result ≡ c.self.inside.turned + c.higher.result =
+    ap (λ (q : InPair). not (has q.position.own c.in-Some.from || has q.position.other c.in-Some.from)) c.self.view_is ∙ (c.requires.sources c.in-Some.from here).1 in
+    let come : c.end.result ≡ end_taken_back c.args.lower g.B.Geometry.POINTS c.self.inside.position c.in-Some.from =
+    c.end.ensures.value ∙ ap (λ (q : InPair). end_taken_back c.args.lower g.B.Geometry.POINTS q.position c.in-Some.from) (sym c.self.view_is) in
+    let gone : c.end-gone.result ≡ end_taken_back c.args.lower g.B.Geometry.POINTS c.self.inside.position c.args.to =
+    c.end-gone.ensures.value ∙ ap (λ (q : InPair). end_taken_back c.args.lower g.B.Geometry.POINTS q.position c.args.to) (sym c.self.view_is) in
+    let grown : index_of g.B.Geometry.POINTS c.self.inside.pair (taken_back c.self.inside.position c.in-Some.from c.args.to) + c.end-gone.result ≡ c.self.inside.turned + c.end.result =
     ap (λ x. index_of g.B.Geometry.POINTS c.self.inside.pair (taken_back c.self.inside.position c.in-Some.from c.args.to) + x) gone
-    ∙ (higher_index g.B.Geometry.POINTS (omega (arith, g.met.B.Geometry.few)) c.self.inside.pair c.self.inside.position
+    ∙ (end_index g.B.Geometry.POINTS (omega (arith, g.met.B.Geometry.few)) c.self.inside.pair c.self.inside.position
     (placed g.B.Geometry.shape g.B.Geometry.POINTS c.self.inside.position g.met.B.Geometry.point_count c.self.invariant.lawful)
     ((own_count c.self.inside.position c.self.invariant.lawful.sized).1) ((other_count c.self.inside.position c.self.invariant.lawful.sized).1)
     c.in-Some.from c.args.to start (vacant_own _ _ vacant) (vacant_other _ _ vacant) end
-    c.self.inside.moved c.self.invariant.moved c.self.inside.renumbered c.self.invariant.renumbered (c.requires.sources c.in-Some.from here).0
+    c.self.inside.moved c.self.invariant.moved c.self.inside.renumbered c.self.invariant.renumbered c.args.lower (c.requires.side c.in-Some.from here)
     ∙ ap₂ (λ x y. x + y) (sym c.self.invariant.turned) (sym come)) in
     omega (arith, grown)
 
@@ -58,22 +59,22 @@ loop-from-preserved g c =
     let end : has c.self.inside.position.other c.args.to ≡ true = ap (λ (q : InPair). has q.position.other c.args.to) c.self.view_is ∙ c.requires.end in
     let here : has c.args.sources c.in-Some.from ≡ true =
     member_has c.args.sources c.in-Some.from c.loop-from.yielded _ _ c.loop-from.invariant.split c.in-Some.ensures.steps in
-    let start : c.in-Some.from < g.B.Geometry.POINTS = (c.requires.sources c.in-Some.from here).1 in
+    let start : c.in-Some.from < g.B.Geometry.POINTS = (c.requires.sources c.in-Some.from here).0 in
     let vacant : not (has c.self.inside.position.own c.in-Some.from || has c.self.inside.position.other c.in-Some.from) ≡ true =
-    ap (λ (q : InPair). not (has q.position.own c.in-Some.from || has q.position.other c.in-Some.from)) c.self.view_is ∙ (c.requires.sources c.in-Some.from here).2 in
-    let come : c.higher.result ≡ higher_taken_back g.B.Geometry.POINTS c.self.inside.position c.in-Some.from =
-    c.higher.ensures.value ∙ ap (λ (q : InPair). higher_taken_back g.B.Geometry.POINTS q.position c.in-Some.from) (sym c.self.view_is) in
-    let gone : c.higher-gone.result ≡ higher_taken_back g.B.Geometry.POINTS c.self.inside.position c.args.to =
-    c.higher-gone.ensures.value ∙ ap (λ (q : InPair). higher_taken_back g.B.Geometry.POINTS q.position c.args.to) (sym c.self.view_is) in
-    let grown : index_of g.B.Geometry.POINTS c.self.inside.pair (taken_back c.self.inside.position c.in-Some.from c.args.to) + c.higher-gone.result ≡ c.self.inside.turned + c.higher.result =
+    ap (λ (q : InPair). not (has q.position.own c.in-Some.from || has q.position.other c.in-Some.from)) c.self.view_is ∙ (c.requires.sources c.in-Some.from here).1 in
+    let come : c.end.result ≡ end_taken_back c.args.lower g.B.Geometry.POINTS c.self.inside.position c.in-Some.from =
+    c.end.ensures.value ∙ ap (λ (q : InPair). end_taken_back c.args.lower g.B.Geometry.POINTS q.position c.in-Some.from) (sym c.self.view_is) in
+    let gone : c.end-gone.result ≡ end_taken_back c.args.lower g.B.Geometry.POINTS c.self.inside.position c.args.to =
+    c.end-gone.ensures.value ∙ ap (λ (q : InPair). end_taken_back c.args.lower g.B.Geometry.POINTS q.position c.args.to) (sym c.self.view_is) in
+    let grown : index_of g.B.Geometry.POINTS c.self.inside.pair (taken_back c.self.inside.position c.in-Some.from c.args.to) + c.end-gone.result ≡ c.self.inside.turned + c.end.result =
     ap (λ x. index_of g.B.Geometry.POINTS c.self.inside.pair (taken_back c.self.inside.position c.in-Some.from c.args.to) + x) gone
-    ∙ (higher_index g.B.Geometry.POINTS (omega (arith, g.met.B.Geometry.few)) c.self.inside.pair c.self.inside.position
+    ∙ (end_index g.B.Geometry.POINTS (omega (arith, g.met.B.Geometry.few)) c.self.inside.pair c.self.inside.position
     (placed g.B.Geometry.shape g.B.Geometry.POINTS c.self.inside.position g.met.B.Geometry.point_count c.self.invariant.lawful)
     ((own_count c.self.inside.position c.self.invariant.lawful.sized).1) ((other_count c.self.inside.position c.self.invariant.lawful.sized).1)
     c.in-Some.from c.args.to start (vacant_own _ _ vacant) (vacant_other _ _ vacant) end
-    c.self.inside.moved c.self.invariant.moved c.self.inside.renumbered c.self.invariant.renumbered (c.requires.sources c.in-Some.from here).0
+    c.self.inside.moved c.self.invariant.moved c.self.inside.renumbered c.self.invariant.renumbered c.args.lower (c.requires.side c.in-Some.from here)
     ∙ ap₂ (λ x y. x + y) (sym c.self.invariant.turned) (sym come)) in
-    let index : c.self.inside.turned + c.higher.result - c.higher-gone.result ≡ index_of g.B.Geometry.POINTS c.self.inside.pair (taken_back c.self.inside.position c.in-Some.from c.args.to) = omega (arith, grown) in
+    let index : c.self.inside.turned + c.end.result - c.end-gone.result ≡ index_of g.B.Geometry.POINTS c.self.inside.pair (taken_back c.self.inside.position c.in-Some.from c.args.to) = omega (arith, grown) in
     record {
       split = split_after c.loop-from.yielded _ c.in-Some.from _ _ c.in-Some.ensures.steps c.loop-from.invariant.split;
       added = c.in_ok-push.ensures.items ∙ pushed _ c.args.out.now.items c.loop-from.yielded c.loop-from.out.items c.in-Some.from _ c.loop-from.invariant.added

@@ -1,10 +1,10 @@
 use Rattle.std.proofs.Common.{◌≤◌, arith}
 use Rattle.morris_board.specs.Sets.{count_of}
 use Rattle.morris_index.proofs.MoveLaws.{own_24, other_24, choices-few, times_few}
-use Rattle.morris_index.proofs.predecessors.PredecessorIndices.lower.Goals as goal
+use Rattle.morris_index.proofs.predecessors.PredecessorIndices.end.Goals as goal
 
-pub lower-requires-clause-board : goal.lower-requires-clause-board
-lower-requires-clause-board g c =
+pub end-requires-clause-board : goal.end-requires-clause-board
+end-requires-clause-board g c =
     rw c.other-other.ensures.points (other_24 g.B.Geometry.shape g.B.Geometry.POINTS g.met.B.Geometry.point_count (omega (arith, g.met.B.Geometry.few)) c.self.inside.position c.self.invariant.lawful)
 
 pub overflow_mul-result : goal.overflow_mul-result
@@ -14,10 +14,10 @@ overflow_mul-result g c =
       c.self.invariant.choices,
       choices-few g.B.Geometry.POINTS (count_of c.self.inside.position.other) (count_of c.self.inside.position.own) (omega (arith, g.met.B.Geometry.few)),
     ) in
-    omega (arith, (times_few c.lower.result c.self.inside.choices 0 c.lower.ensures.few choices (omega arith)).0)
+    omega (arith, (times_few c.end.result c.self.inside.choices 0 c.end.ensures.few choices (omega arith)).0)
 
-pub lower-requires-2-clause-board : goal.lower-requires-2-clause-board
-lower-requires-2-clause-board g c =
+pub end-requires-2-clause-board : goal.end-requires-2-clause-board
+end-requires-2-clause-board g c =
     rw c.own-own.ensures.points (own_24 g.B.Geometry.shape g.B.Geometry.POINTS g.met.B.Geometry.point_count (omega (arith, g.met.B.Geometry.few)) c.self.inside.position c.self.invariant.lawful)
 
 pub overflow_add-result : goal.overflow_add-result
@@ -27,7 +27,7 @@ overflow_add-result g c =
       c.self.invariant.choices,
       choices-few g.B.Geometry.POINTS (count_of c.self.inside.position.other) (count_of c.self.inside.position.own) (omega (arith, g.met.B.Geometry.few)),
     ) in
-    omega (arith, (times_few c.lower.result c.self.inside.choices c.lower-2.result c.lower.ensures.few choices c.lower-2.ensures.few).1)
+    omega (arith, (times_few c.end.result c.self.inside.choices c.end-2.result c.end.ensures.few choices c.end-2.ensures.few).1)
 
 pub returns-clause-few : goal.returns-clause-few
 returns-clause-few g c =
@@ -36,4 +36,4 @@ returns-clause-few g c =
       c.self.invariant.choices,
       choices-few g.B.Geometry.POINTS (count_of c.self.inside.position.other) (count_of c.self.inside.position.own) (omega (arith, g.met.B.Geometry.few)),
     ) in
-    omega (arith, (times_few c.lower.result c.self.inside.choices c.lower-2.result c.lower.ensures.few choices c.lower-2.ensures.few).1)
+    omega (arith, (times_few c.end.result c.self.inside.choices c.end-2.result c.end.ensures.few choices c.end-2.ensures.few).1)

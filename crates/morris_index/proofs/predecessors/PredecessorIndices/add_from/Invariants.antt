@@ -2,7 +2,7 @@ use Rattle.std.proofs.Common.{◌≡◌, ◌++◌, map}
 use Rattle.morris_board.specs.Sets.{members}
 use Rattle.morris_index.specs.Pairs.{index_of}
 use Rattle.morris_index.specs.Moves.{taken_back}
-use Rattle.morris_index.proofs.predecessors.PredecessorIndices.add_lower.Given as goal
+use Rattle.morris_index.proofs.predecessors.PredecessorIndices.add_from.Given as goal
 
 abbrev pub invariant-loop-from : goal.invariant-loop-from
 invariant-loop-from g l = record {
