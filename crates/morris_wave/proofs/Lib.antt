@@ -26,6 +26,6 @@ pub mod Blocking
 pub mod Settled
 pub mod Dealing
 pub mod Cutting
-pub mod Scattering
+pub mod Batching
 pub mod Pieces
 pub mod Gathered

@@ -12,5 +12,5 @@ pub mod Bytes
 pub mod Blocks
 pub mod Batches
 pub mod Answering
-pub mod Delivery
+pub mod Scattering
 pub mod Gathering

@@ -9,9 +9,9 @@ ghost use Rattle.morris_wave.specs.Counts.{counts_of, most_of, left_at};
 
 use crate::counters::Counters;
 use crate::due::Due;
-use crate::falls;
 use crate::listed::Listed;
 use crate::nodes::NodeList;
+use crate::propagate;
 
 // Nodes in their order, from the first one of the entries on. For each there is its entry and a
 // counter of the results that it waits for; its exits count as one of these until all of them are
@@ -47,7 +47,7 @@ impl<L: NodeList> Stretch<L> {
         ensures taken { Takes self.old.entries.wave self.old.entries.first (B.items nodes.now)
             self.old.entries.entries.codes self.new.entries.entries.codes (counts_of self.old.counters) (counts_of self.new.counters) }
     {
-        falls::take_in(&mut self.entries, &mut self.counters, nodes);
+        propagate::take_in(&mut self.entries, &mut self.counters, nodes);
     }
 
     // Goes on to the next wave, takes in what comes due at it, and lets go of that list.
@@ -66,7 +66,7 @@ impl<L: NodeList> Stretch<L> {
     {
         self.entries.next_wave();
         let nodes = self.due.at(self.entries.wave);
-        falls::take_in(&mut self.entries, &mut self.counters, nodes);
+        propagate::take_in(&mut self.entries, &mut self.counters, nodes);
         self.due.let_go(self.entries.wave);
     }
 

@@ -21,7 +21,7 @@ invariant_of-result g c =
     let found = c.in_ok-nodes.nodes.items in
     let nodes = c.sort_unstable.new.self.items in
     let same = c.sort_unstable.ensures.permutation in
-    subst (λ (n : ℕ). FreshHolds net (record { level = inside.level; cut = inside.cut; wave = kept.entries.wave; source = inside.number; low = 0; high = n; nodes = nodes })) (sym c.size-high.ensures)
+    subst (λ (n : ℕ). FreshHolds net (record { level = inside.level; cut = inside.cut; wave = kept.entries.wave; source = inside.number; low = 0; high = n; nodes = nodes })) (sym c.size-high.ensures.value)
     (record {
       cut = h.cut;
       size = h.size;
