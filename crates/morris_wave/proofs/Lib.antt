@@ -13,11 +13,11 @@ pub mod Parts
 pub mod LateExits
 pub mod ExitsDue
 pub mod Steps
-pub mod Placing
 pub mod Ranks
 pub mod DueLists
 pub mod Widths
 pub mod TwoBytes
+pub mod Frames
 pub mod Falling
 pub mod Stretches
 pub mod Readings

@@ -8,6 +8,7 @@ pub mod Waves
 pub mod Solving
 pub mod Keeping
 pub mod Counts
+pub mod Frames
 pub mod Bytes
 pub mod Blocks
 pub mod Batches

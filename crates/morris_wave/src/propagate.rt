@@ -6,6 +6,7 @@ ghost use Rattle.morris_wave.specs.Exits.{is_odd};
 ghost use Rattle.morris_wave.specs.Solving.{Marks, among};
 ghost use Rattle.morris_wave.specs.Keeping.{LowersBy, Takes};
 ghost use Rattle.morris_wave.specs.Counts.{counts_of, most_of, left_at, FallsLike};
+ghost use Rattle.morris_wave.specs.Frames.{SameFrame};
 
 use crate::counters::{CounterList, Counters};
 use crate::listed::Listed;
@@ -14,12 +15,7 @@ use crate::nodes::NodeList;
 // Gives each open node of the list its code.
 fn win_all<L: NodeList, B: NodeList>(entries: &mut Listed<L>, nodes: &B)
     requires inside { All (λ i. (entries.old.first ≤ i) × (i < entries.old.first + length entries.old.entries.codes)) (B.items nodes.now) }
-    ensures len { length entries.new.entries.codes ≡ length entries.old.entries.codes }
-    ensures first { entries.new.first ≡ entries.old.first }
-    ensures wave { entries.new.wave ≡ entries.old.wave }
-    ensures before { entries.new.before ≡ entries.old.before }
-    ensures here { entries.new.here ≡ entries.old.here }
-    ensures list { take entries.old.here (L.items entries.new.decided) ≡ take entries.old.here (L.items entries.old.decided) }
+    ensures frame { SameFrame entries.old entries.new }
     ensures codes { Marks entries.old.entries.codes entries.new.entries.codes
         (λ k. among (B.items nodes.now) (entries.old.first + k)) (entries.old.wave + 1) }
 {
@@ -41,13 +37,8 @@ fn lower_all<L: NodeList, B: NodeList, C: CounterList>(
     requires small { (k : ℕ) → k < length (C.counts counters.old) → slice_index (C.counts counters.old) k < 65536 }
     requires falls { FallsLike C.left }
     requires enough { (k : ℕ) → k < length (C.counts counters.old) → times (entries.old.first + k) (B.items nodes.now) ≤ C.left (slice_index (C.counts counters.old) k) }
-    ensures len { length entries.new.entries.codes ≡ length entries.old.entries.codes }
+    ensures frame { SameFrame entries.old entries.new }
     ensures counters_len { length (C.counts counters.new) ≡ length (C.counts counters.old) }
-    ensures first { entries.new.first ≡ entries.old.first }
-    ensures wave { entries.new.wave ≡ entries.old.wave }
-    ensures before { entries.new.before ≡ entries.old.before }
-    ensures here { entries.new.here ≡ entries.old.here }
-    ensures list { take entries.old.here (L.items entries.new.decided) ≡ take entries.old.here (L.items entries.old.decided) }
     ensures small { (k : ℕ) → k < length (C.counts counters.new) → slice_index (C.counts counters.new) k < 65536 }
     ensures lowered { LowersBy (λ k. entries.old.first + k) (C.counts counters.old) (C.counts counters.new) (B.items nodes.now) }
     ensures codes { Marks entries.old.entries.codes entries.new.entries.codes
@@ -73,14 +64,9 @@ pub(crate) fn take_in<L: NodeList, B: NodeList>(
     requires small { (k : ℕ) → k < length (counts_of counters.old) → slice_index (counts_of counters.old) k < 65536 }
     requires enough { is_odd entries.old.wave ≡ false
         → (k : ℕ) → k < length (counts_of counters.old) → times (entries.old.first + k) (B.items nodes.now) ≤ left_at counters.old k }
-    ensures len { length entries.new.entries.codes ≡ length entries.old.entries.codes }
+    ensures frame { SameFrame entries.old entries.new }
     ensures counters_len { length (counts_of counters.new) ≡ length (counts_of counters.old) }
     ensures most { most_of counters.new ≡ most_of counters.old }
-    ensures first { entries.new.first ≡ entries.old.first }
-    ensures wave { entries.new.wave ≡ entries.old.wave }
-    ensures before { entries.new.before ≡ entries.old.before }
-    ensures here { entries.new.here ≡ entries.old.here }
-    ensures list { take entries.old.here (L.items entries.new.decided) ≡ take entries.old.here (L.items entries.old.decided) }
     ensures small { (k : ℕ) → k < length (counts_of counters.new) → slice_index (counts_of counters.new) k < 65536 }
     ensures taken { Takes entries.old.wave entries.old.first (B.items nodes.now) entries.old.entries.codes entries.new.entries.codes
         (counts_of counters.old) (counts_of counters.new) }

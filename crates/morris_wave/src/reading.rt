@@ -6,6 +6,7 @@ ghost use Rattle.morris_wave.specs.Nets.{Net};
 ghost use Rattle.morris_wave.specs.Solving.{Marks, every};
 ghost use Rattle.morris_wave.specs.Keeping.{due_wave, due_within, waits, HasRead, StretchHolds};
 ghost use Rattle.morris_wave.specs.Counts.{counts_of, most_of, AreFew};
+ghost use Rattle.morris_wave.specs.Frames.{SameFrame};
 
 use crate::counters::CounterList;
 use crate::due::Due;
@@ -61,9 +62,7 @@ impl<L: NodeList, C: CounterList> Reading<L, C> {
         requires inside { place < length self.old.entries.entries.codes }
         requires few { quiet < C.most }
         requires unwritten { slice_index self.old.waves.items place ≡ 0 }
-        ensures len { length self.new.entries.entries.codes ≡ length self.old.entries.entries.codes }
-        ensures first { self.new.entries.first ≡ self.old.entries.first }
-        ensures wave { self.new.entries.wave ≡ self.old.entries.wave }
+        ensures frame { SameFrame self.old.entries self.new.entries }
         ensures codes { Marks self.old.entries.entries.codes self.new.entries.entries.codes
             (λ k. (place == k) && ((quiet == 0) && exits_won 0 exits)) (self.old.entries.wave + 1) }
         ensures counters { C.counts self.new.counters ≡ slice_set (C.counts self.old.counters) place ((quiet + waits 0 exits) % 65536) }
@@ -110,9 +109,7 @@ fn read_piece<G: Graph, L: NodeList, C: CounterList>(
     requires wave { reading.old.entries.wave ≡ 0 }
     requires read { HasRead (G.Name.net (G.level graph.now)) C.most reading.old.entries.first from
         reading.old.entries.entries.codes (C.counts reading.old.counters) reading.old.waves.items reading.old.last_due }
-    ensures len { length reading.new.entries.entries.codes ≡ length reading.old.entries.entries.codes }
-    ensures first { reading.new.entries.first ≡ reading.old.entries.first }
-    ensures wave { reading.new.entries.wave ≡ 0 }
+    ensures frame { SameFrame reading.old.entries reading.new.entries }
     ensures read { result ≡ true → HasRead (G.Name.net (G.level graph.now)) C.most reading.old.entries.first (from + length counts.old)
         reading.new.entries.entries.codes (C.counts reading.new.counters) reading.new.waves.items reading.new.last_due }
     ensures wide { 65535 < C.most → result ≡ true }
@@ -142,9 +139,7 @@ fn read_all<G: Graph, L: NodeList, C: CounterList>(
     requires wave { reading.old.entries.wave ≡ 0 }
     requires read { HasRead (G.Name.net (G.level graph.now)) C.most reading.old.entries.first 0
         reading.old.entries.entries.codes (C.counts reading.old.counters) reading.old.waves.items reading.old.last_due }
-    ensures len { length reading.new.entries.entries.codes ≡ length reading.old.entries.entries.codes }
-    ensures first { reading.new.entries.first ≡ reading.old.entries.first }
-    ensures wave { reading.new.entries.wave ≡ 0 }
+    ensures frame { SameFrame reading.old.entries reading.new.entries }
     ensures read { result ≡ true → HasRead (G.Name.net (G.level graph.now)) C.most reading.old.entries.first (length reading.old.entries.entries.codes)
         reading.new.entries.entries.codes (C.counts reading.new.counters) reading.new.waves.items reading.new.last_due }
     ensures wide { 65535 < C.most → result ≡ true }

@@ -3,8 +3,7 @@ ghost use Rattle.std.specs.Prelude.{◌≡◌, ℕ, ◌+◌, ◌<◌, ◌≤◌,
 ghost use Rattle.std.specs.List.{All, list_any};
 ghost use Rattle.morris_wave.specs.Values.{HasCode, IsTooDeep, PlyRules, CodeRules};
 ghost use Rattle.morris_wave.specs.Solving.{every, none};
-ghost use Rattle.morris_wave.specs.Keeping.{StretchHolds};
-ghost use Rattle.morris_wave.specs.Counts.{counts_of, most_of, AreFew};
+ghost use Rattle.morris_wave.specs.Frames.{IsWhole};
 
 use crate::network::Graph;
 use crate::nodes::NodeList;
@@ -43,17 +42,9 @@ fn spread<G: Graph, L: NodeList>(
     whole: &mut Stretch<L>,
     back: &mut Vec<u64>,
 ) -> Result<(), AllocError>
-    requires first { whole.old.entries.first ≡ 0 }
-    requires len { length whole.old.entries.entries.codes ≡ (G.Name.net (G.level graph.now)).size }
-    requires few { AreFew (G.Name.net (G.level graph.now)) 0 (G.Name.net (G.level graph.now)).size (most_of whole.old.counters) }
-    requires start { StretchHolds (G.Name.net (G.level graph.now)) whole.old.entries.wave none 0
-        whole.old.entries.entries.codes (counts_of whole.old.counters) whole.old.due whole.old.last_due }
-    ensures first { whole.new.entries.first ≡ 0 }
+    requires start { IsWhole (G.Name.net (G.level graph.now)) none whole.old }
     ensures wave { whole.new.entries.wave ≡ whole.old.entries.wave }
-    ensures len { length whole.new.entries.entries.codes ≡ length whole.old.entries.entries.codes }
-    ensures most { most_of whole.new.counters ≡ most_of whole.old.counters }
-    ensures done { OnOk result (StretchHolds (G.Name.net (G.level graph.now)) whole.old.entries.wave every 0
-        whole.new.entries.entries.codes (counts_of whole.new.counters) whole.new.due whole.new.last_due) }
+    ensures done { OnOk result (IsWhole (G.Name.net (G.level graph.now)) every whole.new) }
 {
     for place in whole.entries.before..whole.entries.here {
         graph.back(whole.entries.decided.node(place), back)?;
@@ -69,17 +60,9 @@ fn next_wave<G: Graph, L: NodeList>(
     back: &mut Vec<u64>,
 ) -> Result<(), AllocError>
     requires wave { whole.old.entries.wave < 65534 }
-    requires first { whole.old.entries.first ≡ 0 }
-    requires len { length whole.old.entries.entries.codes ≡ (G.Name.net (G.level graph.now)).size }
-    requires few { AreFew (G.Name.net (G.level graph.now)) 0 (G.Name.net (G.level graph.now)).size (most_of whole.old.counters) }
-    requires start { StretchHolds (G.Name.net (G.level graph.now)) whole.old.entries.wave every 0
-        whole.old.entries.entries.codes (counts_of whole.old.counters) whole.old.due whole.old.last_due }
-    ensures first { whole.new.entries.first ≡ 0 }
+    requires start { IsWhole (G.Name.net (G.level graph.now)) every whole.old }
     ensures wave { whole.new.entries.wave ≡ whole.old.entries.wave + 1 }
-    ensures len { length whole.new.entries.entries.codes ≡ length whole.old.entries.entries.codes }
-    ensures most { most_of whole.new.counters ≡ most_of whole.old.counters }
-    ensures done { OnOk result (StretchHolds (G.Name.net (G.level graph.now)) (whole.old.entries.wave + 1) every 0
-        whole.new.entries.entries.codes (counts_of whole.new.counters) whole.new.due whole.new.last_due) }
+    ensures done { OnOk result (IsWhole (G.Name.net (G.level graph.now)) every whole.new) }
 {
     whole.next_wave();
     spread(graph, whole, back)
@@ -93,15 +76,9 @@ fn run<G: Graph, L: NodeList, W: Watch>(
     whole: &mut Stretch<L>,
     watch: &mut W,
 ) -> Result<bool, AllocError>
-    requires first { whole.old.entries.first ≡ 0 }
     requires wave { whole.old.entries.wave ≡ 0 }
-    requires len { length whole.old.entries.entries.codes ≡ (G.Name.net (G.level graph.now)).size }
-    requires few { AreFew (G.Name.net (G.level graph.now)) 0 (G.Name.net (G.level graph.now)).size (most_of whole.old.counters) }
-    requires start { StretchHolds (G.Name.net (G.level graph.now)) 0 every 0
-        whole.old.entries.entries.codes (counts_of whole.old.counters) whole.old.due whole.old.last_due }
-    ensures len { length whole.new.entries.entries.codes ≡ length whole.old.entries.entries.codes }
-    ensures done { OnOk result (StretchHolds (G.Name.net (G.level graph.now)) whole.new.entries.wave every 0
-        whole.new.entries.entries.codes (counts_of whole.new.counters) whole.new.due whole.new.last_due) }
+    requires start { IsWhole (G.Name.net (G.level graph.now)) every whole.old }
+    ensures done { OnOk result (IsWhole (G.Name.net (G.level graph.now)) every whole.new) }
     ensures quiet { IfOk result (λ quiet. quiet ≡ (nat_le whole.new.last_due whole.new.entries.wave
         && not (list_any (λ c. c == (whole.new.entries.wave + 1)) whole.new.entries.entries.codes))) }
     ensures last { IfOk result (λ quiet. quiet ≡ false → whole.new.entries.wave ≡ 65534) }
@@ -125,12 +102,8 @@ fn codes_of<G: Graph, W: Watch>(
     whole: &mut Stretch<Vec<u64>>,
     watch: &mut W,
 ) -> Result<Vec<u16>, SweepFault>
-    requires first { whole.old.entries.first ≡ 0 }
     requires wave { whole.old.entries.wave ≡ 0 }
-    requires len { length whole.old.entries.entries.codes ≡ (G.Name.net (G.level graph.now)).size }
-    requires few { AreFew (G.Name.net (G.level graph.now)) 0 (G.Name.net (G.level graph.now)).size (most_of whole.old.counters) }
-    requires start { StretchHolds (G.Name.net (G.level graph.now)) 0 every 0
-        whole.old.entries.entries.codes (counts_of whole.old.counters) whole.old.due whole.old.last_due }
+    requires start { IsWhole (G.Name.net (G.level graph.now)) every whole.old }
     ensures len { IfOk result (λ v. vec_len v ≡ (G.Name.net (G.level graph.now)).size) }
     ensures codes { IfOk result (λ v. (i : ℕ) → i < (G.Name.net (G.level graph.now)).size
         → HasCode (G.Name.net (G.level graph.now)) i (slice_index v.items i)) }

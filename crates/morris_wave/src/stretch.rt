@@ -30,17 +30,14 @@ pub(crate) struct Stretch<L: NodeList> {
 }
 
 impl<L: NodeList> Stretch<L> {
+    ghost use Rattle.morris_wave.specs.Frames.{SameFrame};
+
     // Takes in nodes that lead to fresh nodes of the wave, each as often as it leads there.
     pub(crate) fn take_in<B: NodeList>(&mut self, nodes: &B)
         requires inside { All (λ i. (self.old.entries.first ≤ i) × (i < self.old.entries.first + length self.old.entries.entries.codes)) (B.items nodes.now) }
         requires enough { is_odd self.old.entries.wave ≡ false → (k : ℕ) → k < length self.old.entries.entries.codes
             → times (self.old.entries.first + k) (B.items nodes.now) ≤ left_at self.old.counters k }
-        ensures len { length self.new.entries.entries.codes ≡ length self.old.entries.entries.codes }
-        ensures first { self.new.entries.first ≡ self.old.entries.first }
-        ensures wave { self.new.entries.wave ≡ self.old.entries.wave }
-        ensures before { self.new.entries.before ≡ self.old.entries.before }
-        ensures here { self.new.entries.here ≡ self.old.entries.here }
-        ensures list { take self.old.entries.here (L.items self.new.entries.decided) ≡ take self.old.entries.here (L.items self.old.entries.decided) }
+        ensures frame { SameFrame self.old.entries self.new.entries }
         ensures due { self.new.due ≡ self.old.due }
         ensures last_due { self.new.last_due ≡ self.old.last_due }
         ensures most { most_of self.new.counters ≡ most_of self.old.counters }
