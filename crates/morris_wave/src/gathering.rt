@@ -1,5 +1,5 @@
 //! The codes of a graph, gathered from its blocks.
-ghost use Rattle.std.specs.Prelude.{◌≡◌, ℕ, ◌+◌, ◌<◌, ◌≤◌, Bool, true, false, Option, Some, None, [], length, is_some, slice_index, slice_index_or, replicate, IfOk, OnOk, IfErr, IfSome, IfNone, vec_len};
+ghost use Rattle.std.specs.Prelude.{◌≡◌, ℕ, ◌+◌, ◌<◌, ◌≤◌, true, false, Option, Some, None, [], length, is_some, slice_index, slice_index_or, IfOk, OnOk, IfErr, IfSome, IfNone, vec_len};
 ghost use Rattle.std.specs.List.{All};
 ghost use Rattle.morris_wave.specs.Values.{code_within};
 ghost use Rattle.morris_wave.specs.Blocks.{BlockState, IsCut, first_node, count_of, is_complete};
@@ -71,13 +71,6 @@ fn complaint<N: Levels, L: NodeList>(
     }
 }
 
-// No block has a place yet.
-fn nowhere() -> [Option<usize>; NUMBERS]
-    ensures { result ≡ replicate 1024 None }
-{
-    [None; NUMBERS]
-}
-
 // Where the block of each number stands, unless something speaks against one of them.
 fn walk<N: Levels, L: NodeList>(
     level: u64,
@@ -89,7 +82,7 @@ fn walk<N: Levels, L: NodeList>(
     ensures walked { OnOk result (first_complaint level wave cut.now [] blocks.now ≡ None) }
     ensures err { IfErr result (λ e. first_complaint level wave cut.now [] blocks.now ≡ Some e) }
 {
-    let mut places = nowhere();
+    let mut places = [None; NUMBERS];
     for (place, block) in blocks.iter().enumerate() {
         if let Some(fault) = complaint(block, place, level, wave, cut, &places) {
             return Err(fault);

@@ -1,5 +1,5 @@
 //! The entries of a block, the list of those that are decided, and the tallies that count them.
-ghost use Rattle.std.specs.Prelude.{◌≡◌, ℕ, ◌+◌, ◌-◌, ◌<◌, ◌≤◌, ◌&&◌, ◌==◌, ◌^◌, IfOk, nat_lt, length, if◌then◌else◌, replicate, take, slice_index, slice_set};
+ghost use Rattle.std.specs.Prelude.{◌≡◌, ℕ, ◌+◌, ◌-◌, ◌<◌, ◌≤◌, ◌&&◌, ◌==◌, ◌^◌, IfOk, nat_lt, length, if◌then◌else◌, replicate, slice_index, slice_set};
 ghost use Rattle.std.specs.List.{All, list_any, count_by};
 ghost use Rattle.morris_wave.specs.Exits.{is_odd, is_won_code};
 ghost use Rattle.morris_wave.specs.Solving.{Marks};

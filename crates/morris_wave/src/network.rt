@@ -19,7 +19,6 @@ pub struct Exits {
 }
 
 impl Exits {
-    ghost use Rattle.std.specs.Prelude.{nat_lt};
     ghost use Rattle.morris_wave.specs.Exits.{exits_of, exits_won, last_due_of};
     ghost use Rattle.morris_wave.specs.Keeping.{due_wave};
     ghost use Rattle.morris_wave.specs.Summaries.{added};

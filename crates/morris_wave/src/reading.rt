@@ -1,6 +1,6 @@
 //! The first entries of a stretch of nodes, what they wait for, and when their exits come due, read
 //! from the graph.
-ghost use Rattle.std.specs.Prelude.{◌≡◌, ℕ, ◌+◌, ◌-◌, ◌%◌, ◌<◌, ◌≤◌, ◌^◌, ◌&&◌, ◌==◌, if◌then◌else◌, true, max, length, slice_index, slice_set, IsSome, IfOk, IfSome, vec_len};
+ghost use Rattle.std.specs.Prelude.{◌≡◌, ◌+◌, ◌-◌, ◌%◌, ◌<◌, ◌≤◌, ◌^◌, ◌&&◌, ◌==◌, true, max, length, slice_index, slice_set, IsSome, IfOk, IfSome, vec_len};
 ghost use Rattle.morris_wave.specs.Exits.{exits_won, last_due_of};
 ghost use Rattle.morris_wave.specs.Nets.{Net};
 ghost use Rattle.morris_wave.specs.Solving.{Marks, every};
@@ -71,7 +71,7 @@ impl<L: NodeList, C: CounterList> Reading<L, C> {
     {
         let none = exits.is_none();
         self.entries.mark(place as u64, quiet == 0 && none);
-        self.counters.put(place, quiet, one_unless(none));
+        self.counters.put(place, quiet, u8::from(!none));
         if !none {
             self.waves[place] = within(exits.due_wave());
             self.last_due = self.last_due.max(exits.last_due());
@@ -84,14 +84,6 @@ fn within(wave: u32) -> u16
     ensures { result ≡ due_within wave }
 {
     if wave < 65535 { wave as u16 } else { 0 }
-}
-
-// One, or zero where it holds.
-fn one_unless(holds: bool) -> u8
-    ensures value { result ≡ (if holds then 0 else 1) }
-    ensures one { result ≤ 1 }
-{
-    if holds { 0 } else { 1 }
 }
 
 // Reads as many nodes as there is room for, from a place on, unless the counters are for nodes of

@@ -1,7 +1,6 @@
 //! Batches for all blocks of a cut, from the fresh nodes of one block.
-ghost use Rattle.std.specs.Prelude.{◌≡◌, ℕ, ◌+◌, ◌<◌, ◌≤◌, [], List, OnOk, IfOk, vec_len, length, slice_index_or};
+ghost use Rattle.std.specs.Prelude.{◌≡◌, ℕ, ◌<◌, ◌≤◌, [], OnOk, IfOk, vec_len, slice_index_or};
 ghost use Rattle.std.specs.List.{All};
-ghost use Rattle.morris_wave.specs.Blocks.{IsIn};
 ghost use Rattle.morris_wave.specs.Batches.{BatchState, BatchHolds};
 ghost use Rattle.morris_wave.specs.Lists.{contents, list_at};
 ghost use Rattle.morris_wave.specs.Scattering.{AreSorted, Deals, LeadTo, batch_of, IsBatchOf};

@@ -1,6 +1,6 @@
 //! The codes of all nodes of a graph, by one sweep on one thread.
-ghost use Rattle.std.specs.Prelude.{◌≡◌, ℕ, ◌+◌, ◌<◌, ◌≤◌, ◌==◌, ◌&&◌, Bool, true, false, not, length, slice_index, OnOk, IfOk, vec_len, nat_le};
-ghost use Rattle.std.specs.List.{All, list_any};
+ghost use Rattle.std.specs.Prelude.{◌≡◌, ℕ, ◌+◌, ◌<◌, ◌==◌, ◌&&◌, true, false, not, slice_index, OnOk, IfOk, vec_len, nat_le};
+ghost use Rattle.std.specs.List.{list_any};
 ghost use Rattle.morris_wave.specs.Values.{HasCode, IsTooDeep, PlyRules, CodeRules};
 ghost use Rattle.morris_wave.specs.Solving.{every, none};
 ghost use Rattle.morris_wave.specs.Frames.{IsWhole};

@@ -1,5 +1,5 @@
 //! A stretch of nodes of a graph, which goes from wave to wave.
-ghost use Rattle.std.specs.Prelude.{◌≡◌, ℕ, ◌+◌, ◌-◌, ◌*◌, ◌<◌, ◌≤◌, ◌&&◌, ◌==◌, ◌^◌, Bool, true, false, not, nat_le, [], length, take, slice_index, slice_set};
+ghost use Rattle.std.specs.Prelude.{◌≡◌, ℕ, ◌+◌, ◌-◌, ◌<◌, ◌≤◌, ◌&&◌, ◌==◌, false, not, nat_le, [], length, slice_index, slice_set};
 ghost use Rattle.std.specs.List.{All, list_any};
 ghost use Rattle.morris_wave.specs.Nets.{times};
 ghost use Rattle.morris_wave.specs.Lists.{list_at};
