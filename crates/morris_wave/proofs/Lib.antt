@@ -21,7 +21,7 @@ pub mod Frames
 pub mod Falling
 pub mod Stretches
 pub mod Readings
-pub mod Sweeping
+pub mod Wholes
 pub mod Blocking
 pub mod Settled
 pub mod Dealing

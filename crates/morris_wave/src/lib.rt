@@ -16,8 +16,8 @@ mod nodes;
 mod propagate;
 mod reading;
 mod scattering;
-mod solver;
 mod stretch;
+mod sweeping;
 mod watch;
 
 pub use cut::{Blocks, Cut};
@@ -26,5 +26,5 @@ pub use gathering::{GatherFault, gather, gather_from};
 pub use network::{Exits, Graph, Levels};
 pub use nodes::{NodeList, Recent};
 pub use scattering::{scatter, scatter_reusing};
-pub use solver::{SweepFault, sweep, sweep_watched};
+pub use sweeping::{SweepFault, sweep, sweep_watched};
 pub use watch::{Unwatched, Watch};

@@ -6,7 +6,7 @@ use Rattle.morris_wave.specs.Counts.{counts_of, left_at, AreFew}
 use Rattle.morris_wave.specs.Nets.{times}
 use Rattle.morris_wave.proofs.Widths.{left_enough}
 use Rattle.morris_wave.proofs.Stretches.{next_holds, due_enough, due_few}
-use Rattle.morris_wave.proofs.solver.next_wave.Goals as goal
+use Rattle.morris_wave.proofs.sweeping.next_wave.Goals as goal
 
 pub spread-requires-clause-start : goal.spread-requires-clause-start
 spread-requires-clause-start g c = λ _ _.

@@ -4,8 +4,8 @@ use Rattle.std.proofs.lemmas.Bool.{and_parts, and_cases, leb-true, leb-false, no
 use Rattle.morris_wave.specs.Values.{HasCode}
 use Rattle.morris_wave.specs.Counts.{counts_of}
 use Rattle.morris_wave.proofs.Stretches.{last_deep}
-use Rattle.morris_wave.proofs.Sweeping.{finished, finished_shallow}
-use Rattle.morris_wave.proofs.solver.codes_of.Goals as goal
+use Rattle.morris_wave.proofs.Wholes.{finished, finished_shallow}
+use Rattle.morris_wave.proofs.sweeping.codes_of.Goals as goal
 
 pub returns-in_ok-codes-clause-codes : goal.returns-in_ok-codes-clause-codes
 returns-in_ok-codes-clause-codes g c =

@@ -3,7 +3,7 @@ use Rattle.morris_wave.specs.Solving.{among}
 use Rattle.morris_wave.specs.Keeping.{StretchHolds}
 use Rattle.morris_wave.specs.Counts.{counts_of, most_of}
 use Rattle.morris_wave.specs.Frames.{SameFrame}
-use Rattle.morris_wave.proofs.solver.spread.Given as goal
+use Rattle.morris_wave.proofs.sweeping.spread.Given as goal
 
 abbrev pub invariant-loop-place : goal.invariant-loop-place
 invariant-loop-place g l =

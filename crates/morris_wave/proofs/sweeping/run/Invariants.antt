@@ -1,7 +1,7 @@
 use Rattle.std.proofs.Common.{◌≡◌}
 use Rattle.morris_wave.specs.Solving.{every}
 use Rattle.morris_wave.specs.Frames.{IsWhole}
-use Rattle.morris_wave.proofs.solver.run.Given as goal
+use Rattle.morris_wave.proofs.sweeping.run.Given as goal
 
 abbrev pub invariant-loop-done : goal.invariant-loop-done
 invariant-loop-done g l =

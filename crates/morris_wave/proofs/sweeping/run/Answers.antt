@@ -1,5 +1,5 @@
 use Rattle.std.proofs.Common.{sym, ◌∙◌, arith}
-use Rattle.morris_wave.proofs.solver.run.Goals as goal
+use Rattle.morris_wave.proofs.sweeping.run.Goals as goal
 
 pub loop-done-preserved : goal.loop-done-preserved
 loop-done-preserved g c =

@@ -24,7 +24,7 @@ pub enum SweepFault {
 }
 
 impl From<AllocError> for SweepFault {
-    ghost use Rattle.morris_wave.specs.declared.solver.SweepFault.TheVariants.{Memory};
+    ghost use Rattle.morris_wave.specs.declared.sweeping.SweepFault.TheVariants.{Memory};
 
     ghost from_gives = { λ _ e. e ≡ Memory };
 

@@ -3,7 +3,7 @@ use Rattle.morris_wave.specs.Solving.{every}
 use Rattle.morris_wave.specs.Keeping.{StretchHolds}
 use Rattle.morris_wave.specs.Counts.{counts_of, most_of, AreFew}
 use Rattle.morris_wave.proofs.Plies.{ply_rules, code_rules}
-use Rattle.morris_wave.proofs.solver.sweep_watched.Goals as goal
+use Rattle.morris_wave.proofs.sweeping.sweep_watched.Goals as goal
 
 pub returns-in_err-whole-clause-plies : goal.returns-in_err-whole-clause-plies
 returns-in_err-whole-clause-plies g c = ply_rules (g.G.Name.Levels.net (g.G.Graph.level c.args.graph.now))

@@ -7,8 +7,8 @@ use Rattle.morris_wave.specs.Keeping.{StretchHolds, Ranked, Takes}
 use Rattle.morris_wave.specs.Counts.{counts_of, left_at, AreFew}
 use Rattle.morris_wave.proofs.Widths.{left_enough}
 use Rattle.morris_wave.proofs.Frames.{frame_same, frame_joins}
-use Rattle.morris_wave.proofs.Sweeping.{fresh_listed, fresh_at, fresh_length, spread_none, spread_enough, spread_few, spread_more, spread_all}
-use Rattle.morris_wave.proofs.solver.spread.Goals as goal
+use Rattle.morris_wave.proofs.Wholes.{fresh_listed, fresh_at, fresh_length, spread_none, spread_enough, spread_few, spread_more, spread_all}
+use Rattle.morris_wave.proofs.sweeping.spread.Goals as goal
 
 pub loop-place-init : goal.loop-place-init
 loop-place-init g c =
