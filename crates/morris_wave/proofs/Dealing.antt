@@ -8,7 +8,7 @@ use Rattle.morris_wave.specs.Nets.{times}
 use Rattle.morris_wave.specs.Blocks.{Parts, IsIn, block_of}
 use Rattle.std.proofs.lemmas.List.{map-set, get_or-map}
 use Rattle.morris_wave.specs.Lists.{contents, list_at}
-use Rattle.morris_wave.specs.Delivery.{AreSorted, Deals}
+use Rattle.morris_wave.specs.Scattering.{AreSorted, Deals}
 use Rattle.morris_wave.proofs.Marking.{times_more}
 
 times_push : (i node : ℕ) (xs : List ℕ) → times i (xs ++ node ∷ []) ≡ times i xs + cond {A = ℕ} (eqb node i) 1 0

@@ -5,10 +5,9 @@ use Rattle.std.proofs.lemmas.Bool.{false≢true, true≢false, and_parts, and_fr
 use Rattle.morris_wave.specs.declared.network.Exits.{Exits}
 use Rattle.morris_wave.specs.Nets.{Net}
 use Rattle.morris_wave.specs.Exits.{is_odd, is_won_code, least, greatest, depths, exits_of, exits_lost, exits_won, some_below, none_from, due_of}
-use Rattle.morris_wave.specs.Waves.{known_won, is_lost_at, open_at}
+use Rattle.morris_wave.specs.Waves.{open_at}
 use Rattle.morris_wave.specs.Keeping.{due_wave, pending_at}
-use Rattle.morris_wave.proofs.Tests.{none_counted}
-use Rattle.morris_wave.proofs.ExitTests.{depths_yes, depths_no, each_exit_won}
+use Rattle.morris_wave.proofs.ExitTests.{depths_yes, depths_no}
 
 -- the wave at which exits come due, and whether one of them is lost, by parts
 ltb-suc : (d n : ℕ) → ltb d (suc n) ≡ (ltb d n || eqb (d + 1) (suc n))
@@ -185,8 +184,3 @@ zero_parts c false = ne_eqb (c + 1) 0 (λ z. omega arith) ∙ nothing (eqb c 0)
 
 pub pending_zero : (g : Net) (n : ℕ) (a : ℕ → Bool) (i : ℕ) → eqb (pending_at g n a i) 0 ≡ (eqb (open_at g n a i) 0 && exits_won n (exits_of (g.exits i)))
 pending_zero g n a i = zero_parts (open_at g n a i) (exits_won n (exits_of (g.exits i)))
-
-pub closed_is_lost : (g : Net) (n : ℕ) (a : ℕ → Bool) (i : ℕ) → eqb (pending_at g n a i) 0 ≡ is_lost_at g n a i
-closed_is_lost g n a i =
-    pending_zero g n a i
-    ∙ ap₂ (λ x y. x && y) (none_counted (known_won g n a) (g.quiet i)) (sym (each_exit_won n (g.exits i)))

@@ -112,10 +112,6 @@ node_place first node from k =
     (λ e. ne_eqb (node - first) k e ∙ sym (ne_eqb node (first + k) (λ z. e (omega arith))))
     (cases_eq (node - first) k)
 
--- nothing fell yet
-pub lowers_none : (e : ℕ → ℕ) (old : List ℕ) (xs : List ℕ) → ((k : ℕ) → k < length old → get_or old k 0 < 65536) → ((k : ℕ) → k < length old → times (e k) xs ≡ 0) → LowersBy e old old xs
-lowers_none e old xs small zeros k l = omega (arith, small k l, zeros k l)
-
 -- one node more that is marked whatever its counter
 pub marked_more : (nodes : List ℕ) (i node : ℕ) → i < length nodes → node ≡ get_or nodes i 0 → (first place : ℕ) → ((k : ℕ) → eqb place k ≡ eqb node (first + k))
     → (codes mid new : List ℕ) (code : ℕ) → 0 < code → length mid ≡ length codes

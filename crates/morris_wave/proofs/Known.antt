@@ -11,15 +11,6 @@ use Rattle.morris_wave.proofs.Tests.{any_same, count_same, none_counted}
 use Rattle.morris_wave.proofs.Depths.{lost_more, won_more, all_won_mono_at, some_lost_mono, all_won_later, some_lost_later, code_is, code_new, none_decided}
 use Rattle.morris_wave.proofs.ExitTests.{some_exit_lost, each_exit_won}
 
--- nothing is known at wave 0
-known_lost_none : (g : Net) (a : ℕ → Bool) (j : ℕ) → known_lost g 0 a j ≡ false
-unfolding known_lost
-known_lost_none g a j = refl
-
-known_won_none : (g : Net) (a : ℕ → Bool) (j : ℕ) → known_won g 0 a j ≡ false
-unfolding known_won
-known_won_none g a j = refl
-
 -- what is known is decided by then, and what was decided a ply before is known
 known_lost_at_most : (g : Net) (n : ℕ) (a : ℕ → Bool) (j : ℕ) → known_lost g n a j ≡ true → is_lost g n j ≡ true
 unfolding known_lost

@@ -25,9 +25,6 @@ marked_twice old code p q pos =
     from_open true = marked_old code code q (λ z. omega arith)
     from_open false = refl
 
-pub marks_none : (xs : List ℕ) (test : ℕ → Bool) (code : ℕ) → ((k : ℕ) → k < length xs → test k ≡ false) → Marks xs xs test code
-marks_none xs test code h k l = sym (ap (λ t. marked (get_or xs k 0) t code) (h k l) ∙ marked_none (get_or xs k 0) code)
-
 pub marks_twice : (old mid new : List ℕ) (p q r : ℕ → Bool) (code : ℕ) → 0 < code → length mid ≡ length old
     → ((k : ℕ) → k < length old → r k ≡ (p k || q k)) → Marks old mid p code → Marks mid new q code → Marks old new r code
 marks_twice old mid new p q r code pos len h a b k l =

@@ -1,13 +1,12 @@
 -- What is known, and the entries, in other words for the parts that are applied.
-use Rattle.std.proofs.Common.{◌≡◌, ℕ, zero, suc, Bool, true, false, not, ◌&&◌, ◌||◌, eqb, ltb, get_or, refl, sym, ap, ap₂, ◌∙◌, ⊎_elim, arith}
-use Rattle.std.specs.List.{All}
+use Rattle.std.proofs.Common.{◌≡◌, ℕ, zero, suc, Bool, true, false, not, ◌&&◌, ◌||◌, eqb, ltb, refl, sym, ap, ap₂, ◌∙◌, ⊎_elim, arith}
 use Rattle.std.proofs.lemmas.Bool.{false≢true, and_right, cases_Bool, cond-true, cond-false, eq-eqb, ne_eqb, lt-ltb}
 use Rattle.morris_wave.specs.Nets.{Net}
 use Rattle.morris_wave.specs.Values.{is_lost, is_won, is_decided, code_within}
-use Rattle.morris_wave.specs.Waves.{known_lost, known_won, is_decided_at, entry_at, open_at, is_fresh}
+use Rattle.morris_wave.specs.Waves.{known_lost, known_won, is_decided_at, entry_at, is_fresh}
 use Rattle.morris_wave.specs.Solving.{every}
 use Rattle.morris_wave.proofs.Depths.{lost_more, won_more, apart, code_is, code_kept, code_new, code_open}
-use Rattle.morris_wave.proofs.Known.{entry_same, open_same, decided_at_least, decided_at_most}
+use Rattle.morris_wave.proofs.Known.{decided_at_least, decided_at_most}
 
 -- what is known depends on the parts alone
 pub known_won_cong : (g : Net) (n : ℕ) (a b : ℕ → Bool) (j : ℕ) → a j ≡ b j → known_won g n a j ≡ known_won g n b j
@@ -47,16 +46,6 @@ pub known_lost_covered : (g : Net) (n : ℕ) (a : ℕ → Bool) (j : ℕ) → (i
 unfolding known_lost is_fresh
 known_lost_covered g zero a j has = refl
 known_lost_covered g (suc n) a j has = covers_lost (is_lost g n j) (is_won g n j) (is_lost g (suc n) j) (is_won g (suc n) j) (a j) (won_more g n j) (apart g (suc n) j) has
-
--- the parts that are applied may be told in other words
-module _ (g : Net) (n : ℕ) (a b : ℕ → Bool) (i : ℕ) (same : All (λ j. a j ≡ b j) (g.quiet i)) where
-  pub entry_cong : entry_at g n a i ≡ entry_at g n b i
-  entry_cong =
-      entry_same g n a b i (λ p d h. known_won_cong g n a b (get_or (g.quiet i) p d) (same p d h))
-      (λ p d h. known_lost_cong g n a b (get_or (g.quiet i) p d) (same p d h))
-
-  pub open_cong : open_at g n a i ≡ open_at g n b i
-  open_cong = open_same g n n a b i (λ p d h. known_won_cong g n a b (get_or (g.quiet i) p d) (same p d h))
 
 -- the nodes of code n are the fresh ones of wave n
 pub fresh_code : (g : Net) (n i : ℕ) → eqb (code_within g (suc n) i) (suc n) ≡ is_fresh g (suc n) i

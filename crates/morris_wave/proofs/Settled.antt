@@ -38,7 +38,7 @@ three_kinds (c ∷ cs) =
         at true = refl
         at false = refl
 
-module _ (g : Net) (law : IsNet g) (s : BlockState) (first : ℕ) (codes counters : List ℕ) (due : List (List ℕ)) (last_due : ℕ) {most : ℕ} (h : BlockHolds g s first codes counters due last_due most) where
+module _ {g : Net} (law : IsNet g) {s : BlockState} {first : ℕ} {codes counters : List ℕ} {due : List (List ℕ)} {last_due most : ℕ} (h : BlockHolds g s first codes counters due last_due most) where
   low : (i : ℕ) → IsIn s.cut s.number i → first ≤ i
   low i inside = inside_low g law s first codes counters due last_due h i inside
 
@@ -70,18 +70,18 @@ module _ (g : Net) (law : IsNet g) (s : BlockState) (first : ℕ) (codes counter
     code_open = subst (λ x. (x ≡ 0) ↔ (is_decided_at g s.wave (in_applied s) i ≡ false)) (sym entry_read) (entry_open g s.wave (in_applied s) i)
 
   -- the list of the decided nodes
-  module _ (wave before here : ℕ) (decided : List ℕ) (r : Ranked true first wave codes decided before here) where
-    pub list_inside : All (IsIn s.cut s.number) decided
-    list_inside p d l = let w = r.inside p d l in node_inside g law s first codes counters due last_due h (get_or decided p d) w.0 w.1
+  module _ {wave before here : ℕ} {decided nodes : List ℕ} (same : nodes ≡ decided) (r : Ranked true first wave codes decided before here) where
+    pub list_inside : All (IsIn s.cut s.number) nodes
+    list_inside = subst (λ xs. All (IsIn s.cut s.number) xs) (sym same) (λ p d l. let w = r.inside p d l in node_inside g law s first codes counters due last_due h (get_or decided p d) w.0 w.1)
 
-    pub list_once : (i : ℕ) → IsIn s.cut s.number i → times i decided ≡ cond {A = ℕ} (is_decided_at g s.wave (in_applied s) i) 1 0
-    list_once i inside = decided_once g law s.wave (in_applied s) first codes counters due last_due h.kept wave before here decided r i (low i inside) (high i inside)
+    pub list_once : (i : ℕ) → IsIn s.cut s.number i → times i nodes ≡ cond {A = ℕ} (is_decided_at g s.wave (in_applied s) i) 1 0
+    list_once i inside = ap (times i) same ∙ decided_once g law s.wave (in_applied s) first codes counters due last_due h.kept wave before here decided r i (low i inside) (high i inside)
 
-    pub list_order : IsNonDecreasingBy (entry_at g s.wave (in_applied s)) decided
-    list_order = decided_order g law s.wave (in_applied s) first codes counters due last_due h.kept wave before here decided r
+    pub list_order : IsNonDecreasingBy (entry_at g s.wave (in_applied s)) nodes
+    list_order = subst (λ xs. IsNonDecreasingBy (entry_at g s.wave (in_applied s)) xs) (sym same) (decided_order g law s.wave (in_applied s) first codes counters due last_due h.kept wave before here decided r)
 
   -- the fresh nodes, as they are found and in ascending order
-  module _ (found nodes : List ℕ) (same : IsPermutation found nodes) where
+  module _ {found nodes : List ℕ} (same : IsPermutation found nodes) where
     pub fresh_inside : All (λ i. (first ≤ i) × (i < first + length codes)) found → All (IsIn s.cut s.number) nodes
     fresh_inside all =
         All-permutation (IsIn s.cut s.number) found nodes same
@@ -132,6 +132,3 @@ module _ (g : Net) (law : IsNet g) (s : BlockState) (first : ℕ) (codes counter
     -- at the last wave an unsettled block shows that the graph is too deep
     pub unsettled_deep : s.wave ≡ 65534 → (s.wave < last_due) ⊎ (list_any (λ c. eqb c (s.wave + 1)) codes ≡ true) → IsTooDeep g
     unsettled_deep is why = last_deep g law s.wave first codes counters due last_due (complete_holds g law s first codes counters due last_due h complete) is why
-
-pub not_settled_late : (g : Net) (s : BlockState) (due : ℕ) → IsLastDue g s due → s.wave < due → IsSettled g s → ⊥
-not_settled_late g s due last late t = let w = last.reached (omega (arith, late)) in omega (arith, t.due w.0 w.1.0, w.1.1, late)

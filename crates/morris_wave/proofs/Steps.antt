@@ -1,5 +1,5 @@
 -- What one batch and one advance do to the counters that wait for exits too.
-use Rattle.std.proofs.Common.{◌≡◌, ℕ, suc, ◌+◌, ◌%◌, ◌<◌, ◌≤◌, Bool, true, false, ◌&&◌, ◌||◌, cond, eqb, ltb, length, refl, sym, ap, ap₂, ◌∙◌, ⊎_elim, arith}
+use Rattle.std.proofs.Common.{◌≡◌, ℕ, suc, ◌+◌, ◌≤◌, Bool, true, false, ◌&&◌, ◌||◌, cond, eqb, ltb, length, refl, sym, ap, ap₂, ◌∙◌, ⊎_elim, arith}
 use Rattle.std.specs.List.{count_by}
 use Rattle.std.proofs.lemmas.Bool.{and_parts, and_from, or_parts, or_cases, or_left, or_right, cases_Bool, both_ways, eqb-true, cond-true, cond-false}
 use Rattle.morris_wave.specs.Nets.{Net}
@@ -95,7 +95,3 @@ module _ (g : Net) (n i : ℕ) where
 -- before the first wave
 pub pending_first : (g : Net) (a : ℕ → Bool) (i : ℕ) → pending_at g 0 a i ≡ length (g.quiet i) + waits 0 (exits_of (g.exits i))
 pending_first g a i = ap (λ c. c + waits 0 (exits_of (g.exits i))) (open_first g a i)
-
--- A counter of 16 bits wraps at 65,536 results. After a fall it is exact.
-pub fallen_exact : (before after taken stored : ℕ) → before ≡ after + taken → 0 < taken → before ≤ 65536 → (stored + taken) % 65536 ≡ before % 65536 → stored < 65536 → stored ≡ after
-fallen_exact before after taken stored e some le wraps small = omega (arith, e, some, le, wraps, small)

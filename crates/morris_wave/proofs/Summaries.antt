@@ -4,7 +4,7 @@ use Rattle.std.specs.List.{list_any, filter}
 use Rattle.std.proofs.lemmas.List.{map-append}
 use Rattle.std.proofs.lemmas.List.Elements.{filter-append}
 use Rattle.std.proofs.lemmas.List.Folds.{list_any-append}
-use Rattle.std.proofs.lemmas.Bool.{false≢true, cases_Bool, and_cases, and_parts, both_ways, not-true, not-false, eq-eqb, ne_eqb, ltb-true, ltb-false}
+use Rattle.std.proofs.lemmas.Bool.{false≢true, cases_Bool, and_cases, and_parts, both_ways, not-false, eq-eqb, ne_eqb, ltb-true, ltb-false}
 use Rattle.morris_wave.specs.declared.network.Exits.{Exits}
 use Rattle.morris_wave.specs.Exits.{is_odd, is_won_code, least, greatest, depths, exits_of}
 use Rattle.morris_wave.specs.Summaries.{least_with, greatest_with, added}
@@ -108,9 +108,6 @@ any-more p (d ∷ cs) c = ap (λ b. p d || b) (any-more p cs c) ∙ at (p d)
 -- ---- the summary
 
 -- a code is lost, won, or a draw
-not_odd : (c : ℕ) → is_won_code c ≡ true → is_odd c ≡ false
-not_odd c h = not-true (is_odd c) (and_parts (not (is_odd c)) (ltb 0 c) h).0
-
 won_none : (c : ℕ) → is_odd c ≡ true → is_won_code c ≡ false
 won_none c h = ap (λ b. not b && ltb 0 c) h
 

@@ -22,14 +22,6 @@ bytes_fall = record { less = byte_less; same = byte_same }
 pub words_fall : FallsLike left_of
 words_fall = record { less = λ count. omega arith; same = λ count some. refl }
 
--- a byte that still falls doesn't read 0
-pub byte_some : (count : ℕ) → 0 < left_of_byte count → 0 < count
-byte_some count left =
-    ⊎_elim
-    (λ e. absurd (omega (arith, left, cond-true {A = ℕ} (eqb count 0) 0 (left_of count) (eq-eqb count 0 e))))
-    (λ e. omega (arith, e))
-    (cases_eq count 0)
-
 -- counters fall as often as they may, where those that are for few results fall no further than to
 -- 0
 pub left_enough : (c : Counters) (k t : ℕ) → t ≤ left_of (get_or (counts_of c) k 0) → (most_of c ≤ 255 → t ≤ get_or (counts_of c) k 0) → t ≤ left_at c k

@@ -8,9 +8,10 @@ pub mod Waves
 pub mod Solving
 pub mod Keeping
 pub mod Counts
+pub mod Frames
 pub mod Bytes
 pub mod Blocks
 pub mod Batches
 pub mod Answering
-pub mod Delivery
+pub mod Scattering
 pub mod Gathering

@@ -1,13 +1,13 @@
 //! Blocks of a graph, which go from wave to wave, and what they find and send to one another.
-ghost use Rattle.std.specs.Prelude.{◌≡◌, ℕ, ◌+◌, ◌-◌, ◌<◌, ◌≤◌, Bool, true, false, ◌&&◌, ◌==◌, ◌↔◌, IsTrue, length, IfOk, OnOk, OnErr, IfErr, vec_len, slice_index, if◌then◌else◌};
+ghost use Rattle.std.specs.Prelude.{◌≡◌, ℕ, ◌+◌, ◌-◌, ◌<◌, ◌≤◌, true, false, ◌==◌, ◌↔◌, IsTrue, length, IfOk, OnOk, OnErr, IfErr, if◌then◌else◌};
 ghost use Rattle.std.specs.List.{All, count_by};
 ghost use Rattle.std.specs.List.Sorted.{IsNonDecreasing, IsNonDecreasingBy};
 ghost use Rattle.morris_wave.specs.Nets.{times};
 ghost use Rattle.morris_wave.specs.Waves.{entry_at, is_decided_at, is_fresh};
 
-use crate::division::Cut;
+use crate::cut::Cut;
 use crate::network::{Graph, Levels};
-use crate::nodes::{NodeList, WholeList};
+use crate::nodes::NodeList;
 use crate::stretch::Stretch;
 use std::alloc::{AllocError, Global};
 use std::marker::{Model, PhantomData};
@@ -285,7 +285,7 @@ impl<N: Levels> Block<N> {
             → times i result.now ≡ (if is_decided_at (N.net self.now.level) self.now.wave (in_applied self.now) i then 1 else 0) }
         ensures order { IsNonDecreasingBy (entry_at (N.net self.now.level) self.now.wave (in_applied self.now)) result.now }
     {
-        self.decided_list().as_slice()
+        &self.kept.entries.decided
     }
 }
 
@@ -520,19 +520,5 @@ impl<N: Levels, L: NodeList> Block<N, L> {
             nodes,
             family: PhantomData,
         })
-    }
-}
-
-impl<N: Levels, L: WholeList> Block<N, L> {
-    ghost use Rattle.morris_wave.specs.Blocks.{in_applied, IsIn};
-
-    /// The list of the decided nodes of the block, each once, in ascending order of their depths.
-    pub fn decided_list(&self) -> &L
-        ensures inside { All (IsIn self.now.cut self.now.number) (L.items result.now) }
-        ensures once { (i : ℕ) → IsIn self.now.cut self.now.number i
-            → times i (L.items result.now) ≡ (if is_decided_at (N.net self.now.level) self.now.wave (in_applied self.now) i then 1 else 0) }
-        ensures order { IsNonDecreasingBy (entry_at (N.net self.now.level) self.now.wave (in_applied self.now)) (L.items result.now) }
-    {
-        &self.kept.entries.decided
     }
 }

@@ -1,12 +1,12 @@
 //! The codes of a graph, gathered from its blocks.
-ghost use Rattle.std.specs.Prelude.{◌≡◌, ℕ, ◌+◌, ◌<◌, ◌≤◌, Bool, true, false, Option, Some, None, [], length, is_some, slice_index, slice_index_or, replicate, IfOk, OnOk, IfErr, IfSome, IfNone, vec_len};
+ghost use Rattle.std.specs.Prelude.{◌≡◌, ℕ, ◌+◌, ◌<◌, ◌≤◌, true, false, Option, Some, None, [], length, is_some, slice_index, slice_index_or, IfOk, OnOk, IfErr, IfSome, IfNone, vec_len};
 ghost use Rattle.std.specs.List.{All};
 ghost use Rattle.morris_wave.specs.Values.{code_within};
 ghost use Rattle.morris_wave.specs.Blocks.{BlockState, IsCut, first_node, count_of, is_complete};
 ghost use Rattle.morris_wave.specs.Gathering.{complaint, first_complaint, HasAll, IsGatherFault, Fits, ArePlaces, AreKnown, IsGathered};
 
 use crate::codes::Codes;
-use crate::division::Cut;
+use crate::cut::Cut;
 use crate::engine::Block;
 use crate::network::Levels;
 use crate::nodes::NodeList;
@@ -71,13 +71,6 @@ fn complaint<N: Levels, L: NodeList>(
     }
 }
 
-// No block has a place yet.
-fn nowhere() -> [Option<usize>; NUMBERS]
-    ensures { result ≡ replicate 1024 None }
-{
-    [None; NUMBERS]
-}
-
 // Where the block of each number stands, unless something speaks against one of them.
 fn walk<N: Levels, L: NodeList>(
     level: u64,
@@ -89,7 +82,7 @@ fn walk<N: Levels, L: NodeList>(
     ensures walked { OnOk result (first_complaint level wave cut.now [] blocks.now ≡ None) }
     ensures err { IfErr result (λ e. first_complaint level wave cut.now [] blocks.now ≡ Some e) }
 {
-    let mut places = nowhere();
+    let mut places = [None; NUMBERS];
     for (place, block) in blocks.iter().enumerate() {
         if let Some(fault) = complaint(block, place, level, wave, cut, &places) {
             return Err(fault);
@@ -231,29 +224,6 @@ fn drained<N: Levels, L: NodeList>(
     Ok(codes)
 }
 
-// The entries of all blocks, in the order of their numbers. Where the blocks stand in it, each is
-// let go once it was copied.
-fn taken_in_order<N: Levels, L: NodeList>(
-    alloc: Global,
-    level: u64,
-    wave: u16,
-    cut: &Cut,
-    blocks: Vec<Block<N, L>>,
-    places: &[Option<usize>],
-) -> Result<Vec<u16>, AllocError>
-    requires places { ArePlaces blocks.items places.now }
-    requires all { HasAll cut.now blocks.items }
-    requires fit { All (Fits level wave cut.now) blocks.items }
-    ensures { IfOk result (AreKnown (N.net level) wave cut.now) }
-{
-    let count = blocks.len() as u64;
-    if count == cut.blocks() && are_in_order(&blocks) {
-        drained(alloc, level, wave, cut, blocks)
-    } else {
-        in_order(alloc, level, wave, cut, &blocks, places)
-    }
-}
-
 /// The codes that `gather` gives. It takes the blocks, and where they stand in the order of their
 /// numbers it lets each go once its codes are copied, so that answer and blocks are never there as
 /// a whole.
@@ -271,7 +241,10 @@ pub fn gather_from<N: Levels, L: NodeList>(
     ensures gathered { IfOk result (IsGathered (N.net level) level wave cut.now blocks.items) }
     ensures fault { IfErr result (IsGatherFault level wave cut.now blocks.items) }
 {
-    let places = places_of(level, wave, cut, &blocks)?;
-    let codes = taken_in_order(alloc, level, wave, cut, blocks, &places)?;
+    if blocks.len() as u64 != cut.blocks() || !are_in_order(&blocks) {
+        return gather(alloc, level, wave, cut, &blocks);
+    }
+    places_of(level, wave, cut, &blocks)?;
+    let codes = drained(alloc, level, wave, cut, blocks)?;
     Ok(codes)
 }

@@ -6,25 +6,25 @@
 
 mod codes;
 mod counters;
-mod delivery;
-mod division;
+mod cut;
 mod due;
 mod engine;
-mod falls;
 mod gathering;
 mod listed;
 mod network;
 mod nodes;
+mod propagate;
 mod reading;
-mod solver;
+mod scattering;
 mod stretch;
+mod sweeping;
 mod watch;
 
-pub use delivery::{scatter, scatter_reusing};
-pub use division::{Blocks, Cut};
+pub use cut::{Blocks, Cut};
 pub use engine::{AdvanceFault, Applied, Batch, Block, Fresh, Tallies};
 pub use gathering::{GatherFault, gather, gather_from};
 pub use network::{Exits, Graph, Levels};
-pub use nodes::{NodeList, Recent, WholeList};
-pub use solver::{SweepFault, sweep, sweep_watched};
+pub use nodes::{NodeList, Recent};
+pub use scattering::{scatter, scatter_reusing};
+pub use sweeping::{SweepFault, sweep, sweep_watched};
 pub use watch::{Unwatched, Watch};

@@ -1,5 +1,5 @@
 //! The entries of a block, the list of those that are decided, and the tallies that count them.
-ghost use Rattle.std.specs.Prelude.{◌≡◌, ℕ, ◌+◌, ◌-◌, ◌<◌, ◌≤◌, ◌&&◌, ◌==◌, ◌^◌, IfOk, nat_lt, length, if◌then◌else◌, replicate, take, slice_index, slice_set};
+ghost use Rattle.std.specs.Prelude.{◌≡◌, ℕ, ◌+◌, ◌-◌, ◌<◌, ◌≤◌, ◌&&◌, ◌==◌, ◌^◌, IfOk, nat_lt, length, if◌then◌else◌, replicate, slice_index, slice_set};
 ghost use Rattle.std.specs.List.{All, list_any, count_by};
 ghost use Rattle.morris_wave.specs.Exits.{is_odd, is_won_code};
 ghost use Rattle.morris_wave.specs.Solving.{Marks};
@@ -62,6 +62,8 @@ pub(crate) struct Listed<L: NodeList> {
 }
 
 impl<L: NodeList> Listed<L> {
+    ghost use Rattle.morris_wave.specs.Frames.{SameFrame};
+
     // So many open entries before the first wave.
     pub(crate) fn open(alloc: Global, first: u64, count: usize) -> Result<Listed<L>, AllocError>
         requires small { first + count ≤ 2 ^ 40 }
@@ -90,12 +92,7 @@ impl<L: NodeList> Listed<L> {
     // Gives the entry at a place the code of this wave, if it is open and ready.
     pub(crate) fn mark(&mut self, place: u64, ready: bool)
         requires inside { place < length self.old.entries.codes }
-        ensures len { length self.new.entries.codes ≡ length self.old.entries.codes }
-        ensures first { self.new.first ≡ self.old.first }
-        ensures wave { self.new.wave ≡ self.old.wave }
-        ensures before { self.new.before ≡ self.old.before }
-        ensures here { self.new.here ≡ self.old.here }
-        ensures list { take self.old.here (L.items self.new.decided) ≡ take self.old.here (L.items self.old.decided) }
+        ensures frame { SameFrame self.old self.new }
         ensures codes { Marks self.old.entries.codes self.new.entries.codes (λ k. (place == k) && ready) (self.old.wave + 1) }
     {
         if ready {
@@ -108,12 +105,7 @@ impl<L: NodeList> Listed<L> {
     #[inline(never)]
     fn give(&mut self, place: u64)
         requires inside { place < length self.old.entries.codes }
-        ensures len { length self.new.entries.codes ≡ length self.old.entries.codes }
-        ensures first { self.new.first ≡ self.old.first }
-        ensures wave { self.new.wave ≡ self.old.wave }
-        ensures before { self.new.before ≡ self.old.before }
-        ensures here { self.new.here ≡ self.old.here }
-        ensures list { take self.old.here (L.items self.new.decided) ≡ take self.old.here (L.items self.old.decided) }
+        ensures frame { SameFrame self.old self.new }
         ensures codes { Marks self.old.entries.codes self.new.entries.codes (λ k. place == k) (self.old.wave + 1) }
     {
         let node = self.first + place;

@@ -19,7 +19,6 @@ pub struct Exits {
 }
 
 impl Exits {
-    ghost use Rattle.std.specs.Prelude.{nat_lt};
     ghost use Rattle.morris_wave.specs.Exits.{exits_of, exits_won, last_due_of};
     ghost use Rattle.morris_wave.specs.Keeping.{due_wave};
     ghost use Rattle.morris_wave.specs.Summaries.{added};
@@ -59,7 +58,13 @@ impl Exits {
     pub(crate) fn is_none(self) -> bool
         ensures { result ≡ exits_won 0 self }
     {
-        self.least_lost.is_none() && self.greatest_won.is_none() && !self.drawn
+        match self.least_lost {
+            Some(_) => false,
+            None => match self.greatest_won {
+                Some(_) => false,
+                None => !self.drawn,
+            },
+        }
     }
 
     // The last wave at which an exit comes due, 0 if none does.

@@ -1,5 +1,5 @@
 //! Lists of nodes.
-ghost use Rattle.std.specs.Prelude.{◌≡◌, ℕ, ◌<◌, ◌≤◌, ◌^◌, ◌++◌, ◌∷◌, [], Bool, true, false, refl, List, drop, length, slice_index, slice_set, OnOk, IfOk, vec_len, vec_capacity};
+ghost use Rattle.std.specs.Prelude.{◌≡◌, ℕ, ◌<◌, ◌≤◌, ◌^◌, ◌++◌, ◌∷◌, [], Bool, true, false, List, drop, length, slice_index, slice_set, OnOk, IfOk, vec_len, vec_capacity};
 ghost use Rattle.morris_wave.specs.Lists.{contents, list_at};
 
 use std::alloc::{AllocError, Global};
@@ -74,12 +74,6 @@ pub trait NodeList: Drop {
     fn room(&self) -> usize;
 }
 
-/// A list that keeps all its nodes.
-pub trait WholeList: NodeList {
-    // It forgets none.
-    ghost whole: { Self.keeps ≡ true };
-}
-
 impl NodeList for Vec<u64> {
     ghost items = { λ v. v.items };
 
@@ -128,64 +122,6 @@ impl NodeList for Vec<u64> {
     fn room(&self) -> usize {
         self.capacity().saturating_mul(8)
     }
-}
-
-impl WholeList for Vec<u64> {
-    ghost whole = { refl };
-}
-
-impl NodeList for Vec<u32> {
-    ghost items = { λ v. v.items };
-
-    ghost limit = { 2 ^ 32 };
-
-    ghost capacity = { λ v. vec_capacity v };
-
-    ghost keeps = { true };
-
-    fn none(alloc: Global) -> Vec<u32> {
-        Vec::new(alloc)
-    }
-
-    fn with_room(alloc: Global, count: usize) -> Result<Vec<u32>, AllocError> {
-        let list = Vec::with_capacity(alloc, count)?;
-        Ok(list)
-    }
-
-    fn empty(&mut self) {
-        self.clear();
-    }
-
-    fn add(&mut self, node: u64) -> Result<(), AllocError> {
-        self.push(node as u32)?;
-        Ok(())
-    }
-
-    fn put_last(&mut self, node: u64) {
-        let Ok(()) = self.push(node as u32) else {
-            unreachable!()
-        };
-    }
-
-    fn forget(&mut self, _count: usize) -> usize {
-        0
-    }
-
-    fn count(&self) -> usize {
-        self.len()
-    }
-
-    fn node(&self, place: usize) -> u64 {
-        u64::from(self[place])
-    }
-
-    fn room(&self) -> usize {
-        self.capacity().saturating_mul(4)
-    }
-}
-
-impl WholeList for Vec<u32> {
-    ghost whole = { refl };
 }
 
 /// A list of 4 bytes a node that lets go of what it is told to forget.

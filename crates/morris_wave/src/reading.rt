@@ -1,11 +1,12 @@
 //! The first entries of a stretch of nodes, what they wait for, and when their exits come due, read
 //! from the graph.
-ghost use Rattle.std.specs.Prelude.{◌≡◌, ℕ, ◌+◌, ◌-◌, ◌%◌, ◌<◌, ◌≤◌, ◌^◌, ◌&&◌, ◌==◌, if◌then◌else◌, true, max, length, slice_index, slice_set, IsSome, IfOk, IfSome, vec_len};
+ghost use Rattle.std.specs.Prelude.{◌≡◌, ◌+◌, ◌-◌, ◌%◌, ◌<◌, ◌≤◌, ◌^◌, ◌&&◌, ◌==◌, true, max, length, slice_index, slice_set, IsSome, IfOk, IfSome, vec_len};
 ghost use Rattle.morris_wave.specs.Exits.{exits_won, last_due_of};
 ghost use Rattle.morris_wave.specs.Nets.{Net};
 ghost use Rattle.morris_wave.specs.Solving.{Marks, every};
 ghost use Rattle.morris_wave.specs.Keeping.{due_wave, due_within, waits, HasRead, StretchHolds};
 ghost use Rattle.morris_wave.specs.Counts.{counts_of, most_of, AreFew};
+ghost use Rattle.morris_wave.specs.Frames.{SameFrame};
 
 use crate::counters::CounterList;
 use crate::due::Due;
@@ -61,9 +62,7 @@ impl<L: NodeList, C: CounterList> Reading<L, C> {
         requires inside { place < length self.old.entries.entries.codes }
         requires few { quiet < C.most }
         requires unwritten { slice_index self.old.waves.items place ≡ 0 }
-        ensures len { length self.new.entries.entries.codes ≡ length self.old.entries.entries.codes }
-        ensures first { self.new.entries.first ≡ self.old.entries.first }
-        ensures wave { self.new.entries.wave ≡ self.old.entries.wave }
+        ensures frame { SameFrame self.old.entries self.new.entries }
         ensures codes { Marks self.old.entries.entries.codes self.new.entries.entries.codes
             (λ k. (place == k) && ((quiet == 0) && exits_won 0 exits)) (self.old.entries.wave + 1) }
         ensures counters { C.counts self.new.counters ≡ slice_set (C.counts self.old.counters) place ((quiet + waits 0 exits) % 65536) }
@@ -72,7 +71,7 @@ impl<L: NodeList, C: CounterList> Reading<L, C> {
     {
         let none = exits.is_none();
         self.entries.mark(place as u64, quiet == 0 && none);
-        self.counters.put(place, quiet, one_unless(none));
+        self.counters.put(place, quiet, u8::from(!none));
         if !none {
             self.waves[place] = within(exits.due_wave());
             self.last_due = self.last_due.max(exits.last_due());
@@ -85,14 +84,6 @@ fn within(wave: u32) -> u16
     ensures { result ≡ due_within wave }
 {
     if wave < 65535 { wave as u16 } else { 0 }
-}
-
-// One, or zero where it holds.
-fn one_unless(holds: bool) -> u8
-    ensures value { result ≡ (if holds then 0 else 1) }
-    ensures one { result ≤ 1 }
-{
-    if holds { 0 } else { 1 }
 }
 
 // Reads as many nodes as there is room for, from a place on, unless the counters are for nodes of
@@ -110,9 +101,7 @@ fn read_piece<G: Graph, L: NodeList, C: CounterList>(
     requires wave { reading.old.entries.wave ≡ 0 }
     requires read { HasRead (G.Name.net (G.level graph.now)) C.most reading.old.entries.first from
         reading.old.entries.entries.codes (C.counts reading.old.counters) reading.old.waves.items reading.old.last_due }
-    ensures len { length reading.new.entries.entries.codes ≡ length reading.old.entries.entries.codes }
-    ensures first { reading.new.entries.first ≡ reading.old.entries.first }
-    ensures wave { reading.new.entries.wave ≡ 0 }
+    ensures frame { SameFrame reading.old.entries reading.new.entries }
     ensures read { result ≡ true → HasRead (G.Name.net (G.level graph.now)) C.most reading.old.entries.first (from + length counts.old)
         reading.new.entries.entries.codes (C.counts reading.new.counters) reading.new.waves.items reading.new.last_due }
     ensures wide { 65535 < C.most → result ≡ true }
@@ -142,9 +131,7 @@ fn read_all<G: Graph, L: NodeList, C: CounterList>(
     requires wave { reading.old.entries.wave ≡ 0 }
     requires read { HasRead (G.Name.net (G.level graph.now)) C.most reading.old.entries.first 0
         reading.old.entries.entries.codes (C.counts reading.old.counters) reading.old.waves.items reading.old.last_due }
-    ensures len { length reading.new.entries.entries.codes ≡ length reading.old.entries.entries.codes }
-    ensures first { reading.new.entries.first ≡ reading.old.entries.first }
-    ensures wave { reading.new.entries.wave ≡ 0 }
+    ensures frame { SameFrame reading.old.entries reading.new.entries }
     ensures read { result ≡ true → HasRead (G.Name.net (G.level graph.now)) C.most reading.old.entries.first (length reading.old.entries.entries.codes)
         reading.new.entries.entries.codes (C.counts reading.new.counters) reading.new.waves.items reading.new.last_due }
     ensures wide { 65535 < C.most → result ≡ true }

@@ -1,5 +1,5 @@
 //! A stretch of nodes of a graph, which goes from wave to wave.
-ghost use Rattle.std.specs.Prelude.{◌≡◌, ℕ, ◌+◌, ◌-◌, ◌*◌, ◌<◌, ◌≤◌, ◌&&◌, ◌==◌, ◌^◌, Bool, true, false, not, nat_le, [], length, take, slice_index, slice_set};
+ghost use Rattle.std.specs.Prelude.{◌≡◌, ℕ, ◌+◌, ◌-◌, ◌<◌, ◌≤◌, ◌&&◌, ◌==◌, false, not, nat_le, [], length, slice_index, slice_set};
 ghost use Rattle.std.specs.List.{All, list_any};
 ghost use Rattle.morris_wave.specs.Nets.{times};
 ghost use Rattle.morris_wave.specs.Lists.{list_at};
@@ -9,9 +9,9 @@ ghost use Rattle.morris_wave.specs.Counts.{counts_of, most_of, left_at};
 
 use crate::counters::Counters;
 use crate::due::Due;
-use crate::falls;
 use crate::listed::Listed;
 use crate::nodes::NodeList;
+use crate::propagate;
 
 // Nodes in their order, from the first one of the entries on. For each there is its entry and a
 // counter of the results that it waits for; its exits count as one of these until all of them are
@@ -30,24 +30,21 @@ pub(crate) struct Stretch<L: NodeList> {
 }
 
 impl<L: NodeList> Stretch<L> {
+    ghost use Rattle.morris_wave.specs.Frames.{SameFrame};
+
     // Takes in nodes that lead to fresh nodes of the wave, each as often as it leads there.
     pub(crate) fn take_in<B: NodeList>(&mut self, nodes: &B)
         requires inside { All (λ i. (self.old.entries.first ≤ i) × (i < self.old.entries.first + length self.old.entries.entries.codes)) (B.items nodes.now) }
         requires enough { is_odd self.old.entries.wave ≡ false → (k : ℕ) → k < length self.old.entries.entries.codes
             → times (self.old.entries.first + k) (B.items nodes.now) ≤ left_at self.old.counters k }
-        ensures len { length self.new.entries.entries.codes ≡ length self.old.entries.entries.codes }
-        ensures first { self.new.entries.first ≡ self.old.entries.first }
-        ensures wave { self.new.entries.wave ≡ self.old.entries.wave }
-        ensures before { self.new.entries.before ≡ self.old.entries.before }
-        ensures here { self.new.entries.here ≡ self.old.entries.here }
-        ensures list { take self.old.entries.here (L.items self.new.entries.decided) ≡ take self.old.entries.here (L.items self.old.entries.decided) }
+        ensures frame { SameFrame self.old.entries self.new.entries }
         ensures due { self.new.due ≡ self.old.due }
         ensures last_due { self.new.last_due ≡ self.old.last_due }
         ensures most { most_of self.new.counters ≡ most_of self.old.counters }
         ensures taken { Takes self.old.entries.wave self.old.entries.first (B.items nodes.now)
             self.old.entries.entries.codes self.new.entries.entries.codes (counts_of self.old.counters) (counts_of self.new.counters) }
     {
-        falls::take_in(&mut self.entries, &mut self.counters, nodes);
+        propagate::take_in(&mut self.entries, &mut self.counters, nodes);
     }
 
     // Goes on to the next wave, takes in what comes due at it, and lets go of that list.
@@ -66,7 +63,7 @@ impl<L: NodeList> Stretch<L> {
     {
         self.entries.next_wave();
         let nodes = self.due.at(self.entries.wave);
-        falls::take_in(&mut self.entries, &mut self.counters, nodes);
+        propagate::take_in(&mut self.entries, &mut self.counters, nodes);
         self.due.let_go(self.entries.wave);
     }
 

@@ -1,4 +1,4 @@
-use Rattle.std.proofs.Common.{◌≡◌, ◌≤◌, ℕ, slice_index, ap, ⊎_elim, arith}
+use Rattle.std.proofs.Common.{◌≤◌, ℕ, slice_index, ap, ⊎_elim, arith}
 use Rattle.std.specs.Ordering.{nat_cmp, ord_max}
 use Rattle.std.proofs.lemmas.Bool.{cases_eq}
 use Rattle.std.proofs.lemmas.Bool.Decides.{nat_tests}

@@ -1,10 +1,10 @@
-use Rattle.std.proofs.Common.{ℕ, ◌+◌, List, Option, Some, None, is_some, set, slice_index_or, refl, sym, ◌∙◌, subst, arith}
+use Rattle.std.proofs.Common.{ℕ, ◌+◌, Some, None, is_some, set, slice_index_or, refl, sym, ◌∙◌, subst, arith}
 use Rattle.morris_wave.specs.Blocks.{BlockState}
 use Rattle.morris_wave.proofs.Gathered.{PlacesTo, no_places, place_more, all_places, walk_step, walk_all}
 use Rattle.morris_wave.proofs.gathering.walk.Goals as goal
 
 pub loop-place-init : goal.loop-place-init
-loop-place-init g c = (subst (λ (ps : List (Option ℕ)). PlacesTo c.args.blocks.now 0 ps) (sym c.nowhere-places.ensures) (no_places c.args.blocks.now), refl)
+loop-place-init g c = (no_places c.args.blocks.now, refl)
 
 pub returns-in-Some-clause-err : goal.returns-in-Some-clause-err
 returns-in-Some-clause-err g c =

@@ -1,7 +1,8 @@
-use Rattle.std.proofs.Common.{◌≡◌, ◌+◌, ◌*◌, ℕ, length, length-append, length-drop, min, take, subst, ◌∙◌, arith}
+use Rattle.std.proofs.Common.{◌≡◌, ◌+◌, ◌*◌, ℕ, length, length-append, length-drop, min, take, subst, arith}
 use Rattle.std.proofs.lemmas.List.{length-take}
 use Rattle.morris_wave.specs.declared.network.Exits.{Exits}
 use Rattle.morris_wave.specs.Keeping.{HasRead}
+use Rattle.morris_wave.proofs.Frames.{frame_joins}
 use Rattle.morris_wave.proofs.reading.read_all.Goals as goal
 
 pub loop-piece-preserved : goal.loop-piece-preserved
@@ -18,13 +19,11 @@ loop-piece-preserved g c =
     let counts_taken = length-take c.min-len.result c.loop-piece.counts in
     let exits_taken = length-take c.min-len.result c.loop-piece.exits in
     let next : here ≡ min ((c.loop-piece.piece + 1) * 16384) (length old.entries.entries.codes) =
-    omega (arith, counts_taken, inv.counts_len, c.min-len.ensures, c.len-count.ensures, c.loop-piece-test.true, inv.len, c.loop-piece.reading.waved) in
+    omega (arith, counts_taken, inv.counts_len, c.min-len.ensures, c.len-count.ensures, c.loop-piece-test.true, inv.frame.len, c.loop-piece.reading.waved) in
     record {
-      len = made.len ∙ inv.len;
-      first = made.first ∙ inv.first;
-      wave = made.wave;
+      frame = frame_joins old.entries c.loop-piece.reading.entries new.entries inv.frame made.frame;
       counts_len = omega (arith, length-append {A = ℕ}, length-drop {A = ℕ}, counts_taken, c.read_piece.auto.counts, inv.counts_len, c.min-len.ensures);
       exits_len = omega (arith, length-append {A = Exits}, length-drop {A = Exits}, exits_taken, c.read_piece.auto.exits, inv.exits_len, c.min-len.ensures);
       read = subst (λ (p : ℕ). HasRead net most old.entries.first p codes counters new.waves.items new.last_due) next
-          (subst (λ (f : ℕ). HasRead net most f here codes counters new.waves.items new.last_due) inv.first (made.read c.if-not-read_piece.false));
+          (subst (λ (f : ℕ). HasRead net most f here codes counters new.waves.items new.last_due) inv.frame.first (made.read c.if-not-read_piece.false));
     }

@@ -3,6 +3,7 @@ use Rattle.std.proofs.lemmas.Bool.{ltb-true}
 use Rattle.morris_wave.specs.Exits.{exits_of, exits_won}
 use Rattle.morris_wave.specs.Solving.{Marks, exits_at}
 use Rattle.morris_wave.specs.Keeping.{HasRead, due_wave, due_within, waits}
+use Rattle.morris_wave.proofs.Frames.{frame_joins}
 use Rattle.morris_wave.proofs.Readings.{read_more}
 use Rattle.morris_wave.proofs.reading.read_piece.Goals as goal
 
@@ -21,19 +22,17 @@ loop-place-preserved g c =
     let quiet = slice_index c.read_nodes.new.counts c.loop-place.place in
     let e = exits_at c.read_nodes.new.exits c.loop-place.place in
     let here : c.loop-place.place < length c.args.counts.now = omega (arith, c.loop-place-test.true, c.read_nodes.auto.counts) in
-    let within : place < length codes = omega (arith, here, c.requires.inside, inv.len) in
+    let within : place < length codes = omega (arith, here, c.requires.inside, inv.frame.len) in
     let there : first + c.args.from + c.loop-place.place ≡ first + place = omega arith in
     let few : quiet < most = ltb-true quiet most (sym c.has_room.ensures ∙ c.if-not-has_room.false) in
     let counted : quiet ≡ length (net.quiet (first + place)) = c.read_nodes.ensures.counts c.loop-place.place here ∙ ap (λ n. length (net.quiet n)) there in
     let is : e ≡ exits_of (net.exits (first + place)) = c.read_nodes.ensures.exits c.loop-place.place (omega (arith, here, c.requires.room)) ∙ ap (λ n. exits_of (net.exits n)) there in
-    let marks = subst (λ (w : ℕ). Marks codes codes' (λ k. eqb place k && (eqb quiet 0 && exits_won 0 e)) (w + 1)) inv.wave c.take.ensures.codes in
+    let marks = subst (λ (w : ℕ). Marks codes codes' (λ k. eqb place k && (eqb quiet 0 && exits_won 0 e)) (w + 1)) (inv.frame.wave ∙ c.requires.wave) c.take.ensures.codes in
     let more = read_more net most first place codes counters old.waves.items old.last_due inv.read codes' quiet e within
-    (omega (arith, c.take.ensures.len)) (omega (arith, old.counted)) (omega (arith, old.waved, old.waves.ok.0)) few counted is marks in
+    (omega (arith, c.take.ensures.frame.len)) (omega (arith, old.counted)) (omega (arith, old.waved, old.waves.ok.0)) few counted is marks in
     let after : place + 1 ≡ c.args.from + (c.loop-place.place + 1) = omega arith in
     record {
-      len = c.take.ensures.len ∙ inv.len;
-      first = c.take.ensures.first ∙ inv.first;
-      wave = c.take.ensures.wave ∙ inv.wave;
+      frame = frame_joins c.args.reading.now.entries old.entries new.entries inv.frame c.take.ensures.frame;
       read = subst (λ (p : ℕ). HasRead net most first p codes' (g.C.CounterList.counts new.counters) new.waves.items new.last_due) after
           (subst (λ (cs : List ℕ). HasRead net most first (place + 1) codes' cs new.waves.items new.last_due) (sym c.take.ensures.counters)
           (subst (λ (ws : List ℕ). HasRead net most first (place + 1) codes' (set counters place ((quiet + waits 0 e) % 65536)) ws new.last_due) (sym c.take.ensures.waves)
@@ -43,7 +42,7 @@ loop-place-preserved g c =
 pub take-requires-clause-inside : goal.take-requires-clause-inside
 take-requires-clause-inside g c =
     let here : c.loop-place.place < length c.args.counts.now = omega (arith, c.loop-place-test.true, c.read_nodes.auto.counts) in
-    omega (arith, here, c.requires.inside, c.loop-place.invariant.len)
+    omega (arith, here, c.requires.inside, c.loop-place.invariant.frame.len)
 
 pub take-requires-clause-few : goal.take-requires-clause-few
 take-requires-clause-few g c =
@@ -52,7 +51,7 @@ take-requires-clause-few g c =
 pub take-requires-clause-unwritten : goal.take-requires-clause-unwritten
 take-requires-clause-unwritten g c =
     let here : c.loop-place.place < length c.args.counts.now = omega (arith, c.loop-place-test.true, c.read_nodes.auto.counts) in
-    c.loop-place.invariant.read.unwritten (c.args.from + c.loop-place.place) (omega arith) (omega (arith, here, c.requires.inside, c.loop-place.invariant.len))
+    c.loop-place.invariant.read.unwritten (c.args.from + c.loop-place.place) (omega arith) (omega (arith, here, c.requires.inside, c.loop-place.invariant.frame.len))
 
 pub returns-clause-read : goal.returns-clause-read
 returns-clause-read g c = λ _.

@@ -15,11 +15,11 @@ invariant_of-result g c =
     let listed : ListsDue (λ k. slice_index r.waves.items k) 0 c.args.first (length r.waves.items) due =
     subst (λ (xs : List ℕ). ListsDue (λ k. slice_index xs k) 0 c.args.first (length xs) due) c.deref.ensures.value c.in_ok-due.ensures in
     let many : length r.waves.items ≡ length r.entries.entries.codes = omega (arith, r.waved, r.waves.ok.0) in
-    let first : r.entries.first ≡ c.args.first = c.read_all.ensures.first ∙ c.in_ok-reading.ensures.first in
+    let first : r.entries.first ≡ c.args.first = c.read_all.ensures.frame.first ∙ c.in_ok-reading.ensures.first in
     let net = g.G.Name.Levels.net (g.G.Graph.level c.args.graph.now) in
     let codes = r.entries.entries.codes in
     let before = c.in_ok-reading.reading in
-    let len : length before.entries.entries.codes ≡ length codes = omega (arith, c.read_all.ensures.len) in
+    let len : length before.entries.entries.codes ≡ length codes = omega (arith, c.read_all.ensures.frame.len) in
     let read : HasRead net most c.args.first (length codes) codes (g.C.CounterList.counts r.counters) r.waves.items r.last_due =
     subst (λ (n : ℕ). HasRead net most c.args.first n codes (g.C.CounterList.counts r.counters) r.waves.items r.last_due) len
     (subst (λ (f : ℕ). HasRead net most f (length before.entries.entries.codes) codes (g.C.CounterList.counts r.counters) r.waves.items r.last_due) c.in_ok-reading.ensures.first
@@ -45,7 +45,7 @@ returns-clause-holds g c =
     let due = c.in_ok-due.due in
     let listed : ListsDue (λ k. slice_index r.waves.items k) 0 c.args.first (length r.waves.items) due =
     subst (λ (xs : List ℕ). ListsDue (λ k. slice_index xs k) 0 c.args.first (length xs) due) c.deref.ensures.value c.in_ok-due.ensures in
-    let len : length before.entries.entries.codes ≡ length codes = omega (arith, c.read_all.ensures.len) in
+    let len : length before.entries.entries.codes ≡ length codes = omega (arith, c.read_all.ensures.frame.len) in
     let read : HasRead net most c.args.first (length codes) codes (g.C.CounterList.counts r.counters) r.waves.items r.last_due =
     subst (λ (n : ℕ). HasRead net most c.args.first n codes (g.C.CounterList.counts r.counters) r.waves.items r.last_due) len
     (subst (λ (f : ℕ). HasRead net most f (length before.entries.entries.codes) codes (g.C.CounterList.counts r.counters) r.waves.items r.last_due) c.in_ok-reading.ensures.first
@@ -71,3 +71,12 @@ read_all-requires-clause-read g c κs within =
     let net = g.G.Name.Levels.net (g.G.Graph.level c.args.graph.now) in
     let r = c.in_ok-reading.reading in
     subst (λ (f : ℕ). HasRead net g.C.CounterList.most f 0 r.entries.entries.codes (g.C.CounterList.counts r.counters) r.waves.items r.last_due) (sym c.in_ok-reading.ensures.first) (c.in_ok-reading.ensures.read net)
+
+pub returns-clause-first : goal.returns-clause-first
+returns-clause-first g c = c.read_all.ensures.frame.first ∙ c.in_ok-reading.ensures.first
+
+pub returns-clause-wave : goal.returns-clause-wave
+returns-clause-wave g c = c.read_all.ensures.frame.wave ∙ c.in_ok-reading.ensures.wave
+
+pub returns-clause-len : goal.returns-clause-len
+returns-clause-len g c = omega (arith, c.read_all.ensures.frame.len, c.in_ok-reading.ensures.len)

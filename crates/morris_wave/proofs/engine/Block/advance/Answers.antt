@@ -27,7 +27,7 @@ invariant_of-self g c =
     let taken_from : List ℕ = c.fill-2.new.self.items in
     let none : applied ≡ replicate inside.cut.blocks false = c.fill.ensures.items (λ y e. e) ∙ ap (λ (n : ℕ). replicate n false) (inside.applied.ok.0 ∙ c.self.invariant.sources) in
     let starts : taken_from ≡ replicate inside.cut.blocks inside.cut.size =
-    c.fill-2.ensures.items (λ y e. e) ∙ ap₂ (λ (n x : ℕ). replicate n x) (inside.taken_from.ok.0 ∙ c.self.invariant.starts) c.size.ensures in
+    c.fill-2.ensures.items (λ y e. e) ∙ ap₂ (λ (n x : ℕ). replicate n x) (inside.taken_from.ok.0 ∙ c.self.invariant.starts) c.size.ensures.value in
     let left : List (List ℕ) = set kept.due (kept.entries.wave + 1) [] in
     let now : ℕ → List Bool → List ℕ → BlockState = λ w xs ys. record { level = inside.level; cut = inside.cut; number = inside.number; wave = w; applied = xs; taken_from = ys } in
     subst (λ (w : ℕ). BlockHolds net (now w applied taken_from) after.entries.first new (counts_of after.counters) after.due after.last_due (most_of after.counters)) (sym made.wave)

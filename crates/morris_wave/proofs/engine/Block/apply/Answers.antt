@@ -79,11 +79,11 @@ invariant_of-self g c =
     let takes = made.taken in
     let holds = apply_holds net law s kept.entries.first codes (counts_of kept.counters) kept.due kept.last_due c.self.invariant b hb cut c.if-batch-self-2.false c.if-batch-self-3.false open_source turn
     new (counts_of after.counters)
-    (omega (arith, made.len))
-    (omega (arith, after.counted, kept.counted, made.len)) after.small takes in
+    (omega (arith, made.frame.len))
+    (omega (arith, after.counted, kept.counted, made.frame.len)) after.small takes in
     let now : ℕ → BlockState = λ w. record { level = inside.level; cut = inside.cut; number = inside.number; wave = w; applied = set inside.applied.items batch.source (eqb batch.low 0); taken_from = set inside.taken_from.items batch.source batch.low } in
-    subst (λ (w : ℕ). BlockHolds net (now w) after.entries.first new (counts_of after.counters) after.due after.last_due (most_of after.counters)) (sym made.wave)
-    (subst (λ (f : ℕ). BlockHolds net (now kept.entries.wave) f new (counts_of after.counters) after.due after.last_due (most_of after.counters)) (sym made.first)
+    subst (λ (w : ℕ). BlockHolds net (now w) after.entries.first new (counts_of after.counters) after.due after.last_due (most_of after.counters)) (sym made.frame.wave)
+    (subst (λ (f : ℕ). BlockHolds net (now kept.entries.wave) f new (counts_of after.counters) after.due after.last_due (most_of after.counters)) (sym made.frame.first)
     (subst (λ (xs : List (List ℕ)). BlockHolds net (now kept.entries.wave) kept.entries.first new (counts_of after.counters) xs after.last_due (most_of after.counters)) (sym made.due)
     (subst (λ (d : ℕ). BlockHolds net (now kept.entries.wave) kept.entries.first new (counts_of after.counters) kept.due d (most_of after.counters)) (sym made.last_due)
     (subst (λ (m : ℕ). BlockHolds net (now kept.entries.wave) kept.entries.first new (counts_of after.counters) kept.due kept.last_due m) (sym made.most) holds))))

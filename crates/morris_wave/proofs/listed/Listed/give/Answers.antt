@@ -1,4 +1,4 @@
-use Rattle.std.proofs.Common.{◌≡◌, ℕ, ◌+◌, ◌∷◌, [], List, arith, set, sym, ap, subst, slice_index, take, ◌∙◌}
+use Rattle.std.proofs.Common.{◌≡◌, ℕ, ◌+◌, ◌∷◌, [], List, arith, set, sym, ap, subst, slice_index, take, refl, ◌∙◌}
 use Rattle.std.proofs.lemmas.List.{take-append-le}
 use Rattle.morris_wave.specs.Keeping.{Ranked}
 use Rattle.morris_wave.proofs.Ranks.{ranked_more, room_left}
@@ -20,7 +20,14 @@ invariant_of-self-clause-ranked g c =
     (subst (λ (xs : List ℕ). Ranked g.L.NodeList.keeps s.first s.wave (set codes c.args.place (s.wave + 1)) xs s.before s.here) (sym c.put_last.ensures.items)
     (ranked_more s.first s.wave s.before s.here codes (g.L.NodeList.items s.decided) s.ranked c.args.place c.requires.inside read))
 
-pub returns-then-get-eq0-clause-list : goal.returns-then-get-eq0-clause-list
-returns-then-get-eq0-clause-list g c =
+pub returns-then-get-eq0-clause-frame : goal.returns-then-get-eq0-clause-frame
+returns-then-get-eq0-clause-frame g c =
     let s = c.args.self.now in
-    ap (take s.here) c.put_last.ensures.items ∙ take-append-le s.here (g.L.NodeList.items s.decided) ((s.first + c.args.place) ∷ []) s.ranked.within
+    record {
+      len = c.put.ensures.len;
+      first = refl;
+      wave = refl;
+      before = refl;
+      here = refl;
+      list = ap (take s.here) c.put_last.ensures.items ∙ take-append-le s.here (g.L.NodeList.items s.decided) ((s.first + c.args.place) ∷ []) s.ranked.within;
+    }

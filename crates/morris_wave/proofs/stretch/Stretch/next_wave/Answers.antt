@@ -29,8 +29,8 @@ pub invariant_of-self : goal.invariant_of-self
 invariant_of-self g c =
     let s = c.args.self.now in
     let made = c.take_in.ensures in
-    let first : c.take_in.new.entries.first ≡ s.entries.first = made.first ∙ c.next_wave.ensures.first in
-    let len : length c.take_in.new.entries.entries.codes ≡ length s.entries.entries.codes = made.len ∙ ap length c.next_wave.ensures.codes in
+    let first : c.take_in.new.entries.first ≡ s.entries.first = made.frame.first ∙ c.next_wave.ensures.first in
+    let len : length c.take_in.new.entries.entries.codes ≡ length s.entries.entries.codes = made.frame.len ∙ ap length c.next_wave.ensures.codes in
     record {
       counted = omega (arith, made.counters_len, len, s.counted);
       small = made.small;
@@ -50,3 +50,12 @@ take_in-requires-clause-counters g c = omega (arith, ap length c.next_wave.ensur
 
 pub take_in-requires-clause-small : goal.take_in-requires-clause-small
 take_in-requires-clause-small g c = c.args.self.now.small
+
+pub returns-clause-len : goal.returns-clause-len
+returns-clause-len g c = c.take_in.ensures.frame.len ∙ ap length c.next_wave.ensures.codes
+
+pub returns-clause-first : goal.returns-clause-first
+returns-clause-first g c = c.take_in.ensures.frame.first ∙ c.next_wave.ensures.first
+
+pub returns-clause-wave : goal.returns-clause-wave
+returns-clause-wave g c = c.take_in.ensures.frame.wave ∙ c.next_wave.ensures.wave

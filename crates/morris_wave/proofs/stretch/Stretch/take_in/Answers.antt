@@ -8,10 +8,10 @@ invariant_of-self g c =
     let s = c.args.self.now in
     let made = c.take_in.ensures in
     record {
-      counted = omega (arith, made.counters_len, made.len, s.counted);
+      counted = omega (arith, made.counters_len, made.frame.len, s.counted);
       small = made.small;
-      inside = λ n p d l. let w = s.inside n p d l in (omega (arith, w.0, made.first), omega (arith, w.1, made.first, made.len));
-      once = λ n k l. subst (λ (f : ℕ). times (f + k) (list_at s.due n) ≤ 1) (sym made.first) (s.once n k (omega (arith, l, made.len)));
+      inside = λ n p d l. let w = s.inside n p d l in (omega (arith, w.0, made.frame.first), omega (arith, w.1, made.frame.first, made.frame.len));
+      once = λ n k l. subst (λ (f : ℕ). times (f + k) (list_at s.due n) ≤ 1) (sym made.frame.first) (s.once n k (omega (arith, l, made.frame.len)));
     }
 
 pub take_in-requires-clause-inside : goal.take_in-requires-clause-inside

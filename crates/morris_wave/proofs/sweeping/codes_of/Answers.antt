@@ -1,0 +1,67 @@
+use Rattle.std.proofs.Common.{◌≡◌, ◌<◌, ◌≤◌, ℕ, ◌+◌, false, not, leb, eqb, List, length, get_or, inl, inr, ⊎_elim, sym, ap, subst, ◌∙◌, arith}
+use Rattle.std.specs.List.{list_any}
+use Rattle.std.proofs.lemmas.Bool.{and_parts, and_cases, leb-true, leb-false, not-true, not-false}
+use Rattle.morris_wave.specs.Values.{HasCode}
+use Rattle.morris_wave.specs.Counts.{counts_of}
+use Rattle.morris_wave.proofs.Stretches.{last_deep}
+use Rattle.morris_wave.proofs.Wholes.{finished, finished_shallow}
+use Rattle.morris_wave.proofs.sweeping.codes_of.Goals as goal
+
+pub returns-in_ok-codes-clause-codes : goal.returns-in_ok-codes-clause-codes
+returns-in_ok-codes-clause-codes g c =
+    let net = g.G.Name.Levels.net (g.G.Graph.level c.args.graph.now) in
+    let law = g.G.Name.Levels.lawful (g.G.Graph.level c.args.graph.now) in
+    let whole = c.run.new.whole in
+    let codes = whole.entries.entries.codes in
+    let late = leb whole.last_due whole.entries.wave in
+    let found = list_any (λ (x : ℕ). eqb x (whole.entries.wave + 1)) codes in
+    let w = and_parts late (not found) (sym c.in_ok-run.ensures.quiet ∙ c.if-branch.true) in
+    let due : whole.last_due ≤ whole.entries.wave = leb-true whole.last_due whole.entries.wave w.0 in
+    let nothing : found ≡ false = not-true found w.1 in
+    let len : length codes ≡ net.size = c.in_ok-run.ensures.done.len in
+    subst (λ (xs : List ℕ). (i : ℕ) → i < net.size → HasCode net i (get_or xs i 0)) (sym c.in_ok-codes.ensures)
+    (finished net law whole.entries.wave codes (counts_of whole.counters) whole.due whole.last_due c.in_ok-run.ensures.done.holds len due nothing)
+
+pub returns-in_ok-codes-clause-not_too_deep : goal.returns-in_ok-codes-clause-not_too_deep
+returns-in_ok-codes-clause-not_too_deep g c =
+    let net = g.G.Name.Levels.net (g.G.Graph.level c.args.graph.now) in
+    let law = g.G.Name.Levels.lawful (g.G.Graph.level c.args.graph.now) in
+    let whole = c.run.new.whole in
+    let codes = whole.entries.entries.codes in
+    let late = leb whole.last_due whole.entries.wave in
+    let found = list_any (λ (x : ℕ). eqb x (whole.entries.wave + 1)) codes in
+    let w = and_parts late (not found) (sym c.in_ok-run.ensures.quiet ∙ c.if-branch.true) in
+    let due : whole.last_due ≤ whole.entries.wave = leb-true whole.last_due whole.entries.wave w.0 in
+    let nothing : found ≡ false = not-true found w.1 in
+    let len : length codes ≡ net.size = c.in_ok-run.ensures.done.len in
+    finished_shallow net law whole.entries.wave codes (counts_of whole.counters) whole.due whole.last_due c.in_ok-run.ensures.done.holds len due nothing whole.entries.last
+
+pub returns-else-branch-clause-too_deep : goal.returns-else-branch-clause-too_deep
+returns-else-branch-clause-too_deep g c = λ _.
+    let net = g.G.Name.Levels.net (g.G.Graph.level c.args.graph.now) in
+    let law = g.G.Name.Levels.lawful (g.G.Graph.level c.args.graph.now) in
+    let whole = c.run.new.whole in
+    let codes = whole.entries.entries.codes in
+    let late = leb whole.last_due whole.entries.wave in
+    let found = list_any (λ (x : ℕ). eqb x (whole.entries.wave + 1)) codes in
+    let wave : whole.entries.wave ≡ 65534 = c.in_ok-run.ensures.last c.if-branch.false in
+    last_deep net law whole.entries.wave 0 codes (counts_of whole.counters) whole.due whole.last_due c.in_ok-run.ensures.done.holds wave
+    (⊎_elim
+    (λ e. inl (leb-false whole.last_due whole.entries.wave e))
+    (λ e. inr (not-false found e))
+    (and_cases late (not found) (sym c.in_ok-run.ensures.quiet ∙ c.if-branch.false)))
+
+pub returns-in_ok-codes-clause-len : goal.returns-in_ok-codes-clause-len
+returns-in_ok-codes-clause-len g c = omega (arith, ap length c.in_ok-codes.ensures, c.in_ok-codes.codes.ok.0, c.in_ok-run.ensures.done.len)
+
+pub returns-in_err-run-clause-watched : goal.returns-in_err-run-clause-watched
+returns-in_err-run-clause-watched g c = c.run.ensures.watched
+
+pub returns-in_err-codes-clause-watched : goal.returns-in_err-codes-clause-watched
+returns-in_err-codes-clause-watched g c = c.run.ensures.watched
+
+pub returns-in_ok-codes-clause-watched : goal.returns-in_ok-codes-clause-watched
+returns-in_ok-codes-clause-watched g c = c.run.ensures.watched
+
+pub returns-else-branch-clause-watched : goal.returns-else-branch-clause-watched
+returns-else-branch-clause-watched g c = c.run.ensures.watched
