@@ -1,14 +1,22 @@
 -- The blocks that workers make.
-use Rattle.std.specs.Prelude.{◌≡◌, ◌⊎◌, ℕ, ◌+◌, ◌<◌, true, List, ◌++◌, length, map, slice_index_or, Result, Err, Vec, vec_len, MatchResult, IfOk, OnOk, IfErr, IsOkAnd}
+use Rattle.std.specs.Prelude.{◌≡◌, ◌⊎◌, ℕ, ◌+◌, ◌<◌, ◌≤◌, true, List, ◌++◌, length, map, slice_index_or, Result, Err, Vec, vec_len, MatchResult, IfOk, OnOk, IfErr, IsOkAnd}
 use Rattle.std.specs.List.{All}
 use Rattle.std.specs.declared.alloc.Global.{Global}
 use Rattle.morris_wave.specs.Nets.{Net}
 use Rattle.morris_wave.specs.Values.{IsTooDeep}
-use Rattle.morris_wave.specs.Blocks.{BlockState}
-use Rattle.morris_workers.specs.Tickets.{numbers_of, all_numbers, has_ended}
+use Rattle.morris_wave.specs.Blocks.{Parts, BlockState}
+use Rattle.morris_workers.specs.Tickets.{limit_of, numbers_of, all_numbers, has_ended}
+use Rattle.morris_workers.specs.declared.tickets.Tickets.{Tickets}
 use Rattle.morris_workers.specs.declared.tickets.TicketSeat.{TicketSeat}
 use Rattle.morris_workers.specs.declared.fault.SolveFault.{SolveFault}
 use Rattle.morris_workers.specs.declared.fault.SolveFault.TheVariants.{Workers, Blocks, Memory, Missing, TooDeep}
+
+-- the cut is of this graph, lists have room for each of its nodes, and the tickets are for the
+-- numbers of its blocks
+pub record IsPlan (g : Net) (most : ℕ) (cut : Parts) (t : Tickets) : Type 0 where
+  pub size : cut.size ≡ g.size
+  pub short : cut.size ≤ most
+  pub limit : limit_of t ≡ cut.blocks
 
 -- the blocks stand in the order of their numbers, and the first has the number `start`
 abbrev pub AreNumbered : ℕ → List BlockState → Type 0

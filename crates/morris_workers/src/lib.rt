@@ -9,11 +9,10 @@ mod draws;
 mod fault;
 mod gate;
 mod making;
-mod pace;
 mod solver;
-mod survey;
 mod tickets;
 mod wave;
+mod wave_barrier;
 mod yard;
 
 pub use fault::SolveFault;

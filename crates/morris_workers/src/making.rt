@@ -2,8 +2,8 @@
 ghost use Rattle.std.specs.Prelude.{◌≡◌, ◌≤◌, length};
 ghost use Rattle.std.specs.List.{All};
 ghost use Rattle.std.specs.List.Sorted.{IsPermutation, IsNonDecreasingBy};
-ghost use Rattle.morris_workers.specs.Making.{IsShare, AreDrawn, AreAllDrawn, AreBoth};
-ghost use Rattle.morris_workers.specs.Tickets.{IsSeatOf, IsNewSeatOf, limit_of};
+ghost use Rattle.morris_workers.specs.Making.{IsPlan, IsShare, AreDrawn, AreAllDrawn, AreBoth};
+ghost use Rattle.morris_workers.specs.Tickets.{IsSeatOf, IsNewSeatOf};
 
 use crate::fault::{LAST_WAVE, SolveFault};
 use crate::tickets::{TicketSeat, Tickets};
@@ -21,9 +21,7 @@ fn make_drawn<L: NodeList, G: Graph>(
     tickets: &Tickets,
     seat: &mut TicketSeat,
 ) -> Result<Vec<Block<G::Name, L>>, SolveFault>
-    requires size { cut.now.size ≡ (G.Name.net (G.level graph.now)).size }
-    requires short { cut.now.size ≤ L.limit }
-    requires limit { limit_of tickets.now ≡ cut.now.blocks }
+    requires plan { IsPlan (G.Name.net (G.level graph.now)) L.limit cut.now tickets.now }
     requires seat { IsNewSeatOf tickets.now seat.old }
     ensures seat { IsSeatOf tickets.now seat.new }
     ensures drawn { AreDrawn (G.Name.net (G.level graph.now)) seat.new result }
@@ -62,9 +60,7 @@ fn make_all<L: NodeList + Send, G: Graph + Send + Sync, R: Threads + Sync>(
     tickets: &Tickets,
     seats: &mut [TicketSeat],
 ) -> Result<Vec<Block<G::Name, L>>, SolveFault>
-    requires size { cut.now.size ≡ (G.Name.net (G.level graph.now)).size }
-    requires short { cut.now.size ≤ L.limit }
-    requires limit { limit_of tickets.now ≡ cut.now.blocks }
+    requires plan { IsPlan (G.Name.net (G.level graph.now)) L.limit cut.now tickets.now }
     requires new { All (IsNewSeatOf tickets.now) seats.old }
     ensures count { length seats.new ≡ length seats.old }
     ensures seats { All (IsSeatOf tickets.now) seats.new }
@@ -77,13 +73,11 @@ fn make_all<L: NodeList + Send, G: Graph + Send + Sync, R: Threads + Sync>(
         return make_drawn::<L, G>(alloc, graph, cut, tickets, last);
     }
     let mut aside = || -> Result<Vec<Block<G::Name, L>>, SolveFault>
-        requires { (cut.now.size ≡ (G.Name.net (G.level graph.now)).size) × (cut.now.size ≤ L.limit) × (limit_of tickets.now ≡ cut.now.blocks)
-            × IsNewSeatOf tickets.now last.now }
+        requires { IsPlan (G.Name.net (G.level graph.now)) L.limit cut.now tickets.now × IsNewSeatOf tickets.now last.now }
         ensures { IsSeatOf tickets.entry.now last.exit.now × AreDrawn (G.Name.net (G.level graph.entry.now)) last.exit.now result }
     { make_drawn::<L, G>(alloc, graph, cut, tickets, last) };
     let mut here = || -> Result<Vec<Block<G::Name, L>>, SolveFault>
-        requires { (cut.now.size ≡ (G.Name.net (G.level graph.now)).size) × (cut.now.size ≤ L.limit) × (limit_of tickets.now ≡ cut.now.blocks)
-            × All (IsNewSeatOf tickets.now) rest.now }
+        requires { IsPlan (G.Name.net (G.level graph.now)) L.limit cut.now tickets.now × All (IsNewSeatOf tickets.now) rest.now }
         ensures { (length rest.exit.now ≡ length rest.entry.now) × All (IsSeatOf tickets.entry.now) rest.exit.now
             × AreAllDrawn (G.Name.net (G.level graph.entry.now)) rest.exit.now result }
     { make_all::<L, G, R>(rt, alloc, graph, cut, tickets, rest) };

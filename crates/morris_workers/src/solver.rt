@@ -6,11 +6,11 @@ ghost use Rattle.morris_wave.specs.Blocks.{IsSettled};
 ghost use Rattle.morris_workers.specs.Ranges.{range_fault, Tells};
 ghost use Rattle.morris_workers.specs.Solving.{AreCodes, IsRefusal};
 
-use crate::fault::{LAST_WAVE, SolveFault};
+use crate::fault::SolveFault;
 use crate::gate::Gate;
 use crate::making::make_blocks;
-use crate::survey::survey;
-use crate::wave::run_from;
+use crate::wave::Site;
+use crate::wave_barrier::WaveBarrier;
 use crate::yard::Yard;
 use morris_wave::{Block, Cut, Graph, Levels, NodeList, Recent, Unwatched, Watch, gather_from};
 use std::alloc::Global;
@@ -49,51 +49,6 @@ fn cut_into(size: u64, parts: u64) -> Cut
         unreachable!()
     };
     cut
-}
-
-// Goes from wave to wave until all blocks are settled, and says at which wave they are. The watch
-// is told of each wave, in their order.
-fn run_waves<
-    L: NodeList + Send + Sync,
-    G: Graph + Send + Sync,
-    A: Gate,
-    R: Threads + Wait + Sync,
-    W: Watch,
->(
-    rt: &R,
-    alloc: Global,
-    graph: &G,
-    gate: &A,
-    yard: &Yard<G::Name, L>,
-    shares: &Cut,
-    watch: &mut W,
-) -> Result<u16, SolveFault>
-    requires small { (G.Name.net (G.level graph.now)).size ≤ L.limit }
-    requires shared { shares.now.size ≡ yard.now }
-    requires blocks { (1 ≤ yard.now) × (yard.now ≤ 1024) }
-    requires workers { (1 ≤ shares.now.blocks) × (shares.now.blocks ≤ 64) }
-    ensures told { IfErr result (Tells (G.Name.net (G.level graph.now)) yard.now) }
-    ensures watched { W.becomes watch.old watch.new }
-{
-    let mut wave = 0;
-    for _ in 0..=LAST_WAVE {
-        if survey(rt, graph, yard, wave)? {
-            return Ok(wave);
-        }
-        wave = run_from::<L, G, A, R, W>(
-            rt,
-            alloc,
-            graph,
-            gate,
-            yard,
-            shares,
-            wave.saturating_add(1),
-            watch,
-        )?;
-    }
-    // The survey of the last wave ends the waves. Of what stands behind locks no proof knows as
-    // much.
-    Err(SolveFault::Missing(0))
 }
 
 // The first block that isn't settled, or doesn't have the number of its place.
@@ -158,35 +113,18 @@ fn solve_as<
     let _numbers = (cut.blocks(), shares.blocks());
     let made = make_blocks::<L, G, R>(rt, alloc, graph, cut, shares)?;
     let yard = Yard::new(alloc, made)?;
-    let wave = run_waves::<L, G, A, R, W>(rt, alloc, graph, gate, &yard, shares, watch)?;
-    codes_of(alloc, graph.level(), wave, cut, yard.into_blocks())
-}
-
-// The same, with lists of 32 bits a node that let go of the waves past where the graph has at most
-// `short` nodes, and of 64 bits otherwise.
-fn solve_in<G: Graph + Send + Sync, A: Gate, R: Threads + Wait + Sync, W: Watch>(
-    rt: &R,
-    alloc: Global,
-    graph: &G,
-    gate: &A,
-    cut: &Cut,
-    shares: &Cut,
-    short: u64,
-    watch: &mut W,
-) -> Result<Vec<u16>, SolveFault>
-    requires size { cut.now.size ≡ (G.Name.net (G.level graph.now)).size }
-    requires short { short ≤ 2 ^ 32 }
-    requires shares { shares.now.size ≡ cut.now.blocks }
-    requires workers { shares.now.blocks ≤ 64 }
-    ensures codes { IfOk result (AreCodes (G.Name.net (G.level graph.now))) }
-    ensures told { IfErr result (Tells (G.Name.net (G.level graph.now)) cut.now.blocks) }
-    ensures watched { W.becomes watch.old watch.new }
-{
-    if cut.size() <= short {
-        solve_as::<Recent, G, A, R, W>(rt, alloc, graph, gate, cut, shares, watch)
-    } else {
-        solve_as::<Vec<u64>, G, A, R, W>(rt, alloc, graph, gate, cut, shares, watch)
-    }
+    let site = Site {
+        rt,
+        alloc,
+        graph,
+        gate,
+        yard: &yard,
+        shares,
+        barrier: WaveBarrier::new(),
+    };
+    let wave = site.run(watch);
+    drop(site);
+    codes_of(alloc, graph.level(), wave?, cut, yard.into_blocks())
 }
 
 /// The code of each node of a graph: 0 for a draw, otherwise one more than its depth.
@@ -248,7 +186,6 @@ pub fn solve<G: Graph + Send + Sync, A: Gate, R: Threads + Wait + Sync>(
 ///
 /// Those of [`solve`]. Where numbers are out of range, or the blocks aren't made, the watch is told
 /// nothing. A wave that was told may still be refused.
-#[tactic(auto, using(morris_wave::proofs::Plies::ply_rules, morris_wave::proofs::Plies::code_rules))]
 pub fn solve_with<G: Graph + Send + Sync, A: Gate, R: Threads + Wait + Sync, W: Watch>(
     rt: &R,
     alloc: Global,
@@ -273,5 +210,9 @@ pub fn solve_with<G: Graph + Send + Sync, A: Gate, R: Threads + Wait + Sync, W: 
     check_numbers(workers, blocks)?;
     let cut = cut_into(graph.size(), blocks as u64);
     let shares = cut_into(blocks as u64, workers as u64);
-    solve_in(rt, alloc, graph, gate, &cut, &shares, short, watch)
+    if cut.size() <= short {
+        solve_as::<Recent, G, A, R, W>(rt, alloc, graph, gate, &cut, &shares, watch)
+    } else {
+        solve_as::<Vec<u64>, G, A, R, W>(rt, alloc, graph, gate, &cut, &shares, watch)
+    }
 }

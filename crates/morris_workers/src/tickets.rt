@@ -61,7 +61,10 @@ impl Tickets {
         for _ in 1..seats {
             made.push(tickets.split(&mut first))?;
         }
-        made.push(TicketSeat::of(first))?;
+        made.push(TicketSeat {
+            seat: first,
+            drawn: 0,
+        })?;
         Ok((tickets, made))
     }
 
@@ -92,7 +95,10 @@ impl Tickets {
         ensures first { IsFirstSeat self.now (splits_of first.old - 1) first.new }
         ensures new { IsNewSeatOf self.now result }
     {
-        TicketSeat::of(self.table.shared.split_seat::<Deal>(first))
+        TicketSeat {
+            seat: self.table.shared.split_seat::<Deal>(first),
+            drawn: 0,
+        }
     }
 
     /// The next number, or `None` once all numbers below the limit are drawn. Condition: the seat
@@ -162,8 +168,10 @@ impl Tickets {
         ensures joined { IsJoined self.now (first ∷ others.items) result.0 }
         ensures held { result.1 ≡ min (length result.0.me.0.drawn) (2 ^ 64 - 1) }
     {
-        let mut held = first.drawn;
-        let mut all = first.into_seat();
+        let TicketSeat {
+            seat: mut all,
+            drawn: mut held,
+        } = first;
         for seat in others {
             held = held.saturating_add(seat.drawn);
             self.join(&mut all, seat);
@@ -178,7 +186,10 @@ impl Tickets {
         ensures table { all.new.table_id ≡ all.old.table_id }
         ensures view { all.new.me ≡ (joined all.old.me.0 seat.seat.me.0, all.old.me.1) }
     {
-        let other = seat.into_seat();
+        let TicketSeat {
+            seat: other,
+            drawn: _,
+        } = seat;
         self.table.shared.join_seat::<Gathering>(all, other);
     }
 
@@ -192,22 +203,5 @@ impl Tickets {
         let word = closed.word(0);
         closed.free();
         word.min(limit)
-    }
-}
-
-impl TicketSeat {
-    // A seat that has not drawn yet.
-    fn of(seat: Seat<(), View>) -> TicketSeat
-        requires { (seat.me.0.drawn ≡ []) × (seat.me.0.stands ≡ 1) × (seat.me.1 ≡ []) }
-        ensures { result.seat ≡ seat }
-    {
-        TicketSeat { seat, drawn: 0 }
-    }
-
-    fn into_seat(self) -> Seat<(), View>
-        ensures { result ≡ self.seat }
-    {
-        let TicketSeat { seat, drawn: _ } = self;
-        seat
     }
 }

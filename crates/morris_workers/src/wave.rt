@@ -2,20 +2,19 @@
 ghost use Rattle.std.specs.Prelude.{◌≡◌, ◌⊎◌, ℕ, ◌*◌, ◌<◌, ◌≤◌, false, length, IfOk, IsOk, OnOk, IfSome, IfErr, vec_len};
 ghost use Rattle.std.specs.List.{All};
 ghost use Rattle.morris_wave.specs.Blocks.{next_wave_of};
-ghost use Rattle.morris_workers.specs.Tickets.{IsSeatOf, IsNewSeatOf, HasDrawn};
+ghost use Rattle.morris_workers.specs.Ranges.{Tells};
+ghost use Rattle.morris_workers.specs.Tickets.{IsNewSeatOf, HasDrawn};
 ghost use Rattle.morris_workers.specs.Working.{IsNewWorker, HasWorked};
 
-use crate::fault::LAST_WAVE;
+use crate::fault::{LAST_WAVE, SolveFault};
 use crate::gate::{Gate, Turn};
-use crate::pace::Pace;
-use crate::survey::survey;
 use crate::tickets::{TicketSeat, Tickets};
+use crate::wave_barrier::WaveBarrier;
 use crate::yard::Yard;
 use morris_wave::{
     Batch, Block, Cut, Fresh, Graph, Levels, NodeList, Unwatched, Watch, scatter_reusing,
 };
 use std::alloc::{AllocError, Global};
-use std::ops::Range;
 use std::sync::Wait;
 use std::thread;
 use std::thread::Threads;
@@ -35,8 +34,8 @@ const FULL_PIECES: usize = 16;
 // One counter has at most so many numbers: those of the blocks for at least 976 waves.
 const MOST_NUMBERS: u64 = 1000000;
 
-// One worker: its number, a seat to draw from, the wave at which it is, and whether it was refused
-// memory.
+// One worker: its number, a seat to draw from, the last wave that it went to, and whether it was
+// refused memory.
 #[derive(Drop)]
 struct Worker {
     number: u64,
@@ -45,39 +44,26 @@ struct Worker {
     sent: Result<(), AllocError>,
 }
 
-// What the workers share. Each has a share of the blocks, which it is the first to go to.
-struct Site<'a, L: NodeList, G: Graph, A, R> {
-    rt: &'a R,
-    alloc: Global,
-    graph: &'a G,
-    gate: &'a A,
-    yard: &'a Yard<G::Name, L>,
-    shares: &'a Cut,
-    pace: &'a Pace,
-    // The waves that are to be run.
-    first: u16,
-    last: u16,
+/// What the workers of a graph share. Each has a share of the blocks, which it is the first to go
+/// to. Blocks keep and batches carry lists of the kind `L`.
+#[derive(Drop)]
+pub(crate) struct Site<'a, L: NodeList, G: Graph, A, R> {
+    pub(crate) rt: &'a R,
+    pub(crate) alloc: Global,
+    pub(crate) graph: &'a G,
+    pub(crate) gate: &'a A,
+    pub(crate) yard: &'a Yard<G::Name, L>,
+    pub(crate) shares: &'a Cut,
+    pub(crate) barrier: WaveBarrier,
+    ghost small: { (G.Name.net (G.level graph.now)).size ≤ L.limit },
     ghost shared: { shares.now.size ≡ yard.now },
-}
-
-impl<L: NodeList, G: Graph, A, R> Drop for Site<'_, L, G, A, R> {
-    fn drop(self) {
-        let Site {
-            rt: _,
-            alloc: _,
-            graph: _,
-            gate: _,
-            yard: _,
-            shares: _,
-            pace: _,
-            first: _,
-            last: _,
-        } = self;
-    }
+    ghost few_blocks: { (1 ≤ yard.now) × (yard.now ≤ 1024) },
+    ghost few_workers: { (1 ≤ shares.now.blocks) × (shares.now.blocks ≤ 64) },
 }
 
 // What a worker has scattered at a wave and not sent yet: for each piece its batches, one for each
 // block, and how many fresh nodes they come from. Lists that were sent wait for the next batches.
+#[derive(Drop)]
 struct Outbox<N: Levels, L: NodeList> {
     wave: u16,
     // From how many blocks the worker has scattered all pieces at the wave, sent or not.
@@ -85,18 +71,6 @@ struct Outbox<N: Levels, L: NodeList> {
     pieces: Vec<Vec<Batch<N, L>>>,
     fresh: usize,
     spare: Vec<L>,
-}
-
-impl<N: Levels, L: NodeList> Drop for Outbox<N, L> {
-    fn drop(self) {
-        let Outbox {
-            wave: _,
-            taken: _,
-            pieces: _,
-            fresh: _,
-            spare: _,
-        } = self;
-    }
 }
 
 impl<N: Levels, L: NodeList> Outbox<N, L> {
@@ -109,11 +83,6 @@ impl<N: Levels, L: NodeList> Outbox<N, L> {
             fresh: 0,
             spare: Vec::new(alloc),
         }
-    }
-
-    // Whether it is time to send.
-    fn is_full(&self) -> bool {
-        self.fresh >= PIECE_NODES || self.pieces.len() >= FULL_PIECES
     }
 
     // Forgets what was sent, and keeps the lists.
@@ -178,17 +147,7 @@ fn tell<W: Watch>(watch: &mut W, first: u16, last: u16)
     }
 }
 
-impl<'a, L: NodeList, G: Graph, A: Gate, R: Wait> Site<'a, L, G, A, R> {
-    // Takes the blocks of a worker's share to this wave.
-    fn advance(&self, worker: u64, wave: u16)
-        requires { worker < self.now.shares.now.blocks }
-    {
-        let share = self.shares.range(worker);
-        for number in share.start..share.end {
-            bring(&mut self.yard.lock(self.rt, number as usize), wave);
-        }
-    }
-
+impl<L: NodeList, G: Graph, A: Gate, R: Wait> Site<'_, L, G, A, R> {
     // What a block found at this wave, if it is of the graph's level.
     fn fresh(&self, source: usize, wave: u16) -> Result<Option<Fresh<G::Name>>, AllocError>
         requires { source < self.now.yard.now }
@@ -218,23 +177,16 @@ impl<'a, L: NodeList, G: Graph, A: Gate, R: Wait> Site<'a, L, G, A, R> {
         }
     }
 
-    // Applies the batches of these places to the blocks there.
-    fn apply_all(&self, outbox: &Outbox<G::Name, L>, targets: Range<usize>)
-        requires { targets.end ≤ self.now.yard.now }
-    {
-        for target in targets.start..targets.end {
-            self.apply(target, outbox);
-        }
-    }
-
     // Sends what was scattered to all blocks, one after the other. It begins at the worker's share,
     // so that workers don't queue at one block.
     fn send(&self, worker: u64, outbox: &mut Outbox<G::Name, L>) -> Result<(), AllocError>
         requires { worker < self.now.shares.now.blocks }
     {
         let first = self.shares.range(worker).start as usize;
-        self.apply_all(outbox, first..self.yard.count());
-        self.apply_all(outbox, 0..first);
+        let count = self.yard.count();
+        for step in 0..count {
+            self.apply((first + step) % count, outbox);
+        }
         outbox.empty()
     }
 
@@ -245,14 +197,13 @@ impl<'a, L: NodeList, G: Graph, A: Gate, R: Wait> Site<'a, L, G, A, R> {
         piece: &Fresh<G::Name>,
         outbox: &mut Outbox<G::Name, L>,
     ) -> Result<(), AllocError>
-        requires small { (G.Name.net (G.level self.now.graph.now)).size ≤ L.limit }
         requires worker { worker < self.now.shares.now.blocks }
         requires level { G.level self.now.graph.now ≡ piece.now.level }
     {
         let batches = scatter_reusing(self.alloc, self.graph, piece, &mut outbox.spare)?;
         outbox.fresh = outbox.fresh.saturating_add(piece.nodes().len());
         outbox.pieces.push(batches)?;
-        if outbox.is_full() {
+        if outbox.fresh >= PIECE_NODES || outbox.pieces.len() >= FULL_PIECES {
             self.send(worker, outbox)?;
         }
         Ok(())
@@ -265,7 +216,6 @@ impl<'a, L: NodeList, G: Graph, A: Gate, R: Wait> Site<'a, L, G, A, R> {
         source: usize,
         outbox: &mut Outbox<G::Name, L>,
     ) -> Result<(), AllocError>
-        requires small { (G.Name.net (G.level self.now.graph.now)).size ≤ L.limit }
         requires worker { worker < self.now.shares.now.blocks }
         requires source { source < self.now.yard.now }
     {
@@ -280,36 +230,52 @@ impl<'a, L: NodeList, G: Graph, A: Gate, R: Wait> Site<'a, L, G, A, R> {
         Ok(())
     }
 
-    // Sends what is left of the worker's wave. The last of the workers takes all of them to the
-    // next wave, unless the blocks are settled or one isn't complete.
+    // Whether all blocks are settled at this wave. It locks one block after the other. `Missing` has
+    // the least number of a block that isn't complete. Where all are, it is `TooDeep` where one isn't
+    // settled at the last wave.
+    fn survey(&self, wave: u16) -> Result<bool, SolveFault>
+        ensures { IfErr result (Tells (G.Name.net (G.level self.now.graph.now)) self.now.yard.now) }
+    {
+        // Asked here, since nobody looks at the graph who holds a lock.
+        let level = self.graph.level();
+        let mut settled = true;
+        for number in 0..self.yard.count() {
+            let block = self.yard.lock(self.rt, number);
+            if block.level() != level || block.wave() != wave || !block.is_complete() {
+                return Err(SolveFault::Missing(number as u64));
+            }
+            if !block.settled() {
+                settled = false;
+            }
+        }
+        if !settled && wave == LAST_WAVE {
+            return Err(SolveFault::TooDeep);
+        }
+        Ok(settled)
+    }
+
+    // Sends what is left of the worker's wave. The last of the workers has the next wave begin,
+    // unless the blocks are settled or one isn't complete.
     fn finish(&self, worker: u64, outbox: &mut Outbox<G::Name, L>) -> Result<(), AllocError>
         requires { worker < self.now.shares.now.blocks }
     {
-        if outbox.taken > 0 {
-            self.send(worker, outbox)?;
-            let all = self
-                .pace
-                .count(self.rt, outbox.taken, self.yard.count() as u64);
-            outbox.taken = 0;
-            if all {
-                self.go_on(outbox.wave);
+        if outbox.taken == 0 {
+            return Ok(());
+        }
+        self.send(worker, outbox)?;
+        let blocks = self.yard.count() as u64;
+        if self.barrier.count(self.rt, outbox.taken, blocks) {
+            match self.survey(outbox.wave) {
+                Ok(false) => self.barrier.begin(self.rt, outbox.wave.saturating_add(1)),
+                _ => self.barrier.end(self.rt),
             }
         }
+        outbox.taken = 0;
         Ok(())
     }
 
-    // Begins the wave after this one, or ends the work here.
-    fn go_on(&self, wave: u16) {
-        let open = matches!(survey(self.rt, self.graph, self.yard, wave), Ok(false));
-        if open && wave < self.last {
-            self.pace.begin(self.rt, wave + 1);
-        } else {
-            self.pace.end(self.rt);
-        }
-    }
-
-    // Goes to this wave once it begins, and says whether it has begun. What is left of the wave
-    // before is sent first.
+    // Goes to this wave once it begins, with the blocks of the worker's share, and says whether it
+    // has begun. What is left of the wave before is sent first.
     fn enter<W: Watch>(
         &self,
         worker: u64,
@@ -321,12 +287,15 @@ impl<'a, L: NodeList, G: Graph, A: Gate, R: Wait> Site<'a, L, G, A, R> {
         ensures told { W.becomes watch.old watch.new }
     {
         self.finish(worker, outbox)?;
-        if !self.pace.wait(self.rt, wave) {
+        if !self.barrier.wait(self.rt, wave) {
             return Ok(false);
         }
         tell(watch, outbox.wave, wave);
         outbox.wave = wave;
-        self.advance(worker, wave);
+        let share = self.shares.range(worker);
+        for number in share.start..share.end {
+            bring(&mut self.yard.lock(self.rt, number as usize), wave);
+        }
         Ok(true)
     }
 
@@ -339,7 +308,6 @@ impl<'a, L: NodeList, G: Graph, A: Gate, R: Wait> Site<'a, L, G, A, R> {
         outbox: &mut Outbox<G::Name, L>,
         watch: &mut W,
     ) -> Result<bool, AllocError>
-        requires small { (G.Name.net (G.level self.now.graph.now)).size ≤ L.limit }
         requires worker { worker < self.now.shares.now.blocks }
         requires source { source < self.now.yard.now }
         ensures told { W.becomes watch.old watch.new }
@@ -370,20 +338,18 @@ impl<'a, L: NodeList, G: Graph, A: Gate, R: Wait> Site<'a, L, G, A, R> {
         outbox: &mut Outbox<G::Name, L>,
         watch: &mut W,
     ) -> Result<(), AllocError>
-        requires small { (G.Name.net (G.level self.now.graph.now)).size ≤ L.limit }
         requires worker { worker < self.now.shares.now.blocks }
-        requires some { 0 < self.now.yard.now }
         requires seat { IsNewSeatOf tickets.now seat.old }
-        ensures seat { IsSeatOf tickets.now seat.new }
         ensures drawn { OnOk result (HasDrawn seat.new) }
         ensures told { W.becomes watch.old watch.new }
     {
         let blocks = self.yard.count() as u64;
+        let first = outbox.wave.saturating_add(1);
         while let Some(number) = tickets.draw(seat) {
-            let wave = wave_after(self.first, number / blocks);
+            let wave = wave_after(first, number / blocks);
             let source = (number % blocks) as usize;
             if !self.visit(worker, wave, source, outbox, watch)? {
-                self.pace.end(self.rt);
+                self.barrier.end(self.rt);
                 return Ok(());
             }
         }
@@ -392,10 +358,8 @@ impl<'a, L: NodeList, G: Graph, A: Gate, R: Wait> Site<'a, L, G, A, R> {
 
     // What one worker does. Where it isn't refused memory, it draws.
     fn work<W: Watch>(&self, tickets: &Tickets, worker: &mut Worker, watch: &mut W)
-        requires small { (G.Name.net (G.level self.now.graph.now)).size ≤ L.limit }
-        requires some { 0 < self.now.yard.now }
         requires new { IsNewWorker tickets.now self.now.shares.now.blocks worker.old }
-        ensures worked { HasWorked tickets.now worker.new }
+        ensures worked { HasWorked worker.new }
         ensures told { W.becomes watch.old watch.new }
     {
         let mut outbox = Outbox::new(self.alloc, worker.wave);
@@ -403,7 +367,7 @@ impl<'a, L: NodeList, G: Graph, A: Gate, R: Wait> Site<'a, L, G, A, R> {
         worker.wave = outbox.wave;
         if worker.sent.is_err() {
             // Nobody is to wait for what this worker doesn't send.
-            self.pace.end(self.rt);
+            self.barrier.end(self.rt);
         }
     }
 }
@@ -432,65 +396,11 @@ fn workers_of(
     Ok(workers)
 }
 
-// Has all workers at work, each in a thread of its own where one can be started. The last one is at
-// work in this thread, and tells the watch. This thread starts the others one after the other: two
-// that are started at once, by different threads, often share a processor for long.
-#[cycle(threads)]
-fn work_all<
-    L: NodeList + Send + Sync,
-    G: Graph + Send + Sync,
-    A: Gate,
-    R: Threads + Wait + Sync,
-    W: Watch,
->(site: &Site<'_, L, G, A, R>, tickets: &Tickets, workers: &mut [Worker], watch: &mut W)
-    requires small { (G.Name.net (G.level site.now.graph.now)).size ≤ L.limit }
-    requires some { 0 < site.now.yard.now }
-    requires new { All (IsNewWorker tickets.now site.now.shares.now.blocks) workers.old }
-    ensures count { length workers.new ≡ length workers.old }
-    ensures worked { All (HasWorked tickets.now) workers.new }
-    ensures told { W.becomes watch.old watch.new }
-{
-    let Some((first, rest)) = workers.split_first_mut() else {
-        return;
-    };
-    if rest.is_empty() {
-        site.work(tickets, first, watch);
-        return;
-    }
-    let mut aside = ||
-        requires { ((G.Name.net (G.level site.now.graph.now)).size ≤ L.limit) × (0 < site.now.yard.now)
-            × IsNewWorker tickets.now site.now.shares.now.blocks first.now }
-        ensures { HasWorked tickets.entry.now first.exit.now }
-    { site.work(tickets, first, &mut Unwatched) };
-    let mut here = ||
-        requires { ((G.Name.net (G.level site.now.graph.now)).size ≤ L.limit) × (0 < site.now.yard.now)
-            × All (IsNewWorker tickets.now site.now.shares.now.blocks) rest.now }
-        ensures { (length rest.exit.now ≡ length rest.entry.now) × All (HasWorked tickets.entry.now) rest.exit.now
-            × W.becomes watch.entry.now watch.exit.now }
-    { work_all(site, tickets, rest, watch) };
-    thread::join_mut(site.rt, &mut aside, &mut here);
-}
-
-// What is left to do once all workers are back: the tickets are closed, and if memory was refused
-// anywhere that is the answer. Otherwise each of them has drawn.
-fn hand_back(alloc: Global, tickets: Tickets, workers: Vec<Worker>) -> Result<(), AllocError>
-    requires some { 1 ≤ vec_len workers }
-    requires worked { All (HasWorked tickets) workers.items }
-    ensures all { OnOk result (All (λ worker. IsOk worker.sent) workers.items) }
-    ensures drawn { OnOk result (All (λ worker. HasDrawn worker.seat) workers.items) }
-{
-    let outcome = outcome_of(&workers);
-    let mut seats = Vec::with_capacity(alloc, workers.len())?;
-    for worker in workers {
-        seats.push(worker.seat)?;
-    }
-    let _ = tickets.close(seats);
-    outcome
-}
-
-// Whether memory was refused to any of the workers.
+// Whether memory was refused to any of the workers. Otherwise each of them has drawn.
 fn outcome_of(workers: &[Worker]) -> Result<(), AllocError>
-    ensures { OnOk result (All (λ worker. IsOk worker.sent) workers.now) }
+    requires worked { All HasWorked workers.now }
+    ensures all { OnOk result (All (λ worker. IsOk worker.sent) workers.now) }
+    ensures drawn { OnOk result (All (λ worker. HasDrawn worker.seat) workers.now) }
 {
     for worker in workers {
         if worker.sent.is_err() {
@@ -500,63 +410,92 @@ fn outcome_of(workers: &[Worker]) -> Result<(), AllocError>
     Ok(())
 }
 
-/// Takes all blocks from wave to wave, from a complete wave to this one first, and answers at which
-/// they are once the blocks are settled, one of them isn't complete, or the numbers of one counter
-/// are drawn.
-///
-/// Each worker draws the numbers of the blocks over and over, for one wave after the other, and
-/// asks the gate after each draw. At each wave it first takes the blocks of its share there. On
-/// `Go` it sends what the block found to every block, piece by piece, the last one maybe together
-/// with what it draws next; on `Leave` it ends, and nothing is sent from that block. A worker for
-/// which no thread can be started is run by another one. Blocks keep and batches carry lists of the
-/// kind `L`. The watch is told of each wave once it has begun, or later where this thread comes late.
-///
-/// # Errors
-///
-/// `AllocError` where memory is refused anywhere.
-pub(crate) fn run_from<
-    L: NodeList + Send + Sync,
-    G: Graph + Send + Sync,
-    A: Gate,
-    R: Threads + Wait + Sync,
-    W: Watch,
->(
-    rt: &R,
-    alloc: Global,
-    graph: &G,
-    gate: &A,
-    yard: &Yard<G::Name, L>,
-    shares: &Cut,
-    first: u16,
-    watch: &mut W,
-) -> Result<u16, AllocError>
-    requires small { (G.Name.net (G.level graph.now)).size ≤ L.limit }
-    requires shared { shares.now.size ≡ yard.now }
-    requires few { (1 ≤ yard.now) × (yard.now ≤ 1024) }
-    requires workers { (1 ≤ shares.now.blocks) × (shares.now.blocks ≤ 64) }
-    ensures told { W.becomes watch.old watch.new }
-{
-    let blocks = yard.count() as u64;
-    let left = u64::from(LAST_WAVE.saturating_sub(first)) + 1;
-    let waves = (MOST_NUMBERS / blocks).min(left);
-    let (tickets, seats) = Tickets::new(alloc, blocks * waves, shares.blocks() as usize)?;
-    let mut workers = workers_of(alloc, &tickets, seats, first.saturating_sub(1))?;
-    let pace = Pace::new(first);
-    let site = &Site {
-        rt,
-        alloc,
-        graph,
-        gate,
-        yard,
-        shares,
-        pace: &pace,
-        first,
-        last: wave_after(first, waves.saturating_sub(1)),
-    };
-    work_all(site, &tickets, workers.as_mut_slice(), watch);
-    let told = workers.last().map_or(first, |worker| worker.wave);
-    let wave = pace.wave(rt);
-    tell(watch, told, wave);
-    hand_back(alloc, tickets, workers)?;
-    Ok(wave)
+impl<L: NodeList + Send + Sync, G: Graph + Send + Sync, A: Gate, R: Threads + Wait + Sync> Site<
+    '_,
+    L,
+    G,
+    A,
+    R,
+> {
+    // Has all workers at work, each in a thread of its own where one can be started. The last one
+    // is at work in this thread, and tells the watch. This thread starts the others one after the
+    // other: two that are started at once, by different threads, often share a processor for long.
+    #[cycle(threads)]
+    fn work_all<W: Watch>(&self, tickets: &Tickets, workers: &mut [Worker], watch: &mut W)
+        requires new { All (IsNewWorker tickets.now self.now.shares.now.blocks) workers.old }
+        ensures count { length workers.new ≡ length workers.old }
+        ensures worked { All HasWorked workers.new }
+        ensures told { W.becomes watch.old watch.new }
+    {
+        let Some((first, rest)) = workers.split_first_mut() else {
+            return;
+        };
+        if rest.is_empty() {
+            self.work(tickets, first, watch);
+            return;
+        }
+        let mut aside = ||
+            requires { IsNewWorker tickets.now self.now.shares.now.blocks first.now }
+            ensures { HasWorked first.exit.now }
+        { self.work(tickets, first, &mut Unwatched) };
+        let mut here = ||
+            requires { All (IsNewWorker tickets.now self.now.shares.now.blocks) rest.now }
+            ensures { (length rest.exit.now ≡ length rest.entry.now) × All HasWorked rest.exit.now × W.becomes watch.entry.now watch.exit.now }
+        { self.work_all(tickets, rest, watch) };
+        thread::join_mut(self.rt, &mut aside, &mut here);
+    }
+
+    // Takes all blocks on from this wave, at which they are complete, and answers at which they are
+    // once the blocks are settled, one of them isn't complete, or the numbers of one counter are
+    // drawn.
+    //
+    // Each worker draws the numbers of the blocks over and over, for one wave after the other, and
+    // asks the gate after each draw. At each wave it first takes the blocks of its share there. On
+    // `Go` it sends what the block found to every block, piece by piece, the last one maybe
+    // together with what it draws next; on `Leave` it ends, and nothing is sent from that block. A
+    // worker for which no thread can be started is run by another one. The watch is told of each
+    // wave once it has begun, or later where this thread comes late.
+    fn run_from<W: Watch>(&self, wave: u16, watch: &mut W) -> Result<u16, AllocError>
+        ensures { W.becomes watch.old watch.new }
+    {
+        let blocks = self.yard.count() as u64;
+        let left = u64::from(LAST_WAVE.saturating_sub(wave));
+        let waves = (MOST_NUMBERS / blocks).min(left);
+        let (tickets, seats) = Tickets::new(
+            self.alloc,
+            blocks * waves,
+            self.shares.blocks() as usize,
+        )?;
+        let mut workers = workers_of(self.alloc, &tickets, seats, wave)?;
+        self.barrier.begin(self.rt, wave.saturating_add(1));
+        self.work_all(&tickets, workers.as_mut_slice(), watch);
+        let told = workers.last().map_or(wave, |worker| worker.wave);
+        // Where there are no more numbers, nobody goes to the wave that has begun last.
+        let last = self.barrier.wave(self.rt).min(wave_after(wave, waves));
+        tell(watch, told, last);
+        outcome_of(&workers).map(|()| last)
+    }
+
+    /// Goes from wave to wave until all blocks are settled, and says at which wave they are. The
+    /// watch is told of each wave, in their order.
+    ///
+    /// # Errors
+    ///
+    /// `Memory` where memory is refused. `Missing` with the least number of a block that isn't
+    /// complete, otherwise `TooDeep` where one isn't settled at the last wave.
+    pub(crate) fn run<W: Watch>(&self, watch: &mut W) -> Result<u16, SolveFault>
+        ensures told { IfErr result (Tells (G.Name.net (G.level self.now.graph.now)) self.now.yard.now) }
+        ensures watched { W.becomes watch.old watch.new }
+    {
+        let mut wave = 0;
+        for _ in 0..=LAST_WAVE {
+            if self.survey(wave)? {
+                return Ok(wave);
+            }
+            wave = self.run_from(wave, watch)?;
+        }
+        // The survey of the last wave ends the waves. Of what stands behind locks no proof knows as
+        // much.
+        Err(SolveFault::Missing(0))
+    }
 }

@@ -11,6 +11,6 @@ returns-then-last_due-from-clause-drawn g c =
     let block : BlockState = c.in_ok-block.block in
     let last : IsLastDue net block c.last_due.result =
     subst (λ l. IsLastDue (g.G.Name.Levels.net l) block c.last_due.result) (ap (λ (s : BlockState). s.level) c.in_ok-block.ensures) c.last_due.ensures in
-    let deep = late_block net (g.G.Name.Levels.lawful level) level c.args.cut.now c.in-Some.number block c.last_due.result c.in_ok-block.ensures c.requires.size
-    (omega (arith, c.in-Some.ensures.below, c.requires.limit)) last (omega (arith, c.from.ensures)) in
+    let deep = late_block net (g.G.Name.Levels.lawful level) level c.args.cut.now c.in-Some.number block c.last_due.result c.in_ok-block.ensures c.requires.plan.size
+    (omega (arith, c.in-Some.ensures.below, c.requires.plan.limit)) last (omega (arith, c.from.ensures)) in
     record { numbers = tt; ended = tt; fault = deep }

@@ -1,5 +1,5 @@
 -- A seat that is put behind the others is a new seat of the same tickets.
-use Rattle.std.proofs.Common.{rules}
+use Rattle.std.proofs.Common.{refl, rules}
 use Rattle.morris_workers.proofs.SeatLists.{one_more_seat, first_is_new}
 use Rattle.morris_workers.proofs.tickets.Tickets.new.Goals as goal
 
@@ -12,5 +12,5 @@ loop-preserved c = record {
 }
 
 pub returns-clause-new : goal.returns-clause-new
-returns-clause-new c = one_more_seat c.in_ok-tickets.tickets _ _ c.of.result c.in_ok-push-2.ensures.items c.loop.invariant.new
-    (first_is_new c.in_ok-tickets.tickets _ c.loop.first c.of.result c.loop.invariant.first c.of.ensures)
+returns-clause-new c = one_more_seat c.in_ok-tickets.tickets _ _ _ c.in_ok-push-2.ensures.items c.loop.invariant.new
+    (first_is_new c.in_ok-tickets.tickets _ c.loop.first _ c.loop.invariant.first refl)

@@ -1,10 +1,10 @@
-//! How far the workers are.
+//! Keeps workers from a wave until it begins.
 use std::sync::{Condvar, Mutex, Wait};
 
 // How far they are.
 #[derive(Drop)]
 struct Stage {
-    // The wave at which they are.
+    // The last wave that has begun.
     wave: u16,
     // From how many blocks they have sent at this wave.
     sent: u64,
@@ -14,21 +14,20 @@ struct Stage {
 
 /// Holds workers back until the wave begins to which they want to go.
 #[derive(Drop)]
-pub(crate) struct Pace {
+pub(crate) struct WaveBarrier {
     stage: Mutex<Stage>,
     moved: Condvar,
 }
 
-impl Pace {
-    /// This wave has begun.
-    pub(crate) fn new(wave: u16) -> Pace {
-        let stage = Stage {
-            wave,
-            sent: 0,
-            ended: false,
-        };
-        Pace {
-            stage: Mutex::new(stage),
+impl WaveBarrier {
+    /// No wave has begun yet.
+    pub(crate) fn new() -> WaveBarrier {
+        WaveBarrier {
+            stage: Mutex::new(Stage {
+                wave: 0,
+                sent: 0,
+                ended: false,
+            }),
             moved: Condvar::new(),
         }
     }
@@ -52,15 +51,17 @@ impl Pace {
     /// This wave begins.
     pub(crate) fn begin<R: Wait>(&self, rt: &R, wave: u16) {
         let mut stage = self.stage.lock(rt);
-        stage.wave = wave;
-        stage.sent = 0;
+        *stage = Stage {
+            wave,
+            sent: 0,
+            ended: false,
+        };
         self.moved.notify_all();
     }
 
     /// No wave begins any more.
     pub(crate) fn end<R: Wait>(&self, rt: &R) {
-        let mut stage = self.stage.lock(rt);
-        stage.ended = true;
+        self.stage.lock(rt).ended = true;
         self.moved.notify_all();
     }
 
