@@ -1,7 +1,29 @@
 -- Why a call on a folder failed, in words.
 use Rattle.std.specs.Prelude.{ℕ, List, Option, Some, None, codes}
+use Rattle.std.specs.declared.io.ErrorKind.{ErrorKind}
+use Rattle.std.specs.declared.io.ErrorKind.TheVariants as kind
 use Rattle.morris_folders.specs.declared.reason.Reason.{Reason}
 use Rattle.morris_folders.specs.declared.reason.Reason.TheVariants as reason
+
+-- the reason of a fault of the system of this kind
+abbrev pub reason_of : ErrorKind → Reason
+reason_of kind.NotFound = reason.NotFound
+reason_of kind.PermissionDenied = reason.NotPermitted
+reason_of kind.AlreadyExists = reason.Exists
+reason_of kind.NotADirectory = reason.NotAFolder
+reason_of kind.IsADirectory = reason.IsAFolder
+reason_of kind.DirectoryNotEmpty = reason.NotEmpty
+reason_of kind.ReadOnlyFilesystem = reason.ReadOnly
+reason_of kind.FilesystemLoop = reason.Loop
+reason_of kind.StorageFull = reason.Full
+reason_of kind.QuotaExceeded = reason.Quota
+reason_of kind.FileTooLarge = reason.TooLarge
+reason_of kind.InvalidFilename = reason.BadName
+reason_of kind.ResourceBusy = reason.Busy
+reason_of kind.ExecutableFileBusy = reason.Busy
+reason_of kind.Unsupported = reason.Unsupported
+reason_of kind.OutOfMemory = reason.Memory
+reason_of _ = reason.Other
 
 -- the words, which are the system's own where it has some
 abbrev pub reason_text : Reason → List ℕ

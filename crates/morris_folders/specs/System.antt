@@ -7,6 +7,3 @@ pub record State : Type 0 where
   pub failures : ℕ
   pub locked : Bool
   pub why : Option Reason
-
-abbrev pub state : ℕ → Bool → Option Reason → State
-state failures locked why = record { failures = failures; locked = locked; why = why }

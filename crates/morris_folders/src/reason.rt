@@ -1,6 +1,7 @@
 //! Why a call on a folder of the system failed.
-ghost use Rattle.std.specs.Prelude.{◌≡◌, ◌≤◌, length};
-ghost use Rattle.morris_folders.specs.Reasons.{reason_text};
+ghost use Rattle.std.specs.Prelude.{◌≡◌, ◌≢◌, ◌≤◌, pos, length, Some};
+ghost use Rattle.std.specs.IoError.{error_kind, raw_os_error};
+ghost use Rattle.morris_folders.specs.Reasons.{reason_of, reason_text};
 
 use std::alloc::AllocError;
 use std::io;
@@ -52,16 +53,14 @@ pub enum Reason {
 
 impl Reason {
     /// The reason of a fault of the system.
-    pub fn of(fault: &io::Error) -> Reason {
-        match fault.raw_os_error() {
-            Some(INPUT_OUTPUT) => Reason::Device,
-            _ => Reason::of_kind(fault.kind()),
+    pub fn of(fault: &io::Error) -> Reason
+        ensures device { raw_os_error fault.now ≡ Some (pos 5) → result ≡ Reason.Device }
+        ensures kind { raw_os_error fault.now ≢ Some (pos 5) → result ≡ reason_of (error_kind fault.now) }
+    {
+        if fault.raw_os_error() == Some(INPUT_OUTPUT) {
+            return Reason::Device;
         }
-    }
-
-    /// The reason of a fault of this kind.
-    pub fn of_kind(kind: ErrorKind) -> Reason {
-        match kind {
+        match fault.kind() {
             ErrorKind::NotFound => Reason::NotFound,
             ErrorKind::PermissionDenied => Reason::NotPermitted,
             ErrorKind::AlreadyExists => Reason::Exists,

@@ -7,6 +7,8 @@ use morris_folders::system::SystemFolder;
 use morris_folders::whole::{NotWhole, Step, write_whole};
 use std::fs;
 use std::fs::File;
+use std::io;
+use std::io::ErrorKind;
 use std::os::unix::fs::symlink;
 use std::process::Abort;
 use std::rt::Files;
@@ -188,6 +190,7 @@ fn what_has_no_bytes_of_its_own_is_not_opened(rt: HostRuntime) {
 
 #[test]
 fn a_full_device_is_told(rt: HostRuntime) {
-    assert!(rt; Reason::of_kind(std::io::ErrorKind::StorageFull) == Reason::Full);
+    let full = io::Error::from(ErrorKind::StorageFull);
+    assert!(rt; Reason::of(&full) == Reason::Full);
     assert!(rt; Reason::Full.text() == "No space left on device");
 }

@@ -1,4 +1,4 @@
-//! The calls of the system that take more than one.
+//! The calls of the system that a folder makes, each with the path of the folder.
 use crate::reason::Reason;
 use std::fs;
 use std::fs::{File, Metadata, OpenOptions, TryLockError};
@@ -6,32 +6,52 @@ use std::io::ErrorKind;
 use std::path::{AsPath, Path};
 use std::rt::Files;
 
-/// Makes a folder, unless its path stands for something already or is empty. Its name is then to
-/// last.
-pub(crate) fn make_folder<R: Files<File = File>>(rt: &R, path: &str) -> Result<(), Reason> {
-    if path.is_empty() {
-        return Ok(());
+/// The path of the file of this name in a folder.
+fn path_of<R: AllocGlobal>(rt: &R, folder: &str, name: &str) -> Result<String, Reason> {
+    if folder.is_empty() {
+        return Err(Reason::Nameless);
     }
-    match fs::create_dir(rt, path) {
-        Ok(()) => sync_parent(rt, path),
-        Err(fault) if fault.kind() == ErrorKind::AlreadyExists => Ok(()),
-        Err(fault) => Err(Reason::of(&fault)),
-    }
+    let mut path = String::new(rt.alloc());
+    path.push_str(folder)?;
+    path.push('/')?;
+    path.push_str(name)?;
+    Ok(path)
 }
 
-/// The names of the folder in which a path's last name stands are to last.
-fn sync_parent<R: Files<File = File>>(rt: &R, path: &str) -> Result<(), Reason> {
-    match Path::new(path).parent() {
+/// Makes a folder, unless its path stands for something already or is empty. Its name is then to
+/// last: the names of the folder in which it stands are.
+pub(crate) fn make_folder<R: Files<File = File>>(rt: &R, folder: &str) -> Result<(), Reason> {
+    if folder.is_empty() {
+        return Ok(());
+    }
+    match fs::create_dir(rt, folder) {
+        Ok(()) => {}
+        Err(fault) if fault.kind() == ErrorKind::AlreadyExists => return Ok(()),
+        Err(fault) => return Err(Reason::of(&fault)),
+    }
+    match Path::new(folder).parent() {
         Some(parent) if parent.path_text().is_empty() => sync_folder(rt, "."),
         Some(parent) => sync_folder(rt, parent.path_text()),
         None => Ok(()),
     }
 }
 
-/// The names of a folder that is there are to last, where the file system can see to that.
-pub(crate) fn sync_folder<R: Files<File = File>>(rt: &R, path: &str) -> Result<(), Reason> {
-    let folder = fs::open(rt, path)?;
-    match folder.sync_all() {
+/// Whether a folder is there.
+pub(crate) fn find_folder<R: Files<File = File>>(rt: &R, folder: &str) -> Result<(), Reason> {
+    if folder.is_empty() {
+        return Err(Reason::Nameless);
+    }
+    if fs::metadata(rt, folder)?.is_dir() {
+        Ok(())
+    } else {
+        Err(Reason::NotAFolder)
+    }
+}
+
+/// The names of a folder are to last, where the file system can see to that.
+pub(crate) fn sync_folder<R: Files<File = File>>(rt: &R, folder: &str) -> Result<(), Reason> {
+    find_folder(rt, folder)?;
+    match fs::open(rt, folder)?.sync_all() {
         Ok(()) => Ok(()),
         Err(fault) => match fault.kind() {
             ErrorKind::InvalidInput | ErrorKind::Unsupported => Ok(()),
@@ -40,23 +60,22 @@ pub(crate) fn sync_folder<R: Files<File = File>>(rt: &R, path: &str) -> Result<(
     }
 }
 
-/// The bytes of a file are to last.
-pub(crate) fn sync_file(file: &File) -> Result<(), Reason> {
-    file.sync_all()?;
-    Ok(())
-}
-
-/// Opens a file with bytes of its own; `None` where nothing stands under the path.
+/// Opens a file with bytes of its own; `None` where nothing stands under the name.
 ///
 /// What stands there is looked at before it is opened, since to open a pipe is to wait for its
 /// other end, and afterwards, since it may have become another.
-pub(crate) fn open_file<R: Files<File = File>>(rt: &R, path: &str) -> Result<Option<File>, Reason> {
-    match fs::metadata(rt, path) {
+pub(crate) fn open_file<R: Files<File = File> + AllocGlobal>(
+    rt: &R,
+    folder: &str,
+    name: &str,
+) -> Result<Option<File>, Reason> {
+    let path = path_of(rt, folder, name)?;
+    match fs::metadata(rt, path.as_str()) {
         Ok(found) => is_regular(&found)?,
         Err(fault) if fault.kind() == ErrorKind::NotFound => return Ok(None),
         Err(fault) => return Err(Reason::of(&fault)),
     }
-    match fs::open(rt, path) {
+    match fs::open(rt, path.as_str()) {
         Ok(file) => {
             is_regular(&file.metadata()?)?;
             Ok(Some(file))
@@ -68,13 +87,18 @@ pub(crate) fn open_file<R: Files<File = File>>(rt: &R, path: &str) -> Result<Opt
 
 /// Opens a file, which is made where there is none, and locks it; `None` where it is locked
 /// already. No byte of the file is changed, and no link is followed.
-pub(crate) fn lock_file<R: Files<File = File>>(rt: &R, path: &str) -> Result<Option<File>, Reason> {
-    match fs::symlink_metadata(rt, path) {
+pub(crate) fn lock_file<R: Files<File = File> + AllocGlobal>(
+    rt: &R,
+    folder: &str,
+    name: &str,
+) -> Result<Option<File>, Reason> {
+    let path = path_of(rt, folder, name)?;
+    match fs::symlink_metadata(rt, path.as_str()) {
         Ok(found) => is_regular(&found)?,
         Err(fault) if fault.kind() == ErrorKind::NotFound => {}
         Err(fault) => return Err(Reason::of(&fault)),
     }
-    let file = open_lock(rt, path)?;
+    let file = open_lock(rt, path.as_str())?;
     is_regular(&file.metadata()?)?;
     match file.try_lock() {
         Ok(()) => Ok(Some(file)),
@@ -109,5 +133,41 @@ fn is_regular(found: &Metadata) -> Result<(), Reason> {
         Err(Reason::IsAFolder)
     } else {
         Err(Reason::Irregular)
+    }
+}
+
+/// Makes a file, to be written, where nothing stands under the name.
+pub(crate) fn create_file<R: Files<File = File> + AllocGlobal>(
+    rt: &R,
+    folder: &str,
+    name: &str,
+) -> Result<File, Reason> {
+    let path = path_of(rt, folder, name)?;
+    Ok(File::create_new(rt, path.as_str())?)
+}
+
+/// Gives the file of one name the other.
+pub(crate) fn move_file<R: Files<File = File> + AllocGlobal>(
+    rt: &R,
+    folder: &str,
+    from: &str,
+    to: &str,
+) -> Result<(), Reason> {
+    let from = path_of(rt, folder, from)?;
+    let to = path_of(rt, folder, to)?;
+    Ok(fs::rename(rt, from.as_str(), to.as_str())?)
+}
+
+/// Removes what stands under a name, if something does.
+pub(crate) fn remove_file<R: Files<File = File> + AllocGlobal>(
+    rt: &R,
+    folder: &str,
+    name: &str,
+) -> Result<(), Reason> {
+    let path = path_of(rt, folder, name)?;
+    match fs::remove_file(rt, path.as_str()) {
+        Ok(()) => Ok(()),
+        Err(fault) if fault.kind() == ErrorKind::NotFound => Ok(()),
+        Err(fault) => Err(Reason::of(&fault)),
     }
 }
