@@ -89,8 +89,6 @@ fn push_line<B: Geometry>(
 {
     let digest = hex::encode(alloc, &file.digest)?;
     let name = file_name(alloc, board, file.pair)?;
-    text.push_str(digest.as_str())?;
-    text.push_str("  ")?;
-    text.push_str(name.as_str())?;
-    text.push_str("\n")
+    let line = [digest.as_str(), "  ", name.as_str(), "\n"].concat(alloc)?;
+    text.push_str(line.as_str())
 }

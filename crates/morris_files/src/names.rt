@@ -31,14 +31,10 @@ pub(crate) fn pair_name(
 ) -> Result<String, AllocError>
     ensures { IfOk result (λ name. string_bytes name ≡ name_of board.now (counts greater lesser)) }
 {
-    let mut digits = Buffer::new();
-    let mut name = String::with_capacity(alloc, 0)?;
-    name.push_str(board)?;
-    name.push_str("-")?;
-    name.push_str(digits.format(greater))?;
-    name.push_str("-")?;
-    name.push_str(digits.format(lesser))?;
-    name.push_str(".nmmt")?;
+    let (mut first, mut second) = (Buffer::new(), Buffer::new());
+    let greater = first.format(greater);
+    let lesser = second.format(lesser);
+    let name = [board, "-", greater, "-", lesser, ".nmmt"].concat(alloc)?;
     Ok(name)
 }
 
@@ -50,8 +46,6 @@ pub(crate) fn pair_name(
 pub fn digests_name(alloc: Global, board: &str) -> Result<String, AllocError>
     ensures { IfOk result (λ name. string_bytes name ≡ digests_name_of board.now) }
 {
-    let mut name = String::with_capacity(alloc, 0)?;
-    name.push_str(board)?;
-    name.push_str(".sha256")?;
+    let name = [board, ".sha256"].concat(alloc)?;
     Ok(name)
 }

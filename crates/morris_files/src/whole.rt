@@ -137,9 +137,7 @@ fn write_by_part<F: Folder, C: Contents>(
 fn part_name(alloc: Global, name: &str) -> Result<String, AllocError>
     ensures { IfOk result (λ part. string_bytes part ≡ part_of name.now) }
 {
-    let mut part = String::with_capacity(alloc, 0)?;
-    part.push_str(name)?;
-    part.push_str(".part")?;
+    let part = [name, ".part"].concat(alloc)?;
     Ok(part)
 }
 

@@ -11,11 +11,7 @@ fn path_of<R: AllocGlobal>(rt: &R, folder: &str, name: &str) -> Result<String, R
     if folder.is_empty() {
         return Err(Reason::Nameless);
     }
-    let mut path = String::new(rt.alloc());
-    path.push_str(folder)?;
-    path.push('/')?;
-    path.push_str(name)?;
-    Ok(path)
+    Ok([folder, "/", name].concat(rt.alloc())?)
 }
 
 /// Makes a folder, unless its path stands for something already or is empty. Its name is then to
