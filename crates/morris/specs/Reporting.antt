@@ -3,8 +3,8 @@
 use Rattle.std.specs.Prelude.{◌≡◌, ℕ, Bool, true, false, List, [], ◌∷◌, ◌++◌, codes, take, Option, Some, None, Result, Ok, Err, if◌then◌else◌}
 use Rattle.std.specs.List.{flat_map}
 use Rattle.morris_queries.specs.Printing.{shown_byte}
-use Rattle.morris_folders.specs.Reasons.{reason_text}
-use Rattle.morris_folders.specs.declared.reason.Reason.{Reason}
+use Rattle.morris_files.specs.Reasons.{reason_text}
+use Rattle.morris_files.specs.declared.reason.Reason.{Reason}
 use Rattle.morris_jobs.specs.Faults.{ReportsText, fault_line, fault_words}
 use Rattle.morris_jobs.specs.declared.fault.Fault.{Fault}
 use Rattle.morris_jobs.specs.declared.fault.Fault.TheVariants as fault

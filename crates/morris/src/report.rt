@@ -7,7 +7,7 @@ ghost use Rattle.morris.specs.Reporting.{is_of_folder, line_at, path_text, why_t
 
 use morris_board::streams::buffered::Buffered;
 use morris_board::streams::{Failed, Sink};
-use morris_folders::reason::Reason;
+use morris_files::reason::Reason;
 use morris_jobs::fault::Fault;
 use morris_jobs::print::{Printed, send};
 use morris_jobs::print_fault::put_fault;

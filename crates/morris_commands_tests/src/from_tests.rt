@@ -2,9 +2,9 @@
 use crate::into_tests::build;
 use morris_board::board::Geometry;
 use morris_board::streams::IntoWrite;
+use morris_files::folder::Folder;
+use morris_files::memory::MemoryFolder;
 use morris_folder_commands::from::verify_from;
-use morris_folders::folder::Folder;
-use morris_folders::memory::MemoryFolder;
 use morris_index::pair::Pair;
 use morris_jobs::fault::Fault;
 use morris_jobs::flaw::Flaw;

@@ -1,9 +1,9 @@
 // Tables that are built into a folder in memory, while its calls fail one after the other.
 use morris_board::streams::IntoWrite;
 use morris_commands::build::build_out;
+use morris_files::folder::Folder;
+use morris_files::memory::MemoryFolder;
 use morris_folder_commands::into::build_into;
-use morris_folders::folder::Folder;
-use morris_folders::memory::MemoryFolder;
 use morris_jobs::fault::Fault;
 use morris_workers::Unwatched;
 use std::process::Abort;

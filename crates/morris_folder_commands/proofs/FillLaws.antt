@@ -8,15 +8,15 @@ use Rattle.morris_index.specs.Pairs.{Counts}
 use Rattle.morris_pairs.specs.declared.layout.Layout.{Layout}
 use Rattle.morris_pairs.specs.Known.{IsBeyondCodes}
 use Rattle.morris_pairs.specs.Tables.{Table}
-use Rattle.morris_folders.specs.Files.{Files}
-use Rattle.morris_folders.specs.Files as folder
+use Rattle.morris_files.specs.Files.{Files}
+use Rattle.morris_files.specs.Files as folder
 use Rattle.std.specs.Io.KnownBytes.{Appends}
 use Rattle.std.proofs.lemmas.Grind.{flat_map-append}
 use Rattle.std.proofs.lemmas.List.{append-nil}
 use Rattle.std.proofs.Math.Path.{ap₂}
 use Rattle.morris_board.specs.Streams.{PartSent}
-use Rattle.morris_keeping.specs.Digests.{digest_line, digest_lines}
-use Rattle.morris_keeping.specs.declared.table_file.Written.{Written}
+use Rattle.morris_files.specs.Digests.{digest_line, digest_lines}
+use Rattle.morris_files.specs.declared.table_file.Written.{Written}
 use Rattle.morris_jobs.specs.declared.fault.Fault.{Fault}
 use Rattle.morris_jobs.specs.declared.fault.Fault.TheVariants as fault
 use Rattle.morris_jobs.specs.Orders.{IsUnbuiltAt}

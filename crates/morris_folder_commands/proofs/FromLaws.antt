@@ -15,12 +15,12 @@ use Rattle.morris_index.specs.declared.faults.PairFault.TheVariants as pairs
 use Rattle.morris_index.specs.Pairs.{Counts, all_pairs, pair_made}
 use Rattle.morris_pairs.specs.Shelves.{Stored}
 use Rattle.morris_pairs.specs.Tables.{Table}
-use Rattle.morris_folders.specs.Files.{Files, HasNone}
-use Rattle.morris_folders.specs.Files as folder
-use Rattle.morris_keeping.specs.Kept.{AnswersKept, HasFile}
-use Rattle.morris_keeping.specs.Names.{name_of}
-use Rattle.morris_keeping.specs.declared.kept.KeptFault.{KeptFault}
-use Rattle.morris_keeping.specs.declared.kept.KeptFault.TheVariants as kept
+use Rattle.morris_files.specs.Files.{Files, HasNone}
+use Rattle.morris_files.specs.Files as folder
+use Rattle.morris_files.specs.Kept.{AnswersKept, HasFile}
+use Rattle.morris_files.specs.Names.{name_of}
+use Rattle.morris_files.specs.declared.kept.KeptFault.{KeptFault}
+use Rattle.morris_files.specs.declared.kept.KeptFault.TheVariants as kept
 use Rattle.morris_jobs.specs.declared.fault.Fault.{Fault}
 use Rattle.morris_jobs.specs.declared.fault.Fault.TheVariants as fault
 use Rattle.morris_folder_commands.specs.From.{AtEnd, KeepsNear, Verifies, fits, kept_fault, pairs_of, verified_line}

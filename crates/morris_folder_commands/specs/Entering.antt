@@ -2,11 +2,11 @@
 -- list of digests the lines of those files alone that it doesn't replace.
 use Rattle.std.specs.Prelude.{◌≡◌, ◌≢◌, ℕ, ◌+◌, Bool, false, List, [], ◌∷◌, codes, Option, Some, None, Result, Ok, Err}
 use Rattle.morris_index.specs.Pairs.{Counts}
-use Rattle.morris_folders.specs.Files.{AreSameBut, AreSameButTwo, Files, Goes}
-use Rattle.morris_folders.specs.Files as folder
-use Rattle.morris_folders.specs.Whole.{AreWhole, part_of}
-use Rattle.morris_keeping.specs.Lists.{AreKeptLines}
-use Rattle.morris_keeping.specs.Names.{digests_name_of}
+use Rattle.morris_files.specs.Files.{AreSameBut, AreSameButTwo, Files, Goes}
+use Rattle.morris_files.specs.Files as folder
+use Rattle.morris_files.specs.Whole.{AreWhole, part_of}
+use Rattle.morris_files.specs.Lists.{AreKeptLines}
+use Rattle.morris_files.specs.Names.{digests_name_of}
 use Rattle.morris_jobs.specs.declared.fault.Fault.{Fault}
 use Rattle.morris_jobs.specs.declared.fault.Fault.TheVariants as fault
 

@@ -7,8 +7,8 @@ use Rattle.morris_index.specs.Pairs.{Counts}
 use Rattle.morris_pairs.specs.declared.layout.Layout.{Layout}
 use Rattle.morris_pairs.specs.TableFiles.{file_of}
 use Rattle.morris_pairs.specs.Tables.{Table}
-use Rattle.morris_folders.specs.Files.{Files}
-use Rattle.morris_keeping.specs.declared.table_file.Written.{Written}
+use Rattle.morris_files.specs.Files.{Files}
+use Rattle.morris_files.specs.declared.table_file.Written.{Written}
 use Rattle.morris_jobs.specs.declared.fault.Fault.{Fault}
 use Rattle.morris_jobs.specs.declared.fault.Fault.TheVariants as fault
 use Rattle.morris_folder_commands.specs.Into.{Ends, FillsFolder, IsFiled, IsUnfiled, Place}

@@ -6,12 +6,12 @@ use Rattle.morris_board.specs.Streams.{PartSent}
 use Rattle.morris_index.specs.Pairs.{Counts, all_pairs}
 use Rattle.morris_pairs.specs.Shelves.{Stored, table_on}
 use Rattle.morris_pairs.specs.Tables.{Table}
-use Rattle.morris_folders.specs.Files.{Files}
-use Rattle.morris_folders.specs.Files as folder
-use Rattle.morris_keeping.specs.Kept.{AnswersKept}
-use Rattle.morris_keeping.specs.Names.{name_of}
-use Rattle.morris_keeping.specs.declared.kept.KeptFault.{KeptFault}
-use Rattle.morris_keeping.specs.declared.kept.KeptFault.TheVariants as kept
+use Rattle.morris_files.specs.Files.{Files}
+use Rattle.morris_files.specs.Files as folder
+use Rattle.morris_files.specs.Kept.{AnswersKept}
+use Rattle.morris_files.specs.Names.{name_of}
+use Rattle.morris_files.specs.declared.kept.KeptFault.{KeptFault}
+use Rattle.morris_files.specs.declared.kept.KeptFault.TheVariants as kept
 use Rattle.morris_jobs.specs.declared.fault.Fault.{Fault}
 use Rattle.morris_jobs.specs.declared.fault.Fault.TheVariants as fault
 use Rattle.morris_jobs.specs.Faults.{in_file, read_fault}

@@ -4,9 +4,9 @@ use Rattle.morris_board.specs.Boards.{Shape}
 use Rattle.morris_index.specs.Pairs.{Counts, all_pairs}
 use Rattle.morris_pairs.specs.Shelves.{Stored}
 use Rattle.morris_pairs.specs.Tables.{Table}
-use Rattle.morris_folders.specs.Files.{Files}
-use Rattle.morris_keeping.specs.Kept.{AnswersKept}
-use Rattle.morris_keeping.specs.declared.kept.KeptFault.{KeptFault}
+use Rattle.morris_files.specs.Files.{Files}
+use Rattle.morris_files.specs.Kept.{AnswersKept}
+use Rattle.morris_files.specs.declared.kept.KeptFault.{KeptFault}
 use Rattle.morris_jobs.specs.declared.fault.Fault.{Fault}
 use Rattle.morris_jobs.specs.Faults.{in_file}
 use Rattle.morris_folder_commands.specs.Filling.{PrintsLine}

@@ -13,14 +13,14 @@ use Rattle.morris_pairs.specs.declared.layout.Layout.{Layout}
 use Rattle.morris_pairs.specs.Known.{IsBeyondCodes}
 use Rattle.morris_pairs.specs.TableFiles.{file_of}
 use Rattle.morris_pairs.specs.Tables.{IsTable, Table}
-use Rattle.morris_folders.specs.Files.{Files, Goes}
-use Rattle.morris_folders.specs.Files as folder
-use Rattle.morris_folders.specs.Whole.{AreWhole, AreNotWhole}
-use Rattle.morris_folders.specs.declared.whole.NotWhole.{NotWhole}
-use Rattle.morris_folders.specs.declared.whole.Step.{Step}
-use Rattle.morris_folders.specs.declared.whole.Step.TheVariants as step
-use Rattle.morris_keeping.specs.Digests.{digest_line}
-use Rattle.morris_keeping.specs.Names.{digests_name_of, name_of}
+use Rattle.morris_files.specs.Files.{Files, Goes}
+use Rattle.morris_files.specs.Files as folder
+use Rattle.morris_files.specs.Whole.{AreWhole, AreNotWhole}
+use Rattle.morris_files.specs.declared.whole.NotWhole.{NotWhole}
+use Rattle.morris_files.specs.declared.whole.Step.{Step}
+use Rattle.morris_files.specs.declared.whole.Step.TheVariants as step
+use Rattle.morris_files.specs.Digests.{digest_line}
+use Rattle.morris_files.specs.Names.{digests_name_of, name_of}
 use Rattle.morris_jobs.specs.declared.fault.Fault.{Fault}
 use Rattle.morris_jobs.specs.declared.fault.Fault.TheVariants as fault
 use Rattle.morris_jobs.specs.Orders.{IsUnbuiltAt}

@@ -1,20 +1,20 @@
 //! How a folder is entered in which files are replaced: it is locked, and its list of digests forgets
 //! them.
 ghost use Rattle.std.specs.Prelude.{◌≡◌, ◌-◌, ◌^◌, ◌<◌, [], true, false, IfErr, MatchResult, OnOk, Ok, Err};
-ghost use Rattle.morris_folders.specs.Files.{Goes};
+ghost use Rattle.morris_files.specs.Files.{Goes};
 ghost use Rattle.morris_jobs.specs.Faults.{is_write};
 ghost use Rattle.morris_folder_commands.specs.Entering.{BeginsList, IsCaused, IsEntered, IsLeft, IsShut, IsUnbegun};
 
 use morris_board::board::Geometry;
 use morris_board::streams::Failed;
-use morris_folders::folder::Folder;
-use morris_folders::whole::{NotWhole, Step};
+use morris_files::digests::write_list;
+use morris_files::folder::Folder;
+use morris_files::names::digests_name;
+use morris_files::old_list::{ListFault, kept_lines};
+use morris_files::table_file::Written;
+use morris_files::whole::{NotWhole, Step};
 use morris_index::pair::Pair;
 use morris_jobs::fault::Fault;
-use morris_keeping::digests::write_list;
-use morris_keeping::names::digests_name;
-use morris_keeping::old_list::{ListFault, kept_lines};
-use morris_keeping::table_file::Written;
 use std::alloc::Global;
 
 /// The name of the file by which a folder is locked. It stays there.

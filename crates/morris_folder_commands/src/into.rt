@@ -7,14 +7,16 @@ ghost use Rattle.morris_folder_commands.specs.Filling.{IsFilledBut, KeepsTable, 
 ghost use Rattle.morris_folder_commands.specs.Into.{AnswersFolder, AnswersInto, AnswersRead, Ends, FillsFolder, IsAsked, IsAskedOf, filed_text, place_of};
 ghost use Rattle.morris_jobs.specs.BoardNames.{board_of};
 ghost use Rattle.morris_jobs.specs.PairText.{read_pair_of};
-ghost use Rattle.morris_keeping.specs.Digests.{digest_lines};
+ghost use Rattle.morris_files.specs.Digests.{digest_lines};
 
 use crate::entering::{begin_list, enter};
 use crate::print_filed::Filed;
 use morris_board::board::{Board, Geometry};
 use morris_board::streams::Sink;
-use morris_folders::folder::Folder;
-use morris_folders::whole::{NotWhole, Step};
+use morris_files::digests::write_list;
+use morris_files::folder::Folder;
+use morris_files::table_file::{Written, write_table_file};
+use morris_files::whole::{NotWhole, Step};
 use morris_index::below::PAIR_COUNT;
 use morris_index::pair::Pair;
 use morris_jobs::fault::Fault;
@@ -25,8 +27,6 @@ use morris_jobs::print::send_after;
 use morris_jobs::size::Way;
 use morris_jobs::team::{Crew, Team};
 use morris_jobs::teller::Teller;
-use morris_keeping::digests::write_list;
-use morris_keeping::table_file::{Written, write_table_file};
 use morris_pairs::layout::Layout;
 use morris_pairs::stock::Stock;
 use std::alloc::Global;

@@ -7,9 +7,9 @@ use hex::encode_to_slice;
 use morris_board::board::Geometry;
 use morris_board::streams::buffered::Buffered;
 use morris_board::streams::{Failed, Sink};
+use morris_files::table_file::Written;
 use morris_jobs::pairs::put_pair;
 use morris_jobs::print::Printed;
-use morris_keeping::table_file::Written;
 use morris_probe::print::put_count;
 
 /// What `build` prints of a file that was written into a folder.

@@ -1,17 +1,17 @@
 //! How much there is to do in a folder, by the headers of its files.
 ghost use Rattle.std.specs.Prelude.{◌≡◌, ◌-◌, ◌^◌, ◌<◌, Err, IfErr, IfOk};
-ghost use Rattle.morris_folders.specs.Files.{Keeps};
+ghost use Rattle.morris_files.specs.Files.{Keeps};
 ghost use Rattle.morris_folder_commands.specs.FromSteps.{EndsAt};
 
 use crate::places::pair_at;
 use morris_board::board::Geometry;
-use morris_folders::folder::Folder;
+use morris_files::folder::Folder;
+use morris_files::header::{Header, read_header};
+use morris_files::kept::KeptFault;
 use morris_index::below::PAIR_COUNT;
 use morris_jobs::fault::Fault;
 use morris_jobs::size::{FolderSize, Size};
 use morris_jobs::teller::Teller;
-use morris_keeping::header::{Header, read_header};
-use morris_keeping::kept::KeptFault;
 use std::alloc::Global;
 
 /// What the headers of files say.

@@ -12,7 +12,7 @@ use Rattle.morris_board.specs.Boards.{Shape}
 use Rattle.morris_board.specs.Positions.{Sides, read_of}
 use Rattle.morris_board.specs.Streams.{AllSent, PartSent, CountsFailure}
 use Rattle.morris_board.specs.declared.faults.TextFault.{TextFault}
-use Rattle.morris_folders.specs.Files.{Files}
+use Rattle.morris_files.specs.Files.{Files}
 use Rattle.morris_jobs.specs.Faults.{text_fault}
 use Rattle.morris_queries.specs.declared.answer.Answered.{Answered}
 use Rattle.morris_queries.specs.declared.show.Show.{Show}

@@ -32,8 +32,8 @@ use Rattle.morris_lookup.specs.Opening.{OpenFile, open_file, IsOpen, framed_in}
 use Rattle.morris_lookup.specs.Outcomes.{turned}
 use Rattle.morris_lookup.proofs.FileLookups.{exact_code}
 use Rattle.morris_lookup.proofs.OpeningLaws.{framed_file}
-use Rattle.morris_folders.specs.Files.{Files}
-use Rattle.morris_keeping.specs.Names.{name_of}
+use Rattle.morris_files.specs.Files.{Files}
+use Rattle.morris_files.specs.Names.{name_of}
 use Rattle.morris_jobs.specs.declared.fault.Fault.{Fault}
 use Rattle.morris_jobs.specs.declared.fault.Fault.TheVariants as fault
 use Rattle.morris_jobs.specs.Faults.{needs_fault, read_fault}

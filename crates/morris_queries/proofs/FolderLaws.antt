@@ -1,7 +1,7 @@
 -- What stays of a folder while its files are opened.
 use Rattle.std.proofs.Common.{◌≡◌, ◌≢◌, ℕ, List, Option, Some, Ok, refl, sym, ap, subst, ◌∙◌}
 use Rattle.morris_board.specs.Boards.{Shape}
-use Rattle.morris_folders.specs.Files.{Files}
+use Rattle.morris_files.specs.Files.{Files}
 use Rattle.morris_index.specs.Pairs.{Counts}
 use Rattle.morris_lookup.specs.FileSets.{file_for}
 use Rattle.morris_lookup.specs.Opening.{OpenFile}

@@ -9,7 +9,7 @@ use Rattle.std.proofs.lemmas.List.{length-take, take-append-le, take-take, take_
 use Rattle.morris_board.specs.Boards.{Shape}
 use Rattle.morris_board.specs.Positions.{read_of}
 use Rattle.morris_board.specs.declared.faults.TextFault.TheVariants as fault
-use Rattle.morris_folders.specs.Files.{Files}
+use Rattle.morris_files.specs.Files.{Files}
 use Rattle.morris_queries.specs.declared.answer.Answered.{Answered}
 use Rattle.morris_queries.specs.declared.fault.QueryFault.{QueryFault}
 use Rattle.morris_queries.specs.declared.fault.QueryFault.TheVariants as query

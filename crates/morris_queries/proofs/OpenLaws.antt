@@ -14,8 +14,8 @@ use Rattle.morris_pairs.specs.Codes.{value_in}
 use Rattle.morris_lookup.specs.FileSets.{Files as OpenFiles, file_for, said_of, said_at, said_by, said_in, missing_file, without_file}
 use Rattle.morris_lookup.specs.Lookups.{code_for}
 use Rattle.morris_lookup.specs.Opening.{OpenFile, open_file, framed_in, IsFramingRefusal}
-use Rattle.morris_folders.specs.Files.{Files}
-use Rattle.morris_keeping.specs.Names.{name_of}
+use Rattle.morris_files.specs.Files.{Files}
+use Rattle.morris_files.specs.Names.{name_of}
 use Rattle.morris_jobs.specs.declared.fault.Fault.{Fault}
 use Rattle.morris_jobs.specs.Faults.{needs_fault, read_fault}
 use Rattle.morris_queries.specs.Libraries.{IsFound, Opens}

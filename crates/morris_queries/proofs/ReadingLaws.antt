@@ -4,7 +4,7 @@ use Rattle.std.specs.Io.KnownBytes.{Consumes, IsAtEnd}
 use Rattle.std.proofs.KnownBytes.{Consumes-trans}
 use Rattle.std.proofs.Common.{append-nil, subst}
 use Rattle.morris_board.specs.Boards.{Shape}
-use Rattle.morris_folders.specs.Files.{Files}
+use Rattle.morris_files.specs.Files.{Files}
 use Rattle.morris_queries.specs.declared.fault.QueryFault.{QueryFault}
 use Rattle.morris_queries.specs.declared.fault.QueryFault.TheVariants as query
 use Rattle.morris_queries.specs.declared.lines.Reading.{Reading}

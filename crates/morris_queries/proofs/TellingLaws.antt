@@ -5,7 +5,7 @@ use Rattle.std.specs.Prelude.{slice_get}
 use Rattle.std.proofs.lemmas.Bool.{cases_Bool}
 use Rattle.morris_board.specs.Boards.{Shape}
 use Rattle.morris_board.specs.Positions.{Sides}
-use Rattle.morris_folders.specs.Files.{Files}
+use Rattle.morris_files.specs.Files.{Files}
 use Rattle.morris_moves.specs.declared.step.Move.{Move}
 use Rattle.morris_moves.specs.Rules.{moves_of, result_of}
 use Rattle.morris_moves.proofs.ListLaws.{Contains-head, Contains-tail, Contains-cons_cases}

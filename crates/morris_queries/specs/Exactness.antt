@@ -16,8 +16,8 @@ use Rattle.morris_lookup.specs.declared.outcomes.Outcome.{Outcome}
 use Rattle.morris_lookup.specs.Lines.{IsBestStep}
 use Rattle.morris_lookup.specs.Lookups.{depth_of}
 use Rattle.morris_lookup.specs.Outcomes.{turned}
-use Rattle.morris_folders.specs.Files.{Files}
-use Rattle.morris_keeping.specs.Names.{name_of}
+use Rattle.morris_files.specs.Files.{Files}
+use Rattle.morris_files.specs.Names.{name_of}
 use Rattle.morris_queries.specs.declared.show.Show.{Show}
 use Rattle.morris_queries.specs.declared.show.Show.TheVariants as show
 use Rattle.morris_queries.specs.Telling.{Telling}

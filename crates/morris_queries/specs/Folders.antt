@@ -2,7 +2,7 @@
 use Rattle.std.specs.Prelude.{◌≡◌, ℕ, List, Option, Some}
 use Rattle.std.specs.Borrow.{GName}
 use Rattle.morris_board.specs.Boards.{Shape}
-use Rattle.morris_folders.specs.Files.{Files}
+use Rattle.morris_files.specs.Files.{Files}
 use Rattle.morris_queries.specs.declared.values.Folder.{Folder}
 use Rattle.morris_queries.specs.Telling.{AreOf}
 

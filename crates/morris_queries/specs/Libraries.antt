@@ -1,7 +1,7 @@
 -- Where the files of tables are found by their names.
 use Rattle.std.specs.Prelude.{◌≡◌, ℕ, List, [], ◌∷◌, ⊤, Option, Some, None, Result, Ok, MatchResult, bytes_eq, if◌then◌else◌}
 use Rattle.std.specs.Borrow.{Bor}
-use Rattle.morris_folders.specs.Files.{Files}
+use Rattle.morris_files.specs.Files.{Files}
 
 -- what looking for the place of the files answers: where the files are known, that it is there
 abbrev pub Finds : {E : Type 0} → Option Files → Result (Unit {0}) E → Type 0

@@ -2,7 +2,7 @@
 use Rattle.std.specs.Prelude.{◌≡◌, ℕ, List, [], take, Option, Some, None, Result, Ok, Err}
 use Rattle.std.specs.Io.KnownBytes.{Consumes, IsAtEnd, Keeps}
 use Rattle.morris_board.specs.Boards.{Shape}
-use Rattle.morris_folders.specs.Files.{Files}
+use Rattle.morris_files.specs.Files.{Files}
 use Rattle.morris_queries.specs.declared.fault.QueryFault.{QueryFault}
 use Rattle.morris_queries.specs.declared.fault.QueryFault.TheVariants as query
 use Rattle.morris_queries.specs.declared.show.Show.{Show}

@@ -1,7 +1,7 @@
 -- What comes of the bytes of an input, as they are taken in.
 use Rattle.std.specs.Prelude.{◌≡◌, ℕ, List, ◌++◌, Option, Result, Ok, Err}
 use Rattle.morris_board.specs.Boards.{Shape}
-use Rattle.morris_folders.specs.Files.{Files}
+use Rattle.morris_files.specs.Files.{Files}
 use Rattle.morris_queries.specs.declared.fault.QueryFault.{QueryFault}
 use Rattle.morris_queries.specs.declared.lines.Reading.{Reading}
 use Rattle.morris_queries.specs.Answers.{AnswersTexts}

@@ -16,8 +16,8 @@ use Rattle.morris_lookup.specs.FileSets.{Files as OpenFiles, file_for}
 use Rattle.morris_lookup.specs.Lookups.{code_for, depth_of}
 use Rattle.morris_lookup.specs.Opening.{OpenFile, open_file, framed_in}
 use Rattle.morris_lookup.specs.Outcomes.{turned}
-use Rattle.morris_folders.specs.Files.{Files}
-use Rattle.morris_keeping.specs.Names.{name_of}
+use Rattle.morris_files.specs.Files.{Files}
+use Rattle.morris_files.specs.Names.{name_of}
 use Rattle.morris_jobs.specs.declared.fault.Fault.{Fault}
 use Rattle.morris_jobs.specs.declared.fault.Fault.TheVariants as fault
 use Rattle.morris_jobs.specs.Faults.{text_fault, needs_fault, read_fault}

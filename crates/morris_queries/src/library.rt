@@ -1,6 +1,6 @@
 //! Where the files of tables are found by their names.
 ghost use Rattle.std.specs.Prelude.{◌≡◌, Option};
-ghost use Rattle.morris_folders.specs.Files.{Files};
+ghost use Rattle.morris_files.specs.Files.{Files};
 ghost use Rattle.morris_queries.specs.Libraries.{Finds, Opens};
 
 use morris_lookup::storage::Storage;

@@ -1,7 +1,7 @@
 //! The answers to the lines of an input.
 ghost use Rattle.std.specs.Prelude.{◌≡◌, ℕ, ◌-◌, ◌^◌, ◌<◌, ◌∷◌, [], List, Option, Err, take, OnOk};
 ghost use Rattle.morris_board.specs.Streams.{CountsFailure};
-ghost use Rattle.morris_folders.specs.Files.{Files};
+ghost use Rattle.morris_files.specs.Files.{Files};
 ghost use Rattle.morris_queries.specs.Answers.{AnswersText, CountsWrites};
 ghost use Rattle.morris_queries.specs.Folders.{IsOf, Stays};
 ghost use Rattle.morris_queries.specs.InputLines.{text_in};

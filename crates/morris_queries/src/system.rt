@@ -2,7 +2,7 @@
 ghost use Rattle.std.specs.Prelude.{None};
 
 use crate::library::{Library, Unfound, Unopened};
-use morris_folders::reason::Reason;
+use morris_files::reason::Reason;
 use std::alloc::AllocError;
 use std::fs::{File, Metadata};
 use std::io::ErrorKind;

@@ -1,6 +1,6 @@
 //! The answers to a list of texts.
 ghost use Rattle.std.specs.Prelude.{◌≡◌, ◌-◌, ◌^◌, ◌<◌, ℕ, List, Option, map};
-ghost use Rattle.morris_folders.specs.Files.{Files};
+ghost use Rattle.morris_files.specs.Files.{Files};
 ghost use Rattle.morris_queries.specs.Answers.{AnswersTexts, CountsWrites, IsTallied};
 ghost use Rattle.morris_queries.specs.Folders.{IsOf, Stays};
 

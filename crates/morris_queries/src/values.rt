@@ -2,7 +2,7 @@
 ghost use Rattle.std.specs.Prelude.{◌≡◌, ◌≤◌, ℕ, List, Option, None, Some, IfErr, IfOk, IsSome, OnOk};
 ghost use Rattle.morris_lookup.specs.FileSets.{file_for, missing_file};
 ghost use Rattle.morris_lookup.specs.Lookups.{depth_of};
-ghost use Rattle.morris_folders.specs.Files.{Files};
+ghost use Rattle.morris_files.specs.Files.{Files};
 ghost use Rattle.morris_queries.specs.Folders.{IsOf, Stays, Tells, lent_of, library_of};
 ghost use Rattle.morris_queries.specs.Libraries.{IsFound};
 ghost use Rattle.morris_queries.specs.Telling.{Agrees, AreOf, IsRefusal, opened_as, table_in, told_value};
@@ -10,9 +10,9 @@ ghost use Rattle.morris_queries.specs.Telling.{Agrees, AreOf, IsRefusal, opened_
 use crate::library::{Library, Unopened};
 use morris_board::board::Geometry;
 use morris_board::position::Position;
+use morris_files::names::file_name;
 use morris_index::pair::Pair;
 use morris_jobs::fault::Fault;
-use morris_keeping::names::file_name;
 use morris_lookup::fault::{LookFault, OpenFault};
 use morris_lookup::opened::Opened;
 use morris_lookup::storage::Storage;

@@ -2,7 +2,7 @@
 // and moves follow from the rules.
 use crate::making::files;
 use morris_board::streams::IntoWrite;
-use morris_folders::reason::Reason;
+use morris_files::reason::Reason;
 use morris_pairs::layout::Layout;
 use morris_queries::fault::QueryFault;
 use morris_queries::library::Library;

@@ -1,8 +1,8 @@
 // A write that fails ends the answers.
 use crate::making::files;
 use morris_board::grid::Grid;
-use morris_folders::folder::Folder;
-use morris_folders::memory::MemoryFolder;
+use morris_files::folder::Folder;
+use morris_files::memory::MemoryFolder;
 use morris_pairs::layout::Layout;
 use morris_queries::fault::QueryFault;
 use morris_queries::memory::Held;

@@ -2,7 +2,7 @@
 use Rattle.std.proofs.Common.{codes}
 use Rattle.std.proofs.lemmas.Result.{err_from_is_err_and}
 use Rattle.morris_board.proofs.BufferedLaws.{PartPassed-longer, goes_on}
-use Rattle.morris_folders.specs.Reasons.{reason_text}
+use Rattle.morris_files.specs.Reasons.{reason_text}
 use Rattle.morris.proofs.report.put_why.Goals as goal
 
 pub returns-in_err-put-in-Some-clause-passed : goal.returns-in_err-put-in-Some-clause-passed

@@ -4,7 +4,7 @@ use Rattle.std.proofs.Math.Path.{ap₂}
 use Rattle.std.proofs.lemmas.Result.{err_from_is_err_and}
 use Rattle.morris_folder_commands.specs.From.{AtEnd, pairs_of}
 use Rattle.morris_jobs.specs.declared.fault.Fault.TheVariants as fault
-use Rattle.morris_keeping.specs.declared.kept.KeptFault.TheVariants as kept
+use Rattle.morris_files.specs.declared.kept.KeptFault.TheVariants as kept
 use Rattle.morris_folder_commands.proofs.FromLaws.{at_end, failed_file, kept_on, missing_file, skip_pair, take_pair, taken_on, taken_wrong}
 use Rattle.morris_folder_commands.proofs.SurveyLaws.{all_opened, ends_later, passes}
 use Rattle.morris_folder_commands.proofs.from.verify_found.Goals as goal

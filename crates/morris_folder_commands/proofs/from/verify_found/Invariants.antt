@@ -1,6 +1,6 @@
 use Rattle.std.proofs.Common.{◌≡◌, ◌*◌, ◌≤◌, ◌^◌, drop}
 use Rattle.std.specs.List.{filter}
-use Rattle.morris_folders.specs.Files.{Keeps}
+use Rattle.morris_files.specs.Files.{Keeps}
 use Rattle.morris_index.specs.Pairs.{all_pairs}
 use Rattle.morris_folder_commands.specs.From.{fits}
 use Rattle.morris_folder_commands.specs.FromSteps.{EndsAt}

@@ -1,7 +1,7 @@
 use Rattle.std.proofs.Common.{◌≡◌, ℕ, List, ◌*◌, ◌≤◌, ◌^◌, ◌++◌, true, length, vec_len}
 use Rattle.std.specs.Prelude.{vec_capacity}
 use Rattle.morris_index.specs.Pairs.{below_of}
-use Rattle.morris_keeping.specs.Digests.{digest_lines}
+use Rattle.morris_files.specs.Digests.{digest_lines}
 use Rattle.morris_folder_commands.specs.Into.{place_of}
 use Rattle.morris_folder_commands.proofs.FillLaws.{Leads}
 use Rattle.morris_jobs.proofs.NearLaws.{HasNear}

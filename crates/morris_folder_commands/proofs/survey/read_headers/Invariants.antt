@@ -1,6 +1,6 @@
 -- No file is changed, and each was opened so far.
 use Rattle.std.proofs.Common.{◌≡◌}
-use Rattle.morris_folders.specs.Files.{Keeps}
+use Rattle.morris_files.specs.Files.{Keeps}
 use Rattle.morris_folder_commands.proofs.survey.read_headers.Given as goal
 
 abbrev pub invariant-loop-place : goal.invariant-loop-place

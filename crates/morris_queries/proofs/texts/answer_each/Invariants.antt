@@ -1,5 +1,5 @@
 use Rattle.std.proofs.Common.{◌≡◌, ℕ, List, Option, map, take}
-use Rattle.morris_folders.specs.Files.{Files}
+use Rattle.morris_files.specs.Files.{Files}
 use Rattle.morris_queries.specs.Answers.{AreOut}
 use Rattle.morris_queries.specs.Folders.{IsOf, Stays}
 use Rattle.morris_queries.proofs.texts.answer_each.Given as goal

@@ -1,6 +1,6 @@
 use Rattle.std.proofs.Common.{◌≡◌, [], ℕ, List, Option}
 use Rattle.std.specs.Io.KnownBytes.{Consumes}
-use Rattle.morris_folders.specs.Files.{Files}
+use Rattle.morris_files.specs.Files.{Files}
 use Rattle.morris_queries.specs.Readings.{Stands, StaysOf}
 use Rattle.morris_queries.proofs.lines.Reading.read_all.Given as goal
 

@@ -1,5 +1,5 @@
 use Rattle.std.proofs.Common.{◌≡◌, ◌++◌, ℕ, List, Option, take}
-use Rattle.morris_folders.specs.Files.{Files}
+use Rattle.morris_files.specs.Files.{Files}
 use Rattle.morris_queries.specs.Readings.{Stands, StaysOf}
 use Rattle.morris_queries.proofs.lines.Reading.take_bytes.Given as goal
 

@@ -1,5 +1,5 @@
 use Rattle.std.proofs.Common.{ap, refl, ◌∙◌}
-use Rattle.morris_keeping.specs.Names.{name_of}
+use Rattle.morris_files.specs.Names.{name_of}
 use Rattle.morris_queries.proofs.FolderLaws.{stays_asked}
 use Rattle.morris_queries.proofs.OpenLaws.{found_known, opened_named}
 use Rattle.morris_queries.proofs.values.Folder.open_file.Goals as goal

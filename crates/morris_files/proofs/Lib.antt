@@ -1,0 +1,5 @@
+pub mod MemoryLaws
+pub mod WholeLaws
+pub mod KeptLaws
+pub mod HeaderLaws
+mod LineLaws

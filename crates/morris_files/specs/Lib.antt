@@ -1,0 +1,10 @@
+pub mod Files
+pub mod Memory
+pub mod Reasons
+pub mod System
+pub mod Whole
+pub mod Names
+pub mod Digests
+pub mod Lists
+pub mod Kept
+pub mod Headers

@@ -1,0 +1,94 @@
+//! The tables that a folder keeps.
+ghost use Rattle.std.specs.Prelude.{◌≡◌, ℕ, ◌+◌, ◌-◌, ◌^◌, ◌<◌, IfErr};
+ghost use Rattle.morris_files.specs.Files.{IsOpened, Keeps};
+ghost use Rattle.morris_files.specs.Kept.{AnswersKept, IsUnopened, failed_opening};
+ghost use Rattle.morris_files.specs.Names.{name_of};
+
+use crate::folder::Folder;
+use crate::names::file_name;
+use morris_board::board::Geometry;
+use morris_board::streams::Failed;
+use morris_index::pair::Pair;
+use morris_pairs::file_faults::ReadFault;
+use morris_pairs::raw::Raw;
+use morris_pairs::reading::read_table;
+use std::alloc::Global;
+use thiserror::Error;
+
+/// Why the table of a pair isn't had from its file.
+#[derive(Debug, Clone, Copy, PartialEq, Eq, Error)]
+pub enum KeptFault {
+    /// Memory was refused for the name of the file.
+    #[error("out of memory")]
+    Memory,
+    /// The file can't be opened.
+    #[error("not opened")]
+    Unopened,
+    /// The file isn't that of a table of the board, or wasn't read to its end.
+    #[error("{0}")]
+    Refused(ReadFault),
+    /// The file is that of the table of another pair.
+    #[error("table of another pair")]
+    OtherPair,
+}
+
+/// Reads the table of a pair from the file that a folder has of it, under the name of the pair on
+/// the board of this name; `None` where there is no such file. The codes may be wrong.
+///
+/// Fewer than `u64::MAX` calls of the folder may have failed before. A file that is there is read
+/// to its end, or up to the step that refuses it, as `read_table` of `morris_pairs` does.
+///
+/// # Errors
+/// [`KeptFault::Memory`] where memory is refused for the name, else [`KeptFault::Unopened`] where
+/// the file can't be opened, else [`KeptFault::Refused`] where it isn't exactly one file of a table
+/// of the board, else [`KeptFault::OtherPair`] where the table is that of another pair.
+pub fn read_table_file<B: Geometry, F: Folder>(
+    alloc: Global,
+    folder: &mut F,
+    board: &str,
+    pair: Pair<B>,
+) -> Result<Option<Raw<B>>, KeptFault>
+    requires { F.failures folder.old < 2 ^ 64 - 1 }
+    ensures answer { AnswersKept B.shape (F.files folder.old) (name_of board.now pair) pair result }
+    ensures kept { Keeps (F.files folder.old) (F.files folder.new) }
+    ensures counted { F.failures folder.new ≡ F.failures folder.old + failed_opening result }
+{
+    let Some(mut reader) = open_table_file(alloc, folder, board, pair)? else {
+        return Ok(None);
+    };
+    let raw = match read_table::<B, F::Reader>(alloc, &mut reader) {
+        Ok(raw) => raw,
+        Err(refused) => return Err(KeptFault::Refused(refused)),
+    };
+    if raw.pair() != pair {
+        return Err(KeptFault::OtherPair);
+    }
+    Ok(Some(raw))
+}
+
+/// Opens the file that a folder has of a pair's table, under the name of the pair on the board of
+/// this name; `None` where there is no such file.
+///
+/// # Errors
+/// [`KeptFault::Memory`] where memory is refused for the name, else [`KeptFault::Unopened`] where
+/// the file can't be opened.
+pub(crate) fn open_table_file<B: Geometry, F: Folder>(
+    alloc: Global,
+    folder: &mut F,
+    board: &str,
+    pair: Pair<B>,
+) -> Result<Option<F::Reader>, KeptFault>
+    requires { F.failures folder.old < 2 ^ 64 - 1 }
+    ensures opened { IsOpened F.Reader.remaining F.Reader.failures (F.files folder.old) (name_of board.now pair) result }
+    ensures refused { IfErr result IsUnopened }
+    ensures kept { Keeps (F.files folder.old) (F.files folder.new) }
+    ensures counted { F.failures folder.new ≡ F.failures folder.old + failed_opening result }
+{
+    let Ok(name) = file_name(alloc, board, pair) else {
+        return Err(KeptFault::Memory);
+    };
+    match folder.open(name.as_str()) {
+        Ok(opened) => Ok(opened),
+        Err(Failed) => Err(KeptFault::Unopened),
+    }
+}

@@ -1,0 +1,143 @@
+// The file of a table in a folder in memory.
+use morris_board::grid::Grid;
+use morris_files::digests::write_list;
+use morris_files::folder::Folder;
+use morris_files::kept::{KeptFault, read_table_file};
+use morris_files::memory::MemoryFolder;
+use morris_files::old_list::kept_lines;
+use morris_files::table_file::{Written, write_table_file};
+use morris_index::pair::Pair;
+use morris_pairs::exact::Exact;
+use morris_pairs::file_faults::ReadFault;
+use morris_pairs::shelf::Shelf;
+use morris_pairs::sweeping::sweep_pair;
+use std::alloc::Global;
+use std::process::Abort;
+
+/// The SHA-256 at the end of the file of 3-3, as another program reckons it.
+const DIGEST: [u8; 32] = [
+    0xd6, 0x6a, 0x9e, 0xcf, 0x00, 0x1c, 0xc6, 0x95, 0xc7, 0x90, 0x4b, 0xf2, 0xb8, 0xbd, 0xbc, 0xc3,
+    0xac, 0x27, 0x50, 0x65, 0xc3, 0xb5, 0x79, 0xb9, 0x5f, 0x4f, 0x84, 0x5e, 0x2a, 0x95, 0xd1, 0x8d,
+];
+
+/// The SHA-256 of the whole file, by the same program.
+const WHOLE: [u8; 32] = [
+    0xf8, 0xc4, 0x8a, 0x20, 0xf9, 0x6d, 0x42, 0x47, 0x48, 0xed, 0x4c, 0x63, 0x1d, 0x94, 0xd9, 0x8d,
+    0x80, 0xb8, 0xb0, 0x0b, 0xe2, 0xf1, 0x7e, 0xb8, 0x13, 0x2b, 0x23, 0x3d, 0x2b, 0x18, 0x40, 0x76,
+];
+
+/// The file of the digests of that file alone.
+const LINE: &[u8] =
+    b"f8c48a20f96d424748ed4c631d94d98d80b8b00be2f17eb8132b233d2b184076  grid-3-3.nmmt\n";
+
+/// A list of another file of 3-3 and one of 4-3.
+const TWO: &[u8] = b"\
+0000000000000000000000000000000000000000000000000000000000000033  grid-3-3.nmmt\n\
+0000000000000000000000000000000000000000000000000000000000000043  grid-4-3.nmmt\n";
+
+/// Its line of 4-3.
+const OTHER: &[u8] =
+    b"0000000000000000000000000000000000000000000000000000000000000043  grid-4-3.nmmt\n";
+
+/// The table of 3-3.
+fn three_three(alloc: Global) -> Option<Exact<Grid>> {
+    let shelf = Shelf::new(alloc).ok()?;
+    sweep_pair(alloc, &shelf, Pair::new(3, 3).ok()?).ok()
+}
+
+/// Whether the folder has the file of 3-3 under its name, and no other.
+fn has_file(folder: &MemoryFolder) -> bool {
+    match folder.get("grid-3-3.nmmt") {
+        Some(file) => {
+            folder.count() == 1 && file.len() == 3408 && file.ends_with(DIGEST.as_slice())
+        }
+        None => false,
+    }
+}
+
+#[test]
+fn the_file_of_a_table_has_the_name_of_its_pair(rt: HostRuntime) {
+    let table = three_three(rt.alloc()).expect(&rt, "the table of 3-3");
+    let mut folder = MemoryFolder::new(rt.alloc(), 0, 0);
+    let written = write_table_file(rt.alloc(), &mut folder, "grid", &table).ok();
+    let written = written.expect(&rt, "the file of 3-3");
+    assert!(rt; written.entries == 1680 && written.bytes == 3408 && written.digest == WHOLE);
+    assert!(rt; has_file(&folder));
+}
+
+/// The folder with the file of 3-3, and what is told of the file.
+fn kept(alloc: Global, calls: u64) -> Option<(MemoryFolder, Written<Grid>)> {
+    let mut folder = MemoryFolder::new(alloc, calls, 0);
+    let written = write_table_file(alloc, &mut folder, "grid", &three_three(alloc)?).ok()?;
+    Some((folder, written))
+}
+
+#[test]
+fn the_digests_stand_in_a_file_of_their_own(rt: HostRuntime) {
+    let (mut folder, written) = kept(rt.alloc(), 0).expect(&rt, "the file of 3-3");
+    assert!(rt; folder.failures() == 0);
+    let answer = write_list(rt.alloc(), &mut folder, "grid", b"", &[written]);
+    assert!(rt; answer == Ok(()) && folder.get("grid.sha256") == Some(LINE));
+    assert!(rt; folder.count() == 2);
+}
+
+/// The list of these bytes and then the line of 3-3.
+fn with_line(alloc: Global, lines: &[u8]) -> Option<Vec<u8>> {
+    let mut list = Vec::from_slice(alloc, lines).ok()?;
+    list.extend_from_slice(LINE).ok()?;
+    Some(list)
+}
+
+// A build of 3-3 where 4-3 was built before.
+#[test]
+fn the_digests_of_other_files_stay(rt: HostRuntime) {
+    let alloc = rt.alloc();
+    let (mut folder, written) = kept(alloc, 0).expect(&rt, "the file of 3-3");
+    assert!(rt; folder.put("grid.sha256", TWO).is_ok() && folder.failures() == 0);
+    let kept = kept_lines(alloc, &mut folder, "grid", written.pair);
+    let kept = kept.ok().expect(&rt, "the lines that are kept");
+    assert!(rt; folder.failures() == 0);
+    let answer = write_list(alloc, &mut folder, "grid", kept.as_slice(), &[written]);
+    let list = with_line(alloc, OTHER).expect(&rt, "room for a list");
+    assert!(rt; answer == Ok(()) && folder.get("grid.sha256") == Some(list.as_slice()));
+}
+
+/// Whether the file of a pair is answered by a table of so many entries, by none, or by this fault.
+fn reads(
+    alloc: Global,
+    folder: &mut MemoryFolder,
+    pair: (u8, u8),
+    wanted: Result<Option<u64>, KeptFault>,
+) -> bool {
+    let Ok(pair) = Pair::<Grid>::new(pair.0, pair.1) else {
+        return false;
+    };
+    if folder.failures() > 1 {
+        return false;
+    }
+    let answer = match read_table_file(alloc, folder, "grid", pair) {
+        Ok(Some(raw)) => Ok(Some(raw.len())),
+        Ok(None) => Ok(None),
+        Err(fault) => Err(fault),
+    };
+    answer == wanted
+}
+
+// The first five calls write the file of 3-3, and the next two open it.
+#[test]
+fn a_table_is_read_from_the_file_of_its_pair(rt: HostRuntime) {
+    let alloc = rt.alloc();
+    let (mut folder, _) = kept(alloc, 0b100000).expect(&rt, "the file of 3-3");
+    let folder = &mut folder;
+    assert!(rt; reads(alloc, folder, (3, 3), Err(KeptFault::Unopened)));
+    assert!(rt; reads(alloc, folder, (3, 3), Ok(Some(1680))));
+    assert!(rt; reads(alloc, folder, (4, 3), Ok(None)));
+    let file = Vec::from_slice(alloc, folder.get("grid-3-3.nmmt").unwrap_or_default());
+    let mut file = file.expect(&rt, "room for the file");
+    assert!(rt; folder.put("grid-4-3.nmmt", file.as_slice()).is_ok());
+    assert!(rt; reads(alloc, folder, (4, 3), Err(KeptFault::OtherPair)));
+    assert!(rt; file.push(0).is_ok());
+    assert!(rt; folder.put("grid-3-3.nmmt", file.as_slice()).is_ok());
+    let trailing = KeptFault::Refused(ReadFault::Trailing);
+    assert!(rt; reads(alloc, folder, (3, 3), Err(trailing)));
+}

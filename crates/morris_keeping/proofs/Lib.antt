@@ -1,3 +1,0 @@
-pub mod KeptLaws
-pub mod HeaderLaws
-mod LineLaws

@@ -1,5 +1,0 @@
-pub mod Names
-pub mod Digests
-pub mod Lists
-pub mod Kept
-pub mod Headers
