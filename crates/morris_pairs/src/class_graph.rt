@@ -75,19 +75,19 @@ impl<'a, B: Geometry> ClassGraph<'a, B> {
         // also where a table is missing.
         ensures blocks { (s : BlockState) → IsBlockOf B.shape Layout.Classes pair s → TellsTheGame B.shape Layout.Classes pair s }
     {
-        ClassGraph::over(alloc, shelf.stock(), pair)
+        ClassGraph::over(alloc, shelf.tables(), pair)
     }
 
-    /// [`new`](ClassGraph::new) over the tables of a stock.
+    /// [`new`](ClassGraph::new) over a set of tables.
     ///
     /// # Errors
     /// Those of [`new`](ClassGraph::new), in the same order.
     pub fn over(
         alloc: Global,
-        stock: &'a Stock<B>,
+        tables: &'a Stock<B>,
         pair: Pair<B>,
     ) -> Result<ClassGraph<'a, B>, BuildFault<B>>
-        ensures needs { MatchResult result (λ _. first_missing stock.now pair ≡ None) (λ fault. needed_by fault ≡ first_missing stock.now pair) }
+        ensures needs { MatchResult result (λ _. first_missing tables.now pair ≡ None) (λ fault. needed_by fault ≡ first_missing tables.now pair) }
         // Nothing but a table or memory can be wanting.
         ensures alone { IfErr result (λ fault. is_of_graph fault ≡ true) }
         ensures pair { IfOk result (λ graph. graph ≡ pair) }
@@ -99,7 +99,7 @@ impl<'a, B: Geometry> ClassGraph<'a, B> {
     {
         // The proof learns here that the numbers of stones are those of a pair.
         let _ = pair.greater();
-        let graph = PairGraph::over(stock, pair)?;
+        let graph = PairGraph::over(tables, pair)?;
         let numbering = Numbering::make(alloc, pair, Layout::Classes)?;
         Ok(ClassGraph {
             graph,

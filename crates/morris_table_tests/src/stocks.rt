@@ -7,10 +7,10 @@ use morris_pairs::stock::Stock;
 fn a_table_of_fewer_stones_is_let_go(rt: HostRuntime) {
     let pair = pair::<Grid>(&rt, 3, 3);
     let table = three_three(&rt, rt.alloc());
-    let mut stock = Stock::new(rt.alloc()).expect(&rt, "a stock");
-    stock.put(table);
-    stock.let_go(6);
-    assert!(rt; stock.get(pair).is_some());
-    stock.let_go(7);
-    assert!(rt; stock.get(pair).is_none());
+    let mut tables = Stock::new(rt.alloc()).expect(&rt, "memory");
+    tables.put(table);
+    tables.let_go(6);
+    assert!(rt; tables.get(pair).is_some());
+    tables.let_go(7);
+    assert!(rt; tables.get(pair).is_none());
 }

@@ -3,16 +3,16 @@ use Rattle.morris_index.specs.Pairs.{Counts}
 use Rattle.morris_pairs.specs.Shelves.{has_place, table_on}
 use Rattle.morris_pairs.proofs.StockLaws.{left_at, goes_on-let_go, goes_on-keep, let_go-last}
 use Rattle.morris_pairs.proofs.stock.Stock.let_go.Goals as goal
-use Rattle.morris_pairs.proofs.stock.Stock.let_go.Goals.{then-stones_at-stones, else-stones_at-stones}
+use Rattle.morris_pairs.proofs.stock.Stock.let_go.Goals.{then-greater-lesser, else-greater-lesser}
 
 pub loop-place-preserved : goal.loop-place-preserved
-loop-place-preserved g c = elim c.if-stones_at-stones.branch [
-  | then-stones_at-stones w ↦
+loop-place-preserved g c = elim c.if-greater-lesser.branch [
+  | then-greater-lesser w ↦
       rw w.self-is
-      (goes_on-let_go c.args.stones c.args.self.now c.loop-place.self c.loop-place.place c.loop-place.invariant _ (omega (arith, c.stones_at.ensures)) w.forget.ensures)
-  | else-stones_at-stones w ↦
+      (goes_on-let_go c.args.stones c.args.self.now c.loop-place.self c.loop-place.place c.loop-place.invariant _ (omega (arith, w.if-greater-lesser.true)) w.forget.ensures)
+  | else-greater-lesser w ↦
       rw w.self-is
-      (goes_on-keep c.args.stones c.args.self.now c.loop-place.self c.loop-place.place c.loop-place.invariant (omega (arith, c.stones_at.ensures)))
+      (goes_on-keep c.args.stones c.args.self.now c.loop-place.self c.loop-place.place c.loop-place.invariant (omega (arith, w.if-greater-lesser.false)))
 ]
 
 pub returns : goal.returns
