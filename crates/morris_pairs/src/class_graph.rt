@@ -20,7 +20,7 @@ use crate::numbering::Numbering;
 use crate::row_reading::read_rows;
 use crate::rows::Row;
 use crate::shelf::Shelf;
-use crate::stock::Stock;
+use crate::table_set::TableSet;
 use morris_board::board::{Board, Geometry};
 use morris_index::pair::Pair;
 use morris_wave::{Exits, Graph};
@@ -84,7 +84,7 @@ impl<'a, B: Geometry> ClassGraph<'a, B> {
     /// Those of [`new`](ClassGraph::new), in the same order.
     pub fn over(
         alloc: Global,
-        tables: &'a Stock<B>,
+        tables: &'a TableSet<B>,
         pair: Pair<B>,
     ) -> Result<ClassGraph<'a, B>, BuildFault<B>>
         ensures needs { MatchResult result (λ _. first_missing tables.now pair ≡ None) (λ fault. needed_by fault ≡ first_missing tables.now pair) }

@@ -30,7 +30,7 @@ use crate::levels::PairLevels;
 use crate::numbering::Numbering;
 use crate::rows::{Row, advance};
 use crate::shelf::{Needs, Shelf};
-use crate::stock::Stock;
+use crate::table_set::TableSet;
 use morris_board::board::{Board, Geometry};
 use morris_board::points::Points;
 use morris_board::position::Position;
@@ -88,7 +88,7 @@ fn captured_pairs<B: Geometry>(pair: &Pair<B>) -> (Option<Pair<B>>, Option<Pair<
 
 /// The table of a needed pair.
 fn needed_table<'a, B: Geometry>(
-    tables: &'a Stock<B>,
+    tables: &'a TableSet<B>,
     need: Option<Pair<B>>,
 ) -> Option<&'a Exact<B>>
     requires { IfSome need (λ d. is_some (table_on tables.now d) ≡ true) }
@@ -211,7 +211,7 @@ impl<'a, B: Geometry> PairGraph<'a, B> {
     ///
     /// # Errors
     /// [`Needs`] with the first of the pairs that the pair needs whose table isn't there.
-    pub fn over(tables: &'a Stock<B>, pair: Pair<B>) -> Result<PairGraph<'a, B>, Needs<B>>
+    pub fn over(tables: &'a TableSet<B>, pair: Pair<B>) -> Result<PairGraph<'a, B>, Needs<B>>
         ensures needs { MatchResult result (λ _. first_missing tables.now pair ≡ None) (λ needs. first_missing tables.now pair ≡ Some needs.0) }
         ensures pair { IfOk result (λ graph. graph ≡ pair) }
         ensures values { OnOk result ((l : Layout) → HasGameValues B.shape l pair) }

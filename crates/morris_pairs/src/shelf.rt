@@ -6,7 +6,7 @@ ghost use Rattle.morris_pairs.specs.Tables.{IsTable};
 ghost use Rattle.morris_pairs.specs.Shelves.{table_on, first_missing, HasAllBelow};
 
 use crate::exact::Exact;
-use crate::stock::Stock;
+use crate::table_set::TableSet;
 use morris_board::board::Geometry;
 use morris_index::pair::Pair;
 use std::alloc::{AllocError, Global};
@@ -23,7 +23,7 @@ pub struct Needs<B: Geometry>(pub Pair<B>);
 /// all pairs below it.
 #[derive(Drop)]
 pub struct Shelf<B: Geometry> {
-    tables: Stock<B>,
+    tables: TableSet<B>,
 }
 
 impl<B: Geometry> Model for Shelf<B> {
@@ -44,7 +44,7 @@ impl<B: Geometry> Shelf<B> {
     pub fn new(alloc: Global) -> Result<Shelf<B>, AllocError>
         ensures { IfOk result (λ shelf. (c : Counts) → table_on shelf c ≡ None) }
     {
-        let tables = Stock::new(alloc)?;
+        let tables = TableSet::new(alloc)?;
         Ok(Shelf { tables })
     }
 
@@ -78,7 +78,7 @@ impl<B: Geometry> Shelf<B> {
     }
 
     /// All of its tables.
-    pub fn tables(&self) -> &Stock<B>
+    pub fn tables(&self) -> &TableSet<B>
         ensures { result.now ≡ self.now }
     {
         &self.tables

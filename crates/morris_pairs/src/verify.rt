@@ -13,7 +13,7 @@ use crate::graph::PairGraph;
 use crate::raw::Raw;
 use crate::rounds::first_by;
 use crate::shelf::{Needs, Shelf};
-use crate::stock::Stock;
+use crate::table_set::TableSet;
 use morris_board::board::{Board, Geometry};
 use morris_wave::Watch;
 use std::alloc::Global;
@@ -71,7 +71,7 @@ impl<B: Board> Raw<B> {
         self,
         rt: &R,
         alloc: Global,
-        tables: &Stock<B>,
+        tables: &TableSet<B>,
         workers: usize,
         watch: &mut W,
     ) -> Result<Exact<B>, (Raw<B>, VerifyFault<B>)>

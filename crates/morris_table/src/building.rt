@@ -15,7 +15,7 @@ use morris_pairs::exact::Exact;
 use morris_pairs::graph::PairGraph;
 use morris_pairs::layout::Layout;
 use morris_pairs::shelf::Shelf;
-use morris_pairs::stock::Stock;
+use morris_pairs::table_set::TableSet;
 use morris_workers::{Gate, SHORT_NODES, SolveFault, Unwatched, Watch, solve_with};
 use std::alloc::Global;
 use std::sync::Wait;
@@ -108,7 +108,7 @@ pub fn build_as<B: Board, A: Gate, R: Threads + Wait + Sync>(
 pub fn build_watched<B: Board, A: Gate, V: Watch, R: Threads + Wait + Sync>(
     rt: &R,
     alloc: Global,
-    tables: &Stock<B>,
+    tables: &TableSet<B>,
     pair: Pair<B>,
     layout: Layout,
     gate: &A,

@@ -4,7 +4,7 @@ use crate::making::{empty, pair};
 use morris_board::nine::Nine;
 use morris_pairs::layout::Layout;
 use morris_pairs::raw::Raw;
-use morris_pairs::stock::Stock;
+use morris_pairs::table_set::TableSet;
 use morris_pairs::verify::VerifyFault;
 use morris_table::building::build_as;
 use morris_workers::{OpenGate, Unwatched};
@@ -20,7 +20,7 @@ fn assert_told<R: Abort + Threads + Sync>(rt: &R, alloc: Global, workers: usize,
     let codes = vec![in alloc; 0u16; 2_691_920].expect(rt, "memory");
     let raw = Raw::from_codes(pair::<Nine>(rt, 3, 3), Layout::Full, codes);
     let raw = raw.ok().expect(rt, "a code for each position");
-    let tables = Stock::new(alloc).expect(rt, "memory");
+    let tables = TableSet::new(alloc).expect(rt, "memory");
     let (_, fault) = raw
         .verify_watched(rt, alloc, &tables, workers, &mut Unwatched)
         .err()

@@ -1,9 +1,9 @@
 use Rattle.std.proofs.Common.{◌≡◌, ℕ, arith, subst, true}
 use Rattle.morris_index.specs.Pairs.{Counts}
 use Rattle.morris_pairs.specs.Shelves.{has_place, table_on}
-use Rattle.morris_pairs.proofs.StockLaws.{left_at, goes_on-let_go, goes_on-keep, let_go-last}
-use Rattle.morris_pairs.proofs.stock.Stock.let_go.Goals as goal
-use Rattle.morris_pairs.proofs.stock.Stock.let_go.Goals.{then-greater-lesser, else-greater-lesser}
+use Rattle.morris_pairs.proofs.TableSetLaws.{left_at, goes_on-let_go, goes_on-keep, let_go-last}
+use Rattle.morris_pairs.proofs.table_set.TableSet.let_go.Goals as goal
+use Rattle.morris_pairs.proofs.table_set.TableSet.let_go.Goals.{then-greater-lesser, else-greater-lesser}
 
 pub loop-place-preserved : goal.loop-place-preserved
 loop-place-preserved g c = elim c.if-greater-lesser.branch [

@@ -19,11 +19,11 @@ const PLACES: usize = 49;
 /// tables of one stone less than its own, and no others, so whoever builds pair after pair keeps
 /// those of two neighbouring numbers of stones.
 #[derive(Drop)]
-pub struct Stock<B: Geometry> {
+pub struct TableSet<B: Geometry> {
     tables: Vec<Option<Exact<B>>>,
 }
 
-impl<B: Geometry> Model for Stock<B> {
+impl<B: Geometry> Model for TableSet<B> {
     ghost use Rattle.morris_pairs.specs.Shelves.{AreTables, Stored};
 
     ghost Value = { Stored };
@@ -33,12 +33,12 @@ impl<B: Geometry> Model for Stock<B> {
     ghost invariant = { λ set. AreTables B.shape set.tables.items };
 }
 
-impl<B: Geometry> Stock<B> {
+impl<B: Geometry> TableSet<B> {
     /// No tables.
     ///
     /// # Errors
     /// [`AllocError`] where memory runs out. No other call takes memory.
-    pub fn new(alloc: Global) -> Result<Stock<B>, AllocError>
+    pub fn new(alloc: Global) -> Result<TableSet<B>, AllocError>
         ensures none { IfOk result (λ set. (c : Counts) → table_on set c ≡ None) }
         ensures lawful { IfOk result (AreTables B.shape) }
     {
@@ -46,7 +46,7 @@ impl<B: Geometry> Stock<B> {
         for _ in 0..PLACES {
             tables.push_reserved(None);
         }
-        Ok(Stock { tables })
+        Ok(TableSet { tables })
     }
 
     /// Keeps a table, in the place of the one of its pair that is there.
