@@ -1,6 +1,6 @@
 -- A list of codes in which all entries agree is exact, and an exact list agrees everywhere.
 use Rattle.std.proofs.Common.{◌≡◌, ◌↔◌, ℕ, zero, suc, ◌+◌, ◌-◌, ◌<◌, ◌≤◌, ◌%◌, Bool, true, false, not, ◌&&◌, ◌||◌, eqb, ltb, leb, List, [], ◌∷◌, ◌++◌, map, append-nil, append_assoc, filter, Option, Some, None, min, max, length, get_or, refl, sym, ap, ap₂, subst, ◌∙◌, inl, inr, ◌⊎◌, arith, add-suc, add-zero}
-use Rattle.std.proofs.lemmas.Bool.{false≢true, cases_lt, cases_Bool, both_ways, and_from, and_right, and_parts, or_cases, or_parts, or_left, or_right, le-leb, lt-leb, lt-ltb, le-ltb, leb-true, ltb-true, eq-eqb, eqb-true, ne_eqb, not-true, not_from_false, false_from_ne_true, cond-true, cond-false}
+use Rattle.std.proofs.lemmas.Bool.{cases_lt, cases_Bool, both_ways, and_from, and_right, and_parts, or_cases, or_parts, or_left, or_right, le-leb, lt-leb, lt-ltb, le-ltb, leb-true, ltb-true, eq-eqb, eqb-true, ne_eqb, not-true, not_from_false, false_from_ne_true, cond-true, cond-false}
 use Rattle.std.proofs.lemmas.List.Folds.{list_all-map, list_all-append, list_any-append}
 use Rattle.std.proofs.lemmas.List.{map-append, flat_map_more, get_or_past}
 use Rattle.std.proofs.lemmas.List.Elements.{filter-append}
@@ -16,7 +16,7 @@ use Rattle.morris_index.specs.Pairs.{Counts, IsPair, is_of}
 use Rattle.morris_index.proofs.IndexLaws.{placed}
 use Rattle.morris_wave.specs.Nets.{Net}
 use Rattle.morris_wave.specs.declared.network.Exits.{Exits}
-use Rattle.morris_wave.specs.Exits.{is_odd, is_won_code, least, greatest, depths, exits_of, some_below, exits_lost, exits_won}
+use Rattle.morris_wave.specs.Exits.{is_odd, is_won_code, least, greatest, depths, exits_of, exits_lost, exits_won}
 use Rattle.morris_wave.specs.Values.{is_lost, is_won, is_decided, is_lost_exit, is_won_exit, HasCode, HasDepth}
 use Rattle.morris_wave.proofs.Depths.{lost_more, won_more, lost_parity, won_parity, apart, decided_by_then, none_decided}
 use Rattle.morris_wave.proofs.ExitTests.{depths_yes, depths_no, some_exit_lost, each_exit_won}
@@ -385,20 +385,6 @@ module _ (board : Shape) (lawful : is_board board ≡ true) (y : HasSymmetries b
 
 -- ---- the summary of a position's results, move by move
 
-pub all_added-none : (e : Exits) → all_added e [] ≡ e
-unfolding all_added
-all_added-none e = refl
-
-pub all_added-more : (e : Exits) (codes : List ℕ) (code : ℕ) → all_added e (codes ++ code ∷ []) ≡ added (all_added e codes) code
-unfolding all_added
-all_added-more e [] code = refl
-all_added-more e (c ∷ codes) code = all_added-more (added e c) codes code
-
-pub all_added-append : (e : Exits) (codes more : List ℕ) → all_added e (codes ++ more) ≡ all_added (all_added e codes) more
-unfolding all_added
-all_added-append e [] more = refl
-all_added-append e (c ∷ codes) more = all_added-append (added e c) codes more
-
 exits_of-added : (first codes : List ℕ) → all_added (exits_of first) codes ≡ exits_of (first ++ codes)
 unfolding all_added
 exits_of-added first [] = ap exits_of (sym (append-nil first))
@@ -420,11 +406,6 @@ all_added-lost_now : (e : Exits) (codes : List ℕ) → e.least_lost ≡ Some 0 
 unfolding all_added
 all_added-lost_now e [] now = now
 all_added-lost_now e (c ∷ codes) now = all_added-lost_now (added e c) codes (added-lost_now e c now)
-
--- a result that is lost in fewer than one ply is lost at once
-pub lost_now : (o : Option ℕ) → some_below 1 o ≡ true → o ≡ Some 0
-lost_now None h = absurd (false≢true h)
-lost_now (Some d) h = let z : d ≡ 0 = omega (arith, ltb-true d 1 h) in ap (λ n. Some n) z
 
 above-lost_now : (e : Exits) → e.least_lost ≡ Some 0 → code_above e ≡ 2
 above-lost_now e now = rw now refl

@@ -1,5 +1,5 @@
 -- A refusal of a sweep is that of the sweep or of the pair's graph.
-use Rattle.std.proofs.Common.{◌≡◌, ℕ, Result, Ok, Err, None, IfErr, refl, sym, subst}
+use Rattle.std.proofs.Common.{◌≡◌, Result, Ok, Err, None, IfErr, refl, sym, subst}
 use Rattle.std.specs.Result.{IsErrAnd}
 use Rattle.morris_board.specs.Boards.{Shape}
 use Rattle.morris_index.specs.Pairs.{Counts}

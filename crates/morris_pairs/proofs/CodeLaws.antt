@@ -1,7 +1,7 @@
 -- Laws of codes: a position has one code, and the code is found by looking through the depths in
 -- order.
 use Rattle.std.proofs.Common.{◌≡◌, ℕ, zero, suc, ◌+◌, ◌<◌, ◌≤◌, ◌%◌, true, false, cond, eqb, refl, sym, ap, subst, ◌∙◌, inl, inr, ◌⊎◌, arith}
-use Rattle.std.proofs.lemmas.Bool.{cases_eq, eq-eqb, ne_eqb, or_left, or_right, or_parts, or_from, cond-true, cond-false}
+use Rattle.std.proofs.lemmas.Bool.{cases_eq, eq-eqb, ne_eqb, or_left, or_right, or_from, cond-true, cond-false}
 use Rattle.std.specs.List.{Contains}
 use Rattle.morris_board.specs.Sets.{members, count_of}
 use Rattle.morris_board.specs.Boards.{Shape}
@@ -84,9 +84,6 @@ module _ (board : Shape) (s : Sides) where
 
   pub decided_not : (n : ℕ) → IsOpen board s n → is_decided n board s ≡ false
   decided_not n h = or_from (is_lost n board s) (is_won n board s) h.not_lost h.not_won
-
-  pub not_decided : (n : ℕ) → is_decided n board s ≡ false → IsOpen board s n
-  not_decided n h = let w = or_parts (is_lost n board s) (is_won n board s) h in record { not_lost = w.0; not_won = w.1 }
 
   pub decided_lost : (depth n : ℕ) → depth ≤ n → IsLostIn board s depth → is_decided n board s ≡ true
   decided_lost depth n low h = or_left (is_lost n board s) (is_won n board s) (lost_longer board s depth n low h.lost)

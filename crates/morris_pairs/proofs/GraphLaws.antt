@@ -1,5 +1,5 @@
 -- The graph of a pair: the codes of what captures lead to, and their summary.
-use Rattle.std.proofs.Common.{◌≡◌, ◌↔◌, ℕ, ◌-◌, ◌<◌, ◌≤◌, true, false, not, List, [], ◌∷◌, ◌++◌, Option, Some, None, is_some, map, refl, sym, ap, subst, ◌∙◌, inl, inr, ◌⊎◌, arith, get_or, ltb, length, append-nil}
+use Rattle.std.proofs.Common.{◌≡◌, ◌↔◌, ℕ, ◌-◌, ◌<◌, ◌≤◌, true, not, List, [], ◌∷◌, ◌++◌, Option, Some, None, is_some, map, refl, sym, ap, subst, ◌∙◌, inl, inr, ◌⊎◌, arith, get_or, ltb, length}
 use Rattle.std.specs.List.{sum_by, All, Contains, filter}
 use Rattle.std.proofs.lemmas.Bool.{ltb-true}
 use Rattle.std.proofs.lemmas.Option.{cond_some}
@@ -24,7 +24,7 @@ use Rattle.morris_pairs.specs.Tables.{Table}
 use Rattle.morris_wave.specs.Summaries.{added}
 use Rattle.morris_pairs.specs.Graphs.{IsTableOf, IsNeeded, IsPairGraph, exits_by, HasGameValues}
 use Rattle.morris_pairs.specs.Known.{IsTabled, IsKnown, IsBeyondCodes}
-use Rattle.morris_pairs.specs.FilterLaws.{filter-yes, filter-no}
+use Rattle.morris_pairs.specs.FilterLaws.{filter-yes}
 use Rattle.morris_pairs.specs.NetLaws.{points_few, quiet-at, exits-at, size-pair_net, net_at-level_of}
 use Rattle.morris_pairs.proofs.CodeLaws.{code_to-is}
 use Rattle.morris_pairs.proofs.NodeLaws.{known_by_tables, node_code, code_node}
@@ -67,25 +67,13 @@ IsPair-needed n c d h need = elim (needed_cases c d need) [
 
 -- ---- the summary of the captures
 
-pub exits_by-all : (board : Shape) (s : Sides) → exits_by board s (moves_of board s) ≡ exits_of (capture_codes board s)
-unfolding exits_by capture_codes
-exits_by-all board s = refl
-
 pub exits_by-none : (board : Shape) (s : Sides) → exits_by board s [] ≡ exits_of []
 unfolding exits_by
 exits_by-none board s = refl
 
-captures-quiet : (ms : List Move) (m : Move) → is_some m.taken ≡ false → filter is_capture (ms ++ m ∷ []) ≡ filter is_capture ms
-captures-quiet ms m quiet =
-    filter-append is_capture ms (m ∷ []) ∙ ap (λ xs. filter is_capture ms ++ xs) (filter-no is_capture m (ap (λ b. not (not b)) quiet)) ∙ append-nil (filter is_capture ms)
-
 captures-capture : (ms : List Move) (m : Move) → is_some m.taken ≡ true → filter is_capture (ms ++ m ∷ []) ≡ filter is_capture ms ++ m ∷ []
 captures-capture ms m takes =
     filter-append is_capture ms (m ∷ []) ∙ ap (λ xs. filter is_capture ms ++ xs) (filter-yes is_capture m (ap (λ b. not (not b)) takes))
-
-pub exits_by-quiet : (board : Shape) (s : Sides) (ms : List Move) (m : Move) → is_some m.taken ≡ false → exits_by board s (ms ++ m ∷ []) ≡ exits_by board s ms
-unfolding exits_by
-exits_by-quiet board s ms m quiet = ap (λ xs. exits_of (map (λ x. code_to 65534 board (result_of s x)) xs)) (captures-quiet ms m quiet)
 
 pub exits_by-capture : (board : Shape) (s : Sides) (ms : List Move) (m : Move) → is_some m.taken ≡ true → (code : ℕ) → IsCodeOf board (result_of s m) code → code ≤ 65535
     → exits_by board s (ms ++ m ∷ []) ≡ added (exits_by board s ms) code

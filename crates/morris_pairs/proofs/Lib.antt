@@ -9,7 +9,7 @@ pub mod DepthLaws
 pub mod TallyLaws
 pub mod TableLaws
 pub mod ShelfLaws
-pub mod StockLaws
+pub mod TableSetLaws
 pub mod BackLaws
 pub mod BackLawsLists
 pub mod BackLawsLoops

@@ -1,7 +1,7 @@
 -- Where a source stands after its bytes were read in parts.
 use Rattle.std.proofs.Common.{◌≡◌, ℕ, ◌+◌, ◌*◌, ◌≤◌, List, [], ◌++◌, length, take, Option, Some, None, Ok, sym, ap, ◌∙◌, arith, length-append, length-take}
-use Rattle.std.specs.Io.KnownBytes.{Consumes, Keeps}
-use Rattle.std.proofs.KnownBytes.{Consumes-nil, Consumes-trans, Consumes-kept}
+use Rattle.std.specs.Io.KnownBytes.{Consumes}
+use Rattle.std.proofs.KnownBytes.{Consumes-nil, Consumes-trans}
 use Rattle.morris_board.specs.Boards.{Shape}
 use Rattle.morris_index.specs.Pairs.{Counts}
 use Rattle.morris_pairs.specs.declared.layout.Layout.{Layout}
@@ -21,10 +21,6 @@ stands-take n count buffer a b few read = (take count buffer, omega (arith, leng
 -- at most as many bytes were read as there may be
 pub stands-fewer : (n m : ℕ) (a b : Option (List ℕ)) → n ≤ m → StandsWithin n a b → StandsWithin m a b
 stands-fewer n m a b few here = (here.0, omega (arith, here.1, few), here.2)
-
--- what follows failed, and read nothing
-pub stands-kept : (n : ℕ) (a b c : Option (List ℕ)) → StandsWithin n a b → Keeps b c → StandsWithin n a c
-stands-kept n a b c here kept = (here.0, here.1, Consumes-kept a b c here.0 here.2 kept)
 
 -- one part after another
 pub stands-after : (n m : ℕ) (front : List ℕ) (a b c : Option (List ℕ)) → Consumes a b front → length front + n ≤ m → StandsWithin n b c → StandsWithin m a c

@@ -94,6 +94,10 @@ ends_short n None new front read end few = tt
 ends_short n (Some bytes) None front read end few = absurd read
 ends_short n (Some bytes) (Some left) front read end few = omega (arith, ap length read, length-append front left, ap length end)
 
+-- a read failed
+pub ends_failed : (n : ℕ) (old : Option (List ℕ)) (refusal : ReadFault) → refusal ≡ fault.Read → EndsEarly n old refusal
+ends_failed n old refusal is = rw is tt
+
 -- reading so many bytes more ended early
 pub early_after : (n m : ℕ) (front : List ℕ) (old mid : Option (List ℕ)) (refusal : ReadFault) → Consumes old mid front → length front + n ≤ m
     → EndsEarly n mid refusal → EndsEarly m old refusal

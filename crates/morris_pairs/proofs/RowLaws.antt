@@ -1,5 +1,5 @@
 -- The quiet moves of a position, from what is kept of its own stones.
-use Rattle.std.proofs.Common.{◌≡◌, ℕ, zero, suc, ◌+◌, ◌<◌, ◌≤◌, true, false, Bool, not, ◌&&◌, ◌||◌, cond, ltb, eqb, List, [], ◌∷◌, ◌++◌, length, filter, slice_index, slice_set, refl, sym, ap, ap₂, ◌∙◌, inl, inr, arith, length-append}
+use Rattle.std.proofs.Common.{◌≡◌, ℕ, zero, suc, ◌+◌, ◌<◌, ◌≤◌, true, false, Bool, not, ◌&&◌, ◌||◌, cond, ltb, List, [], ◌∷◌, length, filter, slice_index, slice_set, refl, sym, ap, ap₂, ◌∙◌, inl, inr, arith, length-append}
 use Rattle.std.proofs.lemmas.Bool.{cases_Bool, cases_eq, cases_lt, lt-ltb, le-ltb, eq-eqb, ne_eqb}
 use Rattle.std.proofs.lemmas.Grind.{get_or-set_at}
 use Rattle.std.proofs.lemmas.List.{get_or-set_other}
@@ -7,7 +7,7 @@ use Rattle.std.proofs.lemmas.List.Elements.{filter-append}
 use Rattle.std.specs.List.{flat_map, sum_by, list_any}
 use Rattle.std.proofs.lemmas.List.Sums.{sum_by-append}
 use Rattle.morris_board.specs.Sets.{has, members, count_of, with_point}
-use Rattle.morris_board.specs.Boards.{Shape, is_adjacent, adjacent}
+use Rattle.morris_board.specs.Boards.{Shape}
 use Rattle.morris_board.specs.Positions.{Sides, IsPosition}
 use Rattle.morris_board.proofs.PointsLaws.{has-set_where, has-none, has-with, count_of-le}
 use Rattle.morris_moves.specs.Rules.{closes, goes, reach, is_vacant, may_go, moves_from, moves_of}
@@ -157,14 +157,6 @@ module _ (b : Shape) (s : Sides) where
 -- ---- what the loops keep
 
 module _ (b : Shape) (own : ℕ) where
-  pub goes-slide : (n u v : ℕ) → b.points ≡ n → v < n → ltb 3 (count_of own) ≡ true → has (adjacent b u) v ≡ goes b (count_of own) u v
-  unfolding adjacent
-  goes-slide n u v points h many =
-      has-set_where b.points (is_adjacent b u) v ∙ rw (many, lt-ltb v b.points (omega (arith, points))) refl
-
-  pub goes-jump : (u v : ℕ) → ltb 3 (count_of own) ≡ false → eqb (count_of own) 3 ≡ goes b (count_of own) u v
-  goes-jump u v few = rw few refl
-
   pub arrivals-own : (v : ℕ) → has own v ≡ true → arrivals b own v ≡ 0
   unfolding arrivals
   arrivals-own v y = rw y refl
@@ -175,16 +167,6 @@ module _ (b : Shape) (own : ℕ) where
   pub arrivals-all : (v : ℕ) → has own v ≡ false → arrivals b own v ≡ coming v (members own)
   unfolding arrivals
   arrivals-all v y = rw y refl
-
-  pub coming-more : (v u : ℕ) (us : List ℕ) → coming v (us ++ u ∷ []) ≡ coming v us + cond (goes b (count_of own) u v && not (closes b own u v)) 1 0
-  coming-more v u us = elim (cases_Bool (goes b (count_of own) u v && not (closes b own u v))) [
-    | inl y ↦
-        ap length (filter-append (λ w. goes b (count_of own) w v && not (closes b own w v)) us (u ∷ [])) ∙ rw y
-        (length-append (filter (λ w. goes b (count_of own) w v && not (closes b own w v)) us) (u ∷ []))
-    | inr y ↦
-        ap length (filter-append (λ w. goes b (count_of own) w v && not (closes b own w v)) us (u ∷ [])) ∙ rw y
-        (length-append (filter (λ w. goes b (count_of own) w v && not (closes b own w v)) us) [])
-  ]
 
   coming-few : (v : ℕ) (us : List ℕ) → coming v us ≤ length us
   coming-few v [] = omega arith
@@ -207,26 +189,9 @@ module _ (b : Shape) (own : ℕ) where
   abbrev pub closing_among : ℕ → List ℕ → Bool
   closing_among v us = list_any (λ u. goes b (count_of own) u v && closes b own u v) us
 
-  pub may_close-own : (v : ℕ) → has own v ≡ true → false ≡ may_close b own v
-  unfolding may_close
-  may_close-own v y = rw y refl
-
   pub may_close-all : (v : ℕ) → has own v ≡ false → closing_among v (members own) ≡ may_close b own v
   unfolding may_close
   may_close-all v y = rw y refl
-
-  split_any : (p : ℕ → Bool) (us : List ℕ) (u : ℕ) (ws : List ℕ) → p u ≡ true → list_any p (us ++ u ∷ ws) ≡ true
-  split_any p [] u ws y = rw y refl
-  split_any p (w ∷ us) u ws y = elim (cases_Bool (p w)) [
-    | inl z ↦ rw z refl
-    | inr z ↦ rw z (split_any p us u ws y)
-  ]
-
-  pub may_close-here : (v u : ℕ) (us ws : List ℕ) → us ++ u ∷ ws ≡ members own → has own v ≡ false → goes b (count_of own) u v ≡ true → closes b own u v ≡ true
-      → true ≡ may_close b own v
-  may_close-here v u us ws split none comes closing =
-      sym (sym (may_close-all v none) ∙ (ap (closing_among v) (sym split)
-      ∙ split_any (λ w. goes b (count_of own) w v && closes b own w v) us u ws (rw (comes, closing) refl)))
 
 -- an array whose entries are those of a function, one more at a time
 pub each_more : (f : ℕ → ℕ) (kept : List ℕ) (k x : ℕ) → k < length kept → x ≡ f k → ((v : ℕ) → v < k → slice_index kept v ≡ f v)

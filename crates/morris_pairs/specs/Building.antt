@@ -1,12 +1,12 @@
 -- What is built of a pair, and what a sweep answers.
-use Rattle.std.specs.Prelude.{◌≡◌, ℕ, Some, None}
+use Rattle.std.specs.Prelude.{◌≡◌, Some, None}
 use Rattle.morris_board.specs.Boards.{Shape}
 use Rattle.morris_index.specs.Pairs.{Counts}
 use Rattle.morris_wave.specs.Values.{IsTooDeep}
 use Rattle.morris_wave.specs.declared.solver.SweepFault.{SweepFault}
 use Rattle.morris_wave.specs.declared.solver.SweepFault.TheVariants as sweep
 use Rattle.morris_pairs.specs.declared.layout.Layout.{Layout}
-use Rattle.morris_pairs.specs.declared.layout.Layout.TheVariants.{Full, Classes}
+use Rattle.morris_pairs.specs.declared.layout.Layout.TheVariants.{Full}
 use Rattle.morris_pairs.specs.declared.build_fault.BuildFault.{BuildFault}
 use Rattle.morris_pairs.specs.declared.build_fault.BuildFault.TheVariants.{Needs, Workers, Blocks, Memory, Missing, TooDeep}
 use Rattle.morris_pairs.specs.Known.{IsBeyondCodes}

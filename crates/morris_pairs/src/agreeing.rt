@@ -5,16 +5,14 @@ ghost use Rattle.morris_board.specs.Sets.{has};
 ghost use Rattle.morris_board.specs.Positions.{IsPosition};
 ghost use Rattle.morris_moves.specs.Rules.{closes, move, moves_from, moves_of, reach, result_of};
 ghost use Rattle.morris_index.specs.Pairs.{is_of};
-ghost use Rattle.morris_wave.specs.Exits.{exits_of, exits_lost};
+ghost use Rattle.morris_wave.specs.Exits.{exits_of};
 ghost use Rattle.morris_index.specs.Moves.{in_pair};
 ghost use Rattle.morris_pairs.specs.Entries.{entry_count, entry_index, has_own_entry};
-ghost use Rattle.morris_pairs.specs.Numberings.{layout_of, pair_of, layout_after, position_before};
+ghost use Rattle.morris_pairs.specs.Numberings.{layout_after, position_before};
 ghost use Rattle.morris_pairs.specs.PairNets.{capture_codes};
 ghost use Rattle.morris_pairs.specs.QuietEnds.{AreEnds};
-ghost use Rattle.morris_pairs.specs.Raws.{IsRaw};
-ghost use Rattle.morris_pairs.specs.Rows.{IsRow};
 ghost use Rattle.morris_pairs.specs.Worths.{best_of, code_of_worth};
-ghost use Rattle.morris_pairs.specs.Agreement.{code_from, result_codes, quiet_codes, Agrees, IsFirstIn, IsFirstToDiffer};
+ghost use Rattle.morris_pairs.specs.Agreement.{code_from, result_codes, quiet_codes, Agrees, IsFirstIn};
 
 use crate::graph::PairGraph;
 use crate::numbering::{Numbering, Successors};
@@ -76,13 +74,6 @@ fn best_from<B: Geometry>(
     best
 }
 
-/// Whether some capture leaves the opponent lost at once.
-fn wins_at_once(captures: Exits) -> bool
-    ensures { result ≡ exits_lost 1 captures }
-{
-    matches!(captures.least_lost, Some(depth) if depth < 1)
-}
-
 /// What the best result of a position is worth, from the summary of its captures and the stated
 /// codes of the others.
 fn best_after<B: Geometry>(
@@ -122,32 +113,10 @@ fn best_at_once<B: Geometry>(raw: &Raw<B>, position: &Position<B>, captures: Exi
     requires { captures ≡ exits_of (capture_codes B.shape position.now) }
     ensures { IfSome result (λ best. code_of_worth best ≡ code_from (result_codes B.shape raw.now position.now)) }
 {
-    if wins_at_once(captures) {
-        Some(worth_of(captures))
-    } else {
-        None
+    match captures.least_lost {
+        Some(0) => Some(worth_of(captures)),
+        _ => None,
     }
-}
-
-/// What the best result of a position is worth, from the summary of its captures and the stated
-/// codes of the others.
-fn best_result<B: Geometry>(
-    raw: &Raw<B>,
-    position: &Position<B>,
-    ends: &QuietEnds,
-    captures: Exits,
-) -> u32
-    requires counts { is_of raw.now.pair position.now ≡ true }
-    requires own { ends.now.own ≡ position.now.own }
-    requires ends { AreEnds B.shape B.POINTS ends.now }
-    requires captures { captures ≡ exits_of (capture_codes B.shape position.now) }
-    ensures { code_of_worth result ≡ code_from (result_codes B.shape raw.now position.now) }
-{
-    if let Some(best) = best_at_once(raw, position, captures) {
-        return best;
-    }
-    let successors = Successors::of(raw.numbering(), position);
-    best_after(raw, &successors, position, ends, captures)
 }
 
 /// Whether `code`, which the table states for a position that has an entry for its own, agrees,
@@ -198,7 +167,13 @@ pub(crate) fn agrees<B: Geometry>(
     ensures { IsTrue result ↔ Agrees B.shape raw.now index }
 {
     let _ = raw.pair();
-    let best = best_result(raw, position, ends, captures);
+    let best = match best_at_once(raw, position, captures) {
+        Some(best) => best,
+        None => {
+            let successors = Successors::of(raw.numbering(), position);
+            best_after(raw, &successors, position, ends, captures)
+        }
+    };
     u32::from(raw.code(index)) == code_of_worth(best)
 }
 
@@ -231,12 +206,4 @@ pub(crate) fn first_in<B: Geometry>(
         }
     }
     None
-}
-
-/// The first entry that doesn't agree.
-pub(crate) fn first_to_differ<B: Geometry>(graph: &PairGraph<B>, raw: &Raw<B>) -> Option<u64>
-    requires { graph.now ≡ raw.now.pair }
-    ensures { MatchOption result ((k : ℕ) → k < entry_count B.shape B.POINTS raw.now.layout raw.now.pair → Agrees B.shape raw.now k) (IsFirstToDiffer B.shape raw.now) }
-{
-    first_in(graph, raw, 0, raw.len())
 }

@@ -1,13 +1,12 @@
 //! The entries from which a quiet move leads to an entry.
-ghost use Rattle.std.specs.Prelude.{◌≡◌, ℕ, ◌<◌, ◌≤◌, [], ◌++◌, true, OnOk, OnErr, vec_len};
+ghost use Rattle.std.specs.Prelude.{◌≡◌, ℕ, ◌<◌, ◌≤◌, [], true, OnOk, OnErr, vec_len};
 ghost use Rattle.std.specs.List.{All, sum_by};
-ghost use Rattle.morris_board.specs.Sets.{has};
 ghost use Rattle.morris_index.specs.Pairs.{IsPair, is_of};
 ghost use Rattle.morris_wave.specs.Nets.{times};
 ghost use Rattle.morris_pairs.specs.Entries.{entry_count, entry_index, has_own_entry};
 ghost use Rattle.morris_pairs.specs.Numberings.{layout_of, pair_of, layout_before, position_after};
 ghost use Rattle.morris_pairs.specs.PairNets.{pair_net};
-ghost use Rattle.morris_pairs.specs.Backward.{moves_into, entries_leading, AddsBefore};
+ghost use Rattle.morris_pairs.specs.Backward.{AddsBefore};
 
 use crate::numbering::{Numbering, Predecessors};
 use morris_board::board::Geometry;
@@ -16,24 +15,6 @@ use morris_index::predecessor_entries::PredecessorEntries;
 use morris_index::predecessors::PredecessorIndices;
 use morris_moves::backward::sources;
 use std::alloc::AllocError;
-
-/// Adds the entries from which the quiet moves of a stone to `to` that led to `position` lead to
-/// its entry.
-fn add_leading<B: Geometry>(
-    before: &Predecessors<'_, B>,
-    position: &Position<B>,
-    to: u8,
-    out: &mut Vec<u64>,
-) -> Result<(), AllocError>
-    requires position { (position_after before.now).position ≡ position.now }
-    requires end { has position.now.other to ≡ true }
-    ensures { OnOk result (out.new.items ≡ out.old.items
-        ++ entries_leading (layout_before before.now) B.shape B.POINTS (position_after before.now).pair position.now (moves_into B.shape position.now to B.POINTS)) }
-{
-    // The proof learns the rules of a position where its stones are read.
-    let _ = position.other();
-    before.add(to, sources(position, to), out)
-}
 
 /// Adds the entries from which a quiet move leads to the entry of the position of `before`: see
 /// [`list_entries_before`]. After a refusal some of them may have been added.
@@ -49,7 +30,7 @@ fn add_all_leading<B: Geometry>(
     ensures { OnOk result (AddsBefore (layout_before before.now) B.shape B.POINTS (position_after before.now).pair position.now out.old.items out.new.items) }
 {
     for to in position.other().iter() {
-        add_leading(before, position, to, out)?;
+        before.add(to, sources(position, to), out)?;
     }
     Ok(())
 }

@@ -20,7 +20,7 @@ use crate::numbering::Numbering;
 use crate::row_reading::read_rows;
 use crate::rows::Row;
 use crate::shelf::Shelf;
-use crate::stock::Stock;
+use crate::table_set::TableSet;
 use morris_board::board::{Board, Geometry};
 use morris_index::pair::Pair;
 use morris_wave::{Exits, Graph};
@@ -57,8 +57,9 @@ impl<'a, B: Geometry> ClassGraph<'a, B> {
     ///
     /// # Errors
     /// `Needs` with the first of the pairs that the pair needs whose table isn't on the shelf,
-    /// before `Memory`, where memory for the classes is refused. No other call takes memory but for
-    /// the lists that are asked for.
+    /// before `Memory`, where memory for the classes is refused. Other calls take memory for the
+    /// lists that are asked for; while nodes are read, also some 64 KiB for the captures that are
+    /// kept, and where these are refused, nodes are read without.
     pub fn new(
         alloc: Global,
         shelf: &'a Shelf<B>,
@@ -74,19 +75,19 @@ impl<'a, B: Geometry> ClassGraph<'a, B> {
         // also where a table is missing.
         ensures blocks { (s : BlockState) → IsBlockOf B.shape Layout.Classes pair s → TellsTheGame B.shape Layout.Classes pair s }
     {
-        ClassGraph::over(alloc, shelf.stock(), pair)
+        ClassGraph::over(alloc, shelf.tables(), pair)
     }
 
-    /// [`new`](ClassGraph::new) over the tables of a stock.
+    /// [`new`](ClassGraph::new) over a set of tables.
     ///
     /// # Errors
     /// Those of [`new`](ClassGraph::new), in the same order.
     pub fn over(
         alloc: Global,
-        stock: &'a Stock<B>,
+        tables: &'a TableSet<B>,
         pair: Pair<B>,
     ) -> Result<ClassGraph<'a, B>, BuildFault<B>>
-        ensures needs { MatchResult result (λ _. first_missing stock.now pair ≡ None) (λ fault. needed_by fault ≡ first_missing stock.now pair) }
+        ensures needs { MatchResult result (λ _. first_missing tables.now pair ≡ None) (λ fault. needed_by fault ≡ first_missing tables.now pair) }
         // Nothing but a table or memory can be wanting.
         ensures alone { IfErr result (λ fault. is_of_graph fault ≡ true) }
         ensures pair { IfOk result (λ graph. graph ≡ pair) }
@@ -98,7 +99,7 @@ impl<'a, B: Geometry> ClassGraph<'a, B> {
     {
         // The proof learns here that the numbers of stones are those of a pair.
         let _ = pair.greater();
-        let graph = PairGraph::over(stock, pair)?;
+        let graph = PairGraph::over(tables, pair)?;
         let numbering = Numbering::make(alloc, pair, Layout::Classes)?;
         Ok(ClassGraph {
             graph,

@@ -1,10 +1,9 @@
 //! Tables of the game's values.
-ghost use Rattle.std.specs.Prelude.{◌≡◌, ℕ, ◌+◌, ◌<◌, ◌≤◌, ◌^◌, ◌↔◌, true, length, slice_index, vec_len, IfOk, IsTrue};
-ghost use Rattle.morris_board.specs.Positions.{Sides, sides, IsPosition};
+ghost use Rattle.std.specs.Prelude.{◌≡◌, ◌+◌, ◌<◌, ◌≤◌, ◌^◌, ◌↔◌, true, length, slice_index, IfOk, IsTrue};
+ghost use Rattle.morris_board.specs.Positions.{sides, IsPosition};
 ghost use Rattle.morris_board.specs.Sets.{count_of};
 ghost use Rattle.morris_index.specs.Pairs.{is_of};
 ghost use Rattle.morris_index.specs.Standings.{are_of};
-ghost use Rattle.morris_wave.specs.Nets.{times};
 ghost use Rattle.morris_pairs.specs.Codes.{IsValue, value_in};
 ghost use Rattle.morris_pairs.specs.Entries.{entry_count, entry_index};
 ghost use Rattle.morris_pairs.specs.Numberings.{layout_of, pair_of};
@@ -88,15 +87,6 @@ impl<B: Geometry> Exact<B> {
         self.codes[i as usize]
     }
 
-    /// The code of a position of the pair.
-    pub(crate) fn code_of(&self, position: &Position<B>) -> u16
-        requires { is_of self.now.pair position.now ≡ true }
-        ensures value { result ≡ slice_index self.now.codes (entry_index B.shape B.POINTS self.now.layout self.now.pair position.now) }
-        ensures lawful { IsTable B.shape self.now }
-    {
-        self.code(self.numbering.entry(position))
-    }
-
     /// Where the entries stand of the positions of the pair in which the player to move has the
     /// stones `own` and the opponent `other` stones.
     pub(crate) fn standing(&self, own: Points, other: u8) -> Standing
@@ -126,7 +116,7 @@ impl<B: Geometry> Exact<B> {
     {
         // The proof learns the rules of a position where its stones are read.
         let _ = position.own();
-        value_of_code(self.code_of(position))
+        value_of_code(self.code(self.numbering.entry(position)))
     }
 
     /// The codes of the entries in their order.

@@ -30,7 +30,7 @@ use crate::levels::PairLevels;
 use crate::numbering::Numbering;
 use crate::rows::{Row, advance};
 use crate::shelf::{Needs, Shelf};
-use crate::stock::Stock;
+use crate::table_set::TableSet;
 use morris_board::board::{Board, Geometry};
 use morris_board::points::Points;
 use morris_board::position::Position;
@@ -87,11 +87,14 @@ fn captured_pairs<B: Geometry>(pair: &Pair<B>) -> (Option<Pair<B>>, Option<Pair<
 }
 
 /// The table of a needed pair.
-fn needed_table<'a, B: Geometry>(stock: &'a Stock<B>, need: Option<Pair<B>>) -> Option<&'a Exact<B>>
-    requires { IfSome need (λ d. is_some (table_on stock.now d) ≡ true) }
+fn needed_table<'a, B: Geometry>(
+    tables: &'a TableSet<B>,
+    need: Option<Pair<B>>,
+) -> Option<&'a Exact<B>>
+    requires { IfSome need (λ d. is_some (table_on tables.now d) ≡ true) }
     ensures { IsNeeded B.shape need (option_copied result) }
 {
-    stock.get(need?)
+    tables.get(need?)
 }
 
 /// Goes on with the summary `known`: each capture of the stone of `standing` by a move of one of
@@ -201,15 +204,15 @@ impl<'a, B: Geometry> PairGraph<'a, B> {
         // also where a table is missing.
         ensures blocks { (l : Layout) (s : BlockState) → IsBlockOf B.shape l pair s → TellsTheGame B.shape l pair s }
     {
-        PairGraph::over(shelf.stock(), pair)
+        PairGraph::over(shelf.tables(), pair)
     }
 
-    /// The graph of a pair over the tables of a stock. It takes no memory.
+    /// The graph of a pair over a set of tables. It takes no memory.
     ///
     /// # Errors
     /// [`Needs`] with the first of the pairs that the pair needs whose table isn't there.
-    pub fn over(stock: &'a Stock<B>, pair: Pair<B>) -> Result<PairGraph<'a, B>, Needs<B>>
-        ensures needs { MatchResult result (λ _. first_missing stock.now pair ≡ None) (λ needs. first_missing stock.now pair ≡ Some needs.0) }
+    pub fn over(tables: &'a TableSet<B>, pair: Pair<B>) -> Result<PairGraph<'a, B>, Needs<B>>
+        ensures needs { MatchResult result (λ _. first_missing tables.now pair ≡ None) (λ needs. first_missing tables.now pair ≡ Some needs.0) }
         ensures pair { IfOk result (λ graph. graph ≡ pair) }
         ensures values { OnOk result ((l : Layout) → HasGameValues B.shape l pair) }
         ensures deep { OnOk result ((l : Layout) → (IsTooDeep (net_at B.shape (level_of l pair)) ↔ IsBeyondCodes B.shape pair)) }
@@ -218,13 +221,13 @@ impl<'a, B: Geometry> PairGraph<'a, B> {
         ensures blocks { (l : Layout) (s : BlockState) → IsBlockOf B.shape l pair s → TellsTheGame B.shape l pair s }
     {
         let (less_lesser, less_greater) = captured_pairs(&pair);
-        if let Some(needs) = stock.missing(pair) {
+        if let Some(needs) = tables.missing(pair) {
             return Err(needs);
         }
         Ok(PairGraph {
             pair,
-            less_lesser: needed_table(stock, less_lesser),
-            less_greater: needed_table(stock, less_greater),
+            less_lesser: needed_table(tables, less_lesser),
+            less_greater: needed_table(tables, less_greater),
         })
     }
 

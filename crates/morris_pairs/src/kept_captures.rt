@@ -2,7 +2,7 @@
 //! captures lead to that leave the opponent certain stones depends on these and on the own stones
 //! alone, so long as the stone that is taken stands where no move closes a mill. Elsewhere it is in
 //! the way of such a move, which another position with the same stones left may have.
-ghost use Rattle.std.specs.Prelude.{◌≡◌, ℕ, ◌<◌, IfSome};
+ghost use Rattle.std.specs.Prelude.{◌≡◌, ◌<◌, IfSome};
 ghost use Rattle.morris_board.specs.Boards.{Shape};
 ghost use Rattle.morris_wave.specs.Exits.{exits_of};
 ghost use Rattle.morris_pairs.specs.KeptCaptures.{codes_left, AreKept};
@@ -15,7 +15,7 @@ use std::alloc::Global;
 const SLOTS: usize = 4096;
 
 /// A summary that is kept, or none.
-#[derive(Clone, Copy, Debug)]
+#[derive(Clone, Copy)]
 pub(crate) struct Slot {
     /// The stones that the opponent is left; none in an empty slot.
     pub(crate) left: Points,

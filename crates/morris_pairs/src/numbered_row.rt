@@ -15,7 +15,7 @@ use morris_board::points::Points;
 
 /// A count below 16 for each number below 32, in binary: so the counts of several numbers are summed
 /// without going through these one by one.
-#[derive(Clone, Copy, Debug)]
+#[derive(Clone, Copy)]
 pub(crate) struct SmallCounts {
     /// The numbers whose count is odd.
     pub(crate) ones: Points,
@@ -29,7 +29,7 @@ pub(crate) struct SmallCounts {
 
 /// What is kept of the stones of one player, so that positions with these stones are read from the
 /// numbers of the opponent's alone.
-#[derive(Clone, Copy, Debug)]
+#[derive(Clone, Copy)]
 pub(crate) struct NumberedRow {
     /// What is kept of them by points.
     pub(crate) row: Row,

@@ -1,16 +1,16 @@
 //! Where the stones of one player go by quiet moves, whatever the opponent has.
 ghost use Rattle.std.specs.Prelude.{◌≡◌, ℕ, ◌<◌, ◌^◌, ◌&&◌, not, nat_lt, true};
-ghost use Rattle.morris_board.specs.Sets.{has, count_of};
-ghost use Rattle.morris_moves.specs.Rules.{closes, goes, reach};
+ghost use Rattle.morris_board.specs.Sets.{has};
+ghost use Rattle.morris_moves.specs.Rules.{closes, reach};
 ghost use Rattle.morris_pairs.specs.QuietEnds.{AreEnds, is_quiet_end};
 
+use crate::rows::arriving;
 use morris_board::board::Geometry;
 use morris_board::points::Points;
 use morris_board::position::Position;
-use morris_moves::rules::closes;
 
 /// What is kept of the stones of one player.
-#[derive(Clone, Copy, Debug)]
+#[derive(Clone, Copy)]
 pub(crate) struct QuietEnds {
     /// The stones.
     own: Points,
@@ -19,38 +19,17 @@ pub(crate) struct QuietEnds {
     ends: [u32; 24],
 }
 
-/// Whether a stone on `from` may go to `to`, where that is vacant.
-fn may_come<B: Geometry>(own: Points, from: u8, to: u8) -> bool
-    requires start { from < B.POINTS }
-    requires end { to < B.POINTS }
-    ensures { result ≡ goes B.shape (count_of own) from to }
-{
-    let stones = own.count();
-    if 3 < stones {
-        B::neighbours(from).has(to)
-    } else {
-        stones == 3
-    }
-}
-
-/// Whether the stone on `from` goes to `to` by a quiet move, where that is vacant.
-#[tactic(auto, unfolding(crate::specs::QuietEnds::is_quiet_end))]
-fn is_quiet_end<B: Geometry>(own: Points, from: u8, to: u8) -> bool
-    requires start { from < B.POINTS }
-    requires end { to < B.POINTS }
-    ensures { result ≡ is_quiet_end B.shape own from to }
-{
-    !own.has(to) && may_come::<B>(own, from, to) && !closes::<B>(own, from, to)
-}
-
 /// Where the stone on `from` goes by a quiet move, where that is vacant.
 fn ends_of<B: Geometry>(own: Points, from: u8) -> Points
-    requires { from < B.POINTS }
+    requires within { own < 2 ^ B.POINTS }
+    requires start { has own from ≡ true }
+    requires inside { from < B.POINTS }
     ensures { (v : ℕ) → has result v ≡ (nat_lt v B.POINTS && is_quiet_end B.shape own from v) }
 {
     let mut ends = Points::EMPTY;
     for to in 0..B::POINTS {
-        if is_quiet_end::<B>(own, from, to) {
+        let (quiet, _) = arriving::<B>(own, to);
+        if quiet.has(from) {
             ends = ends.with(to);
         }
     }
@@ -60,6 +39,7 @@ fn ends_of<B: Geometry>(own: Points, from: u8) -> Points
 impl QuietEnds {
     /// What is to be kept of these stones.
     pub(crate) fn of<B: Geometry>(own: Points) -> QuietEnds
+        requires { own < 2 ^ B.POINTS }
         ensures own { result.own ≡ own }
         ensures ends { AreEnds B.shape B.POINTS result }
     {

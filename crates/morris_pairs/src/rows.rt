@@ -16,7 +16,7 @@ use morris_board::points::Points;
 use morris_board::position::Position;
 
 /// What is kept of the stones of one player.
-#[derive(Clone, Copy, Debug)]
+#[derive(Clone, Copy)]
 pub(crate) struct Row {
     /// The stones.
     pub(crate) own: Points,
@@ -72,7 +72,7 @@ fn closers<B: Geometry>(own: Points, to: u8) -> Points
 
 /// The stones that may come to `to`, where that is vacant: those whose move is quiet, and those
 /// whose move closes a mill.
-fn arriving<B: Geometry>(own: Points, to: u8) -> (Points, Points)
+pub(crate) fn arriving<B: Geometry>(own: Points, to: u8) -> (Points, Points)
     requires within { own < 2 ^ B.POINTS }
     requires end { to < B.POINTS }
     ensures quiet { (u : ℕ) → has result.0 u ≡ (has own u && is_quiet_end B.shape own u to) }

@@ -1,12 +1,12 @@
 //! The tables that others rest on.
-ghost use Rattle.std.specs.Prelude.{◌≡◌, ◌≢◌, ◌<◌, Some, None, OnOk, OnErr, IfOk, IfErr, IfSome, MatchOption, MatchResult};
+ghost use Rattle.std.specs.Prelude.{◌≡◌, ◌≢◌, ◌<◌, Some, None, OnOk, OnErr, IfOk, IfErr, IfSome, MatchResult};
 ghost use Rattle.std.specs.Option.{option_copied};
 ghost use Rattle.morris_index.specs.Pairs.{Counts};
 ghost use Rattle.morris_pairs.specs.Tables.{IsTable};
 ghost use Rattle.morris_pairs.specs.Shelves.{table_on, first_missing, HasAllBelow};
 
 use crate::exact::Exact;
-use crate::stock::Stock;
+use crate::table_set::TableSet;
 use morris_board::board::Geometry;
 use morris_index::pair::Pair;
 use std::alloc::{AllocError, Global};
@@ -23,7 +23,7 @@ pub struct Needs<B: Geometry>(pub Pair<B>);
 /// all pairs below it.
 #[derive(Drop)]
 pub struct Shelf<B: Geometry> {
-    stock: Stock<B>,
+    tables: TableSet<B>,
 }
 
 impl<B: Geometry> Model for Shelf<B> {
@@ -31,9 +31,9 @@ impl<B: Geometry> Model for Shelf<B> {
 
     ghost Value = { Stored };
 
-    ghost view = { λ shelf. shelf.stock };
+    ghost view = { λ shelf. shelf.tables };
 
-    ghost invariant = { λ shelf. IsShelf B.shape shelf.stock };
+    ghost invariant = { λ shelf. IsShelf B.shape shelf.tables };
 }
 
 impl<B: Geometry> Shelf<B> {
@@ -44,8 +44,8 @@ impl<B: Geometry> Shelf<B> {
     pub fn new(alloc: Global) -> Result<Shelf<B>, AllocError>
         ensures { IfOk result (λ shelf. (c : Counts) → table_on shelf c ≡ None) }
     {
-        let stock = Stock::new(alloc)?;
-        Ok(Shelf { stock })
+        let tables = TableSet::new(alloc)?;
+        Ok(Shelf { tables })
     }
 
     /// Puts a table on the shelf, in the place of the one of its pair that is there.
@@ -61,10 +61,10 @@ impl<B: Geometry> Shelf<B> {
         ensures this { OnOk result (table_on self.new table.pair ≡ Some table) }
         ensures others { OnOk result ((c : Counts) → c ≢ table.pair → table_on self.new c ≡ table_on self.old c) }
     {
-        if let Some(needs) = self.stock.missing(table.pair()) {
+        if let Some(needs) = self.tables.missing(table.pair()) {
             return Err((table, needs));
         }
-        self.stock.put(table);
+        self.tables.put(table);
         Ok(())
     }
 
@@ -74,13 +74,13 @@ impl<B: Geometry> Shelf<B> {
         ensures exact { IfSome result (λ t. (t.now.pair ≡ pair) × IsTable B.shape t.now) }
         ensures below { IfSome result (λ _. HasAllBelow self.now pair) }
     {
-        self.stock.get(pair)
+        self.tables.get(pair)
     }
 
     /// All of its tables.
-    pub fn stock(&self) -> &Stock<B>
+    pub fn tables(&self) -> &TableSet<B>
         ensures { result.now ≡ self.now }
     {
-        &self.stock
+        &self.tables
     }
 }

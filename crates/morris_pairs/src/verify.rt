@@ -7,15 +7,15 @@ ghost use Rattle.morris_pairs.specs.Graphs.{HasGameValues};
 ghost use Rattle.morris_pairs.specs.Agreement.{Agrees, IsFirstToDiffer};
 ghost use Rattle.morris_pairs.specs.Verifying.{missing_in, differing_in, Verifies};
 
-use crate::agreeing::first_to_differ;
+use crate::agreeing::first_in;
 use crate::exact::Exact;
 use crate::graph::PairGraph;
 use crate::raw::Raw;
 use crate::rounds::first_by;
 use crate::shelf::{Needs, Shelf};
-use crate::stock::Stock;
+use crate::table_set::TableSet;
 use morris_board::board::{Board, Geometry};
-use morris_wave::{Unwatched, Watch};
+use morris_wave::Watch;
 use std::alloc::Global;
 use std::thread::Threads;
 use thiserror::Error;
@@ -47,47 +47,22 @@ impl<B: Board> Raw<B> {
     pub fn verify(self, shelf: &Shelf<B>) -> Result<Exact<B>, (Raw<B>, VerifyFault<B>)>
         ensures { Verifies B.shape B.POINTS (first_missing shelf.now self.pair) self result }
     {
-        self.verify_over(shelf.stock())
-    }
-
-    /// [`verify`](Raw::verify) over the tables of a stock.
-    ///
-    /// # Errors
-    /// Those of [`verify`](Raw::verify), in the same order.
-    pub fn verify_over(self, stock: &Stock<B>) -> Result<Exact<B>, (Raw<B>, VerifyFault<B>)>
-        ensures { Verifies B.shape B.POINTS (first_missing stock.now self.pair) self result }
-    {
-        let graph = match PairGraph::over(stock, self.pair()) {
+        let graph = match PairGraph::new(shelf, self.pair()) {
             Ok(graph) => graph,
             Err(needs) => return Err((self, VerifyFault::Needs(needs))),
         };
-        let differing = first_to_differ(&graph, &self);
+        let differing = first_in(&graph, &self, 0, self.len());
         judged(self, differing)
     }
 
-    /// [`verify_over`](Raw::verify_over) by so many workers, 1 to 64, who share the entries out
-    /// among them. The answer is the same for every number of them. Where memory or a thread is
-    /// refused, the caller's own thread does the work.
+    /// [`verify`](Raw::verify) over a set of tables, by so many workers, 1 to 64, who share the
+    /// entries out among them. The answer is the same for every number of them. Where memory or a
+    /// thread is refused, the caller's own thread does the work.
     ///
-    /// # Errors
-    /// Those of [`verify`](Raw::verify), in the same order.
-    pub fn verify_by<R: Threads + Sync>(
-        self,
-        rt: &R,
-        alloc: Global,
-        stock: &Stock<B>,
-        workers: usize,
-    ) -> Result<Exact<B>, (Raw<B>, VerifyFault<B>)>
-        requires { (1 ≤ workers) × (workers ≤ 64) }
-        ensures { Verifies B.shape B.POINTS (first_missing stock.now self.pair) self result }
-    {
-        self.verify_watched(rt, alloc, stock, workers, &mut Unwatched)
-    }
-
-    /// [`verify_by`](Raw::verify_by), which tells `watch` how many entries are done, after each
-    /// 4,194,304 of them and after the last one (see [`Watch`]). Where an entry of a table by
-    /// classes doesn't agree, or memory for its lists is refused, the entries are gone through a
-    /// second time, in order, and the watch is told of them from the first one on again.
+    /// It tells `watch` how many entries are done, after each 4,194,304 of them and after the last
+    /// one (see [`Watch`]). Where an entry of a table by classes doesn't agree, or memory for its
+    /// lists is refused, the entries are gone through a second time, in order, and the watch is
+    /// told of them from the first one on again.
     ///
     /// # Errors
     /// Those of [`verify`](Raw::verify), in the same order. The watch is told nothing where the
@@ -96,16 +71,16 @@ impl<B: Board> Raw<B> {
         self,
         rt: &R,
         alloc: Global,
-        stock: &Stock<B>,
+        tables: &TableSet<B>,
         workers: usize,
         watch: &mut W,
     ) -> Result<Exact<B>, (Raw<B>, VerifyFault<B>)>
         requires { (1 ≤ workers) × (workers ≤ 64) }
-        ensures verified { Verifies B.shape B.POINTS (first_missing stock.now self.pair) self result }
+        ensures verified { Verifies B.shape B.POINTS (first_missing tables.now self.pair) self result }
         // The watch is as it may be after it was told, whatever the answer.
         ensures watched { W.becomes watch.old watch.new }
     {
-        let graph = match PairGraph::over(stock, self.pair()) {
+        let graph = match PairGraph::over(tables, self.pair()) {
             Ok(graph) => graph,
             Err(needs) => return Err((self, VerifyFault::Needs(needs))),
         };

@@ -15,7 +15,7 @@ use morris_pairs::exact::Exact;
 use morris_pairs::graph::PairGraph;
 use morris_pairs::layout::Layout;
 use morris_pairs::shelf::Shelf;
-use morris_pairs::stock::Stock;
+use morris_pairs::table_set::TableSet;
 use morris_workers::{Gate, SHORT_NODES, SolveFault, Unwatched, Watch, solve_with};
 use std::alloc::Global;
 use std::sync::Wait;
@@ -64,9 +64,8 @@ pub fn build<B: Board, A: Gate, R: Threads + Wait + Sync>(
     // its position and the tallies count the entries.
     ensures whenever { (s : BlockState) → IsBlockOf B.shape Layout.Full pair s → TellsTheGame B.shape Layout.Full pair s }
 {
-    let (layout, watch) = (Layout::Full, &mut Unwatched);
-    let stock = shelf.stock();
-    build_watched(rt, alloc, stock, pair, layout, gate, watch, workers, blocks)
+    let layout = Layout::Full;
+    build_as(rt, alloc, shelf, pair, layout, gate, workers, blocks)
 }
 
 /// [`build`] with a layout: the exact table of a pair with its entries so laid out, over tables of
@@ -94,11 +93,13 @@ pub fn build_as<B: Board, A: Gate, R: Threads + Wait + Sync>(
     ensures whenever { (s : BlockState) → IsBlockOf B.shape layout pair s → TellsTheGame B.shape layout pair s }
 {
     let watch = &mut Unwatched;
-    let stock = shelf.stock();
-    build_watched(rt, alloc, stock, pair, layout, gate, watch, workers, blocks)
+    let tables = shelf.tables();
+    build_watched(
+        rt, alloc, tables, pair, layout, gate, watch, workers, blocks,
+    )
 }
 
-/// [`build_as`] over the tables of a stock, and tells `watch` of each wave, in their order (see
+/// [`build_as`] over a set of tables, and tells `watch` of each wave, in their order (see
 /// [`Watch`]).
 ///
 /// # Errors
@@ -107,7 +108,7 @@ pub fn build_as<B: Board, A: Gate, R: Threads + Wait + Sync>(
 pub fn build_watched<B: Board, A: Gate, V: Watch, R: Threads + Wait + Sync>(
     rt: &R,
     alloc: Global,
-    stock: &Stock<B>,
+    tables: &TableSet<B>,
     pair: Pair<B>,
     layout: Layout,
     gate: &A,
@@ -115,10 +116,10 @@ pub fn build_watched<B: Board, A: Gate, V: Watch, R: Threads + Wait + Sync>(
     workers: usize,
     blocks: usize,
 ) -> Result<Exact<B>, BuildFault<B>>
-    ensures ready { OnOk result (first_missing stock.now pair ≡ None) }
+    ensures ready { OnOk result (first_missing tables.now pair ≡ None) }
     ensures range { OnOk result (range_fault workers blocks ≡ None) }
     ensures exact { IfOk result (IsBuilt B.shape layout pair) }
-    ensures refused { IfErr result (IsUnbuilt B.shape stock.now layout pair workers blocks) }
+    ensures refused { IfErr result (IsUnbuilt B.shape tables.now layout pair workers blocks) }
     // Whenever a block's lock is free, each decided entry is the game's value and exact depth at
     // its position and the tallies count the entries.
     ensures whenever { (s : BlockState) → IsBlockOf B.shape layout pair s → TellsTheGame B.shape layout pair s }
@@ -127,14 +128,14 @@ pub fn build_watched<B: Board, A: Gate, V: Watch, R: Threads + Wait + Sync>(
 {
     match layout {
         Layout::Full => {
-            let graph = PairGraph::over(stock, pair)?;
+            let graph = PairGraph::over(tables, pair)?;
             match solve_with(rt, alloc, &graph, gate, workers, blocks, SHORT_NODES, watch) {
                 Ok(codes) => Ok(graph.into_table(codes)),
                 Err(fault) => Err(unbuilt(fault)),
             }
         }
         Layout::Classes => {
-            let graph = ClassGraph::over(alloc, stock, pair)?;
+            let graph = ClassGraph::over(alloc, tables, pair)?;
             match solve_with(rt, alloc, &graph, gate, workers, blocks, SHORT_NODES, watch) {
                 Ok(entry_codes) => Ok(graph.into_table(entry_codes)),
                 Err(fault) => Err(unbuilt(fault)),

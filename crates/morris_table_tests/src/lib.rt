@@ -29,7 +29,7 @@ mod probing;
 #[cfg(test)]
 mod sharing;
 #[cfg(test)]
-mod stocks;
+mod table_sets;
 #[cfg(test)]
 mod texts;
 #[cfg(test)]

@@ -4,10 +4,10 @@ use crate::making::{empty, pair};
 use morris_board::nine::Nine;
 use morris_pairs::layout::Layout;
 use morris_pairs::raw::Raw;
-use morris_pairs::stock::Stock;
+use morris_pairs::table_set::TableSet;
 use morris_pairs::verify::VerifyFault;
 use morris_table::building::build_as;
-use morris_workers::OpenGate;
+use morris_workers::{OpenGate, Unwatched};
 use std::alloc::Global;
 use std::process::Abort;
 use std::sync::Wait;
@@ -20,9 +20,9 @@ fn assert_told<R: Abort + Threads + Sync>(rt: &R, alloc: Global, workers: usize,
     let codes = vec![in alloc; 0u16; 2_691_920].expect(rt, "memory");
     let raw = Raw::from_codes(pair::<Nine>(rt, 3, 3), Layout::Full, codes);
     let raw = raw.ok().expect(rt, "a code for each position");
-    let stock = Stock::new(alloc).expect(rt, "memory");
+    let tables = TableSet::new(alloc).expect(rt, "memory");
     let (_, fault) = raw
-        .verify_by(rt, alloc, &stock, workers)
+        .verify_watched(rt, alloc, &tables, workers, &mut Unwatched)
         .err()
         .expect(rt, "a fault");
     holds(rt, fault == VerifyFault::Differs(wanted), "entry");
@@ -35,10 +35,10 @@ fn assert_verified<R: Abort + Threads + Wait + Sync>(rt: &R, alloc: Global, work
     let pair = pair(rt, 3, 3);
     let table = build_as(rt, alloc, &shelf, pair, Layout::Classes, &OpenGate, 2, 16);
     let raw = table.expect(rt, "a table").into_raw();
-    let exact = raw.verify_by(rt, alloc, shelf.stock(), workers).ok();
+    let verified = raw.verify_watched(rt, alloc, shelf.tables(), workers, &mut Unwatched);
     same(
         rt,
-        exact.expect(rt, "an exact table").len(),
+        verified.ok().expect(rt, "an exact table").len(),
         210_140,
         "entries",
     );

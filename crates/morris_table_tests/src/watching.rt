@@ -8,8 +8,8 @@ use morris_board::grid::Grid;
 use morris_pairs::build_fault::BuildFault;
 use morris_pairs::layout::Layout;
 use morris_pairs::shelf::Needs;
-use morris_pairs::stock::Stock;
 use morris_pairs::sweeping::sweep_pair_watched;
+use morris_pairs::table_set::TableSet;
 use morris_table::building::build_watched;
 use morris_workers::{OpenGate, Watch};
 use std::alloc::Global;
@@ -67,10 +67,12 @@ fn assert_tells_four<R: Abort + Threads + Wait + Sync>(
     blocks: usize,
 ) {
     let (pair, gate) = (pair(rt, 3, 3), &OpenGate);
-    let stock = &Stock::<Grid>::new(alloc).expect(rt, "a stock");
+    let tables = &TableSet::<Grid>::new(alloc).expect(rt, "memory");
     let mut scribe = Scribe::new(alloc);
     let watch = &mut scribe;
-    let built = build_watched(rt, alloc, stock, pair, layout, gate, watch, workers, blocks);
+    let built = build_watched(
+        rt, alloc, tables, pair, layout, gate, watch, workers, blocks,
+    );
     holds(rt, built.is_ok(), "built");
     assert_four(rt, scribe.told.as_slice());
 }
@@ -94,10 +96,10 @@ fn assert_waves_before<R: Abort + Threads + Wait + Sync>(
     waves: u64,
 ) {
     let pair = pair(rt, greater, 3);
-    let stock = &Stock::new(alloc).expect(rt, "a stock");
+    let tables = &TableSet::new(alloc).expect(rt, "memory");
     let mut scribe = Scribe::new(alloc);
     let watch = &mut scribe;
-    let refused = build_watched(rt, alloc, stock, pair, layout, &Shut, watch, workers, 5).err();
+    let refused = build_watched(rt, alloc, tables, pair, layout, &Shut, watch, workers, 5).err();
     holds(rt, refused == Some(fault), "fault");
     same(rt, scribe.told.len() as u64, waves, "waves");
 }
@@ -140,10 +142,10 @@ fn assert_told_of_verifying<R: Abort + Threads + Wait + Sync>(
     entries: u64,
 ) {
     assert!(rt; 1 <= workers && workers <= 64);
-    let stock = Stock::new(alloc).expect(rt, "a stock");
+    let tables = TableSet::new(alloc).expect(rt, "memory");
     let raw = built(rt, alloc, &empty(rt, alloc), pair(rt, 3, 3), layout).into_raw();
     let mut scribe = Scribe::new(alloc);
-    let verified = raw.verify_watched(rt, alloc, &stock, workers, &mut scribe);
+    let verified = raw.verify_watched(rt, alloc, &tables, workers, &mut scribe);
     holds(rt, verified.is_ok() && scribe.told.is_empty(), "verified");
     same(rt, scribe.done, entries, "entries");
 }

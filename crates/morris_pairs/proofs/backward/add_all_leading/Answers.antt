@@ -1,8 +1,9 @@
-use Rattle.std.proofs.Common.{ℕ, ◌++◌, List, sym, ap, ◌∙◌, arith, append_assoc}
+use Rattle.std.proofs.Common.{◌≡◌, ℕ, ◌++◌, List, sym, ap, ◌∙◌, arith, append_assoc}
 use Rattle.std.proofs.lemmas.List.{append-nil}
 use Rattle.morris_board.specs.Sets.{members}
 use Rattle.morris_pairs.specs.Numberings.{layout_before, position_after}
 use Rattle.morris_pairs.specs.Backward.{moves_before, moves_into, entries_leading}
+use Rattle.morris_pairs.proofs.BackLawsSources.{source_lt, source_vacant, moves_into-sources}
 use Rattle.morris_pairs.proofs.BackLawsLoops.{end_of, next_points, all_leading, leading_none, leading_more}
 use Rattle.morris_pairs.proofs.backward.add_all_leading.Goals as goal
 
@@ -14,22 +15,45 @@ loop-to-init g c = record {
       ∙ append-nil c.args.out.now.items);
 }
 
-pub add_leading-requires-clause-end : goal.add_leading-requires-clause-end
-add_leading-requires-clause-end g c =
+pub sources-requires : goal.sources-requires
+sources-requires g c =
     end_of c.args.position.now.other c.loop-to.yielded c.in-Some.to (members c.next.new.self)
     (ap (λ (zs : List ℕ). c.loop-to.yielded ++ zs) (sym c.in-Some.ensures.steps) ∙ c.loop-to.invariant.points)
 
+pub add-requires-clause-end : goal.add-requires-clause-end
+add-requires-clause-end g c =
+    rw c.requires.position
+    (end_of c.args.position.now.other c.loop-to.yielded c.in-Some.to (members c.next.new.self)
+    (ap (λ (zs : List ℕ). c.loop-to.yielded ++ zs) (sym c.in-Some.ensures.steps) ∙ c.loop-to.invariant.points))
+
+pub add-requires-clause-sources : goal.add-requires-clause-sources
+add-requires-clause-sources g c =
+    rw c.requires.position (λ p here. (
+      source_lt g.B.Geometry.shape g.B.Geometry.POINTS g.met.B.Geometry.point_count g.met.B.Geometry.few c.args.position.now c.in-Some.to c.sources.result
+          c.sources.ensures.come p here,
+      source_vacant g.B.Geometry.shape g.B.Geometry.POINTS g.met.B.Geometry.point_count g.met.B.Geometry.few c.args.position.now c.in-Some.to c.sources.result
+          c.sources.ensures.come p here,
+    ))
+
 pub loop-to-preserved : goal.loop-to-preserved
-loop-to-preserved g c = record {
-  points = next_points c.loop-to.yielded c.in-Some.to c.loop-to.to-iterator c.next.new.self (members c.args.position.now.other) c.loop-to.invariant.points
-      c.in-Some.ensures.steps;
-  listed = c.in_ok-add_leading.ensures
-      ∙ (ap (λ (xs : List ℕ). xs ++ entries_leading (layout_before c.args.before.now) g.B.Geometry.shape g.B.Geometry.POINTS (position_after c.args.before.now).pair
-      c.args.position.now (moves_into g.B.Geometry.shape c.args.position.now c.in-Some.to g.B.Geometry.POINTS)) c.loop-to.invariant.listed
-      ∙ (append_assoc c.args.out.now.items _ _
-      ∙ ap (λ (xs : List ℕ). c.args.out.now.items ++ xs)
-      (leading_more (layout_before c.args.before.now) g.B.Geometry.shape g.B.Geometry.POINTS (position_after c.args.before.now).pair c.args.position.now c.loop-to.yielded c.in-Some.to)));
-}
+loop-to-preserved g c =
+    let leading : c.add.new.out.items ≡ c.loop-to.out.items ++ entries_leading (layout_before c.args.before.now) g.B.Geometry.shape g.B.Geometry.POINTS
+    (position_after c.args.before.now).pair c.args.position.now (moves_into g.B.Geometry.shape c.args.position.now c.in-Some.to g.B.Geometry.POINTS) =
+    rw (
+      moves_into-sources g.B.Geometry.shape g.B.Geometry.POINTS g.met.B.Geometry.point_count g.met.B.Geometry.few c.args.position.now c.in-Some.to c.sources.result
+          c.sources.ensures.come,
+      ← c.requires.position,
+    ) c.in_ok-add.ensures in
+    record {
+      points = next_points c.loop-to.yielded c.in-Some.to c.loop-to.to-iterator c.next.new.self (members c.args.position.now.other) c.loop-to.invariant.points
+          c.in-Some.ensures.steps;
+      listed = leading
+          ∙ (ap (λ (xs : List ℕ). xs ++ entries_leading (layout_before c.args.before.now) g.B.Geometry.shape g.B.Geometry.POINTS (position_after c.args.before.now).pair
+          c.args.position.now (moves_into g.B.Geometry.shape c.args.position.now c.in-Some.to g.B.Geometry.POINTS)) c.loop-to.invariant.listed
+          ∙ (append_assoc c.args.out.now.items _ _
+          ∙ ap (λ (xs : List ℕ). c.args.out.now.items ++ xs)
+          (leading_more (layout_before c.args.before.now) g.B.Geometry.shape g.B.Geometry.POINTS (position_after c.args.before.now).pair c.args.position.now c.loop-to.yielded c.in-Some.to)));
+    }
 
 pub returns : goal.returns
 returns g c =

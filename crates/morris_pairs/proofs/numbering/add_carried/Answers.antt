@@ -1,9 +1,10 @@
-use Rattle.std.proofs.Common.{◌≡◌, ℕ, ◌++◌, true, List, sym, ap, ◌∙◌, append_assoc}
+use Rattle.std.proofs.Common.{◌≡◌, ℕ, ◌++◌, true, List, None, map, sym, ap, ◌∙◌, append_assoc}
 use Rattle.std.proofs.lemmas.List.{append-nil}
 use Rattle.morris_board.specs.Sets.{has, members}
 use Rattle.morris_index.specs.Moves.{InPair}
 use Rattle.morris_pairs.specs.declared.layout.Layout.TheVariants.{Classes}
-use Rattle.morris_pairs.specs.Backward.{leads_from}
+use Rattle.morris_moves.specs.Rules.{move}
+use Rattle.morris_pairs.specs.Backward.{entries_leading, leads_from}
 use Rattle.morris_pairs.proofs.BackLawsLoops.{end_of, next_points, leading_into_none, leading_into_more}
 use Rattle.morris_pairs.proofs.numbering.add_carried.Goals as goal
 
@@ -41,3 +42,11 @@ loop-from-preserved g c =
           ∙ ap (λ (xs : List ℕ). c.args.out.now.items ++ xs)
           (leading_into_more Classes g.B.Geometry.shape g.B.Geometry.POINTS q.pair q.position c.loop-from.yielded c.in-Some.from c.args.to)));
     }
+
+pub returns : goal.returns
+returns g c =
+    let q : InPair = c.args.entries.now in
+    let all : c.loop-from.yielded ≡ members c.args.sources =
+    sym (append-nil _) ∙ (ap (λ (zs : List ℕ). c.loop-from.yielded ++ zs) (sym c.in-None.ensures.steps.0) ∙ c.loop-from.invariant.points) in
+    c.loop-from.invariant.listed
+    ∙ ap (λ (us : List ℕ). c.args.out.now.items ++ entries_leading Classes g.B.Geometry.shape g.B.Geometry.POINTS q.pair q.position (map (λ u. move u c.args.to None) us)) all

@@ -3,9 +3,14 @@ use Rattle.std.proofs.Common.{◌-◌, length, take, refl, subst, arith, length-
 use Rattle.std.proofs.lemmas.Result.{err_from_is_err_and}
 use Rattle.std.proofs.lemmas.List.{take_all}
 use Rattle.std.specs.Io.KnownBytes.{Consumes}
-use Rattle.morris_pairs.proofs.ReadingLaws.{ends_short, counts_failed}
+use Rattle.morris_pairs.proofs.ReadingLaws.{ends_failed, ends_short, counts_failed}
 use Rattle.morris_pairs.proofs.PlaceLaws.{stands-take, stands-fewer}
 use Rattle.morris_pairs.proofs.reading.read_whole.Goals as goal
+
+pub returns-in_err-fill-clause-refused : goal.returns-in_err-fill-clause-refused
+returns-in_err-fill-clause-refused g c =
+    let failed = err_from_is_err_and c.from_residual.result c.from_residual.ensures.1 in
+    rw failed.1 (ends_failed (length c.fill.new.buffer) (g.S.Source.remaining c.args.source.now) failed.0 failed.2)
 
 pub returns-in_err-fill-clause-place : goal.returns-in_err-fill-clause-place
 returns-in_err-fill-clause-place g c =

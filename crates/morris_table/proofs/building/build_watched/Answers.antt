@@ -1,4 +1,4 @@
-use Rattle.std.proofs.Common.{rules, subst, sym}
+use Rattle.std.proofs.Common.{rules, subst}
 use Rattle.morris_wave.specs.Values.{IsTooDeep}
 use Rattle.morris_workers.specs.Solving.{IsRefusal}
 use Rattle.morris_pairs.specs.declared.layout.Layout.TheVariants.{Full, Classes}
@@ -14,7 +14,7 @@ returns-in_err-graph-in-Full-clause-whenever g c = rw c.in-Full.is (c.over.ensur
 pub returns-in-Err-clause-refused : goal.returns-in-Err-clause-refused
 returns-in-Err-clause-refused g c =
     rw (c.in-Full.is, c.unbuilt.ensures)
-    (refused_by_workers _ g.B.Geometry.shape c.args.stock.now c.args.pair Full c.args.workers c.args.blocks c.in-Err.fault c.in_ok-graph-in-Full.ensures.needs (c.in_ok-graph-in-Full.ensures.deep Full).0
+    (refused_by_workers _ g.B.Geometry.shape c.args.tables.now c.args.pair Full c.args.workers c.args.blocks c.in-Err.fault c.in_ok-graph-in-Full.ensures.needs (c.in_ok-graph-in-Full.ensures.deep Full).0
     (subst (λ d. IsRefusal (net_at g.B.Geometry.shape (level_of Full d)) c.args.workers c.args.blocks c.in-Err.fault) c.in_ok-graph-in-Full.ensures.pair c.in-Err.ensures.refused))
 
 pub returns-in-Err-clause-whenever : goal.returns-in-Err-clause-whenever
@@ -40,7 +40,7 @@ returns-in-Ok-clause-whenever g c = rw c.in-Full.is (c.over.ensures.blocks Full)
 pub returns-in-Err-solve_with-clause-refused : goal.returns-in-Err-solve_with-clause-refused
 returns-in-Err-solve_with-clause-refused g c =
     rw (c.in-Classes.is, c.unbuilt-in-Err-solve_with.ensures)
-    (refused_by_workers _ g.B.Geometry.shape c.args.stock.now c.args.pair Classes c.args.workers c.args.blocks c.in-Err-solve_with.fault c.in_ok-graph-in-Classes.ensures.needs
+    (refused_by_workers _ g.B.Geometry.shape c.args.tables.now c.args.pair Classes c.args.workers c.args.blocks c.in-Err-solve_with.fault c.in_ok-graph-in-Classes.ensures.needs
     c.in_ok-graph-in-Classes.ensures.deep.0
     (subst (λ d. IsRefusal (net_at g.B.Geometry.shape (level_of Classes d)) c.args.workers c.args.blocks c.in-Err-solve_with.fault) c.in_ok-graph-in-Classes.ensures.pair c.in-Err-solve_with.ensures.refused))
 

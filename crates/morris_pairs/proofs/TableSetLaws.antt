@@ -68,6 +68,13 @@ stones-at c place h e = let n : HasNumbers c = numbers c h in omega (arith, e, n
 abbrev pub left_at : ℕ → Stored → ℕ → Counts → Option Table
 left_at stones old place c = if nat_lt (place_of c) place && nat_lt (c.greater + c.lesser) stones then None else table_on old c
 
+-- whether another place is passed is as before
+passed : (n place : ℕ) → n ≢ place → nat_lt n place ≡ nat_lt n (place + 1)
+passed n place other = elim (cases_lt n place) [
+  | inl below ↦ lt-ltb n place below ∙ sym (lt-ltb n (place + 1) (omega arith))
+  | inr above ↦ ltb-no n place above ∙ sym (ltb-no n (place + 1) (omega (arith, above, other)))
+]
+
 module _ (stones : ℕ) (old now : Stored) (place : ℕ) (so_far : (c : Counts) → has_place c ≡ true → table_on now c ≡ left_at stones old place c) where
   pub goes_on-let_go : (next : Stored) → 6 + place / 7 + place % 7 < stones
       → ((c : Counts) → has_place c ≡ true → table_on next c ≡ (if place_of c == place then None else table_on now c))
@@ -79,14 +86,8 @@ module _ (stones : ℕ) (old now : Stored) (place : ℕ) (so_far : (c : Counts) 
         ∙ sym (cond-true _ None (table_on old c) (rw (lt-ltb (place_of c) (place + 1) (omega arith), lt-ltb (c.greater + c.lesser) stones (omega arith)) refl))
     | inr other ↦
         step c h ∙ cond-false (place_of c == place) None (table_on now c) (eqb-no (place_of c) place other) ∙ so_far c h
-        ∙ ap (λ b. if b && nat_lt (c.greater + c.lesser) stones then None else table_on old c) (passed other)
+        ∙ ap (λ b. if b && nat_lt (c.greater + c.lesser) stones then None else table_on old c) (passed (place_of c) place other)
   ]
-    where
-      passed : {n : ℕ} → n ≢ place → nat_lt n place ≡ nat_lt n (place + 1)
-      passed {n} other = elim (cases_lt n place) [
-        | inl below ↦ lt-ltb n place below ∙ sym (lt-ltb n (place + 1) (omega arith))
-        | inr above ↦ ltb-no n place above ∙ sym (ltb-no n (place + 1) (omega (arith, above, other)))
-      ]
 
   pub goes_on-keep : stones ≤ 6 + place / 7 + place % 7 → (c : Counts) → has_place c ≡ true → table_on now c ≡ left_at stones old (place + 1) c
   goes_on-keep many c h = elim (cases_eq (place_of c) place) [
@@ -94,14 +95,8 @@ module _ (stones : ℕ) (old now : Stored) (place : ℕ) (so_far : (c : Counts) 
         let sum = stones-at c place h e in
         so_far c h ∙ cond-false _ None (table_on old c) (rw (ltb-no (place_of c) place (omega arith)) refl)
         ∙ sym (cond-false _ None (table_on old c) (rw (lt-ltb (place_of c) (place + 1) (omega arith), ltb-no (c.greater + c.lesser) stones (omega arith)) refl))
-    | inr other ↦ so_far c h ∙ ap (λ b. if b && nat_lt (c.greater + c.lesser) stones then None else table_on old c) (passed other)
+    | inr other ↦ so_far c h ∙ ap (λ b. if b && nat_lt (c.greater + c.lesser) stones then None else table_on old c) (passed (place_of c) place other)
   ]
-    where
-      passed : {n : ℕ} → n ≢ place → nat_lt n place ≡ nat_lt n (place + 1)
-      passed {n} other = elim (cases_lt n place) [
-        | inl below ↦ lt-ltb n place below ∙ sym (lt-ltb n (place + 1) (omega arith))
-        | inr above ↦ ltb-no n place above ∙ sym (ltb-no n (place + 1) (omega (arith, above, other)))
-      ]
 
 -- once all places were passed
 pub let_go-last : (stones : ℕ) (old new : Stored) → ((c : Counts) → has_place c ≡ true → table_on new c ≡ left_at stones old 49 c)

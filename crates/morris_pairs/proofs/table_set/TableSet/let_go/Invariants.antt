@@ -1,7 +1,7 @@
 use Rattle.std.proofs.Common.{◌≡◌, ◌+◌, ◌&&◌, true, None, nat_lt, if◌then◌else◌}
 use Rattle.morris_index.specs.Pairs.{Counts}
 use Rattle.morris_pairs.specs.Shelves.{has_place, place_of, table_on}
-use Rattle.morris_pairs.proofs.stock.Stock.let_go.Given as goal
+use Rattle.morris_pairs.proofs.table_set.TableSet.let_go.Given as goal
 
 -- of the places that were passed, those of pairs with fewer stones have nothing any more
 abbrev pub invariant-loop-place : goal.invariant-loop-place

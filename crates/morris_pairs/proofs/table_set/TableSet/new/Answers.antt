@@ -1,7 +1,7 @@
 use Rattle.std.proofs.Common.{arith}
 use Rattle.morris_pairs.proofs.ShelfLaws.{empty-nothing, empty-push}
-use Rattle.morris_pairs.proofs.StockLaws.{empty-tables}
-use Rattle.morris_pairs.proofs.stock.Stock.new.Goals as goal
+use Rattle.morris_pairs.proofs.TableSetLaws.{empty-tables}
+use Rattle.morris_pairs.proofs.table_set.TableSet.new.Goals as goal
 
 pub loop-preserved : goal.loop-preserved
 loop-preserved g c = record {

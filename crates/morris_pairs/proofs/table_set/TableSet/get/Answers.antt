@@ -2,7 +2,7 @@ use Rattle.std.proofs.Common.{◌≡◌, ◌∙◌}
 use Rattle.morris_pairs.specs.Tables.{IsTable}
 use Rattle.morris_pairs.specs.Shelves.{AreTables}
 use Rattle.morris_pairs.proofs.ShelfLaws.{has_place-pair, table_read, from_copied}
-use Rattle.morris_pairs.proofs.stock.Stock.get.Goals as goal
+use Rattle.morris_pairs.proofs.table_set.TableSet.get.Goals as goal
 
 pub returns-clause-value : goal.returns-clause-value
 returns-clause-value g c =

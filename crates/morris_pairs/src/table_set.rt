@@ -19,34 +19,34 @@ const PLACES: usize = 49;
 /// tables of one stone less than its own, and no others, so whoever builds pair after pair keeps
 /// those of two neighbouring numbers of stones.
 #[derive(Drop)]
-pub struct Stock<B: Geometry> {
+pub struct TableSet<B: Geometry> {
     tables: Vec<Option<Exact<B>>>,
 }
 
-impl<B: Geometry> Model for Stock<B> {
+impl<B: Geometry> Model for TableSet<B> {
     ghost use Rattle.morris_pairs.specs.Shelves.{AreTables, Stored};
 
     ghost Value = { Stored };
 
-    ghost view = { λ stock. stock.tables.items };
+    ghost view = { λ set. set.tables.items };
 
-    ghost invariant = { λ stock. AreTables B.shape stock.tables.items };
+    ghost invariant = { λ set. AreTables B.shape set.tables.items };
 }
 
-impl<B: Geometry> Stock<B> {
+impl<B: Geometry> TableSet<B> {
     /// No tables.
     ///
     /// # Errors
     /// [`AllocError`] where memory runs out. No other call takes memory.
-    pub fn new(alloc: Global) -> Result<Stock<B>, AllocError>
-        ensures none { IfOk result (λ stock. (c : Counts) → table_on stock c ≡ None) }
+    pub fn new(alloc: Global) -> Result<TableSet<B>, AllocError>
+        ensures none { IfOk result (λ set. (c : Counts) → table_on set c ≡ None) }
         ensures lawful { IfOk result (AreTables B.shape) }
     {
         let mut tables = Vec::with_capacity(alloc, PLACES)?;
         for _ in 0..PLACES {
             tables.push_reserved(None);
         }
-        Ok(Stock { tables })
+        Ok(TableSet { tables })
     }
 
     /// Keeps a table, in the place of the one of its pair that is there.
@@ -90,7 +90,8 @@ impl<B: Geometry> Stock<B> {
         ensures { (c : Counts) → table_on self.new c ≡ kept_from stones self.old c }
     {
         for place in 0..PLACES {
-            if stones_at(place) < stones {
+            let (greater, lesser) = (3 + place / 7, 3 + place % 7);
+            if greater + lesser < usize::from(stones) {
                 self.forget(place);
             }
         }
@@ -103,14 +104,6 @@ impl<B: Geometry> Stock<B> {
     {
         self.tables[place] = None;
     }
-}
-
-/// How many stones the pair at a place has.
-fn stones_at(place: usize) -> u8
-    requires { place < 49 }
-    ensures { result ≡ 6 + place / 7 + place % 7 }
-{
-    (6 + place / 7 + place % 7) as u8
 }
 
 /// The place of a pair's table.

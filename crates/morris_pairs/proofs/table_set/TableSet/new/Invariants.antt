@@ -1,6 +1,6 @@
 use Rattle.std.proofs.Common.{◌≡◌, ℕ, ◌≤◌, length, get_or, None}
 use Rattle.std.specs.Prelude.{vec_capacity}
-use Rattle.morris_pairs.proofs.stock.Stock.new.Given as goal
+use Rattle.morris_pairs.proofs.table_set.TableSet.new.Given as goal
 
 abbrev pub invariant-loop : goal.invariant-loop
 invariant-loop g l = record {

@@ -1,6 +1,6 @@
 use Rattle.morris_pairs.proofs.ShelfLaws.{has_place-pair, put-this, put-other}
-use Rattle.morris_pairs.proofs.StockLaws.{put-tables}
-use Rattle.morris_pairs.proofs.stock.Stock.put.Goals as goal
+use Rattle.morris_pairs.proofs.TableSetLaws.{put-tables}
+use Rattle.morris_pairs.proofs.table_set.TableSet.put.Goals as goal
 
 pub invariant_of-self : goal.invariant_of-self
 invariant_of-self g c =
