@@ -24,7 +24,7 @@ use morris_jobs::teller::Teller;
 use morris_pairs::exact::Exact;
 use morris_pairs::file_faults::Write;
 use morris_pairs::layout::Layout;
-use morris_pairs::stock::Stock;
+use morris_pairs::table_set::TableSet;
 use morris_pairs::writing::write_table;
 use morris_workers::Unwatched;
 use std::alloc::Global;
@@ -112,7 +112,7 @@ pub(crate) fn build_before<B: Board, R: Threads + Wait + Sync, T: Teller>(
     all: bool,
     pair: Pair<B>,
     teller: &mut T,
-) -> Result<Stock<B>, Fault>
+) -> Result<TableSet<B>, Fault>
     // The caller's proof learns here that the board has as many points as its shape says.
     ensures points { B.shape.points ≡ B.POINTS }
     ensures ready { IfOk result (λ stock. first_missing stock pair ≡ None) }
@@ -122,7 +122,7 @@ pub(crate) fn build_before<B: Board, R: Threads + Wait + Sync, T: Teller>(
     ensures refused { IfErr result (IsUnbuiltBefore B.shape pair crew.entry.team.blocks) }
     ensures told { T.becomes teller.old teller.new }
 {
-    let mut stock = Stock::new(crew.alloc)?;
+    let mut stock = TableSet::new(crew.alloc)?;
     for below in pair.below() {
         spare(&mut stock, all, below);
         if below != pair {
@@ -134,7 +134,7 @@ pub(crate) fn build_before<B: Board, R: Threads + Wait + Sync, T: Teller>(
 
 /// Writes the file of a pair's table, or those of all pairs below it, in a layout.
 fn write_files<B: Geometry, O: Sink>(
-    stock: &Stock<B>,
+    stock: &TableSet<B>,
     layout: Layout,
     pair: Pair<B>,
     all: bool,
@@ -154,7 +154,7 @@ fn write_files<B: Geometry, O: Sink>(
 
 /// Sends these files, and answers how many bytes went out.
 fn send_files<B: Geometry, O: Sink>(
-    stock: &Stock<B>,
+    stock: &TableSet<B>,
     layout: Layout,
     pair: Pair<B>,
     all: bool,
@@ -174,7 +174,7 @@ fn send_files<B: Geometry, O: Sink>(
 
 /// Writes the files of the tables of all pairs below a pair, and answers how many bytes went out.
 fn write_below<B: Geometry, O: Sink>(
-    stock: &Stock<B>,
+    stock: &TableSet<B>,
     pair: Pair<B>,
     output: &mut O,
 ) -> Result<u64, u64>
@@ -193,7 +193,7 @@ fn write_below<B: Geometry, O: Sink>(
 /// Writes the file of a pair's table. `sent` counts the bytes that went out before it; the answer
 /// counts those of the file as well.
 fn write_one<B: Geometry, O: Sink>(
-    stock: &Stock<B>,
+    stock: &TableSet<B>,
     pair: Pair<B>,
     sent: u64,
     output: &mut O,

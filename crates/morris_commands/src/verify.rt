@@ -21,7 +21,7 @@ use morris_jobs::teller::Teller;
 use morris_pairs::exact::Exact;
 use morris_pairs::raw::Raw;
 use morris_pairs::reading::read_table;
-use morris_pairs::stock::Stock;
+use morris_pairs::table_set::TableSet;
 use morris_pairs::verify::VerifyFault;
 use morris_table::building::build_watched;
 use morris_workers::OpenGate;
@@ -109,7 +109,7 @@ fn believe<B: Board, R: Threads + Wait + Sync, T: Teller>(
 /// stock that has those that its pair needs.
 fn judge<B: Board, R: Threads + Wait + Sync, T: Teller>(
     crew: Crew<'_, R>,
-    stock: &Stock<B>,
+    stock: &TableSet<B>,
     raw: Raw<B>,
     teller: &mut T,
 ) -> Result<Exact<B>, Fault>
@@ -137,7 +137,7 @@ fn judge<B: Board, R: Threads + Wait + Sync, T: Teller>(
 /// are looked at.
 fn build_alike<B: Board, R: Threads + Wait + Sync, T: Teller>(
     crew: Crew<'_, R>,
-    stock: &Stock<B>,
+    stock: &TableSet<B>,
     raw: &Raw<B>,
     teller: &mut T,
 ) -> Option<Exact<B>>

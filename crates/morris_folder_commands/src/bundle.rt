@@ -15,7 +15,7 @@ use morris_jobs::size::FolderSize;
 use morris_jobs::team::{Crew, Team};
 use morris_jobs::teller::Teller;
 use morris_pairs::reading::read_next;
-use morris_pairs::stock::Stock;
+use morris_pairs::table_set::TableSet;
 use std::alloc::Global;
 use std::thread::Threads;
 
@@ -75,7 +75,7 @@ fn bundle_on<B: Board, R: Threads + Sync, I: Source, O: Sink, T: Teller>(
     ensures counted { CountsWrites (O.failures output.old) (O.failures output.new) result }
     ensures told { T.becomes teller.old teller.new }
 {
-    let mut stock = Stock::new(crew.alloc)?;
+    let mut stock = TableSet::new(crew.alloc)?;
     let (mut sent, mut found) = (0, false);
     for _ in 0..MOST_FILES {
         let Some(raw) = read_next::<B, I>(crew.alloc, input)? else {

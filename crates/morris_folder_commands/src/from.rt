@@ -30,7 +30,7 @@ use morris_jobs::team::{Crew, Team};
 use morris_jobs::teller::Teller;
 use morris_pairs::exact::Exact;
 use morris_pairs::raw::Raw;
-use morris_pairs::stock::Stock;
+use morris_pairs::table_set::TableSet;
 use std::alloc::Global;
 use std::thread::Threads;
 
@@ -113,7 +113,7 @@ fn verify_found<B: Board, R: Threads + Sync, F: Folder, O: Sink, T: Teller>(
     ensures counted { CountsWrites (O.failures output.old) (O.failures output.new) result }
     ensures told { T.becomes teller.old teller.new }
 {
-    let mut stock = Stock::new(crew.alloc)?;
+    let mut stock = TableSet::new(crew.alloc)?;
     let end = look_ahead::<B, F, T>(crew.alloc, board, folder, teller)?;
     let mut sent = 0;
     let mut found = false;
@@ -136,7 +136,7 @@ fn verify_found<B: Board, R: Threads + Sync, F: Folder, O: Sink, T: Teller>(
 
 /// Lets the tables go at a pair's turn that neither it needs nor any after it: in a folder before
 /// its file is read, and also where there is none.
-pub(crate) fn keep_near<B: Geometry>(stock: &mut Stock<B>, pair: Pair<B>)
+pub(crate) fn keep_near<B: Geometry>(stock: &mut TableSet<B>, pair: Pair<B>)
     ensures { KeepsNear stock.old stock.new pair }
 {
     spare(stock, false, pair);
@@ -168,7 +168,7 @@ fn read_kept<B: Geometry, F: Folder>(
 /// prints its line, where so many bytes were printed before; the answer counts these as well.
 pub(crate) fn take_in<B: Board, R: Threads + Sync, O: Sink, T: Teller>(
     crew: Crew<'_, R>,
-    stock: &mut Stock<B>,
+    stock: &mut TableSet<B>,
     raw: Raw<B>,
     sent: u64,
     output: &mut O,
@@ -191,7 +191,7 @@ pub(crate) fn take_in<B: Board, R: Threads + Sync, O: Sink, T: Teller>(
 /// Puts a table into a stock once each of its entries is known to be right.
 fn join<B: Board, R: Threads + Sync, T: Teller>(
     crew: Crew<'_, R>,
-    stock: &mut Stock<B>,
+    stock: &mut TableSet<B>,
     raw: Raw<B>,
     teller: &mut T,
 ) -> Result<(), Fault>
@@ -210,7 +210,7 @@ fn join<B: Board, R: Threads + Sync, T: Teller>(
 /// The table, once each of its entries is known to be right over the tables of a stock.
 fn verify_over<B: Board, R: Threads + Sync, T: Teller>(
     crew: Crew<'_, R>,
-    stock: &Stock<B>,
+    stock: &TableSet<B>,
     raw: Raw<B>,
     teller: &mut T,
 ) -> Result<Exact<B>, Fault>

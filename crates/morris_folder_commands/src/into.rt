@@ -28,7 +28,7 @@ use morris_jobs::size::Way;
 use morris_jobs::team::{Crew, Team};
 use morris_jobs::teller::Teller;
 use morris_pairs::layout::Layout;
-use morris_pairs::stock::Stock;
+use morris_pairs::table_set::TableSet;
 use std::alloc::Global;
 use std::sync::Wait;
 use std::thread::Threads;
@@ -214,7 +214,7 @@ fn fill<B: Board, R: Threads + Wait + Sync, F: Folder, O: Sink, T: Teller>(
     } = *filling;
     let Crew { alloc, team, .. } = crew;
     let mut written = Vec::with_capacity(alloc, PAIR_COUNT)?;
-    let mut stock = Stock::new(alloc)?;
+    let mut stock = TableSet::new(alloc)?;
     let mut sent = 0;
     teller.announce(pair, layout, Way::Built { team, all: false });
     for below in pair.below() {
@@ -231,7 +231,7 @@ fn fill<B: Board, R: Threads + Wait + Sync, F: Folder, O: Sink, T: Teller>(
 fn keep_table<B: Geometry, F: Folder>(
     alloc: Global,
     board: &str,
-    stock: &Stock<B>,
+    stock: &TableSet<B>,
     pair: Pair<B>,
     folder: &mut F,
 ) -> Result<Written<B>, Fault>

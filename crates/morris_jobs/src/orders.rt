@@ -11,7 +11,7 @@ use crate::teller::Teller;
 use morris_board::board::{Board, Geometry};
 use morris_index::pair::Pair;
 use morris_pairs::layout::Layout;
-use morris_pairs::stock::Stock;
+use morris_pairs::table_set::TableSet;
 use morris_table::building::build_watched;
 use morris_workers::OpenGate;
 use std::sync::Wait;
@@ -42,7 +42,7 @@ pub fn layout_of(classes: bool) -> Layout
 }
 
 /// Lets the tables go that neither this pair needs nor any after it, unless all are to be kept.
-pub fn spare<B: Geometry>(stock: &mut Stock<B>, all: bool, pair: Pair<B>)
+pub fn spare<B: Geometry>(stock: &mut TableSet<B>, all: bool, pair: Pair<B>)
     ensures near { IsSpared stock.old stock.new pair }
     ensures all { all ≡ true → (c : Counts) → table_on stock.new c ≡ table_on stock.old c }
     ensures gone { all ≡ false → (c : Counts) → stones c + 1 < stones pair → table_on stock.new c ≡ None }
@@ -55,7 +55,7 @@ pub fn spare<B: Geometry>(stock: &mut Stock<B>, all: bool, pair: Pair<B>)
 /// Puts the table of a pair in a layout into a stock that has those that it needs.
 pub fn build_onto<B: Board, R: Threads + Wait + Sync, T: Teller>(
     crew: Crew<'_, R>,
-    stock: &mut Stock<B>,
+    stock: &mut TableSet<B>,
     layout: Layout,
     pair: Pair<B>,
     teller: &mut T,

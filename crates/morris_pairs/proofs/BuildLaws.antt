@@ -4,8 +4,8 @@ use Rattle.std.specs.Result.{IsErrAnd}
 use Rattle.morris_board.specs.Boards.{Shape}
 use Rattle.morris_index.specs.Pairs.{Counts}
 use Rattle.morris_wave.specs.Values.{IsTooDeep}
-use Rattle.morris_wave.specs.declared.solver.SweepFault.{SweepFault}
-use Rattle.morris_wave.specs.declared.solver.SweepFault.TheVariants as sweep
+use Rattle.morris_wave.specs.declared.sweeping.SweepFault.{SweepFault}
+use Rattle.morris_wave.specs.declared.sweeping.SweepFault.TheVariants as sweep
 use Rattle.morris_pairs.specs.declared.layout.Layout.TheVariants.{Full}
 use Rattle.morris_pairs.specs.Building.{IsUnswept, swept}
 use Rattle.morris_pairs.specs.Known.{IsBeyondCodes}

@@ -3,8 +3,8 @@ use Rattle.std.specs.Prelude.{◌≡◌, Some, None}
 use Rattle.morris_board.specs.Boards.{Shape}
 use Rattle.morris_index.specs.Pairs.{Counts}
 use Rattle.morris_wave.specs.Values.{IsTooDeep}
-use Rattle.morris_wave.specs.declared.solver.SweepFault.{SweepFault}
-use Rattle.morris_wave.specs.declared.solver.SweepFault.TheVariants as sweep
+use Rattle.morris_wave.specs.declared.sweeping.SweepFault.{SweepFault}
+use Rattle.morris_wave.specs.declared.sweeping.SweepFault.TheVariants as sweep
 use Rattle.morris_pairs.specs.declared.layout.Layout.{Layout}
 use Rattle.morris_pairs.specs.declared.layout.Layout.TheVariants.{Full}
 use Rattle.morris_pairs.specs.declared.build_fault.BuildFault.{BuildFault}
