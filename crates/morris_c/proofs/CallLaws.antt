@@ -4,14 +4,14 @@ use Rattle.std.proofs.lemmas.Bool.{both_ways}
 use Rattle.std.specs.Prelude.{ℤ, pos, negsuc}
 use Rattle.morris_board.specs.Boards.{Shape}
 use Rattle.morris_board.specs.Positions.{Sides, IsPosition}
-use Rattle.morris_views.specs.declared.fault.MaskFault.{MaskFault}
-use Rattle.morris_views.specs.declared.fault.MaskFault.TheVariants.{OffBoard, Overlap, Stones}
+use Rattle.morris_lookup.specs.declared.fault.MaskFault.{MaskFault}
+use Rattle.morris_lookup.specs.declared.fault.MaskFault.TheVariants.{OffBoard, Overlap, Stones}
 use Rattle.morris_pairs.specs.declared.file_faults.ReadFault.{ReadFault}
 use Rattle.morris_pairs.specs.declared.file_faults.ReadFault.TheVariants as read
-use Rattle.morris_views.specs.declared.fault.ViewFault.{ViewFault}
-use Rattle.morris_views.specs.declared.fault.ViewFault.TheVariants as view
+use Rattle.morris_lookup.specs.declared.fault.ViewFault.{ViewFault}
+use Rattle.morris_lookup.specs.declared.fault.ViewFault.TheVariants as view
 use Rattle.morris_c.specs.Statuses.{read_status, view_status}
-use Rattle.morris_views.specs.Masks.{IsMaskRefusal}
+use Rattle.morris_lookup.specs.Masks.{IsMaskRefusal}
 
 module _ (board : Shape) (s : Sides) where
   pub one_fault : (f g : MaskFault) → IsMaskRefusal board s f → IsMaskRefusal board s g → f ≡ g

@@ -6,16 +6,16 @@ use Rattle.morris_moves.specs.Rules.{moves_of}
 use Rattle.morris_pairs.specs.declared.value.Value.{Value}
 use Rattle.morris_pairs.specs.declared.file_faults.ReadFault.{ReadFault}
 use Rattle.morris_pairs.specs.Codes.{IsValue}
-use Rattle.morris_views.specs.declared.fault.ViewFault.{ViewFault}
-use Rattle.morris_views.specs.declared.fault.MaskFault.{MaskFault}
-use Rattle.morris_views.specs.declared.records.ValueRecord.{ValueRecord}
-use Rattle.morris_views.specs.declared.records.MoveRecord.{MoveRecord}
-use Rattle.morris_views.specs.declared.check.HeaderRecord.{HeaderRecord}
-use Rattle.morris_views.specs.Masks.{IsMaskRefusal}
-use Rattle.morris_views.specs.Records.{value_record}
-use Rattle.morris_views.specs.Views.{ServeAll, AreExactFiles, value_said, needs_words}
-use Rattle.morris_views.specs.Prepared.{looks_prepared}
-use Rattle.morris_views.specs.Outcomes.{outcomes_said, AreExactOutcomes}
+use Rattle.morris_lookup.specs.declared.fault.ViewFault.{ViewFault}
+use Rattle.morris_lookup.specs.declared.fault.MaskFault.{MaskFault}
+use Rattle.morris_lookup.specs.declared.records.ValueRecord.{ValueRecord}
+use Rattle.morris_lookup.specs.declared.records.MoveRecord.{MoveRecord}
+use Rattle.morris_lookup.specs.declared.check.HeaderRecord.{HeaderRecord}
+use Rattle.morris_lookup.specs.Masks.{IsMaskRefusal}
+use Rattle.morris_lookup.specs.Records.{value_record}
+use Rattle.morris_lookup.specs.Views.{ServeAll, AreExactFiles, value_said, needs_words}
+use Rattle.morris_lookup.specs.Prepared.{looks_prepared}
+use Rattle.morris_lookup.specs.Listing.{outcomes_said, AreExactOutcomes}
 use Rattle.morris_c.specs.Statuses.{mask_status, read_status, view_status}
 
 -- a value is written, with status 0; or nothing, with that of the fault

@@ -8,20 +8,20 @@ pub mod statuses;
 ghost use Rattle.std.specs.Prelude.{◌≡◌, ◌≢◌, ◌<◌, ◌≤◌, ◌-◌, true, false, pos, length, slice_index, IsTrue};
 ghost use Rattle.morris_board.specs.Boards.{nine, grid};
 ghost use Rattle.morris_board.specs.Positions.{sides};
-ghost use Rattle.morris_views.specs.Checking.{header_said};
-ghost use Rattle.morris_views.specs.Digests.{has_digest};
-ghost use Rattle.morris_views.specs.Files.{contents};
-ghost use Rattle.morris_views.specs.Prepared.{prepared_count, IsPrepared};
+ghost use Rattle.morris_lookup.specs.Checking.{header_said};
+ghost use Rattle.morris_lookup.specs.Digests.{has_digest};
+ghost use Rattle.morris_lookup.specs.Views.{contents};
+ghost use Rattle.morris_lookup.specs.Prepared.{prepared_count, IsPrepared};
 ghost use Rattle.morris_c.specs.Calls.{LooksUp, ListsMoves, TellsHeader};
 
 use calls::{check_header, list_moves, look_up, prepare_words};
 use morris_board::grid::Grid;
 use morris_board::nine::Nine;
-use morris_views::check::HeaderRecord;
-use morris_views::digest::has_digest;
-use morris_views::prepared::prepared_count;
-use morris_views::records::{MoveRecord, ValueRecord};
-use morris_views::view::View;
+use morris_lookup::check::HeaderRecord;
+use morris_lookup::digest::has_digest;
+use morris_lookup::prepared::prepared_count;
+use morris_lookup::records::{MoveRecord, ValueRecord};
+use morris_lookup::views::View;
 use statuses::{DIGEST, DONE, NO_BOARD, SHORT};
 
 /// The numbers of the boards.

@@ -1,9 +1,9 @@
 use Rattle.std.proofs.Common.{w32, to_z, of_z, SFits, rules, ◌≡◌, ℕ, Result, Ok, Err, refl, sym, ap, subst, ◌∙◌}
 use Rattle.std.specs.Prelude.{pos}
 use Rattle.std.proofs.lemmas.Int.{to_z-of_z}
-use Rattle.morris_views.specs.declared.fault.ViewFault.{ViewFault}
-use Rattle.morris_views.specs.declared.fault.ViewFault.TheVariants.{Room}
-use Rattle.morris_views.specs.Files.{contents}
+use Rattle.morris_lookup.specs.declared.fault.ViewFault.{ViewFault}
+use Rattle.morris_lookup.specs.declared.fault.ViewFault.TheVariants.{Room}
+use Rattle.morris_lookup.specs.Views.{contents}
 use Rattle.morris_c.specs.Statuses.{view_status}
 use Rattle.morris_c.specs.Calls.{ListsMoves, TellsMoves}
 use Rattle.morris_c.proofs.CallLaws.{no_fault, not_done}

@@ -3,7 +3,7 @@ use Rattle.std.specs.Prelude.{pos}
 use Rattle.std.proofs.lemmas.Bool.{both_ways}
 use Rattle.std.proofs.lemmas.Int.{to_z-of_z}
 use Rattle.morris_board.specs.Positions.{sides}
-use Rattle.morris_views.specs.Files.{contents}
+use Rattle.morris_lookup.specs.Views.{contents}
 use Rattle.morris_c.specs.Statuses.{mask_status, view_status}
 use Rattle.morris_c.specs.Calls.{LooksUp, TellsValue}
 use Rattle.morris_c.proofs.CallLaws.{one_fault, no_fault, not_done}
