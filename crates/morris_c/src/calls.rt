@@ -1,10 +1,9 @@
 //! The calls, for any board.
-ghost use Rattle.std.specs.Prelude.{◌≡◌, ◌<◌, ◌≤◌, pos, length};
+ghost use Rattle.std.specs.Prelude.{◌≡◌};
 ghost use Rattle.morris_board.specs.Positions.{sides};
 ghost use Rattle.morris_lookup.specs.Checking.{header_said};
 ghost use Rattle.morris_lookup.specs.Views.{contents};
-ghost use Rattle.morris_lookup.specs.Prepared.{prepared_count, IsPrepared};
-ghost use Rattle.morris_c.specs.Calls.{LooksUp, ListsMoves, TellsHeader};
+ghost use Rattle.morris_c.specs.Calls.{LooksUp, ListsMoves, Prepares, TellsHeader};
 
 use crate::statuses::{DONE, ROOM, mask_status, read_status, view_status};
 use morris_board::board::Geometry;
@@ -17,9 +16,7 @@ use morris_lookup::views::{View, value};
 
 /// Prepares words.
 pub fn prepare_words<B: Geometry>(words: &mut [u32]) -> i32
-    ensures done { result ≡ pos 0 → IsPrepared B.shape words.new }
-    ensures room { prepared_count B.shape ≤ length words.old → result ≡ pos 0 }
-    ensures short { length words.old < prepared_count B.shape → result ≡ pos 7 }
+    ensures { Prepares B.shape result words.old words.new }
 {
     match prepare::<B>(words) {
         Ok(_) => DONE,

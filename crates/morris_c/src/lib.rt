@@ -11,8 +11,8 @@ ghost use Rattle.morris_board.specs.Positions.{sides};
 ghost use Rattle.morris_lookup.specs.Checking.{header_said};
 ghost use Rattle.morris_lookup.specs.Digests.{has_digest};
 ghost use Rattle.morris_lookup.specs.Views.{contents};
-ghost use Rattle.morris_lookup.specs.Prepared.{prepared_count, IsPrepared};
-ghost use Rattle.morris_c.specs.Calls.{LooksUp, ListsMoves, TellsHeader};
+ghost use Rattle.morris_lookup.specs.Prepared.{prepared_count};
+ghost use Rattle.morris_c.specs.Calls.{LooksUp, ListsMoves, Prepares, TellsHeader};
 
 use calls::{check_header, list_moves, look_up, prepare_words};
 use morris_board::grid::Grid;
@@ -46,9 +46,9 @@ pub extern "C" fn morris_prepare_size(board: u32) -> usize
 /// Prepares words for a board.
 #[unsafe(no_mangle)]
 pub extern "C" fn morris_prepare(board: u32, words: &mut [u32]) -> i32
-    ensures usual { board ≡ 0 → result ≡ pos 0 → IsPrepared nine words.new }
-    ensures small { board ≡ 1 → result ≡ pos 0 → IsPrepared grid words.new }
-    ensures none { board ≢ 0 → board ≢ 1 → result ≡ pos 1 }
+    ensures usual { board ≡ 0 → Prepares nine result words.old words.new }
+    ensures small { board ≡ 1 → Prepares grid result words.old words.new }
+    ensures none { board ≢ 0 → board ≢ 1 → (result ≡ pos 1) × (words.new ≡ words.old) }
 {
     match board {
         NINE => prepare_words::<Nine>(words),

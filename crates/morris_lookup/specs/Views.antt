@@ -1,5 +1,5 @@
 -- What table files in memory say of positions.
-use Rattle.std.specs.Prelude.{◌≡◌, ℕ, ◌+◌, ◌*◌, Bool, true, false, ◌&&◌, nat_eq, nat_le, List, length, map, slice_index, Option, Some, None, Result, Ok, Err}
+use Rattle.std.specs.Prelude.{◌≡◌, ℕ, Bool, true, false, ◌&&◌, nat_eq, nat_le, List, length, map, slice_index, Option, Some, None, Result, Ok, Err}
 use Rattle.std.specs.List.{Contains, find}
 use Rattle.morris_board.specs.Boards.{Shape}
 use Rattle.morris_board.specs.Positions.{Sides}
@@ -8,12 +8,10 @@ use Rattle.morris_pairs.specs.declared.layout.Layout.{Layout}
 use Rattle.morris_pairs.specs.declared.value.Value.{Value}
 use Rattle.morris_pairs.specs.declared.value.Value.TheVariants.{Lost}
 use Rattle.morris_pairs.specs.declared.file_faults.ReadFault.{ReadFault}
-use Rattle.morris_pairs.specs.declared.file_faults.ReadFault.TheVariants as read
 use Rattle.morris_pairs.specs.Codes.{value_in}
-use Rattle.morris_pairs.specs.Entries.{entry_count, entry_index}
+use Rattle.morris_pairs.specs.Entries.{entry_index}
 use Rattle.morris_pairs.specs.Tables.{Table, IsTable}
 use Rattle.morris_pairs.specs.TableFiles.{file_of}
-use Rattle.morris_pairs.specs.FileReading.{unless}
 use Rattle.morris_lookup.specs.Opening.{framed_in}
 use Rattle.morris_lookup.specs.Lookups.{code_at}
 use Rattle.morris_lookup.specs.declared.fault.ViewFault.{ViewFault}
@@ -37,22 +35,14 @@ file_of_pair files c = find (names_pair c) files
 
 -- ---- one file
 
--- the entry of a position in the bytes of a file, where their header and their number are right
-abbrev pub entry_by : Shape → Sides → Result (Layout × Counts) ReadFault → Result ℕ ViewFault
-entry_by board s (Ok kind) = Ok (entry_index board board.points kind.0 kind.1 s)
-entry_by board s (Err refusal) = Err (fault.File refusal)
+-- what the bytes of a file say of a position of its pair, where their header and their number are
+-- right: the value of the code that stands at its entry
+abbrev pub value_by_kind : Shape → Sides → List ℕ → Result (Layout × Counts) ReadFault → Result Value ViewFault
+value_by_kind board s bytes (Ok kind) = Ok (value_in (code_at bytes (entry_index board board.points kind.0 kind.1 s)))
+value_by_kind board s bytes (Err refusal) = Err (fault.File refusal)
 
-unfoldable pub entry_in : Shape → Sides → List ℕ → Result ℕ ViewFault
-entry_in board s bytes = entry_by board s (framed_in board bytes)
-
--- what bytes say at an entry: the value of the code that stands there
-abbrev pub value_at : List ℕ → Result ℕ ViewFault → Result Value ViewFault
-value_at bytes (Ok entry) = Ok (value_in (code_at bytes entry))
-value_at bytes (Err refusal) = Err refusal
-
--- what the bytes of a file say of a position of its pair
 unfoldable pub value_of_bytes : Shape → Sides → List ℕ → Result Value ViewFault
-value_of_bytes board s bytes = value_at bytes (entry_in board s bytes)
+value_of_bytes board s bytes = value_by_kind board s bytes (framed_in board bytes)
 
 -- ---- many files
 
@@ -98,21 +88,3 @@ IsExactFile board bytes = (t : Table) × IsTable board t × (bytes ≡ file_of b
 
 abbrev pub AreExactFiles : Shape → List (List ℕ) → Type 0
 AreExactFiles board files = (bytes : List ℕ) → Contains files bytes → IsExactFile board bytes
-
--- ---- a part of a call
-
--- the last steps of a file's header, once its layout and its pair are known: the number of entries
--- that it states is that of the table, and there are as many bytes as its file has
-unfoldable pub borne_out : ℕ → ℕ → ℕ → Result (Unit {0}) ReadFault
-borne_out stated length count =
-    unless (nat_eq stated count) read.Count (
-    unless (nat_le (16 + 2 * count + 32) length) read.Short (
-    unless (nat_le length (16 + 2 * count + 32)) read.Trailing (Ok tt)))
-
--- the entry of a position of a pair, where those steps don't refuse
-abbrev pub entry_after : Result (Unit {0}) ReadFault → ℕ → Result ℕ ViewFault
-entry_after (Ok done) entry = Ok entry
-entry_after (Err refusal) entry = Err (fault.File refusal)
-
-abbrev pub counted_entry : Shape → ℕ → ℕ → ℕ → Layout → Counts → Sides → Result ℕ ViewFault
-counted_entry board n stated length layout c s = entry_after (borne_out stated length (entry_count board n layout c)) (entry_index board n layout c s)

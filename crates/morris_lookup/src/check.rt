@@ -14,7 +14,7 @@ use morris_pairs::layout::Layout;
 
 /// What the header of a table file says, as numbers that other languages read.
 #[repr(C)]
-#[derive(Clone, Copy, Debug, PartialEq, Eq)]
+#[derive(Clone, Copy)]
 pub struct HeaderRecord {
     /// 1 for a file with an entry for each position, 2 for one by classes.
     pub version: u8,
@@ -41,10 +41,10 @@ pub struct HeaderRecord {
 pub fn check<B: Geometry>(bytes: &[u8]) -> Result<HeaderRecord, ReadFault>
     ensures { result ≡ header_said B.shape bytes.now }
 {
-    let header = header_of(bytes)?;
+    let (header, length) = header_of(&bytes)?;
     let (layout, pair) = header.kind::<B>()?;
     let entries = count_of(pair, layout);
-    bear_out(header.entries, bytes.len() as u64, entries)?;
+    bear_out(header.entries, length, entries)?;
     Ok(HeaderRecord {
         version: version_of(layout),
         board: B::ID,

@@ -4,7 +4,6 @@
 pub mod best;
 pub mod check;
 pub mod class_entries;
-mod class_lists;
 mod classes;
 pub mod digest;
 pub mod fault;

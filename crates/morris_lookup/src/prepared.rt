@@ -1,11 +1,14 @@
 //! Prepared words: what the classes of sets of points need, in memory that the caller hands in.
-ghost use Rattle.std.specs.Prelude.{◌≡◌, ◌<◌, ◌≤◌, ◌^◌, true, length, IfOk, IfErr, MatchResult};
+ghost use Rattle.std.specs.Prelude.{◌≡◌, ◌<◌, ◌≤◌, ◌^◌, true, length, IsOk, IfOk, IfErr, MatchResult};
+ghost use Rattle.morris_lookup.specs.Numberings.{Serve};
 ghost use Rattle.morris_lookup.specs.Prepared.{prepared_count, looks_prepared, IsPrepared};
 ghost use Rattle.morris_lookup.specs.Representatives.{representatives_of};
 
 use crate::fault::{Room, ViewFault};
 use crate::representatives::{list, representative_count};
 use morris_board::board::Geometry;
+use morris_index::pair::Pair;
+use morris_pairs::layout::Layout;
 
 /// What prepared words begin with, before the number of the board is added.
 const FIRST: u32 = 0x4D57_4300;
@@ -80,5 +83,30 @@ pub(crate) fn prepared_list<B: Geometry>(words: &[u32], count: u8) -> Result<&[u
         Ok(&words[start..end])
     } else {
         Err(ViewFault::Words)
+    }
+}
+
+/// The lists that the entries of a pair go by in a layout, in words that may be prepared ones.
+///
+/// # Errors
+/// [`ViewFault::Words`] in layout `Classes` where the words aren't prepared ones, as far as that is
+/// known.
+pub(crate) fn lists_in<B: Geometry>(
+    words: &[u32],
+    layout: Layout,
+    pair: Pair<B>,
+) -> Result<(&[u32], &[u32]), ViewFault>
+    ensures serve { (layout ≡ Layout.Classes → IsPrepared B.shape words.now) → IfOk result (λ lists. Serve B.shape layout pair lists.0.now lists.1.now) }
+    ensures ready { (layout ≡ Layout.Classes → IsPrepared B.shape words.now) → IsOk result }
+    ensures tested { IfOk result (λ _. layout ≡ Layout.Classes → looks_prepared B.shape words.now ≡ true) }
+    ensures few { IfOk result (λ lists. (length lists.0.now < 2 ^ 32) × (length lists.1.now < 2 ^ 32)) }
+{
+    match layout {
+        Layout::Full => Ok((&words[..0], &words[..0])),
+        Layout::Classes => {
+            let greater = prepared_list::<B>(words, pair.greater())?;
+            let lesser = prepared_list::<B>(words, pair.lesser())?;
+            Ok((greater, lesser))
+        }
     }
 }

@@ -7,7 +7,7 @@ use morris_pairs::value::Value;
 
 /// A value as two numbers.
 #[repr(C)]
-#[derive(Clone, Copy, Debug, PartialEq, Eq)]
+#[derive(Clone, Copy)]
 pub struct ValueRecord {
     /// [`DRAW`], [`WON`] or [`LOST`].
     pub kind: u16,
@@ -17,7 +17,7 @@ pub struct ValueRecord {
 
 /// A move as numbers, and the value that it leads to.
 #[repr(C)]
-#[derive(Clone, Copy, Debug, PartialEq, Eq)]
+#[derive(Clone, Copy)]
 pub struct MoveRecord {
     /// The point that the stone leaves.
     pub from: u8,

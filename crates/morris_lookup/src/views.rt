@@ -8,7 +8,9 @@ ghost use Rattle.morris_lookup.specs.Prepared.{looks_prepared};
 ghost use Rattle.morris_lookup.specs.Views.{contents, file_of_pair, names_pair, value_said, value_of_bytes, is_by_classes, needs_words, Serves, ServeAll, IsExactFile, AreExactFiles};
 
 use crate::fault::ViewFault;
-use crate::framing::entry_of;
+use crate::framing::{bear_out, header_of};
+use crate::numbering::Numbering;
+use crate::prepared::lists_in;
 use morris_board::board::Geometry;
 use morris_board::position::Position;
 use morris_index::pair::Pair;
@@ -60,7 +62,11 @@ pub fn value<B: Geometry>(
 /// The value that the bytes of a file state for a position, whose pair they name.
 ///
 /// # Errors
-/// [`ViewFault::File`] and [`ViewFault::Words`].
+/// [`ViewFault::File`] with the first that applies: `Short` where there are fewer bytes than a
+/// header has; `Magic`, `Version` and `BoardId` for the header; `Count` where it states another
+/// number of entries; `Short` and `Trailing` where there are fewer or more bytes than the file of
+/// that table has. Before `Count`, [`ViewFault::Words`] where the file is one by classes and the
+/// words don't look prepared.
 fn value_of_file<B: Geometry>(
     bytes: &[u8],
     words: &[u32],
@@ -73,8 +79,17 @@ fn value_of_file<B: Geometry>(
     ensures unready { IfOk result (λ _. is_by_classes bytes.now ≡ true → looks_prepared B.shape words.now ≡ true) }
     ensures few { IfOk result (λ value. depth_of value ≤ 65534) }
 {
-    let entry = entry_of(bytes, words, pair, position)?;
-    match code_at(bytes, entry) {
+    let (header, length) = header_of(&bytes)?;
+    let (layout, _) = header.kind::<B>()?;
+    let (greater, lesser) = lists_in(words, layout, pair)?;
+    let numbering = Numbering {
+        layout,
+        pair,
+        greater,
+        lesser,
+    };
+    bear_out(header.entries, length, numbering.count())?;
+    match code_at(bytes, numbering.entry(position)) {
         // The entry lies in the file where the words are prepared ones.
         None => Err(ViewFault::Words),
         Some(code) => Ok(value_of_code(code)),
