@@ -1,4 +1,4 @@
-use Rattle.std.proofs.Common.{◌≡◌, ◌∙◌, arith}
+use Rattle.std.proofs.Common.{arith}
 use Rattle.morris_index.proofs.ClassPairLaws.{index-lt}
 use Rattle.morris_lookup.proofs.numbering.Numbering.entry.Goals as goal
 
