@@ -4,14 +4,14 @@ use Rattle.std.proofs.lemmas.Bool.{both_ways}
 use Rattle.std.specs.Prelude.{ℤ, pos, negsuc}
 use Rattle.morris_board.specs.Boards.{Shape}
 use Rattle.morris_board.specs.Positions.{Sides, IsPosition}
-use Rattle.morris_views.specs.declared.fault.MaskFault.{MaskFault}
-use Rattle.morris_views.specs.declared.fault.MaskFault.TheVariants.{OffBoard, Overlap, Stones}
+use Rattle.morris_lookup.specs.declared.fault.MaskFault.{MaskFault}
+use Rattle.morris_lookup.specs.declared.fault.MaskFault.TheVariants.{OffBoard, Overlap, Stones}
 use Rattle.morris_pairs.specs.declared.file_faults.ReadFault.{ReadFault}
 use Rattle.morris_pairs.specs.declared.file_faults.ReadFault.TheVariants as read
-use Rattle.morris_views.specs.declared.fault.ViewFault.{ViewFault}
-use Rattle.morris_views.specs.declared.fault.ViewFault.TheVariants as view
-use Rattle.morris_c.specs.Statuses.{read_status, view_status}
-use Rattle.morris_views.specs.Masks.{IsMaskRefusal}
+use Rattle.morris_lookup.specs.declared.fault.ViewFault.{ViewFault}
+use Rattle.morris_lookup.specs.declared.fault.ViewFault.TheVariants as view
+use Rattle.morris_c.specs.Statuses.{mask_status, read_status, view_status}
+use Rattle.morris_lookup.specs.Masks.{IsMaskRefusal}
 
 module _ (board : Shape) (s : Sides) where
   pub one_fault : (f g : MaskFault) → IsMaskRefusal board s f → IsMaskRefusal board s g → f ≡ g
@@ -51,10 +51,15 @@ view_some view.Words = omega arith
 view_some view.Room = omega arith
 view_some (view.File refusal) = read_some refusal
 
+pub mask_some : (f : MaskFault) → 0 < mask_status f
+mask_some OffBoard = omega arith
+mask_some Overlap = omega arith
+mask_some Stones = omega arith
+
 unfoldable mag_of : ℤ → ℕ
 mag_of (pos n) = n
 mag_of (negsuc n) = 0
 
-pub not_done : (f : ViewFault) (status : ℤ) → status ≡ pos (view_status f) → status ≡ pos 0 → ⊥
+pub not_done : (n : ℕ) → 0 < n → (status : ℤ) → status ≡ pos n → status ≡ pos 0 → ⊥
 unfolding mag_of
-not_done f status e done = let none : view_status f ≡ 0 = ap mag_of (sym e ∙ done) in absurd (omega (arith, none, view_some f))
+not_done n some status e done = let none : n ≡ 0 = ap mag_of (sym e ∙ done) in absurd (omega (arith, none, some))

@@ -3,10 +3,10 @@
 use Rattle.std.specs.Prelude.{ℕ}
 use Rattle.morris_pairs.specs.declared.file_faults.ReadFault.{ReadFault}
 use Rattle.morris_pairs.specs.declared.file_faults.ReadFault.TheVariants as read
-use Rattle.morris_views.specs.declared.fault.ViewFault.{ViewFault}
-use Rattle.morris_views.specs.declared.fault.ViewFault.TheVariants as view
-use Rattle.morris_views.specs.declared.fault.MaskFault.{MaskFault}
-use Rattle.morris_views.specs.declared.fault.MaskFault.TheVariants as mask
+use Rattle.morris_lookup.specs.declared.fault.ViewFault.{ViewFault}
+use Rattle.morris_lookup.specs.declared.fault.ViewFault.TheVariants as view
+use Rattle.morris_lookup.specs.declared.fault.MaskFault.{MaskFault}
+use Rattle.morris_lookup.specs.declared.fault.MaskFault.TheVariants as mask
 
 -- 1 is the status of a number that no board has
 

@@ -1,26 +1,22 @@
 //! The calls, for any board.
-ghost use Rattle.std.specs.Prelude.{◌≡◌, ◌<◌, ◌≤◌, pos, length};
+ghost use Rattle.std.specs.Prelude.{◌≡◌};
 ghost use Rattle.morris_board.specs.Positions.{sides};
-ghost use Rattle.morris_views.specs.Checking.{header_said};
-ghost use Rattle.morris_views.specs.Files.{contents};
-ghost use Rattle.morris_views.specs.Prepared.{prepared_count, IsPrepared};
-ghost use Rattle.morris_c.specs.Calls.{LooksUp, ListsMoves, TellsHeader};
+ghost use Rattle.morris_lookup.specs.Checking.{header_said};
+ghost use Rattle.morris_lookup.specs.Views.{contents};
+ghost use Rattle.morris_c.specs.Calls.{LooksUp, ListsMoves, Prepares, TellsHeader};
 
 use crate::statuses::{DONE, ROOM, mask_status, read_status, view_status};
 use morris_board::board::Geometry;
-use morris_views::check::{HeaderRecord, check};
-use morris_views::masks::position_of;
-use morris_views::outcomes::outcomes;
-use morris_views::prepared::prepare;
-use morris_views::records::{MoveRecord, ValueRecord, value_record};
-use morris_views::value::value;
-use morris_views::view::View;
+use morris_lookup::check::{HeaderRecord, check};
+use morris_lookup::listing::outcomes;
+use morris_lookup::masks::position_of;
+use morris_lookup::prepared::prepare;
+use morris_lookup::records::{MoveRecord, ValueRecord, value_record};
+use morris_lookup::views::{View, value};
 
 /// Prepares words.
 pub fn prepare_words<B: Geometry>(words: &mut [u32]) -> i32
-    ensures done { result ≡ pos 0 → IsPrepared B.shape words.new }
-    ensures room { prepared_count B.shape ≤ length words.old → result ≡ pos 0 }
-    ensures short { length words.old < prepared_count B.shape → result ≡ pos 7 }
+    ensures { Prepares B.shape result words.old words.new }
 {
     match prepare::<B>(words) {
         Ok(_) => DONE,

@@ -8,20 +8,20 @@ pub mod statuses;
 ghost use Rattle.std.specs.Prelude.{◌≡◌, ◌≢◌, ◌<◌, ◌≤◌, ◌-◌, true, false, pos, length, slice_index, IsTrue};
 ghost use Rattle.morris_board.specs.Boards.{nine, grid};
 ghost use Rattle.morris_board.specs.Positions.{sides};
-ghost use Rattle.morris_views.specs.Checking.{header_said};
-ghost use Rattle.morris_views.specs.Digests.{has_digest};
-ghost use Rattle.morris_views.specs.Files.{contents};
-ghost use Rattle.morris_views.specs.Prepared.{prepared_count, IsPrepared};
-ghost use Rattle.morris_c.specs.Calls.{LooksUp, ListsMoves, TellsHeader};
+ghost use Rattle.morris_lookup.specs.Checking.{header_said};
+ghost use Rattle.morris_lookup.specs.Digests.{has_digest};
+ghost use Rattle.morris_lookup.specs.Views.{contents};
+ghost use Rattle.morris_lookup.specs.Prepared.{prepared_count};
+ghost use Rattle.morris_c.specs.Calls.{LooksUp, ListsMoves, Prepares, TellsHeader};
 
 use calls::{check_header, list_moves, look_up, prepare_words};
 use morris_board::grid::Grid;
 use morris_board::nine::Nine;
-use morris_views::check::HeaderRecord;
-use morris_views::digest::has_digest;
-use morris_views::prepared::prepared_count;
-use morris_views::records::{MoveRecord, ValueRecord};
-use morris_views::view::View;
+use morris_lookup::check::HeaderRecord;
+use morris_lookup::digest::has_digest;
+use morris_lookup::prepared::prepared_count;
+use morris_lookup::records::{MoveRecord, ValueRecord};
+use morris_lookup::views::View;
 use statuses::{DIGEST, DONE, NO_BOARD, SHORT};
 
 /// The numbers of the boards.
@@ -46,9 +46,9 @@ pub extern "C" fn morris_prepare_size(board: u32) -> usize
 /// Prepares words for a board.
 #[unsafe(no_mangle)]
 pub extern "C" fn morris_prepare(board: u32, words: &mut [u32]) -> i32
-    ensures usual { board ≡ 0 → result ≡ pos 0 → IsPrepared nine words.new }
-    ensures small { board ≡ 1 → result ≡ pos 0 → IsPrepared grid words.new }
-    ensures none { board ≢ 0 → board ≢ 1 → result ≡ pos 1 }
+    ensures usual { board ≡ 0 → Prepares nine result words.old words.new }
+    ensures small { board ≡ 1 → Prepares grid result words.old words.new }
+    ensures none { board ≢ 0 → board ≢ 1 → (result ≡ pos 1) × (words.new ≡ words.old) }
 {
     match board {
         NINE => prepare_words::<Nine>(words),

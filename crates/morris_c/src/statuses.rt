@@ -2,8 +2,8 @@
 ghost use Rattle.std.specs.Prelude.{◌≡◌, pos};
 ghost use Rattle.morris_c.specs.Statuses.{mask_status, read_status, view_status};
 
+use morris_lookup::fault::{MaskFault, ViewFault};
 use morris_pairs::file_faults::ReadFault;
-use morris_views::fault::{MaskFault, ViewFault};
 
 /// The call did what was asked.
 pub const DONE: i32 = 0;

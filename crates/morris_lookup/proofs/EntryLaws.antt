@@ -1,5 +1,5 @@
 -- Laws of the entries by classes, where the representatives are listed.
-use Rattle.std.proofs.Common.{◌≡◌, ◌≢◌, ℕ, ◌+◌, ◌-◌, ◌*◌, ◌%◌, ◌<◌, ◌≤◌, true, map, length, refl, ap, ◌∙◌, inl, inr, arith}
+use Rattle.std.proofs.Common.{◌≡◌, ◌≢◌, ℕ, ◌+◌, ◌-◌, ◌*◌, ◌%◌, ◌^◌, ◌<◌, ◌≤◌, true, List, map, length, refl, ap, ◌∙◌, inl, inr, arith}
 use Rattle.std.proofs.lemmas.Nat.{mod-mul-add}
 use Rattle.morris_board.specs.Boards.{Shape}
 use Rattle.morris_board.specs.Sets.{members, count_of}
@@ -7,16 +7,20 @@ use Rattle.morris_board.specs.Positions.{Sides, IsPosition}
 use Rattle.morris_index.specs.Binomials.{choose}
 use Rattle.morris_index.specs.Numbering.{rank_of, number_outside, half_size, half_index, count_below}
 use Rattle.morris_index.specs.Classes.{class_count, classes_below}
-use Rattle.morris_index.specs.Pairs.{Counts, IsPair, is_of, index_of}
+use Rattle.morris_index.specs.Pairs.{Counts, is_of, index_of}
 use Rattle.morris_index.proofs.IndexLaws.{placed, counts_fit, other_rank-lt, halves_of, index-first, index-second}
 use Rattle.morris_index.proofs.PairLaws.{own_count, other_count}
 use Rattle.morris_index.specs.ClassPairs.{led}
-use Rattle.morris_index.specs.ClassPairs.{class_size_of}
 use Rattle.morris_index.proofs.ClassCounts.{class_count-few}
-use Rattle.morris_index.proofs.ClassPairLaws.{led_own_count, led_other_count, class_size-few, size-one, size-two}
+use Rattle.morris_index.proofs.ClassPairLaws.{led_own_count, led_other_count}
 use Rattle.morris_board.specs.Symmetries.{HasSymmetries}
 use Rattle.std.proofs.lemmas.Bool.{cases_eq}
+use Rattle.morris_pairs.specs.declared.layout.Layout.{Layout}
+use Rattle.morris_pairs.specs.declared.layout.Layout.TheVariants.{Full, Classes}
 use Rattle.morris_lookup.specs.Representatives.{representatives_of}
+use Rattle.morris_lookup.specs.Numberings.{Serve}
+use Rattle.morris_lookup.proofs.ListLaws.{representatives-few}
+use Rattle.morris_lookup.proofs.StretchLaws.{few_masks}
 
 -- as many classes as representatives
 pub class_count-is : (board : Shape) (count : ℕ) → class_count board count ≡ length (representatives_of board count)
@@ -83,29 +87,15 @@ own_is_lesser c s of d = elim (halves_of c s of) [
   | inr b ↦ b.1
 ]
 
--- ---- how many entries a pair has
+-- ---- lists that serve
 
-pub size_few : (board : Shape) (n : ℕ) (few : n ≤ 24) (points : board.points ≡ n) (y : HasSymmetries board) (c : Counts) → IsPair n c → class_size_of board n c ≤ 1099511627776
-size_few board n few points y c h =
-    let first = class_size-few board n few points y c.greater c.lesser
-    (record {
-      own_least = omega (arith, h.ordered, h.least);
-      own_most = h.most;
-      other_least = h.least;
-      other_most = omega (arith, h.ordered, h.most);
-      fits = h.fits;
-    })
-    (class_count-few board n c.greater few points) in
-    let second = class_size-few board n few points y c.lesser c.greater
-    (record {
-      own_least = h.least;
-      own_most = omega (arith, h.ordered, h.most);
-      other_least = omega (arith, h.ordered, h.least);
-      other_most = h.most;
-      fits = omega (arith, h.fits);
-    })
-    (class_count-few board n c.lesser few points) in
-    elim (cases_eq c.greater c.lesser) [
-      | inl e ↦ omega (arith, first, size-one board n few points y c e)
-      | inr d ↦ omega (arith, first, second, size-two board n few points y c d)
-    ]
+-- they have fewer numbers than there are sets
+pub serve_few : (board : Shape) → board.points ≤ 24 → (l : Layout) (c : Counts) (greater lesser : List ℕ) → Serve board l c greater lesser
+    → (length greater < 2 ^ 32) × (length lesser < 2 ^ 32)
+serve_few board low Full c greater lesser h =
+    let none : length greater ≡ 0 = ap length h.0 in
+    let nothing : length lesser ≡ 0 = ap length h.1 in
+    (omega (arith, none), omega (arith, nothing))
+serve_few board low Classes c greater lesser h =
+    let few : 2 ^ board.points ≤ 2 ^ 24 = few_masks board.points low in
+    (omega (arith, ap length h.0, representatives-few board c.greater, few), omega (arith, ap length h.1, representatives-few board c.lesser, few))

@@ -6,3 +6,8 @@ pub mod OpeningLaws
 pub mod FileLookups
 pub mod FileSetLaws
 pub mod OutcomeLaws
+pub mod PreparedLaws
+pub mod FoundLaws
+pub mod ViewLaws
+pub mod ExactLaws
+pub mod ListingLaws

@@ -1,9 +1,9 @@
 -- Laws of opening: what the steps find in bytes of which the header and the number are known, and
 -- that the file of each table is one.
-use Rattle.std.proofs.Common.{◌≡◌, ℕ, ◌+◌, ◌*◌, ◌^◌, ◌<◌, ◌≤◌, List, [], ◌++◌, length, take, drop, Option, Some, None, Result, Ok, Err, IsOk, refl, sym, ap, subst, ◌∙◌, inl, inr, arith, append-nil}
-use Rattle.std.specs.Prelude.{nat_le, IfSome}
+use Rattle.std.proofs.Common.{◌≡◌, ◌≢◌, ℕ, ◌+◌, ◌*◌, ◌^◌, ◌<◌, ◌≤◌, List, [], ◌++◌, length, take, drop, Option, Some, None, Result, Ok, Err, IsOk, refl, sym, ap, subst, ◌∙◌, inl, inr, arith, append-nil}
+use Rattle.std.specs.Prelude.{nat_eq, nat_le, IfSome}
 use Rattle.std.specs.Str.{bytes_eq}
-use Rattle.std.proofs.lemmas.Bool.{cases_eq, cases_Bool, ne_eqb, le-leb, leb-true}
+use Rattle.std.proofs.lemmas.Bool.{cases_eq, cases_Bool, le-leb, leb-true}
 use Rattle.sha2.specs.Sha256.{sha256}
 use Rattle.morris_board.specs.Boards.{Shape}
 use Rattle.morris_board.specs.Symmetries.{HasSymmetries}
@@ -18,110 +18,181 @@ use Rattle.morris_pairs.specs.Tables.{Table, table}
 use Rattle.morris_pairs.specs.Raws.{IsRaw}
 use Rattle.morris_pairs.specs.TableFiles.{file_of}
 use Rattle.morris_pairs.specs.declared.header.Header.{Header}
-use Rattle.morris_pairs.specs.FileReading.{unless, and_then, header_at, kind_in, counted_in, heading_in, roomless_in, header_in, codes_in, body_in, file_in, IsOfBytes, IsHeadingRefusal}
+use Rattle.morris_pairs.specs.FileReading.{unless, and_then, header_at, kind_in, counted_in, heading_in, roomless_in, header_in, codes_in, body_in, file_in, IsOfBytes}
 use Rattle.morris_pairs.specs.declared.file_faults.ReadFault.{ReadFault}
 use Rattle.morris_pairs.specs.declared.file_faults.ReadFault.TheVariants as fault
 use Rattle.morris_pairs.proofs.FileLaws.{header_in-short, file_in-file_of, length-file_of}
-use Rattle.morris_pairs.proofs.ReadingLaws.{ok_same}
+use Rattle.morris_pairs.proofs.ReadingLaws.{ok_same, room_refused}
 use Rattle.morris_lookup.specs.declared.fault.OpenFault.TheVariants as opening
 use Rattle.morris_lookup.specs.Storage.{bytes_at, ReadsAt, CountsBytes}
-use Rattle.morris_lookup.specs.Opening.{file_size, measured_in, framed_in, IsFramingRefusal, Opens}
+use Rattle.morris_lookup.specs.Opening.{file_size, measured_in, framed_in, borne_out, BeginsWith, IsFramingRefusal, IsOpeningRefusal, Opens}
 
--- ---- a header
+-- ---- the last steps
 
--- a header that states another number of entries
-pub count_refused : (board : Shape) (n : ℕ) → board.points ≡ n → (header : Header) (kind : Layout × Counts) → Ok kind ≡ kind_in board header
-    → (header.entries ≡ entry_count board n kind.0 kind.1 → ⊥) → heading_in board header ≡ Err fault.Count
-unfolding heading_in counted_in
-count_refused board n points header kind named other =
-    let differ : header.entries ≡ entry_count board board.points kind.0 kind.1 → ⊥ = λ e. other (e ∙ ap (λ m. entry_count board m kind.0 kind.1) points) in
-    rw (← named, ne_eqb header.entries (entry_count board board.points kind.0 kind.1) differ) refl
+-- where none of them refuses, the bytes are as many as the file of a table has
+pub borne : (stated long count : ℕ) (done : Unit {0}) → Ok done ≡ borne_out stated long count → long ≡ 16 + 2 * count + 32
+unfolding borne_out
+borne stated long count done e = elim (cases_Bool (nat_eq stated count)) [
+  | inl right ↦ elim (cases_Bool (nat_le (16 + 2 * count + 32) long)) [
+    | inl enough ↦ elim (cases_Bool (nat_le long (16 + 2 * count + 32))) [
+      | inl fit ↦ omega (arith, leb-true (16 + 2 * count + 32) long enough, leb-true long (16 + 2 * count + 32) fit)
+      | inr more ↦ absurd (never-borne fault.Trailing (rw (right, enough, more) at e))
+    ]
+    | inr fewer ↦ absurd (never-borne fault.Short (rw (right, fewer) at e))
+  ]
+  | inr other ↦ absurd (never-borne fault.Count (rw other at e))
+]
+  where
+    never-borne : (refusal : ReadFault) → ◌≡◌ {A = Result (Unit {0}) ReadFault} (Ok done) (Err refusal) → ⊥
+    never-borne refusal h = cc
+
+-- the entry lies in the file
+pub entry_inside : (stated long count entry : ℕ) (done : Unit {0}) → Ok done ≡ borne_out stated long count → entry < count → 16 + 2 * entry + 2 ≤ long
+entry_inside stated long count entry done e low = omega (arith, borne stated long count done e)
+
+-- what they leave of a layout and a pair
+abbrev pub left_of : Layout × Counts → Result (Unit {0}) ReadFault → Result (Layout × Counts) ReadFault
+left_of kind (Ok done) = Ok kind
+left_of kind (Err refusal) = Err refusal
 
 -- ---- bytes by their header and number
 
-framed_short : (board : Shape) (bytes : List ℕ) → length bytes < 16 → framed_in board bytes ≡ Err fault.Short
-unfolding framed_in
-framed_short board bytes short = rw (header_in-short board bytes short) refl
+module _ (board : Shape) (bytes : List ℕ) where
+  pub framed_short : length bytes < 16 → framed_in board bytes ≡ Err fault.Short
+  unfolding framed_in
+  framed_short short = rw (header_in-short board bytes short) refl
 
-framed_long : (board : Shape) (bytes header : List ℕ) → 16 ≤ length bytes → header ≡ take 16 bytes
-    → framed_in board bytes ≡ and_then (heading_in board (header_at header)) (measured_in board (length bytes))
-unfolding framed_in header_in
-framed_long board bytes header long is = rw (is, le-leb 16 (length bytes) long) refl
+  module _ (header : Header) (n : ℕ) (begins : BeginsWith header n bytes) where
+    pub framed_refused : (refusal : ReadFault) → Err refusal ≡ kind_in board header → framed_in board bytes ≡ Err refusal
+    unfolding framed_in header_in heading_in
+    framed_refused refusal e =
+        let here : Err refusal ≡ kind_in board (header_at (take 16 bytes)) = e ∙ ap (kind_in board) begins.1 in
+        rw (le-leb 16 (length bytes) begins.0, ← here) refl
 
--- bytes that a reader found to be as many, and to begin with this header
-module _ (board : Shape) (n : ℕ) where
-  abbrev HasHeader : List ℕ → List ℕ → Type 0
-  HasHeader bytes header = (length bytes ≡ n) × (16 ≤ n) × (header ≡ take 16 bytes)
+    framed_here : (kind : Layout × Counts) → Ok kind ≡ kind_in board (header_at (take 16 bytes))
+        → framed_in board bytes ≡ left_of kind (borne_out (header_at (take 16 bytes)).entries (length bytes) (entry_count board board.points kind.0 kind.1))
+    unfolding framed_in header_in heading_in counted_in measured_in borne_out
+    framed_here kind e =
+        let stated : ℕ = (header_at (take 16 bytes)).entries in
+        let count : ℕ = entry_count board board.points kind.0 kind.1 in
+        let size : ℕ = 16 + 2 * count + 32 in
+        elim (cases_Bool (nat_eq stated count)) [
+          | inl right ↦ elim (cases_Bool (nat_le size (length bytes))) [
+            | inl enough ↦ elim (cases_Bool (nat_le (length bytes) size)) [
+              | inl fit ↦ rw (le-leb 16 (length bytes) begins.0, ← e, right, enough, fit) refl
+              | inr more ↦ rw (le-leb 16 (length bytes) begins.0, ← e, right, enough, more) refl
+            ]
+            | inr fewer ↦ rw (le-leb 16 (length bytes) begins.0, ← e, right, fewer) refl
+          ]
+          | inr other ↦ rw (le-leb 16 (length bytes) begins.0, ← e, other) refl
+        ]
 
-  framed_by : (bytes header : List ℕ) → HasHeader bytes header → framed_in board bytes ≡ and_then (heading_in board (header_at header)) (measured_in board n)
-  framed_by bytes header h =
-      framed_long board bytes header (omega (arith, h.0, h.1)) h.2 ∙ ap (λ m. and_then (heading_in board (header_at header)) (measured_in board m)) h.0
+    module _ (kind : Layout × Counts) (named : Ok kind ≡ kind_in board header) (m : ℕ) (points : board.points ≡ m) (count : ℕ)
+        (counted : count ≡ entry_count board m kind.0 kind.1) where
+      framed_counted : framed_in board bytes ≡ left_of kind (borne_out header.entries n count)
+      framed_counted =
+          let here : count ≡ entry_count board board.points kind.0 kind.1 = counted ∙ ap (λ p. entry_count board p kind.0 kind.1) (sym points) in
+          rw (begins.2, here, begins.1) (framed_here kind (named ∙ ap (kind_in board) begins.1))
 
-  header_refused : (bytes header : List ℕ) → HasHeader bytes header → (refusal : ReadFault) → heading_in board (header_at header) ≡ Err refusal
-      → framed_in board bytes ≡ Err refusal
-  header_refused bytes header h refusal e = framed_by bytes header h ∙ rw e refl
+      pub framed_not_borne : (refusal : ReadFault) → Err refusal ≡ borne_out header.entries n count → framed_in board bytes ≡ Err refusal
+      framed_not_borne refusal e = framed_counted ∙ ap (left_of kind) (sym e)
 
-  of_header : (bytes header : List ℕ) → HasHeader bytes header → (refusal : ReadFault) → IsHeadingRefusal board (header_at header) refusal
-      → IsFramingRefusal board bytes refusal
-  of_header bytes header h fault.Memory r = (omega (arith, h.0, h.1), subst (λ front. IsOk (roomless_in board (header_at front))) h.2 r)
-  of_header bytes header h fault.Read r = absurd r.1
-  of_header bytes header h fault.Short r = header_refused bytes header h fault.Short r.0
-  of_header bytes header h fault.Magic r = header_refused bytes header h fault.Magic r.0
-  of_header bytes header h fault.Version r = header_refused bytes header h fault.Version r.0
-  of_header bytes header h fault.BoardId r = header_refused bytes header h fault.BoardId r.0
-  of_header bytes header h fault.Counts r = header_refused bytes header h fault.Counts r.0
-  of_header bytes header h fault.Crowded r = header_refused bytes header h fault.Crowded r.0
-  of_header bytes header h fault.Count r = header_refused bytes header h fault.Count r.0
-  of_header bytes header h fault.Digest r = header_refused bytes header h fault.Digest r.0
-  of_header bytes header h fault.Trailing r = header_refused bytes header h fault.Trailing r.0
+      pub framed_found : (done : Unit {0}) → Ok done ≡ borne_out header.entries n count → framed_in board bytes ≡ Ok kind
+      framed_found done e = framed_counted ∙ ap (left_of kind) (sym e)
 
-  of_bytes : (bytes : List ℕ) (refusal : ReadFault) → framed_in board bytes ≡ Err refusal → IsOfBytes refusal → IsFramingRefusal board bytes refusal
-  of_bytes bytes fault.Memory e r = absurd r
-  of_bytes bytes fault.Read e r = absurd r
-  of_bytes bytes fault.Short e r = e
-  of_bytes bytes fault.Magic e r = e
-  of_bytes bytes fault.Version e r = e
-  of_bytes bytes fault.BoardId e r = e
-  of_bytes bytes fault.Counts e r = e
-  of_bytes bytes fault.Crowded e r = e
-  of_bytes bytes fault.Count e r = e
-  of_bytes bytes fault.Digest e r = e
-  of_bytes bytes fault.Trailing e r = e
+of_bytes : (board : Shape) (bytes : List ℕ) (refusal : ReadFault) → framed_in board bytes ≡ Err refusal → IsOfBytes refusal → IsFramingRefusal board bytes refusal
+of_bytes board bytes fault.Memory e r = absurd r
+of_bytes board bytes fault.Read e r = absurd r
+of_bytes board bytes fault.Short e r = e
+of_bytes board bytes fault.Magic e r = e
+of_bytes board bytes fault.Version e r = e
+of_bytes board bytes fault.BoardId e r = e
+of_bytes board bytes fault.Counts e r = e
+of_bytes board bytes fault.Crowded e r = e
+of_bytes board bytes fault.Count e r = e
+of_bytes board bytes fault.Digest e r = e
+of_bytes board bytes fault.Trailing e r = e
 
-  -- ---- what a reader found, where the bytes are known
+not_borne : (stated n count : ℕ) (refusal : ReadFault) → Err refusal ≡ borne_out stated n count → IsOfBytes refusal
+unfolding borne_out
+not_borne stated n count refusal e = elim (cases_Bool (nat_eq stated count)) [
+  | inl right ↦ elim (cases_Bool (nat_le (16 + 2 * count + 32) n)) [
+    | inl enough ↦ elim (cases_Bool (nat_le n (16 + 2 * count + 32))) [
+      | inl fit ↦ absurd (never-done (rw (right, enough, fit) at e))
+      | inr more ↦ subst IsOfBytes (sym (same fault.Trailing (rw (right, enough, more) at e))) tt
+    ]
+    | inr fewer ↦ subst IsOfBytes (sym (same fault.Short (rw (right, fewer) at e))) tt
+  ]
+  | inr other ↦ subst IsOfBytes (sym (same fault.Count (rw other at e))) tt
+]
+  where
+    never-done : ◌≡◌ {A = Result (Unit {0}) ReadFault} (Err refusal) (Ok tt) → ⊥
+    never-done h = cc
 
-  module _ (E : Type 0) where
-    abbrev number_of : Result ℕ E → ℕ
-    number_of (Ok a) = a
-    number_of (Err failed) = 0
+    same : (other : ReadFault) → ◌≡◌ {A = Result (Unit {0}) ReadFault} (Err refusal) (Err other) → refusal ≡ other
+    same other h = cc
 
-    ok_number : (a b : ℕ) → ◌≡◌ {A = Result ℕ E} (Ok a) (Ok b) → a ≡ b
-    ok_number a b e = ap number_of e
+-- ---- the same where the bytes may be known
 
-    pub frame_short : (o : Option (List ℕ)) → CountsBytes {E = E} o (Ok n) → n < 16 → IfSome o (λ bytes. IsFramingRefusal board bytes fault.Short)
-    frame_short None counted short = tt
-    frame_short (Some bytes) counted short = framed_short board bytes (omega (arith, ok_number n (length bytes) counted))
+module _ (board : Shape) (o : Option (List ℕ)) where
+  abbrev IsRefusedBy : ReadFault → Type 0
+  IsRefusedBy refusal = IfSome o (λ bytes. IsFramingRefusal board bytes refusal)
 
-  module _ (E T F : Type 0) (header : List ℕ) (done : T) (sized : length header ≡ 16) (enough : 16 ≤ n) where
-    there : (bytes : List ℕ) → CountsBytes {E = E} (Some bytes) (Ok n) → ReadsAt {T = T} {E = F} (Some bytes) 0 header (Ok done) → HasHeader bytes header
-    there bytes counted read = (sym (ok_number E n (length bytes) counted), enough, read ∙ ap (λ k. bytes_at bytes 0 k) sized)
+pub frame_short : (board : Shape) (o : Option (List ℕ)) (refusal : ReadFault) → IfSome o (λ bytes. (length bytes < 16) × (refusal ≡ fault.Short)) → IsRefusedBy board o refusal
+frame_short board None refusal h = tt
+frame_short board (Some bytes) refusal h = subst (IsFramingRefusal board bytes) (sym h.1) (framed_short board bytes h.0)
 
-    pub frame_header : (o : Option (List ℕ)) → CountsBytes {E = E} o (Ok n) → ReadsAt {T = T} {E = F} o 0 header (Ok done)
-        → (refusal : ReadFault) → IsHeadingRefusal board (header_at header) refusal → IfSome o (λ bytes. IsFramingRefusal board bytes refusal)
-    frame_header None counted read refusal r = tt
-    frame_header (Some bytes) counted read refusal r = of_header bytes header (there bytes counted read) refusal r
+module _ (board : Shape) (header : Header) (n : ℕ) where
+  pub frame_refused : (o : Option (List ℕ)) → IfSome o (BeginsWith header n) → (refusal : ReadFault) → Err refusal ≡ kind_in board header → IsOfBytes refusal
+      → IsRefusedBy board o refusal
+  frame_refused None begins refusal e of = tt
+  frame_refused (Some bytes) begins refusal e of = of_bytes board bytes refusal (framed_refused board bytes header n begins refusal e) of
 
-    module _ (kind : Layout × Counts) (named : heading_in board (header_at header) ≡ Ok kind) where
-      pub frame_measure : (o : Option (List ℕ)) → CountsBytes {E = E} o (Ok n) → ReadsAt {T = T} {E = F} o 0 header (Ok done)
-          → (refusal : ReadFault) → (measured_in board n kind ≡ Err refusal) × IsOfBytes refusal → IfSome o (λ bytes. IsFramingRefusal board bytes refusal)
-      frame_measure None counted read refusal r = tt
-      frame_measure (Some bytes) counted read refusal r =
-          of_bytes bytes refusal (framed_by bytes header (there bytes counted read) ∙ rw named r.0) r.1
+  pub frame_roomless : (l : Layout) (c : Counts) → Ok (l, c) ≡ kind_in board header → (o : Option (List ℕ)) → IfSome o (BeginsWith header n) → (l ≡ Full → ⊥)
+      → IsRefusedBy board o fault.Memory
+  frame_roomless l c named None begins classes = tt
+  frame_roomless l c named (Some bytes) begins classes =
+      (begins.0, subst (λ h. IsOk (roomless_in board h)) begins.1 (room_refused board header l c named classes))
 
-      pub frame_found : (o : Option (List ℕ)) → CountsBytes {E = E} o (Ok n) → ReadsAt {T = T} {E = F} o 0 header (Ok done)
-          → measured_in board n kind ≡ Ok kind → IfSome o (λ bytes. framed_in board bytes ≡ Ok kind)
-      frame_found None counted read right = tt
-      frame_found (Some bytes) counted read right = framed_by bytes header (there bytes counted read) ∙ rw named right
+  module _ (kind : Layout × Counts) (named : Ok kind ≡ kind_in board header) where
+    module _ (m : ℕ) (points : board.points ≡ m) (count : ℕ) (counted : count ≡ entry_count board m kind.0 kind.1) where
+      pub frame_not_borne : (o : Option (List ℕ)) → IfSome o (BeginsWith header n) → (refusal : ReadFault) → Err refusal ≡ borne_out header.entries n count
+          → IsRefusedBy board o refusal
+      frame_not_borne None begins refusal e = tt
+      frame_not_borne (Some bytes) begins refusal e =
+          of_bytes board bytes refusal (framed_not_borne board bytes header n begins kind named m points count counted refusal e) (not_borne header.entries n count refusal e)
+
+      pub frame_found : (o : Option (List ℕ)) → IfSome o (BeginsWith header n) → (done : Unit {0}) → Ok done ≡ borne_out header.entries n count
+          → IfSome o (λ bytes. framed_in board bytes ≡ Ok kind)
+      frame_found None begins done e = tt
+      frame_found (Some bytes) begins done e = framed_found board bytes header n begins kind named m points count counted done e
+
+module _ (E : Type 0) where
+  abbrev number_of : Result ℕ E → ℕ
+  number_of (Ok a) = a
+  number_of (Err failed) = 0
+
+  ok_number : (a b : ℕ) → ◌≡◌ {A = Result ℕ E} (Ok a) (Ok b) → a ≡ b
+  ok_number a b e = ap number_of e
+
+-- the file of another pair is refused as such
+pub other_pair : (board : Shape) (wanted : Counts) (o : Option (List ℕ)) (kind : Layout × Counts) → IfSome o (λ bytes. framed_in board bytes ≡ Ok kind) → kind.1 ≢ wanted
+    → IfSome o (λ bytes. IsOpeningRefusal board wanted bytes opening.Pair)
+other_pair board wanted None kind framed other = tt
+other_pair board wanted (Some bytes) kind framed other = (kind, framed, other)
+
+-- what a reader found that counted the bytes and read the first of them
+module _ (E T F : Type 0) (n : ℕ) (front : List ℕ) (done : T) (sized : length front ≡ 16) (enough : 16 ≤ n) (header : Header) (is : header ≡ header_at front) where
+  pub begins_with : (o : Option (List ℕ)) → CountsBytes {E = E} o (Ok n) → ReadsAt {T = T} {E = F} o 0 front (Ok done) → IfSome o (BeginsWith header n)
+  begins_with None counted read = tt
+  begins_with (Some bytes) counted read =
+      let long : n ≡ length bytes = ok_number E n (length bytes) counted in
+      (omega (arith, enough, long), is ∙ ap header_at (read ∙ ap (λ k. bytes_at bytes 0 k) sized), long)
+
+pub too_short : (E : Type 0) (o : Option (List ℕ)) (n : ℕ) → CountsBytes {E = E} o (Ok n) → n < 16 → (refusal : ReadFault) → refusal ≡ fault.Short
+    → IfSome o (λ bytes. (length bytes < 16) × (refusal ≡ fault.Short))
+too_short E None n counted short refusal is = tt
+too_short E (Some bytes) n counted short refusal is = (omega (arith, short, ok_number E n (length bytes) counted), is)
 
 -- bytes that no step refuses are as many as the file of the table has
 pub size_of_framed : (board : Shape) (bytes : List ℕ) (kind : Layout × Counts) → framed_in board bytes ≡ Ok kind

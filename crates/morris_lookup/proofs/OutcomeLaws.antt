@@ -7,14 +7,16 @@ use Rattle.std.proofs.lemmas.List.Elements.{Contains-push_cases, Contains-push, 
 use Rattle.morris_board.specs.Boards.{Shape}
 use Rattle.morris_board.specs.Positions.{Sides}
 use Rattle.morris_moves.specs.declared.step.Move.{Move}
-use Rattle.morris_moves.specs.Rules.{result_of}
+use Rattle.morris_moves.specs.Rules.{moves_of, result_of}
 use Rattle.morris_pairs.specs.declared.value.Value.{Value}
 use Rattle.morris_pairs.specs.declared.value.Value.TheVariants.{Draw, Won, Lost}
 use Rattle.morris_pairs.specs.Codes.{IsValue}
 use Rattle.morris_probe.specs.Best.{after_best, LeadsOn, IsBest}
 use Rattle.morris_lookup.specs.declared.outcomes.Outcome.{Outcome}
-use Rattle.morris_lookup.specs.FileSets.{Files, AreExactFiles, said_of}
-use Rattle.morris_lookup.specs.Outcomes.{turned, IsOutcome}
+use Rattle.morris_lookup.specs.FileSets.{Files, AreExactFiles, said_of, IsValueRefusal}
+use Rattle.morris_lookup.specs.Outcomes.{turned, IsOutcome, IsOutcomeRefusal}
+use Rattle.morris_lookup.specs.declared.fault.LookFault.{LookFault}
+use Rattle.morris_lookup.specs.declared.fault.LookFault.TheVariants as fault
 use Rattle.morris_lookup.specs.Lines.{Falls}
 
 turned-best : (found next : Value) → turned next ≡ found → after_best found ≡ Some next
@@ -53,6 +55,13 @@ module _ (F : Type 0) (board : Shape) (files : Files) (s p : Sides) (m : Move) (
     said = λ v e. ap value_in_answer (said v (subst (λ q. said_of board files q ≡ Some v) (sym leads) e));
     exact = λ h. subst (λ q. IsValue board q next) leads (exact h);
   }
+
+-- why there is no value after a legal move is why there is no outcome
+pub outcome_refused : (B : Type 0) (board : Shape) (files : Files) (s p : Sides) (m : Move) → p ≡ result_of s m → Contains (moves_of board s) m
+    → (refusal : LookFault B) → IsValueRefusal board files p refusal → IsOutcomeRefusal board files s refusal
+outcome_refused B board files s p m leads legal (fault.Needs needs) h = (m, legal, subst (λ q. IsValueRefusal board files q (fault.Needs needs)) leads h)
+outcome_refused B board files s p m leads legal fault.Read h = (m, legal, subst (λ q. IsValueRefusal {B = B} board files q fault.Read) leads h)
+outcome_refused B board files s p m leads legal fault.Memory h = tt
 
 -- the moves of one outcome more
 pub steps_more : (outcomes items : List Outcome) (outcome : Outcome) (seen : List Move) (m : Move) → items ≡ outcomes ++ outcome ∷ []

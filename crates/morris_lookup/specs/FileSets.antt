@@ -56,8 +56,9 @@ without_file files (Some c) = if is_some (file_for files c) then None else Some 
 abbrev pub missing_file : Files → Sides → Option Counts
 missing_file files s = without_file files (pair_of s)
 
--- why there is no value of a position: its file isn't open, or it couldn't be read
-abbrev pub IsValueRefusal : {B : Type 0} → Files → Sides → LookFault B → Type 0
-IsValueRefusal files s (fault.Needs needs) = missing_file files s ≡ Some needs.0
-IsValueRefusal files s fault.Read = missing_file files s ≡ None
-IsValueRefusal files s fault.Memory = ⊥
+-- why there is no value of a position: its file isn't open; or it couldn't be read, which is only
+-- where its bytes aren't known
+abbrev pub IsValueRefusal : {B : Type 0} → Shape → Files → Sides → LookFault B → Type 0
+IsValueRefusal board files s (fault.Needs needs) = missing_file files s ≡ Some needs.0
+IsValueRefusal board files s fault.Read = (missing_file files s ≡ None) × (said_of board files s ≡ None)
+IsValueRefusal board files s fault.Memory = ⊥

@@ -6,3 +6,10 @@ pub mod Lookups
 pub mod FileSets
 pub mod Outcomes
 pub mod Lines
+pub mod Prepared
+pub mod Masks
+pub mod Digests
+pub mod Views
+pub mod Records
+pub mod Listing
+pub mod Checking

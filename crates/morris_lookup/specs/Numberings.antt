@@ -1,15 +1,21 @@
--- How the entries of an open file are numbered.
+-- How the entries of a file are numbered, by lists that may be those of representatives.
+use Rattle.std.specs.Prelude.{◌≡◌, ℕ, ◌<◌, ◌^◌, List, [], length}
+use Rattle.morris_board.specs.Boards.{Shape}
 use Rattle.morris_index.specs.Pairs.{Counts}
 use Rattle.morris_pairs.specs.declared.layout.Layout.{Layout}
 use Rattle.morris_pairs.specs.declared.layout.Layout.TheVariants as layout
+use Rattle.morris_lookup.specs.Representatives.{representatives_of}
 use Rattle.morris_lookup.specs.declared.numbering.Numbering.{Numbering}
-use Rattle.morris_lookup.specs.declared.numbering.Numbering.TheVariants as numbering
 
--- the layout of a numbering, and its pair
-abbrev pub layout_of : {B : Type 0} → Numbering B → Layout
-layout_of (numbering.Full pair) = layout.Full
-layout_of (numbering.Classes pair) = layout.Classes
+-- The lists serve for a pair in a layout: in layout Classes they have the representatives of the
+-- sets of its greater and of its lesser number of points, in layout Full nothing.
+abbrev pub Serve : Shape → Layout → Counts → List ℕ → List ℕ → Type 0
+Serve board layout.Full c greater lesser = (greater ≡ []) × (lesser ≡ [])
+Serve board layout.Classes c greater lesser = (greater ≡ representatives_of board c.greater) × (lesser ≡ representatives_of board c.lesser)
 
-abbrev pub pair_of : {B : Type 0} → Numbering B → Counts
-pair_of (numbering.Full pair) = pair
-pair_of (numbering.Classes pair) = pair
+abbrev pub ServeFor : {B : Type 0} → Shape → Numbering B → Type 0
+ServeFor board of = Serve board of.layout of.pair of.greater.now of.lesser.now
+
+-- the lists have fewer numbers than fill 32 bits
+abbrev pub Fits : {B : Type 0} → Numbering B → Type 0
+Fits of = (length of.greater.now < 2 ^ 32) × (length of.lesser.now < 2 ^ 32)

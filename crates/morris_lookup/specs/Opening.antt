@@ -1,11 +1,12 @@
 -- What opening any bytes as the file of a pair's table gives: nothing of the codes and of the
 -- digest is looked at.
-use Rattle.std.specs.Prelude.{◌≡◌, ◌≢◌, ℕ, ◌+◌, ◌*◌, nat_le, List, length, Option, Some, Result, Ok, Err, IfSome}
+use Rattle.std.specs.Prelude.{◌≡◌, ◌≢◌, ℕ, ◌+◌, ◌*◌, ◌≤◌, nat_eq, nat_le, List, length, take, Option, Some, Result, Ok, Err, IfSome}
 use Rattle.morris_board.specs.Boards.{Shape}
 use Rattle.morris_index.specs.Pairs.{Counts, IsPair}
 use Rattle.morris_pairs.specs.declared.layout.Layout.{Layout}
 use Rattle.morris_pairs.specs.Entries.{entry_count}
-use Rattle.morris_pairs.specs.FileReading.{unless, and_then, header_in, MayTakeRoom}
+use Rattle.morris_pairs.specs.declared.header.Header.{Header}
+use Rattle.morris_pairs.specs.FileReading.{unless, and_then, header_at, header_in, MayTakeRoom}
 use Rattle.morris_pairs.specs.declared.file_faults.ReadFault.{ReadFault}
 use Rattle.morris_pairs.specs.declared.file_faults.ReadFault.TheVariants as read
 use Rattle.morris_lookup.specs.declared.fault.OpenFault.{OpenFault}
@@ -56,3 +57,17 @@ abbrev pub Opens : Layout → Result OpenFile OpenFault → Type 0
 Opens layout (Ok file) = file.layout ≡ layout
 Opens layout (Err (fault.File read.Memory)) = Unit {0}
 Opens layout (Err refusal) = ⊥
+
+-- ---- parts of a call
+
+-- bytes begin with a header, and are so many
+abbrev pub BeginsWith : Header → ℕ → List ℕ → Type 0
+BeginsWith header n bytes = (16 ≤ length bytes) × (header ≡ header_at (take 16 bytes)) × (n ≡ length bytes)
+
+-- the last steps, once the layout and the pair are known: the number of entries that the header
+-- states is that of the table, and there are as many bytes as its file has
+unfoldable pub borne_out : ℕ → ℕ → ℕ → Result (Unit {0}) ReadFault
+borne_out stated n count =
+    unless (nat_eq stated count) read.Count (
+    unless (nat_le (16 + 2 * count + 32) n) read.Short (
+    unless (nat_le n (16 + 2 * count + 32)) read.Trailing (Ok tt)))

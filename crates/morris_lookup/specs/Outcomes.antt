@@ -11,7 +11,7 @@ use Rattle.morris_pairs.specs.Codes.{IsValue}
 use Rattle.morris_lookup.specs.declared.fault.LookFault.{LookFault}
 use Rattle.morris_lookup.specs.declared.fault.LookFault.TheVariants as fault
 use Rattle.morris_lookup.specs.declared.outcomes.Outcome.{Outcome}
-use Rattle.morris_lookup.specs.FileSets.{Files, said_of, AreExactFiles, missing_file, IsValueRefusal}
+use Rattle.morris_lookup.specs.FileSets.{Files, said_of, AreExactFiles, IsValueRefusal}
 
 -- What a position's value is for the player who has just moved to it: where the player to move has
 -- lost in d plies, a win in d + 1, and so on.
@@ -28,13 +28,11 @@ pub record IsOutcome (board : Shape) (files : Files) (s : Sides) (outcome : Outc
   pub said : (value : Value) → said_of board files (result_of s outcome.step) ≡ Some value → next ≡ value
   pub exact : AreExactFiles board files → IsValue board (result_of s outcome.step) next
 
--- why no outcome is found: no file is open for a legal move's result; or a file couldn't be read,
--- or memory ran out
+-- why no outcome is found: there is no value after a legal move; or memory ran out
 abbrev pub IsOutcomeRefusal : {B : Type 0} → Shape → Files → Sides → LookFault B → Type 0
-IsOutcomeRefusal board files s (fault.Needs needs) = (m : Move) × Contains (moves_of board s) m × (missing_file files (result_of s m) ≡ Some needs.0)
-IsOutcomeRefusal board files s fault.Read = Unit {0}
 IsOutcomeRefusal board files s fault.Memory = Unit {0}
+IsOutcomeRefusal board files s refusal = (m : Move) × Contains (moves_of board s) m × IsValueRefusal board files (result_of s m) refusal
 
 -- why no best moves are found: no value of the position, or no outcome of a legal move
 abbrev pub IsBestRefusal : {B : Type 0} → Shape → Files → Sides → LookFault B → Type 0
-IsBestRefusal board files s refusal = IsValueRefusal files s refusal ⊎ IsOutcomeRefusal board files s refusal
+IsBestRefusal board files s refusal = IsValueRefusal board files s refusal ⊎ IsOutcomeRefusal board files s refusal

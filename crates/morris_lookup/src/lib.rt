@@ -2,13 +2,20 @@
 #![tactic(auto)]
 
 pub mod best;
+pub mod check;
 pub mod class_entries;
-mod class_lists;
 mod classes;
+pub mod digest;
 pub mod fault;
+mod framing;
+pub mod listing;
+pub mod masks;
 mod numbering;
 pub mod opened;
 pub mod outcomes;
+pub mod prepared;
+pub mod records;
 pub mod representatives;
 pub mod storage;
 pub mod tables;
+pub mod views;

@@ -1,17 +1,17 @@
 //! A table file that was opened: its codes are read where they lie.
-ghost use Rattle.std.specs.Prelude.{◌≡◌, ◌≤◌, ◌↔◌, true, IsTrue, Ok, Err, Some, IfOk, IfErr, IfSome};
+ghost use Rattle.std.specs.Prelude.{◌≡◌, ◌<◌, ◌≤◌, ◌^◌, ◌↔◌, true, IsTrue, Ok, Err, Some, IfOk, IfErr, IfSome};
 ghost use Rattle.morris_index.specs.Pairs.{is_of};
 ghost use Rattle.morris_pairs.specs.Codes.{IsCodeOf, IsValue, value_in};
+ghost use Rattle.morris_pairs.specs.Entries.{entry_count, entry_index};
 ghost use Rattle.morris_pairs.specs.Raws.{IsRaw};
 ghost use Rattle.morris_pairs.specs.Tables.{Table};
-ghost use Rattle.morris_pairs.specs.FileReading.{IsOfBytes};
 ghost use Rattle.morris_pairs.specs.TableFiles.{file_of};
-ghost use Rattle.morris_lookup.specs.Numberings.{layout_of, pair_of};
-ghost use Rattle.morris_lookup.specs.Opening.{measured_in, framed_in, IsFramingRefusal, IsOpeningRefusal, IsOpen, Opens};
+ghost use Rattle.morris_lookup.specs.Opening.{IsFramingRefusal, IsOpeningRefusal, IsOpen, Opens};
 ghost use Rattle.morris_lookup.specs.Lookups.{code_for, depth_of, IsExactFile};
 
 use crate::fault::OpenFault;
-use crate::numbering::Numbering;
+use crate::framing::{bear_out, header_of};
+use crate::numbering::{Numbering, lists_of};
 use crate::storage::Storage;
 use morris_board::board::Geometry;
 use morris_board::position::Position;
@@ -19,9 +19,8 @@ use morris_board::streams::Failed;
 use morris_index::pair::Pair;
 use morris_pairs::exact::value_of_code;
 use morris_pairs::file_faults::ReadFault;
-use morris_pairs::header::{HEADER, Header};
+use morris_pairs::header::HEADER;
 use morris_pairs::layout::Layout;
-use morris_pairs::reading::DIGEST;
 use morris_pairs::value::Value;
 use std::alloc::Global;
 use std::marker::Model;
@@ -30,19 +29,25 @@ use std::marker::Model;
 /// found to be right; its codes and its digest weren't looked at.
 #[derive(Drop)]
 pub struct Opened<B: Geometry, S: Storage> {
-    numbering: Numbering<B>,
+    layout: Layout,
+    pair: Pair<B>,
+    /// The representatives of the classes of sets of the greater number of points of the pair, and
+    /// of the lesser one, in layout `Classes`.
+    greater: Vec<u32>,
+    lesser: Vec<u32>,
     storage: S,
 }
 
 impl<B: Geometry, S: Storage> Model for Opened<B, S> {
-    ghost use Rattle.morris_lookup.specs.Numberings.{layout_of, pair_of};
+    ghost use Rattle.morris_lookup.specs.Numberings.{Serve};
     ghost use Rattle.morris_lookup.specs.Opening.{OpenFile, open_file, IsOpen};
 
     ghost Value = { OpenFile };
 
-    ghost view = { λ file. open_file (layout_of file.numbering) (pair_of file.numbering) (S.contents file.storage) };
+    ghost view = { λ file. open_file file.layout file.pair (S.contents file.storage) };
 
-    ghost invariant = { λ file. IsOpen B.shape (open_file (layout_of file.numbering) (pair_of file.numbering) (S.contents file.storage)) };
+    ghost invariant = { λ file. IsOpen B.shape (open_file file.layout file.pair (S.contents file.storage))
+        × Serve B.shape file.layout file.pair file.greater.items file.lesser.items };
 }
 
 impl<B: Geometry, S: Storage> Opened<B, S> {
@@ -53,14 +58,23 @@ impl<B: Geometry, S: Storage> Opened<B, S> {
     {
         // The proof learns here what the header says.
         let _ = &self.storage;
-        self.numbering.pair()
+        self.pair
     }
 
-    /// How the entries of the file are laid out.
-    pub fn layout(&self) -> Layout
-        ensures { result ≡ self.now.layout }
+    /// The entry of a position of its pair.
+    fn entry(&self, position: &Position<B>) -> u64
+        requires { is_of self.now.pair position.now ≡ true }
+        ensures value { result ≡ entry_index B.shape B.POINTS self.now.layout self.now.pair position.now }
+        ensures below { result < entry_count B.shape B.POINTS self.now.layout self.now.pair }
+        ensures few { result < 2 ^ 55 }
     {
-        self.numbering.layout()
+        let numbering = Numbering {
+            layout: self.layout,
+            pair: self.pair,
+            greater: self.greater.as_slice(),
+            lesser: self.lesser.as_slice(),
+        };
+        numbering.entry(position)
     }
 
     /// The code that the file states at the entry of a position of its pair: the two bytes that
@@ -76,7 +90,7 @@ impl<B: Geometry, S: Storage> Opened<B, S> {
         // The proof learns the rules of a position where its stones are read.
         let _ = position.own();
         let mut code = [0; 2];
-        let place = HEADER as u64 + 2 * self.numbering.entry(position);
+        let place = HEADER as u64 + 2 * self.entry(position);
         self.storage.read_at(place, &mut code)?;
         Ok(u16::from_be_bytes(code))
     }
@@ -115,11 +129,11 @@ impl<B: Geometry, S: Storage + Drop> Opened<B, S> {
         // The file of any table of the pair is opened, in either layout.
         ensures complete { (t : Table) → IsRaw B.shape t → t.pair ≡ pair → S.contents storage ≡ Some (file_of B.shape t) → Opens t.layout result }
     {
-        let numbering = frame(alloc, &storage)?;
-        if !is_pair(numbering.pair(), pair) {
+        let file = frame(alloc, storage)?;
+        if !is_pair(file.pair(), pair) {
             return Err(OpenFault::Pair);
         }
-        Ok(Opened { numbering, storage })
+        Ok(file)
     }
 }
 
@@ -130,41 +144,35 @@ fn is_pair<B: Geometry>(one: Pair<B>, other: Pair<B>) -> bool
     one.greater() == other.greater() && one.lesser() == other.lesser()
 }
 
-/// What the header of a file says, and the number of its bytes bears out.
+/// Opens a file as that of the pair that its header names.
 ///
 /// # Errors
 /// Those of [`Opened::open`], but for another pair.
-#[tactic(auto, unfolding(crate::specs::Opening::framed_in))]
-fn frame<B: Geometry, S: Storage>(alloc: Global, storage: &S) -> Result<Numbering<B>, ReadFault>
-    ensures found { IfOk result (λ made. IfSome (S.contents storage.now) (λ bytes. framed_in B.shape bytes ≡ Ok (layout_of made, pair_of made))) }
-    ensures refused { IfErr result (λ fault. IfSome (S.contents storage.now) (λ bytes. IsFramingRefusal B.shape bytes fault)) }
+fn frame<B: Geometry, S: Storage + Drop>(
+    alloc: Global,
+    storage: S,
+) -> Result<Opened<B, S>, ReadFault>
+    ensures bytes { IfOk result (λ file. file.bytes ≡ S.contents storage) }
+    ensures right { IfOk result (IsOpen B.shape) }
+    ensures refused { IfErr result (λ fault. IfSome (S.contents storage) (λ bytes. IsFramingRefusal B.shape bytes fault)) }
 {
-    let length = storage.len()?;
-    if length < HEADER as u64 {
-        return Err(ReadFault::Short);
-    }
-    let mut header = [0; HEADER];
-    storage.read_at(0, &mut header)?;
-    let numbering = Numbering::of_header(alloc, Header::from_bytes(&header))?;
-    measure(&numbering, length)?;
-    Ok(numbering)
-}
-
-/// Holds the number of bytes of a file against that of its table.
-///
-/// # Errors
-/// `Short` where there are fewer bytes, `Trailing` where there are more.
-#[tactic(auto, unfolding(crate::specs::Opening::measured_in))]
-fn measure<B: Geometry>(numbering: &Numbering<B>, length: u64) -> Result<(), ReadFault>
-    ensures right { IfOk result (λ _. measured_in B.shape length (layout_of numbering.now, pair_of numbering.now) ≡ Ok (layout_of numbering.now, pair_of numbering.now)) }
-    ensures refused { IfErr result (λ fault. (measured_in B.shape length (layout_of numbering.now, pair_of numbering.now) ≡ Err fault) × IsOfBytes fault) }
-{
-    let size = HEADER as u64 + 2 * numbering.count() + DIGEST as u64;
-    if length < size {
-        return Err(ReadFault::Short);
-    }
-    if size < length {
-        return Err(ReadFault::Trailing);
-    }
-    Ok(())
+    let (header, length) = header_of(&storage)?;
+    let (layout, pair) = header.kind::<B>()?;
+    // The proof learns the pair's invariant where a number is asked for.
+    let _ = pair.greater();
+    let (greater, lesser) = lists_of(alloc, layout, pair)?;
+    let numbering = Numbering {
+        layout,
+        pair,
+        greater: greater.as_slice(),
+        lesser: lesser.as_slice(),
+    };
+    bear_out(header.entries, length, numbering.count())?;
+    Ok(Opened {
+        layout,
+        pair,
+        greater,
+        lesser,
+        storage,
+    })
 }

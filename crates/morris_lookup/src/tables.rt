@@ -60,7 +60,7 @@ impl<B: Geometry, S: Storage> Tables<B, S> {
         ensures said { (value : Value) → said_of B.shape self.now position.now ≡ Some value → result ≡ Ok value }
         ensures exact { AreExactFiles B.shape self.now → IfOk result (IsValue B.shape position.now) }
         ensures few { IfOk result (λ value. depth_of value ≤ 65534) }
-        ensures refused { MatchResult result (λ _. missing_file self.now position.now ≡ None) (IsValueRefusal self.now position.now) }
+        ensures refused { MatchResult result (λ _. missing_file self.now position.now ≡ None) (IsValueRefusal B.shape self.now position.now) }
     {
         // The proof learns the rules of a position where its stones are read.
         let _ = position.own();

@@ -1,7 +1,15 @@
-//! The tests of look-ups in table files, apart so that the library is proved once. They are no part
-//! of the product.
+//! The tests of look-ups in table files and of the answers from them, apart so that the libraries are
+//! proved once. They are no part of the product.
 #![tactic(auto)]
 
+#[cfg(test)]
+mod asking;
+#[cfg(test)]
+mod damaged;
+#[cfg(test)]
+mod failing;
+#[cfg(test)]
+mod lines;
 #[cfg(test)]
 mod looking;
 #[cfg(test)]

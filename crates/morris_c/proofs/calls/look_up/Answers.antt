@@ -3,10 +3,10 @@ use Rattle.std.specs.Prelude.{pos}
 use Rattle.std.proofs.lemmas.Bool.{both_ways}
 use Rattle.std.proofs.lemmas.Int.{to_z-of_z}
 use Rattle.morris_board.specs.Positions.{sides}
-use Rattle.morris_views.specs.Files.{contents}
+use Rattle.morris_lookup.specs.Views.{contents}
 use Rattle.morris_c.specs.Statuses.{mask_status, view_status}
 use Rattle.morris_c.specs.Calls.{LooksUp, TellsValue}
-use Rattle.morris_c.proofs.CallLaws.{one_fault, no_fault, not_done}
+use Rattle.morris_c.proofs.CallLaws.{one_fault, no_fault, not_done, view_some}
 use Rattle.morris_c.proofs.calls.look_up.Goals as goal
 
 pub returns-in-Err : goal.returns-in-Err
@@ -43,6 +43,6 @@ returns-in-Err-value g c =
       refused = λ fault r. absurd (no_fault g.B.Geometry.shape c.in-Ok.position fault c.own.ensures.lawful r);
       said = λ position serve.
           subst (λ r. TellsValue r (to_z w32 (of_z w32 c.view_status.result)) c.args.out.now c.args.out.now) (c.in-Err-value.ensures.said serve) (kept, refl);
-      exact = λ position serve exact done. absurd (not_done c.in-Err-value.fault _ kept done);
-      unready = λ position needs bad done. not_done c.in-Err-value.fault _ kept done;
+      exact = λ position serve exact done. absurd (not_done _ (view_some c.in-Err-value.fault) _ kept done);
+      unready = λ position needs bad done. not_done _ (view_some c.in-Err-value.fault) _ kept done;
     })

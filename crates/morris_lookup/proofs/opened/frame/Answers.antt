@@ -1,38 +1,59 @@
-use Rattle.std.proofs.Common.{◌≡◌, ◌≤◌, ◌∙◌, length, sym, ap, subst, arith}
+use Rattle.std.proofs.Common.{◌≤◌, length, ap, sym, subst, arith}
+use Rattle.std.proofs.lemmas.Bool.{false≢true}
 use Rattle.std.proofs.lemmas.Result.{err_from_is_err_and}
-use Rattle.morris_pairs.specs.FileReading.{heading_in, IsHeadingRefusal}
-use Rattle.morris_lookup.specs.Numberings.{layout_of, pair_of}
-use Rattle.morris_lookup.proofs.OpeningLaws.{frame_short, frame_header, frame_measure, frame_found}
+use Rattle.morris_index.specs.Pairs.{IsPair}
+use Rattle.morris_lookup.specs.Numberings.{Serve}
+use Rattle.morris_lookup.proofs.EntryLaws.{serve_few}
+use Rattle.morris_lookup.proofs.OpeningLaws.{frame_short, frame_refused, frame_roomless, frame_not_borne, frame_found}
 use Rattle.morris_lookup.proofs.opened.frame.Goals as goal
 
-pub returns-then-length-clause-refused : goal.returns-then-length-clause-refused
-returns-then-length-clause-refused g c =
-    frame_short g.B.Geometry.shape c.in_ok-length.length _ (g.S.Storage.contents c.args.storage.now) c.in_ok-length.ensures c.if-length.true
+pub returns-in_err-header-clause-refused : goal.returns-in_err-header-clause-refused
+returns-in_err-header-clause-refused g c =
+    let failed = err_from_is_err_and c.from_residual.result c.from_residual.ensures.1 in
+    rw (failed.1, failed.2) (frame_short g.B.Geometry.shape (g.S.Storage.contents c.args.storage) c.in_err-header.field-0.0 c.in_err-header.ensures.refused)
 
-pub returns-in_err-numbering-clause-refused : goal.returns-in_err-numbering-clause-refused
-returns-in_err-numbering-clause-refused g c =
-    let failed = err_from_is_err_and c.from_residual-in_err-numbering.result c.from_residual-in_err-numbering.ensures.1 in
-    let long : length c.read_at.new.out ≡ 16 = omega (arith, c.read_at.ensures.size) in
-    let enough : 16 ≤ c.in_ok-length.length = omega (arith, c.if-length.false) in
+pub returns-in_err-layout-clause-refused : goal.returns-in_err-layout-clause-refused
+returns-in_err-layout-clause-refused g c =
+    let failed = err_from_is_err_and c.from_residual-in_err-layout.result c.from_residual-in_err-layout.ensures.1 in
     rw (failed.1, failed.2)
-    (frame_header g.B.Geometry.shape c.in_ok-length.length _ _ _ c.read_at.new.out _ long enough (g.S.Storage.contents c.args.storage.now) c.in_ok-length.ensures
-    c.in_ok-read_at.ensures.bytes c.in_err-numbering.field-0.0
-    (subst (λ header. IsHeadingRefusal g.B.Geometry.shape header c.in_err-numbering.field-0.0) c.from_bytes.ensures c.in_err-numbering.ensures.refused))
+    (frame_refused g.B.Geometry.shape c.in_ok-header.header c.in_ok-header.length (g.S.Storage.contents c.args.storage) c.in_ok-header.ensures.found c.in_err-layout.field-0.0
+    c.in_err-layout.ensures.value c.in_err-layout.ensures.refused)
 
-pub returns-in_err-measure-clause-refused : goal.returns-in_err-measure-clause-refused
-returns-in_err-measure-clause-refused g c =
-    let failed = err_from_is_err_and c.from_residual-in_err-measure.result c.from_residual-in_err-measure.ensures.1 in
-    let long : length c.read_at.new.out ≡ 16 = omega (arith, c.read_at.ensures.size) in
-    let enough : 16 ≤ c.in_ok-length.length = omega (arith, c.if-length.false) in
+pub returns-in_err-greater-clause-refused : goal.returns-in_err-greater-clause-refused
+returns-in_err-greater-clause-refused g c =
+    let failed = err_from_is_err_and c.from_residual-in_err-greater.result c.from_residual-in_err-greater.ensures.1 in
     rw (failed.1, failed.2)
-    (frame_measure g.B.Geometry.shape c.in_ok-length.length _ _ _ c.read_at.new.out _ long enough (layout_of c.in_ok-numbering.numbering, pair_of c.in_ok-numbering.numbering)
-    (ap (heading_in g.B.Geometry.shape) (sym c.from_bytes.ensures) ∙ c.in_ok-numbering.ensures.found) (g.S.Storage.contents c.args.storage.now) c.in_ok-length.ensures
-    c.in_ok-read_at.ensures.bytes c.in_err-measure.field-0.0 c.in_err-measure.ensures.refused)
+    (frame_roomless g.B.Geometry.shape c.in_ok-header.header c.in_ok-header.length c.in_ok-layout.layout c.in_ok-layout.pair c.in_ok-layout.ensures.value (g.S.Storage.contents c.args.storage)
+    c.in_ok-header.ensures.found (λ full. false≢true (c.in_err-greater.ensures.full full)))
 
-pub returns-clause-found : goal.returns-clause-found
-returns-clause-found g c =
-    let long : length c.read_at.new.out ≡ 16 = omega (arith, c.read_at.ensures.size) in
-    let enough : 16 ≤ c.in_ok-length.length = omega (arith, c.if-length.false) in
-    frame_found g.B.Geometry.shape c.in_ok-length.length _ _ _ c.read_at.new.out _ long enough (layout_of c.in_ok-numbering.numbering, pair_of c.in_ok-numbering.numbering)
-    (ap (heading_in g.B.Geometry.shape) (sym c.from_bytes.ensures) ∙ c.in_ok-numbering.ensures.found) (g.S.Storage.contents c.args.storage.now) c.in_ok-length.ensures
-    c.in_ok-read_at.ensures.bytes c.in_ok-measure.ensures.right
+pub count-requires : goal.count-requires
+count-requires g c =
+    let low : g.B.Geometry.shape.points ≤ 24 = omega (arith, g.met.B.Geometry.few, g.met.B.Geometry.point_count) in
+    let few = serve_few g.B.Geometry.shape low c.in_ok-layout.layout c.in_ok-layout.pair c.in_ok-greater.greater.items c.in_ok-greater.lesser.items c.in_ok-greater.ensures.serve in
+    (omega (arith, ap length c.as_slice.ensures.value, few.0), omega (arith, ap length c.as_slice-2.ensures.value, few.1))
+
+pub returns-in_err-bear_out-clause-refused : goal.returns-in_err-bear_out-clause-refused
+returns-in_err-bear_out-clause-refused g c =
+    let serve : Serve g.B.Geometry.shape c.in_ok-layout.layout c.in_ok-layout.pair c.as_slice.result.now c.as_slice-2.result.now =
+    rw (c.as_slice.ensures.value, c.as_slice-2.ensures.value) c.in_ok-greater.ensures.serve in
+    let failed = err_from_is_err_and c.from_residual-in_err-bear_out.result c.from_residual-in_err-bear_out.ensures.1 in
+    rw (failed.1, failed.2)
+    (frame_not_borne g.B.Geometry.shape c.in_ok-header.header c.in_ok-header.length (c.in_ok-layout.layout, c.in_ok-layout.pair) c.in_ok-layout.ensures.value g.B.Geometry.POINTS
+    g.met.B.Geometry.point_count c.count.result (c.count.ensures.value serve) (g.S.Storage.contents c.args.storage) c.in_ok-header.ensures.found c.in_err-bear_out.field-0.0
+    c.in_err-bear_out.ensures)
+
+pub invariant_of-result : goal.invariant_of-result
+invariant_of-result g c =
+    let serve : Serve g.B.Geometry.shape c.in_ok-layout.layout c.in_ok-layout.pair c.as_slice.result.now c.as_slice-2.result.now =
+    rw (c.as_slice.ensures.value, c.as_slice-2.ensures.value) c.in_ok-greater.ensures.serve in (
+      record {
+        lawful = subst (λ n. IsPair n c.in_ok-layout.pair) (sym g.met.B.Geometry.point_count) c.greater.ensures.lawful;
+        framed = frame_found g.B.Geometry.shape c.in_ok-header.header c.in_ok-header.length (c.in_ok-layout.layout, c.in_ok-layout.pair) c.in_ok-layout.ensures.value g.B.Geometry.POINTS
+            g.met.B.Geometry.point_count c.count.result (c.count.ensures.value serve) (g.S.Storage.contents c.args.storage) c.in_ok-header.ensures.found c.in_ok-bear_out.field-0
+            c.in_ok-bear_out.ensures;
+      },
+      c.in_ok-greater.ensures.serve,
+    )
+
+pub returns-clause-right : goal.returns-clause-right
+returns-clause-right g c = (invariant_of-result g c).0

@@ -1,25 +1,33 @@
-use Rattle.std.proofs.Common.{◌≡◌, ◌≤◌, ap, ◌∙◌, arith}
+use Rattle.std.proofs.Common.{◌≡◌, ◌≤◌, Ok, ap, subst, ◌∙◌, arith}
+use Rattle.std.specs.Prelude.{IfSome}
 use Rattle.std.proofs.lemmas.Bool.{both_ways}
 use Rattle.std.proofs.lemmas.Result.{err_from_is_err_and}
 use Rattle.morris_index.specs.Pairs.{Counts}
 use Rattle.morris_pairs.specs.declared.layout.Layout.{Layout}
-use Rattle.morris_lookup.specs.Numberings.{layout_of, pair_of}
-use Rattle.morris_lookup.proofs.OpeningLaws.{opens_refused, kind_found}
+use Rattle.morris_lookup.specs.Opening.{framed_in}
+use Rattle.morris_lookup.proofs.OpeningLaws.{opens_refused, kind_found, other_pair}
 use Rattle.morris_lookup.proofs.opened.Opened.open.Goals as goal
 
-pub returns-in_err-numbering-clause-complete : goal.returns-in_err-numbering-clause-complete
-returns-in_err-numbering-clause-complete g c = λ t raw pair known.
+pub returns-in_err-file-clause-complete : goal.returns-in_err-file-clause-complete
+returns-in_err-file-clause-complete g c = λ t raw pair known.
     let few : g.B.Geometry.shape.points ≤ 24 = omega (arith, g.met.B.Geometry.point_count, g.met.B.Geometry.few) in
     let failed = err_from_is_err_and c.from_residual.result c.from_residual.ensures.1 in
     rw (failed.1, failed.2)
-    (opens_refused g.B.Geometry.shape few g.met.B.Geometry.has_symmetries t raw (g.S.Storage.contents c.args.storage) known c.in_err-numbering.field-0.0
-    c.in_err-numbering.ensures.refused)
+    (opens_refused g.B.Geometry.shape few g.met.B.Geometry.has_symmetries t raw (g.S.Storage.contents c.args.storage) known c.in_err-file.field-0.0
+    c.in_err-file.ensures.refused)
+
+pub returns-then-not-is_pair-clause-refused : goal.returns-then-not-is_pair-clause-refused
+returns-then-not-is_pair-clause-refused g c =
+    other_pair g.B.Geometry.shape c.args.pair (g.S.Storage.contents c.args.storage) (c.in_ok-file.file.layout, c.in_ok-file.file.pair)
+    (subst (λ o. IfSome o (λ bytes. framed_in g.B.Geometry.shape bytes ≡ Ok (c.in_ok-file.file.layout, c.in_ok-file.file.pair))) c.in_ok-file.ensures.bytes c.in_ok-file.ensures.right.framed)
+    (λ same. both_ways _ c.if-not-is_pair.true (c.is_pair.ensures.1 (c.pair.ensures.value ∙ same)))
 
 pub returns-then-not-is_pair-clause-complete : goal.returns-then-not-is_pair-clause-complete
 returns-then-not-is_pair-clause-complete g c = λ t raw pair known.
     let few : g.B.Geometry.shape.points ≤ 24 = omega (arith, g.met.B.Geometry.point_count, g.met.B.Geometry.few) in
     let kind = kind_found g.B.Geometry.shape few g.met.B.Geometry.has_symmetries t raw (g.S.Storage.contents c.args.storage) known
-    (layout_of c.in_ok-numbering.numbering, pair_of c.in_ok-numbering.numbering) c.in_ok-numbering.ensures.found in
+    (c.in_ok-file.file.layout, c.in_ok-file.file.pair)
+    (subst (λ o. IfSome o (λ bytes. framed_in g.B.Geometry.shape bytes ≡ Ok (c.in_ok-file.file.layout, c.in_ok-file.file.pair))) c.in_ok-file.ensures.bytes c.in_ok-file.ensures.right.framed) in
     let same : c.pair.result ≡ c.args.pair = c.pair.ensures.value ∙ ap (λ (k : Layout × Counts). k.1) kind ∙ pair in
     absurd (both_ways _ c.if-not-is_pair.true (c.is_pair.ensures.1 same))
 
@@ -28,4 +36,5 @@ returns-clause-complete g c = λ t raw pair known.
     let few : g.B.Geometry.shape.points ≤ 24 = omega (arith, g.met.B.Geometry.point_count, g.met.B.Geometry.few) in
     ap (λ (k : Layout × Counts). k.0)
     (kind_found g.B.Geometry.shape few g.met.B.Geometry.has_symmetries t raw (g.S.Storage.contents c.args.storage) known
-    (layout_of c.in_ok-numbering.numbering, pair_of c.in_ok-numbering.numbering) c.in_ok-numbering.ensures.found)
+    (c.in_ok-file.file.layout, c.in_ok-file.file.pair)
+    (subst (λ o. IfSome o (λ bytes. framed_in g.B.Geometry.shape bytes ≡ Ok (c.in_ok-file.file.layout, c.in_ok-file.file.pair))) c.in_ok-file.ensures.bytes c.in_ok-file.ensures.right.framed))

@@ -1,0 +1,142 @@
+-- Laws of what files in memory say.
+use Rattle.std.proofs.Common.{◌≡◌, ℕ, suc, ◌+◌, ◌^◌, ◌<◌, ◌≤◌, Bool, true, false, List, [], ◌∷◌, length, take, drop, get_or, Some, None, Result, Ok, Err, refl, sym, ap, ap₂, ◌∙◌, inl, inr, arith}
+use Rattle.std.proofs.Math.Seq.{drop-cons}
+use Rattle.std.specs.Prelude.{nat_eq, nat_le, IfOk}
+use Rattle.std.specs.Str.{bytes_eq}
+use Rattle.std.proofs.lemmas.Bool.{cases_Bool, cases_eq, eqb-true, and_parts, false≢true}
+use Rattle.morris_board.specs.Boards.{Shape}
+use Rattle.morris_board.specs.Positions.{Sides}
+use Rattle.morris_index.specs.Pairs.{Counts, counts, pair_of, IsPair, IsHalf}
+use Rattle.morris_index.specs.ClassPairs.{class_size_of}
+use Rattle.morris_index.proofs.ClassCounts.{class_count-few}
+use Rattle.morris_index.proofs.ClassPairLaws.{class_size-few, size-one, size-two}
+use Rattle.morris_board.specs.Symmetries.{HasSymmetries}
+use Rattle.morris_lookup.specs.Checking.{header_by, header_said}
+use Rattle.morris_pairs.specs.declared.value.Value.TheVariants.{Lost}
+use Rattle.morris_pairs.specs.declared.layout.Layout.{Layout}
+use Rattle.morris_pairs.specs.declared.file_faults.ReadFault.{ReadFault}
+use Rattle.morris_pairs.specs.declared.file_faults.ReadFault.TheVariants as fault
+use Rattle.morris_pairs.specs.declared.layout.Layout.TheVariants.{Full, Classes}
+use Rattle.morris_pairs.specs.TableFiles.{magic}
+use Rattle.morris_pairs.specs.declared.header.Header.{Header}
+use Rattle.morris_pairs.specs.FileReading.{unless, are_counts, is_version, header_at, layout_in, kind_in}
+use Rattle.morris_lookup.specs.Opening.{framed_in}
+use Rattle.morris_lookup.specs.declared.fault.ViewFault.TheVariants as view
+use Rattle.morris_lookup.specs.Views.{is_by_classes, value_by_kind, value_of_bytes, value_said, needs_words}
+use Rattle.morris_lookup.specs.Views.{names_pair, file_of_pair}
+use Rattle.std.proofs.lemmas.List.{get_or-take}
+
+-- two bytes that stand at a place
+pub two_at : (bytes : List ℕ) (place : ℕ) → place + 2 ≤ length bytes → take 2 (drop place bytes) ≡ get_or bytes place 0 ∷ get_or bytes (place + 1) 0 ∷ []
+two_at bytes place room =
+    let next : suc place ≡ place + 1 = omega arith in
+    let after : drop (suc place) bytes ≡ get_or bytes (suc place) 0 ∷ drop (suc (suc place)) bytes = drop-cons bytes (suc place) 0 (omega arith) in
+    ap (take 2) (drop-cons bytes place 0 (omega arith) ∙ ap (λ rest. get_or bytes place 0 ∷ rest) after)
+    ∙ ap (λ k. get_or bytes place 0 ∷ get_or bytes k 0 ∷ []) next
+
+-- ---- what the header of a named file says
+
+by_classes : (version : ℕ) → layout_in version ≡ Classes → nat_eq version 2 ≡ true
+by_classes version e = elim (cases_Bool (nat_eq version 2)) [
+  | inl y ↦ y
+  | inr n ↦ absurd (other (rw n at e))
+]
+  where
+    other : Full ≡ Classes → ⊥
+    other h = cc
+
+-- what no step of a header refuses is what its fields say
+passed : {A : Type 0} (test : Bool) (refusal : ReadFault) (next : Result A ReadFault) (x : A) → Ok x ≡ unless test refusal next → Ok x ≡ next
+passed true refusal next x e = e
+passed false refusal next x e = cc
+
+kind_says : (board : Shape) (h : Header) (kind : Layout × Counts) → Ok kind ≡ kind_in board h → kind ≡ (layout_in h.version, counts h.greater h.lesser)
+unfolding kind_in
+kind_says board h kind e =
+    let all : ◌≡◌ {A = Result (Layout × Counts) ReadFault} (Ok kind) (Ok (layout_in h.version, counts h.greater h.lesser)) =
+    passed (nat_le (h.greater + h.lesser) board.points) fault.Crowded _ kind (passed (are_counts h.greater h.lesser) fault.Counts _ kind
+    (passed (nat_eq h.board board.id) fault.BoardId _ kind (passed (is_version h.version) fault.Version _ kind
+    (passed (bytes_eq h.magic magic) fault.Magic _ kind e)))) in
+    cc
+
+module _ (board : Shape) (bytes : List ℕ) (header : Header) (is : header ≡ header_at (take 16 bytes)) (found : Layout) (pair : Counts)
+    (known : Ok (found, pair) ≡ kind_in board header) where
+  version_is : found ≡ layout_in (get_or bytes 4 0)
+  version_is =
+      ap (λ (k : Layout × Counts). k.0) (kind_says board header (found, pair) known)
+      ∙ ap (λ (h : Header). layout_in h.version) is ∙ ap layout_in (get_or-take 16 bytes 4 0 (omega arith))
+
+  pub read_by_classes : found ≡ Classes → is_by_classes bytes ≡ true
+  read_by_classes classes = by_classes (get_or bytes 4 0) (sym version_is ∙ classes)
+
+  pub laid_by_classes : is_by_classes bytes ≡ true → found ≡ Classes
+  laid_by_classes y = version_is ∙ rw y refl
+
+  module _ (c : Counts) (named : names_pair c bytes ≡ true) where
+    pair_is : pair ≡ c
+    pair_is =
+        let parts = and_parts (nat_eq (get_or bytes 6 0) c.greater) (nat_eq (get_or bytes 7 0) c.lesser) (and_parts (nat_le 16 (length bytes)) _ named).1 in
+        ap (λ (k : Layout × Counts). k.1) (kind_says board header (found, pair) known)
+        ∙ ap (λ (h : Header). counts h.greater h.lesser) is
+        ∙ ap₂ counts
+        (get_or-take 16 bytes 6 0 (omega arith) ∙ eqb-true (get_or bytes 6 0) c.greater parts.0)
+        (get_or-take 16 bytes 7 0 (omega arith) ∙ eqb-true (get_or bytes 7 0) c.lesser parts.1)
+
+    -- so the header is one of this pair
+    pub named_kind : Ok (found, c) ≡ kind_in board header
+    named_kind = ap (λ p. Ok (found, p)) (sym pair_is) ∙ known
+
+-- ---- answers
+
+pub ok_maps : {X E A B : Type 0} (r : Result X E) → (A → B) → IfOk r (λ _. A) → IfOk r (λ _. B)
+ok_maps (Ok x) f a = f a
+ok_maps (Err refusal) f a = tt
+
+-- ---- many files
+
+module _ (board : Shape) (files : List (List ℕ)) (s : Sides) where
+  pub said-none : None ≡ pair_of s → value_said board files s ≡ Ok (Lost 0)
+  unfolding value_said
+  said-none e = rw (← e) refl
+
+  pub needs-none : None ≡ pair_of s → needs_words files s ≡ true → ⊥
+  needs-none e h = let none : false ≡ true = rw (← e) at h in false≢true none
+
+  module _ (c : Counts) (of : Some c ≡ pair_of s) where
+    pub said-no_file : None ≡ file_of_pair files c → value_said board files s ≡ Err view.NoFile
+    unfolding value_said
+    said-no_file e = rw (← of, ← e) refl
+
+    module _ (bytes : List ℕ) (there : Some bytes ≡ file_of_pair files c) where
+      pub said-file : value_said board files s ≡ value_of_bytes board s bytes
+      unfolding value_said
+      said-file = rw (← of, ← there) refl
+
+      pub needs-file : needs_words files s ≡ is_by_classes bytes
+      needs-file = rw (← of, ← there) refl
+
+-- ---- what is said of bytes by the steps of opening
+
+pub said_by_kind : (board : Shape) (s : Sides) (bytes : List ℕ) (found : Result (Layout × Counts) ReadFault) → framed_in board bytes ≡ found
+    → value_by_kind board s bytes found ≡ value_of_bytes board s bytes
+unfolding value_of_bytes
+said_by_kind board s bytes found e = ap (value_by_kind board s bytes) (sym e)
+
+pub header_by_kind : (board : Shape) (bytes : List ℕ) (found : Result (Layout × Counts) ReadFault) → framed_in board bytes ≡ found
+    → header_by board found ≡ header_said board bytes
+unfolding header_said
+header_by_kind board bytes found e = ap (header_by board) (sym e)
+
+-- a table has fewer entries than fill a number
+pub few_entries : (board : Shape) (n : ℕ) → n ≤ 24 → board.points ≡ n → HasSymmetries board → (c : Counts) → IsPair n c → class_size_of board n c < 2 ^ 56
+few_entries board n low points y c h =
+    let first : IsHalf n c.greater c.lesser =
+    record { own_least = omega (arith, h.least, h.ordered); own_most = h.most; other_least = h.least; other_most = omega (arith, h.most, h.ordered); fits = h.fits } in
+    let second : IsHalf n c.lesser c.greater =
+    record { own_least = h.least; own_most = omega (arith, h.most, h.ordered); other_least = omega (arith, h.least, h.ordered); other_most = h.most; fits = omega (arith, h.fits) } in
+    let one = class_size-few board n low points y c.greater c.lesser first (class_count-few board n c.greater low points) in
+    let two = class_size-few board n low points y c.lesser c.greater second (class_count-few board n c.lesser low points) in
+    elim (cases_eq c.greater c.lesser) [
+      | inl e ↦ omega (arith, one, size-one board n low points y c e)
+      | inr d ↦ omega (arith, one, two, size-two board n low points y c d)
+    ]

@@ -1,0 +1,20 @@
+use Rattle.std.proofs.Common.{Ok, ap, ◌∙◌}
+use Rattle.std.proofs.lemmas.Result.{err_from_is_err_and}
+use Rattle.morris_lookup.specs.Views.{contents}
+use Rattle.morris_lookup.specs.Records.{move_record}
+use Rattle.morris_lookup.specs.Views.{value_said}
+use Rattle.morris_lookup.specs.Listing.{outcome_by, outcome_of}
+use Rattle.morris_lookup.proofs.listing.outcome_of.Goals as goal
+
+pub returns-in_err-next-clause-said : goal.returns-in_err-next-clause-said
+unfolding outcome_of
+returns-in_err-next-clause-said g c = λ serve.
+    let failed = err_from_is_err_and c.from_residual.result c.from_residual.ensures.1 in
+    rw (failed.1, failed.2)
+    (ap (outcome_by c.args.m) (c.in_err-next.ensures.said serve ∙ ap (value_said g.B.Geometry.shape (contents c.args.files.now)) c.play.ensures))
+
+pub returns-clause-said : goal.returns-clause-said
+unfolding outcome_of
+returns-clause-said g c = λ serve.
+    ap (λ o. Ok o) (c.move_record.ensures ∙ ap (move_record c.args.m) c.turned.ensures)
+    ∙ ap (outcome_by c.args.m) (c.in_ok-next.ensures.said serve ∙ ap (value_said g.B.Geometry.shape (contents c.args.files.now)) c.play.ensures)

@@ -1,6 +1,0 @@
--- Lemmas on the definitions of this crate.
-pub mod PreparedLaws
-pub mod FileLaws
-pub mod ViewLaws
-pub mod ExactLaws
-pub mod OutcomeLaws
