@@ -1,3 +1,4 @@
 -- Lemmas on the definitions of this crate.
 pub mod NearLaws
 pub mod FaultLaws
+pub mod OrderLaws

@@ -5,5 +5,6 @@ pub mod Progress
 pub mod ProgressLaws
 pub mod Sizes
 pub mod Orders
+pub mod Answering
 pub mod Inputs
 pub mod Verified

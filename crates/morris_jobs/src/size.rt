@@ -1,6 +1,6 @@
 //! How much a command has to do: how many entries there are, and about how much memory it takes.
 ghost use Rattle.std.specs.Prelude.{◌≡◌, ◌+◌, ◌^◌, ◌<◌};
-ghost use Rattle.morris_jobs.specs.Sizes.{entries_below, entries_of, is_same};
+ghost use Rattle.morris_jobs.specs.Sizes.{entries_below, entries_of};
 
 use crate::memory::{BASE, CODE, bytes_of_making, bytes_of_table};
 use crate::team::Team;
@@ -155,19 +155,12 @@ impl FolderSize {
     }
 }
 
-/// Whether two pairs have the same numbers of stones.
-fn is_same<B: Geometry>(a: Pair<B>, b: Pair<B>) -> bool
-    ensures { result ≡ is_same a b }
-{
-    a.greater() == b.greater() && a.lesser() == b.lesser()
-}
-
 /// How many entries the table of a pair has in a layout, where it is one of those below `last`.
 fn count_entries<B: Geometry>(pair: Pair<B>, last: Pair<B>, layout: Layout, way: Way) -> u64
     ensures { result ≡ entries_of B.shape B.POINTS layout last way pair }
 {
     if let Way::Verified { team: _, entries } = way {
-        if is_same(pair, last) {
+        if pair == last {
             return entries;
         }
     }
