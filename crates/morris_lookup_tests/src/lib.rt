@@ -1,5 +1,5 @@
-//! The tests of look-ups in table files and of the answers from them, apart so that the libraries are
-//! proved once. They are no part of the product.
+//! The tests of look-ups in table files and of the answers from them, apart so that the libraries
+//! are proved once. They are no part of the product.
 #![tactic(auto)]
 
 #[cfg(test)]
