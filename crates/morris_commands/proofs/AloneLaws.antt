@@ -7,7 +7,7 @@ use Rattle.morris_pairs.specs.Tables.{Table}
 use Rattle.morris_jobs.specs.declared.fault.Fault.{Fault}
 use Rattle.morris_jobs.specs.declared.fault.Fault.TheVariants as fault
 use Rattle.morris_jobs.specs.Inputs.{IsUnfit}
-use Rattle.morris_commands.specs.Stats.{RestsOnTooDeep}
+use Rattle.morris_commands.specs.Build.{IsUnbuiltBefore, RestsOnTooDeep}
 use Rattle.morris_commands.specs.Verify.{IsUnverified}
 
 -- the pairs below are swept, so that none is missing, and the table isn't right over theirs

@@ -1,11 +1,13 @@
--- The tables of the pairs below a pair but its own, while those that no pair to come needs are let
--- go.
-use Rattle.std.proofs.Common.{◌≡◌, ◌≢◌, List, [], ◌∷◌, ◌++◌, None, is_some, sym, ap, ◌∙◌, subst, inl, inr, arith}
+-- The tables of the pairs below a pair but its own, in an order in which each comes after those that
+-- it needs, while those that no pair to come needs are let go, or all are kept.
+use Rattle.std.proofs.Common.{◌≡◌, ◌≢◌, ◌≤◌, leb, List, [], ◌∷◌, ◌++◌, None, is_some, sym, ap, ◌∙◌, subst, inl, inr, arith}
 use Rattle.std.specs.List.{Contains}
+use Rattle.std.proofs.lemmas.Bool.{and_parts, leb-true}
 use Rattle.std.proofs.lemmas.List.Elements.{Contains-append_left, Contains-append_right, Contains-push_cases}
 use Rattle.morris_moves.proofs.ListLaws.{Contains-head}
+use Rattle.morris_pairs.specs.FilterLaws.{filter-contains}
 use Rattle.morris_board.specs.Boards.{Shape}
-use Rattle.morris_index.specs.Pairs.{Counts, NeedsFirst, below_of}
+use Rattle.morris_index.specs.Pairs.{Counts, NeedsFirst, all_pairs, below_of, is_below}
 use Rattle.morris_pairs.specs.declared.layout.Layout.{Layout}
 use Rattle.morris_pairs.specs.Known.{IsBeyondCodes}
 use Rattle.morris_pairs.specs.Shelves.{Stored, first_missing, table_on}
@@ -13,7 +15,13 @@ use Rattle.morris_pairs.proofs.ShelfLaws.{cases_pair, none-missing}
 use Rattle.morris_commands.specs.Build.{HasExactBut}
 use Rattle.morris_jobs.specs.Orders.{HasExactAt, IsSpared, stones}
 use Rattle.morris_jobs.proofs.NearLaws.{IsNear, below-rises, needs-one_less}
-use Rattle.morris_commands.proofs.ShelfLaws.{below_no_more}
+
+-- one below it has no more
+pub below_no_more : (c d : Counts) → Contains (below_of c) d → stones d ≤ stones c
+unfolding below_of
+below_no_more c d m =
+    let parts = and_parts (leb d.greater c.greater) (leb d.lesser c.lesser) (filter-contains (is_below c) all_pairs d m).1 in
+    omega (arith, leb-true _ _ parts.0, leb-true _ _ parts.1)
 
 -- of all pairs so far but for one there are the tables that a pair to come may need, and codes
 -- suffice for them

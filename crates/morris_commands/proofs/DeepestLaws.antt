@@ -2,11 +2,11 @@
 use Rattle.std.proofs.Common.{Bool, true, false, List, Option, Some, None, ℕ, codes, refl, ap, inl, inr}
 use Rattle.morris_board.specs.Boards.{Shape}
 use Rattle.morris_index.specs.Pairs.{Counts}
-use Rattle.morris_census.specs.declared.deepest.Deep.{Deep}
-use Rattle.morris_census.specs.declared.deepest.Deepest.{Deepest}
-use Rattle.morris_census.specs.declared.deepest.Outcome.{Outcome}
-use Rattle.morris_census.specs.declared.deepest.Outcome.TheVariants.{Won, Lost}
-use Rattle.morris_census.specs.Deepest.{HasDeepest, IsDeepest}
+use Rattle.morris_commands.specs.declared.deepest.Deep.{Deep}
+use Rattle.morris_commands.specs.declared.deepest.Deepest.{Deepest}
+use Rattle.morris_commands.specs.declared.deepest.Outcome.{Outcome}
+use Rattle.morris_commands.specs.declared.deepest.Outcome.TheVariants.{Won, Lost}
+use Rattle.morris_commands.specs.Deepest.{HasDeepest, IsDeepest}
 use Rattle.morris_commands.specs.Deepest.{Shows, ShowsDeepest, deepest_lines, found_line, loss_line, win_line}
 
 shows : {B : Type 0} (board : Shape) (c : Counts) (outcome : Outcome) (head label : List ℕ) (found : Option (Deep B)) → IsDeepest board c outcome found

@@ -1,4 +1,3 @@
-pub mod ShelfLaws
 pub mod StatsLaws
 mod BundleLaws
 pub mod BuildLaws
@@ -6,3 +5,8 @@ mod OwnLaws
 mod AloneLaws
 pub mod BeforeLaws
 pub mod DeepestLaws
+pub mod SumLaws
+pub mod EntryCounts
+pub mod DeepLaws
+pub mod EntryOrder
+pub mod TallyLaws

@@ -1,25 +1,18 @@
--- A pair that comes after those below it: what is known of it once they and its own are done, and
--- what is answered of the text that names it.
-use Rattle.std.proofs.Common.{◌≡◌, ◌≢◌, ℕ, Bool, true, List, Option, None, Result, Ok, ap, sym, subst, ◌∙◌, inl, inr}
+-- A pair that comes after those below it: what is known of it once they and its own are done.
+use Rattle.std.proofs.Common.{◌≡◌, ◌≢◌, ℕ, Bool, true, List, Option, Result, sym, subst, ◌∙◌, inl, inr}
 use Rattle.std.specs.List.{Contains}
 use Rattle.std.proofs.lemmas.List.Elements.{Contains-push}
 use Rattle.morris_board.specs.Boards.{Shape}
 use Rattle.morris_index.specs.Pairs.{Counts, EndsIn, below_of}
-use Rattle.morris_workers.specs.Ranges.{range_fault}
 use Rattle.morris_pairs.specs.declared.layout.Layout.{Layout}
 use Rattle.morris_pairs.specs.Known.{IsBeyondCodes}
 use Rattle.morris_pairs.specs.Shelves.{Stored, table_on}
 use Rattle.morris_pairs.proofs.ShelfLaws.{cases_pair}
 use Rattle.morris_jobs.specs.declared.fault.Fault.{Fault}
 use Rattle.morris_jobs.specs.declared.fault.Fault.TheVariants as fault
-use Rattle.morris_jobs.specs.PairText.{read_pair_of}
-use Rattle.morris_commands.specs.Build as build
-use Rattle.morris_commands.specs.Build.{AnswersBuildOn, AnswersBuilt, HasExact, HasExactBut, IsUnbuiltFor, pairs_written}
+use Rattle.morris_commands.specs.Build.{HasExact, HasExactBut, HasTooDeep, IsUnbuiltBefore, IsUnbuiltFor, RestsOnTooDeep, pairs_written}
 use Rattle.morris_jobs.specs.Orders.{HasExactAt, IsUnbuiltAt}
-use Rattle.morris_commands.specs.Stats.{HasTooDeep, RestsOnTooDeep}
-use Rattle.morris_commands.specs.StatsByClasses as classes
-use Rattle.morris_commands.specs.StatsByClasses.{AnswersByClassesOn, AnswersCounted}
-use Rattle.morris_commands.specs.Verify.{IsUnbuiltBefore}
+use Rattle.morris_commands.specs.Stats.{AnswersCounts, AnswersPair}
 use Rattle.morris_commands.proofs.BuildLaws.{written_exact}
 
 -- a pair is the last of those below it
@@ -58,17 +51,11 @@ with_own board l all pair stock new every here others =
       | inr apart ↦ let at = every kept d m apart in (at.0, others d apart ∙ at.1, at.2, at.3, at.4)
     ]) here
 
--- what is answered of the pair that a text names, where there may be so many workers and blocks
-module _ {T : Type 0} {n : ℕ} (board : Shape) (points : board.points ≡ n) (text : List ℕ) (pair : Counts) (read : Ok pair ≡ read_pair_of n text) (workers blocks : ℕ) (fits : range_fault workers blocks ≡ None) (asked : Bool) (old new : Option (List ℕ)) (r : Result T Fault) where
-  named : read_pair_of board.points text ≡ Ok pair
-  named = ap (λ m. read_pair_of m text) points ∙ sym read
-
-  pub built_of_text : (l : Layout) → AnswersBuilt board l pair blocks asked old new r → AnswersBuildOn board l text workers blocks asked old new r
-  built_of_text l answer =
-      subst (λ found. build.AnswersRead board l workers blocks asked old new r found) (sym named)
-      (subst (λ wrong. build.AnswersTeam board l pair blocks asked old new r wrong) (sym fits) answer)
-
-  pub counted_of_text : AnswersCounted board pair blocks asked old new r → AnswersByClassesOn board text workers blocks asked old new r
-  counted_of_text answer =
-      subst (λ found. classes.AnswersRead board workers blocks asked old new r found) (sym named)
-      (subst (λ wrong. classes.AnswersTeam board pair blocks asked old new r wrong) (sym fits) answer)
+-- what `stats` answers of a pair, by what it answers over its table
+pub answers_pair : {T : Type 0} (board : Shape) (pair : Counts) (blocks : ℕ) (deepest : Bool) (old new : Option (List ℕ)) (r : Result T Fault)
+    → ¬ HasTooDeep board pair → AnswersCounts board pair deepest old new r → AnswersPair board pair blocks deepest old new r
+answers_pair board pair blocks deepest old new r within counts =
+    elim counts [
+      | inl lacks ↦ inl (fault.Memory, lacks.0, tt, lacks.1)
+      | inr prints ↦ inr (within, prints)
+    ]

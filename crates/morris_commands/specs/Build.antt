@@ -4,8 +4,6 @@ use Rattle.std.specs.List.{All, Contains, flat_map}
 use Rattle.std.specs.Io.KnownBytes.{Keeps}
 use Rattle.morris_board.specs.Boards.{Shape}
 use Rattle.morris_index.specs.Pairs.{Counts, below_of}
-use Rattle.morris_workers.specs.Ranges.{range_fault}
-use Rattle.morris_workers.specs.declared.fault.SolveFault.{SolveFault}
 use Rattle.morris_pairs.specs.declared.layout.Layout.{Layout}
 use Rattle.morris_pairs.specs.declared.layout.Layout.TheVariants.{Full, Classes}
 use Rattle.morris_pairs.specs.Known.{IsBeyondCodes}
@@ -14,10 +12,9 @@ use Rattle.morris_pairs.specs.TableFiles.{file_of}
 use Rattle.morris_pairs.specs.Tables.{IsTable, Table}
 use Rattle.morris_jobs.specs.declared.fault.Fault.{Fault}
 use Rattle.morris_jobs.specs.declared.fault.Fault.TheVariants as fault
-use Rattle.morris_jobs.specs.Faults.{Prints, solve_fault}
-use Rattle.morris_jobs.specs.PairText.{read_pair_of}
+use Rattle.morris_jobs.specs.Faults.{Prints}
+use Rattle.morris_jobs.specs.Answering.{OnBoard, OnOrder}
 use Rattle.morris_jobs.specs.Orders.{HasExactAt, layout_asked}
-use Rattle.morris_commands.specs.Stats.{HasTooDeep}
 
 -- ---- the files
 
@@ -56,6 +53,27 @@ HasExactBut board l shelf but pairs = (c : Counts) → Contains pairs c → c �
 
 -- ---- the refusals
 
+-- codes don't suffice for the depths of the pair, or for those of one below it, on which it rests
+abbrev pub HasTooDeep : Shape → Counts → Type 0
+HasTooDeep board pair = (below : Counts) × Contains (below_of pair) below × IsBeyondCodes board below
+
+-- the same of one below it alone, the pair itself left out
+abbrev pub RestsOnTooDeep : Shape → Counts → Type 0
+RestsOnTooDeep board pair = (below : Counts) × Contains (below_of pair) below × (below ≢ pair) × IsBeyondCodes board below
+
+-- another pair is below this one, so that its table is built first
+abbrev pub RestsOnAnother : Counts → Type 0
+RestsOnAnother pair = (below : Counts) × Contains (below_of pair) below × (below ≢ pair)
+
+-- Why the pairs below a pair but itself aren't built, by so many blocks, or by none where they are
+-- swept: want of memory; a block of this number was left incomplete in one of them; or codes don't
+-- suffice for the depths of one.
+abbrev pub IsUnbuiltBefore : Shape → Counts → ℕ → Fault → Type 0
+IsUnbuiltBefore board pair blocks fault.Memory = ⊤
+IsUnbuiltBefore board pair blocks (fault.Missing number) = RestsOnAnother pair × (number < blocks)
+IsUnbuiltBefore board pair blocks fault.TooDeep = RestsOnTooDeep board pair
+IsUnbuiltBefore board pair blocks _ = ⊥
+
 -- why a pair isn't built after those below it
 abbrev pub IsUnbuiltFor : Shape → Counts → ℕ → Fault → Type 0
 IsUnbuiltFor board pair blocks fault.Memory = ⊤
@@ -73,26 +91,12 @@ AnswersBuilt board l pair blocks all old new result =
     ((refused : Fault) × (result ≡ Err refused) × IsUnbuiltFor board pair blocks refused × Keeps old new)
     ⊎ (¬ HasTooDeep board pair × AnswersFiles board l (pairs_written all pair) old new result)
 
--- What it answers with so many workers and blocks: where there may not be so many, the fault that
--- says so, with nothing written and before anything is built; otherwise what it answers of the
--- pair.
-abbrev pub AnswersTeam : {T : Type 0} → Shape → Layout → Counts → ℕ → Bool → Option (List ℕ) → Option (List ℕ) → Result T Fault → Option SolveFault → Type 0
-AnswersTeam board l pair blocks all old new result (Some refused) = (result ≡ Err (solve_fault refused)) × Keeps old new
-AnswersTeam board l pair blocks all old new result None = AnswersBuilt board l pair blocks all old new result
-
--- What it answers on a board: the fault of a text that names no pair, with nothing written;
--- otherwise what it answers with its workers and blocks.
-abbrev pub AnswersRead : {T : Type 0} → Shape → Layout → ℕ → ℕ → Bool → Option (List ℕ) → Option (List ℕ) → Result T Fault → Result Counts Fault → Type 0
-AnswersRead board l workers blocks all old new result (Err refused) = (result ≡ Err refused) × Keeps old new
-AnswersRead board l workers blocks all old new result (Ok pair) =
-    AnswersTeam board l pair blocks all old new result (range_fault workers blocks)
-
+-- what it answers on a board, of the pair that a text names, with so many workers and blocks
 abbrev pub AnswersBuildOn : {T : Type 0} → Shape → Layout → List ℕ → ℕ → ℕ → Bool → Option (List ℕ) → Option (List ℕ) → Result T Fault → Type 0
-AnswersBuildOn board l text workers blocks all old new result = AnswersRead board l workers blocks all old new result (read_pair_of board.points text)
+AnswersBuildOn board l text workers blocks all old new result =
+    OnOrder board text workers blocks result (Keeps old new) (λ pair. AnswersBuilt board l pair blocks all old new result)
 
--- What `build` answers: the fault of a board that isn't there, with nothing written; otherwise what
--- it answers on the board, with tables in the layout that is asked for.
+-- what it answers on the board of a name, with tables in the layout that is asked for
 abbrev pub AnswersBuild : {T : Type 0} → Option Shape → List ℕ → ℕ → ℕ → Bool → Bool → Option (List ℕ) → Option (List ℕ) → Result T Fault → Type 0
-AnswersBuild None text workers blocks all classes old new result = (result ≡ Err fault.Board) × Keeps old new
-AnswersBuild (Some board) text workers blocks all classes old new result =
-    AnswersBuildOn board (layout_asked classes) text workers blocks all old new result
+AnswersBuild named text workers blocks all classes old new result =
+    OnBoard named result (Keeps old new) (λ board. AnswersBuildOn board (layout_asked classes) text workers blocks all old new result)

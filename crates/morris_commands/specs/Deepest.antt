@@ -1,14 +1,65 @@
--- What `stats --deepest` prints after the counts.
-use Rattle.std.specs.Prelude.{◌≡◌, ◌⊎◌, ℕ, Bool, true, false, List, [], ◌++◌, codes, Option, Some, None}
+-- The deepest positions of a pair, of those that are won, or lost, one with the greatest depth; and
+-- what `stats --deepest` prints of them after the counts.
+use Rattle.std.specs.Prelude.{◌≡◌, ◌≢◌, ◌⊎◌, ℕ, ◌<◌, ◌≤◌, ◌%◌, Bool, true, false, ◌&&◌, nat_eq, nat_lt, List, [], ◌++◌, slice_index, codes, Option, Some, None}
 use Rattle.morris_board.specs.Boards.{Shape}
-use Rattle.morris_board.specs.Positions.{Sides, text_of}
-use Rattle.morris_index.specs.Pairs.{Counts}
-use Rattle.morris_census.specs.declared.deepest.Deep.{Deep}
-use Rattle.morris_census.specs.declared.deepest.Deepest.{Deepest}
-use Rattle.morris_census.specs.declared.deepest.Outcome.{Outcome}
-use Rattle.morris_census.specs.declared.deepest.Outcome.TheVariants.{Won, Lost}
-use Rattle.morris_census.specs.Deepest.{HasNone, IsDeepestAt}
+use Rattle.morris_board.specs.Positions.{Sides, IsPosition, text_of}
+use Rattle.morris_moves.specs.Values.{IsLostIn, IsWonIn}
+use Rattle.morris_index.specs.Pairs.{Counts, index_of, is_of}
 use Rattle.morris_probe.specs.Lines.{number_line}
+use Rattle.morris_commands.specs.declared.deepest.Deep.{Deep}
+use Rattle.morris_commands.specs.declared.deepest.Deepest.{Deepest}
+use Rattle.morris_commands.specs.declared.deepest.Outcome.{Outcome}
+use Rattle.morris_commands.specs.declared.deepest.Outcome.TheVariants.{Won, Lost}
+
+-- the player to move has this outcome in so many plies, and in no fewer
+abbrev pub IsDecidedIn : Shape → Outcome → Sides → ℕ → Type 0
+IsDecidedIn board Won s depth = IsWonIn board s depth
+IsDecidedIn board Lost s depth = IsLostIn board s depth
+
+-- The position is of the pair, and has the outcome in so many plies; no position of the pair has it
+-- in more; and of those that have it in as many none has a lesser index among all positions.
+pub record IsDeepestAt (board : Shape) (c : Counts) (outcome : Outcome) (s : Sides) (depth : ℕ) : Type 0 where
+  pub lawful : IsPosition board s
+  pub of : is_of c s ≡ true
+  pub decided : IsDecidedIn board outcome s depth
+  pub none_deeper : (t : Sides) → IsPosition board t → is_of c t ≡ true → (more : ℕ) → IsDecidedIn board outcome t more → more ≤ depth
+  pub least : (t : Sides) → IsPosition board t → is_of c t ≡ true → IsDecidedIn board outcome t depth
+      → index_of board.points c s ≤ index_of board.points c t
+
+-- no position of the pair has the outcome
+abbrev pub HasNone : Shape → Counts → Outcome → Type 0
+HasNone board c outcome = (t : Sides) → IsPosition board t → is_of c t ≡ true → (depth : ℕ) → ¬ IsDecidedIn board outcome t depth
+
+-- what is found: a deepest position with the outcome and its depth, or nothing where none has it
+abbrev pub IsDeepest : {B : Type 0} → Shape → Counts → Outcome → Option (Deep B) → Type 0
+IsDeepest board c outcome None = HasNone board c outcome
+IsDeepest board c outcome (Some deep) = IsDeepestAt board c outcome deep.position deep.depth
+
+-- these are a deepest win and a deepest loss of the pair, where they are asked for, else nothing
+abbrev pub HasDeepest : {B : Type 0} → Shape → Counts → Bool → Option (Deepest B) → Type 0
+HasDeepest board c false found = found ≡ None
+HasDeepest board c true None = ⊥
+HasDeepest board c true (Some deepest) = IsDeepest board c Won deepest.win × IsDeepest board c Lost deepest.loss
+
+-- whether a code says that outcome: codes of losses are odd, and those of wins even and above 0
+abbrev pub is_told_by : Outcome → ℕ → Bool
+is_told_by Won code = nat_lt 0 code && nat_eq (code % 2) 0
+is_told_by Lost code = nat_eq (code % 2) 1
+
+-- of the codes at the first `seen` entries that say the outcome, the one at this entry is the
+-- greatest, and it is the first that is so great
+pub record IsFirstGreatest (outcome : Outcome) (codes : List ℕ) (seen entry : ℕ) : Type 0 where
+  pub inside : entry < seen
+  pub told : is_told_by outcome (slice_index codes entry) ≡ true
+  pub none_greater : (i : ℕ) → i < seen → is_told_by outcome (slice_index codes i) ≡ true → slice_index codes i ≤ slice_index codes entry
+  pub least : (i : ℕ) → i < entry → is_told_by outcome (slice_index codes i) ≡ true → slice_index codes i < slice_index codes entry
+
+-- this entry, or none where none of these codes says the outcome
+abbrev pub IsGreatestTold : Outcome → List ℕ → ℕ → Option ℕ → Type 0
+IsGreatestTold outcome codes seen None = (i : ℕ) → i < seen → is_told_by outcome (slice_index codes i) ≢ true
+IsGreatestTold outcome codes seen (Some entry) = IsFirstGreatest outcome codes seen entry
+
+-- ---- what is printed
 
 -- the line of a position that is so deep: a head, the position's text, a label and the depth
 abbrev pub deep_line : Shape → List ℕ → List ℕ → Sides → ℕ → List ℕ

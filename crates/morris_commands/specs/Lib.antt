@@ -1,7 +1,8 @@
 pub mod Look
+pub mod Census
 pub mod Deepest
+pub mod Build
 pub mod Stats
+pub mod StatsByClasses
 pub mod Verify
 pub mod Probe
-pub mod Build
-pub mod StatsByClasses

@@ -1,20 +1,19 @@
 -- What `look` prints of a position.
-use Rattle.std.specs.Prelude.{◌≡◌, ℕ, List, ◌++◌, length, codes, Option, Some, None, Result, Ok, Err}
+use Rattle.std.specs.Prelude.{◌≡◌, ℕ, List, ◌++◌, length, codes, Option, Result}
 use Rattle.std.specs.List.{flat_map}
 use Rattle.std.specs.Fmt.{decimal}
 use Rattle.std.specs.Io.KnownBytes.{Keeps}
 use Rattle.morris_board.specs.Sets.{count_of}
 use Rattle.morris_board.specs.Boards.{Shape}
 use Rattle.morris_board.specs.Positions.{Sides, text_of, read_of}
-use Rattle.morris_board.specs.declared.faults.TextFault.{TextFault}
 use Rattle.morris_moves.specs.Rules.{moves_of}
 use Rattle.morris_moves.specs.Values.{AnswersWithin}
 use Rattle.morris_moves.specs.declared.search.Within.{Within}
 use Rattle.morris_moves.specs.declared.search.Within.TheVariants.{Lost, Won, Unknown}
 use Rattle.morris_probe.specs.Lines.{line, move_line, number_line}
 use Rattle.morris_jobs.specs.declared.fault.Fault.{Fault}
-use Rattle.morris_jobs.specs.declared.fault.Fault.TheVariants as fault
 use Rattle.morris_jobs.specs.Faults.{Prints, text_fault}
+use Rattle.morris_jobs.specs.Answering.{OnBoard, OnRead}
 
 -- `own A other B`
 abbrev pub counts_line : Sides → List ℕ
@@ -42,17 +41,9 @@ look_text board s n found = head_text board s ++ list_text board s ++ value_line
 abbrev pub PrintsLook : {T : Type 0} → Shape → Sides → ℕ → Option (List ℕ) → Option (List ℕ) → Result T Fault → Type 0
 PrintsLook board s n old new result = (found : Within) × AnswersWithin board s n found × Prints old new (look_text board s n found) result
 
--- What `look` answers on a board: the fault of a text that is refused, with nothing printed;
--- otherwise the position that was read is printed.
-abbrev pub LookedAt : {T : Type 0} → Shape → ℕ → Option (List ℕ) → Option (List ℕ) → Result T Fault → Result Sides TextFault → Type 0
-LookedAt board n old new result (Err refused) = (result ≡ Err (text_fault refused)) × Keeps old new
-LookedAt board n old new result (Ok s) = PrintsLook board s n old new result
-
+-- what `look` answers on a board, of the position that a text writes; and on the board of a name
 abbrev pub LooksOn : {T : Type 0} → Shape → List ℕ → ℕ → Option (List ℕ) → Option (List ℕ) → Result T Fault → Type 0
-LooksOn board text n old new result = LookedAt board n old new result (read_of board text)
+LooksOn board text n old new result = OnRead text_fault (read_of board text) result (Keeps old new) (λ s. PrintsLook board s n old new result)
 
--- What `look` answers: the fault of a board that isn't there, with nothing printed; otherwise what
--- it answers on the board.
 abbrev pub Looks : {T : Type 0} → Option Shape → List ℕ → ℕ → Option (List ℕ) → Option (List ℕ) → Result T Fault → Type 0
-Looks None text n old new result = (result ≡ Err fault.Board) × Keeps old new
-Looks (Some board) text n old new result = LooksOn board text n old new result
+Looks named text n old new result = OnBoard named result (Keeps old new) (λ board. LooksOn board text n old new result)

@@ -4,7 +4,6 @@ use Rattle.std.specs.Prelude.{◌≡◌, ◌≢◌, ◌⊎◌, ℕ, zero, suc, L
 use Rattle.std.specs.Io.KnownBytes.{Keeps}
 use Rattle.morris_board.specs.Boards.{Shape}
 use Rattle.morris_board.specs.Positions.{Sides, read_of}
-use Rattle.morris_board.specs.declared.faults.TextFault.{TextFault}
 use Rattle.morris_index.specs.Pairs.{Counts, counts}
 use Rattle.morris_pairs.specs.Agreement.{IsFirstToDiffer}
 use Rattle.morris_pairs.specs.FileReading.{CountsRead, MayTakeRoom, Reads, StandsInFile, next_file_in}
@@ -17,6 +16,7 @@ use Rattle.morris_probe.specs.Reports.{IsReport}
 use Rattle.morris_jobs.specs.declared.fault.Fault.{Fault}
 use Rattle.morris_jobs.specs.declared.fault.Fault.TheVariants as fault
 use Rattle.morris_jobs.specs.Faults.{Prints, text_fault, read_fault}
+use Rattle.morris_jobs.specs.Answering.{OnBoard, OnRead}
 use Rattle.morris_jobs.specs.Inputs.{Input, IsUnfit, Joins, most_files}
 
 -- ---- the bundle
@@ -71,27 +71,18 @@ AnswersReport board shelf s old new (Err fault.Memory) = (missing_table shelf s 
 AnswersReport board shelf s old new result =
     (missing_table shelf s ≡ None) × ((text : List ℕ) × IsReport board s text × Prints old new text result)
 
--- What it answers after the bundle: the fault of a bundle that is refused, with nothing printed;
--- otherwise the answer over its tables.
-abbrev pub AnswersShelf : {T : Type 0} → Shape → Sides → Option (List ℕ) → Option (List ℕ) → Result T Fault → Result Stored Fault → Type 0
-AnswersShelf board s old new result (Err refused) = (result ≡ Err refused) × Keeps old new
-AnswersShelf board s old new result (Ok shelf) = AnswersReport board shelf s old new result
-
--- What it answers on a board: the fault of a text that is refused, with nothing printed and nothing
--- read; otherwise what comes of the bundle on the input.
-abbrev pub AnswersText : {T : Type 0} → Shape → Input → Input → Option (List ℕ) → Option (List ℕ) → Result T Fault → Result Sides TextFault → Type 0
-AnswersText board before after old new result (Err refused) = (result ≡ Err (text_fault refused)) × (after ≡ before) × Keeps old new
-AnswersText board before after old new result (Ok s) =
-    (outcome : Result Stored Fault) × LoadsBundle board before (outcome, after) × AnswersShelf board s old new result outcome
-
+-- What it answers on a board, of the position that a text writes: what comes of the bundle on the
+-- input, and of the position over its tables.
 abbrev pub AnswersOnBoard : {T : Type 0} → Shape → List ℕ → Input → Input → Option (List ℕ) → Option (List ℕ) → Result T Fault → Type 0
-AnswersOnBoard board text before after old new result = AnswersText board before after old new result (read_of board text)
+AnswersOnBoard board text before after old new result =
+    OnRead text_fault (read_of board text) result ((after ≡ before) × Keeps old new) (λ s.
+    (outcome : Result Stored Fault) × LoadsBundle board before (outcome, after)
+    × OnRead (λ refused. refused) outcome result (Keeps old new) (λ shelf. AnswersReport board shelf s old new result))
 
--- What `probe` answers: the fault of a board that isn't there, with nothing printed and nothing
--- read; otherwise what it answers on the board.
+-- what it answers on the board of a name
 abbrev pub AnswersProbe : {T : Type 0} → Option Shape → List ℕ → Input → Input → Option (List ℕ) → Option (List ℕ) → Result T Fault → Type 0
-AnswersProbe None text before after old new result = (result ≡ Err fault.Board) × (after ≡ before) × Keeps old new
-AnswersProbe (Some board) text before after old new result = AnswersOnBoard board text before after old new result
+AnswersProbe named text before after old new result =
+    OnBoard named result ((after ≡ before) × Keeps old new) (λ board. AnswersOnBoard board text before after old new result)
 
 -- whether `probe` comes to read its input: the board is there, and the text is a position's
 abbrev pub IsAsked : Option Shape → List ℕ → Type 0

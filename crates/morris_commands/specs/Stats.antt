@@ -1,17 +1,18 @@
 -- What `stats` prints of a pair.
-use Rattle.std.specs.Prelude.{◌≡◌, ◌≢◌, ◌⊎◌, ⊤, ℕ, ◌%◌, Bool, List, [], ◌++◌, nat_eq, length, drop, slice_index, codes, Option, Some, None, Result, Ok, Err, if◌then◌else◌}
-use Rattle.std.specs.List.{Contains, flat_map, range_with_len}
+use Rattle.std.specs.Prelude.{◌≡◌, ◌⊎◌, ℕ, ◌%◌, Bool, List, [], ◌++◌, nat_eq, length, drop, slice_index, codes, Option, Result, Err, if◌then◌else◌}
+use Rattle.std.specs.List.{flat_map, range_with_len}
 use Rattle.std.specs.Fmt.{decimal}
 use Rattle.std.specs.Io.KnownBytes.{Keeps}
 use Rattle.morris_board.specs.Boards.{Shape}
-use Rattle.morris_index.specs.Pairs.{Counts, below_of, pair_text, size_of}
-use Rattle.morris_pairs.specs.Known.{IsBeyondCodes}
-use Rattle.morris_census.specs.Census.{HasTallies}
+use Rattle.morris_index.specs.Pairs.{Counts, pair_text, size_of}
+use Rattle.morris_commands.specs.Census.{HasTallies}
 use Rattle.morris_probe.specs.Lines.{number_line}
 use Rattle.morris_jobs.specs.declared.fault.Fault.{Fault}
 use Rattle.morris_jobs.specs.declared.fault.Fault.TheVariants as fault
 use Rattle.morris_jobs.specs.Faults.{Prints}
 use Rattle.morris_jobs.specs.PairText.{read_pair_of}
+use Rattle.morris_jobs.specs.Answering.{OnBoard, OnRead}
+use Rattle.morris_commands.specs.Build.{HasTooDeep, IsUnbuiltFor}
 use Rattle.morris_commands.specs.Deepest.{ShowsDeepest}
 
 -- `a-b S positions`, where S is how many positions the pair has
@@ -52,49 +53,18 @@ abbrev pub AnswersCounts : {T : Type 0} → Shape → Counts → Bool → Option
 AnswersCounts board pair deepest old new result =
     ((result ≡ Err fault.Memory) × Keeps old new) ⊎ PrintsStats board pair deepest old new result
 
--- codes don't suffice for the depths of the pair, or for those of one below it, on which it rests
-abbrev pub HasTooDeep : Shape → Counts → Type 0
-HasTooDeep board pair = (below : Counts) × Contains (below_of pair) below × IsBeyondCodes board below
-
--- the same of one below it alone, the pair itself left out
-abbrev pub RestsOnTooDeep : Shape → Counts → Type 0
-RestsOnTooDeep board pair = (below : Counts) × Contains (below_of pair) below × (below ≢ pair) × IsBeyondCodes board below
-
--- why a pair isn't swept, where those that it needs are there; why those below it aren't, the pair
--- itself left out; and why it isn't swept after those
-abbrev pub IsRefusedAt : Shape → Counts → Fault → Type 0
-IsRefusedAt board pair fault.Memory = ⊤
-IsRefusedAt board pair fault.TooDeep = IsBeyondCodes board pair
-IsRefusedAt board pair _ = ⊥
-
-abbrev pub IsRefusedBefore : Shape → Counts → Fault → Type 0
-IsRefusedBefore board pair fault.Memory = ⊤
-IsRefusedBefore board pair fault.TooDeep = RestsOnTooDeep board pair
-IsRefusedBefore board pair _ = ⊥
-
-abbrev pub IsRefusedFor : Shape → Counts → Fault → Type 0
-IsRefusedFor board pair fault.Memory = ⊤
-IsRefusedFor board pair fault.TooDeep = HasTooDeep board pair
-IsRefusedFor board pair _ = ⊥
-
--- What `stats` answers of a pair: a refusal of memory, or of a depth that is too great, with
--- nothing printed; otherwise codes suffice for all depths, and the pair's text is printed.
-abbrev pub AnswersPair : {T : Type 0} → Shape → Counts → Bool → Option (List ℕ) → Option (List ℕ) → Result T Fault → Type 0
-AnswersPair board pair deepest old new result =
-    ((refused : Fault) × (result ≡ Err refused) × IsRefusedFor board pair refused × Keeps old new)
+-- What `stats` answers of a pair whose table is built by so many blocks, or swept where there are
+-- none: why it isn't, with nothing printed; otherwise codes suffice for all depths, and the pair's
+-- text is printed.
+abbrev pub AnswersPair : {T : Type 0} → Shape → Counts → ℕ → Bool → Option (List ℕ) → Option (List ℕ) → Result T Fault → Type 0
+AnswersPair board pair blocks deepest old new result =
+    ((refused : Fault) × (result ≡ Err refused) × IsUnbuiltFor board pair blocks refused × Keeps old new)
     ⊎ (¬ HasTooDeep board pair × PrintsStats board pair deepest old new result)
 
--- What it answers on a board: the fault of a text that names no pair, with nothing printed;
--- otherwise what it answers of the pair.
-abbrev pub AnswersRead : {T : Type 0} → Shape → Bool → Option (List ℕ) → Option (List ℕ) → Result T Fault → Result Counts Fault → Type 0
-AnswersRead board deepest old new result (Err refused) = (result ≡ Err refused) × Keeps old new
-AnswersRead board deepest old new result (Ok pair) = AnswersPair board pair deepest old new result
-
+-- what it answers on a board, of the pair that a text names; and on the board of a name
 abbrev pub AnswersOn : {T : Type 0} → Shape → List ℕ → Bool → Option (List ℕ) → Option (List ℕ) → Result T Fault → Type 0
-AnswersOn board text deepest old new result = AnswersRead board deepest old new result (read_pair_of board.points text)
+AnswersOn board text deepest old new result =
+    OnRead (λ refused. refused) (read_pair_of board.points text) result (Keeps old new) (λ pair. AnswersPair board pair 0 deepest old new result)
 
--- What `stats` answers: the fault of a board that isn't there, with nothing printed; otherwise what
--- it answers on the board.
 abbrev pub AnswersStats : {T : Type 0} → Option Shape → List ℕ → Bool → Option (List ℕ) → Option (List ℕ) → Result T Fault → Type 0
-AnswersStats None text deepest old new result = (result ≡ Err fault.Board) × Keeps old new
-AnswersStats (Some board) text deepest old new result = AnswersOn board text deepest old new result
+AnswersStats named text deepest old new result = OnBoard named result (Keeps old new) (λ board. AnswersOn board text deepest old new result)

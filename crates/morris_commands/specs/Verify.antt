@@ -15,22 +15,11 @@ use Rattle.morris_jobs.specs.declared.fault.Fault.TheVariants as fault
 use Rattle.morris_jobs.specs.Faults.{Prints, read_fault}
 use Rattle.morris_jobs.specs.Inputs.{Input}
 use Rattle.morris_jobs.specs.Verified.{verified_text}
-use Rattle.morris_commands.specs.Stats.{RestsOnTooDeep}
+use Rattle.morris_jobs.specs.Answering.{OnBoard, OnRead}
+use Rattle.morris_commands.specs.Build.{IsUnbuiltBefore, RestsOnTooDeep}
 
--- another pair is below this one, so that its table is built first
-abbrev pub RestsOnAnother : Counts → Type 0
-RestsOnAnother pair = (below : Counts) × Contains (below_of pair) below × (below ≢ pair)
-
--- Why the pairs below a pair but itself aren't built, by so many blocks: want of memory; a block of
--- this number was left incomplete in one of them; or codes don't suffice for the depths of one.
-abbrev pub IsUnbuiltBefore : Shape → Counts → ℕ → Fault → Type 0
-IsUnbuiltBefore board pair blocks fault.Memory = ⊤
-IsUnbuiltBefore board pair blocks (fault.Missing number) = RestsOnAnother pair × (number < blocks)
-IsUnbuiltBefore board pair blocks fault.TooDeep = RestsOnTooDeep board pair
-IsUnbuiltBefore board pair blocks _ = ⊥
-
--- why it isn't where those are built: the first entry that isn't what the rules give from those of
--- its results
+-- why a table that was read isn't right: the first entry that isn't what the rules give from those
+-- of its results
 abbrev pub IsWrong : Shape → Table → Fault → Type 0
 IsWrong board t (fault.Differs index) = IsFirstToDiffer board t index
 IsWrong board t _ = ⊥
@@ -49,12 +38,6 @@ AnswersTable board blocks t old new result =
     ((refused : Fault) × (result ≡ Err refused) × IsUnverified board t blocks refused × Keeps old new)
     ⊎ (¬ RestsOnTooDeep board t.pair × IsTable board t × Prints old new (verified_text t.pair (length t.codes)) result)
 
--- What it answers of what was read: the fault of a file that is refused, with nothing printed;
--- otherwise what it answers of the table.
-abbrev pub AnswersFile : {T : Type 0} → Shape → ℕ → Option (List ℕ) → Option (List ℕ) → Result T Fault → Result Table ReadFault → Type 0
-AnswersFile board blocks old new result (Err refused) = (result ≡ Err (read_fault refused)) × Keeps old new
-AnswersFile board blocks old new result (Ok t) = AnswersTable board blocks t old new result
-
 -- What it answers on a board: what was read of the whole input, in the steps of a table's file, and
 -- the answer to that. Room is wanting in the file only where no step before room is first taken
 -- refuses it. The input stands in that file, or one byte past it where one more byte is why it is
@@ -63,10 +46,10 @@ abbrev pub AnswersInput : {T : Type 0} → Shape → ℕ → Input → Input →
 AnswersInput board blocks before after old new result =
     (found : Result Table ReadFault) × Reads (only_file_in board) before.bytes after.bytes found × CountsRead before.failures after.failures found
     × (found ≡ Err read.Memory → MayTakeRoom board before.bytes)
-    × StandsInFile board (bytes_past found) before.bytes after.bytes × AnswersFile board blocks old new result found
+    × StandsInFile board (bytes_past found) before.bytes after.bytes
+    × OnRead read_fault found result (Keeps old new) (λ t. AnswersTable board blocks t old new result)
 
--- What `verify` answers: the fault of a board that isn't there, with nothing printed and nothing
--- read; otherwise what it answers on the board.
+-- what it answers on the board of a name
 abbrev pub AnswersVerify : {T : Type 0} → Option Shape → ℕ → Input → Input → Option (List ℕ) → Option (List ℕ) → Result T Fault → Type 0
-AnswersVerify None blocks before after old new result = (result ≡ Err fault.Board) × (after ≡ before) × Keeps old new
-AnswersVerify (Some board) blocks before after old new result = AnswersInput board blocks before after old new result
+AnswersVerify named blocks before after old new result =
+    OnBoard named result ((after ≡ before) × Keeps old new) (λ board. AnswersInput board blocks before after old new result)

@@ -3,6 +3,8 @@
 #![tactic(auto)]
 
 pub mod build;
+pub mod counting;
+pub mod deepest;
 pub mod look;
 mod print_deepest;
 mod print_look;

@@ -5,11 +5,11 @@ ghost use Rattle.morris_board.specs.Buffered.{Passes, sink_of, taken_of};
 ghost use Rattle.morris_board.specs.Positions.{text_of};
 ghost use Rattle.morris_commands.specs.Deepest.{deep_line, deepest_lines, found_line, loss_line, none_line, win_line};
 
+use crate::deepest::{Deep, Deepest};
 use morris_board::board::Geometry;
 use morris_board::position::Position;
 use morris_board::streams::buffered::Buffered;
 use morris_board::streams::{Failed, Sink};
-use morris_census::deepest::{Deep, Deepest};
 use morris_probe::print::put_number_line;
 
 /// A deepest win and a deepest loss, where they were asked for.

@@ -1,41 +1,73 @@
-//! What `stats` prints, piece by piece. Each function ends at the first write that fails.
-ghost use Rattle.std.specs.Prelude.{◌≡◌, ◌+◌, ◌*◌, ◌^◌, ◌-◌, ◌<◌, ◌≤◌, length, drop, slice_index, OnOk};
+//! What `stats` counts of a pair, and how it is printed, piece by piece. Each function that prints
+//! ends at the first write that fails.
+ghost use Rattle.std.specs.Prelude.{◌≡◌, ◌+◌, ◌*◌, ◌^◌, ◌-◌, ◌<◌, ◌≤◌, length, drop, slice_index, IfOk, OnOk};
 ghost use Rattle.morris_board.specs.Buffered.{Passes, sink_of, taken_of};
-ghost use Rattle.morris_commands.specs.Stats.{depth_line, depth_lines, draw_line, pair_line, stats_text};
+ghost use Rattle.morris_commands.specs.Census.{HasTallies};
+ghost use Rattle.morris_commands.specs.Deepest.{HasDeepest};
+ghost use Rattle.morris_commands.specs.Stats.{depth_line, depth_lines, pair_line, stats_text};
 
+use crate::counting::count_positions;
+use crate::deepest::Deepest;
 use crate::print_deepest::put_deepest;
 use morris_board::board::Geometry;
 use morris_board::streams::buffered::Buffered;
 use morris_board::streams::{Failed, Sink};
-use morris_census::deepest::Deepest;
 use morris_index::pair::Pair;
 use morris_jobs::pairs::put_pair;
 use morris_jobs::print::Printed;
+use morris_pairs::exact::Exact;
 use morris_probe::print::{put_count, put_number_line};
+use std::alloc::{AllocError, Global};
 
 /// What `stats` prints of a pair.
 #[derive(Drop)]
-pub struct Counted<'a, B: Geometry> {
+pub struct Counted<B: Geometry> {
     /// The pair.
     pub pair: Pair<B>,
-    /// How many positions have each code, from 0 up.
-    pub tallies: &'a [u64],
+    /// How many positions have each code, from 0 up to the greatest code of the pair.
+    pub tallies: Vec<u64>,
     /// The deepest positions, where they were asked for.
     pub deepest: Option<Deepest<B>>,
 }
 
+impl<B: Geometry> Counted<B> {
+    /// What a table's pair has. Where `deepest` is true the deepest positions are looked for too.
+    ///
+    /// # Errors
+    /// [`AllocError`] where memory runs out.
+    pub fn of(alloc: Global, table: &Exact<B>, deepest: bool) -> Result<Counted<B>, AllocError>
+        ensures pair { IfOk result (λ counted. counted.pair ≡ table.now.pair) }
+        ensures few { IfOk result (λ counted. length counted.tallies.items ≤ 2 ^ 16) }
+        ensures tallies { IfOk result (λ counted. HasTallies B.shape table.now.pair counted.tallies.items) }
+        ensures deepest { IfOk result (λ counted. HasDeepest B.shape table.now.pair deepest counted.deepest) }
+    {
+        let pair = table.pair();
+        let tallies = count_positions(alloc, table)?;
+        let deepest = if deepest {
+            Some(Deepest::of(alloc, table)?)
+        } else {
+            None
+        };
+        Ok(Counted {
+            pair,
+            tallies,
+            deepest,
+        })
+    }
+}
+
 #[tactic(auto, using(morris_board::proofs::BufferedLaws::passed_laws))]
-impl<'a, B: Geometry> Printed for Counted<'a, B> {
+impl<B: Geometry> Printed for Counted<B> {
     ghost use Rattle.std.specs.Prelude.{◌≤◌, ◌^◌, ◌++◌, length};
     ghost use Rattle.morris_commands.specs.Deepest.{deepest_lines};
     ghost use Rattle.morris_commands.specs.Stats.{stats_text};
 
-    ghost bytes = { λ counted. stats_text B.POINTS counted.pair counted.tallies.now ++ deepest_lines B.shape counted.deepest };
+    ghost bytes = { λ counted. stats_text B.POINTS counted.pair counted.tallies.items ++ deepest_lines B.shape counted.deepest };
 
-    ghost is_short = { λ counted. length counted.tallies.now ≤ 2 ^ 16 };
+    ghost is_short = { λ counted. length counted.tallies.items ≤ 2 ^ 16 };
 
     fn put_into<S: Sink>(&self, out: &mut Buffered<'_, S>) -> Result<(), Failed> {
-        put_tallies(out, self.pair, self.tallies)?;
+        put_tallies(out, self.pair, self.tallies.as_slice())?;
         put_deepest(out, self.deepest)
     }
 }
@@ -56,7 +88,7 @@ fn put_tallies<B: Geometry, S: Sink>(
     let (draws, decided) = draws_and_decided(tallies);
     put_pair_line(out, pair)?;
     put_depths(out, decided)?;
-    put_draws(out, draws)
+    put_number_line(out, "draw: ", draws)
 }
 
 /// A pair and how many positions it has.
@@ -109,16 +141,6 @@ fn put_depths<S: Sink>(out: &mut Buffered<'_, S>, counts: &[u64]) -> Result<(), 
         put_depth(out, depth as u64, *count)?;
     }
     Ok(())
-}
-
-/// How many positions are draws, also where there are none.
-fn put_draws<S: Sink>(out: &mut Buffered<'_, S>, count: u64) -> Result<(), Failed>
-    requires failures { S.failures (sink_of out.old) < 2 ^ 64 - 1 }
-    requires room { taken_of out.old < 2 ^ 63 }
-    ensures passed { Passes S.contents S.failures out.old out.new (draw_line count) result }
-    ensures few { OnOk result (taken_of out.new ≤ taken_of out.old + 53) }
-{
-    put_number_line(out, "draw: ", count)
 }
 
 /// How many positions are draws, and how many have the depths 0, 1, ..

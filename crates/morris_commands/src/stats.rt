@@ -1,18 +1,19 @@
 //! The command `stats`.
-ghost use Rattle.std.specs.Prelude.{◌≡◌, ◌≢◌, ◌-◌, ◌^◌, ◌<◌, None, true, false, is_some, IfErr, IfOk, OnErr, OnOk};
+ghost use Rattle.std.specs.Prelude.{◌≡◌, ◌≢◌, ◌-◌, ◌^◌, ◌<◌, None, false, IfErr, IfOk, OnOk};
 ghost use Rattle.morris_index.specs.Pairs.{Counts, EndsIn, below_of};
 ghost use Rattle.morris_pairs.specs.Known.{IsBeyondCodes};
 ghost use Rattle.morris_pairs.specs.Shelves.{first_missing, table_on};
 ghost use Rattle.morris_jobs.specs.Faults.{CountsWrites};
 ghost use Rattle.morris_jobs.specs.BoardNames.{board_of};
-ghost use Rattle.morris_commands.specs.Stats.{AnswersCounts, AnswersOn, AnswersStats, HasTooDeep, IsRefusedAt, IsRefusedBefore, IsRefusedFor, RestsOnTooDeep};
+ghost use Rattle.morris_jobs.specs.Orders.{HasExactAt, IsUnbuiltAt};
+ghost use Rattle.morris_commands.specs.Build.{IsUnbuiltBefore, RestsOnTooDeep};
+ghost use Rattle.morris_commands.specs.Stats.{AnswersCounts, AnswersOn, AnswersStats};
 ghost use Rattle.morris_commands.specs.StatsByClasses.{AnswersByClasses, AnswersByClassesOn};
 
 use crate::build::build_before;
 use crate::print_stats::Counted;
 use morris_board::board::{Board, Geometry};
 use morris_board::streams::Sink;
-use morris_census::census::Census;
 use morris_index::pair::Pair;
 use morris_jobs::fault::Fault;
 use morris_jobs::on_board;
@@ -88,8 +89,13 @@ fn stats_on<B: Board, S: Sink, T: Teller>(
     ensures told { T.becomes teller.old teller.new }
 {
     let pair = read_pair::<B>(text)?;
-    let table = sweep_below(alloc, pair, teller)?;
-    print_counts(alloc, &table, deepest, output)
+    teller.announce(pair, Layout::Full, Way::Swept);
+    let mut shelf = sweep_before(alloc, pair, teller)?;
+    sweep_onto(alloc, &mut shelf, pair, teller)?;
+    let Some(table) = shelf.get(pair) else {
+        unreachable!()
+    };
+    print_counts(alloc, table, deepest, output)
 }
 
 /// Prints how many positions of a table's pair have each value, and the deepest ones, where they
@@ -104,31 +110,8 @@ fn print_counts<B: Geometry, S: Sink>(
     ensures answer { AnswersCounts B.shape table.now.pair deepest (S.contents output.old) (S.contents output.new) result }
     ensures counted { CountsWrites (S.failures output.old) (S.failures output.new) result }
 {
-    let census = Census::of(alloc, table, deepest)?;
-    let counted = Counted {
-        pair: table.pair(),
-        tallies: census.tallies.as_slice(),
-        deepest: census.deepest,
-    };
+    let counted = Counted::of(alloc, table, deepest)?;
     print(&counted, output)
-}
-
-/// The table of a pair, swept after those of all pairs below it.
-fn sweep_below<B: Board, T: Teller>(
-    alloc: Global,
-    pair: Pair<B>,
-    teller: &mut T,
-) -> Result<Exact<B>, Fault>
-    // The caller's proof learns here that the board has as many points as its shape says.
-    ensures points { B.shape.points ≡ B.POINTS }
-    ensures pair { IfOk result (λ table. table.pair ≡ pair) }
-    ensures within { OnOk result (¬ HasTooDeep B.shape pair) }
-    ensures refused { IfErr result (IsRefusedFor B.shape pair) }
-    ensures told { T.becomes teller.old teller.new }
-{
-    teller.announce(pair, Layout::Full, Way::Swept);
-    let shelf = sweep_before(alloc, pair, teller)?;
-    sweep_over(alloc, &shelf, pair, teller)
 }
 
 /// The tables of all pairs below a pair but its own, among them those that it needs.
@@ -137,10 +120,12 @@ pub(crate) fn sweep_before<B: Board, T: Teller>(
     pair: Pair<B>,
     teller: &mut T,
 ) -> Result<Shelf<B>, Fault>
+    // The caller's proof learns here that the board has as many points as its shape says.
+    ensures points { B.shape.points ≡ B.POINTS }
     ensures ready { IfOk result (λ shelf. first_missing shelf pair ≡ None) }
     ensures last { OnOk result (EndsIn (below_of pair) pair) }
     ensures within { OnOk result (¬ RestsOnTooDeep B.shape pair) }
-    ensures refused { IfErr result (IsRefusedBefore B.shape pair) }
+    ensures refused { IfErr result (IsUnbuiltBefore B.shape pair 0) }
     ensures told { T.becomes teller.old teller.new }
 {
     let mut shelf = Shelf::new(alloc)?;
@@ -160,37 +145,19 @@ fn sweep_onto<B: Board, T: Teller>(
     teller: &mut T,
 ) -> Result<(), Fault>
     requires { first_missing shelf.old pair ≡ None }
-    ensures there { OnOk result (is_some (table_on shelf.new pair) ≡ true) }
+    ensures exact { OnOk result (HasExactAt B.shape Layout.Full shelf.new pair) }
     ensures others { OnOk result ((other : Counts) → other ≢ pair → table_on shelf.new other ≡ table_on shelf.old other) }
     ensures within { OnOk result (¬ IsBeyondCodes B.shape pair) }
-    ensures unchanged { OnErr result (shelf.new ≡ shelf.old) }
-    ensures refused { IfErr result (IsRefusedAt B.shape pair) }
-    ensures told { T.becomes teller.old teller.new }
-{
-    let table = sweep_over(alloc, shelf, pair, teller)?;
-    match shelf.put(table) {
-        Ok(()) => Ok(()),
-        Err(_) => unreachable!(),
-    }
-}
-
-/// The table of a pair, over a shelf that has those that it needs.
-fn sweep_over<B: Board, T: Teller>(
-    alloc: Global,
-    shelf: &Shelf<B>,
-    pair: Pair<B>,
-    teller: &mut T,
-) -> Result<Exact<B>, Fault>
-    requires { first_missing shelf.now pair ≡ None }
-    ensures pair { IfOk result (λ table. table.pair ≡ pair) }
-    ensures within { OnOk result (¬ IsBeyondCodes B.shape pair) }
-    ensures refused { IfErr result (IsRefusedAt B.shape pair) }
+    ensures refused { IfErr result (IsUnbuiltAt B.shape pair 0) }
     ensures told { T.becomes teller.old teller.new }
 {
     teller.begin_pair(pair);
     let table = sweep_pair_watched(alloc, shelf, pair, teller)?;
     teller.end_pair(&table);
-    Ok(table)
+    match shelf.put(table) {
+        Ok(()) => Ok(()),
+        Err(_) => unreachable!(),
+    }
 }
 
 /// Prints what [`stats_with`] prints, counted from tables with an entry for each class of

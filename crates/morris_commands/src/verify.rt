@@ -4,7 +4,7 @@ ghost use Rattle.morris_pairs.specs.Shelves.{first_missing};
 ghost use Rattle.morris_pairs.specs.Tables.{IsTable};
 ghost use Rattle.morris_jobs.specs.Faults.{CountsWrites};
 ghost use Rattle.morris_jobs.specs.BoardNames.{board_of};
-ghost use Rattle.morris_commands.specs.Stats.{RestsOnTooDeep};
+ghost use Rattle.morris_commands.specs.Build.{RestsOnTooDeep};
 ghost use Rattle.morris_commands.specs.Verify.{AnswersInput, AnswersVerify, IsUnverified, IsWrong};
 ghost use Rattle.morris_jobs.specs.Inputs.{MayFail, input_of};
 

@@ -3,7 +3,7 @@ ghost use Rattle.std.specs.Prelude.{◌≡◌, ◌-◌, ◌^◌, ◌<◌, None, 
 ghost use Rattle.morris_pairs.specs.Tables.{IsTable};
 ghost use Rattle.morris_jobs.specs.Faults.{CountsWrites};
 ghost use Rattle.morris_jobs.specs.BoardNames.{board_of};
-ghost use Rattle.morris_commands.specs.Stats.{RestsOnTooDeep};
+ghost use Rattle.morris_commands.specs.Build.{RestsOnTooDeep};
 ghost use Rattle.morris_commands.specs.Verify.{AnswersInput, AnswersVerify, IsUnverified};
 ghost use Rattle.morris_jobs.specs.Inputs.{MayFail, input_of};
 

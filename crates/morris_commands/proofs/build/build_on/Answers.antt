@@ -1,11 +1,13 @@
 -- A pair is built where the words name it and there may be such a team.
 use Rattle.std.proofs.Common.{Err, ap, ◌∙◌, inl, inr}
+use Rattle.std.specs.Io.KnownBytes.{Keeps}
 use Rattle.std.proofs.KnownBytes.{Keeps-refl}
 use Rattle.std.proofs.lemmas.Result.{err_from_is_err_and}
-use Rattle.morris_commands.proofs.OwnLaws.{built_of_text, none_too_deep, unbuilt_before, unbuilt_itself, with_own}
+use Rattle.morris_commands.proofs.OwnLaws.{none_too_deep, unbuilt_before, unbuilt_itself, with_own}
 use Rattle.morris_jobs.proofs.FaultLaws.{counted_refused, unwritten}
+use Rattle.morris_jobs.proofs.OrderLaws.{answers_order}
 use Rattle.morris_jobs.specs.Orders.{IsUnbuiltAt}
-use Rattle.morris_commands.specs.Verify.{IsUnbuiltBefore}
+use Rattle.morris_commands.specs.Build.{AnswersBuilt, IsUnbuiltBefore}
 use Rattle.morris_commands.proofs.build.build_on.Goals as goal
 
 -- one that isn't built is refused, with nothing written: one below it, or the pair itself
@@ -17,8 +19,8 @@ returns-in_err-stock-clause-answer g c =
     let pair = c.in_ok-pair.pair in
     let r = c.from_residual-in_err-stock.result in
     let failed = err_from_is_err_and r c.from_residual-in_err-stock.ensures.1 in
-    built_of_text board c.in_err-stock.ensures.points order.pair.now pair c.in_ok-pair.ensures order.workers order.blocks c.in_ok-team.ensures.2
-    c.args.all old old r c.args.layout
+    answers_order board c.in_err-stock.ensures.points order.pair.now pair c.in_ok-pair.ensures r (Keeps old old)
+    (λ p. AnswersBuilt board c.args.layout p order.blocks c.args.all old old r) order.workers order.blocks c.in_ok-team.ensures.2
     (inl (_, failed.1 ∙ ap Err failed.2, unbuilt_before board pair order.blocks _ (rw c.in_ok-team.ensures.1 at c.in_err-stock.ensures.refused), Keeps-refl old))
 
 pub returns-in_err-build_onto-clause-answer : goal.returns-in_err-build_onto-clause-answer
@@ -29,8 +31,8 @@ returns-in_err-build_onto-clause-answer g c =
     let pair = c.in_ok-pair.pair in
     let r = c.from_residual-in_err-build_onto.result in
     let failed = err_from_is_err_and r c.from_residual-in_err-build_onto.ensures.1 in
-    built_of_text board c.in_ok-stock.ensures.points order.pair.now pair c.in_ok-pair.ensures order.workers order.blocks c.in_ok-team.ensures.2
-    c.args.all old old r c.args.layout
+    answers_order board c.in_ok-stock.ensures.points order.pair.now pair c.in_ok-pair.ensures r (Keeps old old)
+    (λ p. AnswersBuilt board c.args.layout p order.blocks c.args.all old old r) order.workers order.blocks c.in_ok-team.ensures.2
     (inl (
       _,
       failed.1 ∙ ap Err failed.2,
@@ -49,9 +51,11 @@ returns-clause-answer g c =
     let board = g.B.Geometry.shape in
     let order = c.args.order in
     let pair = c.in_ok-pair.pair in
-    built_of_text board c.in_ok-stock.ensures.points order.pair.now pair c.in_ok-pair.ensures order.workers order.blocks c.in_ok-team.ensures.2
-    c.args.all (g.O.Sink.contents c.args.output.now) (g.O.Sink.contents c.write_files.new.output)
-    c.write_files.result c.args.layout
+    let old = g.O.Sink.contents c.args.output.now in
+    let new = g.O.Sink.contents c.write_files.new.output in
+    let r = c.write_files.result in
+    answers_order board c.in_ok-stock.ensures.points order.pair.now pair c.in_ok-pair.ensures r (Keeps old new)
+    (λ p. AnswersBuilt board c.args.layout p order.blocks c.args.all old new r) order.workers order.blocks c.in_ok-team.ensures.2
     (inr (none_too_deep board pair c.in_ok-stock.ensures.within c.in_ok-build_onto.ensures.within, c.write_files.ensures.files))
 
 pub returns-in_err-pair-clause-told : goal.returns-in_err-pair-clause-told

@@ -1,11 +1,14 @@
 -- What is printed of the pair that the text names, where there may be such a team.
-use Rattle.std.proofs.Common.{Err, ap, subst, ◌∙◌, inl, inr}
+use Rattle.std.proofs.Common.{Err, ap, subst, ◌∙◌, inl}
+use Rattle.std.specs.Io.KnownBytes.{Keeps}
 use Rattle.std.proofs.KnownBytes.{Keeps-refl}
 use Rattle.std.proofs.lemmas.Result.{err_from_is_err_and}
-use Rattle.morris_jobs.specs.declared.fault.Fault.TheVariants as fault
-use Rattle.morris_commands.specs.Stats.{AnswersCounts}
-use Rattle.morris_commands.specs.StatsByClasses.{AnswersCounted}
-use Rattle.morris_commands.proofs.OwnLaws.{counted_of_text, none_too_deep, unbuilt_before, unbuilt_itself}
+use Rattle.morris_jobs.specs.Orders.{IsUnbuiltAt}
+use Rattle.morris_jobs.proofs.FaultLaws.{counted_refused, unwritten}
+use Rattle.morris_jobs.proofs.OrderLaws.{answers_order}
+use Rattle.morris_commands.specs.Build.{IsUnbuiltBefore}
+use Rattle.morris_commands.specs.Stats.{AnswersCounts, AnswersPair}
+use Rattle.morris_commands.proofs.OwnLaws.{answers_pair, none_too_deep, unbuilt_before, unbuilt_itself}
 use Rattle.morris_commands.proofs.stats.by_classes_on.Goals as goal
 
 pub returns-clause-answer : goal.returns-clause-answer
@@ -16,15 +19,10 @@ returns-clause-answer g c =
     let old = g.S.Sink.contents c.args.output.now in
     let new = g.S.Sink.contents c.print_counts.new.output in
     let r = c.print_counts.result in
-    let counts : AnswersCounts board pair c.args.deepest old new r =
-    subst (λ d. AnswersCounts board d c.args.deepest old new r) c.in-Some.ensures.exact.0 c.print_counts.ensures.answer in
-    let counted : AnswersCounted board pair order.blocks c.args.deepest old new r =
-    elim counts [
-      | inl lacks ↦ inl (fault.Memory, lacks.0, tt, lacks.1)
-      | inr prints ↦ inr (none_too_deep board pair c.in_ok-stock.ensures.within c.in_ok-build_onto.ensures.within, prints)
-    ] in
-    counted_of_text board c.in_ok-stock.ensures.points order.pair.now pair c.in_ok-pair.ensures order.workers order.blocks c.in_ok-team.ensures.2
-    c.args.deepest old new r counted
+    answers_order board c.in_ok-stock.ensures.points order.pair.now pair c.in_ok-pair.ensures r (Keeps old new)
+    (λ p. AnswersPair board p order.blocks c.args.deepest old new r) order.workers order.blocks c.in_ok-team.ensures.2
+    (answers_pair board pair order.blocks c.args.deepest old new r (none_too_deep board pair c.in_ok-stock.ensures.within c.in_ok-build_onto.ensures.within)
+    (subst (λ d. AnswersCounts board d c.args.deepest old new r) c.in-Some.ensures.exact.0 c.print_counts.ensures.answer))
 
 -- nothing is printed where a pair isn't built: one below it, or the pair itself
 pub returns-in_err-stock-clause-answer : goal.returns-in_err-stock-clause-answer
@@ -35,8 +33,8 @@ returns-in_err-stock-clause-answer g c =
     let pair = c.in_ok-pair.pair in
     let r = c.from_residual-in_err-stock.result in
     let failed = err_from_is_err_and r c.from_residual-in_err-stock.ensures.1 in
-    counted_of_text board c.in_err-stock.ensures.points order.pair.now pair c.in_ok-pair.ensures order.workers order.blocks c.in_ok-team.ensures.2
-    c.args.deepest old old r
+    answers_order board c.in_err-stock.ensures.points order.pair.now pair c.in_ok-pair.ensures r (Keeps old old)
+    (λ p. AnswersPair board p order.blocks c.args.deepest old old r) order.workers order.blocks c.in_ok-team.ensures.2
     (inl (_, failed.1 ∙ ap Err failed.2, unbuilt_before board pair order.blocks _ (rw c.in_ok-team.ensures.1 at c.in_err-stock.ensures.refused), Keeps-refl old))
 
 pub returns-in_err-build_onto-clause-answer : goal.returns-in_err-build_onto-clause-answer
@@ -47,14 +45,32 @@ returns-in_err-build_onto-clause-answer g c =
     let pair = c.in_ok-pair.pair in
     let r = c.from_residual-in_err-build_onto.result in
     let failed = err_from_is_err_and r c.from_residual-in_err-build_onto.ensures.1 in
-    counted_of_text board c.in_ok-stock.ensures.points order.pair.now pair c.in_ok-pair.ensures order.workers order.blocks c.in_ok-team.ensures.2
-    c.args.deepest old old r
+    answers_order board c.in_ok-stock.ensures.points order.pair.now pair c.in_ok-pair.ensures r (Keeps old old)
+    (λ p. AnswersPair board p order.blocks c.args.deepest old old r) order.workers order.blocks c.in_ok-team.ensures.2
     (inl (
       _,
       failed.1 ∙ ap Err failed.2,
       unbuilt_itself board pair order.blocks c.in_ok-stock.ensures.last _ (rw c.in_ok-team.ensures.1 at c.in_err-build_onto.ensures.refused),
       Keeps-refl old,
     ))
+
+-- a refusal of a build isn't that of a write
+pub returns-in_err-stock-clause-counted : goal.returns-in_err-stock-clause-counted
+returns-in_err-stock-clause-counted g c =
+    let r = c.from_residual-in_err-stock.result in
+    let failed = err_from_is_err_and r c.from_residual-in_err-stock.ensures.1 in
+    counted_refused (g.S.Sink.failures c.args.output.now) r _ (failed.1 ∙ ap Err failed.2)
+    (unwritten (IsUnbuiltBefore g.B.Geometry.shape c.in_ok-pair.pair c.args.order.blocks) (λ sent none. none) _ (rw c.in_ok-team.ensures.1 at c.in_err-stock.ensures.refused))
+
+pub returns-in_err-build_onto-clause-counted : goal.returns-in_err-build_onto-clause-counted
+returns-in_err-build_onto-clause-counted g c =
+    let r = c.from_residual-in_err-build_onto.result in
+    let failed = err_from_is_err_and r c.from_residual-in_err-build_onto.ensures.1 in
+    counted_refused (g.S.Sink.failures c.args.output.now) r _ (failed.1 ∙ ap Err failed.2)
+    (unwritten (IsUnbuiltAt g.B.Geometry.shape c.in_ok-pair.pair c.args.order.blocks) (λ sent none. none) _ (rw c.in_ok-team.ensures.1 at c.in_err-build_onto.ensures.refused))
+
+pub returns-clause-counted : goal.returns-clause-counted
+returns-clause-counted g c = c.print_counts.ensures.counted
 
 pub returns-in_err-pair-clause-told : goal.returns-in_err-pair-clause-told
 returns-in_err-pair-clause-told g c = g.met.T.Watch.stays c.args.teller.now

@@ -1,10 +1,14 @@
 -- What is printed of the pair that the text names.
-use Rattle.std.proofs.Common.{◌≡◌, Ok, Err, sym, ap, subst, ◌∙◌, inl, inr}
+use Rattle.std.proofs.Common.{Err, ap, subst, ◌∙◌, inl}
+use Rattle.std.specs.Io.KnownBytes.{Keeps}
 use Rattle.std.proofs.KnownBytes.{Keeps-refl}
 use Rattle.std.proofs.lemmas.Result.{err_from_is_err_and}
-use Rattle.morris_jobs.specs.PairText.{read_pair_of}
-use Rattle.morris_jobs.specs.declared.fault.Fault.TheVariants as fault
-use Rattle.morris_commands.specs.Stats.{AnswersCounts, AnswersPair, AnswersRead}
+use Rattle.morris_jobs.specs.Orders.{IsUnbuiltAt}
+use Rattle.morris_jobs.proofs.FaultLaws.{counted_refused, unwritten}
+use Rattle.morris_jobs.proofs.OrderLaws.{answers_read}
+use Rattle.morris_commands.specs.Build.{IsUnbuiltBefore}
+use Rattle.morris_commands.specs.Stats.{AnswersCounts, AnswersPair}
+use Rattle.morris_commands.proofs.OwnLaws.{answers_pair, none_too_deep, unbuilt_before, unbuilt_itself}
 use Rattle.morris_commands.proofs.stats.stats_on.Goals as goal
 
 pub returns-clause-answer : goal.returns-clause-answer
@@ -14,33 +18,62 @@ returns-clause-answer g c =
     let old = g.S.Sink.contents c.args.output.now in
     let new = g.S.Sink.contents c.print_counts.new.output in
     let r = c.print_counts.result in
-    let read : read_pair_of board.points c.args.text.now ≡ Ok pair =
-    ap (λ n. read_pair_of n c.args.text.now) c.in_ok-table.ensures.points ∙ sym c.in_ok-pair.ensures in
-    let counts : AnswersCounts board pair c.args.deepest old new r =
-    subst (λ d. AnswersCounts board d c.args.deepest old new r) c.in_ok-table.ensures.pair c.print_counts.ensures.answer in
-    let answer : AnswersPair board pair c.args.deepest old new r =
-    elim counts [
-      | inl lacks ↦ inl (fault.Memory, lacks.0, tt, lacks.1)
-      | inr prints ↦ inr (c.in_ok-table.ensures.within, prints)
-    ] in
-    subst (λ found. AnswersRead board c.args.deepest old new r found) (sym read) answer
+    answers_read board c.in_ok-shelf.ensures.points c.args.text.now pair c.in_ok-pair.ensures r (Keeps old new)
+    (λ p. AnswersPair board p 0 c.args.deepest old new r)
+    (answers_pair board pair 0 c.args.deepest old new r (none_too_deep board pair c.in_ok-shelf.ensures.within c.in_ok-sweep_onto.ensures.within)
+    (subst (λ d. AnswersCounts board d c.args.deepest old new r) c.in-Some.ensures.exact.0 c.print_counts.ensures.answer))
 
--- nothing is printed where a pair isn't swept
-pub returns-in_err-table-clause-answer : goal.returns-in_err-table-clause-answer
-returns-in_err-table-clause-answer g c =
+-- nothing is printed where a pair isn't swept: one below it, or the pair itself
+pub returns-in_err-shelf-clause-answer : goal.returns-in_err-shelf-clause-answer
+returns-in_err-shelf-clause-answer g c =
     let board = g.B.Geometry.shape in
+    let pair = c.in_ok-pair.pair in
     let old = g.S.Sink.contents c.args.output.now in
-    let failed = err_from_is_err_and c.from_residual-in_err-table.result c.from_residual-in_err-table.ensures.1 in
-    let read : read_pair_of board.points c.args.text.now ≡ Ok c.in_ok-pair.pair =
-    ap (λ n. read_pair_of n c.args.text.now) c.in_err-table.ensures.points ∙ sym c.in_ok-pair.ensures in
-    subst (λ found. AnswersRead board c.args.deepest old old c.from_residual-in_err-table.result found) (sym read)
-    (inl (_, failed.1 ∙ ap Err failed.2, c.in_err-table.ensures.refused, Keeps-refl old))
+    let r = c.from_residual-in_err-shelf.result in
+    let failed = err_from_is_err_and r c.from_residual-in_err-shelf.ensures.1 in
+    answers_read board c.in_err-shelf.ensures.points c.args.text.now pair c.in_ok-pair.ensures r (Keeps old old)
+    (λ p. AnswersPair board p 0 c.args.deepest old old r)
+    (inl (_, failed.1 ∙ ap Err failed.2, unbuilt_before board pair 0 _ c.in_err-shelf.ensures.refused, Keeps-refl old))
+
+pub returns-in_err-sweep_onto-clause-answer : goal.returns-in_err-sweep_onto-clause-answer
+returns-in_err-sweep_onto-clause-answer g c =
+    let board = g.B.Geometry.shape in
+    let pair = c.in_ok-pair.pair in
+    let old = g.S.Sink.contents c.args.output.now in
+    let r = c.from_residual-in_err-sweep_onto.result in
+    let failed = err_from_is_err_and r c.from_residual-in_err-sweep_onto.ensures.1 in
+    answers_read board c.in_ok-shelf.ensures.points c.args.text.now pair c.in_ok-pair.ensures r (Keeps old old)
+    (λ p. AnswersPair board p 0 c.args.deepest old old r)
+    (inl (_, failed.1 ∙ ap Err failed.2, unbuilt_itself board pair 0 c.in_ok-shelf.ensures.last _ c.in_err-sweep_onto.ensures.refused, Keeps-refl old))
+
+-- a refusal of a sweep isn't that of a write
+pub returns-in_err-shelf-clause-counted : goal.returns-in_err-shelf-clause-counted
+returns-in_err-shelf-clause-counted g c =
+    let r = c.from_residual-in_err-shelf.result in
+    let failed = err_from_is_err_and r c.from_residual-in_err-shelf.ensures.1 in
+    counted_refused (g.S.Sink.failures c.args.output.now) r _ (failed.1 ∙ ap Err failed.2)
+    (unwritten (IsUnbuiltBefore g.B.Geometry.shape c.in_ok-pair.pair 0) (λ sent none. none) _ c.in_err-shelf.ensures.refused)
+
+pub returns-in_err-sweep_onto-clause-counted : goal.returns-in_err-sweep_onto-clause-counted
+returns-in_err-sweep_onto-clause-counted g c =
+    let r = c.from_residual-in_err-sweep_onto.result in
+    let failed = err_from_is_err_and r c.from_residual-in_err-sweep_onto.ensures.1 in
+    counted_refused (g.S.Sink.failures c.args.output.now) r _ (failed.1 ∙ ap Err failed.2)
+    (unwritten (IsUnbuiltAt g.B.Geometry.shape c.in_ok-pair.pair 0) (λ sent none. none) _ c.in_err-sweep_onto.ensures.refused)
+
+pub returns-clause-counted : goal.returns-clause-counted
+returns-clause-counted g c = c.print_counts.ensures.counted
 
 pub returns-in_err-pair-clause-told : goal.returns-in_err-pair-clause-told
 returns-in_err-pair-clause-told g c = g.met.T.Watch.stays c.args.teller.now
 
-pub returns-in_err-table-clause-told : goal.returns-in_err-table-clause-told
-returns-in_err-table-clause-told g c = c.sweep_below.ensures.told
+pub returns-in_err-shelf-clause-told : goal.returns-in_err-shelf-clause-told
+returns-in_err-shelf-clause-told g c = g.met.T.Watch.joins _ _ _ c.announce.ensures.told c.sweep_before.ensures.told
+
+pub returns-in_err-sweep_onto-clause-told : goal.returns-in_err-sweep_onto-clause-told
+returns-in_err-sweep_onto-clause-told g c =
+    g.met.T.Watch.joins _ _ _ (g.met.T.Watch.joins _ _ _ c.announce.ensures.told c.sweep_before.ensures.told) c.sweep_onto.ensures.told
 
 pub returns-clause-told : goal.returns-clause-told
-returns-clause-told g c = c.sweep_below.ensures.told
+returns-clause-told g c =
+    g.met.T.Watch.joins _ _ _ (g.met.T.Watch.joins _ _ _ c.announce.ensures.told c.sweep_before.ensures.told) c.sweep_onto.ensures.told

@@ -1,5 +1,5 @@
-use Rattle.morris_census.proofs.TallyLaws.{length-tallies_of}
-use Rattle.morris_census.proofs.census.Census.of.Goals as goal
+use Rattle.morris_commands.proofs.TallyLaws.{length-tallies_of}
+use Rattle.morris_commands.proofs.print_stats.Counted.of.Goals as goal
 
 pub returns-clause-few : goal.returns-clause-few
 returns-clause-few g c =

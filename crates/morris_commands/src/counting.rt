@@ -1,7 +1,7 @@
 //! How many positions of a pair have each code.
 ghost use Rattle.std.specs.Prelude.{◌≡◌, ◌-◌, ◌<◌, ◌≤◌, IfOk};
 ghost use Rattle.morris_index.specs.ClassPairs.{class_size_of};
-ghost use Rattle.morris_census.specs.Census.{HasPositions, HasTallies, IsLedTo, IsRow};
+ghost use Rattle.morris_commands.specs.Census.{HasPositions, HasTallies, IsLedTo, IsRow};
 
 use morris_board::board::Geometry;
 use morris_board::position::Position;

@@ -1,7 +1,7 @@
 use Rattle.std.proofs.Common.{◌≡◌}
-use Rattle.morris_census.specs.Deepest.{IsGreatestTold}
-use Rattle.morris_census.proofs.DeepLaws.{code_found}
-use Rattle.morris_census.proofs.deepest.deepest_entry.Given as goal
+use Rattle.morris_commands.specs.Deepest.{IsGreatestTold}
+use Rattle.morris_commands.proofs.DeepLaws.{code_found}
+use Rattle.morris_commands.proofs.deepest.deepest_entry.Given as goal
 
 -- what was found among the entries so far, and its code
 abbrev pub invariant-loop-entry : goal.invariant-loop-entry

@@ -13,10 +13,10 @@ use Rattle.morris_pairs.specs.EntryLaws.{laid}
 use Rattle.morris_pairs.specs.Tables.{IsTable, Table}
 use Rattle.morris_pairs.proofs.CodeLaws.{code_cases, code_of_lost, code_of_won, one_code}
 use Rattle.morris_pairs.proofs.PositionLaws.{IsAtEntry}
-use Rattle.morris_census.specs.declared.deepest.Outcome.{Outcome}
-use Rattle.morris_census.specs.declared.deepest.Outcome.TheVariants.{Won, Lost}
-use Rattle.morris_census.proofs.EntryOrder.{in_order}
-use Rattle.morris_census.specs.Deepest.{IsDecidedIn, IsDeepestAt, IsFirstGreatest, IsGreatestTold, is_told_by}
+use Rattle.morris_commands.specs.declared.deepest.Outcome.{Outcome}
+use Rattle.morris_commands.specs.declared.deepest.Outcome.TheVariants.{Won, Lost}
+use Rattle.morris_commands.proofs.EntryOrder.{in_order}
+use Rattle.morris_commands.specs.Deepest.{IsDecidedIn, IsDeepestAt, IsFirstGreatest, IsGreatestTold, is_told_by}
 
 -- ---- what a code says
 

@@ -3,7 +3,7 @@ ghost use Rattle.std.specs.Prelude.{◌≡◌, ◌<◌, true, length, IfOk};
 ghost use Rattle.morris_board.specs.Positions.{IsPosition};
 ghost use Rattle.morris_index.specs.Pairs.{is_of};
 ghost use Rattle.morris_pairs.specs.Entries.{entry_count, entry_index, has_own_entry};
-ghost use Rattle.morris_census.specs.Deepest.{IsDeepest, IsGreatestTold, is_told_by};
+ghost use Rattle.morris_commands.specs.Deepest.{IsDeepest, IsGreatestTold, is_told_by};
 
 use morris_board::board::Geometry;
 use morris_board::position::Position;

@@ -2,7 +2,7 @@ use Rattle.std.proofs.Common.{refl, sym}
 use Rattle.std.proofs.lemmas.Iterator.Consumers.{YieldsList-from_first, count_from_yields_List}
 use Rattle.morris_board.specs.Positions.{Sides}
 use Rattle.std.proofs.Common.{List}
-use Rattle.morris_census.proofs.counting.count_positions_of.Goals as goal
+use Rattle.morris_commands.proofs.counting.count_positions_of.Goals as goal
 
 pub returns-clause-counted : goal.returns-clause-counted
 returns-clause-counted g c = record {

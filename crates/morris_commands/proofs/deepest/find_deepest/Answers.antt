@@ -3,9 +3,9 @@ use Rattle.std.proofs.Common.{◌≡◌, ℕ, ◌-◌, ◌≤◌, sym, subst, ar
 use Rattle.morris_board.specs.Boards.{Shape}
 use Rattle.morris_pairs.specs.Entries.{entry_index}
 use Rattle.morris_pairs.proofs.PositionLaws.{IsAtEntry}
-use Rattle.morris_census.specs.Deepest.{IsDeepestAt}
-use Rattle.morris_census.proofs.DeepLaws.{deepest_at, none_told}
-use Rattle.morris_census.proofs.deepest.find_deepest.Goals as goal
+use Rattle.morris_commands.specs.Deepest.{IsDeepestAt}
+use Rattle.morris_commands.proofs.DeepLaws.{deepest_at, none_told}
+use Rattle.morris_commands.proofs.deepest.find_deepest.Goals as goal
 
 pub returns-in_default : goal.returns-in_default
 returns-in_default g c =

@@ -6,7 +6,7 @@ use Rattle.morris_index.specs.ClassPairs.{led}
 use Rattle.morris_index.proofs.ClassPairLaws.{led_own}
 use Rattle.morris_pairs.specs.declared.layout.Layout.TheVariants.{Classes}
 use Rattle.morris_pairs.specs.Entries.{has_own_entry}
-use Rattle.morris_census.proofs.deepest.position_of.Goals as goal
+use Rattle.morris_commands.proofs.deepest.position_of.Goals as goal
 
 -- the position of an entry is led to itself, so it has a representative for its own set
 pub returns-in_ok-entries-in-Classes-clause-own : goal.returns-in_ok-entries-in-Classes-clause-own

@@ -1,6 +1,6 @@
 use Rattle.std.proofs.Common.{◌-◌}
-use Rattle.morris_census.proofs.EntryCounts.{stands_on_least}
-use Rattle.morris_census.proofs.counting.Row.follow.Goals as goal
+use Rattle.morris_commands.proofs.EntryCounts.{stands_on_least}
+use Rattle.morris_commands.proofs.counting.Row.follow.Goals as goal
 
 pub following-position-requires-clause-own : goal.following-position-requires-clause-own
 following-position-requires-clause-own g c =

@@ -1,6 +1,6 @@
 use Rattle.std.proofs.Common.{◌≡◌, ◌-◌, ◌∙◌, eqb-true, sym}
-use Rattle.morris_census.proofs.EntryCounts.{same_count-at}
-use Rattle.morris_census.proofs.counting.Row.count_at.Goals as goal
+use Rattle.morris_commands.proofs.EntryCounts.{same_count-at}
+use Rattle.morris_commands.proofs.counting.Row.count_at.Goals as goal
 
 -- the player to move has the same stones
 pub returns-then-eq-clause-counted : goal.returns-then-eq-clause-counted

@@ -26,8 +26,8 @@ use Rattle.morris_pairs.specs.Tables.{IsTable, greatest_code, table}
 use Rattle.morris_pairs.proofs.BackLawsLists.{Ascends-from_AllPairs}
 use Rattle.morris_pairs.proofs.PositionLaws.{position_at, position_of_entry}
 use Rattle.morris_pairs.proofs.TallyLaws.{le_greatest, tallies-from_counts}
-use Rattle.morris_census.specs.Census.{HasPositions, HasTallies, IsLedTo}
-use Rattle.morris_census.proofs.SumLaws.{length-numbered, weighed, weighed-all}
+use Rattle.morris_commands.specs.Census.{HasPositions, HasTallies, IsLedTo}
+use Rattle.morris_commands.proofs.SumLaws.{length-numbered, weighed, weighed-all}
 
 -- the entry by classes of the position with this index among all positions of the pair
 pub entry_at : Shape → Counts → ℕ → ℕ

@@ -7,10 +7,10 @@ use Rattle.morris_wave.specs.Nets.{times}
 use Rattle.morris_pairs.specs.declared.layout.Layout.TheVariants.{Classes}
 use Rattle.morris_pairs.specs.Tables.{IsTable, greatest_code, table, tallies_of}
 use Rattle.morris_pairs.proofs.TallyLaws.{le_greatest}
-use Rattle.morris_census.specs.Census.{IsRow}
-use Rattle.morris_census.proofs.EntryCounts.{entries_some-at, fallen, fallen_is-at, tallies_are}
-use Rattle.morris_census.proofs.SumLaws.{one_entry_few, one_entry_more, weighed}
-use Rattle.morris_census.proofs.counting.count_by_classes.Goals as goal
+use Rattle.morris_commands.specs.Census.{IsRow}
+use Rattle.morris_commands.proofs.EntryCounts.{entries_some-at, fallen, fallen_is-at, tallies_are}
+use Rattle.morris_commands.proofs.SumLaws.{one_entry_few, one_entry_more, weighed}
+use Rattle.morris_commands.proofs.counting.count_by_classes.Goals as goal
 
 pub first-row-requires : goal.first-row-requires
 first-row-requires g c =

@@ -1,9 +1,9 @@
 use Rattle.std.proofs.Common.{◌≡◌, ℕ, ◌+◌, ◌-◌, ◌*◌, ◌<◌, ◌≤◌, length, get_or}
 use Rattle.morris_pairs.specs.Tables.{greatest_code}
-use Rattle.morris_census.specs.Census.{IsRow}
-use Rattle.morris_census.proofs.EntryCounts.{fallen}
-use Rattle.morris_census.proofs.SumLaws.{weighed}
-use Rattle.morris_census.proofs.counting.count_by_classes.Given as goal
+use Rattle.morris_commands.specs.Census.{IsRow}
+use Rattle.morris_commands.proofs.EntryCounts.{fallen}
+use Rattle.morris_commands.proofs.SumLaws.{weighed}
+use Rattle.morris_commands.proofs.counting.count_by_classes.Given as goal
 
 -- the row is that of the entry before, or of the first; each tally counts the entries before this
 -- one that have its code, each as often as there are positions that have the entry

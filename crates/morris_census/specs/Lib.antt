@@ -1,2 +1,0 @@
-pub mod Census
-pub mod Deepest
