@@ -1,7 +1,7 @@
 -- What the workers of some waves are before and after.
 use Rattle.std.specs.Prelude.{ℕ, ◌<◌}
 use Rattle.std.specs.Result.{OnOk}
-use Rattle.morris_workers.specs.Tickets.{IsNewSeatOf, HasDrawn}
+use Rattle.morris_workers.specs.Tickets.{IsSeatOf, IsNewSeatOf, HasDrawn}
 use Rattle.morris_workers.specs.declared.tickets.Tickets.{Tickets}
 use Rattle.morris_workers.specs.declared.wave.Worker.{Worker}
 
@@ -10,6 +10,7 @@ pub record IsNewWorker (t : Tickets) (workers : ℕ) (w : Worker) : Type 0 where
   pub number : w.number < workers
   pub seat : IsNewSeatOf t w.seat
 
--- the worker drew from its seat unless memory was refused
-abbrev pub HasWorked : Worker → Type 0
-HasWorked w = OnOk w.sent (HasDrawn w.seat)
+-- the worker has a seat of these tickets, from which it drew unless memory was refused
+pub record HasWorked (t : Tickets) (w : Worker) : Type 0 where
+  pub seat : IsSeatOf t w.seat
+  pub drawn : OnOk w.sent (HasDrawn w.seat)

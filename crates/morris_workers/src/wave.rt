@@ -3,7 +3,7 @@ ghost use Rattle.std.specs.Prelude.{◌≡◌, ◌⊎◌, ℕ, ◌*◌, ◌<◌,
 ghost use Rattle.std.specs.List.{All};
 ghost use Rattle.morris_wave.specs.Blocks.{next_wave_of};
 ghost use Rattle.morris_workers.specs.Ranges.{Tells};
-ghost use Rattle.morris_workers.specs.Tickets.{IsNewSeatOf, HasDrawn};
+ghost use Rattle.morris_workers.specs.Tickets.{IsSeatOf, IsNewSeatOf, HasDrawn};
 ghost use Rattle.morris_workers.specs.Working.{IsNewWorker, HasWorked};
 
 use crate::fault::{LAST_WAVE, SolveFault};
@@ -340,6 +340,7 @@ impl<L: NodeList, G: Graph, A: Gate, R: Wait> Site<'_, L, G, A, R> {
     ) -> Result<(), AllocError>
         requires worker { worker < self.now.shares.now.blocks }
         requires seat { IsNewSeatOf tickets.now seat.old }
+        ensures seat { IsSeatOf tickets.now seat.new }
         ensures drawn { OnOk result (HasDrawn seat.new) }
         ensures told { W.becomes watch.old watch.new }
     {
@@ -359,7 +360,7 @@ impl<L: NodeList, G: Graph, A: Gate, R: Wait> Site<'_, L, G, A, R> {
     // What one worker does. Where it isn't refused memory, it draws.
     fn work<W: Watch>(&self, tickets: &Tickets, worker: &mut Worker, watch: &mut W)
         requires new { IsNewWorker tickets.now self.now.shares.now.blocks worker.old }
-        ensures worked { HasWorked worker.new }
+        ensures worked { HasWorked tickets.now worker.new }
         ensures told { W.becomes watch.old watch.new }
     {
         let mut outbox = Outbox::new(self.alloc, worker.wave);
@@ -396,11 +397,26 @@ fn workers_of(
     Ok(workers)
 }
 
-// Whether memory was refused to any of the workers. Otherwise each of them has drawn.
+// What is left to do once all workers are back: the tickets are closed, and if memory was refused
+// anywhere that is the answer. Otherwise each of them has drawn.
+fn hand_back(alloc: Global, tickets: Tickets, workers: Vec<Worker>) -> Result<(), AllocError>
+    requires some { 1 ≤ vec_len workers }
+    requires worked { All (HasWorked tickets) workers.items }
+    ensures all { OnOk result (All (λ worker. IsOk worker.sent) workers.items) }
+    ensures drawn { OnOk result (All (λ worker. HasDrawn worker.seat) workers.items) }
+{
+    let outcome = outcome_of(&workers);
+    let mut seats = Vec::with_capacity(alloc, workers.len())?;
+    for worker in workers {
+        seats.push(worker.seat)?;
+    }
+    let _ = tickets.close(seats);
+    outcome
+}
+
+// Whether memory was refused to any of the workers.
 fn outcome_of(workers: &[Worker]) -> Result<(), AllocError>
-    requires worked { All HasWorked workers.now }
-    ensures all { OnOk result (All (λ worker. IsOk worker.sent) workers.now) }
-    ensures drawn { OnOk result (All (λ worker. HasDrawn worker.seat) workers.now) }
+    ensures { OnOk result (All (λ worker. IsOk worker.sent) workers.now) }
 {
     for worker in workers {
         if worker.sent.is_err() {
@@ -424,7 +440,7 @@ impl<L: NodeList + Send + Sync, G: Graph + Send + Sync, A: Gate, R: Threads + Wa
     fn work_all<W: Watch>(&self, tickets: &Tickets, workers: &mut [Worker], watch: &mut W)
         requires new { All (IsNewWorker tickets.now self.now.shares.now.blocks) workers.old }
         ensures count { length workers.new ≡ length workers.old }
-        ensures worked { All HasWorked workers.new }
+        ensures worked { All (HasWorked tickets.now) workers.new }
         ensures told { W.becomes watch.old watch.new }
     {
         let Some((first, rest)) = workers.split_first_mut() else {
@@ -436,11 +452,12 @@ impl<L: NodeList + Send + Sync, G: Graph + Send + Sync, A: Gate, R: Threads + Wa
         }
         let mut aside = ||
             requires { IsNewWorker tickets.now self.now.shares.now.blocks first.now }
-            ensures { HasWorked first.exit.now }
+            ensures { HasWorked tickets.entry.now first.exit.now }
         { self.work(tickets, first, &mut Unwatched) };
         let mut here = ||
             requires { All (IsNewWorker tickets.now self.now.shares.now.blocks) rest.now }
-            ensures { (length rest.exit.now ≡ length rest.entry.now) × All HasWorked rest.exit.now × W.becomes watch.entry.now watch.exit.now }
+            ensures { (length rest.exit.now ≡ length rest.entry.now) × All (HasWorked tickets.entry.now) rest.exit.now
+                × W.becomes watch.entry.now watch.exit.now }
         { self.work_all(tickets, rest, watch) };
         thread::join_mut(self.rt, &mut aside, &mut here);
     }
@@ -473,7 +490,8 @@ impl<L: NodeList + Send + Sync, G: Graph + Send + Sync, A: Gate, R: Threads + Wa
         // Where there are no more numbers, nobody goes to the wave that has begun last.
         let last = self.barrier.wave(self.rt).min(wave_after(wave, waves));
         tell(watch, told, last);
-        outcome_of(&workers).map(|()| last)
+        hand_back(self.alloc, tickets, workers)?;
+        Ok(last)
     }
 
     /// Goes from wave to wave until all blocks are settled, and says at which wave they are. The

@@ -18,9 +18,10 @@ join_mut-requires-after_bounds g t c κs within =
 
 pub returns-clause-worked : goal.returns-clause-worked
 returns-clause-worked g t c =
+    let P = HasWorked c.args.tickets.now in
     let join = c.join_mut in
-    let one : HasWorked join.new.f.2.now = search rules in
-    let others : All HasWorked join.new.g.2.now = search rules in
+    let one : HasWorked c.args.tickets.now join.new.f.2.now = search rules in
+    let others : All (HasWorked c.args.tickets.now) join.new.g.2.now = search rules in
     let first : c.first-2-1.given.0 ≡ join.new.f.2.now = c.first-2-1.given.1 (search rules) in
     let rest : c.rest-1.given.0 ≡ join.new.g.2.now = c.rest-1.given.1.1 (search rules) in
-    All-cons HasWorked c.first-2-1.given.0 c.rest-1.given.0 (subst HasWorked (sym first) one) (subst (All HasWorked) (sym rest) others)
+    All-cons P c.first-2-1.given.0 c.rest-1.given.0 (subst P (sym first) one) (subst (All P) (sym rest) others)
