@@ -156,7 +156,9 @@ class Proofs:
 
     def __init__(self, crates, is_wanted):
         self.is_wanted = is_wanted
-        self.left = list(crates)
+        self.behind = seconds_behind(crates)
+        # First the one for which the longest row of others waits.
+        self.left = sorted(crates, key=lambda it: -self.behind[it])
         self.built = set()
         # The process, the file of its output, the number of jobs, the room and the time at which it
         # began, by crate.
@@ -170,18 +172,26 @@ class Proofs:
         """The crates that can begin, since those below are built."""
         return [it for it in self.left if self.built.issuperset(crates_below(it))]
 
+    def jobs_for(self, crate):
+        """How many jobs are wanted for a crate: more than half as many as there are processors
+        where all others wait for a row that begins with it, or nearly as long a one."""
+        half = self.processors // 2
+        share = self.behind[crate] / max(self.behind[it] for it in [*self.running, *self.left])
+        return min(MOST_JOBS, 1 + half if share >= 0.9 else half if share >= 0.6 else 1)
+
     def begin(self):
         """Begins what can, as far as processors and memory go, and gives their names."""
-        ready, begun = self.ready(), []
-        for place, crate in enumerate(ready):
+        begun = []
+        for crate in self.ready():
             running = [it.jobs for it in self.running.values()]
-            idle = self.processors - sum(running)
             room = self.memory - sum(ONE_JOB + (it - 1) * MORE_JOBS for it in running)
-            if running and (idle < 1 or room < ONE_JOB):
-                break
-            # Each has a processor, where one is idle, and the first one those that remain.
-            jobs = min(MOST_JOBS, idle - (len(ready) - place - 1))
-            jobs = max(1, min(jobs, 1 + (room - ONE_JOB) // MORE_JOBS))
+            jobs = max(1, min(self.jobs_for(crate), 1 + (room - ONE_JOB) // MORE_JOBS))
+            # A proof that others wait for doesn't wait itself for the end of those that share its
+            # processors, since it would go on with too few jobs once they have ended.
+            most = self.processors + (self.processors // 2 if jobs > 1 else 0)
+            if running and (sum(running) >= most or room < ONE_JOB):
+                continue
+            jobs = min(jobs, max(1, most - sum(running)))
             self.running[crate] = Proof(crate, jobs)
             self.left.remove(crate)
             begun.append(crate)
@@ -254,16 +264,13 @@ def prove(crates, tell, log=None, is_wanted=lambda: True):
     """Builds these crates, among which are all that they stand on, the lowest first. Tells which it
     is at, writes what rt says to a file, and gives whether all are built. Exits where that isn't
     wanted any more."""
-    # First the one for which the longest row of others waits.
-    behind = seconds_behind(crates)
-    order = sorted(crates, key=lambda it: -behind[it])
-    proofs, number = Proofs(order, is_wanted), 0
+    proofs, number = Proofs(crates, is_wanted), 0
     try:
         while proofs.left or proofs.running:
             for crate in proofs.begin():
                 number += 1
                 left = f", about {proofs.minutes_left():.0f} minutes left"
-                tell(f"proving crate {number} of {len(order)}: {crate}{left}")
+                tell(f"proving crate {number} of {len(crates)}: {crate}{left}")
             crate, status, said = proofs.ended()
             (log or sys.stdout.buffer).write(said)
             (log or sys.stdout.buffer).flush()
