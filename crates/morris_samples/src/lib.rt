@@ -1,7 +1,8 @@
 //! Small graphs with exits, gates and watches for tests, and the tests of the engine.
 //!
 //! No part of the product: nothing that is built for use stands on this crate. What it has public
-//! is what `morris_trials` takes; its own tests are those of `morris_wave` and `morris_workers`.
+//! is what `morris_trials` and `morris_commands_tests` take; its own tests are those of `morris_wave`
+//! and `morris_workers`.
 #![tactic(auto)]
 
 #[cfg(test)]
@@ -32,6 +33,7 @@ mod sweep_tests;
 mod texts_tests;
 #[cfg(test)]
 mod tickets_tests;
+pub mod told;
 #[cfg(test)]
 mod trios;
 #[cfg(test)]

@@ -1,5 +1,5 @@
 //! The calls on graphs and their blocks.
-use crate::told::{mark, or_refused, tell};
+use morris_samples::told::{mark, or_refused, tell};
 use morris_samples::{PairGraph, Pairs, advance, blocks_after};
 use morris_wave::{Batch, Block, Cut, Graph, gather, scatter, sweep};
 use morris_workers::{Tickets, Yard};

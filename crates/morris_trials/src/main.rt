@@ -13,12 +13,10 @@
 //! and after each refusal, and no contract can say what a terminal takes.
 #![tactic(auto)]
 
-mod commands;
 mod engine;
 mod probes;
 mod tables;
 mod threads;
-mod told;
 
 use std::alloc::Global;
 use std::env;
@@ -60,9 +58,6 @@ fn run<R: Print + Input + Threads + Wait + Sync>(rt: &R, alloc: Global, name: &s
         "read_next" => tables::reads_the_next_table(rt, alloc),
         "best" => tables::finds_best_moves(rt, alloc),
         "report" => tables::reports(rt, alloc),
-        "stats" => commands::counts_values(rt, alloc),
-        "verify_in" => commands::verifies(rt, alloc),
-        "probe_in" => commands::probes_a_bundle(rt, alloc),
         "build" => threads::builds(rt, alloc),
         "build_classes" => threads::builds_by_classes(rt, alloc),
         texts => probes::probes(rt, alloc, texts),

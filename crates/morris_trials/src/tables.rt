@@ -1,5 +1,4 @@
 //! The calls on tables of the board `grid`, of three stones against three.
-use crate::told::{mark, or_refused, tell};
 use morris_board::grid::Grid;
 use morris_board::position::Position;
 use morris_board::streams::{FromRead, IntoWrite};
@@ -16,6 +15,7 @@ use morris_pairs::value::Value;
 use morris_pairs::writing::write_table;
 use morris_probe::best::best;
 use morris_probe::report::report;
+use morris_samples::told::{mark, or_refused, tell};
 use morris_wave::Graph;
 use std::alloc::Global;
 use std::fmt::Display;

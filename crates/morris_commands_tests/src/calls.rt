@@ -2,14 +2,27 @@
 //! board `grid`.
 ghost use Rattle.std.specs.Prelude.{◌≡◌, IfSome};
 
-use crate::tables::file_of_three;
-use crate::told::{mark, tell};
+use morris_board::grid::Grid;
 use morris_board::streams::{FromRead, IntoWrite};
 use morris_commands::probe::probe_in;
 use morris_commands::stats::stats;
 use morris_commands::verify_in::verify_in;
+use morris_index::pair::Pair;
 use morris_jobs::fault::Fault;
+use morris_pairs::shelf::Shelf;
+use morris_pairs::sweeping::sweep_pair;
+use morris_pairs::writing::write_table;
+use morris_samples::told::{mark, tell};
 use std::alloc::Global;
+
+/// The file of 3-3.
+fn file_of_three(alloc: Global) -> Option<Vec<u8>> {
+    let shelf = Shelf::<Grid>::new(alloc).ok()?;
+    let table = sweep_pair(alloc, &shelf, Pair::new(3, 3).ok()?).ok()?;
+    let mut sink = IntoWrite::new(Vec::new(alloc));
+    write_table(&mut sink, &table).ok()?;
+    Some(sink.into_inner())
+}
 
 /// Prints what a command answered, which has printed this itself. A command that is refused memory
 /// has printed nothing.

@@ -7,7 +7,7 @@ use std::fmt::{Debug, Display};
 const MARK: usize = 7_777_777;
 
 /// Opens or closes the stretch in which a request may be refused.
-pub(crate) fn mark(alloc: Global) -> Option<()> {
+pub fn mark(alloc: Global) -> Option<()> {
     let marked = Vec::<u8>::with_capacity(alloc, MARK).ok()?;
     if marked.capacity() < MARK {
         return None;
@@ -16,7 +16,7 @@ pub(crate) fn mark(alloc: Global) -> Option<()> {
 }
 
 /// Prints what a call answered, or why it refused.
-pub(crate) fn tell<T: Debug, E: Display>(
+pub fn tell<T: Debug, E: Display>(
     rt: &impl Print,
     call: &str,
     when: &str,
@@ -29,7 +29,7 @@ pub(crate) fn tell<T: Debug, E: Display>(
 }
 
 /// The answer of a call that is refused for want of memory alone.
-pub(crate) fn or_refused<T>(answer: Result<T, AllocError>) -> Result<T, &'static str> {
+pub fn or_refused<T>(answer: Result<T, AllocError>) -> Result<T, &'static str> {
     match answer {
         Ok(value) => Ok(value),
         Err(AllocError) => Err("out of memory"),

@@ -1,0 +1,53 @@
+//! What the commands that run on the thread of the caller do where memory is wanting, and tests of
+//! what no run of the program shows: faults that words are refused before, folders whose calls fail,
+//! the comparison of pairs, and calls that the program makes under another name. No part of the
+//! product.
+//!
+//! The program makes a call by itself: it prints what the call answers, and what it answers when it
+//! is made again. The words of the command line are names of calls. `ci/refused_memory` runs this
+//! program once for each request for memory of each call, and has that request refused.
+#![tactic(auto)]
+
+#[cfg(test)]
+mod build_tests;
+#[cfg(test)]
+mod bundle_tests;
+mod calls;
+#[cfg(test)]
+mod fault_tests;
+#[cfg(test)]
+mod from_tests;
+#[cfg(test)]
+mod into_tests;
+#[cfg(test)]
+mod named_tests;
+#[cfg(test)]
+mod pair_tests;
+#[cfg(test)]
+mod streams;
+
+use std::alloc::Global;
+use std::env;
+use std::process::ExitCode;
+
+fn main(rt: HostRuntime) -> ExitCode {
+    let Ok(words) = env::args(&rt) else {
+        return ExitCode::from(1);
+    };
+    for word in words.skip(1) {
+        if run(&rt, rt.alloc(), word.as_str()).is_none() {
+            return ExitCode::from(1);
+        }
+    }
+    ExitCode::from(0)
+}
+
+/// Makes the call of this name.
+fn run(rt: &impl Print, alloc: Global, name: &str) -> Option<()> {
+    match name {
+        "stats" => calls::counts_values(rt, alloc),
+        "verify_in" => calls::verifies(rt, alloc),
+        "probe_in" => calls::probes_a_bundle(rt, alloc),
+        _ => None,
+    }
+}
