@@ -44,9 +44,13 @@ fn both<T: Drop>(
 ) -> Result<Vec<T>, SolveFault>
     ensures { AreBoth first second result }
 {
-    let mut all = first?;
-    all.append(&mut second?)?;
-    Ok(all)
+    match (first, second) {
+        (Ok(mut all), Ok(mut more)) => {
+            all.append(&mut more)?;
+            Ok(all)
+        }
+        (Err(fault), _) | (Ok(_), Err(fault)) => Err(fault),
+    }
 }
 
 // Has workers with these seats make their blocks, each in a thread of its own where one can be
