@@ -1,9 +1,7 @@
 -- A worker that is started in a thread of its own has a new seat, and so have those before it.
 use Rattle.std.proofs.Common.{◌≡◌, length, sym, subst, rules}
-use Rattle.std.specs.List.{All}
-use Rattle.std.proofs.lemmas.List.Elements.{All-push}
 use Rattle.morris_workers.specs.Making.{AreDrawn, AreAllDrawn}
-use Rattle.morris_workers.specs.Tickets.{IsSeatOf, IsNewSeatOf}
+use Rattle.morris_workers.specs.Tickets.{IsNewSeatOf}
 use Rattle.morris_workers.proofs.Firsts.{of_front_and_last}
 use Rattle.morris_workers.proofs.InOrder.{alone, with_last}
 use Rattle.morris_workers.proofs.making.+making.Goals as goal
@@ -20,25 +18,16 @@ join_mut-more-requires-after_bounds g t c κs within =
 pub returns-then-is_empty-clause-drawn : goal.returns-then-is_empty-clause-drawn
 returns-then-is_empty-clause-drawn g t c =
     let none : length c.in-Some.rest.now ≡ 0 = search rules in
-    alone (g.G.Name.Levels.net (g.G.Graph.level c.args.graph.now)) c.in-Some.rest.now c.make_drawn.new.seat c.make_drawn.result none c.make_drawn.ensures.drawn
-
-pub returns-clause-seats : goal.returns-clause-seats
-returns-clause-seats g t c =
-    let P = IsSeatOf c.args.tickets.now in
-    let join = c.join_mut-more in
-    let one : IsSeatOf c.args.tickets.now join.new.f.4.now = search rules in
-    let others : All (IsSeatOf c.args.tickets.now) join.new.g.5.now = search rules in
-    let last : c.last-2-1.given.0 ≡ join.new.f.4.now = c.last-2-1.given.1 (search rules) in
-    let rest : c.rest-1.given.0 ≡ join.new.g.5.now = c.rest-1.given.1.1 (search rules) in
-    All-push P c.rest-1.given.0 c.last-2-1.given.0 (subst (All P) (sym rest) others) (subst P (sym last) one)
+    alone c.args.tickets.now (g.G.Name.Levels.net (g.G.Graph.level c.args.graph.now)) c.in-Some.rest.now c.make_drawn.new.seat c.make_drawn.result none c.make_drawn.ensures
 
 pub returns-clause-drawn : goal.returns-clause-drawn
 returns-clause-drawn g t c =
+    let t = c.args.tickets.now in
     let net = g.G.Name.Levels.net (g.G.Graph.level c.args.graph.now) in
     let join = c.join_mut-more in
-    let told : AreAllDrawn net join.new.g.5.now join.result.1 = search rules in
-    let mine : AreDrawn net join.new.f.4.now join.result.0 = search rules in
+    let told : AreAllDrawn t net join.new.g.5.now join.result.1 = search rules in
+    let mine : AreDrawn t net join.new.f.4.now join.result.0 = search rules in
     let rest : c.rest-1.given.0 ≡ join.new.g.5.now = c.rest-1.given.1.1 (search rules) in
     let last : c.last-2-1.given.0 ≡ join.new.f.4.now = c.last-2-1.given.1 (search rules) in
-    with_last net c.rest-1.given.0 c.last-2-1.given.0 join.result.1 join.result.0 c.both.result c.both.ensures
-    (subst (λ seats. AreAllDrawn net seats join.result.1) (sym rest) told) (subst (λ seat. AreDrawn net seat join.result.0) (sym last) mine)
+    with_last t net c.rest-1.given.0 c.last-2-1.given.0 join.result.1 join.result.0 c.both.result c.both.ensures
+    (subst (λ seats. AreAllDrawn t net seats join.result.1) (sym rest) told) (subst (λ seat. AreDrawn t net seat join.result.0) (sym last) mine)
