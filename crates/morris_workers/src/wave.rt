@@ -98,6 +98,21 @@ fn bring<N: Levels, L: NodeList>(block: &mut Block<N, L>, wave: u16)
     let _ = block.advance();
 }
 
+// What a block found, if it is of this level.
+fn fresh_of<N: Levels, L: NodeList>(
+    block: &Block<N, L>,
+    alloc: Global,
+    level: u64,
+) -> Result<Option<Fresh<N>>, AllocError>
+    ensures { IfOk result (λ found. IfSome found (λ fresh. level ≡ fresh.level)) }
+{
+    if block.level() != level {
+        return Ok(None);
+    }
+    let fresh = block.fresh(alloc)?;
+    Ok(Some(fresh))
+}
+
 // How many bytes of room these lists have together.
 fn room_of<L: NodeList>(lists: &[L]) -> usize {
     let mut room = 0usize;
@@ -139,7 +154,7 @@ fn tell<W: Watch>(watch: &mut W, first: u16, last: u16)
     }
 }
 
-impl<L: NodeList, G: Graph, A: Gate, R: Wait> Site<'_, L, G, A, R> {
+impl<L: NodeList, G: Graph, A, R: Wait> Site<'_, L, G, A, R> {
     // What a block found at this wave, if it is of the graph's level.
     fn fresh(&self, source: usize, wave: u16) -> Result<Option<Fresh<G::Name>>, AllocError>
         requires { source < self.now.yard.now }
@@ -149,10 +164,7 @@ impl<L: NodeList, G: Graph, A: Gate, R: Wait> Site<'_, L, G, A, R> {
         let level = self.graph.level();
         let mut block = self.yard.lock(self.rt, source);
         bring(&mut block, wave);
-        if block.level() != level {
-            return Ok(None);
-        }
-        Ok(Some(block.fresh(self.alloc)?))
+        fresh_of(&block, self.alloc, level)
     }
 
     // Applies the batches of all these pieces to their target, in their order.
@@ -290,7 +302,9 @@ impl<L: NodeList, G: Graph, A: Gate, R: Wait> Site<'_, L, G, A, R> {
         }
         Ok(true)
     }
+}
 
+impl<L: NodeList, G: Graph, A: Gate, R: Wait> Site<'_, L, G, A, R> {
     // Goes to this block at this wave, and says whether the worker is to go on.
     fn visit<W: Watch>(
         &self,
