@@ -1,8 +1,8 @@
 -- The seats of workers that are back: where there is a fault of some, nothing more is said of all.
-use Rattle.std.proofs.Common.{◌≡◌, Result, Ok, Err, List, [], ◌∷◌, length, arith}
+use Rattle.std.proofs.Common.{Result, Ok, Err, List, ◌∷◌}
 use Rattle.std.specs.Result.{OnOk, result_and}
 use Rattle.std.specs.List.{All}
-use Rattle.std.proofs.lemmas.List.Elements.{All-nil, All-cons}
+use Rattle.std.proofs.lemmas.List.Elements.{All-cons}
 use Rattle.morris_workers.specs.Tickets.{IsSeatOf}
 use Rattle.morris_workers.specs.Working.{IsBack}
 use Rattle.morris_workers.specs.declared.tickets.Tickets.{Tickets}
@@ -23,8 +23,3 @@ module _ {T E : Type 0} (t : Tickets) (said : TicketSeat → Type 0) where
       → All (IsBack t said (result_and one others)) (s ∷ rest)
   all_back one others s rest first back =
       All-cons (IsBack t said (result_and one others)) s rest (one_back one others s first) (λ k d inside. also_back one others _ (back k d inside))
-
-  -- a seat that is the only one
-  pub only_back : (outcome : Result T E) (s : TicketSeat) (rest : List TicketSeat) → length rest ≡ 0 → IsBack t said outcome s → All (IsBack t said outcome) (s ∷ rest)
-  only_back outcome s [] none back = All-cons (IsBack t said outcome) s [] back (All-nil (IsBack t said outcome))
-  only_back outcome s (other ∷ rest) none back = absurd (omega arith)
