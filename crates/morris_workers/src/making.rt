@@ -43,19 +43,15 @@ fn both<T: Drop>(
 ) -> Result<Vec<T>, SolveFault>
     ensures { AreBoth first second result }
 {
-    match (first, second) {
-        (Ok(mut all), Ok(mut more)) => {
-            all.append(&mut more)?;
-            Ok(all)
-        }
-        (Err(fault), _) | (Ok(_), Err(fault)) => Err(fault),
-    }
+    let mut all = first?;
+    all.append(&mut second?)?;
+    Ok(all)
 }
 
 // Has workers with these seats make their blocks, each in a thread of its own where one can be
 // started. This thread starts them one after the other, for the reason of the waves' workers.
 #[cycle(making)]
-fn make_all<L: NodeList + Send, G: Graph + Send + Sync, R: Threads + Sync>(
+fn make_all<L: NodeList + Send, G: Graph + Sync, R: Threads + Sync>(
     rt: &R,
     alloc: Global,
     graph: &G,
@@ -103,7 +99,7 @@ fn sort<N: Levels, L: NodeList>(blocks: &mut Vec<Block<N, L>>)
 ///
 /// `TooDeep` where an exit comes due after the last wave, `Memory` where memory is refused, and
 /// nothing else.
-pub(crate) fn make_blocks<L: NodeList + Send, G: Graph + Send + Sync, R: Threads + Sync>(
+pub(crate) fn make_blocks<L: NodeList + Send, G: Graph + Sync, R: Threads + Sync>(
     rt: &R,
     alloc: Global,
     graph: &G,

@@ -66,11 +66,10 @@ struct Outbox<N: Levels, L: NodeList> {
 impl<N: Levels, L: NodeList> Outbox<N, L> {
     // Nothing yet, at this wave.
     fn new(alloc: Global, wave: u16) -> Outbox<N, L> {
-        let pieces = Vec::new(alloc);
         Outbox {
             wave,
             taken: 0,
-            pieces,
+            pieces: Vec::new(alloc),
             fresh: 0,
             spare: Vec::new(alloc),
         }
@@ -91,26 +90,10 @@ impl<N: Levels, L: NodeList> Outbox<N, L> {
 fn bring<N: Levels, L: NodeList>(block: &mut Block<N, L>, wave: u16)
     ensures { (block.new ≡ block.old) ⊎ (block.new ≡ next_wave_of block.old) }
 {
-    if block.wave() >= wave {
-        return;
+    if block.wave() < wave {
+        // A block that can't go on stays where it is, and isn't complete at this wave.
+        let _ = block.advance();
     }
-    // A block that can't go on stays where it is, and isn't complete at this wave.
-    let _ = block.advance();
-}
-
-// What a block found, if it is of this level.
-fn fresh_of<N: Levels, L: NodeList>(
-    block: &Block<N, L>,
-    alloc: Global,
-    level: u64,
-) -> Result<Option<Fresh<N>>, AllocError>
-    ensures { IfOk result (λ found. IfSome found (λ fresh. level ≡ fresh.level)) }
-{
-    if block.level() != level {
-        return Ok(None);
-    }
-    let fresh = block.fresh(alloc)?;
-    Ok(Some(fresh))
 }
 
 // How many bytes of room these lists have together.
@@ -154,7 +137,7 @@ fn tell<W: Watch>(watch: &mut W, first: u16, last: u16)
     }
 }
 
-impl<L: NodeList, G: Graph, A, R: Wait> Site<'_, L, G, A, R> {
+impl<L: NodeList, G: Graph, A: Gate, R: Wait> Site<'_, L, G, A, R> {
     // What a block found at this wave, if it is of the graph's level.
     fn fresh(&self, source: usize, wave: u16) -> Result<Option<Fresh<G::Name>>, AllocError>
         requires { source < self.now.yard.now }
@@ -164,7 +147,10 @@ impl<L: NodeList, G: Graph, A, R: Wait> Site<'_, L, G, A, R> {
         let level = self.graph.level();
         let mut block = self.yard.lock(self.rt, source);
         bring(&mut block, wave);
-        fresh_of(&block, self.alloc, level)
+        if block.level() != level {
+            return Ok(None);
+        }
+        Ok(Some(block.fresh(self.alloc)?))
     }
 
     // Applies the batches of all these pieces to their target, in their order.
@@ -302,9 +288,7 @@ impl<L: NodeList, G: Graph, A, R: Wait> Site<'_, L, G, A, R> {
         }
         Ok(true)
     }
-}
 
-impl<L: NodeList, G: Graph, A: Gate, R: Wait> Site<'_, L, G, A, R> {
     // Goes to this block at this wave, and says whether the worker is to go on.
     fn visit<W: Watch>(
         &self,
@@ -388,7 +372,7 @@ impl<L: NodeList, G: Graph, A: Gate, R: Wait> Site<'_, L, G, A, R> {
     }
 }
 
-impl<L: NodeList + Send + Sync, G: Graph + Send + Sync, A: Gate, R: Threads + Wait + Sync> Site<
+impl<L: NodeList + Send + Sync, G: Graph + Sync, A: Gate, R: Threads + Wait + Sync> Site<
     '_,
     L,
     G,
