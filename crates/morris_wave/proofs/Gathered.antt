@@ -14,7 +14,8 @@ use Rattle.morris_wave.specs.Waves.{is_fresh}
 use Rattle.morris_wave.specs.Blocks.{Parts, IsCut, IsIn, first_of, block_of, BlockState, BlockHolds, is_complete, first_node, count_of, IsSettled}
 use Rattle.morris_wave.specs.Answering.{is_same_cut}
 use Rattle.morris_wave.specs.declared.gathering.GatherFault.{GatherFault}
-use Rattle.morris_wave.specs.Gathering.{has_number, complaint, first_fault, first_complaint, HasAll, ComesOnce, Fits, ArePlaces, AreKnown, IsGathered}
+use Rattle.morris_wave.specs.declared.gathering.GatherFault.TheVariants.{Memory}
+use Rattle.morris_wave.specs.Gathering.{has_number, complaint, first_fault, first_complaint, HasAll, IsFaultAfter, IsGatherFault, ComesOnce, Fits, ArePlaces, AreKnown, IsGathered}
 use Rattle.morris_wave.proofs.Tests.{count_yes, count_no, some_counted}
 use Rattle.morris_wave.proofs.Stretches.{codes_within}
 use Rattle.morris_wave.proofs.Blocking.{complete_holds, same_parts, block_of-lt}
@@ -323,3 +324,7 @@ gathered g law level wave cut blocks codes walked all known =
       settled = λ settled i l. subst (λ (x : ℕ). HasCode g i x) (sym (known.each i l)) (settled_codes g level wave cut known.is_cut law blocks known.size all fit settled i l);
       deep = λ settled. settled_deep g level wave cut known.is_cut law blocks known.size all fit settled known.early;
     }
+
+-- want of memory after a walk that found nothing, through blocks of which none lacks
+pub late_memory : (level wave : ℕ) (cut : Parts) (blocks : List BlockState) → first_complaint level wave cut [] blocks ≡ None → HasAll cut blocks → IsGatherFault level wave cut blocks Memory
+late_memory level wave cut blocks walked all = subst (λ (found : Option GatherFault). IsFaultAfter found cut blocks Memory) (sym walked) all

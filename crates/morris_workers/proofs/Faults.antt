@@ -11,6 +11,7 @@ use Rattle.morris_wave.specs.declared.gathering.GatherFault.{GatherFault}
 use Rattle.morris_wave.specs.declared.gathering.GatherFault.TheVariants.{Foreign, Double, Missing, Memory}
 use Rattle.morris_workers.specs.Ranges.{Tells, range_fault, solve_fault_of}
 use Rattle.morris_workers.specs.Solving.{IsRefusal}
+use Rattle.morris_workers.specs.Making.{IsMakingFault}
 use Rattle.morris_workers.specs.declared.fault.SolveFault.{SolveFault}
 use Rattle.morris_workers.specs.declared.fault.SolveFault.TheVariants as solve
 
@@ -69,3 +70,11 @@ late_refusal g workers blocks (Err solve.Blocks) range h = absurd h
 late_refusal g workers blocks (Err solve.Memory) range h = range
 late_refusal g workers blocks (Err (solve.Missing number)) range h = (range, h)
 late_refusal g workers blocks (Err solve.TooDeep) range h = (range, h)
+
+-- why blocks aren't made is among what a fault tells
+pub making_tells : (g : Net) (blocks : ℕ) (fault : SolveFault) → IsMakingFault g fault → Tells g blocks fault
+making_tells g blocks solve.Workers h = absurd h
+making_tells g blocks solve.Blocks h = absurd h
+making_tells g blocks solve.Memory h = tt
+making_tells g blocks (solve.Missing number) h = absurd h
+making_tells g blocks solve.TooDeep h = h

@@ -15,8 +15,9 @@ use Rattle.morris_wave.specs.Blocks.{BlockState}
 use Rattle.morris_wave.specs.Nets.{Net, times}
 use Rattle.morris_wave.proofs.Ranks.{times_some}
 use Rattle.morris_workers.specs.Making.{AreNumbered, AreDrawn, AreAllDrawn, AreBoth, IsMakingFault, block_numbers}
-use Rattle.morris_workers.specs.Tickets.{numbers_of, all_numbers, has_ended}
+use Rattle.morris_workers.specs.Tickets.{IsSeatOf, numbers_of, all_numbers, has_ended}
 use Rattle.morris_workers.specs.declared.fault.SolveFault.{SolveFault}
+use Rattle.morris_workers.specs.declared.tickets.Tickets.{Tickets}
 use Rattle.morris_workers.specs.declared.tickets.TicketSeat.{TicketSeat}
 
 -- one more seat, with the blocks of its numbers
@@ -27,26 +28,34 @@ one_more seats seat blocks more before is =
     map-append (λ (s : BlockState). s.number) blocks more ∙ (ap₂ (λ (xs ys : List ℕ). xs ++ ys) before (is ∙ sym one) ∙ sym (flat_map-append numbers_of seats (seat ∷ [])))
 
 -- the blocks of a seat that is the only one
-pub alone : (g : Net) (seats : List TicketSeat) (last : TicketSeat) (mine : Result (Vec BlockState Global) SolveFault) → length seats ≡ 0 → AreDrawn g last mine → AreAllDrawn g (seats ++ last ∷ []) mine
-alone g (seat ∷ seats) last mine none drawn = absurd (omega arith)
-alone g [] last (Ok made) none drawn = record {
+pub alone : (t : Tickets) (g : Net) (seats : List TicketSeat) (last : TicketSeat) (mine : Result (Vec BlockState Global) SolveFault) → length seats ≡ 0 → AreDrawn t g last mine → AreAllDrawn t g (seats ++ last ∷ []) mine
+alone t g (seat ∷ seats) last mine none drawn = absurd (omega arith)
+alone t g [] last (Ok made) none drawn = record {
+  of = All-cons (IsSeatOf t) last [] drawn.of (All-nil (IsSeatOf t));
   numbers = drawn.numbers ∙ sym (flat_map-cons numbers_of last [] ∙ append-nil (numbers_of last));
   ended = All-cons (λ s. has_ended s ≡ true) last [] drawn.ended (All-nil (λ s. has_ended s ≡ true));
   fault = tt;
 }
-alone g [] last (Err fault) none drawn = record { numbers = tt; ended = tt; fault = drawn.fault }
+alone t g [] last (Err fault) none drawn = record {
+  of = All-cons (IsSeatOf t) last [] drawn.of (All-nil (IsSeatOf t));
+  numbers = tt;
+  ended = tt;
+  fault = drawn.fault;
+}
 
 -- the blocks of some seats and those of one more, put together
-pub with_last : (g : Net) (seats : List TicketSeat) (last : TicketSeat) (others mine all : Result (Vec BlockState Global) SolveFault)
-    → AreBoth others mine all → AreAllDrawn g seats others → AreDrawn g last mine → AreAllDrawn g (seats ++ last ∷ []) all
-with_last g seats last (Ok before) (Ok more) (Ok made) both drawn is = record {
+pub with_last : (t : Tickets) (g : Net) (seats : List TicketSeat) (last : TicketSeat) (others mine all : Result (Vec BlockState Global) SolveFault)
+    → AreBoth others mine all → AreAllDrawn t g seats others → AreDrawn t g last mine → AreAllDrawn t g (seats ++ last ∷ []) all
+with_last t g seats last (Ok before) (Ok more) (Ok made) both drawn is = record {
+  of = All-push (IsSeatOf t) seats last drawn.of is.of;
   numbers = ap block_numbers both ∙ one_more seats last before.items more.items drawn.numbers is.numbers;
   ended = All-push (λ s. has_ended s ≡ true) seats last drawn.ended is.ended;
   fault = tt;
 }
-with_last g seats last (Ok before) (Err e) (Ok made) both drawn is = absurd both
-with_last g seats last (Err e) mine (Ok made) both drawn is = absurd both
-with_last g seats last others mine (Err fault) both drawn is = record {
+with_last t g seats last (Ok before) (Err e) (Ok made) both drawn is = absurd both
+with_last t g seats last (Err e) mine (Ok made) both drawn is = absurd both
+with_last t g seats last others mine (Err fault) both drawn is = record {
+  of = All-push (IsSeatOf t) seats last drawn.of is.of;
   numbers = tt;
   ended = tt;
   fault = ⊎_elim

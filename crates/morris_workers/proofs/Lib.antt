@@ -10,3 +10,4 @@ pub mod SeatLists
 pub mod TicketCounts
 pub mod InOrder
 pub mod Firsts
+pub mod Backs

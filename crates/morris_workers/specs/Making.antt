@@ -5,7 +5,7 @@ use Rattle.std.specs.declared.alloc.Global.{Global}
 use Rattle.morris_wave.specs.Nets.{Net}
 use Rattle.morris_wave.specs.Values.{IsTooDeep}
 use Rattle.morris_wave.specs.Blocks.{Parts, BlockState}
-use Rattle.morris_workers.specs.Tickets.{limit_of, numbers_of, all_numbers, has_ended}
+use Rattle.morris_workers.specs.Tickets.{IsSeatOf, limit_of, numbers_of, all_numbers, has_ended}
 use Rattle.morris_workers.specs.declared.tickets.Tickets.{Tickets}
 use Rattle.morris_workers.specs.declared.tickets.TicketSeat.{TicketSeat}
 use Rattle.morris_workers.specs.declared.fault.SolveFault.{SolveFault}
@@ -39,15 +39,17 @@ IsShare g start end share = MatchResult share (λ made. (start + vec_len made �
 abbrev pub block_numbers : List BlockState → List ℕ
 block_numbers blocks = map (λ s. s.number) blocks
 
--- the blocks of the numbers that a seat drew until none was left, in the order in which it drew
--- them, or why they aren't made
-pub record AreDrawn (g : Net) (seat : TicketSeat) (drawn : Result (Vec BlockState Global) SolveFault) : Type 0 where
+-- the blocks of the numbers that a seat of these tickets drew until none was left, in the order in
+-- which it drew them, or why they aren't made
+pub record AreDrawn (t : Tickets) (g : Net) (seat : TicketSeat) (drawn : Result (Vec BlockState Global) SolveFault) : Type 0 where
+  pub of : IsSeatOf t seat
   pub numbers : IfOk drawn (λ made. block_numbers made.items ≡ numbers_of seat)
   pub ended : OnOk drawn (has_ended seat ≡ true)
   pub fault : IfErr drawn (IsMakingFault g)
 
 -- the same of some seats, the first seat's blocks first
-pub record AreAllDrawn (g : Net) (seats : List TicketSeat) (drawn : Result (Vec BlockState Global) SolveFault) : Type 0 where
+pub record AreAllDrawn (t : Tickets) (g : Net) (seats : List TicketSeat) (drawn : Result (Vec BlockState Global) SolveFault) : Type 0 where
+  pub of : All (IsSeatOf t) seats
   pub numbers : IfOk drawn (λ made. block_numbers made.items ≡ all_numbers seats)
   pub ended : OnOk drawn (All (λ seat. has_ended seat ≡ true) seats)
   pub fault : IfErr drawn (IsMakingFault g)

@@ -1,16 +1,11 @@
--- What the workers of some waves are before and after.
-use Rattle.std.specs.Prelude.{ℕ, ◌<◌}
+-- What the seats of workers are once these are back.
+use Rattle.std.specs.Prelude.{Result}
 use Rattle.std.specs.Result.{OnOk}
-use Rattle.morris_workers.specs.Tickets.{IsSeatOf, IsNewSeatOf, HasDrawn}
+use Rattle.morris_workers.specs.Tickets.{IsSeatOf}
 use Rattle.morris_workers.specs.declared.tickets.Tickets.{Tickets}
-use Rattle.morris_workers.specs.declared.wave.Worker.{Worker}
+use Rattle.morris_workers.specs.declared.tickets.TicketSeat.{TicketSeat}
 
--- one of so many workers, with a seat of these tickets that has not drawn yet
-pub record IsNewWorker (t : Tickets) (workers : ℕ) (w : Worker) : Type 0 where
-  pub number : w.number < workers
-  pub seat : IsNewSeatOf t w.seat
-
--- the worker has a seat of these tickets, from which it drew unless memory was refused
-pub record HasWorked (t : Tickets) (w : Worker) : Type 0 where
-  pub seat : IsSeatOf t w.seat
-  pub drawn : OnOk w.sent (HasDrawn w.seat)
+-- the seat is one of these tickets, and unless there is a fault it has what is said of it
+pub record IsBack {T E : Type 0} (t : Tickets) (said : TicketSeat → Type 0) (outcome : Result T E) (s : TicketSeat) : Type 0 where
+  pub of : IsSeatOf t s
+  pub drawn : OnOk outcome (said s)

@@ -3,7 +3,7 @@ ghost use Rattle.std.specs.Prelude.{◌≡◌, ◌≤◌, length};
 ghost use Rattle.std.specs.List.{All};
 ghost use Rattle.std.specs.List.Sorted.{IsPermutation, IsNonDecreasingBy};
 ghost use Rattle.morris_workers.specs.Making.{IsPlan, IsShare, AreDrawn, AreAllDrawn, AreBoth};
-ghost use Rattle.morris_workers.specs.Tickets.{IsSeatOf, IsNewSeatOf};
+ghost use Rattle.morris_workers.specs.Tickets.{IsNewSeatOf};
 
 use crate::fault::{LAST_WAVE, SolveFault};
 use crate::tickets::{TicketSeat, Tickets};
@@ -23,8 +23,7 @@ fn make_drawn<L: NodeList, G: Graph>(
 ) -> Result<Vec<Block<G::Name, L>>, SolveFault>
     requires plan { IsPlan (G.Name.net (G.level graph.now)) L.limit cut.now tickets.now }
     requires seat { IsNewSeatOf tickets.now seat.old }
-    ensures seat { IsSeatOf tickets.now seat.new }
-    ensures drawn { AreDrawn (G.Name.net (G.level graph.now)) seat.new result }
+    ensures { AreDrawn tickets.now (G.Name.net (G.level graph.now)) seat.new result }
 {
     let mut made = Vec::new(alloc);
     while let Some(number) = tickets.draw(seat) {
@@ -52,7 +51,7 @@ fn both<T: Drop>(
 // Has workers with these seats make their blocks, each in a thread of its own where one can be
 // started. This thread starts them one after the other, for the reason of the waves' workers.
 #[cycle(making)]
-fn make_all<L: NodeList + Send, G: Graph + Send + Sync, R: Threads + Sync>(
+fn make_all<L: NodeList + Send, G: Graph + Sync, R: Threads + Sync>(
     rt: &R,
     alloc: Global,
     graph: &G,
@@ -63,8 +62,7 @@ fn make_all<L: NodeList + Send, G: Graph + Send + Sync, R: Threads + Sync>(
     requires plan { IsPlan (G.Name.net (G.level graph.now)) L.limit cut.now tickets.now }
     requires new { All (IsNewSeatOf tickets.now) seats.old }
     ensures count { length seats.new ≡ length seats.old }
-    ensures seats { All (IsSeatOf tickets.now) seats.new }
-    ensures drawn { AreAllDrawn (G.Name.net (G.level graph.now)) seats.new result }
+    ensures drawn { AreAllDrawn tickets.now (G.Name.net (G.level graph.now)) seats.new result }
 {
     let Some((last, rest)) = seats.split_last_mut() else {
         return Ok(Vec::new(alloc));
@@ -74,12 +72,12 @@ fn make_all<L: NodeList + Send, G: Graph + Send + Sync, R: Threads + Sync>(
     }
     let mut aside = || -> Result<Vec<Block<G::Name, L>>, SolveFault>
         requires { IsPlan (G.Name.net (G.level graph.now)) L.limit cut.now tickets.now × IsNewSeatOf tickets.now last.now }
-        ensures { IsSeatOf tickets.entry.now last.exit.now × AreDrawn (G.Name.net (G.level graph.entry.now)) last.exit.now result }
+        ensures { AreDrawn tickets.entry.now (G.Name.net (G.level graph.entry.now)) last.exit.now result }
     { make_drawn::<L, G>(alloc, graph, cut, tickets, last) };
     let mut here = || -> Result<Vec<Block<G::Name, L>>, SolveFault>
         requires { IsPlan (G.Name.net (G.level graph.now)) L.limit cut.now tickets.now × All (IsNewSeatOf tickets.now) rest.now }
-        ensures { (length rest.exit.now ≡ length rest.entry.now) × All (IsSeatOf tickets.entry.now) rest.exit.now
-            × AreAllDrawn (G.Name.net (G.level graph.entry.now)) rest.exit.now result }
+        ensures { (length rest.exit.now ≡ length rest.entry.now)
+            × AreAllDrawn tickets.entry.now (G.Name.net (G.level graph.entry.now)) rest.exit.now result }
     { make_all::<L, G, R>(rt, alloc, graph, cut, tickets, rest) };
     let (more, made) = thread::join_mut(rt, &mut aside, &mut here);
     both(made, more)
@@ -101,7 +99,7 @@ fn sort<N: Levels, L: NodeList>(blocks: &mut Vec<Block<N, L>>)
 ///
 /// `TooDeep` where an exit comes due after the last wave, `Memory` where memory is refused, and
 /// nothing else.
-pub(crate) fn make_blocks<L: NodeList + Send, G: Graph + Send + Sync, R: Threads + Sync>(
+pub(crate) fn make_blocks<L: NodeList + Send, G: Graph + Sync, R: Threads + Sync>(
     rt: &R,
     alloc: Global,
     graph: &G,

@@ -88,7 +88,7 @@ fn codes_of<N: Levels, L: NodeList>(
 // batches carry lists of the kind `L`.
 fn solve_as<
     L: NodeList + Send + Sync,
-    G: Graph + Send + Sync,
+    G: Graph + Sync,
     A: Gate,
     R: Threads + Wait + Sync,
     W: Watch,

@@ -1,10 +1,10 @@
 //! Waves, by several workers.
-ghost use Rattle.std.specs.Prelude.{◌≡◌, ◌⊎◌, ℕ, ◌*◌, ◌<◌, ◌≤◌, false, length, IfOk, IsOk, OnOk, IfSome, IfErr, vec_len};
+ghost use Rattle.std.specs.Prelude.{◌≡◌, ◌⊎◌, ℕ, ◌+◌, ◌<◌, ◌≤◌, false, length, IfOk, OnOk, IfSome, IfErr};
 ghost use Rattle.std.specs.List.{All};
 ghost use Rattle.morris_wave.specs.Blocks.{next_wave_of};
 ghost use Rattle.morris_workers.specs.Ranges.{Tells};
 ghost use Rattle.morris_workers.specs.Tickets.{IsSeatOf, IsNewSeatOf, HasDrawn};
-ghost use Rattle.morris_workers.specs.Working.{IsNewWorker, HasWorked};
+ghost use Rattle.morris_workers.specs.Working.{IsBack};
 
 use crate::fault::{LAST_WAVE, SolveFault};
 use crate::gate::{Gate, Turn};
@@ -33,16 +33,6 @@ const FULL_PIECES: usize = 16;
 
 // One counter has at most so many numbers: those of the blocks for at least 976 waves.
 const MOST_NUMBERS: u64 = 1000000;
-
-// One worker: its number, a seat to draw from, the last wave that it went to, and whether it was
-// refused memory.
-#[derive(Drop)]
-struct Worker {
-    number: u64,
-    seat: TicketSeat,
-    wave: u16,
-    sent: Result<(), AllocError>,
-}
 
 /// What the workers of a graph share. Each has a share of the blocks, which it is the first to go
 /// to. Blocks keep and batches carry lists of the kind `L`.
@@ -357,109 +347,75 @@ impl<L: NodeList, G: Graph, A: Gate, R: Wait> Site<'_, L, G, A, R> {
         self.finish(worker, outbox)
     }
 
-    // What one worker does. Where it isn't refused memory, it draws.
-    fn work<W: Watch>(&self, tickets: &Tickets, worker: &mut Worker, watch: &mut W)
-        requires new { IsNewWorker tickets.now self.now.shares.now.blocks worker.old }
-        ensures worked { HasWorked tickets.now worker.new }
+    // What one worker does, from this wave on. Where it isn't refused memory, it draws. Answers the
+    // last wave that it went to, too.
+    fn work<W: Watch>(
+        &self,
+        tickets: &Tickets,
+        worker: u64,
+        wave: u16,
+        seat: &mut TicketSeat,
+        watch: &mut W,
+    ) -> (u16, Result<(), AllocError>)
+        requires worker { worker < self.now.shares.now.blocks }
+        requires seat { IsNewSeatOf tickets.now seat.old }
+        ensures back { IsBack tickets.now HasDrawn result.1 seat.new }
         ensures told { W.becomes watch.old watch.new }
     {
-        let mut outbox = Outbox::new(self.alloc, worker.wave);
-        worker.sent = self.draw_all(tickets, worker.number, &mut worker.seat, &mut outbox, watch);
-        worker.wave = outbox.wave;
-        if worker.sent.is_err() {
+        let mut outbox = Outbox::new(self.alloc, wave);
+        let sent = self.draw_all(tickets, worker, seat, &mut outbox, watch);
+        if sent.is_err() {
             // Nobody is to wait for what this worker doesn't send.
             self.barrier.end(self.rt);
         }
+        (outbox.wave, sent)
     }
 }
 
-// A worker for each seat, with the numbers 0, 1, .., at this wave.
-fn workers_of(
-    alloc: Global,
-    tickets: &Tickets,
-    seats: Vec<TicketSeat>,
-    wave: u16,
-) -> Result<Vec<Worker>, AllocError>
-    requires { All (IsNewSeatOf tickets.now) seats.items }
-    ensures count { IfOk result (λ workers. vec_len workers ≡ vec_len seats) }
-    ensures new { IfOk result (λ workers. All (IsNewWorker tickets.now (vec_len seats)) workers.items) }
-{
-    let mut workers = Vec::with_capacity(alloc, seats.len())?;
-    for seat in seats {
-        let number = workers.len() as u64;
-        workers.push(Worker {
-            number,
-            seat,
-            wave,
-            sent: Ok(()),
-        })?;
-    }
-    Ok(workers)
-}
-
-// What is left to do once all workers are back: the tickets are closed, and if memory was refused
-// anywhere that is the answer. Otherwise each of them has drawn.
-fn hand_back(alloc: Global, tickets: Tickets, workers: Vec<Worker>) -> Result<(), AllocError>
-    requires some { 1 ≤ vec_len workers }
-    requires worked { All (HasWorked tickets) workers.items }
-    ensures all { OnOk result (All (λ worker. IsOk worker.sent) workers.items) }
-    ensures drawn { OnOk result (All (λ worker. HasDrawn worker.seat) workers.items) }
-{
-    let outcome = outcome_of(&workers);
-    let mut seats = Vec::with_capacity(alloc, workers.len())?;
-    for worker in workers {
-        seats.push(worker.seat)?;
-    }
-    let _ = tickets.close(seats);
-    outcome
-}
-
-// Whether memory was refused to any of the workers.
-fn outcome_of(workers: &[Worker]) -> Result<(), AllocError>
-    ensures { OnOk result (All (λ worker. IsOk worker.sent) workers.now) }
-{
-    for worker in workers {
-        if worker.sent.is_err() {
-            return Err(AllocError);
-        }
-    }
-    Ok(())
-}
-
-impl<L: NodeList + Send + Sync, G: Graph + Send + Sync, A: Gate, R: Threads + Wait + Sync> Site<
+impl<L: NodeList + Send + Sync, G: Graph + Sync, A: Gate, R: Threads + Wait + Sync> Site<
     '_,
     L,
     G,
     A,
     R,
 > {
-    // Has all workers at work, each in a thread of its own where one can be started. The last one
-    // is at work in this thread, and tells the watch. This thread starts the others one after the
-    // other: two that are started at once, by different threads, often share a processor for long.
+    // Has a worker for each seat at work from this wave on, each in a thread of its own where one can
+    // be started. The workers have the numbers from `first` on. The last one is at work in this
+    // thread, and tells the watch. This thread starts the others one after the other: two that are
+    // started at once, by different threads, often share a processor for long. Answers the last wave
+    // that the last worker went to, and whether memory was refused to any: otherwise each has drawn.
     #[cycle(threads)]
-    fn work_all<W: Watch>(&self, tickets: &Tickets, workers: &mut [Worker], watch: &mut W)
-        requires new { All (IsNewWorker tickets.now self.now.shares.now.blocks) workers.old }
-        ensures count { length workers.new ≡ length workers.old }
-        ensures worked { All (HasWorked tickets.now) workers.new }
+    fn work_all<W: Watch>(
+        &self,
+        tickets: &Tickets,
+        first: u64,
+        wave: u16,
+        seats: &mut [TicketSeat],
+        watch: &mut W,
+    ) -> (u16, Result<(), AllocError>)
+        requires numbers { first + length seats.old ≤ self.now.shares.now.blocks }
+        requires new { All (IsNewSeatOf tickets.now) seats.old }
+        ensures count { length seats.new ≡ length seats.old }
+        ensures back { All (IsBack tickets.now HasDrawn result.1) seats.new }
         ensures told { W.becomes watch.old watch.new }
     {
-        let Some((first, rest)) = workers.split_first_mut() else {
-            return;
+        let Some((seat, rest)) = seats.split_first_mut() else {
+            return (wave, Ok(()));
         };
         if rest.is_empty() {
-            self.work(tickets, first, watch);
-            return;
+            return self.work(tickets, first, wave, seat, watch);
         }
-        let mut aside = ||
-            requires { IsNewWorker tickets.now self.now.shares.now.blocks first.now }
-            ensures { HasWorked tickets.entry.now first.exit.now }
-        { self.work(tickets, first, &mut Unwatched) };
-        let mut here = ||
-            requires { All (IsNewWorker tickets.now self.now.shares.now.blocks) rest.now }
-            ensures { (length rest.exit.now ≡ length rest.entry.now) × All (HasWorked tickets.entry.now) rest.exit.now
+        let mut aside = || -> (u16, Result<(), AllocError>)
+            requires { (first < self.now.shares.now.blocks) × IsNewSeatOf tickets.now seat.now }
+            ensures { IsBack tickets.entry.now HasDrawn result.1 seat.exit.now }
+        { self.work(tickets, first, wave, seat, &mut Unwatched) };
+        let mut here = || -> (u16, Result<(), AllocError>)
+            requires { (first + 1 + length rest.now ≤ self.now.shares.now.blocks) × All (IsNewSeatOf tickets.now) rest.now }
+            ensures { (length rest.exit.now ≡ length rest.entry.now) × All (IsBack tickets.entry.now HasDrawn result.1) rest.exit.now
                 × W.becomes watch.entry.now watch.exit.now }
-        { self.work_all(tickets, rest, watch) };
-        thread::join_mut(self.rt, &mut aside, &mut here);
+        { self.work_all(tickets, first + 1, wave, rest, watch) };
+        let ((_, one), (last, others)) = thread::join_mut(self.rt, &mut aside, &mut here);
+        (last, one.and(others))
     }
 
     // Takes all blocks on from this wave, at which they are complete, and answers at which they are
@@ -478,20 +434,17 @@ impl<L: NodeList + Send + Sync, G: Graph + Send + Sync, A: Gate, R: Threads + Wa
         let blocks = self.yard.count() as u64;
         let left = u64::from(LAST_WAVE.saturating_sub(wave));
         let waves = (MOST_NUMBERS / blocks).min(left);
-        let (tickets, seats) = Tickets::new(
+        let (tickets, mut seats) = Tickets::new(
             self.alloc,
             blocks * waves,
             self.shares.blocks() as usize,
         )?;
-        let mut workers = workers_of(self.alloc, &tickets, seats, wave)?;
         self.barrier.begin(self.rt, wave.saturating_add(1));
-        self.work_all(&tickets, workers.as_mut_slice(), watch);
-        let told = workers.last().map_or(wave, |worker| worker.wave);
+        let (told, sent) = self.work_all(&tickets, 0, wave, seats.as_mut_slice(), watch);
         // Where there are no more numbers, nobody goes to the wave that has begun last.
         let last = self.barrier.wave(self.rt).min(wave_after(wave, waves));
         tell(watch, told, last);
-        hand_back(self.alloc, tickets, workers)?;
-        Ok(last)
+        sent.and(Ok(last))
     }
 
     /// Goes from wave to wave until all blocks are settled, and says at which wave they are. The

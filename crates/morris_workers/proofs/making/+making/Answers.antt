@@ -1,10 +1,8 @@
 -- A worker that is started in a thread of its own has a new seat, and so have those before it.
-use Rattle.std.proofs.Common.{◌≡◌, length, sym, subst, rules}
-use Rattle.std.specs.List.{All}
-use Rattle.std.proofs.lemmas.List.Elements.{All-push}
+use Rattle.std.proofs.Common.{◌≡◌, length, refl, sym, ap, subst, ◌∙◌, rules}
 use Rattle.morris_workers.specs.Making.{AreDrawn, AreAllDrawn}
-use Rattle.morris_workers.specs.Tickets.{IsSeatOf, IsNewSeatOf}
-use Rattle.morris_workers.proofs.Firsts.{of_front_and_last}
+use Rattle.morris_workers.specs.Tickets.{IsNewSeatOf}
+use Rattle.morris_workers.proofs.Firsts.{of_front_and_last, as_long}
 use Rattle.morris_workers.proofs.InOrder.{alone, with_last}
 use Rattle.morris_workers.proofs.making.+making.Goals as goal
 
@@ -17,28 +15,26 @@ join_mut-more-requires-after_bounds g t c κs within =
     let new = of_front_and_last (IsNewSeatOf c.args.tickets.now) c.args.seats.now c.in-Some.last.now c.in-Some.rest.now c.in-Some.ensures.cases.0 c.requires.new in
     search (rules, new.0, new.1)
 
-pub returns-then-is_empty-clause-drawn : goal.returns-then-is_empty-clause-drawn
-returns-then-is_empty-clause-drawn g t c =
+pub returns-then-is_empty : goal.returns-then-is_empty
+returns-then-is_empty g t c =
     let none : length c.in-Some.rest.now ≡ 0 = search rules in
-    alone (g.G.Name.Levels.net (g.G.Graph.level c.args.graph.now)) c.in-Some.rest.now c.make_drawn.new.seat c.make_drawn.result none c.make_drawn.ensures.drawn
+    record {
+      count = as_long c.in-Some.rest.now c.in-Some.rest.now c.in-Some.last.now c.make_drawn.new.seat c.args.seats.now c.in-Some.ensures.cases.0 refl;
+      drawn = alone c.args.tickets.now (g.G.Name.Levels.net (g.G.Graph.level c.args.graph.now)) c.in-Some.rest.now c.make_drawn.new.seat c.make_drawn.result none c.make_drawn.ensures;
+    }
 
-pub returns-clause-seats : goal.returns-clause-seats
-returns-clause-seats g t c =
-    let P = IsSeatOf c.args.tickets.now in
-    let join = c.join_mut-more in
-    let one : IsSeatOf c.args.tickets.now join.new.f.4.now = search rules in
-    let others : All (IsSeatOf c.args.tickets.now) join.new.g.5.now = search rules in
-    let last : c.last-2-1.given.0 ≡ join.new.f.4.now = c.last-2-1.given.1 (search rules) in
-    let rest : c.rest-1.given.0 ≡ join.new.g.5.now = c.rest-1.given.1.1 (search rules) in
-    All-push P c.rest-1.given.0 c.last-2-1.given.0 (subst (All P) (sym rest) others) (subst P (sym last) one)
-
-pub returns-clause-drawn : goal.returns-clause-drawn
-returns-clause-drawn g t c =
+pub returns : goal.returns
+returns g t c =
+    let tickets = c.args.tickets.now in
     let net = g.G.Name.Levels.net (g.G.Graph.level c.args.graph.now) in
     let join = c.join_mut-more in
-    let told : AreAllDrawn net join.new.g.5.now join.result.1 = search rules in
-    let mine : AreDrawn net join.new.f.4.now join.result.0 = search rules in
+    let others : (length join.new.g.5.now ≡ length c.in-Some.rest.now) × AreAllDrawn tickets net join.new.g.5.now join.result.1 = search rules in
+    let mine : AreDrawn tickets net join.new.f.4.now join.result.0 = search rules in
     let rest : c.rest-1.given.0 ≡ join.new.g.5.now = c.rest-1.given.1.1 (search rules) in
     let last : c.last-2-1.given.0 ≡ join.new.f.4.now = c.last-2-1.given.1 (search rules) in
-    with_last net c.rest-1.given.0 c.last-2-1.given.0 join.result.1 join.result.0 c.both.result c.both.ensures
-    (subst (λ seats. AreAllDrawn net seats join.result.1) (sym rest) told) (subst (λ seat. AreDrawn net seat join.result.0) (sym last) mine)
+    record {
+      count = as_long c.in-Some.rest.now c.rest-1.given.0 c.in-Some.last.now c.last-2-1.given.0 c.args.seats.now c.in-Some.ensures.cases.0 (ap length rest ∙ others.0);
+      drawn =
+          with_last tickets net c.rest-1.given.0 c.last-2-1.given.0 join.result.1 join.result.0 c.both.result c.both.ensures
+          (subst (λ seats. AreAllDrawn tickets net seats join.result.1) (sym rest) others.1) (subst (λ seat. AreDrawn tickets net seat join.result.0) (sym last) mine);
+    }

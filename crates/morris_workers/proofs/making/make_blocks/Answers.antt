@@ -16,7 +16,7 @@ use Rattle.morris_workers.proofs.making.make_blocks.Goals as goal
 pub close-drawn-requires-clause-seats : goal.close-drawn-requires-clause-seats
 close-drawn-requires-clause-seats g c κs =
     let same = written_back c.in_ok-tickets.seats.items c.make_all.new.seats c.in_ok-tickets.seats.len c.in_ok-tickets.seats.ok.0 (c.make_all.ensures.count ∙ ap length c.as_mut_slice.ensures.value) in
-    subst (All (IsSeatOf c.in_ok-tickets.tickets)) (sym same) c.make_all.ensures.seats κs
+    subst (All (IsSeatOf c.in_ok-tickets.tickets)) (sym same) c.make_all.ensures.drawn.of κs
 
 pub returns : goal.returns
 returns g c =

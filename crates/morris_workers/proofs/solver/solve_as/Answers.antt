@@ -1,6 +1,18 @@
-use Rattle.std.proofs.Common.{IfErr, subst}
+use Rattle.std.proofs.Common.{◌≡◌, IfErr, subst, ◌∙◌, arith}
+use Rattle.std.proofs.lemmas.Result.{err_from_is_err_and}
 use Rattle.morris_workers.specs.Ranges.{Tells}
+use Rattle.morris_workers.proofs.Faults.{making_tells}
 use Rattle.morris_workers.proofs.solver.solve_as.Goals as goal
+
+pub returns-in_err-made-clause-told : goal.returns-in_err-made-clause-told
+returns-in_err-made-clause-told g c =
+    let failed = err_from_is_err_and c.from_residual.result c.from_residual.ensures.1 in
+    rw (failed.1, failed.2) (making_tells (g.G.Name.Levels.net (g.G.Graph.level c.args.graph.now)) c.args.cut.now.blocks _ c.in_err-made.ensures)
+
+pub returns-in_err-yard-clause-told : goal.returns-in_err-yard-clause-told
+returns-in_err-yard-clause-told g c =
+    let failed = err_from_is_err_and c.from_residual-in_err-yard.result c.from_residual-in_err-yard.ensures.1 in
+    rw (failed.1, failed.2) tt
 
 pub returns-clause-told : goal.returns-clause-told
 returns-clause-told g c =
