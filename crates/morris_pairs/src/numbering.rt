@@ -32,7 +32,8 @@ pub(crate) enum Numbering<B: Geometry> {
     Classes(ClassPair<B>),
 }
 
-// By hand, so that the proof of each function that drops one goes through its parts no more.
+// Written by hand: with a derived one the proof of each function that drops a numbering goes through
+// all parts of it.
 impl<B: Geometry> Drop for Numbering<B> {
     fn drop(self) {
         match self {
