@@ -36,33 +36,6 @@ loop-index-init g c =
 pub exits_by_row-captures-requires-clause-counts : goal.exits_by_row-captures-requires-clause-counts
 exits_by_row-captures-requires-clause-counts g c = subst (λ d. is_of d c.loop-index.position ≡ true) (sym c.requires.pair) c.loop-index.invariant.counts
 
-pub exits_by_row-captures-requires-clause-lawful : goal.exits_by_row-captures-requires-clause-lawful
-exits_by_row-captures-requires-clause-lawful g c = c.loop-index.invariant.lawful
-
-pub exits_by_row-captures-requires-clause-own : goal.exits_by_row-captures-requires-clause-own
-exits_by_row-captures-requires-clause-own g c = c.loop-index.invariant.same
-
-pub exits_by_row-captures-requires-clause-row : goal.exits_by_row-captures-requires-clause-row
-exits_by_row-captures-requires-clause-row g c = c.loop-index.invariant.row
-
-pub agrees-requires-clause-counts : goal.agrees-requires-clause-counts
-agrees-requires-clause-counts g c = c.loop-index.invariant.counts
-
-pub agrees-requires-clause-lawful : goal.agrees-requires-clause-lawful
-agrees-requires-clause-lawful g c = c.loop-index.invariant.lawful
-
-pub agrees-requires-clause-own : goal.agrees-requires-clause-own
-agrees-requires-clause-own g c = c.loop-index.invariant.own
-
-pub agrees-requires-clause-at : goal.agrees-requires-clause-at
-agrees-requires-clause-at g c = c.loop-index.invariant.at c.loop-index-test.true
-
-pub agrees-requires-clause-stones : goal.agrees-requires-clause-stones
-agrees-requires-clause-stones g c = c.loop-index.invariant.same_ends
-
-pub agrees-requires-clause-ends : goal.agrees-requires-clause-ends
-agrees-requires-clause-ends g c = c.loop-index.invariant.ends
-
 pub advance-requires-clause-counts : goal.advance-requires-clause-counts
 advance-requires-clause-counts g c = rw c.numbering-numbering.ensures.pair c.loop-index.invariant.counts
 
@@ -76,12 +49,6 @@ advance-requires-clause-before g c =
 pub advance-requires-clause-inside : goal.advance-requires-clause-inside
 advance-requires-clause-inside g c =
     rw (c.numbering-numbering.ensures.layout, c.numbering-numbering.ensures.pair) (omega (arith, c.requires.inside, c.if-index-end.true))
-
-pub advance-requires-clause-row : goal.advance-requires-clause-row
-advance-requires-clause-row g c = c.loop-index.invariant.row
-
-pub follow-requires : goal.follow-requires
-follow-requires g c = c.loop-index.invariant.ends
 
 pub loop-index-preserved : goal.loop-index-preserved
 loop-index-preserved g c =

@@ -12,35 +12,11 @@ use Rattle.morris_pairs.proofs.GraphLaws.{exits_same, quiet_count_at}
 use Rattle.morris_pairs.proofs.graph.PairGraph.read_nodes_from.Goals as goal
 use Rattle.morris_pairs.proofs.graph.PairGraph.read_nodes_from.Goals.{then-place-counts, else-place-counts}
 
-pub quiet_moves-requires-clause-own : goal.quiet_moves-requires-clause-own
-quiet_moves-requires-clause-own g c = c.loop-place.invariant.own
-
-pub quiet_moves-requires-clause-row : goal.quiet_moves-requires-clause-row
-quiet_moves-requires-clause-row g c = c.loop-place.invariant.row
-
 pub exits_by_row-requires-clause-counts : goal.exits_by_row-requires-clause-counts
 exits_by_row-requires-clause-counts g c = subst (λ d. is_of d c.loop-place.position ≡ true) c.requires.pair c.loop-place.invariant.counts
 
-pub exits_by_row-requires-clause-lawful : goal.exits_by_row-requires-clause-lawful
-exits_by_row-requires-clause-lawful g c = c.loop-place.invariant.lawful
-
-pub exits_by_row-requires-clause-own : goal.exits_by_row-requires-clause-own
-exits_by_row-requires-clause-own g c = c.loop-place.invariant.own
-
-pub exits_by_row-requires-clause-row : goal.exits_by_row-requires-clause-row
-exits_by_row-requires-clause-row g c = c.loop-place.invariant.row
-
-pub advance-requires-clause-counts : goal.advance-requires-clause-counts
-advance-requires-clause-counts g c = c.loop-place.invariant.counts
-
-pub advance-requires-clause-own : goal.advance-requires-clause-own
-advance-requires-clause-own g c = c.loop-place.invariant.own_entry
-
 pub advance-requires-clause-before : goal.advance-requires-clause-before
 advance-requires-clause-before g c = ap (λ k. k + 1) (c.loop-place.invariant.at (omega arith))
-
-pub advance-requires-clause-row : goal.advance-requires-clause-row
-advance-requires-clause-row g c = c.loop-place.invariant.row
 
 pub loop-place-init : goal.loop-place-init
 loop-place-init g c = record {
