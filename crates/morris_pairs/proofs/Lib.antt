@@ -37,3 +37,4 @@ pub mod FileLaws
 pub mod ReadingLaws
 pub mod PlaceLaws
 pub mod AcceptLaws
+mod VerifyLaws

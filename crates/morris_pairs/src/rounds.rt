@@ -147,7 +147,8 @@ pub(crate) fn first_by<B: Board, R: Threads + Sync, W: Watch>(
         raw,
     };
     if claim.are_known(watch) {
-        return None;
+        None
+    } else {
+        claim.first_of_rounds(watch)
     }
-    claim.first_of_rounds(watch)
 }

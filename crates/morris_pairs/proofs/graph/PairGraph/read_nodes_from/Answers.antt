@@ -1,7 +1,9 @@
-use Rattle.std.proofs.Common.{◌≡◌, ◌+◌, length, sym, ap, subst, ◌∙◌, arith}
+use Rattle.std.proofs.Common.{◌≡◌, ◌+◌, true, length, refl, sym, ap, subst, ◌∙◌, arith}
 use Rattle.std.proofs.lemmas.List.{length-set}
+use Rattle.std.specs.Prelude.{slice_index}
 use Rattle.morris_index.specs.Pairs.{IsPair, is_of}
 use Rattle.morris_wave.specs.Exits.{exits_of}
+use Rattle.morris_wave.specs.Solving.{exits_at}
 use Rattle.morris_pairs.specs.Entries.{entry_index}
 use Rattle.morris_pairs.specs.Numberings.{layout_of, pair_of}
 use Rattle.morris_pairs.specs.PairNets.{level_of, net_at}
@@ -9,6 +11,39 @@ use Rattle.morris_pairs.proofs.RowLaws.{each_more, exits_more}
 use Rattle.morris_pairs.proofs.GraphLaws.{exits_same, quiet_count_at}
 use Rattle.morris_pairs.proofs.graph.PairGraph.read_nodes_from.Goals as goal
 use Rattle.morris_pairs.proofs.graph.PairGraph.read_nodes_from.Goals.{then-place-counts, else-place-counts}
+
+pub exits_by_row-requires-clause-counts : goal.exits_by_row-requires-clause-counts
+exits_by_row-requires-clause-counts g c = subst (λ d. is_of d c.loop-place.position ≡ true) c.requires.pair c.loop-place.invariant.counts
+
+pub advance-requires-clause-before : goal.advance-requires-clause-before
+advance-requires-clause-before g c = ap (λ k. k + 1) (c.loop-place.invariant.at (omega arith))
+
+pub loop-place-init : goal.loop-place-init
+loop-place-init g c = record {
+  counts_len = refl;
+  exits_len = refl;
+  quiet = λ k low. absurd (omega (arith, low));
+  outside = λ k low. absurd (omega (arith, low));
+  at = λ _. c.position-position.ensures.entry ∙ omega arith;
+  counts = c.position-position.ensures.counts;
+  own_entry = c.position-position.ensures.own;
+  lawful = c.position-position.ensures.lawful;
+  row = c.of-row.ensures.row;
+  own = c.of-row.ensures.own ∙ c.own.ensures.points;
+}
+
+pub returns-clause-counts : goal.returns-clause-counts
+returns-clause-counts g c = λ k low.
+    subst
+    (λ d. slice_index c.loop-place.counts k ≡ length ((net_at g.B.Geometry.shape (level_of (layout_of c.args.numbering.now) d)).quiet (c.args.first + k)))
+    c.requires.pair (c.loop-place.invariant.quiet k (omega (arith, low, c.loop-place.invariant.counts_len, c.loop-place-test.false)))
+
+pub returns-clause-exits : goal.returns-clause-exits
+returns-clause-exits g c = λ k low.
+    subst
+    (λ d. exits_at c.loop-place.exits k ≡ exits_of ((net_at g.B.Geometry.shape (level_of (layout_of c.args.numbering.now) d)).exits (c.args.first + k)))
+    c.requires.pair
+    (c.loop-place.invariant.outside k (omega (arith, low, c.requires.room, c.loop-place.invariant.counts_len, c.loop-place-test.false)))
 
 pub loop-place-preserved : goal.loop-place-preserved
 loop-place-preserved g c =

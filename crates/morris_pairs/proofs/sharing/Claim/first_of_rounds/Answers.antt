@@ -3,6 +3,9 @@ use Rattle.morris_pairs.specs.Entries.{entry_count}
 use Rattle.morris_pairs.proofs.SharingLaws.{round-differs}
 use Rattle.morris_pairs.proofs.sharing.Claim.first_of_rounds.Goals as goal
 
+pub first_shared-requires-clause-inside : goal.first_shared-requires-clause-inside
+first_shared-requires-clause-inside g c = omega (arith, c.min.ensures, c.loop-round-test.true, c.round_count-round-end.ensures.count, c.len-count.ensures.size)
+
 pub returns-in-Some-clause-first : goal.returns-in-Some-clause-first
 returns-in-Some-clause-first g c =
     let board = g.B.Geometry.shape in
