@@ -1,5 +1,5 @@
--- Why a table isn't believed where the pairs below its own are swept on the thread of the caller.
-use Rattle.std.proofs.Common.{◌≡◌, None, Some, sym, ◌∙◌}
+-- Why a table isn't believed.
+use Rattle.std.proofs.Common.{◌≡◌, ℕ, None, Some, sym, ◌∙◌}
 use Rattle.morris_board.specs.Boards.{Shape}
 use Rattle.morris_index.specs.Pairs.{counts}
 use Rattle.morris_pairs.specs.Shelves.{Stored, first_missing}
@@ -8,7 +8,16 @@ use Rattle.morris_jobs.specs.declared.fault.Fault.{Fault}
 use Rattle.morris_jobs.specs.declared.fault.Fault.TheVariants as fault
 use Rattle.morris_jobs.specs.Inputs.{IsUnfit}
 use Rattle.morris_commands.specs.Build.{IsUnbuiltBefore, RestsOnTooDeep}
-use Rattle.morris_commands.specs.Verify.{IsUnverified}
+use Rattle.morris_commands.specs.Verify.{IsUnverified, IsWrong}
+
+-- the pairs below aren't built; or they are, and the table isn't right
+pub unbelieved_before : (board : Shape) (t : Table) (blocks : ℕ) (e : Fault) → IsUnbuiltBefore board t.pair blocks e → IsUnverified board t blocks e
+unbelieved_before board t blocks (fault.Differs index) h = absurd h
+unbelieved_before board t blocks _ h = h
+
+pub unbelieved_itself : (board : Shape) (t : Table) (blocks : ℕ) → ¬ RestsOnTooDeep board t.pair → (e : Fault) → IsWrong board t e → IsUnverified board t blocks e
+unbelieved_itself board t blocks within (fault.Differs index) h = (within, h)
+unbelieved_itself board t blocks within _ h = absurd h
 
 -- the pairs below are swept, so that none is missing, and the table isn't right over theirs
 pub unfit : (board : Shape) (t : Table) (shelf : Stored) (e : Fault) → ¬ RestsOnTooDeep board t.pair → first_missing shelf t.pair ≡ None

@@ -1,8 +1,8 @@
 -- The tables of the pairs below a pair but its own, in an order in which each comes after those that
 -- it needs, while those that no pair to come needs are let go, or all are kept.
-use Rattle.std.proofs.Common.{◌≡◌, ◌≢◌, ◌≤◌, leb, List, [], ◌∷◌, ◌++◌, None, is_some, sym, ap, ◌∙◌, subst, inl, inr, arith}
+use Rattle.std.proofs.Common.{◌≡◌, ◌≢◌, ◌≤◌, ℕ, not, true, ◌&&◌, eqb, leb, List, [], ◌∷◌, ◌++◌, None, is_some, sym, ap, ◌∙◌, subst, inl, inr, arith}
 use Rattle.std.specs.List.{Contains}
-use Rattle.std.proofs.lemmas.Bool.{and_parts, leb-true}
+use Rattle.std.proofs.lemmas.Bool.{and_from, and_parts, both_ways, eq-eqb, leb-true, not-true}
 use Rattle.std.proofs.lemmas.List.Elements.{Contains-append_left, Contains-append_right, Contains-push_cases}
 use Rattle.morris_moves.proofs.ListLaws.{Contains-head}
 use Rattle.morris_pairs.specs.FilterLaws.{filter-contains}
@@ -12,8 +12,10 @@ use Rattle.morris_pairs.specs.declared.layout.Layout.{Layout}
 use Rattle.morris_pairs.specs.Known.{IsBeyondCodes}
 use Rattle.morris_pairs.specs.Shelves.{Stored, first_missing, table_on}
 use Rattle.morris_pairs.proofs.ShelfLaws.{cases_pair, none-missing}
-use Rattle.morris_commands.specs.Build.{HasExactBut}
-use Rattle.morris_jobs.specs.Orders.{HasExactAt, IsSpared, stones}
+use Rattle.morris_commands.specs.Build.{HasExactBut, IsUnbuiltBefore}
+use Rattle.morris_jobs.specs.Orders.{HasExactAt, IsSpared, IsUnbuiltAt, stones}
+use Rattle.morris_jobs.specs.declared.fault.Fault.{Fault}
+use Rattle.morris_jobs.specs.declared.fault.Fault.TheVariants as fault
 use Rattle.morris_jobs.proofs.NearLaws.{IsNear, below-rises, needs-one_less}
 
 -- one below it has no more
@@ -29,10 +31,25 @@ abbrev pub AreBuiltBut : Shape → Layout → Stored → Counts → List Counts 
 AreBuiltBut board l stock but done =
     (d : Counts) → Contains done d → d ≢ but → (IsNear done d → HasExactAt board l stock d) × ¬ IsBeyondCodes board d
 
+-- pairs that a test tells apart
+pub told_apart : (c d : Counts) → not (eqb c.greater d.greater && eqb c.lesser d.lesser) ≡ true → c ≢ d
+told_apart c d differ = λ same.
+    both_ways _ (not-true _ differ) (and_from _ _ (eq-eqb _ _ (ap (λ (x : Counts). x.greater) same)) (eq-eqb _ _ (ap (λ (x : Counts). x.lesser) same)))
+
 push : (xs : List Counts) (x y : Counts) → Contains xs y → Contains (xs ++ x ∷ []) y
 push xs x y k = Contains-append_left xs (x ∷ []) y k
 
 module _ (board : Shape) (l : Layout) (pair : Counts) (before after : List Counts) (c : Counts) (split : before ++ (c ∷ after) ≡ below_of pair) where
+  here : Contains (below_of pair) c
+  here = subst (λ cs. Contains cs c) split (Contains-append_right before (c ∷ after) c (Contains-head c after))
+
+  -- why this pair isn't built is why those below the last one aren't
+  pub unbuilt-one : (blocks : ℕ) → c ≢ pair → (e : Fault) → IsUnbuiltAt board c blocks e → IsUnbuiltBefore board pair blocks e
+  unbuilt-one blocks other fault.Memory h = tt
+  unbuilt-one blocks other (fault.Missing number) h = ((c, here, other), h)
+  unbuilt-one blocks other fault.TooDeep h = (c, here, other, h)
+  unbuilt-one blocks other _ h = absurd h
+
   -- the next pair finds the tables that it needs, also once those of fewer stones are let go
   pub built-ready : (stock kept : Stored) → NeedsFirst (below_of pair) → AreBuiltBut board l stock pair before → IsSpared stock kept c → first_missing kept c ≡ None
   built-ready stock kept order has goes = none-missing kept c (λ need m.
@@ -40,9 +57,6 @@ module _ (board : Shape) (l : Layout) (pair : Counts) (before after : List Count
       let at = (has need (order before after c need (sym split) m) (λ same. absurd (omega (arith, less, ap stones same, below_no_more pair c here)))).0
       (λ e k. omega (arith, below-rises pair before after c e split k, less)) in
       ap is_some (goes need (omega (arith, less)) ∙ at.1))
-    where
-      here : Contains (below_of pair) c
-      here = subst (λ cs. Contains cs c) split (Contains-append_right before (c ∷ after) c (Contains-head c after))
 
   -- with its own table there are again all that one to come may need
   pub built-more : (stock kept new : Stored) → AreBuiltBut board l stock pair before → IsSpared stock kept c → HasExactAt board l new c

@@ -29,7 +29,6 @@ pub(crate) fn put_deepest<B: Geometry, S: Sink>(
 }
 
 /// The lines of both.
-#[tactic(auto, using(morris_board::proofs::BufferedLaws::passed_laws))]
 fn put_both<B: Geometry, S: Sink>(
     out: &mut Buffered<'_, S>,
     deepest: Deepest<B>,
@@ -64,7 +63,6 @@ fn put_found<B: Geometry, S: Sink>(
 }
 
 /// A line that says that there is none.
-#[tactic(auto, using(morris_board::proofs::BufferedLaws::passed_laws))]
 fn put_none<S: Sink>(out: &mut Buffered<'_, S>, head: &str) -> Result<(), Failed>
     requires failures { S.failures (sink_of out.old) < 2 ^ 64 - 1 }
     requires head { length head.now ≤ 32 }
@@ -77,7 +75,6 @@ fn put_none<S: Sink>(out: &mut Buffered<'_, S>, head: &str) -> Result<(), Failed
 }
 
 /// The line of a position and its depth.
-#[tactic(auto, using(morris_board::proofs::BufferedLaws::passed_laws))]
 fn put_deep<B: Geometry, S: Sink>(
     out: &mut Buffered<'_, S>,
     head: &str,
@@ -97,7 +94,6 @@ fn put_deep<B: Geometry, S: Sink>(
 }
 
 /// The text of a position.
-#[tactic(auto, using(morris_board::proofs::BufferedLaws::passed_laws))]
 fn put_text<B: Geometry, S: Sink>(
     out: &mut Buffered<'_, S>,
     position: &Position<B>,

@@ -27,7 +27,6 @@ pub struct Looked<B: Geometry> {
     pub found: Within,
 }
 
-#[tactic(auto, using(morris_board::proofs::BufferedLaws::passed_laws), unfolding(crate::specs::Look::look_text))]
 impl<B: Geometry> Printed for Looked<B> {
     ghost use Rattle.morris_commands.specs.Look.{look_text};
 
@@ -41,7 +40,6 @@ impl<B: Geometry> Printed for Looked<B> {
 }
 
 /// How many stones each side has.
-#[tactic(auto, using(morris_board::proofs::BufferedLaws::passed_laws))]
 fn put_counts<B: Geometry, S: Sink>(
     out: &mut Buffered<'_, S>,
     position: &Position<B>,
@@ -87,7 +85,6 @@ fn put_within<S: Sink>(out: &mut Buffered<'_, S>, plies: u8, found: Within) -> R
 }
 
 /// A position and how many stones each side has.
-#[tactic(auto, using(morris_board::proofs::BufferedLaws::passed_laws))]
 fn put_head<B: Geometry, S: Sink>(
     out: &mut Buffered<'_, S>,
     position: &Position<B>,
@@ -102,7 +99,6 @@ fn put_head<B: Geometry, S: Sink>(
 }
 
 /// The legal moves and how many there are.
-#[tactic(auto, using(morris_board::proofs::BufferedLaws::passed_laws))]
 fn put_list<B: Geometry, S: Sink>(
     out: &mut Buffered<'_, S>,
     position: &Position<B>,

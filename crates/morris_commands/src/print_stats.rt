@@ -4,7 +4,7 @@ ghost use Rattle.std.specs.Prelude.{◌≡◌, ◌+◌, ◌*◌, ◌^◌, ◌-�
 ghost use Rattle.morris_board.specs.Buffered.{Passes, sink_of, taken_of};
 ghost use Rattle.morris_commands.specs.Census.{HasTallies};
 ghost use Rattle.morris_commands.specs.Deepest.{HasDeepest};
-ghost use Rattle.morris_commands.specs.Stats.{depth_line, depth_lines, pair_line, stats_text};
+ghost use Rattle.morris_commands.specs.Stats.{depth_label, depth_line, depth_lines, pair_line, stats_text};
 
 use crate::counting::count_positions;
 use crate::deepest::Deepest;
@@ -56,7 +56,6 @@ impl<B: Geometry> Counted<B> {
     }
 }
 
-#[tactic(auto, using(morris_board::proofs::BufferedLaws::passed_laws))]
 impl<B: Geometry> Printed for Counted<B> {
     ghost use Rattle.std.specs.Prelude.{◌≤◌, ◌^◌, ◌++◌, length};
     ghost use Rattle.morris_commands.specs.Deepest.{deepest_lines};
@@ -73,7 +72,6 @@ impl<B: Geometry> Printed for Counted<B> {
 }
 
 /// How many positions of a pair have each value. `tallies` has the numbers for the codes 0, 1, ..
-#[tactic(auto, using(morris_board::proofs::BufferedLaws::passed_laws), unfolding(crate::specs::Stats::stats_text))]
 fn put_tallies<B: Geometry, S: Sink>(
     out: &mut Buffered<'_, S>,
     pair: Pair<B>,
@@ -92,7 +90,6 @@ fn put_tallies<B: Geometry, S: Sink>(
 }
 
 /// A pair and how many positions it has.
-#[tactic(auto, using(morris_board::proofs::BufferedLaws::passed_laws))]
 fn put_pair_line<B: Geometry, S: Sink>(
     out: &mut Buffered<'_, S>,
     pair: Pair<B>,
@@ -108,7 +105,6 @@ fn put_pair_line<B: Geometry, S: Sink>(
 }
 
 /// How many positions have a depth, where there are any.
-#[tactic(auto, using(morris_board::proofs::BufferedLaws::passed_laws))]
 fn put_depth<S: Sink>(out: &mut Buffered<'_, S>, depth: u64, count: u64) -> Result<(), Failed>
     requires failures { S.failures (sink_of out.old) < 2 ^ 64 - 1 }
     requires room { taken_of out.old < 2 ^ 63 }
@@ -118,18 +114,24 @@ fn put_depth<S: Sink>(out: &mut Buffered<'_, S>, depth: u64, count: u64) -> Resu
     if count == 0 {
         return Ok(());
     }
-    let label = if depth % 2 == 0 {
+    put_count(out, depth_label(depth), depth)?;
+    put_number_line(out, ": ", count)
+}
+
+/// What has this depth: a loss where it is even, and else a win.
+fn depth_label(depth: u64) -> &'static str
+    ensures label { result.now ≡ depth_label depth }
+    ensures short { length result.now ≤ 32 }
+{
+    if depth % 2 == 0 {
         "lost in "
     } else {
         "won in "
-    };
-    put_count(out, label, depth)?;
-    put_number_line(out, ": ", count)
+    }
 }
 
 /// How many positions have each depth, where there are any. `counts` has the numbers for the depths
 /// 0, 1, ..
-#[tactic(auto, using(morris_board::proofs::BufferedLaws::passed_laws))]
 fn put_depths<S: Sink>(out: &mut Buffered<'_, S>, counts: &[u64]) -> Result<(), Failed>
     requires failures { S.failures (sink_of out.old) < 2 ^ 64 - 1 }
     requires few { length counts.now ≤ 2 ^ 16 }

@@ -105,8 +105,8 @@ fn believe<B: Board, R: Threads + Wait + Sync, T: Teller>(
     Ok(exact)
 }
 
-/// The table that was read, once each of its entries is known to be right over the tables of a
-/// stock that has those that its pair needs.
+/// The table that was read, once each of its entries is known to be right over a set of tables that
+/// has those that its pair needs.
 fn judge<B: Board, R: Threads + Wait + Sync, T: Teller>(
     crew: Crew<'_, R>,
     stock: &TableSet<B>,
@@ -130,8 +130,8 @@ fn judge<B: Board, R: Threads + Wait + Sync, T: Teller>(
     }
 }
 
-/// The table of a pair as the team builds it over those of a stock, where it is the same as one
-/// that was read. `None` where it isn't, or where the build is refused.
+/// The table of a pair as the team builds it over those of a set, where it is the same as one that
+/// was read. `None` where it isn't, or where the build is refused.
 ///
 /// Where few positions are decided, a table is built in less time than all results of its positions
 /// are looked at.

@@ -2,3 +2,4 @@
 pub mod NearLaws
 pub mod FaultLaws
 pub mod OrderLaws
+pub mod PieceLaws

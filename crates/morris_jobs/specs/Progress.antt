@@ -14,7 +14,7 @@ use Rattle.morris_jobs.specs.Faults.{ReportsText}
 -- ---- the lines
 
 -- a label and a number
-unfoldable pub labelled : List ℕ → ℕ → List ℕ
+abbrev pub labelled : List ℕ → ℕ → List ℕ
 labelled label number = label ++ decimal number
 
 -- `progress: a-b`

@@ -52,7 +52,7 @@ pub fn spare<B: Geometry>(stock: &mut TableSet<B>, all: bool, pair: Pair<B>)
     }
 }
 
-/// Puts the table of a pair in a layout into a stock that has those that it needs.
+/// Puts the table of a pair in a layout into a set of tables that has those that it needs.
 pub fn build_onto<B: Board, R: Threads + Wait + Sync, T: Teller>(
     crew: Crew<'_, R>,
     stock: &mut TableSet<B>,

@@ -32,7 +32,6 @@ pub fn read_pair<B: Geometry>(text: &str) -> Result<Pair<B>, Fault>
 ///
 /// # Errors
 /// [`Failed`] at the first write that fails.
-#[tactic(auto, using(morris_board::proofs::BufferedLaws::passed_laws))]
 pub fn put_stones<S: Sink>(out: &mut Buffered<'_, S>, greater: u8, lesser: u8) -> Result<(), Failed>
     requires failures { S.failures (sink_of out.old) < 2 ^ 64 - 1 }
     requires room { taken_of out.old < 2 ^ 63 }
@@ -44,7 +43,6 @@ pub fn put_stones<S: Sink>(out: &mut Buffered<'_, S>, greater: u8, lesser: u8) -
 }
 
 /// The numbers of a pair.
-#[tactic(auto, using(morris_board::proofs::BufferedLaws::passed_laws))]
 pub fn put_pair<B: Geometry, S: Sink>(
     out: &mut Buffered<'_, S>,
     pair: Pair<B>,

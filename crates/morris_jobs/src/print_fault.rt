@@ -12,7 +12,6 @@ use morris_board::streams::{Failed, Sink};
 use morris_probe::print::put_count;
 
 /// The line of the fault.
-#[tactic(auto, using(morris_board::proofs::BufferedLaws::passed_laws), unfolding(crate::specs::Faults::fault_line))]
 impl Printed for Fault {
     ghost use Rattle.morris_jobs.specs.Faults.{fault_line};
 
@@ -28,7 +27,6 @@ impl Printed for Fault {
 ///
 /// # Errors
 /// [`Failed`] at the first write that fails.
-#[tactic(auto, using(morris_board::proofs::BufferedLaws::passed_laws), unfolding(crate::specs::Faults::fault_words))]
 pub fn put_fault<S: Sink>(out: &mut Buffered<'_, S>, fault: Fault) -> Result<(), Failed>
     requires failures { S.failures (sink_of out.old) < 2 ^ 64 - 1 }
     requires room { taken_of out.old < 2 ^ 61 }
@@ -41,7 +39,6 @@ pub fn put_fault<S: Sink>(out: &mut Buffered<'_, S>, fault: Fault) -> Result<(),
 }
 
 /// The text of a fault.
-#[tactic(auto, using(morris_board::proofs::BufferedLaws::passed_laws))]
 fn put_wording<S: Sink>(out: &mut Buffered<'_, S>, wording: Wording) -> Result<(), Failed>
     requires failures { S.failures (sink_of out.old) < 2 ^ 64 - 1 }
     requires short { length_worded wording ≤ 64 }
@@ -60,7 +57,6 @@ fn put_wording<S: Sink>(out: &mut Buffered<'_, S>, wording: Wording) -> Result<(
 }
 
 /// Words with their number or their pair.
-#[tactic(auto, using(morris_board::proofs::BufferedLaws::passed_laws))]
 fn put_words<S: Sink>(out: &mut Buffered<'_, S>, words: Words) -> Result<(), Failed>
     requires failures { S.failures (sink_of out.old) < 2 ^ 64 - 1 }
     requires short { length_around words ≤ 64 }

@@ -16,7 +16,6 @@ pub struct Verified<B: Geometry> {
     pub entries: u64,
 }
 
-#[tactic(auto, using(morris_board::proofs::BufferedLaws::passed_laws), unfolding(crate::specs::Verified::verified_text))]
 impl<B: Geometry> Printed for Verified<B> {
     ghost use Rattle.morris_jobs.specs.Verified.{verified_text};
 

@@ -15,7 +15,7 @@ use morris_workers::Watch;
 use std::time::{Clock, Instant};
 
 /// One thing that is told.
-#[derive(Clone, Copy, Debug, PartialEq, Eq)]
+#[derive(Clone, Copy, Debug)]
 pub enum News {
     /// Before all else: how many entries there are in all, and about how many megabytes of memory
     /// it takes to find them.
@@ -45,7 +45,7 @@ pub enum News {
 }
 
 /// How far it is.
-#[derive(Clone, Copy, Debug, PartialEq, Eq)]
+#[derive(Clone, Copy, Debug)]
 pub struct SoFar {
     /// How many entries are done: those of the pairs that are, and those of the pair at work.
     pub done: u64,

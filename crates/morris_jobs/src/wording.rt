@@ -2,7 +2,7 @@
 use std::fmt;
 
 /// Words with at most one number, or one pair, among them.
-#[derive(Clone, Copy, Debug, PartialEq, Eq)]
+#[derive(Clone, Copy, Debug)]
 pub enum Words {
     /// This text.
     Plain(&'static str),
@@ -30,7 +30,7 @@ impl fmt::Display for Words {
 }
 
 /// How the text of a fault is made up.
-#[derive(Clone, Copy, Debug, PartialEq, Eq)]
+#[derive(Clone, Copy, Debug)]
 pub enum Wording {
     /// These words.
     Alone(Words),

@@ -1,18 +1,49 @@
-use Rattle.std.proofs.Common.{◌≡◌, ◌∷◌, [], ◌++◌, sym, ap, subst, ◌∙◌, append_assoc}
+use Rattle.std.proofs.Common.{◌≡◌, ◌∷◌, [], ◌++◌, sym, ap, subst, ◌∙◌, append_assoc, arith}
 use Rattle.std.specs.List.{Contains}
 use Rattle.std.proofs.lemmas.List.{append-nil}
 use Rattle.std.proofs.Math.Path.{ap₂}
 use Rattle.std.proofs.lemmas.Bool.{and_parts, eqb-true, not-false}
+use Rattle.std.proofs.lemmas.Result.{err_from_is_err_and}
 use Rattle.morris_index.specs.Pairs.{below_of, counts}
 use Rattle.morris_commands.specs.Build.{HasExactBut}
-use Rattle.morris_commands.proofs.BeforeLaws.{AreBuiltBut, built-itself, built-last, built-more, built-ready, every-itself, every-more}
+use Rattle.morris_commands.proofs.BeforeLaws.{AreBuiltBut, built-itself, built-last, built-more, built-ready, every-itself, every-more, told_apart, unbuilt-one}
 use Rattle.morris_commands.proofs.build.build_before.Goals as goal
+
+pub returns-in_err-stock-clause-told : goal.returns-in_err-stock-clause-told
+returns-in_err-stock-clause-told g c = g.met.T.Watch.stays c.args.teller.now
+
+pub returns-in_err-stock-clause-refused : goal.returns-in_err-stock-clause-refused
+returns-in_err-stock-clause-refused g c =
+    let failed = err_from_is_err_and c.from_residual.result c.from_residual.ensures.1 in
+    rw (failed.1, failed.2) tt
+
+pub loop-below-init : goal.loop-below-init
+loop-below-init g c = record {
+  split = cc;
+  built = λ d m. absurd (omega (arith, m.1));
+  every = λ all d m. absurd (omega (arith, m.1));
+  told = g.met.T.Watch.stays c.args.teller.now;
+}
 
 pub build_onto-requires-clause-ready : goal.build_onto-requires-clause-ready
 build_onto-requires-clause-ready g c = λ κs within.
     built-ready g.B.Geometry.shape c.args.layout c.args.pair c.loop-below.yielded c.next.new.self c.in-Some.below
     (ap (λ rest. c.loop-below.yielded ++ rest) (sym c.in-Some.ensures.steps) ∙ c.loop-below.invariant.split)
     c.loop-below.stock c.spare.new.stock c.below-below-items.ensures.needs_first c.loop-below.invariant.built c.spare.ensures.near
+
+pub returns-in_err-build_onto-clause-told : goal.returns-in_err-build_onto-clause-told
+returns-in_err-build_onto-clause-told g c = g.met.T.Watch.joins _ _ _ c.loop-below.invariant.told c.build_onto.ensures.told
+
+pub returns-in_err-build_onto-clause-refused : goal.returns-in_err-build_onto-clause-refused
+returns-in_err-build_onto-clause-refused g c =
+    let failed = err_from_is_err_and c.from_residual-in_err-build_onto.result c.from_residual-in_err-build_onto.ensures.1 in
+    rw (failed.1, failed.2)
+    (unbuilt-one g.B.Geometry.shape c.args.layout c.args.pair c.loop-below.yielded c.next.new.self c.in-Some.below
+    (ap (λ rest. c.loop-below.yielded ++ rest) (sym c.in-Some.ensures.steps) ∙ c.loop-below.invariant.split) c.args.crew.team.blocks
+    (told_apart _ _ (sym c.ne.ensures ∙ c.if-ne.true)) _ c.in_err-build_onto.ensures.refused)
+
+pub returns-clause-told : goal.returns-clause-told
+returns-clause-told g c = c.loop-below.invariant.told
 
 pub loop-below-preserved : goal.loop-below-preserved
 loop-below-preserved g c =

@@ -1,17 +1,15 @@
 use Rattle.std.proofs.Common.{codes, ◌++◌}
 use Rattle.std.specs.Fmt.{decimal}
-use Rattle.std.proofs.lemmas.Result.{err_from_is_err_and}
 use Rattle.morris_board.specs.Sets.{count_of}
-use Rattle.morris_board.proofs.BufferedLaws.{PartPassed-longer, goes_on}
+use Rattle.morris_board.proofs.BufferedLaws.{goes_on}
 use Rattle.morris_probe.specs.Lines.{number_line}
+use Rattle.morris_jobs.proofs.PieceLaws.{first_failed}
 use Rattle.morris_commands.proofs.print_look.put_counts.Goals as goal
 
 pub returns-in_err-put_count-clause-passed : goal.returns-in_err-put_count-clause-passed
 returns-in_err-put_count-clause-passed g c =
-    let failed = err_from_is_err_and c.from_residual.result c.from_residual.ensures.1 in
-    rw failed.1
-    (PartPassed-longer g.S.Sink.contents g.S.Sink.failures c.args.out.now c.put_count.new.out (codes "own " ++ decimal (count_of c.args.position.now.own))
-    (number_line (codes " other ") (count_of c.args.position.now.other)) (rw (c.from.ensures, c.counts-own.ensures.own) at c.in_err-put_count.ensures.passed))
+    first_failed (codes "own " ++ decimal (count_of c.args.position.now.own)) (number_line (codes " other ") (count_of c.args.position.now.other))
+    c.from_residual.result _ c.from_residual.ensures.1 (rw (c.from.ensures, c.counts-own.ensures.own) at c.in_err-put_count.ensures.passed)
 
 pub returns-clause-passed : goal.returns-clause-passed
 returns-clause-passed g c =

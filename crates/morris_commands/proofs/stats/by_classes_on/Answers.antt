@@ -5,11 +5,24 @@ use Rattle.std.proofs.KnownBytes.{Keeps-refl}
 use Rattle.std.proofs.lemmas.Result.{err_from_is_err_and}
 use Rattle.morris_jobs.specs.Orders.{IsUnbuiltAt}
 use Rattle.morris_jobs.proofs.FaultLaws.{counted_refused, unwritten}
-use Rattle.morris_jobs.proofs.OrderLaws.{answers_order}
+use Rattle.morris_workers.specs.Ranges.{range_fault}
+use Rattle.morris_jobs.proofs.OrderLaws.{answers_order, unfit_unwritten, unread_unwritten}
 use Rattle.morris_commands.specs.Build.{IsUnbuiltBefore}
 use Rattle.morris_commands.specs.Stats.{AnswersCounts, AnswersPair}
 use Rattle.morris_commands.proofs.OwnLaws.{answers_pair, none_too_deep, unbuilt_before, unbuilt_itself}
 use Rattle.morris_commands.proofs.stats.by_classes_on.Goals as goal
+
+-- what names no pair isn't refused as a write is, nor is a team that there may not be
+pub returns-in_err-pair-clause-counted : goal.returns-in_err-pair-clause-counted
+returns-in_err-pair-clause-counted g c =
+    let failed = err_from_is_err_and c.from_residual.result c.from_residual.ensures.1 in
+    counted_refused (g.S.Sink.failures c.args.output.now) c.from_residual.result _ (failed.1 ∙ ap Err failed.2) (unread_unwritten g.B.Geometry.POINTS c.args.order.pair.now _ c.in_err-pair.ensures)
+
+pub returns-in_err-team-clause-counted : goal.returns-in_err-team-clause-counted
+returns-in_err-team-clause-counted g c =
+    let failed = err_from_is_err_and c.from_residual-in_err-team.result c.from_residual-in_err-team.ensures.1 in
+    counted_refused (g.S.Sink.failures c.args.output.now) c.from_residual-in_err-team.result _ (failed.1 ∙ ap Err failed.2)
+    (unfit_unwritten (range_fault c.args.order.workers c.args.order.blocks) _ c.in_err-team.ensures)
 
 pub returns-clause-answer : goal.returns-clause-answer
 returns-clause-answer g c =

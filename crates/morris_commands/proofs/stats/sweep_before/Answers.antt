@@ -1,18 +1,48 @@
-use Rattle.std.proofs.Common.{◌≡◌, ◌∷◌, [], ◌++◌, refl, sym, ap, subst, ◌∙◌, append_assoc}
+use Rattle.std.proofs.Common.{◌≡◌, ◌∷◌, [], ◌++◌, refl, sym, ap, subst, ◌∙◌, append_assoc, arith}
 use Rattle.std.specs.List.{Contains}
 use Rattle.std.proofs.lemmas.List.{append-nil}
 use Rattle.std.proofs.Math.Path.{ap₂}
 use Rattle.std.proofs.lemmas.Bool.{and_parts, eqb-true, not-false}
+use Rattle.std.proofs.lemmas.Result.{err_from_is_err_and}
 use Rattle.morris_index.specs.Pairs.{below_of, counts}
 use Rattle.morris_pairs.specs.declared.layout.Layout.TheVariants.{Full}
-use Rattle.morris_commands.proofs.BeforeLaws.{AreBuiltBut, built-itself, built-last, built-more, built-ready}
+use Rattle.morris_commands.proofs.BeforeLaws.{AreBuiltBut, built-itself, built-last, built-more, built-ready, told_apart, unbuilt-one}
 use Rattle.morris_commands.proofs.stats.sweep_before.Goals as goal
+
+pub returns-in_err-shelf-clause-told : goal.returns-in_err-shelf-clause-told
+returns-in_err-shelf-clause-told g c = g.met.T.Watch.stays c.args.teller.now
+
+pub returns-in_err-shelf-clause-refused : goal.returns-in_err-shelf-clause-refused
+returns-in_err-shelf-clause-refused g c =
+    let failed = err_from_is_err_and c.from_residual.result c.from_residual.ensures.1 in
+    rw (failed.1, failed.2) tt
+
+pub loop-below-init : goal.loop-below-init
+loop-below-init g c = record {
+  split = cc;
+  built = λ d m. absurd (omega (arith, m.1));
+  told = g.met.T.Watch.stays c.args.teller.now;
+}
 
 pub sweep_onto-requires-after_bounds : goal.sweep_onto-requires-after_bounds
 sweep_onto-requires-after_bounds g c = λ κs within.
     built-ready g.B.Geometry.shape Full c.args.pair c.loop-below.yielded c.next.new.self c.in-Some.below
     (ap (λ rest. c.loop-below.yielded ++ rest) (sym c.in-Some.ensures.steps) ∙ c.loop-below.invariant.split)
     c.loop-below.shelf c.loop-below.shelf c.below-below-items.ensures.needs_first c.loop-below.invariant.built (λ d near. refl)
+
+pub returns-in_err-sweep_onto-clause-told : goal.returns-in_err-sweep_onto-clause-told
+returns-in_err-sweep_onto-clause-told g c = g.met.T.Watch.joins _ _ _ c.loop-below.invariant.told c.sweep_onto.ensures.told
+
+pub returns-in_err-sweep_onto-clause-refused : goal.returns-in_err-sweep_onto-clause-refused
+returns-in_err-sweep_onto-clause-refused g c =
+    let failed = err_from_is_err_and c.from_residual-in_err-sweep_onto.result c.from_residual-in_err-sweep_onto.ensures.1 in
+    rw (failed.1, failed.2)
+    (unbuilt-one g.B.Geometry.shape Full c.args.pair c.loop-below.yielded c.next.new.self c.in-Some.below
+    (ap (λ rest. c.loop-below.yielded ++ rest) (sym c.in-Some.ensures.steps) ∙ c.loop-below.invariant.split) 0
+    (told_apart _ _ (sym c.ne.ensures ∙ c.if-ne.true)) _ c.in_err-sweep_onto.ensures.refused)
+
+pub returns-clause-told : goal.returns-clause-told
+returns-clause-told g c = c.loop-below.invariant.told
 
 pub loop-below-preserved : goal.loop-below-preserved
 loop-below-preserved g c =

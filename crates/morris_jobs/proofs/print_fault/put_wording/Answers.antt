@@ -1,6 +1,23 @@
+use Rattle.std.proofs.Common.{codes}
 use Rattle.morris_board.proofs.BufferedLaws.{both, goes_on}
-use Rattle.morris_jobs.specs.Faults.{stones_text}
+use Rattle.morris_jobs.specs.Faults.{said, stones_text}
+use Rattle.morris_jobs.proofs.PieceLaws.{first_of_three, second_failed}
 use Rattle.morris_jobs.proofs.print_fault.put_wording.Goals as goal
+
+pub returns-in_err-put_words-in-InFile-clause-passed : goal.returns-in_err-put_words-in-InFile-clause-passed
+returns-in_err-put_words-in-InFile-clause-passed g c =
+    let it = c.in-InFile in
+    rw it.is
+    (first_of_three (said it.words) (codes ", in the file of ") (stones_text it.greater it.lesser) c.from_residual.result _
+    c.from_residual.ensures.1 c.in_err-put_words-in-InFile.ensures.passed)
+
+pub returns-in_err-put-in-InFile-clause-passed : goal.returns-in_err-put-in-InFile-clause-passed
+returns-in_err-put-in-InFile-clause-passed g c =
+    let it = c.in-InFile in
+    rw it.is
+    (second_failed c.put.new.self (said it.words) (codes ", in the file of ") (stones_text it.greater it.lesser)
+    c.from_residual-in_err-put-in-InFile.result _ c.from_residual-in_err-put-in-InFile.ensures.1 c.in_ok-put_words-in-InFile.ensures.passed
+    c.in_err-put-in-InFile.ensures.passed)
 
 pub returns-in_ok-put-in-InFile-clause-passed : goal.returns-in_ok-put-in-InFile-clause-passed
 returns-in_ok-put-in-InFile-clause-passed g c =

@@ -1,22 +1,35 @@
 use Rattle.std.proofs.Common.{◌++◌, codes}
-use Rattle.std.proofs.lemmas.Result.{err_from_is_err_and}
 use Rattle.morris_board.proofs.BufferedLaws.{PartPassed-append, PartPassed-longer, both, goes_on}
 use Rattle.morris_jobs.specs.Progress.{labelled}
+use Rattle.morris_jobs.proofs.PieceLaws.{first_of_three, second_failed}
 use Rattle.morris_jobs.proofs.print_progress.put_so_far.Goals as goal
 
-pub returns-in_err-put_labelled-3-clause-passed : goal.returns-in_err-put_labelled-3-clause-passed
-returns-in_err-put_labelled-3-clause-passed g c =
-    let failed = err_from_is_err_and c.from_residual-in_err-put_labelled-3.result c.from_residual-in_err-put_labelled-3.ensures.1 in
+pub returns-in_err-put_count-clause-passed : goal.returns-in_err-put_count-clause-passed
+returns-in_err-put_count-clause-passed g c =
     let s = c.args.so_far in
-    let two = labelled (codes ", ") s.done ++ labelled (codes " of ") s.whole in
-    let third = labelled (codes " entries, ") s.seconds in
-    rw failed.1
-    (PartPassed-longer g.S.Sink.contents g.S.Sink.failures c.args.out.now c.put_labelled-3.new.out (two ++ third) (codes " s\n")
-    (PartPassed-append g.S.Sink.contents g.S.Sink.failures c.args.out.now c.put_labelled-2.new.out c.put_labelled-3.new.out two third
-    (both c.in_ok-put_labelled.ensures.passed c.in_ok-put_labelled-2.ensures.passed) c.in_err-put_labelled-3.ensures.passed))
+    let done = labelled (codes ", ") s.done in
+    let whole = labelled (codes " of ") s.whole in
+    first_of_three (done ++ whole) (labelled (codes " entries, ") s.seconds) (codes " s\n") c.from_residual.result _ c.from_residual.ensures.1
+    (PartPassed-longer g.S.Sink.contents g.S.Sink.failures c.args.out.now c.put_count.new.out done whole c.in_err-put_count.ensures.passed)
+
+pub returns-in_err-put_count-2-clause-passed : goal.returns-in_err-put_count-2-clause-passed
+returns-in_err-put_count-2-clause-passed g c =
+    let s = c.args.so_far in
+    let done = labelled (codes ", ") s.done in
+    let whole = labelled (codes " of ") s.whole in
+    first_of_three (done ++ whole) (labelled (codes " entries, ") s.seconds) (codes " s\n") c.from_residual-in_err-put_count-2.result _
+    c.from_residual-in_err-put_count-2.ensures.1
+    (PartPassed-append g.S.Sink.contents g.S.Sink.failures c.args.out.now c.put_count.new.out c.put_count-2.new.out done whole
+    c.in_ok-put_count.ensures.passed c.in_err-put_count-2.ensures.passed)
+
+pub returns-in_err-put_count-3-clause-passed : goal.returns-in_err-put_count-3-clause-passed
+returns-in_err-put_count-3-clause-passed g c =
+    let s = c.args.so_far in
+    second_failed c.put_count-3.new.out (labelled (codes ", ") s.done ++ labelled (codes " of ") s.whole) (labelled (codes " entries, ") s.seconds)
+    (codes " s\n") c.from_residual-in_err-put_count-3.result _ c.from_residual-in_err-put_count-3.ensures.1
+    (both c.in_ok-put_count.ensures.passed c.in_ok-put_count-2.ensures.passed) c.in_err-put_count-3.ensures.passed
 
 pub returns-clause-passed : goal.returns-clause-passed
 returns-clause-passed g c =
     goes_on c.put.new.self (codes " s\n") c.put.result
-    (both (both c.in_ok-put_labelled.ensures.passed c.in_ok-put_labelled-2.ensures.passed) c.in_ok-put_labelled-3.ensures.passed)
-    c.put.ensures.passed
+    (both (both c.in_ok-put_count.ensures.passed c.in_ok-put_count-2.ensures.passed) c.in_ok-put_count-3.ensures.passed) c.put.ensures.passed
