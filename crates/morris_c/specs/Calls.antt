@@ -13,7 +13,7 @@ use Rattle.morris_lookup.specs.declared.records.MoveRecord.{MoveRecord}
 use Rattle.morris_lookup.specs.declared.check.HeaderRecord.{HeaderRecord}
 use Rattle.morris_lookup.specs.Masks.{IsMaskRefusal}
 use Rattle.morris_lookup.specs.Records.{value_record}
-use Rattle.morris_lookup.specs.Views.{ServeAll, AreExactFiles, value_said, needs_words}
+use Rattle.morris_lookup.specs.Views.{ServeAll, AreExactAfter, IsExactAt, value_said, needs_words}
 use Rattle.morris_lookup.specs.Prepared.{looks_prepared, prepared_count, IsPrepared}
 use Rattle.morris_lookup.specs.Listing.{outcomes_said, AreExactOutcomes}
 use Rattle.morris_c.specs.Statuses.{mask_status, read_status, view_status}
@@ -24,13 +24,13 @@ TellsValue (Ok value) status old new = (status ≡ pos 0) × (new ≡ value_reco
 TellsValue (Err fault) status old new = (status ≡ pos (view_status fault)) × (new ≡ old)
 
 -- What looking a position up answers. Masks that aren't one have the status of the fault, and
--- nothing is written. Where the words serve the files, it is what the files say; and where these
--- are exact, a value that is told is that of the game. From a file by classes no value is told
--- where the words don't look prepared.
+-- nothing is written. Where the words serve the files, it is what the files say; and where the one
+-- of the position is exact, a value that is told is that of the game. From a file by classes no
+-- value is told where the words don't look prepared.
 pub record LooksUp (board : Shape) (words : List ℕ) (files : List (List ℕ)) (s : Sides) (status : ℤ) (old new : ValueRecord) : Type 0 where
   pub refused : (fault : MaskFault) → IsMaskRefusal board s fault → (status ≡ pos (mask_status fault)) × (new ≡ old)
   pub said : IsPosition board s → ServeAll board words files → TellsValue (value_said board files s) status old new
-  pub exact : IsPosition board s → ServeAll board words files → AreExactFiles board files → status ≡ pos 0
+  pub exact : IsPosition board s → ServeAll board words files → IsExactAt board files s → status ≡ pos 0
       → (value : Value) × IsValue board s value × (new ≡ value_record value)
   pub unready : IsPosition board s → needs_words files s ≡ true → looks_prepared board words ≡ false → status ≢ pos 0
 
@@ -46,7 +46,7 @@ pub record ListsMoves (board : Shape) (words : List ℕ) (files : List (List ℕ
   pub room : IsPosition board s → length old < length (moves_of board s) → status ≡ pos 7
   pub said : IsPosition board s → ServeAll board words files → length (moves_of board s) ≤ length old
       → TellsMoves (outcomes_said board files s (moves_of board s)) status new new_count
-  pub exact : IsPosition board s → ServeAll board words files → AreExactFiles board files → status ≡ pos 0
+  pub exact : IsPosition board s → ServeAll board words files → AreExactAfter board files s → status ≡ pos 0
       → AreExactOutcomes board s (moves_of board s) (take new_count new)
   pub counted : status ≡ pos 0 → new_count ≡ length (moves_of board s)
   pub uncounted : status ≢ pos 0 → new_count ≡ old_count

@@ -1,5 +1,6 @@
 -- What the first bytes of a file say, by what was read of it.
 use Rattle.std.proofs.Common.{◌≡◌, ℕ, ◌<◌, ◌≤◌, List, ◌++◌, length, take, Option, Some, None, Ok, sym, ap, subst, ◌∙◌, inl, inr, append-nil}
+use Rattle.std.specs.Prelude.{⊤}
 use Rattle.std.specs.Io.KnownBytes.{Consumes, IsAtEnd}
 use Rattle.std.proofs.lemmas.Bool.{cases_lt}
 use Rattle.std.proofs.lemmas.List.{take_all, take-append-le}
@@ -7,7 +8,13 @@ use Rattle.morris_board.specs.Boards.{Shape}
 use Rattle.morris_index.specs.Pairs.{Counts}
 use Rattle.morris_files.specs.Files.{Files, IsReaderOf}
 use Rattle.morris_files.specs.Headers.{AnswersHeader, header_in}
+use Rattle.morris_files.specs.Kept.{HasFile}
 use Rattle.morris_files.specs.declared.header.Header.{Header}
+
+-- a file of which a reader was opened is there
+pub file_there : (name : List ℕ) (files : Option Files) (remaining : Option (List ℕ)) → IsReaderOf files name remaining → HasFile files name (λ bytes. ⊤)
+file_there name None remaining is = tt
+file_there name (Some files) remaining is = (is.0, is.1, tt)
 
 module _ (front : List ℕ) (few : length front ≤ 16) where
   -- what was read is the first 16 bytes, or all where there are fewer

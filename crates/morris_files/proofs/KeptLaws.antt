@@ -1,17 +1,20 @@
 -- What the reading of a file alone says of the bytes that the file has.
-use Rattle.std.proofs.Common.{◌≡◌, ◌≢◌, ℕ, true, false, not, ◌&&◌, nat_eq, List, [], ◌∷◌, ◌++◌, Option, Some, None, Result, Ok, Err, sym, ap, subst, ◌∙◌, append-nil}
+use Rattle.std.proofs.Common.{◌≡◌, ◌≢◌, ℕ, ◌+◌, true, false, not, ◌&&◌, nat_eq, List, [], ◌∷◌, ◌++◌, Option, Some, None, Result, Ok, Err, sym, ap, subst, ◌∙◌, append-nil, arith}
 use Rattle.std.specs.Io.KnownBytes.{Consumes}
 use Rattle.std.proofs.Math.Path.{ap₂}
 use Rattle.std.proofs.lemmas.Bool.{and_parts, eq-eqb, eqb-true, not-false}
 use Rattle.morris_board.specs.Boards.{Shape}
 use Rattle.morris_index.specs.Pairs.{Counts, counts}
-use Rattle.morris_pairs.specs.FileReading.{MayTakeRoom, Reads, and_then, is_end, only_file_in, unless}
+use Rattle.morris_pairs.specs.FileReading.{CountsRead, MayTakeRoom, Reads, and_then, is_end, only_file_in, unless}
 use Rattle.morris_pairs.specs.Tables.{Table}
 use Rattle.morris_pairs.specs.TableFiles.{file_of}
 use Rattle.morris_pairs.specs.declared.file_faults.ReadFault.{ReadFault}
 use Rattle.morris_pairs.specs.declared.file_faults.ReadFault.TheVariants as fault
-use Rattle.morris_files.specs.Files.{Files, IsReaderOf}
-use Rattle.morris_files.specs.Kept.{AreRefused, HasFile}
+use Rattle.morris_files.specs.Files.{Files, HasFailed, IsReaderOf}
+use Rattle.morris_files.specs.Kept.{AreRefused, HasFile, IsUnopened}
+use Rattle.morris_files.specs.Headers.{AnswersHeader}
+use Rattle.morris_files.specs.declared.kept.KeptFault.{KeptFault}
+use Rattle.morris_files.specs.declared.kept.KeptFault.TheVariants as kept
 
 left_of : Result (Table × List ℕ) ReadFault → List ℕ
 left_of (Ok found) = found.1
@@ -67,6 +70,27 @@ module _ (board : Shape) (name : List ℕ) where
       λ e. subst (MayTakeRoom board) is.2 (room e),
     ),
   )
+
+-- a read that failed was one of a reader
+pub read_failed : {S : Type 0} (failures : S → ℕ) (old new : S) (refused : ReadFault) → CountsRead {A = Table} (failures old) (failures new) (Err refused)
+    → refused ≡ fault.Read → HasFailed failures
+read_failed failures old new refused counted is =
+    let once : failures new ≡ failures old + 1 = subst (λ f. CountsRead {A = Table} (failures old) (failures new) (Err f)) is counted in
+    (new, omega (arith, once))
+
+-- a file that isn't opened isn't read
+pub unopened_unread : (refused : KeptFault) → IsUnopened refused → refused ≡ kept.Refused fault.Read → ⊥
+unopened_unread kept.Memory unopened e = cc
+unopened_unread kept.Unopened unopened e = cc
+unopened_unread (kept.Refused refused) unopened e = unopened
+unopened_unread kept.OtherPair unopened e = unopened
+
+pub unopened_header : (board : Shape) (n : ℕ) (files : Option Files) (name : List ℕ) (c : Counts) (refused : KeptFault) → IsUnopened refused
+    → AnswersHeader board n files name c (Err refused)
+unopened_header board n files name c kept.Memory unopened = tt
+unopened_header board n files name c kept.Unopened unopened = tt
+unopened_header board n files name c (kept.Refused refused) unopened = absurd unopened
+unopened_header board n files name c kept.OtherPair unopened = unopened
 
 -- what a comparison of two pairs says
 pub apart : (a b : Counts) → not (nat_eq a.greater b.greater && nat_eq a.lesser b.lesser) ≡ true → a ≢ b

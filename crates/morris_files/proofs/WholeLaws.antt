@@ -1,8 +1,8 @@
 -- A part that is written, renamed or removed, and what that leaves.
-use Rattle.std.proofs.Common.{◌≡◌, ◌≢◌, ℕ, Bool, List, Option, Some, None, true, false, sym, ap, subst, ◌∙◌, arith, length, length-append, inl, inr, ◌⊎◌}
-use Rattle.std.specs.Prelude.{codes}
-use Rattle.morris_files.specs.Files.{Files, Goes, AreSame, AreUnrenamed}
-use Rattle.morris_files.specs.Whole.{part_of, ArePart, AreNotPart, AreGivenUp, AreNotWhole, IsOfPart, IsAsItWas, MayBeGone, may_leave}
+use Rattle.std.proofs.Common.{◌≡◌, ◌≢◌, ℕ, ◌+◌, ◌<◌, Bool, List, Option, Some, None, true, false, refl, sym, ap, subst, ◌∙◌, arith, length, length-append, inl, inr, ◌⊎◌}
+use Rattle.std.specs.Prelude.{codes, if◌then◌else◌}
+use Rattle.morris_files.specs.Files.{Files, Goes, AreSame, AreUnrenamed, HasFailed}
+use Rattle.morris_files.specs.Whole.{part_of, ArePart, AreNotPart, AreGivenUp, AreNotWhole, IsOfPart, IsAsItWas, MayBeGone, failed_at, failed_in, may_leave}
 use Rattle.morris_files.specs.declared.whole.Step.{Step}
 use Rattle.morris_files.specs.declared.whole.Step.TheVariants.{Memory, Create, Write, Sync, Rename, Settle}
 use Rattle.morris_files.specs.declared.whole.NotWhole.{NotWhole}
@@ -84,3 +84,22 @@ goes-trans_three join (Some w) None c d p q r = absurd p
 goes-trans_three join (Some w) (Some x) None d p q r = absurd q
 goes-trans_three join (Some w) (Some x) (Some y) None p q r = absurd r
 goes-trans_three join (Some w) (Some x) (Some y) (Some z) p q r = join w x y z p q r
+
+-- a refusal that isn't one of memory has a cause: a call of the folder failed, or a write
+pub whole_failed : {W : Type 0} (writing : W → ℕ) (old new : ℕ) (fault : NotWhole) → (fault.step ≡ Memory → ⊥) → new ≡ old + failed_in fault
+    → (fault.step ≡ Write → HasFailed writing) → (old < new) ⊎ HasFailed writing
+whole_failed writing old new fault other counted unwritten = by_step fault.step refl
+  where
+    sum : new ≡ old + (failed_at fault.step + (if fault.left then 1 else 0))
+    sum = counted
+
+    risen : failed_at fault.step ≡ 1 → old < new
+    risen one = omega (arith, sum, one)
+
+    by_step : (step : Step) → fault.step ≡ step → (old < new) ⊎ HasFailed writing
+    by_step Memory is = absurd (other is)
+    by_step Create is = inl (risen (ap failed_at is))
+    by_step Write is = inr (unwritten is)
+    by_step Sync is = inl (risen (ap failed_at is))
+    by_step Rename is = inl (risen (ap failed_at is))
+    by_step Settle is = inl (risen (ap failed_at is))

@@ -1,5 +1,5 @@
 -- Files of a folder, and what the calls on it do to them.
-use Rattle.std.specs.Prelude.{◌≡◌, ◌≢◌, ℕ, Bool, true, false, not, ◌||◌, List, [], ⊤, Option, Some, None, Result, Ok, Err, ◌⊎◌, MatchOption, MatchResult}
+use Rattle.std.specs.Prelude.{◌≡◌, ◌≢◌, ℕ, ◌<◌, Bool, true, false, not, ◌||◌, List, [], ⊤, Option, Some, None, Result, Ok, Err, ◌⊎◌, MatchOption, MatchResult}
 
 -- the bytes of the file of each name, and none where there is no file of that name
 abbrev pub Files : Type 0
@@ -53,6 +53,12 @@ abbrev pub IsCreated : {W E : Type 0} → (W → Option (List ℕ)) → (W → �
 IsCreated contents failures old new name r = MatchResult r
     (λ writer. Goes old new (λ before after. (before name ≡ None) × AreSameBut name before after × (contents writer ≡ Some [])) × (failures writer ≡ 0))
     (λ _. Keeps old new)
+
+-- There is a reader, or a writer, of which a call has failed. A folder makes each with none that
+-- has, so whoever knows a folder by its contract alone has such a one only once a call of it
+-- failed.
+abbrev pub HasFailed : {S : Type 0} → (S → ℕ) → Type 0
+HasFailed {S = S} failures = (stream : S) × (0 < failures stream)
 
 -- the file of this name has these bytes, where they are known, and each other file is as it was
 abbrev pub BecomesFile : Option Files → Option Files → List ℕ → Option (List ℕ) → Type 0

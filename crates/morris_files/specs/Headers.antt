@@ -3,6 +3,7 @@ use Rattle.std.specs.Prelude.{◌≡◌, ◌⊎◌, ⊤, ℕ, List, take, Option
 use Rattle.std.specs.Str.{bytes_eq}
 use Rattle.morris_board.specs.Boards.{Shape}
 use Rattle.morris_index.specs.Pairs.{Counts}
+use Rattle.morris_pairs.specs.declared.file_faults.ReadFault.TheVariants as read
 use Rattle.morris_pairs.specs.declared.layout.Layout.{Layout}
 use Rattle.morris_pairs.specs.declared.layout.Layout.TheVariants.{Full, Classes}
 use Rattle.morris_pairs.specs.Entries.{entry_count}
@@ -11,6 +12,7 @@ use Rattle.morris_files.specs.Files.{Files, HasNone}
 use Rattle.morris_files.specs.Kept.{HasFile}
 use Rattle.morris_files.specs.declared.header.Header.{Header}
 use Rattle.morris_files.specs.declared.kept.KeptFault.{KeptFault}
+use Rattle.morris_files.specs.declared.kept.KeptFault.TheVariants as kept
 
 -- what is said of a pair's table in a layout, on a board of n points
 abbrev pub said_of : Shape → ℕ → Counts → Layout → Header
@@ -27,8 +29,12 @@ header_in board n c bytes =
     else if bytes_eq bytes (saying board n c Classes) then Some (said_of board n c Classes) else None
 
 -- What a look at the header of the file of a pair's table answers: what the first 16 bytes of the
--- file say; that there is no file, or none that begins with such a header; or why it isn't had.
+-- file say; that there is no file, or none that begins with such a header; or why it isn't had:
+-- memory was refused for the name, the file can't be opened, or a read of one that is there failed.
 abbrev pub AnswersHeader : Shape → ℕ → Option Files → List ℕ → Counts → Result (Option Header) KeptFault → Type 0
 AnswersHeader board n files name c (Ok None) = HasNone files name ⊎ HasFile files name (λ bytes. header_in board n c (take 16 bytes) ≡ None)
 AnswersHeader board n files name c (Ok (Some header)) = HasFile files name (λ bytes. header_in board n c (take 16 bytes) ≡ Some header)
-AnswersHeader board n files name c (Err refused) = ⊤
+AnswersHeader board n files name c (Err kept.Memory) = ⊤
+AnswersHeader board n files name c (Err kept.Unopened) = ⊤
+AnswersHeader board n files name c (Err (kept.Refused read.Read)) = HasFile files name (λ bytes. ⊤)
+AnswersHeader board n files name c (Err refused) = ⊥

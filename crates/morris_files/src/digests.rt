@@ -1,5 +1,6 @@
 //! The file of the digests of the files of tables.
-ghost use Rattle.std.specs.Prelude.{◌≡◌, ℕ, ◌+◌, ◌-◌, ◌^◌, ◌<◌, ◌++◌, List, IfOk, MatchResult, OnOk, string_bytes};
+ghost use Rattle.std.specs.Prelude.{◌≡◌, ℕ, ◌+◌, ◌-◌, ◌^◌, ◌<◌, ◌++◌, List, IfErr, IfOk, MatchResult, OnOk, string_bytes};
+ghost use Rattle.morris_files.specs.Files.{HasFailed};
 ghost use Rattle.morris_files.specs.Whole.{AnswersWhole, failed_in};
 ghost use Rattle.morris_files.specs.Digests.{digest_line, digest_lines};
 ghost use Rattle.morris_files.specs.Names.{digests_name_of};
@@ -51,6 +52,7 @@ pub fn write_list<B: Geometry, F: Folder>(
     requires { F.failures folder.old < 2 ^ 64 - 2 }
     ensures answer { AnswersWhole (digests_name_of board.now) (kept.now ++ digest_lines board.now (λ w. w.pair) (λ w. w.digest) written.now) (F.files folder.old) (F.files folder.new) result }
     ensures counted { MatchResult result (λ _. F.failures folder.new ≡ F.failures folder.old) (λ fault. F.failures folder.new ≡ F.failures folder.old + failed_in fault) }
+    ensures unwritten { IfErr result (λ fault. fault.step ≡ Step.Write → HasFailed F.Writer.failures) }
     ensures held { F.locked folder.new ≡ F.locked folder.old }
 {
     let (Ok(name), Ok(text)) = (digests_name(alloc, board), lines(alloc, board, written)) else {

@@ -1,6 +1,6 @@
 //! The header of the file of a pair's table, and what it says of a file that a folder has.
-ghost use Rattle.std.specs.Prelude.{◌≡◌, ℕ, ◌+◌, ◌-◌, ◌<◌, ◌^◌};
-ghost use Rattle.morris_files.specs.Files.{Keeps};
+ghost use Rattle.std.specs.Prelude.{◌≡◌, ℕ, ◌+◌, ◌-◌, ◌<◌, ◌^◌, Err};
+ghost use Rattle.morris_files.specs.Files.{HasFailed, Keeps};
 ghost use Rattle.morris_pairs.specs.TableFiles.{header_of};
 ghost use Rattle.morris_files.specs.Headers.{AnswersHeader, header_in};
 ghost use Rattle.morris_files.specs.Kept.{failed_opening};
@@ -44,6 +44,7 @@ pub fn read_header<B: Geometry, F: Folder>(
 ) -> Result<Option<Header>, KeptFault>
     requires { F.failures folder.old < 2 ^ 64 - 1 }
     ensures answer { AnswersHeader B.shape B.POINTS (F.files folder.old) (name_of board.now pair) pair result }
+    ensures unread { result ≡ Err (KeptFault.Refused ReadFault.Read) → HasFailed F.Reader.failures }
     ensures kept { Keeps (F.files folder.old) (F.files folder.new) }
     ensures counted { F.failures folder.new ≡ F.failures folder.old + failed_opening result }
 {

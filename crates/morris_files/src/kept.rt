@@ -1,6 +1,6 @@
 //! The tables that a folder keeps.
-ghost use Rattle.std.specs.Prelude.{◌≡◌, ℕ, ◌+◌, ◌-◌, ◌^◌, ◌<◌, IfErr};
-ghost use Rattle.morris_files.specs.Files.{IsOpened, Keeps};
+ghost use Rattle.std.specs.Prelude.{◌≡◌, ℕ, ◌+◌, ◌-◌, ◌^◌, ◌<◌, Err, IfErr};
+ghost use Rattle.morris_files.specs.Files.{HasFailed, IsOpened, Keeps};
 ghost use Rattle.morris_files.specs.Kept.{AnswersKept, IsUnopened, failed_opening};
 ghost use Rattle.morris_files.specs.Names.{name_of};
 
@@ -50,6 +50,7 @@ pub fn read_table_file<B: Geometry, F: Folder>(
 ) -> Result<Option<Raw<B>>, KeptFault>
     requires { F.failures folder.old < 2 ^ 64 - 1 }
     ensures answer { AnswersKept B.shape (F.files folder.old) (name_of board.now pair) pair result }
+    ensures unread { result ≡ Err (KeptFault.Refused ReadFault.Read) → HasFailed F.Reader.failures }
     ensures kept { Keeps (F.files folder.old) (F.files folder.new) }
     ensures counted { F.failures folder.new ≡ F.failures folder.old + failed_opening result }
 {

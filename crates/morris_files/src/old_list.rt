@@ -1,6 +1,6 @@
 //! The list of digests that a folder has, and its lines that are kept.
-ghost use Rattle.std.specs.Prelude.{◌≡◌, ℕ, ◌+◌, ◌-◌, ◌^◌, ◌<◌, ◌++◌, length, IfOk, MatchResult, OnOk};
-ghost use Rattle.morris_files.specs.Files.{Keeps};
+ghost use Rattle.std.specs.Prelude.{◌≡◌, ℕ, ◌+◌, ◌-◌, ◌^◌, ◌<◌, ◌++◌, length, Err, IfOk, MatchResult, OnOk};
+ghost use Rattle.morris_files.specs.Files.{HasFailed, Keeps};
 ghost use Rattle.morris_files.specs.Digests.{kept_line, kept_of};
 ghost use Rattle.morris_files.specs.Lists.{AreAll, AreKeptLines, IsList, IsUnlisted, IsUnread, failed_listing};
 
@@ -55,6 +55,7 @@ pub fn kept_lines<B: Geometry, F: Folder>(
 ) -> Result<Vec<u8>, ListFault>
     requires { F.failures folder.old < 2 ^ 64 - 1 }
     ensures answer { MatchResult result (λ kept. AreKeptLines board.now replaced (F.files folder.old) kept.items) (IsUnlisted board.now (F.files folder.old)) }
+    ensures unread { result ≡ Err ListFault.Unread → HasFailed F.Reader.failures }
     ensures kept { Keeps (F.files folder.old) (F.files folder.new) }
     ensures counted { F.failures folder.new ≡ F.failures folder.old + failed_listing result }
     ensures held { F.locked folder.new ≡ F.locked folder.old }
@@ -70,6 +71,7 @@ pub fn kept_lines<B: Geometry, F: Folder>(
 fn list_of<F: Folder>(alloc: Global, folder: &mut F, board: &str) -> Result<Vec<u8>, ListFault>
     requires { F.failures folder.old < 2 ^ 64 - 1 }
     ensures answer { MatchResult result (λ list. IsList board.now (F.files folder.old) list.items) (IsUnlisted board.now (F.files folder.old)) }
+    ensures unread { result ≡ Err ListFault.Unread → HasFailed F.Reader.failures }
     ensures kept { Keeps (F.files folder.old) (F.files folder.new) }
     ensures counted { F.failures folder.new ≡ F.failures folder.old + failed_listing result }
     ensures held { F.locked folder.new ≡ F.locked folder.old }
@@ -87,7 +89,8 @@ fn list_of<F: Folder>(alloc: Global, folder: &mut F, board: &str) -> Result<Vec<
 /// All that a source has to give, which isn't more than a list may have.
 fn read_all<S: Source>(alloc: Global, source: &mut S) -> Result<Vec<u8>, ListFault>
     requires { S.failures source.old < 2 ^ 64 - 1 }
-    ensures { MatchResult result (λ bytes. AreAll (S.remaining source.old) bytes.items) (IsUnread (S.remaining source.old)) }
+    ensures read { MatchResult result (λ bytes. AreAll (S.remaining source.old) bytes.items) (IsUnread (S.remaining source.old)) }
+    ensures unread { result ≡ Err ListFault.Unread → S.failures source.new ≡ S.failures source.old + 1 }
 {
     let Ok(mut bytes) = zeros(alloc) else {
         return Err(ListFault::Memory);

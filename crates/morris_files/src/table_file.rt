@@ -1,7 +1,8 @@
 //! The file of one table.
-ghost use Rattle.std.specs.Prelude.{◌≡◌, ◌+◌, ◌-◌, ◌^◌, ◌<◌, IfOk, MatchResult, length};
+ghost use Rattle.std.specs.Prelude.{◌≡◌, ◌+◌, ◌-◌, ◌^◌, ◌<◌, IfErr, IfOk, MatchResult, length};
 ghost use Rattle.sha2.specs.Sha256.{sha256};
 ghost use Rattle.morris_pairs.specs.TableFiles.{file_of};
+ghost use Rattle.morris_files.specs.Files.{HasFailed};
 ghost use Rattle.morris_files.specs.Whole.{failed_in};
 ghost use Rattle.morris_files.specs.Kept.{AnswersTableFile};
 
@@ -60,6 +61,7 @@ pub fn write_table_file<B: Geometry, F: Folder>(
     requires { F.failures folder.old < 2 ^ 64 - 2 }
     ensures answer { AnswersTableFile B.shape board.now table.now (F.files folder.old) (F.files folder.new) result }
     ensures counted { MatchResult result (λ _. F.failures folder.new ≡ F.failures folder.old) (λ fault. F.failures folder.new ≡ F.failures folder.old + failed_in fault) }
+    ensures unwritten { IfErr result (λ fault. fault.step ≡ Step.Write → HasFailed F.Writer.failures) }
     ensures held { F.locked folder.new ≡ F.locked folder.old }
     ensures pair { IfOk result (λ written. written.pair ≡ table.now.pair) }
     ensures entries { IfOk result (λ written. written.entries ≡ length table.now.codes) }

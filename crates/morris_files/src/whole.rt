@@ -1,8 +1,8 @@
 //! Files that are written whole or not at all.
-ghost use Rattle.std.specs.Prelude.{◌≡◌, ℕ, ◌+◌, ◌-◌, ◌^◌, ◌<◌, List, IfOk, MatchResult, OnOk, string_bytes};
+ghost use Rattle.std.specs.Prelude.{◌≡◌, ℕ, ◌+◌, ◌-◌, ◌^◌, ◌<◌, List, IfErr, IfOk, MatchResult, OnOk, string_bytes, Err};
 ghost use Rattle.std.specs.Io.KnownBytes.{Appends};
 ghost use Rattle.morris_board.specs.Streams.{CountsFailure};
-ghost use Rattle.morris_files.specs.Files.{Goes};
+ghost use Rattle.morris_files.specs.Files.{Goes, HasFailed};
 ghost use Rattle.morris_files.specs.Whole.{AnswersPart, AnswersWhole, AreGivenUp, IsMade, part_of, may_leave, failed_at, failed_in};
 
 use crate::folder::Folder;
@@ -93,6 +93,7 @@ pub fn write_whole<F: Folder, C: Contents>(
     requires { F.failures folder.old < 2 ^ 64 - 2 }
     ensures answer { AnswersWhole name.now (C.bytes contents.now) (F.files folder.old) (F.files folder.new) result }
     ensures counted { MatchResult result (λ _. F.failures folder.new ≡ F.failures folder.old) (λ fault. F.failures folder.new ≡ F.failures folder.old + failed_in fault) }
+    ensures unwritten { IfErr result (λ fault. fault.step ≡ Step.Write → HasFailed F.Writer.failures) }
     ensures held { F.locked folder.new ≡ F.locked folder.old }
 {
     let Ok(part) = part_name(alloc, name) else {
@@ -115,6 +116,7 @@ fn write_by_part<F: Folder, C: Contents>(
     requires part { part.now ≡ part_of name.now }
     ensures answer { AnswersWhole name.now (C.bytes contents.now) (F.files folder.old) (F.files folder.new) result }
     ensures counted { MatchResult result (λ _. F.failures folder.new ≡ F.failures folder.old) (λ fault. F.failures folder.new ≡ F.failures folder.old + failed_in fault) }
+    ensures unwritten { IfErr result (λ fault. fault.step ≡ Step.Write → HasFailed F.Writer.failures) }
     ensures held { F.locked folder.new ≡ F.locked folder.old }
 {
     if let Err(step) = write_part(folder, part, contents) {
@@ -146,6 +148,7 @@ fn write_part<F: Folder, C: Contents>(folder: &mut F, part: &str, contents: &C) 
     requires { F.failures folder.old < 2 ^ 64 - 1 }
     ensures answer { AnswersPart part.now (C.bytes contents.now) (F.files folder.old) (F.files folder.new) result }
     ensures counted { MatchResult result (λ _. F.failures folder.new ≡ F.failures folder.old) (λ step. F.failures folder.new ≡ F.failures folder.old + failed_at step) }
+    ensures unwritten { result ≡ Err Step.Write → HasFailed F.Writer.failures }
     ensures held { F.locked folder.new ≡ F.locked folder.old }
 {
     let mut writer = match make_part(folder, part) {

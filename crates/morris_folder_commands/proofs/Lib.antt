@@ -3,3 +3,4 @@ pub mod LineLaws
 pub mod FromLaws
 pub mod SurveyLaws
 pub mod BundleLaws
+pub mod CauseLaws

@@ -17,6 +17,16 @@ module _ (board : Shape) (place end old new : ℕ) (ends : EndsAt board end old 
     | inr one ↦ absurd (omega (arith, ahead, past, slice_get_within all_pairs end one.0 one.1.0, length-all_pairs))
   ]
 
+  -- whoever comes to that of such a file comes after a call that failed
+  pub one_unopened : place ≡ end → place < 28 → old < new
+  one_unopened here low = elim ends [
+    | inl all ↦ absurd (omega (arith, here, low, all.0))
+    | inr one ↦ omega (arith, one.2)
+  ]
+
+  pub risen : old ≤ new
+  risen = elim ends [ inl all ↦ omega (arith, all.1) | inr one ↦ omega (arith, one.2) ]
+
   -- a place without a pair of the board isn't that of such a file
   pub passes : place_is board place None → place < 28 → place ≤ end → place + 1 ≤ end
   passes none low ahead = elim ends [

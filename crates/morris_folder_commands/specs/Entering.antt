@@ -1,11 +1,13 @@
--- What `build --into` does to a folder before its first pair: it locks the folder, and leaves in the
--- list of digests the lines of those files alone that it doesn't replace.
-use Rattle.std.specs.Prelude.{◌≡◌, ◌≢◌, ℕ, ◌+◌, Bool, false, List, [], ◌∷◌, codes, Option, Some, None, Result, Ok, Err}
+-- What `build --into` does to a folder before its first pair: it locks the folder, and leaves in
+-- the list of digests the lines of those files alone that it doesn't replace.
+use Rattle.std.specs.Prelude.{◌≡◌, ℕ, List, [], ◌∷◌, codes, Option, Result, Ok, Err, None}
 use Rattle.morris_index.specs.Pairs.{Counts}
 use Rattle.morris_files.specs.Files.{AreSameBut, AreSameButTwo, Files, Goes}
 use Rattle.morris_files.specs.Files as folder
 use Rattle.morris_files.specs.Whole.{AreWhole, part_of}
 use Rattle.morris_files.specs.Lists.{AreKeptLines}
+use Rattle.morris_files.specs.declared.old_list.ListFault.{ListFault}
+use Rattle.morris_files.specs.declared.old_list.ListFault.TheVariants as list
 use Rattle.morris_files.specs.Names.{digests_name_of}
 use Rattle.morris_jobs.specs.declared.fault.Fault.{Fault}
 use Rattle.morris_jobs.specs.declared.fault.Fault.TheVariants as fault
@@ -29,14 +31,6 @@ IsShut old new fault.Unlocked = IsEntered old new
 IsShut old new fault.Busy = IsEntered old new
 IsShut old new _ = ⊥
 
--- what is the cause: a call of the folder failed, or it isn't known that no other has the lock
-abbrev pub IsCaused : Option Bool → ℕ → ℕ → Fault → Type 0
-IsCaused taken failed now fault.Folder = now ≡ failed + 1
-IsCaused taken failed now fault.NoFolder = now ≡ failed + 1
-IsCaused taken failed now fault.Unlocked = now ≡ failed + 1
-IsCaused taken failed now fault.Busy = taken ≢ Some false
-IsCaused taken failed now _ = ⊥
-
 -- ---- the list of digests
 
 -- The list has these lines and is whole, or isn't there where it would have none: `sha256sum` takes
@@ -49,6 +43,13 @@ IsLeft name (byte ∷ bytes) old new = AreWhole (digests_name_of name) (byte ∷
 pub record IsBegun (name : List ℕ) (replaced : Counts) (kept : List ℕ) (old new : Option Files) : Type 0 where
   pub lines : AreKeptLines name replaced old kept
   pub left : Goes old new (IsLeft name kept)
+
+-- the fault of lines that aren't had
+abbrev pub list_fault : ListFault → Fault
+list_fault list.Memory = fault.Memory
+list_fault list.Unopened = fault.Digests
+list_fault list.Unread = fault.Digests
+list_fault list.Long = fault.Digests
 
 -- they aren't, or the list isn't written: each file but the list and its part is as it was
 abbrev pub IsUnbegun : List ℕ → Option Files → Option Files → Fault → Type 0

@@ -4,3 +4,4 @@ pub mod From
 pub mod FromSteps
 pub mod Bundle
 pub mod Entering
+pub mod Causes

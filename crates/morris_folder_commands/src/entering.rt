@@ -1,9 +1,11 @@
-//! How a folder is entered in which files are replaced: it is locked, and its list of digests forgets
-//! them.
-ghost use Rattle.std.specs.Prelude.{◌≡◌, ◌-◌, ◌^◌, ◌<◌, [], true, false, IfErr, MatchResult, OnOk, Ok, Err};
+//! How a folder is entered in which files are replaced: it is locked, and its list of digests
+//! forgets them.
+ghost use Rattle.std.specs.Prelude.{◌≡◌, ◌-◌, ◌^◌, ◌<◌, [], Some, true, false, IfErr, MatchResult, OnOk, Ok, Err};
 ghost use Rattle.morris_files.specs.Files.{Goes};
 ghost use Rattle.morris_jobs.specs.Faults.{is_write};
-ghost use Rattle.morris_folder_commands.specs.Entering.{BeginsList, IsCaused, IsEntered, IsLeft, IsShut, IsUnbegun};
+ghost use Rattle.morris_folder_commands.specs.Causes.{HasCause, MayBeLong};
+ghost use Rattle.morris_folder_commands.specs.Into.{digests_fault};
+ghost use Rattle.morris_folder_commands.specs.Entering.{BeginsList, IsEntered, IsLeft, IsShut, IsUnbegun, list_fault};
 
 use morris_board::board::Geometry;
 use morris_board::streams::Failed;
@@ -12,7 +14,7 @@ use morris_files::folder::Folder;
 use morris_files::names::digests_name;
 use morris_files::old_list::{ListFault, kept_lines};
 use morris_files::table_file::Written;
-use morris_files::whole::{NotWhole, Step};
+use morris_files::whole::Step;
 use morris_index::pair::Pair;
 use morris_jobs::fault::Fault;
 use std::alloc::Global;
@@ -29,9 +31,8 @@ const LOCK: &str = ".morris.lock";
 pub(crate) fn enter<F: Folder>(folder: &mut F) -> Result<(), Fault>
     requires { F.failures folder.old < 2 ^ 64 - 2 }
     ensures entered { MatchResult result (λ _. IsEntered (F.files folder.old) (F.files folder.new)) (IsShut (F.files folder.old) (F.files folder.new)) }
-    ensures caused { IfErr result (IsCaused (F.taken folder.old) (F.failures folder.old) (F.failures folder.new)) }
+    ensures caused { HasCause F.Reader.failures F.Writer.failures (F.taken folder.old) ⊥ (F.failures folder.old) (F.failures folder.new) result }
     ensures locked { OnOk result (F.locked folder.new ≡ true) }
-    ensures unfailed { OnOk result (F.failures folder.new ≡ F.failures folder.old) }
     ensures unwritten { IfErr result (λ refused. is_write refused ≡ false) }
 {
     if folder.make().is_err() {
@@ -65,17 +66,27 @@ pub(crate) fn begin_list<B: Geometry, F: Folder>(
     ensures begun { MatchResult result (λ kept. BeginsList board.now replaced (F.files folder.old) (F.files folder.new) (Ok kept.items))
         (IsUnbegun board.now (F.files folder.old) (F.files folder.new)) }
     ensures locked { F.locked folder.new ≡ true }
-    ensures unfailed { OnOk result (F.failures folder.new ≡ F.failures folder.old) }
+    ensures caused { HasCause F.Reader.failures F.Writer.failures (Some false) (MayBeLong board.now (F.files folder.old))
+        (F.failures folder.old) (F.failures folder.new) result }
     ensures unwritten { IfErr result (λ refused. is_write refused ≡ false) }
 {
     let kept = match kept_lines(alloc, folder, board, replaced) {
         Ok(kept) => kept,
-        Err(ListFault::Memory) => return Err(Fault::Memory),
-        Err(_) => return Err(Fault::Digests),
+        Err(refused) => return Err(list_fault(refused)),
     };
     match leave_list::<B, F>(alloc, board, kept.as_slice(), folder) {
         Ok(()) => Ok(kept),
         Err(refused) => Err(refused),
+    }
+}
+
+/// The fault of a list of digests that isn't had.
+fn list_fault(refused: ListFault) -> Fault
+    ensures { result ≡ list_fault refused }
+{
+    match refused {
+        ListFault::Memory => Fault::Memory,
+        _ => Fault::Digests,
     }
 }
 
@@ -93,7 +104,7 @@ fn leave_list<B: Geometry, F: Folder>(
     requires { F.failures folder.old < 2 ^ 64 - 2 }
     ensures left { MatchResult result (λ _. Goes (F.files folder.old) (F.files folder.new) (IsLeft board.now kept.now)) (IsUnbegun board.now (F.files folder.old) (F.files folder.new)) }
     ensures held { F.locked folder.new ≡ F.locked folder.old }
-    ensures unfailed { OnOk result (F.failures folder.new ≡ F.failures folder.old) }
+    ensures caused { HasCause F.Reader.failures F.Writer.failures (Some false) ⊥ (F.failures folder.old) (F.failures folder.new) result }
     ensures unwritten { IfErr result (λ refused. is_write refused ≡ false) }
 {
     if kept.is_empty() {
@@ -102,13 +113,17 @@ fn leave_list<B: Geometry, F: Folder>(
     let none: Vec<Written<B>> = Vec::new(alloc);
     match write_list(alloc, folder, board, kept, none.as_slice()) {
         Ok(()) => Ok(()),
-        Err(
-            NotWhole {
-                step: Step::Memory,
-                ..
-            },
-        ) => Err(Fault::Memory),
-        Err(_) => Err(Fault::Digests),
+        Err(fault) => Err(digests_fault(fault.step)),
+    }
+}
+
+/// The fault of a list of digests that isn't left, by the step that failed.
+pub(crate) fn digests_fault(step: Step) -> Fault
+    ensures { result ≡ digests_fault step }
+{
+    match step {
+        Step::Memory => Fault::Memory,
+        _ => Fault::Digests,
     }
 }
 
@@ -117,14 +132,18 @@ fn remove_list<F: Folder>(alloc: Global, board: &str, folder: &mut F) -> Result<
     requires { F.failures folder.old < 2 ^ 64 - 1 }
     ensures left { MatchResult result (λ _. Goes (F.files folder.old) (F.files folder.new) (IsLeft board.now [])) (IsUnbegun board.now (F.files folder.old) (F.files folder.new)) }
     ensures held { F.locked folder.new ≡ F.locked folder.old }
-    ensures unfailed { OnOk result (F.failures folder.new ≡ F.failures folder.old) }
+    ensures caused { HasCause F.Reader.failures F.Writer.failures (Some false) ⊥ (F.failures folder.old) (F.failures folder.new) result }
     ensures unwritten { IfErr result (λ refused. is_write refused ≡ false) }
 {
     let Ok(name) = digests_name(alloc, board) else {
         return Err(Fault::Memory);
     };
-    if folder.remove(name.as_str()).is_err() || folder.settle().is_err() {
-        return Err(Fault::Digests);
+    match folder.remove(name.as_str()) {
+        Ok(()) => {}
+        Err(Failed) => return Err(Fault::Digests),
     }
-    Ok(())
+    match folder.settle() {
+        Ok(()) => Ok(()),
+        Err(Failed) => Err(Fault::Digests),
+    }
 }

@@ -1,10 +1,11 @@
 //! The command `verify` over the files of a folder.
-ghost use Rattle.std.specs.Prelude.{◌≡◌, ◌+◌, ◌-◌, ◌^◌, ◌<◌, ◌≤◌, None, false, IfErr, IfOk, OnOk};
+ghost use Rattle.std.specs.Prelude.{◌≡◌, ◌+◌, ◌-◌, ◌^◌, ◌<◌, ◌≤◌, Some, None, false, IfErr, IfOk, OnOk};
 ghost use Rattle.morris_jobs.specs.Inputs.{IsUnfit, Joins};
 ghost use Rattle.morris_jobs.specs.Inputs.{MayFail};
 ghost use Rattle.morris_jobs.specs.Verified.{verified_text};
 ghost use Rattle.morris_jobs.specs.BoardNames.{board_of};
 ghost use Rattle.morris_jobs.specs.Faults.{CountsWrites, is_write};
+ghost use Rattle.morris_folder_commands.specs.Causes.{HasCause};
 ghost use Rattle.morris_folder_commands.specs.Filling.{PrintsLine};
 ghost use Rattle.morris_folder_commands.specs.From.{AnswersFound, AnswersFrom, AnswersFromOn, KeepsNear};
 ghost use Rattle.morris_folder_commands.specs.FromSteps.{AnswersFile, TakesIn};
@@ -16,7 +17,7 @@ ghost use Rattle.morris_pairs.specs.Tables.{IsTable};
 use crate::places::pair_at;
 use crate::survey::look_ahead;
 use morris_board::board::{Board, Geometry};
-use morris_board::streams::Sink;
+use morris_board::streams::{Failed, Sink};
 use morris_files::folder::Folder;
 use morris_files::kept::{KeptFault, read_table_file};
 use morris_index::below::PAIR_COUNT;
@@ -67,7 +68,7 @@ pub fn verify_from<R: Threads + Sync, F: Folder, O: Sink, T: Teller>(
     ensures answer { AnswersFrom (board_of board.now) (F.files folder.old) board.now (O.contents output.old) (O.contents output.new) result }
     ensures kept { Keeps (F.files folder.old) (F.files folder.new) }
     ensures untouched { board_of board.now ≡ None → folder.new ≡ folder.old }
-    ensures unfailed { OnOk result (F.failures folder.new ≡ F.failures folder.old) }
+    ensures caused { HasCause F.Reader.failures F.Writer.failures (Some false) ⊥ (F.failures folder.old) (F.failures folder.new) result }
     ensures counted { CountsWrites (O.failures output.old) (O.failures output.new) result }
     ensures told { T.becomes teller.old teller.new }
 {
@@ -88,14 +89,14 @@ fn from_on<B: Board, R: Threads + Sync, F: Folder, O: Sink, T: Teller>(
     requires room { MayFail (F.failures folder.old) (O.failures output.old) }
     ensures answer { AnswersFromOn B.shape (F.files folder.old) board.now (O.contents output.old) (O.contents output.new) result }
     ensures kept { Keeps (F.files folder.old) (F.files folder.new) }
-    ensures unfailed { OnOk result (F.failures folder.new ≡ F.failures folder.old) }
+    ensures caused { HasCause F.Reader.failures F.Writer.failures (Some false) ⊥ (F.failures folder.old) (F.failures folder.new) result }
     ensures counted { CountsWrites (O.failures output.old) (O.failures output.new) result }
     ensures told { T.becomes teller.old teller.new }
 {
-    if folder.find().is_err() {
-        return Err(Fault::NoFolder);
+    match folder.find() {
+        Ok(()) => verify_found::<B, R, F, O, T>(crew, board, folder, output, teller),
+        Err(Failed) => Err(Fault::NoFolder),
     }
-    verify_found::<B, R, F, O, T>(crew, board, folder, output, teller)
 }
 
 /// Verifies the tables of a folder that is there.
@@ -109,7 +110,7 @@ fn verify_found<B: Board, R: Threads + Sync, F: Folder, O: Sink, T: Teller>(
     requires room { MayFail (F.failures folder.old) (O.failures output.old) }
     ensures answer { AnswersFound B.shape (F.files folder.old) board.now (O.contents output.old) (O.contents output.new) result }
     ensures kept { Keeps (F.files folder.old) (F.files folder.new) }
-    ensures unfailed { OnOk result (F.failures folder.new ≡ F.failures folder.old) }
+    ensures caused { HasCause F.Reader.failures F.Writer.failures (Some false) ⊥ (F.failures folder.old) (F.failures folder.new) result }
     ensures counted { CountsWrites (O.failures output.old) (O.failures output.new) result }
     ensures told { T.becomes teller.old teller.new }
 {
@@ -152,7 +153,7 @@ fn read_kept<B: Geometry, F: Folder>(
     requires { F.failures folder.old < 2 ^ 64 - 1 }
     ensures answer { AnswersFile B.shape (F.files folder.old) (name_of board.now pair) pair result }
     ensures kept { Keeps (F.files folder.old) (F.files folder.new) }
-    ensures unfailed { OnOk result (F.failures folder.new ≡ F.failures folder.old) }
+    ensures caused { HasCause F.Reader.failures F.Writer.failures (Some false) ⊥ (F.failures folder.old) (F.failures folder.new) result }
     ensures unwritten { IfErr result (λ refused. is_write refused ≡ false) }
 {
     match read_table_file(alloc, folder, board, pair) {

@@ -1,22 +1,23 @@
 //! The command `build` into a folder.
-ghost use Rattle.std.specs.Prelude.{◌≡◌, ℕ, ◌+◌, ◌-◌, ◌^◌, ◌<◌, ◌≤◌, ◌++◌, List, Option, true, false, is_some, length, Err, IfErr, IfOk, MatchResult, OnOk};
+ghost use Rattle.std.specs.Prelude.{◌≡◌, ℕ, ◌+◌, ◌-◌, ◌^◌, ◌<◌, ◌≤◌, ◌++◌, List, Option, Some, true, false, is_some, length, Err, IfErr, IfOk, MatchResult, OnOk};
 ghost use Rattle.morris_pairs.specs.Shelves.{table_on};
 ghost use Rattle.morris_jobs.specs.Orders.{layout_asked};
 ghost use Rattle.morris_jobs.specs.Faults.{CountsWrites, is_write};
+ghost use Rattle.morris_folder_commands.specs.Causes.{HasCause, MayBeLong};
 ghost use Rattle.morris_folder_commands.specs.Filling.{IsFilledBut, KeepsTable, PrintsLine};
-ghost use Rattle.morris_folder_commands.specs.Into.{AnswersFolder, AnswersInto, AnswersRead, Ends, FillsFolder, IsAsked, IsAskedOf, filed_text, place_of};
+ghost use Rattle.morris_folder_commands.specs.Into.{AnswersFolder, AnswersInto, AnswersRead, Ends, FillsFolder, IsAsked, IsAskedOf, filed_text, place_of, unwritten_fault};
 ghost use Rattle.morris_jobs.specs.BoardNames.{board_of};
 ghost use Rattle.morris_jobs.specs.PairText.{read_pair_of};
 ghost use Rattle.morris_files.specs.Digests.{digest_lines};
 
-use crate::entering::{begin_list, enter};
+use crate::entering::{begin_list, digests_fault, enter};
 use crate::print_filed::Filed;
 use morris_board::board::{Board, Geometry};
 use morris_board::streams::Sink;
 use morris_files::digests::write_list;
 use morris_files::folder::Folder;
 use morris_files::table_file::{Written, write_table_file};
-use morris_files::whole::{NotWhole, Step};
+use morris_files::whole::Step;
 use morris_index::below::PAIR_COUNT;
 use morris_index::pair::Pair;
 use morris_jobs::fault::Fault;
@@ -51,8 +52,8 @@ struct Filling<'a, B: Geometry, R> {
 /// bytes and its SHA-256 goes out on `output`. The folder is made where there is none, and locked
 /// from before its first file to after its last, so that no other build is at work in it. The file
 /// of the digests first forgets the files that are replaced; at the end it has the lines of those
-/// that are not, and then those of the files that were written. Each file is written whole or not at
-/// all.
+/// that are not, and then those of the files that were written. Each file is written whole or not
+/// at all.
 ///
 /// The rest is as [`build_out`](morris_commands::build::build_out) has it. Fewer than
 /// `u64::MAX - 1` calls of the folder may have failed before.
@@ -60,13 +61,13 @@ struct Filling<'a, B: Geometry, R> {
 /// # Errors
 /// Those of [`build_out`](morris_commands::build::build_out) for the words, in the same order;
 /// nothing is then written, and the folder isn't touched. Else [`Fault::Folder`] where the folder
-/// can't be made, else [`Fault::NoFolder`] where its path is empty or stands for something else, else
-/// [`Fault::Unlocked`] where it can't be locked, or [`Fault::Busy`] where another build is at work in
-/// it. Else [`Fault::Digests`] where the file of the digests can't be read or written. Else the first
-/// refusal: one of a build; [`Fault::Unwritten`] where a file can't
-/// be written; [`Fault::Write`], with all bytes that went out, at the first write to `output` that
-/// fails; at last [`Fault::Digests`] where the file of the digests can't be written; or
-/// [`Fault::Memory`] where memory is refused. The files that were written before stay.
+/// can't be made, else [`Fault::NoFolder`] where its path is empty or stands for something else,
+/// else [`Fault::Unlocked`] where it can't be locked, or [`Fault::Busy`] where another build is at
+/// work in it. Else [`Fault::Digests`] where the file of the digests can't be read or written. Else
+/// the first refusal: one of a build; [`Fault::Unwritten`] where a file can't be written;
+/// [`Fault::Write`], with all bytes that went out, at the first write to `output` that fails; at
+/// last [`Fault::Digests`] where the file of the digests can't be written; or [`Fault::Memory`]
+/// where memory is refused. The files that were written before stay.
 pub fn build_into<R: Threads + Wait + Sync, F: Folder, O: Sink, T: Teller>(
     rt: &R,
     alloc: Global,
@@ -84,7 +85,8 @@ pub fn build_into<R: Threads + Wait + Sync, F: Folder, O: Sink, T: Teller>(
     ensures answer { AnswersInto (board_of board.now) (layout_asked classes) board.now pair.now workers blocks
         (place_of (F.files folder.old) (O.contents output.old)) (place_of (F.files folder.new) (O.contents output.new)) result }
     ensures untouched { ¬ IsAsked (board_of board.now) pair.now workers blocks → folder.new ≡ folder.old }
-    ensures unfailed { OnOk result (F.failures folder.new ≡ F.failures folder.old) }
+    ensures caused { HasCause F.Reader.failures F.Writer.failures (F.taken folder.old) (MayBeLong board.now (F.files folder.old))
+        (F.failures folder.old) (F.failures folder.new) result }
     ensures counted { CountsWrites (O.failures output.old) (O.failures output.new) result }
     ensures told { T.becomes teller.old teller.new }
 {
@@ -118,7 +120,8 @@ fn into_on<B: Board, R: Threads + Wait + Sync, F: Folder, O: Sink, T: Teller>(
         (place_of (F.files folder.old) (O.contents output.old)) (place_of (F.files folder.new) (O.contents output.new)) result
         (read_pair_of B.shape.points order.entry.pair.now) }
     ensures untouched { ¬ IsAskedOf B.shape.points order.entry.pair.now order.entry.workers order.entry.blocks → folder.new ≡ folder.old }
-    ensures unfailed { OnOk result (F.failures folder.new ≡ F.failures folder.old) }
+    ensures caused { HasCause F.Reader.failures F.Writer.failures (F.taken folder.old) (MayBeLong order.entry.board.now (F.files folder.old))
+        (F.failures folder.old) (F.failures folder.new) result }
     ensures counted { CountsWrites (O.failures output.old) (O.failures output.new) result }
     ensures told { T.becomes teller.old teller.new }
 {
@@ -133,7 +136,8 @@ fn into_on<B: Board, R: Threads + Wait + Sync, F: Folder, O: Sink, T: Teller>(
     into_folder(&filling, folder, output, teller)
 }
 
-/// Fills a folder, which is made where there is none and locked, and writes the file of the digests.
+/// Fills a folder, which is made where there is none and locked, and writes the file of the
+/// digests.
 fn into_folder<B: Board, R: Threads + Wait + Sync, F: Folder, O: Sink, T: Teller>(
     filling: &Filling<'_, B, R>,
     folder: &mut F,
@@ -145,7 +149,8 @@ fn into_folder<B: Board, R: Threads + Wait + Sync, F: Folder, O: Sink, T: Teller
     ensures points { B.shape.points ≡ B.POINTS }
     ensures answer { AnswersFolder B.shape filling.now.layout filling.now.board.now filling.now.pair filling.now.crew.team.blocks
         (place_of (F.files folder.old) (O.contents output.old)) (place_of (F.files folder.new) (O.contents output.new)) result }
-    ensures unfailed { OnOk result (F.failures folder.new ≡ F.failures folder.old) }
+    ensures caused { HasCause F.Reader.failures F.Writer.failures (F.taken folder.old) (MayBeLong filling.now.board.now (F.files folder.old))
+        (F.failures folder.old) (F.failures folder.new) result }
     ensures counted { CountsWrites (O.failures output.old) (O.failures output.new) result }
     ensures told { T.becomes teller.old teller.new }
 {
@@ -169,7 +174,7 @@ fn fill_locked<B: Board, R: Threads + Wait + Sync, F: Folder, O: Sink, T: Teller
     ensures points { B.shape.points ≡ B.POINTS }
     ensures filled { FillsFolder B.shape filling.now.layout filling.now.board.now filling.now.pair filling.now.crew.team.blocks kept.now
         (place_of (F.files folder.old) (O.contents output.old)) (place_of (F.files folder.new) (O.contents output.new)) result }
-    ensures unfailed { OnOk result (F.failures folder.new ≡ F.failures folder.old) }
+    ensures caused { HasCause F.Reader.failures F.Writer.failures (Some false) ⊥ (F.failures folder.old) (F.failures folder.new) result }
     ensures counted { CountsWrites (O.failures output.old) (O.failures output.new) result }
     ensures told { T.becomes teller.old teller.new }
 {
@@ -202,7 +207,7 @@ fn fill<B: Board, R: Threads + Wait + Sync, F: Folder, O: Sink, T: Teller>(
         (λ refused. FillsFolder B.shape filling.now.layout filling.now.board.now filling.now.pair filling.now.crew.team.blocks kept
         (place_of (F.files folder.old) (O.contents output.old)) (place_of (F.files folder.new) (O.contents output.new)) (Err refused)) }
     ensures locked { F.locked folder.new ≡ true }
-    ensures unfailed { OnOk result (F.failures folder.new ≡ F.failures folder.old) }
+    ensures caused { HasCause F.Reader.failures F.Writer.failures (Some false) ⊥ (F.failures folder.old) (F.failures folder.new) result }
     ensures counted { CountsWrites (O.failures output.old) (O.failures output.new) result }
     ensures told { T.becomes teller.old teller.new }
 {
@@ -241,7 +246,7 @@ fn keep_table<B: Geometry, F: Folder>(
     ensures kept { KeepsTable B.shape board.now (table_on stock.now pair) (F.files folder.old) (F.files folder.new) result }
     ensures short { IfOk result (λ file. length (filed_text file.pair file.entries file.bytes file.digest) ≤ 2 ^ 10) }
     ensures locked { F.locked folder.new ≡ true }
-    ensures unfailed { OnOk result (F.failures folder.new ≡ F.failures folder.old) }
+    ensures caused { HasCause F.Reader.failures F.Writer.failures (Some false) ⊥ (F.failures folder.old) (F.failures folder.new) result }
     ensures unwritten { IfErr result (λ refused. is_write refused ≡ false) }
 {
     let Some(table) = stock.get(pair) else {
@@ -252,13 +257,17 @@ fn keep_table<B: Geometry, F: Folder>(
     let _ = (pair.greater(), table.len());
     match write_table_file(alloc, folder, board, table) {
         Ok(written) => Ok(written),
-        Err(
-            NotWhole {
-                step: Step::Memory,
-                ..
-            },
-        ) => Err(Fault::Memory),
-        Err(_) => Err(Fault::Unwritten(pair.greater(), pair.lesser())),
+        Err(fault) => Err(unwritten_fault(pair, fault.step)),
+    }
+}
+
+/// The fault of a pair whose file isn't written, by the step that failed.
+fn unwritten_fault<B: Geometry>(pair: Pair<B>, step: Step) -> Fault
+    ensures { result ≡ unwritten_fault pair step }
+{
+    match step {
+        Step::Memory => Fault::Memory,
+        _ => Fault::Unwritten(pair.greater(), pair.lesser()),
     }
 }
 
@@ -294,17 +303,11 @@ fn end<B: Geometry, F: Folder>(
     requires locked { F.locked folder.old ≡ true }
     ensures ended { (out : Option (List ℕ)) → Ends board.now (kept.now ++ digest_lines board.now (λ w. w.pair) (λ w. w.digest) written.now) (place_of (F.files folder.old) out)
         (place_of (F.files folder.new) out) result }
-    ensures unfailed { OnOk result (F.failures folder.new ≡ F.failures folder.old) }
+    ensures caused { HasCause F.Reader.failures F.Writer.failures (Some false) ⊥ (F.failures folder.old) (F.failures folder.new) result }
     ensures unwritten { IfErr result (λ refused. is_write refused ≡ false) }
 {
     match write_list(alloc, folder, board, kept, written) {
         Ok(()) => Ok(()),
-        Err(
-            NotWhole {
-                step: Step::Memory,
-                ..
-            },
-        ) => Err(Fault::Memory),
-        Err(_) => Err(Fault::Digests),
+        Err(fault) => Err(digests_fault(fault.step)),
     }
 }

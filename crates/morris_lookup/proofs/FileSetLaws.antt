@@ -12,7 +12,7 @@ use Rattle.morris_pairs.specs.Shelves.{has_place, place_of}
 use Rattle.morris_pairs.proofs.ShelfLaws.{place_of-lt, cases_pair}
 use Rattle.morris_lookup.specs.Opening.{OpenFile, IsOpen}
 use Rattle.morris_lookup.specs.Lookups.{code_for, IsExactFile}
-use Rattle.morris_lookup.specs.FileSets.{Files, file_for, AreFiles, AreExactFiles, said_in, said_at, said_of, missing_file}
+use Rattle.morris_lookup.specs.FileSets.{Files, file_for, AreFiles, IsExactAt, said_in, said_at, said_of, missing_file}
 
 -- ---- the places
 
@@ -119,8 +119,8 @@ module _ (board : Shape) (files : Files) (s : Sides) (c : Counts) (of : pair_of 
       from None is e = cc
       from (Some bytes) is e = let same : value_in (code_for board file bytes s) ≡ value = cc in is ∙ ap (λ v. Ok v) same
 
-  pub exact_there : (file : OpenFile) → file_for files c ≡ Some file → AreExactFiles board files → IsExactFile board file
-  exact_there file there exact = rw there at (exact c)
+  pub exact_there : (file : OpenFile) → file_for files c ≡ Some file → IsExactAt board files s → IsExactFile board file
+  exact_there file there exact = rw (of, there) at exact
 
 -- a position of no pair is said to be lost
 pub said_lost : {F : Type 0} → (board : Shape) (files : Files) (s : Sides) (answer : Result Value F) (lost : Value) → pair_of s ≡ None → said_at board files s None ≡ Some lost

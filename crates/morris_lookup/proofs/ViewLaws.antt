@@ -22,7 +22,7 @@ use Rattle.morris_pairs.specs.declared.header.Header.{Header}
 use Rattle.morris_pairs.specs.FileReading.{unless, are_counts, is_version, header_at, layout_in, kind_in}
 use Rattle.morris_lookup.specs.Opening.{framed_in}
 use Rattle.morris_lookup.specs.declared.fault.ViewFault.TheVariants as view
-use Rattle.morris_lookup.specs.Views.{is_by_classes, value_by_kind, value_of_bytes, value_said, needs_words}
+use Rattle.morris_lookup.specs.Views.{is_by_classes, value_by_kind, value_of_bytes, value_said, needs_words, IsExactAt, IsExactFile}
 use Rattle.morris_lookup.specs.Views.{names_pair, file_of_pair}
 use Rattle.std.proofs.lemmas.List.{get_or-take}
 
@@ -114,6 +114,9 @@ module _ (board : Shape) (files : List (List ℕ)) (s : Sides) where
 
       pub needs-file : needs_words files s ≡ is_by_classes bytes
       needs-file = rw (← of, ← there) refl
+
+      pub exact-file : IsExactAt board files s → IsExactFile board bytes
+      exact-file exact = rw (← of, ← there) at exact
 
 -- ---- what is said of bytes by the steps of opening
 

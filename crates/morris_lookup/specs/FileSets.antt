@@ -1,8 +1,11 @@
 -- A set of open files, one for each pair at most, and what they say of positions.
-use Rattle.std.specs.Prelude.{◌≡◌, ℕ, List, length, slice_index_or, Option, Some, None, IfSome, is_some, if◌then◌else◌}
+use Rattle.std.specs.Prelude.{◌≡◌, ⊤, ℕ, List, length, slice_index_or, Option, Some, None, IfSome, is_some, if◌then◌else◌}
+use Rattle.std.specs.List.{Contains}
 use Rattle.morris_board.specs.Boards.{Shape}
 use Rattle.morris_board.specs.Positions.{Sides}
 use Rattle.morris_index.specs.Pairs.{Counts, pair_of}
+use Rattle.morris_moves.specs.declared.step.Move.{Move}
+use Rattle.morris_moves.specs.Rules.{moves_of, result_of}
 use Rattle.morris_pairs.specs.declared.value.Value.{Value}
 use Rattle.morris_pairs.specs.declared.value.Value.TheVariants.{Lost}
 use Rattle.morris_pairs.specs.Codes.{value_in}
@@ -25,9 +28,17 @@ pub record AreFiles (board : Shape) (files : Files) : Type 0 where
   pub places : length files ≡ 49
   pub right : (c : Counts) → IfSome (file_for files c) (λ file. (file.pair ≡ c) × IsOpen board file)
 
--- each is the file of an exact table
-abbrev pub AreExactFiles : Shape → Files → Type 0
-AreExactFiles board files = (c : Counts) → IfSome (file_for files c) (IsExactFile board)
+-- the open file that tells of a position, where there is one, is that of an exact table
+abbrev pub IsExactFor : Shape → Files → Option Counts → Type 0
+IsExactFor board files None = ⊤
+IsExactFor board files (Some c) = IfSome (file_for files c) (IsExactFile board)
+
+abbrev pub IsExactAt : Shape → Files → Sides → Type 0
+IsExactAt board files s = IsExactFor board files (pair_of s)
+
+-- so are those that tell of the positions after its legal moves
+abbrev pub AreExactAfter : Shape → Files → Sides → Type 0
+AreExactAfter board files s = (m : Move) → Contains (moves_of board s) m → IsExactAt board files (result_of s m)
 
 -- what a file says of a position of its pair, where its bytes are known
 abbrev pub said_in : Shape → OpenFile → Sides → Option (List ℕ) → Option Value

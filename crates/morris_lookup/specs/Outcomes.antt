@@ -1,5 +1,5 @@
 -- What each legal move leads to, for the player who makes it.
-use Rattle.std.specs.Prelude.{◌≡◌, ◌⊎◌, suc, Some}
+use Rattle.std.specs.Prelude.{◌≡◌, ◌≢◌, ◌⊎◌, ⊤, suc, List, [], ◌∷◌, ◌++◌, Option, Some, None}
 use Rattle.std.specs.List.{Contains}
 use Rattle.morris_board.specs.Boards.{Shape}
 use Rattle.morris_board.specs.Positions.{Sides}
@@ -11,7 +11,7 @@ use Rattle.morris_pairs.specs.Codes.{IsValue}
 use Rattle.morris_lookup.specs.declared.fault.LookFault.{LookFault}
 use Rattle.morris_lookup.specs.declared.fault.LookFault.TheVariants as fault
 use Rattle.morris_lookup.specs.declared.outcomes.Outcome.{Outcome}
-use Rattle.morris_lookup.specs.FileSets.{Files, said_of, AreExactFiles, IsValueRefusal}
+use Rattle.morris_lookup.specs.FileSets.{Files, missing_file, said_of, IsExactAt, IsValueRefusal}
 
 -- What a position's value is for the player who has just moved to it: where the player to move has
 -- lost in d plies, a win in d + 1, and so on.
@@ -20,19 +20,57 @@ turned Draw = Draw
 turned (Won depth) = Lost (suc depth)
 turned (Lost depth) = Won (suc depth)
 
--- The outcome of a move is the value of the position after it, turned round: the one that the files
--- say, where their bytes are known; and the one in the game, where they are exact.
+-- The outcome of a move is the value of the position after it, of which the file is open, turned
+-- round: the one that the files say, where their bytes are known; and the one in the game, where
+-- the file that tells of it is exact.
 pub record IsOutcome (board : Shape) (files : Files) (s : Sides) (outcome : Outcome) : Type 0 where
   pub next : Value
+  pub found : missing_file files (result_of s outcome.step) ≡ None
   pub turned_round : outcome.value ≡ turned next
   pub said : (value : Value) → said_of board files (result_of s outcome.step) ≡ Some value → next ≡ value
-  pub exact : AreExactFiles board files → IsValue board (result_of s outcome.step) next
+  pub exact : IsExactAt board files (result_of s outcome.step) → IsValue board (result_of s outcome.step) next
 
--- why no outcome is found: there is no value after a legal move; or memory ran out
+-- Of the legal moves in turn, the one after which there is no value is the first after which no
+-- file is open, or whose file couldn't be read: those before it have their files.
+pub record StopsAt {B : Type 0} (board : Shape) (files : Files) (s : Sides) (refusal : LookFault B) : Type 0 where
+  pub before : List Move
+  pub step : Move
+  pub after : List Move
+  pub all : before ++ step ∷ after ≡ moves_of board s
+  pub found : (m : Move) → Contains before m → missing_file files (result_of s m) ≡ None
+  pub refused : IsValueRefusal board files (result_of s step) refusal
+
+-- why no outcomes are found: there is no value after a legal move; or memory ran out
 abbrev pub IsOutcomeRefusal : {B : Type 0} → Shape → Files → Sides → LookFault B → Type 0
-IsOutcomeRefusal board files s fault.Memory = Unit {0}
-IsOutcomeRefusal board files s refusal = (m : Move) × Contains (moves_of board s) m × IsValueRefusal board files (result_of s m) refusal
+IsOutcomeRefusal board files s fault.Memory = ⊤
+IsOutcomeRefusal board files s refusal = StopsAt board files s refusal
 
--- why no best moves are found: no value of the position, or no outcome of a legal move
+-- why no best moves are found: no value of the position; or, where its file is there, no outcomes
 abbrev pub IsBestRefusal : {B : Type 0} → Shape → Files → Sides → LookFault B → Type 0
-IsBestRefusal board files s refusal = IsValueRefusal board files s refusal ⊎ IsOutcomeRefusal board files s refusal
+IsBestRefusal board files s refusal = IsValueRefusal board files s refusal ⊎ ((missing_file files s ≡ None) × IsOutcomeRefusal board files s refusal)
+
+-- ---- best moves by what the files say
+
+-- by what the files say of its result, where they say a value, a move leads to this value; or it
+-- doesn't
+abbrev pub MayLead : Value → Option Value → Type 0
+MayLead value None = ⊤
+MayLead value (Some next) = turned next ≡ value
+
+abbrev pub MayNotLead : Value → Option Value → Type 0
+MayNotLead value None = ⊤
+MayNotLead value (Some next) = turned next ≢ value
+
+-- Of moves in turn, those that lead to this value, in order, and no others, by what the files say.
+abbrev pub ArePicked : Shape → Files → Sides → Value → List Move → List Move → Type 0
+ArePicked board files s value [] best = best ≡ []
+ArePicked board files s value (m ∷ moves) best =
+    (MayNotLead value (said_of board files (result_of s m)) × ArePicked board files s value moves best)
+    ⊎ ((rest : List Move) × (best ≡ m ∷ rest) × MayLead value (said_of board files (result_of s m)) × ArePicked board files s value moves rest)
+
+-- The list has the legal moves that lead to the value of the position, which is the one that the
+-- files say, where they say one.
+pub record AreSaidBest (board : Shape) (files : Files) (s : Sides) (best : List Move) : Type 0 where
+  pub value : Value
+  pub said : (other : Value) → said_of board files s ≡ Some other → value ≡ other
+  pub picked : ArePicked board files s value (moves_of board s) best

@@ -1,9 +1,11 @@
 -- What table files in memory say of positions.
-use Rattle.std.specs.Prelude.{◌≡◌, ℕ, Bool, true, false, ◌&&◌, nat_eq, nat_le, List, length, map, slice_index, Option, Some, None, Result, Ok, Err}
+use Rattle.std.specs.Prelude.{◌≡◌, ⊤, ℕ, Bool, true, false, ◌&&◌, nat_eq, nat_le, List, length, map, slice_index, Option, Some, None, IfSome, Result, Ok, Err}
 use Rattle.std.specs.List.{Contains, find}
 use Rattle.morris_board.specs.Boards.{Shape}
 use Rattle.morris_board.specs.Positions.{Sides}
 use Rattle.morris_index.specs.Pairs.{Counts, pair_of}
+use Rattle.morris_moves.specs.declared.step.Move.{Move}
+use Rattle.morris_moves.specs.Rules.{moves_of, result_of}
 use Rattle.morris_pairs.specs.declared.layout.Layout.{Layout}
 use Rattle.morris_pairs.specs.declared.value.Value.{Value}
 use Rattle.morris_pairs.specs.declared.value.Value.TheVariants.{Lost}
@@ -82,9 +84,18 @@ pair_needs_words files (Some c) = is_read_by_classes (file_of_pair files c)
 abbrev pub needs_words : List (List ℕ) → Sides → Bool
 needs_words files s = pair_needs_words files (pair_of s)
 
--- each is the file of an exact table
+-- the file is that of an exact table
 abbrev pub IsExactFile : Shape → List ℕ → Type 0
 IsExactFile board bytes = (t : Table) × IsTable board t × (bytes ≡ file_of board t)
 
-abbrev pub AreExactFiles : Shape → List (List ℕ) → Type 0
-AreExactFiles board files = (bytes : List ℕ) → Contains files bytes → IsExactFile board bytes
+-- the file that tells of a position, where there is one, is that of an exact table
+abbrev pub IsExactFor : Shape → List (List ℕ) → Option Counts → Type 0
+IsExactFor board files None = ⊤
+IsExactFor board files (Some c) = IfSome (file_of_pair files c) (IsExactFile board)
+
+abbrev pub IsExactAt : Shape → List (List ℕ) → Sides → Type 0
+IsExactAt board files s = IsExactFor board files (pair_of s)
+
+-- so are those that tell of the positions after its legal moves
+abbrev pub AreExactAfter : Shape → List (List ℕ) → Sides → Type 0
+AreExactAfter board files s = (m : Move) → Contains (moves_of board s) m → IsExactAt board files (result_of s m)

@@ -4,9 +4,9 @@ ghost use Rattle.std.specs.List.{Contains};
 ghost use Rattle.morris_moves.specs.declared.step.Move.{Move};
 ghost use Rattle.morris_moves.specs.Rules.{moves_of};
 ghost use Rattle.morris_probe.specs.Best.{AreBest};
-ghost use Rattle.morris_lookup.specs.FileSets.{AreExactFiles};
+ghost use Rattle.morris_lookup.specs.FileSets.{AreExactAfter, IsExactAt};
 ghost use Rattle.morris_lookup.specs.Lines.{IsBestStep, Falls};
-ghost use Rattle.morris_lookup.specs.Outcomes.{IsBestRefusal};
+ghost use Rattle.morris_lookup.specs.Outcomes.{AreSaidBest, IsBestRefusal};
 
 use crate::fault::LookFault;
 use crate::outcomes::outcome_of;
@@ -20,9 +20,10 @@ use morris_pairs::value::Value;
 use std::alloc::Global;
 
 /// The best moves of a position, in order of from, then to, then taken: those that lead to the
-/// position's own value, as the files state both. If the files are those of exact tables, they are
-/// exactly the best moves of the game, and there is one wherever there is a legal move. Two bytes
-/// are read for the position and two for each legal move.
+/// position's own value, as the files state both. If the files of the position and of those after
+/// its legal moves are those of exact tables, they are exactly the best moves of the game, and
+/// there is one wherever there is a legal move. Two bytes are read for the position and two for
+/// each legal move.
 ///
 /// # Errors
 /// Those of [`Tables::value`] for the position; then [`LookFault::Memory`] where there is no room
@@ -33,9 +34,9 @@ pub fn best<B: Geometry, S: Storage>(
     tables: &Tables<B, S>,
     position: &Position<B>,
 ) -> Result<Vec<Move>, LookFault<B>>
-    ensures legal { IfOk result (λ best. (m : Move) → Contains best.items m → Contains (moves_of B.shape position.now) m) }
-    ensures best { AreExactFiles B.shape tables.now → IfOk result (λ best. AreBest B.shape position.now best.items) }
-    ensures some { AreExactFiles B.shape tables.now → IfOk result (λ best. (m : Move) → Contains (moves_of B.shape position.now) m → 0 < length best.items) }
+    ensures said { IfOk result (λ best. AreSaidBest B.shape tables.now position.now best.items) }
+    ensures best { IsExactAt B.shape tables.now position.now → AreExactAfter B.shape tables.now position.now → IfOk result (λ best. AreBest B.shape position.now best.items) }
+    ensures some { IsExactAt B.shape tables.now position.now → AreExactAfter B.shape tables.now position.now → IfOk result (λ best. (m : Move) → Contains (moves_of B.shape position.now) m → 0 < length best.items) }
     ensures refused { IfErr result (IsBestRefusal B.shape tables.now position.now) }
 {
     let found = tables.value(position)?;
@@ -57,9 +58,10 @@ fn is_same(one: Value, other: Value) -> bool
 }
 
 /// The next ply of best play: the first best move, and the position after it. The line of best play
-/// is this again and again. If the files are those of exact tables, a position that is won or lost
-/// in `d` plies is followed by one that is lost or won in `d - 1`; and `None` is only where there
-/// is no legal move, so the line ends at depth 0.
+/// is this again and again. If the files of the position and of those after its legal moves are
+/// those of exact tables, a position that is won or lost in `d` plies is followed by one that is
+/// lost or won in `d - 1`; and `None` is only where there is no legal move, so the line ends at
+/// depth 0.
 ///
 /// # Errors
 /// Those of [`best`].
@@ -68,9 +70,9 @@ pub fn next<B: Geometry, S: Storage>(
     tables: &Tables<B, S>,
     position: &Position<B>,
 ) -> Result<Option<(Move, Position<B>)>, LookFault<B>>
-    ensures best { AreExactFiles B.shape tables.now → IfOk result (λ next. IfSome next (IsBestStep B.shape position.now)) }
-    ensures falls { AreExactFiles B.shape tables.now → IfOk result (λ next. IfSome next (λ step. Falls B.shape position.now step.1)) }
-    ensures end { AreExactFiles B.shape tables.now → IfOk result (λ next. IfNone next ((m : Move) → Contains (moves_of B.shape position.now) m → ⊥)) }
+    ensures best { IsExactAt B.shape tables.now position.now → AreExactAfter B.shape tables.now position.now → IfOk result (λ next. IfSome next (IsBestStep B.shape position.now)) }
+    ensures falls { IsExactAt B.shape tables.now position.now → AreExactAfter B.shape tables.now position.now → IfOk result (λ next. IfSome next (λ step. Falls B.shape position.now step.1)) }
+    ensures end { IsExactAt B.shape tables.now position.now → AreExactAfter B.shape tables.now position.now → IfOk result (λ next. IfNone next ((m : Move) → Contains (moves_of B.shape position.now) m → ⊥)) }
     ensures refused { IfErr result (IsBestRefusal B.shape tables.now position.now) }
 {
     let best = best(alloc, tables, position)?;

@@ -1,9 +1,9 @@
 //! The legal moves of a position and what each leads to, by table files in memory.
 ghost use Rattle.std.specs.Prelude.{◌≡◌, ◌<◌, ◌≤◌, length, take, IfOk, IfErr, Ok, Err};
 ghost use Rattle.std.specs.List.{Contains};
-ghost use Rattle.morris_moves.specs.Rules.{moves_of};
+ghost use Rattle.morris_moves.specs.Rules.{moves_of, result_of};
 ghost use Rattle.morris_lookup.specs.Views.{contents};
-ghost use Rattle.morris_lookup.specs.Views.{ServeAll, AreExactFiles};
+ghost use Rattle.morris_lookup.specs.Views.{ServeAll, AreExactAfter, IsExactAt};
 ghost use Rattle.morris_lookup.specs.Listing.{outcome_of, outcomes_said, AreExactOutcomes, IsExactOutcome};
 
 use crate::fault::ViewFault;
@@ -20,8 +20,8 @@ use morris_moves::step::Move;
 /// the opponent has then lost in `d - 1`, and so on. Answers how many moves there are. At most
 /// 1,944 are legal. No memory is taken.
 ///
-/// For `files` and `words` see [`value`]. Where all files are those of exact tables, the values are
-/// those of the game.
+/// For `files` and `words` see [`value`]. Where the files of the positions after the moves are
+/// those of exact tables, the values are those of the game.
 ///
 /// # Errors
 /// [`ViewFault::Room`] where `out` has fewer places than there are legal moves. Then those of
@@ -37,7 +37,7 @@ pub fn outcomes<B: Geometry>(
     ensures room { length out.old < length (moves_of B.shape position.now) → result ≡ Err ViewFault.Room }
     ensures said { ServeAll B.shape words.now (contents files.now) → length (moves_of B.shape position.now) ≤ length out.old
         → IfOk result (λ count. outcomes_said B.shape (contents files.now) position.now (moves_of B.shape position.now) ≡ Ok (take count out.new)) }
-    ensures exact { ServeAll B.shape words.now (contents files.now) → AreExactFiles B.shape (contents files.now)
+    ensures exact { ServeAll B.shape words.now (contents files.now) → AreExactAfter B.shape (contents files.now) position.now
         → IfOk result (λ count. AreExactOutcomes B.shape position.now (moves_of B.shape position.now) (take count out.new)) }
     ensures refused { ServeAll B.shape words.now (contents files.now) → length (moves_of B.shape position.now) ≤ length out.old
         → IfErr result (λ fault. outcomes_said B.shape (contents files.now) position.now (moves_of B.shape position.now) ≡ Err fault) }
@@ -72,7 +72,7 @@ fn outcome_of<B: Geometry>(
 ) -> Result<MoveRecord, ViewFault>
     requires { Contains (moves_of B.shape position.now) m }
     ensures said { ServeAll B.shape words.now (contents files.now) → result ≡ outcome_of B.shape (contents files.now) position.now m }
-    ensures exact { ServeAll B.shape words.now (contents files.now) → AreExactFiles B.shape (contents files.now) → IfOk result (IsExactOutcome B.shape position.now m) }
+    ensures exact { ServeAll B.shape words.now (contents files.now) → IsExactAt B.shape (contents files.now) (result_of position.now m) → IfOk result (IsExactOutcome B.shape position.now m) }
 {
     let next = value(files, words, &play(position, m))?;
     Ok(move_record(m, turned(next)))

@@ -1,7 +1,8 @@
 //! What each legal move leads to.
 ghost use Rattle.std.specs.Prelude.{◌≡◌, ◌<◌, ◌≤◌, map, IfOk, IfErr};
 ghost use Rattle.std.specs.List.{Contains};
-ghost use Rattle.morris_moves.specs.Rules.{moves_of};
+ghost use Rattle.morris_moves.specs.Rules.{moves_of, result_of};
+ghost use Rattle.morris_lookup.specs.FileSets.{IsValueRefusal};
 ghost use Rattle.morris_lookup.specs.Lookups.{depth_of};
 ghost use Rattle.morris_lookup.specs.Outcomes.{turned, IsOutcome, IsOutcomeRefusal};
 
@@ -26,8 +27,8 @@ pub struct Outcome {
 }
 
 /// The legal moves of a position, in order of from, then to, then taken, each with the value that
-/// it leads to for the player who makes it. Two bytes are read for each move. If the files are
-/// those of exact tables, the values are those of the game.
+/// it leads to for the player who makes it. Two bytes are read for each move. Where the file of
+/// the position after it is that of an exact table, the value is the game's.
 ///
 /// # Errors
 /// [`LookFault::Memory`] where there is no room for as many outcomes as there are legal moves;
@@ -62,7 +63,7 @@ pub(crate) fn outcome_of<B: Geometry, S: Storage>(
     requires { Contains (moves_of B.shape position.now) m }
     ensures step { IfOk result (λ outcome. outcome.step ≡ m) }
     ensures told { IfOk result (IsOutcome B.shape tables.now position.now) }
-    ensures refused { IfErr result (IsOutcomeRefusal B.shape tables.now position.now) }
+    ensures refused { IfErr result (IsValueRefusal B.shape tables.now (result_of position.now m)) }
 {
     let next = tables.value(&play(position, m))?;
     Ok(Outcome {

@@ -6,7 +6,7 @@ ghost use Rattle.morris_pairs.specs.Codes.{IsValue};
 ghost use Rattle.morris_pairs.specs.Shelves.{place_of};
 ghost use Rattle.morris_lookup.specs.Opening.{IsOpen};
 ghost use Rattle.morris_lookup.specs.Lookups.{depth_of};
-ghost use Rattle.morris_lookup.specs.FileSets.{file_for, AreFiles, AreExactFiles, said_of, missing_file, IsValueRefusal};
+ghost use Rattle.morris_lookup.specs.FileSets.{file_for, AreFiles, IsExactAt, said_of, missing_file, IsValueRefusal};
 
 use crate::fault::LookFault;
 use crate::opened::Opened;
@@ -50,15 +50,15 @@ impl<B: Geometry, S: Storage> Tables<B, S> {
     }
 
     /// The value that the files state for a position: that of the file of its pair. A player to
-    /// move with two stones has lost in 0 plies: that needs no file. If the files are those of
-    /// exact tables, it is the position's value in the game. Two bytes are read.
+    /// move with two stones has lost in 0 plies: that needs no file. If the file is that of an
+    /// exact table, it is the position's value in the game. Two bytes are read.
     ///
     /// # Errors
     /// [`LookFault::Needs`] with the pair of the position, where no file of it is open.
     /// [`LookFault::Read`] where the file can't be read.
     pub fn value(&self, position: &Position<B>) -> Result<Value, LookFault<B>>
         ensures said { (value : Value) → said_of B.shape self.now position.now ≡ Some value → result ≡ Ok value }
-        ensures exact { AreExactFiles B.shape self.now → IfOk result (IsValue B.shape position.now) }
+        ensures exact { IsExactAt B.shape self.now position.now → IfOk result (IsValue B.shape position.now) }
         ensures few { IfOk result (λ value. depth_of value ≤ 65534) }
         ensures refused { MatchResult result (λ _. missing_file self.now position.now ≡ None) (IsValueRefusal B.shape self.now position.now) }
     {

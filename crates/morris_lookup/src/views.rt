@@ -5,7 +5,7 @@ ghost use Rattle.morris_index.specs.Pairs.{is_of};
 ghost use Rattle.morris_pairs.specs.Codes.{IsValue};
 ghost use Rattle.morris_lookup.specs.Lookups.{code_at, depth_of};
 ghost use Rattle.morris_lookup.specs.Prepared.{looks_prepared};
-ghost use Rattle.morris_lookup.specs.Views.{contents, file_of_pair, names_pair, value_said, value_of_bytes, is_by_classes, needs_words, Serves, ServeAll, IsExactFile, AreExactFiles};
+ghost use Rattle.morris_lookup.specs.Views.{contents, file_of_pair, names_pair, value_said, value_of_bytes, is_by_classes, needs_words, Serves, ServeAll, IsExactAt};
 
 use crate::fault::ViewFault;
 use crate::framing::{bear_out, header_of};
@@ -31,8 +31,8 @@ pub struct View<'a> {
 /// the header is read, and two bytes. No memory is taken.
 ///
 /// `words` serve files by classes alone, and have to be those that [`prepare`](crate::prepared)
-/// filled for this board: else the value is any. Where all files are those of exact tables, it is
-/// the position's value in the game.
+/// filled for this board: else the value is any. Where that file is the one of an exact table, it
+/// is the position's value in the game.
 ///
 /// # Errors
 /// [`ViewFault::NoFile`] where no file names the position's pair. [`ViewFault::File`] where the
@@ -44,7 +44,7 @@ pub fn value<B: Geometry>(
     position: &Position<B>,
 ) -> Result<Value, ViewFault>
     ensures said { ServeAll B.shape words.now (contents files.now) → result ≡ value_said B.shape (contents files.now) position.now }
-    ensures exact { ServeAll B.shape words.now (contents files.now) → AreExactFiles B.shape (contents files.now) → IfOk result (IsValue B.shape position.now) }
+    ensures exact { ServeAll B.shape words.now (contents files.now) → IsExactAt B.shape (contents files.now) position.now → IfOk result (IsValue B.shape position.now) }
     ensures unready { IfOk result (λ _. needs_words (contents files.now) position.now ≡ true → looks_prepared B.shape words.now ≡ true) }
     ensures few { IfOk result (λ value. depth_of value ≤ 65534) }
 {

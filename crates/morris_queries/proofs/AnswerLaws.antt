@@ -1,5 +1,5 @@
--- What an answer is, and how what went out of one text, and then of the next, makes up what went out
--- of both.
+-- What an answer is, and how what went out of one text, and then of the next, makes up what went
+-- out of both.
 use Rattle.std.proofs.Common.{◌≡◌, ℕ, ◌+◌, ◌-◌, ◌^◌, ◌<◌, ◌≤◌, min, List, [], ◌∷◌, ◌++◌, Bor, get_or, take, map, length, Option, Some, Result, Ok, Err, refl, sym, ap, subst, ◌∙◌, inl, inr, arith, length-append, append-nil}
 use Rattle.std.specs.Prelude.{IfOk, is_err, if◌then◌else◌}
 use Rattle.std.specs.Io.KnownBytes.{Appends}
@@ -34,21 +34,23 @@ answer_refused board name known show text fault e = record {
   refused = λ other is. let same : fault ≡ other = cc in ap (λ f. Err (text_fault f)) same;
   listed = λ s is. cc;
   told = λ files there. inl (ap (told_to board name files show) e);
-  exact = λ files there right s is. cc;
+  exact = λ files there s is right. cc;
 }
 
 -- a position's
 pub answer_told : (board : Shape) (name : List ℕ) (known : Option Files) (show : Show) (text : List ℕ) (s : Sides) (answer : Answer)
     → read_of board text ≡ Ok s → IfOk answer (IsListed board s)
     → ((files : Files) → known ≡ Some files → Agrees answer (told_shown board name files show s))
-    → ((files : Files) → known ≡ Some files → AreExactIn board name files → IsExactAnswer board show s answer)
+    → ((files : Files) → known ≡ Some files → AreExactIn board name files show s → IsExactAnswer board show s answer)
     → IsAnswer board name known show text answer
 unfolding told_text
 answer_told board name known show text s answer e legal told exact = record {
   refused = λ other is. cc;
   listed = λ u is. let same : s ≡ u = cc in subst (λ v. IfOk answer (IsListed board v)) same legal;
   told = λ files there. subst (Agrees answer) (sym (ap (told_to board name files show) e)) (told files there);
-  exact = λ files there right u is. let same : s ≡ u = cc in subst (λ v. IsExactAnswer board show v answer) same (exact files there right);
+  exact = λ files there u is right.
+      let same : s ≡ u = cc in
+      subst (λ v. IsExactAnswer board show v answer) same (exact files there (subst (AreExactIn board name files show) (sym same) right));
 }
 
 -- ---- what went out

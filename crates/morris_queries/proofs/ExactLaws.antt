@@ -41,7 +41,7 @@ use Rattle.morris_pairs.specs.declared.layout.Layout.{Layout}
 use Rattle.morris_pairs.specs.declared.file_faults.ReadFault.{ReadFault}
 use Rattle.morris_pairs.specs.declared.file_faults.ReadFault.TheVariants as read
 use Rattle.morris_queries.specs.Answers.{IsExactAnswer}
-use Rattle.morris_queries.specs.Exactness.{AreExactIn, IsExactBytes, LeadsTo, IsBestLine, HasLine, IsGame}
+use Rattle.morris_queries.specs.Exactness.{AreExactIn, AreExactNear, AreExactWithin, IsExactAt, IsExactBytes, IsExactFor, LeadsTo, IsBestLine, HasLine, IsGame}
 use Rattle.morris_queries.specs.declared.show.Show.{Show}
 use Rattle.morris_queries.specs.declared.show.Show.TheVariants as show
 use Rattle.morris_queries.specs.Telling.{followed, with_first, Agrees, Telling, telling, best_among, same_value, same_counts, framed_as, value_from, outcome, told_from, told_of, told_line, told_shown, shown_line, told_value, told_outcome, told_outcomes, value_at, opened_as, table_in, stated_in}
@@ -115,8 +115,8 @@ module _ (board : Shape) (few : board.points ≤ 24) (s : Sides) (position : IsP
 
 -- ---- values
 
-module _ (board : Shape) (few : board.points ≤ 24) (y : HasSymmetries board) (name : List ℕ) (files : Files) (exact : AreExactIn board name files) where
-  module _ (s : Sides) (position : IsPosition board s) (c : Counts) (pair : IsPair board.points c) (of : is_of c s ≡ true) where
+module _ (board : Shape) (few : board.points ≤ 24) (y : HasSymmetries board) (name : List ℕ) (files : Files) where
+  module _ (s : Sides) (position : IsPosition board s) (c : Counts) (of : is_of c s ≡ true) where
     from_table : (bytes : List ℕ) → IsExactBytes board c bytes → (value : Value) → followed (opened_as board c (Some bytes)) (λ file. Ok (stated_in board s file)) ≡ Ok value
         → IsValue board s value
     from_table bytes right value e =
@@ -138,36 +138,36 @@ module _ (board : Shape) (few : board.points ≤ 24) (y : HasSymmetries board) (
     at_name None right value e = cc
     at_name (Some bytes) right value e = from_table bytes right value e
 
-    of_pair : (value : Value) → value_at board name files s (Some c) ≡ Ok value → IsValue board s value
+    of_pair : IfSome (files (name_of name c)) (IsExactBytes board c) → (value : Value) → value_at board name files s (Some c) ≡ Ok value → IsValue board s value
     unfolding table_in
-    of_pair value e = at_name (files (name_of name c)) (exact c pair) value e
+    of_pair exact value e = at_name (files (name_of name c)) exact value e
 
-  pub exact_value : (s : Sides) → IsPosition board s → (value : Value) → told_value board name files s ≡ Ok value → IsValue board s value
+  pub exact_value : (s : Sides) → IsPosition board s → IsExactAt board name files s → (value : Value) → told_value board name files s ≡ Ok value → IsValue board s value
   unfolding told_value
-  exact_value s position value e = at_pair (pair_of s) refl e
+  exact_value s position exact value e = at_pair (pair_of s) refl exact e
     where
-      at_pair : (o : Option Counts) → pair_of s ≡ o → value_at board name files s o ≡ Ok value → IsValue board s value
-      at_pair None is e = let lost : Lost 0 ≡ value = cc in subst (IsValue board s) lost (lost_with_two board s is)
-      at_pair (Some c) is e = let there = pair_there board few s position c is in of_pair s position c there.0 there.1 value e
+      at_pair : (o : Option Counts) → pair_of s ≡ o → IsExactFor board name files o → value_at board name files s o ≡ Ok value → IsValue board s value
+      at_pair None is right e = let lost : Lost 0 ≡ value = cc in subst (IsValue board s) lost (lost_with_two board s is)
+      at_pair (Some c) is right e = let there = pair_there board few s position c is in of_pair s position c there.1 right value e
 
   -- ---- what moves lead to
 
   module _ (s : Sides) where
-    one_leads : (m : Move) → IsPosition board (result_of s m) → (o : Outcome) → told_outcome board name files s m ≡ Ok o → (o.step ≡ m) × LeadsTo board s o
-    one_leads m position o e = from (told_value board name files (result_of s m)) refl e
+    one_leads : (m : Move) → IsPosition board (result_of s m) → IsExactAt board name files (result_of s m) → (o : Outcome) → told_outcome board name files s m ≡ Ok o → (o.step ≡ m) × LeadsTo board s o
+    one_leads m position exact o e = from (told_value board name files (result_of s m)) refl e
       where
         from : (r : Result Value Fault) → told_value board name files (result_of s m) ≡ r → followed r (λ value. Ok (outcome m (turned value))) ≡ Ok o → (o.step ≡ m) × LeadsTo board s o
         from (Ok value) is e =
             let same : outcome m (turned value) ≡ o = cc in
-            subst (λ p. (p.step ≡ m) × LeadsTo board s p) same (refl, (value, exact_value (result_of s m) position value is, refl))
+            subst (λ p. (p.step ≡ m) × LeadsTo board s p) same (refl, (value, exact_value (result_of s m) position exact value is, refl))
         from (Err refused) is e = cc
 
-    all_lead : (ms : List Move) → ((m : Move) → Contains ms m → IsPosition board (result_of s m)) → (os : List Outcome) → told_outcomes board name files s ms ≡ Ok os
+    all_lead : (ms : List Move) → ((m : Move) → Contains ms m → IsPosition board (result_of s m)) → ((m : Move) → Contains ms m → IsExactAt board name files (result_of s m)) → (os : List Outcome) → told_outcomes board name files s ms ≡ Ok os
         → (o : Outcome) → Contains os o → LeadsTo board s o
     unfolding told_outcomes
-    all_lead [] positions os e o c = let none : [] ≡ os = cc in absurd (omega (arith, c.1, ap length none))
-    all_lead (m ∷ ms) positions os e o c =
-        from (λ ps rest later. all_lead ms (λ x h. positions x (Contains-tail m ms x h)) ps rest o later)
+    all_lead [] positions exact os e o c = let none : [] ≡ os = cc in absurd (omega (arith, c.1, ap length none))
+    all_lead (m ∷ ms) positions exact os e o c =
+        from (λ ps rest later. all_lead ms (λ x h. positions x (Contains-tail m ms x h)) (λ x h. exact x (Contains-tail m ms x h)) ps rest o later)
         (told_outcome board name files s m) refl (told_outcomes board name files s ms) refl e
       where
         from : ((ps : List Outcome) → told_outcomes board name files s ms ≡ Ok ps → Contains ps o → LeadsTo board s o)
@@ -177,19 +177,19 @@ module _ (board : Shape) (few : board.points ≤ 24) (y : HasSymmetries board) (
             let same : p ∷ ps ≡ os = cc in
             let there : Contains (p ∷ ps) o = subst (λ xs. Contains xs o) (sym same) c in
             elim (Contains-cons_cases p ps o there) [
-              | inl is ↦ subst (LeadsTo board s) is (one_leads m (positions m (Contains-head m ms)) p first).1
+              | inl is ↦ subst (LeadsTo board s) is (one_leads m (positions m (Contains-head m ms)) (exact m (Contains-head m ms)) p first).1
               | inr later ↦ others ps rest later
             ]
         from others (Ok p) first (Err refused) rest e = cc
         from others (Err refused) first q rest e = cc
 
     -- and each move is one of them
-    all_valued : (ms : List Move) → ((m : Move) → Contains ms m → IsPosition board (result_of s m)) → (os : List Outcome) → told_outcomes board name files s ms ≡ Ok os
+    all_valued : (ms : List Move) → ((m : Move) → Contains ms m → IsPosition board (result_of s m)) → ((m : Move) → Contains ms m → IsExactAt board name files (result_of s m)) → (os : List Outcome) → told_outcomes board name files s ms ≡ Ok os
         → HasValues board s ms
     unfolding told_outcomes
-    all_valued [] positions os e x c = absurd (omega (arith, c.1))
-    all_valued (m ∷ ms) positions os e x c =
-        from (λ ps rest later. all_valued ms (λ z h. positions z (Contains-tail m ms z h)) ps rest x later)
+    all_valued [] positions exact os e x c = absurd (omega (arith, c.1))
+    all_valued (m ∷ ms) positions exact os e x c =
+        from (λ ps rest later. all_valued ms (λ z h. positions z (Contains-tail m ms z h)) (λ z h. exact z (Contains-tail m ms z h)) ps rest x later)
         (told_outcome board name files s m) refl (told_outcomes board name files s ms) refl e
       where
         from : ((ps : List Outcome) → told_outcomes board name files s ms ≡ Ok ps → Contains ms x → (w : Value) × IsValue board (result_of s x) w)
@@ -198,7 +198,7 @@ module _ (board : Shape) (few : board.points ≤ 24) (y : HasSymmetries board) (
         from others (Ok p) first (Ok ps) rest e =
             elim (Contains-cons_cases m ms x c) [
               | inl is ↦
-                  let one = one_leads m (positions m (Contains-head m ms)) p first in
+                  let one = one_leads m (positions m (Contains-head m ms)) (exact m (Contains-head m ms)) p first in
                   let there : IsValue board (result_of s m) one.1.0 = subst (λ z. IsValue board (result_of s z) one.1.0) one.0 one.1.1 in
                   (one.1.0, subst (λ z. IsValue board (result_of s z) one.1.0) is there)
               | inr later ↦ others ps rest later
@@ -350,52 +350,56 @@ one_less (Won (suc d)) next k deep e = let is : Lost d ≡ next = cc in sym (ap 
 one_less (Lost zero) next k deep e = cc
 one_less (Lost (suc d)) next k deep e = let is : Won d ≡ next = cc in sym (ap depth_of is) ∙ omega (arith, deep)
 
-module _ (board : Shape) (few : board.points ≤ 24) (y : HasSymmetries board) (name : List ℕ) (files : Files) (exact : AreExactIn board name files) where
-  told_right : (s : Sides) → IsPosition board s → (t : Telling) → told_of board name files s ≡ Ok t → IsRight board s t
+module _ (board : Shape) (few : board.points ≤ 24) (y : HasSymmetries board) (name : List ℕ) (files : Files) where
+  near_of : (plies : ℕ) (s : Sides) → AreExactWithin board name files plies s → AreExactNear board name files s
+  near_of zero s exact = exact
+  near_of (suc plies) s exact = exact.0
+
+  told_right : (s : Sides) → IsPosition board s → AreExactNear board name files s → (t : Telling) → told_of board name files s ≡ Ok t → IsRight board s t
   unfolding told_of
-  told_right s position t e = from (told_value board name files s) refl (told_outcomes board name files s (moves_of board s)) refl e
+  told_right s position near t e = from (told_value board name files s) refl (told_outcomes board name files s (moves_of board s)) refl e
     where
       from : (r : Result Value Fault) → told_value board name files s ≡ r → (q : Result (List Outcome) Fault) → told_outcomes board name files s (moves_of board s) ≡ q
           → followed r (λ value. followed q (told_from value)) ≡ Ok t → IsRight board s t
       from (Ok value) found (Ok os) all e =
           let same : telling value (best_among value os) os [] ≡ t = from_told value os t e in
           let positions = λ (m : Move) (c : Contains (moves_of board s) m). result-position board few s position m c in
-          let here : IsValue board s value = exact_value board few y name files exact s position value found in
-          let lead = all_lead board few y name files exact s (moves_of board s) positions os all in
+          let here : IsValue board s value = exact_value board few y name files s position near.here value found in
+          let lead = all_lead board few y name files s (moves_of board s) positions near.next os all in
           subst (IsRight board s) same (record {
             value = here;
             lead = lead;
-            known = all_valued board few y name files exact s (moves_of board s) positions os all;
-            best = best_right board s value os (steps_are board few y name files exact s (moves_of board s) os all) lead here;
+            known = all_valued board few y name files s (moves_of board s) positions near.next os all;
+            best = best_right board s value os (steps_are board few y name files s (moves_of board s) os all) lead here;
           })
       from (Ok value) found (Err refused) all e = cc
       from (Err refused) found q all e = cc
 
-  best_line : (n : ℕ) (s : Sides) → IsPosition board s → (value : Value) → IsValue board s value → depth_of value ≡ n → (line : List (Move × Sides))
+  best_line : (n : ℕ) (s : Sides) → IsPosition board s → AreExactWithin board name files n s → (value : Value) → IsValue board s value → depth_of value ≡ n → (line : List (Move × Sides))
       → told_line board name files n s ≡ Ok line → IsBestLine board s value line
   unfolding told_line
-  best_line zero s position value here deep line e = from (told_of board name files s) e
+  best_line zero s position exact value here deep line e = from (told_of board name files s) e
     where
       from : (r : Result Telling Fault) → followed r (λ t. Ok []) ≡ Ok line → IsBestLine board s value line
       from (Ok t) e = let none : [] ≡ line = cc in subst (IsBestLine board s value) none deep
       from (Err refused) e = cc
-  best_line (suc k) s position value here deep line e = from (best_line k) (told_of board name files s) refl e
+  best_line (suc k) s position exact value here deep line e = from (best_line k) (told_of board name files s) refl e
     where
       none_here : (t : Telling) → told_of board name files s ≡ Ok t → AreBestOf board s value (moves_of board s) t.best
       none_here t found =
-          let right = told_right s position t found in
+          let right = told_right s position exact.0 t found in
           subst (λ v. AreBestOf board s v (moves_of board s) t.best) (one_value board s t.value value right.value here) right.best
 
       stuck : (t : Telling) → told_of board name files s ≡ Ok t → None ≡ slice_get t.best 0 → ⊥
       stuck t found none =
-          let right = told_right s position t found in
+          let right = told_right s position exact.0 t found in
           empty t.best none (never_stuck board s value k t.best here deep right.known (none_here t found))
         where
           empty : (ms : List Move) → None ≡ slice_get ms 0 → 0 < length ms → ⊥
           empty [] none low = absurd (omega (arith, low))
           empty (m ∷ ms) none low = cc
 
-      step : ((u : Sides) → IsPosition board u → (w : Value) → IsValue board u w → depth_of w ≡ k → (l : List (Move × Sides)) → told_line board name files k u ≡ Ok l → IsBestLine board u w l)
+      step : ((u : Sides) → IsPosition board u → AreExactWithin board name files k u → (w : Value) → IsValue board u w → depth_of w ≡ k → (l : List (Move × Sides)) → told_line board name files k u ≡ Ok l → IsBestLine board u w l)
           → (t : Telling) → told_of board name files s ≡ Ok t → (m : Move) → Some m ≡ slice_get t.best 0 → (rest : List (Move × Sides)) → told_line board name files k (result_of s m) ≡ Ok rest
           → IsBestLine board s value ((m, result_of s m) ∷ rest)
       step on t found m first rest played =
@@ -407,23 +411,23 @@ module _ (board : Shape) (few : board.points ≤ 24) (y : HasSymmetries board) (
               leads.0,
               leads.1,
               leads.2,
-              on (result_of s m) (result-position board few s position m there.0) leads.0 leads.2 (one_less value leads.0 k deep leads.1) rest played,
+              on (result_of s m) (result-position board few s position m there.0) (exact.1 m there.0) leads.0 leads.2 (one_less value leads.0 k deep leads.1) rest played,
             ),
           )
 
-      rest_of : ((u : Sides) → IsPosition board u → (w : Value) → IsValue board u w → depth_of w ≡ k → (l : List (Move × Sides)) → told_line board name files k u ≡ Ok l → IsBestLine board u w l)
+      rest_of : ((u : Sides) → IsPosition board u → AreExactWithin board name files k u → (w : Value) → IsValue board u w → depth_of w ≡ k → (l : List (Move × Sides)) → told_line board name files k u ≡ Ok l → IsBestLine board u w l)
           → (t : Telling) → told_of board name files s ≡ Ok t → (m : Move) → Some m ≡ slice_get t.best 0 → (q : Result (List (Move × Sides)) Fault) → told_line board name files k (result_of s m) ≡ q
           → followed q (λ rest. Ok ((m, result_of s m) ∷ rest)) ≡ Ok line → IsBestLine board s value line
       rest_of on t found m first (Ok rest) played e = let same : (m, result_of s m) ∷ rest ≡ line = cc in subst (IsBestLine board s value) same (step on t found m first rest played)
       rest_of on t found m first (Err refused) played e = cc
 
-      at_first : ((u : Sides) → IsPosition board u → (w : Value) → IsValue board u w → depth_of w ≡ k → (l : List (Move × Sides)) → told_line board name files k u ≡ Ok l → IsBestLine board u w l)
+      at_first : ((u : Sides) → IsPosition board u → AreExactWithin board name files k u → (w : Value) → IsValue board u w → depth_of w ≡ k → (l : List (Move × Sides)) → told_line board name files k u ≡ Ok l → IsBestLine board u w l)
           → (t : Telling) → told_of board name files s ≡ Ok t → (o : Option Move) → o ≡ slice_get t.best 0
           → with_first o (Ok []) (λ m. followed (told_line board name files k (result_of s m)) (λ rest. Ok ((m, result_of s m) ∷ rest))) ≡ Ok line → IsBestLine board s value line
       at_first on t found None first e = absurd (stuck t found first)
       at_first on t found (Some m) first e = rest_of on t found m first (told_line board name files k (result_of s m)) refl e
 
-      from : ((u : Sides) → IsPosition board u → (w : Value) → IsValue board u w → depth_of w ≡ k → (l : List (Move × Sides)) → told_line board name files k u ≡ Ok l → IsBestLine board u w l)
+      from : ((u : Sides) → IsPosition board u → AreExactWithin board name files k u → (w : Value) → IsValue board u w → depth_of w ≡ k → (l : List (Move × Sides)) → told_line board name files k u ≡ Ok l → IsBestLine board u w l)
           → (r : Result Telling Fault) → told_of board name files s ≡ r
           → followed r (λ t. with_first (slice_get t.best 0) (Ok []) (λ m. followed (told_line board name files k (result_of s m)) (λ rest. Ok ((m, result_of s m) ∷ rest)))) ≡ Ok line
           → IsBestLine board s value line
@@ -432,14 +436,14 @@ module _ (board : Shape) (few : board.points ≤ 24) (y : HasSymmetries board) (
 
   -- ---- what is told
 
-  game_of : (what : Show) (s : Sides) → IsPosition board s → (t : Telling) → told_shown board name files what s ≡ Ok t → IsGame board what s t
+  game_of : (what : Show) (s : Sides) → IsPosition board s → AreExactIn board name files what s → (t : Telling) → told_shown board name files what s ≡ Ok t → IsGame board what s t
   unfolding told_shown
-  game_of what s position t e = from what (told_of board name files s) refl e
+  game_of what s position right t e = from what right (told_of board name files s) refl e
     where
-      with_line : (kind : Show) (u : Telling) → told_of board name files s ≡ Ok u → (line : List (Move × Sides)) → HasLine board kind s (telling u.value u.best u.outcomes line)
+      with_line : (kind : Show) → AreExactNear board name files s → (u : Telling) → told_of board name files s ≡ Ok u → (line : List (Move × Sides)) → HasLine board kind s (telling u.value u.best u.outcomes line)
           → telling u.value u.best u.outcomes line ≡ t → IsGame board kind s t
-      with_line kind u found line played same =
-          let right = told_right s position u found in
+      with_line kind near u found line played same =
+          let right = told_right s position near u found in
           subst (IsGame board kind s) same (record {
             value = right.value;
             best = best_all board s u.value u.best right.value right.best;
@@ -447,27 +451,29 @@ module _ (board : Shape) (few : board.points ≤ 24) (y : HasSymmetries board) (
             line = played;
           })
 
-      lined : (u : Telling) → told_of board name files s ≡ Ok u → (q : Result (List (Move × Sides)) Fault) → told_line board name files (depth_of u.value) s ≡ q
-          → followed q (λ line. Ok (telling u.value u.best u.outcomes line)) ≡ Ok t → IsGame board show.Line s t
-      lined u found (Ok line) played e =
+      lined : ((plies : ℕ) → AreExactWithin board name files plies s) → (u : Telling) → told_of board name files s ≡ Ok u → (q : Result (List (Move × Sides)) Fault)
+          → told_line board name files (depth_of u.value) s ≡ q → followed q (λ line. Ok (telling u.value u.best u.outcomes line)) ≡ Ok t → IsGame board show.Line s t
+      lined exact u found (Ok line) played e =
           let same : telling u.value u.best u.outcomes line ≡ t = cc in
-          with_line show.Line u found line (best_line (depth_of u.value) s position u.value (told_right s position u found).value refl line played) same
-      lined u found (Err refused) played e = cc
+          let near = near_of 0 s (exact 0) in
+          with_line show.Line near u found line
+          (best_line (depth_of u.value) s position (exact (depth_of u.value)) u.value (told_right s position near u found).value refl line played) same
+      lined exact u found (Err refused) played e = cc
 
-      from : (kind : Show) (r : Result Telling Fault) → told_of board name files s ≡ r
+      from : (kind : Show) → AreExactIn board name files kind s → (r : Result Telling Fault) → told_of board name files s ≡ r
           → followed r (λ u. followed (shown_line board name files kind u.value s) (λ line. Ok (telling u.value u.best u.outcomes line))) ≡ Ok t → IsGame board kind s t
-      from show.Best (Ok u) found e = let same : telling u.value u.best u.outcomes [] ≡ t = cc in with_line show.Best u found [] refl same
-      from show.Moves (Ok u) found e = let same : telling u.value u.best u.outcomes [] ≡ t = cc in with_line show.Moves u found [] refl same
-      from show.Line (Ok u) found e = lined u found (told_line board name files (depth_of u.value) s) refl e
-      from show.Best (Err refused) found e = cc
-      from show.Moves (Err refused) found e = cc
-      from show.Line (Err refused) found e = cc
+      from show.Best exact (Ok u) found e = let same : telling u.value u.best u.outcomes [] ≡ t = cc in with_line show.Best exact u found [] refl same
+      from show.Moves exact (Ok u) found e = let same : telling u.value u.best u.outcomes [] ≡ t = cc in with_line show.Moves exact u found [] refl same
+      from show.Line exact (Ok u) found e = lined exact u found (told_line board name files (depth_of u.value) s) refl e
+      from show.Best exact (Err refused) found e = cc
+      from show.Moves exact (Err refused) found e = cc
+      from show.Line exact (Err refused) found e = cc
 
   -- ---- the files don't disagree
 
-  never_told : (s : Sides) → IsPosition board s → told_of board name files s ≡ Err fault.Disagree → ⊥
+  never_told : (s : Sides) → IsPosition board s → AreExactNear board name files s → told_of board name files s ≡ Err fault.Disagree → ⊥
   unfolding told_of
-  never_told s position e = from (told_value board name files s) refl (told_outcomes board name files s (moves_of board s)) refl e
+  never_told s position near e = from (told_value board name files s) refl (told_outcomes board name files s (moves_of board s)) refl e
     where
       never_both_ways : (t : Telling) → ◌≡◌ {A = Result Telling Fault} (Ok t) (Err fault.Disagree) → ⊥
       never_both_ways t e = cc
@@ -478,67 +484,68 @@ module _ (board : Shape) (few : board.points ≤ 24) (y : HasSymmetries board) (
       from : (r : Result Value Fault) → told_value board name files s ≡ r → (q : Result (List Outcome) Fault) → told_outcomes board name files s (moves_of board s) ≡ q
           → followed r (λ value. followed q (told_from value)) ≡ Err fault.Disagree → ⊥
       from (Ok value) found (Ok os) all e =
-          let listed = steps_are board few y name files exact s (moves_of board s) os all in
-          let lead = all_lead board few y name files exact s (moves_of board s) positions os all in
-          let known = all_valued board few y name files exact s (moves_of board s) positions os all in
-          let is : value_from os ≡ value = follows board s os listed lead value (exact_value board few y name files exact s position value found) known in
+          let listed = steps_are board few y name files s (moves_of board s) os all in
+          let lead = all_lead board few y name files s (moves_of board s) positions near.next os all in
+          let known = all_valued board few y name files s (moves_of board s) positions near.next os all in
+          let is : value_from os ≡ value = follows board s os listed lead value (exact_value board few y name files s position near.here value found) known in
           let same : same_value value (value_from os) ≡ true = subst (λ v. same_value value v ≡ true) (sym is) (same_itself value) in
           never_both_ways (telling value (best_among value os) os []) (sym (from_same value os same) ∙ e)
       from (Ok value) found (Err refused) all e = let is : refused ≡ fault.Disagree = cc in outcomes_never board name files s (moves_of board s) (all ∙ ap (λ f. Err f) is)
       from (Err refused) found q all e = let is : refused ≡ fault.Disagree = cc in value_never board name files s (found ∙ ap (λ f. Err f) is)
 
-  never_played : (n : ℕ) (s : Sides) → IsPosition board s → told_line board name files n s ≡ Err fault.Disagree → ⊥
+  never_played : (n : ℕ) (s : Sides) → IsPosition board s → AreExactWithin board name files n s → told_line board name files n s ≡ Err fault.Disagree → ⊥
   unfolding told_line
-  never_played zero s position e = from (told_of board name files s) refl e
+  never_played zero s position exact e = from (told_of board name files s) refl e
     where
       from : (r : Result Telling Fault) → told_of board name files s ≡ r → followed {B = List (Move × Sides)} r (λ t. Ok []) ≡ Err fault.Disagree → ⊥
       from (Ok t) found e = cc
-      from (Err refused) found e = let is : refused ≡ fault.Disagree = cc in never_told s position (found ∙ ap (λ f. Err f) is)
-  never_played (suc k) s position e = from (never_played k) (told_of board name files s) refl e
+      from (Err refused) found e = let is : refused ≡ fault.Disagree = cc in never_told s position exact (found ∙ ap (λ f. Err f) is)
+  never_played (suc k) s position exact e = from (never_played k) (told_of board name files s) refl e
     where
-      rest_of : ((u : Sides) → IsPosition board u → told_line board name files k u ≡ Err fault.Disagree → ⊥) → (m : Move) → IsPosition board (result_of s m)
+      rest_of : ((u : Sides) → IsPosition board u → AreExactWithin board name files k u → told_line board name files k u ≡ Err fault.Disagree → ⊥) → (m : Move)
+          → IsPosition board (result_of s m) → AreExactWithin board name files k (result_of s m)
           → (q : Result (List (Move × Sides)) Fault) → told_line board name files k (result_of s m) ≡ q
           → followed q (λ rest. Ok ((m, result_of s m) ∷ rest)) ≡ Err fault.Disagree → ⊥
-      rest_of on m there (Ok rest) played e = cc
-      rest_of on m there (Err refused) played e = on (result_of s m) there (played ∙ e)
+      rest_of on m there right (Ok rest) played e = cc
+      rest_of on m there right (Err refused) played e = on (result_of s m) there right (played ∙ e)
 
-      at_first : ((u : Sides) → IsPosition board u → told_line board name files k u ≡ Err fault.Disagree → ⊥)
+      at_first : ((u : Sides) → IsPosition board u → AreExactWithin board name files k u → told_line board name files k u ≡ Err fault.Disagree → ⊥)
           → (t : Telling) → told_of board name files s ≡ Ok t → (o : Option Move) → o ≡ slice_get t.best 0
           → with_first o (Ok []) (λ m. followed (told_line board name files k (result_of s m)) (λ rest. Ok ((m, result_of s m) ∷ rest))) ≡ Err fault.Disagree → ⊥
       at_first on t found None first e = cc
       at_first on t found (Some m) first e =
-          let listed = (((told_right s position t found).best.each m).0 (first_there t.best m first)).0 in
-          rest_of on m (result-position board few s position m listed) (told_line board name files k (result_of s m)) refl e
+          let listed = (((told_right s position exact.0 t found).best.each m).0 (first_there t.best m first)).0 in
+          rest_of on m (result-position board few s position m listed) (exact.1 m listed) (told_line board name files k (result_of s m)) refl e
 
-      from : ((u : Sides) → IsPosition board u → told_line board name files k u ≡ Err fault.Disagree → ⊥)
+      from : ((u : Sides) → IsPosition board u → AreExactWithin board name files k u → told_line board name files k u ≡ Err fault.Disagree → ⊥)
           → (r : Result Telling Fault) → told_of board name files s ≡ r
           → followed r (λ t. with_first (slice_get t.best 0) (Ok []) (λ m. followed (told_line board name files k (result_of s m)) (λ rest. Ok ((m, result_of s m) ∷ rest))))
           ≡ Err fault.Disagree → ⊥
       from on (Ok t) found e = at_first on t found (slice_get t.best 0) refl e
-      from on (Err refused) found e = let is : refused ≡ fault.Disagree = cc in never_told s position (found ∙ ap (λ f. Err f) is)
+      from on (Err refused) found e = let is : refused ≡ fault.Disagree = cc in never_told s position exact.0 (found ∙ ap (λ f. Err f) is)
 
-  never_shown : (what : Show) (s : Sides) → IsPosition board s → told_shown board name files what s ≡ Err fault.Disagree → ⊥
+  never_shown : (what : Show) (s : Sides) → IsPosition board s → AreExactIn board name files what s → told_shown board name files what s ≡ Err fault.Disagree → ⊥
   unfolding told_shown
-  never_shown what s position e = from what (told_of board name files s) refl e
+  never_shown what s position right e = from what right (told_of board name files s) refl e
     where
-      lined : (u : Telling) → (q : Result (List (Move × Sides)) Fault) → told_line board name files (depth_of u.value) s ≡ q
+      lined : ((plies : ℕ) → AreExactWithin board name files plies s) → (u : Telling) → (q : Result (List (Move × Sides)) Fault) → told_line board name files (depth_of u.value) s ≡ q
           → followed q (λ line. Ok (telling u.value u.best u.outcomes line)) ≡ Err fault.Disagree → ⊥
-      lined u (Ok line) played e = cc
-      lined u (Err refused) played e = let is : refused ≡ fault.Disagree = cc in never_played (depth_of u.value) s position (played ∙ ap (λ f. Err f) is)
+      lined exact u (Ok line) played e = cc
+      lined exact u (Err refused) played e = let is : refused ≡ fault.Disagree = cc in never_played (depth_of u.value) s position (exact (depth_of u.value)) (played ∙ ap (λ f. Err f) is)
 
-      from : (kind : Show) (r : Result Telling Fault) → told_of board name files s ≡ r
+      from : (kind : Show) → AreExactIn board name files kind s → (r : Result Telling Fault) → told_of board name files s ≡ r
           → followed r (λ u. followed (shown_line board name files kind u.value s) (λ line. Ok (telling u.value u.best u.outcomes line))) ≡ Err fault.Disagree → ⊥
-      from show.Best (Ok u) found e = cc
-      from show.Moves (Ok u) found e = cc
-      from show.Line (Ok u) found e = lined u (told_line board name files (depth_of u.value) s) refl e
-      from show.Best (Err refused) found e = never_told s position (found ∙ e)
-      from show.Moves (Err refused) found e = never_told s position (found ∙ e)
-      from show.Line (Err refused) found e = never_told s position (found ∙ e)
+      from show.Best exact (Ok u) found e = cc
+      from show.Moves exact (Ok u) found e = cc
+      from show.Line exact (Ok u) found e = lined exact u (told_line board name files (depth_of u.value) s) refl e
+      from show.Best exact (Err refused) found e = never_told s position exact (found ∙ e)
+      from show.Moves exact (Err refused) found e = never_told s position exact (found ∙ e)
+      from show.Line exact (Err refused) found e = never_told s position (near_of 0 s (exact 0)) (found ∙ e)
 
-  pub game_told : (what : Show) (s : Sides) → IsPosition board s → (answer : Result Telling Fault) → Agrees answer (told_shown board name files what s) → IsExactAnswer board what s answer
-  game_told what s position (Ok t) h = game_of what s position t (agreed t (told_shown board name files what s) h)
-  game_told what s position (Err refused) h = λ is. elim h [
-    | inl e ↦ never_shown what s position (e ∙ ap (λ f. Err f) is)
+  pub game_told : (what : Show) (s : Sides) → IsPosition board s → AreExactIn board name files what s → (answer : Result Telling Fault) → Agrees answer (told_shown board name files what s) → IsExactAnswer board what s answer
+  game_told what s position right (Ok t) h = game_of what s position right t (agreed t (told_shown board name files what s) h)
+  game_told what s position right (Err refused) h = λ is. elim h [
+    | inl e ↦ never_shown what s position right (e ∙ ap (λ f. Err f) is)
     | inr e ↦ memory (ap (λ f. Err f) (sym is) ∙ e)
   ]
     where

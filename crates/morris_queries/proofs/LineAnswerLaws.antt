@@ -77,7 +77,7 @@ module _ (board : Shape) (few : board.points ≤ 24) (k t : List ℕ) (start : t
     refused = λ fault is. h.refused fault (read_same ∙ is);
     listed = λ s is. h.listed s (read_same ∙ is);
     told = λ files there. subst (Agrees answer) (told_of_same name files show) (h.told files there);
-    exact = λ files there right s is. h.exact files there right s (read_same ∙ is);
+    exact = λ files there s is right. h.exact files there s (read_same ∙ is) right;
   }
 
   pub answers_same : (name : List ℕ) (known : Option Files) (show : Show) (old new : Option (List ℕ)) (result : Result Answered ℕ)

@@ -1,5 +1,5 @@
 -- What stays of a reading while bytes are taken in, and what it comes to.
-use Rattle.std.proofs.Common.{ℕ, List, [], Option, Result, Ok, Err, refl, ◌∙◌}
+use Rattle.std.proofs.Common.{◌≡◌, ℕ, List, [], Option, Result, Ok, Err, refl, ◌∙◌}
 use Rattle.std.specs.Io.KnownBytes.{Consumes, IsAtEnd}
 use Rattle.std.proofs.KnownBytes.{Consumes-trans}
 use Rattle.std.proofs.Common.{append-nil, subst}
@@ -8,7 +8,8 @@ use Rattle.morris_files.specs.Files.{Files}
 use Rattle.morris_queries.specs.declared.fault.QueryFault.{QueryFault}
 use Rattle.morris_queries.specs.declared.fault.QueryFault.TheVariants as query
 use Rattle.morris_queries.specs.declared.lines.Reading.{Reading}
-use Rattle.morris_queries.specs.LineAnswers.{AnswersLines}
+use Rattle.morris_queries.specs.declared.show.Show.{Show}
+use Rattle.morris_queries.specs.LineAnswers.{AnswersLines, CountsReads, StopsIn}
 use Rattle.morris_queries.specs.Readings.{Ends, Stands, StaysOf}
 use Rattle.morris_queries.proofs.FolderLaws.{stays_here, stays_on}
 
@@ -35,5 +36,25 @@ module _ {B L O F : Type 0} (board : Shape) (files_of : L → Option Files) wher
     reading_ended (Err query.NoFolder) got nothing end here ended = absurd (ended name known start read here)
     reading_ended (Err query.Memory) got nothing end here ended = absurd (ended name known start read here)
     reading_ended (Err query.Read) got nothing end here ended = absurd (ended name known start read here)
+
+    -- and no read of it failed
+    pub ended_reads : (result : Result ℕ QueryFault) → Stands board files_of contents name known start read old → Ends board files_of contents old new result
+        → (failed now : ℕ) → now ≡ failed → CountsReads before after failed now result
+    ended_reads (Ok refused) here ended failed now same = same
+    ended_reads (Err (query.Write sent)) here ended failed now same = same
+    ended_reads (Err query.Board) here ended failed now same = absurd (ended name known start read here)
+    ended_reads (Err query.NoFolder) here ended failed now same = absurd (ended name known start read here)
+    ended_reads (Err query.Memory) here ended failed now same = absurd (ended name known start read here)
+    ended_reads (Err query.Read) here ended failed now same = absurd (ended name known start read here)
+
+-- a write that stops it is no read
+pub stopped_reads : (board : Shape) (name : List ℕ) (known : Option Files) (show : Show) (texts : List (List ℕ)) (start out before after : Option (List ℕ))
+    (refusal : QueryFault) → StopsIn board name known show texts start out refusal → (failed now : ℕ) → now ≡ failed
+    → CountsReads {T = ℕ} before after failed now (Err refusal)
+stopped_reads board name known show texts start out before after (query.Write sent) stops failed now same = same
+stopped_reads board name known show texts start out before after query.Board stops failed now same = absurd stops
+stopped_reads board name known show texts start out before after query.NoFolder stops failed now same = absurd stops
+stopped_reads board name known show texts start out before after query.Memory stops failed now same = absurd stops
+stopped_reads board name known show texts start out before after query.Read stops failed now same = absurd stops
 
 pub ruleset reading_laws = (reading_here, reading_on)

@@ -22,20 +22,20 @@ use Rattle.morris_queries.specs.Printing.{answer_text}
 abbrev pub Answer : Type 0
 Answer = Result Telling Fault
 
--- what is answered of a position where the files are those of exact tables: what is so in the game, or
--- a fault, which never is that the files disagree
+-- what is answered of a position where the files are those of exact tables: what is so in the game,
+-- or a fault, which never is that the files disagree
 abbrev pub IsExactAnswer : Shape → Show → Sides → Answer → Type 0
 IsExactAnswer board show s (Ok t) = IsGame board show s t
 IsExactAnswer board show s (Err refused) = refused ≢ fault.Disagree
 
 -- The answer to a text, on the board of this name. A text that is no position's is answered by its
 -- own fault. Where the files are known, the answer is what they tell, unless memory ran out; and
--- where they are those of exact tables, it is the game's.
+-- where those that are asked for are those of exact tables, it is the game's.
 pub record IsAnswer (board : Shape) (name : List ℕ) (known : Option Files) (show : Show) (text : List ℕ) (answer : Answer) : Type 0 where
   pub refused : (fault : TextFault) → read_of board text ≡ Err fault → answer ≡ Err (text_fault fault)
   pub listed : (s : Sides) → read_of board text ≡ Ok s → IfOk answer (IsListed board s)
   pub told : (files : Files) → known ≡ Some files → Agrees answer (told_text board name files show text)
-  pub exact : (files : Files) → known ≡ Some files → AreExactIn board name files → (s : Sides) → read_of board text ≡ Ok s → IsExactAnswer board show s answer
+  pub exact : (files : Files) → known ≡ Some files → (s : Sides) → read_of board text ≡ Ok s → AreExactIn board name files show s → IsExactAnswer board show s answer
 
 -- a count, which stops at u64::MAX
 abbrev pub counted_to : ℕ → ℕ
@@ -96,15 +96,16 @@ IsTallied old new (Ok done) result =
     × (new.refused ≡ counted_to (old.refused + (if done.is_refused then 1 else 0)))
 IsTallied old new (Err sent) result = result ≡ Err (query.Write (counted_to (old.sent + sent)))
 
--- one failed write was counted where the answer is that a write failed, and none where it is another
+-- one failed write was counted where the answer is that a write failed, and none where it is
+-- another
 abbrev pub CountsWrites : {T : Type 0} → ℕ → ℕ → Result T QueryFault → Type 0
 CountsWrites old new (Ok done) = new ≡ old
 CountsWrites old new (Err (query.Write sent)) = new ≡ old + 1
 CountsWrites old new (Err _) = new ≡ old
 
 -- What the call for a list of texts answers: how many were answered by a fault, where all answers
--- went out; a write that failed, of the answers to the first texts; or, before anything went out, that
--- there is no such folder, where its files aren't known, or want of memory.
+-- went out; a write that failed, of the answers to the first texts; or, before anything went out,
+-- that there is no such folder, where its files aren't known, or want of memory.
 abbrev pub AnswersTexts : Shape → List ℕ → Option Files → Show → List (List ℕ) → Option (List ℕ) → Option (List ℕ) → Result ℕ QueryFault → Type 0
 AnswersTexts board name known show texts old new (Ok refused) =
     (given : Given) × AreGiven board name known show texts given × Appends old new (printed_of board show given) × (refused ≡ counted_to (refused_in given))
@@ -114,8 +115,8 @@ AnswersTexts board name known show texts old new (Err query.NoFolder) = (known �
 AnswersTexts board name known show texts old new (Err query.Memory) = Keeps old new
 AnswersTexts board name known show texts old new (Err _) = ⊥
 
--- What the command answers: that there is no board of the name, with nothing printed; otherwise what
--- it answers on the board.
+-- What the command answers: that there is no board of the name, with nothing printed; otherwise
+-- what it answers on the board.
 abbrev pub AnswersLookup : Option Shape → List ℕ → Option Files → Show → List (List ℕ) → Option (List ℕ) → Option (List ℕ) → Result ℕ QueryFault → Type 0
 AnswersLookup None name known show texts old new result = (result ≡ Err query.Board) × Keeps old new
 AnswersLookup (Some board) name known show texts old new result = AnswersTexts board name known show texts old new result

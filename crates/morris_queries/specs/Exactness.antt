@@ -1,12 +1,12 @@
 -- What is told where the files of a folder are those of exact tables: the game's own values, best
 -- moves and lines of play.
-use Rattle.std.specs.Prelude.{◌≡◌, ℕ, List, [], ◌∷◌, Some, IfSome}
+use Rattle.std.specs.Prelude.{◌≡◌, ⊤, ℕ, zero, suc, List, [], ◌∷◌, Option, Some, None, IfSome}
 use Rattle.std.specs.List.{Contains}
 use Rattle.morris_board.specs.Boards.{Shape}
 use Rattle.morris_board.specs.Positions.{Sides}
-use Rattle.morris_index.specs.Pairs.{Counts, IsPair}
+use Rattle.morris_index.specs.Pairs.{Counts, pair_of}
 use Rattle.morris_moves.specs.declared.step.Move.{Move}
-use Rattle.morris_moves.specs.Rules.{result_of}
+use Rattle.morris_moves.specs.Rules.{moves_of, result_of}
 use Rattle.morris_pairs.specs.declared.value.Value.{Value}
 use Rattle.morris_pairs.specs.Codes.{IsValue}
 use Rattle.morris_pairs.specs.Tables.{Table, IsTable}
@@ -26,8 +26,32 @@ use Rattle.morris_queries.specs.Telling.{Telling}
 abbrev pub IsExactBytes : Shape → Counts → List ℕ → Type 0
 IsExactBytes board c bytes = (t : Table) × IsTable board t × (t.pair ≡ c) × (bytes ≡ file_of board t)
 
-abbrev pub AreExactIn : Shape → List ℕ → Files → Type 0
-AreExactIn board name files = (c : Counts) → IsPair board.points c → IfSome (files (name_of name c)) (IsExactBytes board c)
+-- so it is where the value of a position is told, if something stands there
+abbrev pub IsExactFor : Shape → List ℕ → Files → Option Counts → Type 0
+IsExactFor board name files None = ⊤
+IsExactFor board name files (Some c) = IfSome (files (name_of name c)) (IsExactBytes board c)
+
+abbrev pub IsExactAt : Shape → List ℕ → Files → Sides → Type 0
+IsExactAt board name files s = IsExactFor board name files (pair_of s)
+
+-- and where the values of the positions after its legal moves are
+pub record AreExactNear (board : Shape) (name : List ℕ) (files : Files) (s : Sides) : Type 0 where
+  pub here : IsExactAt board name files s
+  pub next : (m : Move) → Contains (moves_of board s) m → IsExactAt board name files (result_of s m)
+
+-- and so on at each position to which at most so many plies lead
+abbrev pub AreExactWithin : Shape → List ℕ → Files → ℕ → Sides → Type 0
+AreExactWithin board name files zero s = AreExactNear board name files s
+AreExactWithin board name files (suc plies) s =
+    AreExactNear board name files s × ((m : Move) → Contains (moves_of board s) m → AreExactWithin board name files plies (result_of s m))
+
+-- The files that are asked for where this is shown of a position are those of exact tables: that of
+-- the position and those of the positions after its moves; and for a line, those of all positions
+-- to which play may lead from it.
+abbrev pub AreExactIn : Shape → List ℕ → Files → Show → Sides → Type 0
+AreExactIn board name files show.Best s = AreExactNear board name files s
+AreExactIn board name files show.Moves s = AreExactNear board name files s
+AreExactIn board name files show.Line s = (plies : ℕ) → AreExactWithin board name files plies s
 
 -- a move leads to this value: that of the position after it, turned round
 abbrev pub LeadsTo : Shape → Sides → Outcome → Type 0

@@ -1,5 +1,5 @@
 -- What is answered to the lines of an input.
-use Rattle.std.specs.Prelude.{◌≡◌, ℕ, List, [], take, Option, Some, None, Result, Ok, Err}
+use Rattle.std.specs.Prelude.{◌≡◌, ◌⊎◌, ℕ, ◌+◌, ◌-◌, ◌^◌, ◌≤◌, List, [], take, length, Option, Some, None, Result, Ok, Err}
 use Rattle.std.specs.Io.KnownBytes.{Consumes, IsAtEnd, Keeps}
 use Rattle.morris_board.specs.Boards.{Shape}
 use Rattle.morris_files.specs.Files.{Files}
@@ -21,11 +21,11 @@ abbrev pub StopsIn : Shape → List ℕ → Option Files → Show → List (List
 StopsIn board name known show texts old new (query.Write sent) = AnswersTexts board name known show texts old new (Err (query.Write sent))
 StopsIn board name known show texts old new _ = ⊥
 
--- What the call for the lines of an input answers: of the input some bytes were read. Done: it is at
--- its end, and the answers to all its lines went out. A read failed: the answers to all lines that
--- end in what was read went out; since any read may fail, they do so before the next read. A write
--- failed, of the answers to the first of those lines. Want of memory: nothing was read, and nothing
--- went out.
+-- What the call for the lines of an input answers: of the input some bytes were read. Done: it is
+-- at its end, and the answers to all its lines went out. A read failed: the answers to all lines
+-- that end in what was read went out; since any read may fail, they do so before the next read. A
+-- write failed, of the answers to the first of those lines. Want of memory: nothing was read, and
+-- nothing went out.
 abbrev pub AnswersLines : Shape → List ℕ → Option Files → Show → Option (List ℕ) → Option (List ℕ) → Option (List ℕ) → Option (List ℕ) → Result ℕ QueryFault → Type 0
 AnswersLines board name known show before after old new (Ok refused) =
     (read : List ℕ) × Consumes before after read × IsAtEnd after × AnswersTexts board name known show (texts_in read) old new (Ok refused)
@@ -36,6 +36,14 @@ AnswersLines board name known show before after old new (Err (query.Write sent))
 AnswersLines board name known show before after old new (Err query.Memory) = Keeps before after × Keeps old new
 AnswersLines board name known show before after old new (Err query.Board) = ⊥
 AnswersLines board name known show before after old new (Err query.NoFolder) = ⊥
+
+-- What is counted of the reads of an input, whose bytes were `before` and are then `after`: none
+-- failed where it is done. Where the answer is that a read failed, one did; or so many bytes were
+-- read that there may have been as many reads as are made at most. None failed elsewhere.
+abbrev pub CountsReads : {T : Type 0} → Option (List ℕ) → Option (List ℕ) → ℕ → ℕ → Result T QueryFault → Type 0
+CountsReads before after old new (Ok done) = new ≡ old
+CountsReads before after old new (Err query.Read) = (new ≡ old + 1) ⊎ ((read : List ℕ) × Consumes before after read × (2 ^ 64 - 1 ≤ length read))
+CountsReads before after old new (Err _) = new ≡ old
 
 -- What it answers of a folder that may not be there: that there is no such folder, where its files
 -- aren't known, with nothing read and nothing printed; otherwise what it answers from its files.

@@ -1,11 +1,11 @@
 //! The answers to the lines of an input.
-ghost use Rattle.std.specs.Prelude.{◌≡◌, ℕ, ◌-◌, ◌^◌, ◌<◌, ◌∷◌, [], List, Option, Err, take, OnOk};
+ghost use Rattle.std.specs.Prelude.{◌≡◌, ℕ, ◌-◌, ◌^◌, ◌<◌, ◌∷◌, [], List, Option, Err, take};
 ghost use Rattle.morris_board.specs.Streams.{CountsFailure};
 ghost use Rattle.morris_files.specs.Files.{Files};
 ghost use Rattle.morris_queries.specs.Answers.{AnswersText, CountsWrites};
 ghost use Rattle.morris_queries.specs.Folders.{IsOf, Stays};
 ghost use Rattle.morris_queries.specs.InputLines.{text_in};
-ghost use Rattle.morris_queries.specs.LineAnswers.{AnswersFound, AnswersLines};
+ghost use Rattle.morris_queries.specs.LineAnswers.{AnswersFound, AnswersLines, CountsReads};
 ghost use Rattle.morris_queries.specs.Readings.{Ends, Stands, StaysOf, Takes};
 
 use crate::answer::{Answered, answer_text};
@@ -126,7 +126,8 @@ impl<'n, 'l, 't, 'o, B: Geometry, L: Library, O: Sink> Reading<'n, 'l, 't, 'o, B
         ensures stays { StaysOf B.shape L.files self.old self.new }
         ensures answer { (name : List ℕ) (known : Option Files) (start : Option (List ℕ)) → Stands B.shape L.files O.contents name known start [] self.old
             → AnswersLines B.shape name known self.old.show (I.remaining input.old) (I.remaining input.new) start (O.contents self.new.output.now) result }
-        ensures unfailed { OnOk result (I.failures input.new ≡ I.failures input.old) }
+        ensures reads { (name : List ℕ) (known : Option Files) (start : Option (List ℕ)) → Stands B.shape L.files O.contents name known start [] self.old
+            → CountsReads (I.remaining input.old) (I.remaining input.new) (I.failures input.old) (I.failures input.new) result }
         ensures counted { CountsWrites (O.failures self.old.output.now) (O.failures self.new.output.now) result }
     {
         for _ in 0..u64::MAX {
@@ -157,9 +158,9 @@ fn answer_line<B: Geometry, L: Library, O: Sink>(
     answer_text(folder, text_of(line), show, output)
 }
 
-/// Answers the lines of an input, each as [`answer_text`] answers its text, and counts those that are
-/// answered by a fault. A line ends before a line feed, and a carriage return there is passed over;
-/// a last line without a line feed counts where it isn't empty.
+/// Answers the lines of an input, each as [`answer_text`] answers its text, and counts those that
+/// are answered by a fault. A line ends before a line feed, and a carriage return there is passed
+/// over; a last line without a line feed counts where it isn't empty.
 ///
 /// What has come is read, up to 4 KiB at a time, and the answers to all lines that end there have
 /// gone out before more is read: who asks through a pipe gets the answer without having to send
@@ -183,7 +184,7 @@ pub fn answer_lines<B: Geometry, L: Library, I: Source, O: Sink>(
     ensures kept { L.files library.new ≡ L.files library.old }
     ensures answer { AnswersFound B.shape board.now (L.files library.old) show (I.remaining input.old) (I.remaining input.new) (O.contents output.old) (O.contents output.new) result }
     ensures unread { result ≡ Err QueryFault.NoFolder → input.new ≡ input.old }
-    ensures unfailed { OnOk result (I.failures input.new ≡ I.failures input.old) }
+    ensures reads { CountsReads (I.remaining input.old) (I.remaining input.new) (I.failures input.old) (I.failures input.new) result }
     ensures counted { CountsWrites (O.failures output.old) (O.failures output.new) result }
 {
     library.find()?;

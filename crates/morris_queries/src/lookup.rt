@@ -1,8 +1,8 @@
 //! The command `lookup`, for a list of texts and for the lines of an input.
-ghost use Rattle.std.specs.Prelude.{◌≡◌, ◌-◌, ◌^◌, ◌<◌, Err, OnOk, map};
+ghost use Rattle.std.specs.Prelude.{◌≡◌, ◌-◌, ◌^◌, ◌<◌, Err, map};
 ghost use Rattle.morris_jobs.specs.BoardNames.{board_of};
 ghost use Rattle.morris_queries.specs.Answers.{AnswersLookup, CountsWrites};
-ghost use Rattle.morris_queries.specs.LineAnswers.{AnswersInput};
+ghost use Rattle.morris_queries.specs.LineAnswers.{AnswersInput, CountsReads};
 
 use crate::fault::QueryFault;
 use crate::library::Library;
@@ -21,10 +21,10 @@ use std::alloc::Global;
 /// it, and stays open.
 ///
 /// # Errors
-/// [`QueryFault::Board`] where there is no such board; then [`QueryFault::NoFolder`] where the place
-/// of the files isn't there; then [`QueryFault::Memory`] where there is no room for the places of
-/// open files; in these cases nothing was written. [`QueryFault::Write`], with the bytes that went
-/// out, at the first write that fails.
+/// [`QueryFault::Board`] where there is no such board; then [`QueryFault::NoFolder`] where the
+/// place of the files isn't there; then [`QueryFault::Memory`] where there is no room for the
+/// places of open files; in these cases nothing was written. [`QueryFault::Write`], with the bytes
+/// that went out, at the first write that fails.
 pub fn lookup_texts<L: Library, O: Sink>(
     alloc: Global,
     board: &str,
@@ -70,7 +70,7 @@ pub fn lookup_lines<L: Library, I: Source, O: Sink>(
     ensures answer { AnswersInput (board_of board.now) board.now (L.files library.old) show (I.remaining input.old) (I.remaining input.new) (O.contents output.old) (O.contents output.new) result }
     ensures unread { result ≡ Err QueryFault.Board → input.new ≡ input.old }
     ensures unfound { result ≡ Err QueryFault.NoFolder → input.new ≡ input.old }
-    ensures unfailed { OnOk result (I.failures input.new ≡ I.failures input.old) }
+    ensures reads { CountsReads (I.remaining input.old) (I.remaining input.new) (I.failures input.old) (I.failures input.new) result }
     ensures counted { CountsWrites (O.failures output.old) (O.failures output.new) result }
 {
     match read_board(board) {

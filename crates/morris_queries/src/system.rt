@@ -1,11 +1,12 @@
 //! The files of a folder of the system.
-ghost use Rattle.std.specs.Prelude.{None};
+ghost use Rattle.std.specs.Prelude.{◌≡◌, None};
 
 use crate::library::{Library, Unfound, Unopened};
 use morris_files::reason::Reason;
 use std::alloc::AllocError;
 use std::fs::{File, Metadata};
 use std::io::ErrorKind;
+use std::marker::Model;
 use std::rt::Files;
 use std::{fs, io};
 
@@ -20,9 +21,21 @@ pub struct SystemLibrary<'a, R> {
     why: Option<Reason>,
 }
 
+/// It is known by why it wasn't found.
+impl<'a, R> Model for SystemLibrary<'a, R> {
+    ghost use Rattle.std.specs.Prelude.{Option};
+    ghost use Rattle.morris_files.specs.declared.reason.Reason.{Reason};
+
+    ghost Value = { Option Reason };
+
+    ghost view = { λ s. s.why };
+}
+
 impl<'a, R: Files<File = File> + AllocGlobal> SystemLibrary<'a, R> {
-    /// The folder with this path.
-    pub fn new(rt: &'a R, path: &'a str) -> SystemLibrary<'a, R> {
+    /// The folder with this path, which wasn't looked for.
+    pub fn new(rt: &'a R, path: &'a str) -> SystemLibrary<'a, R>
+        ensures { result ≡ None }
+    {
         SystemLibrary {
             rt,
             path,
@@ -32,7 +45,9 @@ impl<'a, R: Files<File = File> + AllocGlobal> SystemLibrary<'a, R> {
 
     /// Why [`find`](Library::find) found no folder the last time: what the system said of the path,
     /// or what is wrong with it. `None` where it was found.
-    pub fn why(&self) -> Option<Reason> {
+    pub fn why(&self) -> Option<Reason>
+        ensures { result ≡ self.now }
+    {
         self.why
     }
 
@@ -57,8 +72,8 @@ impl<'a, R: Files<File = File> + AllocGlobal> SystemLibrary<'a, R> {
         Ok(path)
     }
 
-    /// Opens the regular file of this path, links followed. Nothing else is opened: the opening of a
-    /// pipe waits for its other end. What was opened is looked at once more, since something else
+    /// Opens the regular file of this path, links followed. Nothing else is opened: the opening of
+    /// a pipe waits for its other end. What was opened is looked at once more, since something else
     /// may have come to stand there.
     fn open_regular(&self, path: &str) -> io::Result<File> {
         require_regular(&fs::metadata(self.rt, path)?)?;

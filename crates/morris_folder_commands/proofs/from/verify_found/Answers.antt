@@ -1,12 +1,13 @@
 -- The pairs are gone through one after the other.
-use Rattle.std.proofs.Common.{Ok, Err, refl, sym, subst, ◌∙◌, inr, arith}
+use Rattle.std.proofs.Common.{Ok, Err, Some, false, refl, sym, subst, ◌∙◌, inr, arith}
 use Rattle.std.proofs.Math.Path.{ap₂}
 use Rattle.std.proofs.lemmas.Result.{err_from_is_err_and}
 use Rattle.morris_folder_commands.specs.From.{AtEnd, pairs_of}
 use Rattle.morris_jobs.specs.declared.fault.Fault.TheVariants as fault
 use Rattle.morris_files.specs.declared.kept.KeptFault.TheVariants as kept
+use Rattle.morris_folder_commands.proofs.CauseLaws.{file_caused, taken_caused}
 use Rattle.morris_folder_commands.proofs.FromLaws.{at_end, failed_file, kept_on, missing_file, skip_pair, take_pair, taken_on, taken_wrong}
-use Rattle.morris_folder_commands.proofs.SurveyLaws.{all_opened, ends_later, passes}
+use Rattle.morris_folder_commands.proofs.SurveyLaws.{all_opened, ends_later, one_unopened, passes, risen}
 use Rattle.morris_folder_commands.proofs.from.verify_found.Goals as goal
 
 pub loop-place-init : goal.loop-place-init
@@ -92,7 +93,7 @@ loop-place-preserved-in_default-2 g c =
       few = omega (arith, l.invariant.few);
       ends =
           ends_later board c.in_ok-end.end (g.F.Folder.failures c.args.folder.now) (g.F.Folder.failures l.folder)
-          (g.F.Folder.failures c.read_kept.new.folder) l.invariant.ends c.in_ok-raw.ensures.unfailed;
+          (g.F.Folder.failures c.read_kept.new.folder) l.invariant.ends c.in_ok-raw.ensures.caused;
       ahead = omega (arith, l.invariant.ahead, c.if-place-end.false);
       uncounted = l.invariant.uncounted;
       told = l.invariant.told;
@@ -135,7 +136,7 @@ loop-place-preserved g c =
       few = omega (arith, l.invariant.few, c.in_ok-sent.ensures.few);
       ends =
           ends_later board c.in_ok-end.end (g.F.Folder.failures c.args.folder.now) (g.F.Folder.failures l.folder)
-          (g.F.Folder.failures c.read_kept.new.folder) l.invariant.ends c.in_ok-raw.ensures.unfailed;
+          (g.F.Folder.failures c.read_kept.new.folder) l.invariant.ends c.in_ok-raw.ensures.caused;
       ahead = omega (arith, l.invariant.ahead, c.if-place-end.false);
       uncounted = c.in_ok-sent.ensures.counted ∙ l.invariant.uncounted;
       told = g.met.T.Watch.joins _ _ _ l.invariant.told c.take_in.ensures.told;
@@ -166,8 +167,36 @@ returns-clause-answer g c =
           (subst (λ b. AtEnd b (Err fault.NoFiles)) (sym c.if-found.false) refl),
     )
 
-pub returns-then-found-clause-unfailed : goal.returns-then-found-clause-unfailed
-returns-then-found-clause-unfailed g c =
+pub returns-then-found-clause-caused : goal.returns-then-found-clause-caused
+returns-then-found-clause-caused g c =
     let l = c.loop-place in
     all_opened g.B.Geometry.shape l.place c.in_ok-end.end (g.F.Folder.failures c.args.folder.now) (g.F.Folder.failures l.folder) l.invariant.ends
     l.invariant.ahead c.loop-place-test.false
+
+-- ---- what a refusal has for a cause
+
+pub returns-then-place-end-clause-caused : goal.returns-then-place-end-clause-caused
+returns-then-place-end-clause-caused g c =
+    let l = c.loop-place in
+    one_unopened g.B.Geometry.shape l.place c.in_ok-end.end (g.F.Folder.failures c.args.folder.now) (g.F.Folder.failures l.folder) l.invariant.ends
+    c.if-place-end.true c.loop-place-test.true
+
+pub returns-in_err-raw-clause-caused : goal.returns-in_err-raw-clause-caused
+returns-in_err-raw-clause-caused g c =
+    let failed = err_from_is_err_and c.from_residual-in_err-raw.result c.from_residual-in_err-raw.ensures.1 in
+    let l = c.loop-place in
+    let old = g.F.Folder.failures c.args.folder.now in
+    let mid = g.F.Folder.failures l.folder in
+    let new = g.F.Folder.failures c.read_kept.new.folder in
+    let why = c.in_err-raw.ensures.answer in
+    rw (failed.1, failed.2)
+    (file_caused g.F.Reader.Source.failures g.F.Writer.Sink.failures (Some false) ⊥ old new mid
+    (risen g.B.Geometry.shape l.place c.in_ok-end.end old mid l.invariant.ends) c.in-Some.pair why.0 c.in_err-raw.field-0.0 why.1 c.in_err-raw.ensures.caused)
+
+pub returns-in_err-sent-clause-caused : goal.returns-in_err-sent-clause-caused
+returns-in_err-sent-clause-caused g c =
+    let failed = err_from_is_err_and c.from_residual-in_err-sent.result c.from_residual-in_err-sent.ensures.1 in
+    rw (failed.1, failed.2)
+    (taken_caused g.F.Reader.Source.failures g.F.Writer.Sink.failures (Some false) ⊥ (g.F.Folder.failures c.args.folder.now)
+    (g.F.Folder.failures c.read_kept.new.folder) g.B.Geometry.shape c.keep_near.new.stock c.take_in.new.stock c.in-Some-2.raw c.loop-place.sent
+    (g.O.Sink.contents c.loop-place.output) (g.O.Sink.contents c.take_in.new.output) c.in_err-sent.field-0.0 c.in_err-sent.ensures.taken)

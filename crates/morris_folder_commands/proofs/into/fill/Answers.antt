@@ -1,5 +1,5 @@
 -- The pairs are done one after the other.
-use Rattle.std.proofs.Common.{rules, ◌≡◌, ◌∷◌, [], ◌++◌, Option, Ok, Err, length-append, refl, sym, ap, subst, ◌∙◌, inl, inr, arith, append_assoc}
+use Rattle.std.proofs.Common.{rules, ◌≡◌, ◌∷◌, [], ◌++◌, Option, Some, false, Ok, Err, length-append, refl, sym, ap, subst, ◌∙◌, inl, inr, arith, append_assoc}
 use Rattle.std.proofs.KnownBytes.{Keeps-refl}
 use Rattle.std.proofs.lemmas.Result.{err_from_is_err_and}
 use Rattle.morris_board.specs.Streams.{PartSent}
@@ -7,6 +7,7 @@ use Rattle.morris_index.specs.Pairs.{below_of}
 use Rattle.morris_pairs.specs.Tables.{Table}
 use Rattle.morris_folder_commands.specs.Filling.{IsOf, KeepsTable}
 use Rattle.morris_folder_commands.specs.Into.{IsBuilt, IsFiled, IsUnfiled, filed_text, place_of}
+use Rattle.morris_folder_commands.proofs.CauseLaws.{caused_on, line_caused, unbuilt_caused}
 use Rattle.morris_folder_commands.proofs.FillLaws.{all_done, done_leads, line_cut, line_is, lines_of, next_leads, no_leads, start_leads, unbuilt, undone}
 use Rattle.morris_jobs.proofs.NearLaws.{near-more, near-ready}
 use Rattle.morris_folder_commands.proofs.into.fill.Goals as goal
@@ -149,7 +150,7 @@ loop-below-preserved g c =
       count = omega (arith, c.push_reserved.ensures.len, l.invariant.count, length-append l.yielded (pair ∷ []));
       few = omega (arith, c.in_ok-sent.ensures.few, l.invariant.few, length-append l.yielded (pair ∷ []));
       locked = c.keep_table.ensures.locked;
-      unfailed = c.in_ok-file.ensures.unfailed ∙ l.invariant.unfailed;
+      unfailed = c.in_ok-file.ensures.caused ∙ l.invariant.unfailed;
       uncounted = c.in_ok-sent.ensures.counted ∙ l.invariant.uncounted;
       told = g.met.T.Watch.joins c.announce.new.self l.teller c.build_onto.new.teller l.invariant.told c.build_onto.ensures.told;
     }
@@ -175,3 +176,30 @@ returns-in_err-file-clause-told g c =
 pub returns-in_err-sent-clause-told : goal.returns-in_err-sent-clause-told
 returns-in_err-sent-clause-told g c =
     g.met.T.Watch.joins _ _ _ (g.met.T.Watch.joins _ _ _ c.announce.ensures.told c.loop-below.invariant.told) c.build_onto.ensures.told
+
+-- ---- what a refusal has for a cause
+
+pub returns-in_err-build_onto-clause-caused : goal.returns-in_err-build_onto-clause-caused
+returns-in_err-build_onto-clause-caused g c =
+    let failed = err_from_is_err_and c.from_residual-in_err-build_onto.result c.from_residual-in_err-build_onto.ensures.1 in
+    rw (failed.1, failed.2)
+    (unbuilt_caused g.F.Reader.Source.failures g.F.Writer.Sink.failures (Some false) ⊥ (g.F.Folder.failures c.args.folder.now)
+    (g.F.Folder.failures c.loop-below.folder) g.B.Geometry.shape c.in-Some.below c.args.filling.now.crew.team.blocks c.in_err-build_onto.field-0.0
+    c.in_err-build_onto.ensures.refused)
+
+pub returns-in_err-file-clause-caused : goal.returns-in_err-file-clause-caused
+returns-in_err-file-clause-caused g c =
+    let failed = err_from_is_err_and c.from_residual-in_err-file.result c.from_residual-in_err-file.ensures.1 in
+    rw (failed.1, failed.2)
+    (caused_on g.F.Reader.Source.failures g.F.Writer.Sink.failures (Some false) (Some false) ⊥ ⊥ (g.F.Folder.failures c.args.folder.now)
+    (g.F.Folder.failures c.loop-below.folder) (g.F.Folder.failures c.keep_table.new.folder) c.loop-below.invariant.unfailed (λ h. h) (λ h. h)
+    c.in_err-file.field-0.0 c.in_err-file.ensures.caused)
+
+pub returns-in_err-sent-clause-caused : goal.returns-in_err-sent-clause-caused
+returns-in_err-sent-clause-caused g c =
+    let failed = err_from_is_err_and c.from_residual-in_err-sent.result c.from_residual-in_err-sent.ensures.1 in
+    let w = c.in_ok-file.file in
+    rw (failed.1, failed.2)
+    (line_caused g.F.Reader.Source.failures g.F.Writer.Sink.failures (Some false) ⊥ (g.F.Folder.failures c.args.folder.now)
+    (g.F.Folder.failures c.keep_table.new.folder) (filed_text w.pair w.entries w.bytes w.digest) c.loop-below.sent (g.O.Sink.contents c.loop-below.output)
+    (g.O.Sink.contents c.tell_file.new.output) c.in_err-sent.field-0.0 c.in_err-sent.ensures.printed)

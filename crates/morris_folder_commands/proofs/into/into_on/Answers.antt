@@ -1,7 +1,12 @@
--- The folder of the pair that the text names is filled, by as many workers and blocks as there may be.
+-- The folder of the pair that the text names is filled, by as many workers and blocks as there may
+-- be.
 use Rattle.std.proofs.Common.{◌≡◌, Ok, sym, ap, subst, ◌∙◌}
+use Rattle.std.proofs.lemmas.Result.{err_from_is_err_and}
+use Rattle.morris_workers.specs.Ranges.{range_fault}
 use Rattle.morris_jobs.specs.PairText.{read_pair_of}
+use Rattle.morris_folder_commands.specs.Causes.{MayBeLong}
 use Rattle.morris_folder_commands.specs.Into.{AnswersFolder, AnswersRead, AnswersTeam, place_of}
+use Rattle.morris_folder_commands.proofs.CauseLaws.{team_caused, text_caused}
 use Rattle.morris_folder_commands.proofs.into.into_on.Goals as goal
 
 pub returns-clause-answer : goal.returns-clause-answer
@@ -20,3 +25,23 @@ returns-clause-answer g c =
     subst (λ found. AnswersRead board layout name workers c.args.order.blocks before after r found) (sym read)
     (subst (λ refused. AnswersTeam board layout name pair c.args.order.blocks before after r refused) (sym team.2)
     (subst (λ blocks. AnswersFolder board layout name pair blocks before after r) team.1 c.into_folder.ensures.answer))
+
+-- ---- refusals before the folder is touched
+
+pub returns-in_err-pair-clause-caused : goal.returns-in_err-pair-clause-caused
+returns-in_err-pair-clause-caused g c =
+    let failed = err_from_is_err_and c.from_residual.result c.from_residual.ensures.1 in
+    let old = g.F.Folder.failures c.args.folder.now in
+    rw (failed.1, failed.2)
+    (text_caused g.F.Reader.Source.failures g.F.Writer.Sink.failures (g.F.Folder.taken c.args.folder.now)
+    (MayBeLong c.args.order.board.now (g.F.Folder.files c.args.folder.now)) old old g.B.Geometry.POINTS c.args.order.pair.now c.in_err-pair.field-0.0
+    c.in_err-pair.ensures)
+
+pub returns-in_err-team-clause-caused : goal.returns-in_err-team-clause-caused
+returns-in_err-team-clause-caused g c =
+    let failed = err_from_is_err_and c.from_residual-in_err-team.result c.from_residual-in_err-team.ensures.1 in
+    let old = g.F.Folder.failures c.args.folder.now in
+    rw (failed.1, failed.2)
+    (team_caused g.F.Reader.Source.failures g.F.Writer.Sink.failures (g.F.Folder.taken c.args.folder.now)
+    (MayBeLong c.args.order.board.now (g.F.Folder.files c.args.folder.now)) old old (range_fault c.args.order.workers c.args.order.blocks)
+    c.in_err-team.field-0.0 c.in_err-team.ensures)

@@ -1,9 +1,10 @@
 -- The line of a file is short.
-use Rattle.std.proofs.Common.{◌≤◌, ◌<◌, ◌^◌, ◌≡◌, length, sym, ap, subst, ◌∙◌, arith}
+use Rattle.std.proofs.Common.{Some, false, ◌≤◌, ◌<◌, ◌^◌, ◌≡◌, length, sym, ap, subst, ◌∙◌, arith}
 use Rattle.sha2.proofs.Facts256.{length-sha256}
 use Rattle.morris_pairs.specs.TableFiles.{file_of}
 use Rattle.morris_pairs.proofs.FileLaws.{length-file_of}
 use Rattle.morris_folder_commands.specs.Into.{filed_text}
+use Rattle.morris_folder_commands.proofs.CauseLaws.{unwritten_caused}
 use Rattle.morris_folder_commands.proofs.LineLaws.{filed_short}
 use Rattle.morris_folder_commands.proofs.into.keep_table.Goals as goal
 
@@ -19,3 +20,12 @@ returns-in-Ok-clause-short g c =
     let long : length w.digest ≡ 32 = ap length c.in-Ok.ensures.digest ∙ length-sha256 (file_of g.B.Geometry.shape t) in
     subst (λ p. length (filed_text p w.entries w.bytes w.digest) ≤ 1024) (sym same)
     (filed_short c.args.pair w.entries w.bytes w.digest pair.most (omega (arith, pair.ordered, pair.most)) few size long)
+
+-- A file that isn't written has a cause.
+pub returns-in-Err-clause-caused : goal.returns-in-Err-clause-caused
+returns-in-Err-clause-caused g c =
+    let old = g.F.Folder.failures c.args.folder.now in
+    let new = g.F.Folder.failures c.write_table_file.new.folder in
+    rw c.unwritten_fault.ensures
+    (unwritten_caused g.F.Reader.Source.failures g.F.Writer.Sink.failures (Some false) ⊥ old new c.args.pair c.in-Err.fault c.in-Err.ensures.counted
+    c.in-Err.ensures.unwritten)

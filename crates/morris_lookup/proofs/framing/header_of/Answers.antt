@@ -1,4 +1,4 @@
-use Rattle.std.proofs.Common.{length, refl, arith}
+use Rattle.std.proofs.Common.{refl, arith}
 use Rattle.morris_lookup.proofs.OpeningLaws.{begins_with, too_short}
 use Rattle.morris_lookup.proofs.framing.header_of.Goals as goal
 

@@ -1,8 +1,8 @@
-use Rattle.std.proofs.Common.{Ok, ap, ◌∙◌}
+use Rattle.std.proofs.Common.{Ok, sym, ap, subst, ◌∙◌}
 use Rattle.std.proofs.lemmas.Result.{err_from_is_err_and}
-use Rattle.morris_lookup.specs.Views.{contents}
+use Rattle.morris_pairs.specs.Codes.{IsValue}
 use Rattle.morris_lookup.specs.Records.{move_record}
-use Rattle.morris_lookup.specs.Views.{value_said}
+use Rattle.morris_lookup.specs.Views.{contents, value_said, IsExactAt}
 use Rattle.morris_lookup.specs.Listing.{outcome_by, outcome_of}
 use Rattle.morris_lookup.proofs.listing.outcome_of.Goals as goal
 
@@ -18,3 +18,12 @@ unfolding outcome_of
 returns-clause-said g c = λ serve.
     ap (λ o. Ok o) (c.move_record.ensures ∙ ap (move_record c.args.m) c.turned.ensures)
     ∙ ap (outcome_by c.args.m) (c.in_ok-next.ensures.said serve ∙ ap (value_said g.B.Geometry.shape (contents c.args.files.now)) c.play.ensures)
+
+pub returns-clause-exact : goal.returns-clause-exact
+returns-clause-exact g c = λ serve exact. record {
+  next = c.in_ok-next.next;
+  there =
+      subst (λ p. IsValue g.B.Geometry.shape p c.in_ok-next.next) c.play.ensures
+      (c.in_ok-next.ensures.exact serve (subst (IsExactAt g.B.Geometry.shape (contents c.args.files.now)) (sym c.play.ensures) exact));
+  is = c.move_record.ensures ∙ ap (move_record c.args.m) c.turned.ensures;
+}

@@ -6,6 +6,7 @@ use Rattle.morris_probe.proofs.Listed.{listed_next, listed_all}
 use Rattle.morris_lookup.specs.Views.{contents}
 use Rattle.morris_lookup.specs.Listing.{outcomes_said, AreExactOutcomes}
 use Rattle.morris_lookup.proofs.ListingLaws.{said-more, said-stops, said-none, exact_more}
+use Rattle.morris_lookup.proofs.OutcomeLaws.{move_there}
 use Rattle.morris_lookup.proofs.listing.outcomes.Goals as goal
 
 pub returns-then-out-move_count-clause-room : goal.returns-then-out-move_count-clause-room
@@ -59,6 +60,8 @@ loop-m-preserved g c =
     let inside : c.loop-m.done < length c.loop-m.out = bounds-out-done g c in
     let written : take (c.loop-m.done + 1) (set c.loop-m.out c.loop-m.done c.in_ok-out.field-0) ≡ take c.loop-m.done c.loop-m.out ++ c.in_ok-out.field-0 ∷ [] =
     take_more_set c.loop-m.out c.loop-m.done c.in_ok-out.field-0 inside in
+    let split : c.loop-m.yielded ++ (c.in-Some.m ∷ c.next.new.self) ≡ moves_of g.B.Geometry.shape c.args.position.now =
+    ap (λ rest. c.loop-m.yielded ++ rest) (sym c.in-Some.ensures.steps) ∙ c.loop-m.invariant.listed in
     record {
       listed = listed_next _ _ _ _ _ c.loop-m.invariant.listed c.in-Some.ensures.steps;
       done = omega (arith, length-append c.loop-m.yielded (c.in-Some.m ∷ []), c.loop-m.invariant.done);
@@ -69,7 +72,7 @@ loop-m-preserved g c =
       exact = λ serve exact.
           subst (AreExactOutcomes g.B.Geometry.shape c.args.position.now (c.loop-m.yielded ++ c.in-Some.m ∷ [])) (sym written)
           (exact_more g.B.Geometry.shape c.args.position.now c.loop-m.yielded (take c.loop-m.done c.loop-m.out) c.in-Some.m c.in_ok-out.field-0 (c.loop-m.invariant.exact serve exact)
-          (c.in_ok-out.ensures.exact serve exact));
+          (c.in_ok-out.ensures.exact serve (exact c.in-Some.m (move_there c.loop-m.yielded c.next.new.self _ c.in-Some.m split))));
     }
 
 pub returns-clause-count : goal.returns-clause-count

@@ -2,7 +2,7 @@ use Rattle.std.proofs.Common.{◌≤◌, ◌∙◌, sym, arith}
 use Rattle.morris_probe.proofs.ProbingLaws.{lost_with_two}
 use Rattle.morris_lookup.specs.Views.{contents}
 use Rattle.morris_lookup.proofs.FoundLaws.{found_named, found_there}
-use Rattle.morris_lookup.proofs.ViewLaws.{said-none, needs-none, said-no_file, said-file, needs-file, ok_maps}
+use Rattle.morris_lookup.proofs.ViewLaws.{said-none, needs-none, said-no_file, said-file, needs-file, exact-file, ok_maps}
 use Rattle.morris_lookup.proofs.ExactLaws.{exact_value}
 use Rattle.morris_lookup.proofs.views.value.Goals as goal
 
@@ -35,7 +35,9 @@ returns-in-Some-file_of_pair-clause-exact g c = λ serve exact.
     let few : g.B.Geometry.shape.points ≤ 24 = omega (arith, g.met.B.Geometry.few, g.met.B.Geometry.point_count) in
     let there = found_there c.in-Some.pair (contents c.args.files.now) c.in-Some-file_of_pair.bytes.now (sym c.in-Some-file_of_pair.ensures) in
     exact_value g.B.Geometry.shape few g.met.B.Geometry.has_symmetries c.args.position.now c.own.ensures.lawful c.in-Some.pair c.in-Some.ensures.counts
-    c.in-Some-file_of_pair.bytes.now (exact c.in-Some-file_of_pair.bytes.now there)
+    c.in-Some-file_of_pair.bytes.now
+    (exact-file g.B.Geometry.shape (contents c.args.files.now) c.args.position.now c.in-Some.pair c.in-Some.ensures.pair c.in-Some-file_of_pair.bytes.now
+    c.in-Some-file_of_pair.ensures exact)
     (found_named c.in-Some.pair (contents c.args.files.now) c.in-Some-file_of_pair.bytes.now (sym c.in-Some-file_of_pair.ensures)) c.value_of_file.result
     (c.value_of_file.ensures.said (serve c.in-Some-file_of_pair.bytes.now there))
 

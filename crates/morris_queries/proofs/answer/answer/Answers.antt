@@ -20,5 +20,5 @@ returns-clause-answer g c = λ name known of.
     answer_told g.B.Geometry.shape name known c.args.show c.args.text.now c.in_ok-position.position c.tell.result
     (sym c.in_ok-position.ensures.answer) c.tell.ensures.listed
     (λ files is. c.tell.ensures.told name files (known_as g.B.Geometry.shape g.L.Library.files name known files c.args.folder.now is of))
-    (λ files is exact. game_told g.B.Geometry.shape few g.met.B.Geometry.has_symmetries name files exact c.args.show c.in_ok-position.position
-    c.own.ensures.lawful c.tell.result (c.tell.ensures.told name files (known_as g.B.Geometry.shape g.L.Library.files name known files c.args.folder.now is of)))
+    (λ files is exact. game_told g.B.Geometry.shape few g.met.B.Geometry.has_symmetries name files c.args.show c.in_ok-position.position
+    c.own.ensures.lawful exact c.tell.result (c.tell.ensures.told name files (known_as g.B.Geometry.shape g.L.Library.files name known files c.args.folder.now is of)))

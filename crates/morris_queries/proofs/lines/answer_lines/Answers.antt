@@ -35,3 +35,10 @@ returns-clause-kept g c =
     let here : c.library-1.given.0 ≡ library_of c.read_all.new.self.folder = c.library-1.given.1 (sym lent) in
     ap g.L.Library.files here ∙ c.read_all.ensures.stays.folder.kept ∙ ap (λ f. g.L.Library.files (library_of f)) c.new-reading.ensures.folder
     ∙ ap g.L.Library.files c.new-folder.ensures.library ∙ c.in_ok-find.ensures.kept
+
+pub returns-clause-reads : goal.returns-clause-reads
+returns-clause-reads g c =
+    let known = g.L.Library.files c.args.library.now in
+    let of = subst (λ k. IsOf g.B.Geometry.shape g.L.Library.files c.args.board.now k c.new-folder.result) c.in_ok-find.ensures.kept
+    (c.new-folder.ensures.of (c.in-Ok.ensures c.args.board.now (g.L.Library.files c.find.new.self))) in
+    c.read_all.ensures.reads c.args.board.now known (g.O.Sink.contents c.args.output.now) (c.new-reading.ensures.stands c.args.board.now known of)

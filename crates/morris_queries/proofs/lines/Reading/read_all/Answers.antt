@@ -1,9 +1,10 @@
-use Rattle.std.proofs.Common.{◌∙◌, ◌++◌, ◌<◌, [], ℕ, arith, length, refl, subst, take}
+use Rattle.std.proofs.Common.{◌∙◌, ◌++◌, ◌<◌, [], ℕ, arith, inl, inr, length, length-append, refl, subst, take}
 use Rattle.std.specs.Io.KnownBytes.{Consumes}
 use Rattle.std.proofs.KnownBytes.{Consumes-nil, Consumes-trans, Keeps-refl}
+use Rattle.std.proofs.lemmas.List.{length-take-le}
 use Rattle.std.proofs.lemmas.Result.{err_from_is_err_and}
 use Rattle.morris_queries.proofs.LineAnswerLaws.{lines_stopped, lines_unread}
-use Rattle.morris_queries.proofs.ReadingLaws.{reading_here, reading_on, reading_ended}
+use Rattle.morris_queries.proofs.ReadingLaws.{ended_reads, reading_here, reading_on, reading_ended, stopped_reads}
 use Rattle.morris_queries.proofs.lines.Reading.read_all.Goals as goal
 
 pub loop-init : goal.loop-init
@@ -11,7 +12,7 @@ loop-init g c = record {
   stays = reading_here g.B.Geometry.shape g.L.Library.files c.args.self.now;
   unread = refl;
   unfailed = refl;
-  read = λ name known start here. ([], Consumes-nil (g.I.Source.remaining c.args.input.now), here);
+  read = λ name known start here. ([], Consumes-nil (g.I.Source.remaining c.args.input.now), here, omega arith);
 }
 
 pub returns-in-Ok-eq0-clause-stays : goal.returns-in-Ok-eq0-clause-stays
@@ -62,6 +63,13 @@ loop-preserved g c =
             Consumes-trans (g.I.Source.remaining c.args.input.now) (g.I.Source.remaining c.loop.input) (g.I.Source.remaining c.read.new.self) so_far.0 bytes so_far.1
                 c.in-Ok.ensures.bytes.0,
             c.in_ok-take_bytes-in-Ok.ensures.taken name known start so_far.0 so_far.2,
+            omega (
+              arith,
+              so_far.3,
+              length-append so_far.0 bytes,
+              length-take-le c.in-Ok.count c.read.new.buffer c.in-Ok.ensures.bound.0,
+              c.in-Ok.count-test,
+            ),
           );
     }
 
@@ -71,3 +79,28 @@ returns-clause-answer g c = λ name known start here.
     rw (← c.loop.invariant.stays.show)
     (lines_unread g.B.Geometry.shape name known c.loop.self.show (g.I.Source.remaining c.args.input.now) (g.I.Source.remaining c.loop.input) (g.I.Source.remaining c.loop.input)
     start (g.O.Sink.contents c.loop.self.output.now) so_far.0 c.loop.self.line.items c.loop.self.tally so_far.1 (Keeps-refl _) so_far.2.to)
+
+-- ---- the reads
+
+pub returns-in-Ok-eq0-clause-reads : goal.returns-in-Ok-eq0-clause-reads
+returns-in-Ok-eq0-clause-reads g c = λ name known start here.
+    let so_far = c.loop.invariant.read name known start here in
+    ended_reads g.B.Geometry.shape g.L.Library.files g.O.Sink.contents name known (g.I.Source.remaining c.args.input.now) (g.I.Source.remaining c.loop.input)
+    (g.I.Source.remaining c.read.new.self) start so_far.0 c.loop.self c.end.new.self c.end.result so_far.2 c.end.ensures.ended _ _
+    (c.in-Ok-eq0.ensures.counted ∙ c.loop.invariant.unread)
+
+pub returns-in_err-take_bytes-in-Ok-clause-reads : goal.returns-in_err-take_bytes-in-Ok-clause-reads
+returns-in_err-take_bytes-in-Ok-clause-reads g c = λ name known start here.
+    let failed = err_from_is_err_and c.from_residual.result c.from_residual.ensures.1 in
+    let so_far = c.loop.invariant.read name known start here in
+    rw (failed.1, failed.2)
+    (stopped_reads g.B.Geometry.shape name known _ _ start _ (g.I.Source.remaining c.args.input.now) (g.I.Source.remaining c.read.new.self) c.in_err-take_bytes-in-Ok.field-0.0
+    (c.in_err-take_bytes-in-Ok.ensures.taken name known start so_far.0 so_far.2) _ _ (c.in-Ok.ensures.counted ∙ c.loop.invariant.unread))
+
+pub returns-in-Err-clause-reads : goal.returns-in-Err-clause-reads
+returns-in-Err-clause-reads g c = λ name known start here. inl (omega (arith, c.in-Err.ensures.counted, c.loop.invariant.unread))
+
+pub returns-clause-reads : goal.returns-clause-reads
+returns-clause-reads g c = λ name known start here.
+    let so_far = c.loop.invariant.read name known start here in
+    inr (so_far.0, so_far.1, omega (arith, so_far.3, c.loop-test.false, c.loop.auto.counter-end))

@@ -1,0 +1,231 @@
+-- The cause of a refusal is that of the step that failed.
+use Rattle.std.proofs.Common.{◌≡◌, ◌≢◌, ◌⊎◌, ℕ, ◌+◌, ◌<◌, ◌≤◌, Bool, true, false, List, [], length, drop, get_or, codes, Option, Some, None, Result, Ok, Err, refl, sym, ap, subst, ◌∙◌, inl, inr, arith, length-append}
+use Rattle.std.specs.Prelude.{◌-◌, slice_index, unwrap_or, if◌then◌else◌}
+use Rattle.std.specs.Option.{option_map}
+use Rattle.std.proofs.lemmas.List.{drop_at}
+use Rattle.morris_board.specs.Boards.{Shape}
+use Rattle.morris_index.specs.Pairs.{Counts, pair_made}
+use Rattle.morris_index.specs.declared.faults.PairFault.{PairFault}
+use Rattle.morris_index.specs.declared.faults.PairFault.TheVariants as pairs
+use Rattle.morris_workers.specs.declared.fault.SolveFault.{SolveFault}
+use Rattle.morris_workers.specs.declared.fault.SolveFault.TheVariants as solve
+use Rattle.morris_pairs.specs.Shelves.{Stored}
+use Rattle.morris_pairs.specs.Tables.{Table}
+use Rattle.morris_pairs.specs.declared.file_faults.ReadFault.{ReadFault}
+use Rattle.morris_pairs.specs.declared.file_faults.ReadFault.TheVariants as read
+use Rattle.morris_files.specs.Files.{Files, HasFailed}
+use Rattle.morris_files.specs.Lists.{IsUnlisted}
+use Rattle.morris_files.specs.Names.{digests_name_of}
+use Rattle.morris_files.specs.declared.kept.KeptFault.{KeptFault}
+use Rattle.morris_files.specs.declared.kept.KeptFault.TheVariants as kept
+use Rattle.morris_files.specs.declared.old_list.ListFault.{ListFault}
+use Rattle.morris_files.specs.declared.old_list.ListFault.TheVariants as list
+use Rattle.morris_jobs.specs.declared.fault.Fault.{Fault}
+use Rattle.morris_jobs.specs.declared.fault.Fault.TheVariants as fault
+use Rattle.morris_jobs.specs.declared.flaw.Flaw.TheVariants as flaw
+use Rattle.morris_jobs.specs.Faults.{in_file, pair_fault, read_fault, solve_fault}
+use Rattle.morris_jobs.specs.Inputs.{IsUnfit}
+use Rattle.morris_jobs.specs.Orders.{IsUnbuiltAt}
+use Rattle.morris_jobs.specs.PairText.{is_pair_text, pair_read, read_pair_of}
+use Rattle.morris_files.specs.Whole.{failed_in}
+use Rattle.morris_files.specs.declared.whole.NotWhole.{NotWhole}
+use Rattle.morris_files.specs.declared.whole.Step.{Step}
+use Rattle.morris_files.specs.declared.whole.Step.TheVariants as step
+use Rattle.morris_files.proofs.WholeLaws.{whole_failed}
+use Rattle.morris_folder_commands.specs.Causes.{HasCause, IsCaused, MayBeLong}
+use Rattle.morris_folder_commands.specs.Entering.{list_fault}
+use Rattle.morris_folder_commands.specs.Into.{digests_fault, unwritten_fault}
+use Rattle.morris_folder_commands.specs.Entering.{IsEntered, lock_name}
+use Rattle.morris_folder_commands.specs.Filling.{PrintsLine}
+use Rattle.morris_folder_commands.specs.From.{kept_fault}
+use Rattle.morris_folder_commands.specs.FromSteps.{TakesIn}
+
+-- ---- the list of digests
+
+-- the lock has another name than the list of digests
+names_apart : (name : List ℕ) → digests_name_of name ≢ lock_name
+names_apart name e =
+    let five : length name ≡ 5 = omega (arith, ap length e, length-append name (codes ".sha256")) in
+    let ends : codes ".sha256" ≡ drop 5 (codes ".morris.lock") = sym (drop_at name (codes ".sha256") 5 five) ∙ ap (drop 5) e in
+    let first : 46 ≡ 105 = ap (λ bytes. get_or bytes 0 0) ends in
+    omega (arith, first)
+
+-- so it is as long as it was before the folder was locked
+pub long_before : (name : List ℕ) (old new : Option Files) → IsEntered old new → MayBeLong name new → MayBeLong name old
+long_before name None new entered long = tt
+long_before name (Some old) None entered long = absurd entered
+long_before name (Some old) (Some new) entered long =
+    let same : new (digests_name_of name) ≡ old (digests_name_of name) = entered (digests_name_of name) (names_apart name) in
+    subst (λ (o : Option (List ℕ)). 65536 < length (unwrap_or o [])) same long
+
+-- nobody has a lock that is known to be free
+pub nobody : (taken : Option Bool) → Some false ≢ Some false → taken ≢ Some false
+nobody taken h = absurd (h refl)
+
+module _ {R W : Type 0} (reading : R → ℕ) (writing : W → ℕ) where
+  -- ---- from a step on
+
+  -- before the step no call of the folder had failed
+  pub caused_on : (taken theirs : Option Bool) (long more : Type 0) (old mid new : ℕ) → mid ≡ old → (taken ≢ Some false → theirs ≢ Some false) → (long → more)
+      → (f : Fault) → IsCaused reading writing taken long mid new f → IsCaused reading writing theirs more old new f
+  caused_on taken theirs long more old mid new same others on fault.Folder h = h ∙ ap (λ n. n + 1) same
+  caused_on taken theirs long more old mid new same others on fault.NoFolder h = h ∙ ap (λ n. n + 1) same
+  caused_on taken theirs long more old mid new same others on fault.Unlocked h = h ∙ ap (λ n. n + 1) same
+  caused_on taken theirs long more old mid new same others on fault.Busy h = others h
+  caused_on taken theirs long more old mid new same others on (fault.Unopened greater lesser) h = subst (λ n. n < new) same h
+  caused_on taken theirs long more old mid new same others on (fault.Unwritten greater lesser) h = subst (λ n. (n < new) ⊎ HasFailed writing) same h
+  caused_on taken theirs long more old mid new same others on fault.Digests h = elim h [
+    | inl low ↦ inl (subst (λ n. n < new) same low)
+    | inr rest ↦ inr (elim rest [
+      | inl failed ↦ inl failed
+      | inr last ↦ inr (elim last [ inl failed ↦ inl failed | inr is ↦ inr (on is) ])
+    ])
+  ]
+  caused_on taken theirs long more old mid new same others on (fault.InFile greater lesser flaw.Read) h = h
+  caused_on taken theirs long more old mid new same others on _ h = tt
+
+  pub cause_on : {T : Type 0} (taken theirs : Option Bool) (long more : Type 0) (old mid new : ℕ) → mid ≡ old → (taken ≢ Some false → theirs ≢ Some false)
+      → (long → more) → (result : Result T Fault) → HasCause reading writing taken long mid new result → HasCause reading writing theirs more old new result
+  cause_on taken theirs long more old mid new same others on (Ok done) h = h ∙ same
+  cause_on taken theirs long more old mid new same others on (Err f) h = caused_on taken theirs long more old mid new same others on f h
+
+  module _ (taken : Option Bool) (long : Type 0) (old new : ℕ) where
+    abbrev Caused : Fault → Type 0
+    Caused f = IsCaused reading writing taken long old new f
+
+    -- ---- refusals that have nothing to do with the folder
+
+    pub unbuilt_caused : (board : Shape) (c : Counts) (blocks : ℕ) (f : Fault) → IsUnbuiltAt board c blocks f → Caused f
+    unbuilt_caused board c blocks fault.Folder h = absurd h
+    unbuilt_caused board c blocks fault.NoFolder h = absurd h
+    unbuilt_caused board c blocks fault.Unlocked h = absurd h
+    unbuilt_caused board c blocks fault.Busy h = absurd h
+    unbuilt_caused board c blocks (fault.Unopened greater lesser) h = absurd h
+    unbuilt_caused board c blocks (fault.Unwritten greater lesser) h = absurd h
+    unbuilt_caused board c blocks fault.Digests h = absurd h
+    unbuilt_caused board c blocks (fault.InFile greater lesser flaw.Read) h = absurd h
+    unbuilt_caused board c blocks _ h = tt
+
+    pub line_caused : (text : List ℕ) (sent : ℕ) (before after : Option (List ℕ)) (f : Fault) → PrintsLine text sent before after (Err f) → Caused f
+    line_caused text sent before after fault.Folder h = absurd h
+    line_caused text sent before after fault.NoFolder h = absurd h
+    line_caused text sent before after fault.Unlocked h = absurd h
+    line_caused text sent before after fault.Busy h = absurd h
+    line_caused text sent before after (fault.Unopened greater lesser) h = absurd h
+    line_caused text sent before after (fault.Unwritten greater lesser) h = absurd h
+    line_caused text sent before after fault.Digests h = absurd h
+    line_caused text sent before after (fault.InFile greater lesser flaw.Read) h = absurd h
+    line_caused text sent before after _ h = tt
+
+    unfit_caused : (board : Shape) (stock : Stored) (t : Table) (f : Fault) → IsUnfit board stock t f → Caused (in_file t.pair f)
+    unfit_caused board stock t (fault.Needs greater lesser) h = tt
+    unfit_caused board stock t (fault.Differs index) h = tt
+    unfit_caused board stock t _ h = absurd h
+
+    -- a table that isn't taken in
+    pub taken_caused : (board : Shape) (stock joined : Stored) (t : Table) (sent : ℕ) (before after : Option (List ℕ)) (f : Fault)
+        → TakesIn board stock joined t sent before after (Err f) → Caused f
+    taken_caused board stock joined t sent before after f takes = elim takes [
+      | inl why ↦
+          let e = why.1 in
+          let same : why.0 ≡ f = cc in
+          subst Caused (sym why.2.2 ∙ same) (unfit_caused board stock t why.2.0 why.2.1)
+      | inr both ↦ line_caused _ sent before after f both.1
+    ]
+
+    pair_caused : (refused : PairFault) → Caused (pair_fault refused)
+    pair_caused pairs.Counts = tt
+    pair_caused pairs.Crowded = tt
+
+    -- a text that names no pair
+    pub text_caused : (n : ℕ) (text : List ℕ) (f : Fault) → Err f ≡ read_pair_of n text → Caused f
+    text_caused n text f e = by_test (is_pair_text text) (pair_made n (slice_index text 0 - 48) (slice_index text 2 - 48)) e
+      where
+        by_test : (b : Bool) (made : Result Counts PairFault) → Err f ≡ (if b then pair_read made else Err fault.PairText) → Caused f
+        by_test true (Ok pair) e = cc
+        by_test true (Err refused) e = let same : pair_fault refused ≡ f = cc in subst Caused same (pair_caused refused)
+        by_test false made e = let same : fault.PairText ≡ f = cc in subst Caused same tt
+
+    solve_caused : (refused : SolveFault) → Caused (solve_fault refused)
+    solve_caused solve.Workers = tt
+    solve_caused solve.Blocks = tt
+    solve_caused solve.Memory = tt
+    solve_caused (solve.Missing number) = tt
+    solve_caused solve.TooDeep = tt
+
+    -- numbers of workers and blocks that aren't in range
+    pub team_caused : (o : Option SolveFault) (f : Fault) → option_map solve_fault o ≡ Some f → Caused f
+    team_caused None f e = cc
+    team_caused (Some refused) f e = let same : solve_fault refused ≡ f = cc in subst Caused same (solve_caused refused)
+
+    -- ---- a file of the folder
+
+    -- one that is refused as the file of a table
+    pub refused_caused : (c : Counts) (refused : ReadFault) → (refused ≡ read.Read → HasFailed reading) → Caused (in_file c (read_fault refused))
+    refused_caused c read.Read why = why refl
+    refused_caused c _ why = tt
+
+    -- one that isn't had, after calls of which some may have failed
+    kept_caused : (mid : ℕ) → old ≤ mid → (c : Counts) (refused : KeptFault) → IsCaused reading writing taken long mid new (kept_fault c refused)
+        → Caused (kept_fault c refused)
+    kept_caused mid up c kept.Memory h = tt
+    kept_caused mid up c kept.Unopened h =
+        let more : mid < new = h in
+        let low : old < new = omega (arith, up, more) in
+        low
+    kept_caused mid up c (kept.Refused read.Read) h = h
+    kept_caused mid up c (kept.Refused _) h = tt
+    kept_caused mid up c kept.OtherPair h = tt
+
+    pub file_caused : (mid : ℕ) → old ≤ mid → (c : Counts) (refused : KeptFault) (f : Fault) → f ≡ kept_fault c refused
+        → IsCaused reading writing taken long mid new f → Caused f
+    file_caused mid up c refused f is h = subst Caused (sym is) (kept_caused mid up c refused (subst (IsCaused reading writing taken long mid new) is h))
+
+    -- ---- the list of digests that isn't left
+
+    unleft_caused : (old < new) ⊎ HasFailed writing → Caused fault.Digests
+    unleft_caused why = elim why [ inl low ↦ inl low | inr failed ↦ inr (inr (inl failed)) ]
+
+    pub step_caused : (f : NotWhole) → new ≡ old + failed_in f → (f.step ≡ step.Write → HasFailed writing) → Caused (digests_fault f.step)
+    step_caused f counted unwritten = by_step f.step refl
+      where
+        why : (s : Step) → f.step ≡ s → (s ≡ step.Memory → ⊥) → (old < new) ⊎ HasFailed writing
+        why s is other = whole_failed writing old new f (λ e. other (sym is ∙ e)) counted unwritten
+
+        by_step : (s : Step) → f.step ≡ s → Caused (digests_fault s)
+        by_step step.Memory is = tt
+        by_step step.Create is = unleft_caused (why step.Create is (λ e. cc))
+        by_step step.Write is = unleft_caused (why step.Write is (λ e. cc))
+        by_step step.Sync is = unleft_caused (why step.Sync is (λ e. cc))
+        by_step step.Rename is = unleft_caused (why step.Rename is (λ e. cc))
+        by_step step.Settle is = unleft_caused (why step.Settle is (λ e. cc))
+
+    -- ---- the file of a pair that isn't written
+
+    pub unwritten_caused : (c : Counts) (f : NotWhole) → new ≡ old + failed_in f → (f.step ≡ step.Write → HasFailed writing)
+        → Caused (unwritten_fault c f.step)
+    unwritten_caused c f counted unwritten = by_step f.step refl
+      where
+        why : (s : Step) → f.step ≡ s → (s ≡ step.Memory → ⊥) → (old < new) ⊎ HasFailed writing
+        why s is other = whole_failed writing old new f (λ e. other (sym is ∙ e)) counted unwritten
+
+        by_step : (s : Step) → f.step ≡ s → Caused (unwritten_fault c s)
+        by_step step.Memory is = tt
+        by_step step.Create is = why step.Create is (λ e. cc)
+        by_step step.Write is = why step.Write is (λ e. cc)
+        by_step step.Sync is = why step.Sync is (λ e. cc)
+        by_step step.Rename is = why step.Rename is (λ e. cc)
+        by_step step.Settle is = why step.Settle is (λ e. cc)
+
+  -- one that isn't had
+  pub unlisted_caused : (taken : Option Bool) (old new : ℕ) (name : List ℕ) (files : Option Files) (refused : ListFault)
+      → IsUnlisted name files refused → (refused ≡ list.Unopened → old < new) → (refused ≡ list.Unread → HasFailed reading)
+      → IsCaused reading writing taken (MayBeLong name files) old new (list_fault refused)
+  unlisted_caused taken old new name files list.Memory why unopened unread = tt
+  unlisted_caused taken old new name files list.Unopened why unopened unread = inl (unopened refl)
+  unlisted_caused taken old new name files list.Unread why unopened unread = inr (inl (unread refl))
+  unlisted_caused taken old new name files list.Long why unopened unread = inr (inr (inr (is_long files why)))
+    where
+      is_long : (files : Option Files) → IsUnlisted name files list.Long → MayBeLong name files
+      is_long None why = tt
+      is_long (Some files) why = why
