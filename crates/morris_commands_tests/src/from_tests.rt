@@ -47,6 +47,10 @@ impl Watch for Tally {
 }
 
 impl Teller for Tally {
+    ghost use Rattle.std.specs.Prelude.{true};
+
+    ghost is_told = { λ _. true };
+
     fn is_told(&self) -> bool {
         true
     }

@@ -39,12 +39,19 @@ news_line (news.Done greater lesser so_far) = stones_text greater lesser ++ code
 
 -- ---- what was told
 
+-- Others follow a line only where no write of it failed, by the number of those that have failed
+-- before and after it.
+abbrev pub GoesOn : ℕ → ℕ → List News → Type 0
+GoesOn old new [] = ⊤
+GoesOn old new (n ∷ rest) = new ≡ old
+
 module _ {E : Type 0} (contents : E → Option (List ℕ)) (failures : E → ℕ) where
-  -- these lines were written, one after the other and nothing else; of one where a write failed,
-  -- its first bytes
+  -- these lines were written, one after the other and nothing else; where a write failed, the first
+  -- bytes of its line, which is the last
   unfoldable pub Told : E → E → List News → Type 0
   Told old new [] = new ≡ old
-  Told old new (n ∷ rest) = (midway : E) × ReportsText contents failures old midway (news_line n) × Told midway new rest
+  Told old new (n ∷ rest) =
+      (midway : E) × ReportsText contents failures old midway (news_line n) × GoesOn (failures old) (failures midway) rest × Told midway new rest
 
   -- some lines were told, and at most one write failed
   pub record Tells (old new : E) : Type 0 where

@@ -6,14 +6,34 @@ use Rattle.morris_jobs.specs.declared.progress.News.TheVariants as news
 use Rattle.morris_jobs.specs.declared.progress.Progress.{Progress}
 use Rattle.morris_board.specs.Streams.{CountsFailure}
 use Rattle.morris_probe.specs.Reports.{WentOut}
-use Rattle.morris_jobs.specs.Progress.{Becomes, BeginsWithWhole, IsWholeFirst, MayTell, SaysLine, Speaks, Tells, TellsInOrder, TellsLine, TellsWholeFirst, Told, has_begun_of, lent_of, news_line, sink_of, tells_of, whole_of}
+use Rattle.morris_jobs.specs.Progress.{Becomes, BeginsWithWhole, GoesOn, IsWholeFirst, MayTell, SaysLine, Speaks, Tells, TellsInOrder, TellsLine, TellsWholeFirst, Told, has_begun_of, lent_of, news_line, sink_of, tells_of, whole_of}
+
+-- failures only rise
+counts_up : (old new : ℕ) (sent : Result (Unit {0}) ℕ) → CountsFailure old new sent → old ≤ new
+counts_up old new (Ok done) e = omega (arith, e)
+counts_up old new (Err sent) e = omega (arith, e)
+
+goes_on : (old new : ℕ) (rest : List News) → new ≡ old → GoesOn old new rest
+goes_on old new [] e = tt
+goes_on old new (n ∷ rest) e = e
 
 module _ {E : Type 0} (contents : E → Option (List ℕ)) (failures : E → ℕ) where
-  pub Told-append : (a b c : E) (first second : List News) → Told contents failures a b first → Told contents failures b c second
+  Told-up : (a b : E) (lines : List News) → Told contents failures a b lines → failures a ≤ failures b
+  unfolding Told
+  Told-up a b [] one = omega (arith, ap failures one)
+  Told-up a b (n ∷ rest) one = omega (arith, counts_up (failures a) (failures one.0) one.1.0 one.1.2, Told-up one.0 b rest one.3)
+
+  -- lines of which all went out, and then others
+  pub Told-append : (a b c : E) (first second : List News) → Told contents failures a b first → failures b ≡ failures a → Told contents failures b c second
       → Told contents failures a c (first ++ second)
   unfolding Told
-  Told-append a b c [] second one two = subst (λ (x : E). Told contents failures x c second) one two
-  Told-append a b c (n ∷ first) second one two = (one.0, one.1, Told-append one.0 b c first second one.2 two)
+  Told-append a b c [] second one unfailed two = subst (λ (x : E). Told contents failures x c second) one two
+  Told-append a b c (n ∷ first) second one unfailed two =
+      let up = counts_up (failures a) (failures one.0) one.1.0 one.1.2 in
+      let on = Told-up one.0 b first one.3 in
+      let here : failures one.0 ≡ failures a = omega (arith, up, on, unfailed) in
+      let after : failures b ≡ failures one.0 = omega (arith, up, on, unfailed) in
+      (one.0, one.1, goes_on (failures a) (failures one.0) (first ++ second) here, Told-append one.0 b c first second one.3 after two)
 
   Told-nothing : (a b : E) → b ≡ a → Told contents failures a b []
   unfolding Told
@@ -25,7 +45,7 @@ module _ {E : Type 0} (contents : E → Option (List ℕ)) (failures : E → ℕ
   unfolding Told
   Tells-line a b n sent out counted room = record {
     lines = n ∷ [];
-    told = (b, (sent, out, counted), refl);
+    told = (b, (sent, out, counted), tt, refl);
     once = at_most sent counted;
     room = λ h. omega (arith, room, at_most sent counted);
   }
@@ -214,8 +234,8 @@ module _ {R E : Type 0} (contents : E → Option (List ℕ)) (failures : E → �
   pub Becomes-joins : (p q r : Progress R E) → Becomes contents failures p q → Becomes contents failures q r → Becomes contents failures p r
   Becomes-joins p q r first second = go (tells_of q) (has_begun_of q) refl refl
     where
-      told : Told contents failures (sink_of p) (sink_of r) (first.told.lines ++ second.told.lines)
-      told = Told-append contents failures (sink_of p) (sink_of q) (sink_of r) first.told.lines second.told.lines first.told.told second.told.told
+      told : failures (sink_of q) ≡ failures (sink_of p) → Told contents failures (sink_of p) (sink_of r) (first.told.lines ++ second.told.lines)
+      told unfailed = Told-append contents failures (sink_of p) (sink_of q) (sink_of r) first.told.lines second.told.lines first.told.told unfailed second.told.told
 
       kept : has_begun_of p ≡ true → (has_begun_of r ≡ true) × (whole_of r ≡ whole_of p)
       kept e =
@@ -232,7 +252,7 @@ module _ {R E : Type 0} (contents : E → Option (List ℕ)) (failures : E → �
             let after = second.silent was.0 in (after.0, after.1 ∙ was.1);
         told = record {
           lines = first.told.lines ++ second.told.lines;
-          told = told;
+          told = told (first.unfailed e);
           once = omega (arith, second.told.once, first.unfailed e);
           room = λ h. second.told.room (first.told.room h);
         };

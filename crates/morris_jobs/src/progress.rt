@@ -155,10 +155,10 @@ impl<'a, R: Clock, E: Sink> Progress<'a, R, E> {
 
 /// Each line is told once it is known how much there is to do.
 impl<'a, R: Clock, E: Sink> Teller for Progress<'a, R, E> {
+    ghost is_told = { λ progress. tells_of progress };
+
     /// Whether any more lines are written.
-    fn is_told(&self) -> bool
-        ensures { result ≡ tells_of self.now }
-    {
+    fn is_told(&self) -> bool {
         self.tells
     }
 

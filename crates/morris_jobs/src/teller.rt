@@ -1,5 +1,5 @@
 //! Who is told how far a command is.
-ghost use Rattle.std.specs.Prelude.{◌≡◌};
+ghost use Rattle.std.specs.Prelude.{◌≡◌, Bool, false};
 
 use crate::size::{Size, Way};
 use morris_board::board::Geometry;
@@ -11,9 +11,13 @@ use morris_workers::{Unwatched, Watch};
 /// Is told how far a command is: how much there is to do, the pairs that begin and end, and as a
 /// [`Watch`] the waves between.
 pub trait Teller: Watch {
+    /// Whether anyone is told anything.
+    ghost is_told: { Self → Bool };
+
     /// Whether anyone is told anything. Where nobody is, nobody has to find out how much there is
     /// to do.
-    fn is_told(&self) -> bool;
+    fn is_told(&self) -> bool
+        ensures { result ≡ is_told self.now };
 
     /// So much is to be done in all. It may be told again.
     fn announce_size(&mut self, size: Size)
@@ -34,6 +38,8 @@ pub trait Teller: Watch {
 
 /// Nobody is told.
 impl Teller for Unwatched {
+    ghost is_told = { λ _. false };
+
     fn is_told(&self) -> bool {
         false
     }
