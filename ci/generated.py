@@ -1,0 +1,222 @@
+#!/usr/bin/env python3
+"""Makes the parts of documents that come from the sources, the edits and the program's help.
+
+    python3 ci/generated.py            compares each part with what it has to be; the status is 1
+                                       where one differs
+    python3 ci/generated.py --write    writes them anew
+
+A part stands between a line `<!-- from KIND WORDS -->` and the next line `<!-- end -->`; in the man
+page these are comments of its own form. Kinds:
+
+    definitions FILE NAME..   the definitions of these names, as they stand in crates/FILE
+    edits                     the edits that the prover has to refuse, crate by crate
+    edit-counts               how many there are of each crate
+    options COMMAND           the options of a command, as its help lists them
+"""
+
+import os
+import re
+import subprocess
+import sys
+from pathlib import Path
+
+sys.dont_write_bytecode = True
+from runs import MORRIS, MOST_SECONDS, ROOT
+
+MARKDOWN = ("<!-- from ", " -->", "<!-- end -->")
+MAN = ('.\\" from ', "", '.\\" end')
+BEGINS = re.compile(r"(?:unfoldable |abbrev |pub |use )")
+NAMES = re.compile(
+    r"^\s*(?:unfoldable |abbrev )?(?:pub )?(?:record )?([\w-]+)(?: \(| : )", re.MULTILINE
+)
+FOLDERS = {"must-fail": "the gate", "edits-at-release": "a release"}
+
+
+def documents():
+    """The documents that are written for readers, by their paths from the root."""
+    found = [it for it in sorted(os.listdir(ROOT)) if it.endswith(".md")]
+    return found + [f"docs/{it}" for it in sorted(os.listdir(f"{ROOT}/docs"))]
+
+
+def read(path):
+    return Path(ROOT, path).read_text(encoding="utf-8")
+
+
+def marks_of(path):
+    """How a generated part begins and ends in a document."""
+    return MARKDOWN if path.endswith(".md") else MAN
+
+
+def parts_of(path, text):
+    """A document in turn as lines that were written by hand and as parts that are generated: each
+    is what the part is of, or None, and its lines."""
+    before, after, end = marks_of(path)
+    kept, asked, made = [], None, []
+    for line in text.splitlines():
+        if asked is None:
+            kept.append(line)
+            if line.startswith(before):
+                yield None, kept
+                kept, asked = [], line[len(before) :].removesuffix(after).split()
+        elif line == end:
+            yield asked, made
+            kept, asked, made = [line], None, []
+        else:
+            made.append(line)
+    if asked is not None:
+        sys.exit(f"{path}: what is made from {' '.join(asked)} has no end")
+    yield None, kept
+
+
+def written_by_hand(path):
+    """How many bytes of a document are not generated."""
+    parts = parts_of(path, read(path))
+    return sum(len(f"{line}\n".encode()) for asked, lines in parts if asked is None for line in lines)
+
+
+def items_of(text):
+    """The definitions of a file of specs/, each with the comment right above it."""
+    items, here = [], []
+    for line in text.splitlines():
+        is_comment = line.startswith("--")
+        was_comment = bool(here) and here[-1].startswith("--")
+        # A comment that an empty line follows is none of a definition.
+        begins = (is_comment or BEGINS.match(line)) and not was_comment
+        if begins or was_comment and not line:
+            items.append(here)
+            here = []
+        here.append(line)
+    return ["\n".join(it).strip() for it in [*items, here]]
+
+
+def names_of(item):
+    """The names that a definition gives."""
+    code = "\n".join(it for it in item.splitlines() if not it.startswith("--"))
+    return NAMES.findall(code)
+
+
+def definitions(_, file, *names):
+    """The definitions of these names in a file of specs/, in the order of the file."""
+    items = [(it, names_of(it)) for it in items_of(read(f"crates/{file}"))]
+    chosen = [it for it, given in items if set(given) & set(names)]
+    given = {it for _, found in items for it in found}
+    if set(names) - given:
+        sys.exit(f"crates/{file}: doesn't define {sorted(set(names) - given)}")
+    return ["```text", *"\n\n".join(chosen).splitlines(), "```"]
+
+
+def edits_of(crate):
+    """The edits of a crate: the name of each, the sentence that it begins with, or its name in
+    words, and who tries it."""
+    for folder, tried in FOLDERS.items():
+        for path in sorted(Path(ROOT, "crates", crate, folder).glob("*.edit")):
+            first = path.read_text(encoding="utf-8").split("\n", 1)[0]
+            words = path.stem.replace("_", " ")
+            said = first[2:] if first.startswith("# ") else f"{words[0].upper()}{words[1:]}."
+            yield path.stem, said, tried
+
+
+def crates_with_edits():
+    """The crates that have edits, in the order of crates.txt."""
+    listed = re.findall(r"^(\w+)", read("crates.txt"), re.MULTILINE)
+    return [crate for crate in listed if any(True for _ in edits_of(crate))]
+
+
+def edits(_):
+    """A table of the edits of each crate."""
+    made = []
+    for crate in crates_with_edits():
+        made += ["", f"## `{crate}`", "", "| edit | what it does | tried by |", "|---|---|---|"]
+        made += [f"| `{name}` | {said} | {tried} |" for name, said, tried in edits_of(crate)]
+    return [*made[1:], ""]
+
+
+def edit_counts(_):
+    """How many edits each crate has, and how many there are in all."""
+    rows = {
+        crate: [sum(tried == it for _, _, tried in edits_of(crate)) for it in FOLDERS.values()]
+        for crate in crates_with_edits()
+    }
+    made = ["| crate | tried by the gate | at a release |", "|---|---|---|"]
+    made += [f"| `{crate}` | {here} | {later} |" for crate, (here, later) in rows.items()]
+    here, later = (sum(it) for it in zip(*rows.values()))
+    return [*made, f"| all | {here} | {later} |"]
+
+
+def options_of(command):
+    """The options of a command as its help lists them: each with its value, what it does, and what
+    stands for it where it is left out."""
+    words = [MORRIS, command, "--help"]
+    done = subprocess.run(words, capture_output=True, check=True, timeout=MOST_SECONDS)
+    listed = done.stdout.decode().split("Options:\n")[1].split("\n\n")[0]
+    for line in listed.splitlines():
+        found = re.fullmatch(r" +(?:-h, )?(--[a-z]+)(?: <(\w+)>)? +(.*?)(?: \[default: (\w+)\])?", line)
+        if found is None:
+            sys.exit(f"the help of {command} has a line of another form: {line!r}")
+        if found[1] != "--help":
+            yield found.groups()
+
+
+def options(path, command):
+    """The options of a command, as a table or as items of the man page."""
+    rows = list(options_of(command))
+    if marks_of(path) is MARKDOWN:
+        made = ["| option | what it does | if left out |", "|---|---|---|"]
+        for name, value, does, default in rows:
+            shown = f"{name} {value}" if value else name
+            made.append(f"| `{shown}` | {does} | {default or ''} |")
+        return made
+    made = []
+    for name, value, does, default in rows:
+        escaped = name.replace("-", "\\-")
+        made += [".TP", f'.BI {escaped} " {value}"' if value else f".B {escaped}"]
+        made.append(f"{does}; {default} if left out." if default else f"{does}.")
+    return made
+
+
+MAKERS = {
+    "definitions": definitions,
+    "edits": edits,
+    "edit-counts": edit_counts,
+    "options": options,
+}
+
+
+def made_anew(path, text):
+    """A document with its generated parts as they have to be, and how many there are."""
+    lines, count = [], 0
+    for asked, found in parts_of(path, text):
+        if asked is not None:
+            kind, *words = asked
+            found = MAKERS[kind](path, *words)
+            count += 1
+        lines += found
+    return "".join(f"{line}\n" for line in lines), count
+
+
+def hold(writes=False):
+    """Holds the documents against what is made of the sources, or writes it into them. Gives how
+    many parts there are."""
+    wrong, parts = [], 0
+    for path in documents():
+        text = read(path)
+        wanted, count = made_anew(path, text)
+        parts += count
+        if wanted != text:
+            wrong.append(path)
+            if writes:
+                Path(ROOT, path).write_text(wanted, encoding="utf-8")
+    if wrong and not writes:
+        said = "differs from what is made of the sources: python3 ci/generated.py --write"
+        sys.exit(f"{', '.join(wrong)}: {said}")
+    return parts
+
+
+def main():
+    if sys.argv[1:] not in ([], ["--write"]):
+        sys.exit(__doc__)
+    print(f"{hold(bool(sys.argv[1:]))} parts of documents are made of the sources")
+
+
+if __name__ == "__main__":
+    main()
