@@ -29,7 +29,8 @@ BEGINS = re.compile(r"(?:unfoldable |abbrev |pub |use )")
 NAMES = re.compile(
     r"^\s*(?:unfoldable |abbrev )?(?:pub )?(?:record )?([\w-]+)(?: \(| : )", re.MULTILINE
 )
-FOLDERS = {"must-fail": "the gate", "edits-at-release": "a release"}
+# Who tries the edits of a folder.
+FOLDERS = {"must-fail": "gate", "edits-at-release": "release"}
 
 
 def documents():
@@ -106,14 +107,13 @@ def definitions(_, file, *names):
 
 
 def edits_of(crate):
-    """The edits of a crate: the name of each, the sentence that it begins with, or its name in
-    words, and who tries it."""
+    """The edits of a crate: the name of each, what it breaks, as the sentence says that it begins
+    with, and who tries it."""
     for folder, tried in FOLDERS.items():
         for path in sorted(Path(ROOT, "crates", crate, folder).glob("*.edit")):
             first = path.read_text(encoding="utf-8").split("\n", 1)[0]
-            words = path.stem.replace("_", " ")
-            said = first[2:] if first.startswith("# ") else f"{words[0].upper()}{words[1:]}."
-            yield path.stem, said, tried
+            breaks = first.removeprefix("# Breaks ").removesuffix(".")
+            yield path.stem, "" if breaks == first else breaks, tried
 
 
 def crates_with_edits():
@@ -126,9 +126,9 @@ def edits(_):
     """A table of the edits of each crate."""
     made = []
     for crate in crates_with_edits():
-        made += ["", f"## `{crate}`", "", "| edit | what it does | tried by |", "|---|---|---|"]
-        made += [f"| `{name}` | {said} | {tried} |" for name, said, tried in edits_of(crate)]
-    return [*made[1:], ""]
+        made += ["", f"## `{crate}`", "", "| edit | breaks | tried by |", "|---|---|---|"]
+        made += [f"| `{name}` | {breaks} | {tried} |" for name, breaks, tried in edits_of(crate)]
+    return [*made, ""]
 
 
 def edit_counts(_):
