@@ -9,6 +9,7 @@ A part stands between a line `<!-- from KIND WORDS -->` and the next line `<!-- 
 page these are comments of its own form. Kinds:
 
     definitions FILE NAME..   the definitions of these names, as they stand in crates/FILE
+    source FILE               the whole of crates/FILE
     edits                     the edits that the prover has to refuse, crate by crate
     edit-counts               how many there are of each crate
     options COMMAND           the options of a command, as its help lists them
@@ -106,6 +107,11 @@ def definitions(_, file, *names):
     return ["```text", *"\n\n".join(chosen).splitlines(), "```"]
 
 
+def source(_, file):
+    """The whole of a source."""
+    return ["```rust", *read(f"crates/{file}").splitlines(), "```"]
+
+
 def edits_of(crate):
     """The edits of a crate: the name of each, what it breaks, as the sentence says that it begins
     with, and who tries it."""
@@ -176,6 +182,7 @@ def options(path, command):
 
 MAKERS = {
     "definitions": definitions,
+    "source": source,
     "edits": edits,
     "edit-counts": edit_counts,
     "options": options,
