@@ -30,6 +30,8 @@ BEGINS = re.compile(r"(?:unfoldable |abbrev |pub |use )")
 NAMES = re.compile(
     r"^\s*(?:unfoldable |abbrev )?(?:pub )?(?:record )?([\w-]+)(?: \(| : )", re.MULTILINE
 )
+# A line of the options in a help: an option, its value, what it does, and the default.
+OPTION = re.compile(r" +(?:-h, )?(--[a-z]+)(?: <(\w+)>)? +(.*?)(?: \[default: (\w+)\])?")
 # Who tries the edits of a folder.
 FOLDERS = {"must-fail": "gate", "edits-at-release": "release"}
 
@@ -72,8 +74,8 @@ def parts_of(path, text):
 
 def written_by_hand(path):
     """How many bytes of a document are not generated."""
-    parts = parts_of(path, read(path))
-    return sum(len(f"{line}\n".encode()) for asked, lines in parts if asked is None for line in lines)
+    by_hand = [lines for asked, lines in parts_of(path, read(path)) if asked is None]
+    return sum(len(f"{line}\n".encode()) for lines in by_hand for line in lines)
 
 
 def items_of(text):
@@ -156,7 +158,7 @@ def options_of(command):
     done = subprocess.run(words, capture_output=True, check=True, timeout=MOST_SECONDS)
     listed = done.stdout.decode().split("Options:\n")[1].split("\n\n")[0]
     for line in listed.splitlines():
-        found = re.fullmatch(r" +(?:-h, )?(--[a-z]+)(?: <(\w+)>)? +(.*?)(?: \[default: (\w+)\])?", line)
+        found = OPTION.fullmatch(line)
         if found is None:
             sys.exit(f"the help of {command} has a line of another form: {line!r}")
         if found[1] != "--help":
