@@ -38,8 +38,8 @@ FOLDERS = {"must-fail": "gate", "edits-at-release": "release"}
 
 def documents():
     """The documents that are written for readers, by their paths from the root."""
-    found = [it for it in sorted(os.listdir(ROOT)) if it.endswith(".md")]
-    return found + [f"docs/{it}" for it in sorted(os.listdir(f"{ROOT}/docs"))]
+    found = [*os.listdir(ROOT), *(f"docs/{it}" for it in os.listdir(f"{ROOT}/docs"))]
+    return sorted(it for it in found if it.endswith((".md", ".1")))
 
 
 def read(path):
