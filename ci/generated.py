@@ -73,9 +73,11 @@ def parts_of(path, text):
 
 
 def written_by_hand(path):
-    """How many bytes of a document are not generated."""
-    by_hand = [lines for asked, lines in parts_of(path, read(path)) if asked is None]
-    return sum(len(f"{line}\n".encode()) for lines in by_hand for line in lines)
+    """How many bytes of a document are neither generated nor say what is."""
+    begin, _, end = marks_of(path)
+    parts = parts_of(path, read(path))
+    lines = [line for asked, kept in parts if asked is None for line in kept]
+    return sum(len(f"{it}\n".encode()) for it in lines if it != end and not it.startswith(begin))
 
 
 def items_of(text):
