@@ -5,8 +5,8 @@
                                        where one differs
     python3 ci/generated.py --write    writes them anew
 
-A part stands between a line `<!-- from KIND WORDS -->` and the next line `<!-- end -->`; in the man
-page these are comments of its own form. Kinds:
+A part stands between a mark `<!-- from KIND WORDS -->`, of one line or more, and the next line
+`<!-- end -->`; in the man page these are comments of its own form. Kinds:
 
     definitions FILE NAME..   the definitions of these names, as they stand in crates/FILE
     source FILE               the whole of crates/FILE
@@ -52,32 +52,33 @@ def marks_of(path):
 
 
 def parts_of(path, text):
-    """A document in turn as lines that were written by hand and as parts that are generated: each
-    is what the part is of, or None, and its lines."""
+    """A document in turn as parts: the words that say what each is made from, or None where it was
+    written by hand, and its lines. Marks are parts of no words."""
     before, after, end = marks_of(path)
-    kept, asked, made = [], None, []
+    words, lines, mark = None, [], []
     for line in text.splitlines():
-        if asked is None:
-            kept.append(line)
-            if line.startswith(before):
-                yield None, kept
-                kept, asked = [], line[len(before) :].removesuffix(after).split()
-        elif line == end:
-            yield asked, made
-            kept, asked, made = [line], None, []
+        if words is not None and line == end:
+            yield words, lines
+            yield [], [line]
+            words, lines = None, []
+        elif words is None and (mark or line.startswith(before)):
+            mark.append(line)
+            if line.endswith(after):
+                yield None, lines
+                yield [], mark
+                words = " ".join(mark)[len(before) :].removesuffix(after).split()
+                lines, mark = [], []
         else:
-            made.append(line)
-    if asked is not None:
-        sys.exit(f"{path}: what is made from {' '.join(asked)} has no end")
-    yield None, kept
+            lines.append(line)
+    if words is not None or mark:
+        sys.exit(f"{path}: what is made from {words or mark} has no end")
+    yield None, lines
 
 
 def written_by_hand(path):
     """How many bytes of a document are neither generated nor say what is."""
-    begin, _, end = marks_of(path)
-    parts = parts_of(path, read(path))
-    lines = [line for asked, kept in parts if asked is None for line in kept]
-    return sum(len(f"{it}\n".encode()) for it in lines if it != end and not it.startswith(begin))
+    by_hand = [lines for words, lines in parts_of(path, read(path)) if words is None]
+    return sum(len(f"{line}\n".encode()) for lines in by_hand for line in lines)
 
 
 def items_of(text):
@@ -196,10 +197,9 @@ MAKERS = {
 def made_anew(path, text):
     """A document with its generated parts as they have to be, and how many there are."""
     lines, count = [], 0
-    for asked, found in parts_of(path, text):
-        if asked is not None:
-            kind, *words = asked
-            found = MAKERS[kind](path, *words)
+    for words, found in parts_of(path, text):
+        if words:
+            found = MAKERS[words[0]](path, *words[1:])
             count += 1
         lines += found
     return "".join(f"{line}\n" for line in lines), count
