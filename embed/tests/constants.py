@@ -14,12 +14,12 @@ headers = read("morris.h") + read("morris_folder.h")
 found = re.findall(r"^ +MORRIS_(\w+) = (\d+)[, ]|^#define MORRIS_(\w+) (\d+)u?\b", headers, re.M)
 numbers = {a or b: int(c or d) for a, c, b, d in found}
 statuses = {**{a: int(c) for a, c, _, _ in found if a}, "SYSTEM": numbers["SYSTEM"]}
-assert len(statuses) == 18 and statuses == {it.name: it.value for it in morris.Status}
+assert len(statuses) == 21 and statuses == {it.name: it.value for it in morris.Status}
 for kind in morris.Kind:
     assert numbers[kind.name] == kind
 for board, (number, points) in morris._BOARDS.items():
     assert numbers[board.upper()] == number
-wanted = {name: numbers[name] for name in ("MOST_MOVES", "MOST_FILES", "NONE")}
+wanted = {name: numbers[name] for name in ("MOST_MOVES", "NONE")}
 assert wanted == {name: getattr(morris, f"_{name}") for name in wanted}
 in_rust = re.findall(r"^const (\w+): \w+ = (\d+);", read("examples/best.rs"), re.M)
 in_rust = {name: int(it) for name, it in in_rust}
