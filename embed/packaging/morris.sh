@@ -17,9 +17,9 @@ fi
 
 # Each worker takes the limit of the stack as its own, and needs so many KiB.
 stack=512
-has=$(ulimit -S -s 2> /dev/null) || has=unlimited
+has=$(ulimit -S -s) || has=unlimited
 if [ "$has" != unlimited ] && [ "$has" -lt "$stack" ]; then
-    if ! ulimit -S -s "$stack" 2> /dev/null; then
+    if ! ulimit -S -s "$stack" 2>&-; then
         say "the program needs $stack KiB of stack, and the limit here is $has KiB (ulimit -s)"
         exit 126
     fi
