@@ -6,23 +6,22 @@ CDPATH='' cd -P -- "$(dirname -- "$0")/../.." || exit 1
 crate=crates/morris_c
 made=$crate/out/libmorris_c.a
 
-# The crates that a crate stands on, by crates.txt, and itself, a line each.
+# A crate and those that it stands on, by crates.txt: the crates of the repository among them.
 crates_below() {
-    known=
-    left=$1
-    while [ -n "$left" ]; do
+    found=$1
+    while :; do
+        more=$found
+        for it in $found; do
+            more="$more $(sed -n -E "s/^$it( [^:]*)?: *//p" crates.txt)"
+        done
         # shellcheck disable=SC2086
-        set -- $left
-        left=$(shift && printf '%s ' "$@")
-        case " $known " in
-            *" $1 "*) continue ;;
-        esac
-        [ -d "crates/$1" ] || continue # a library of the kit
-        known="$known $1"
-        left="$left $(sed -n "s/^$1[^:]*: *//p" crates.txt)"
-        left=${left# }
+        more=$(printf '%s\n' $more | LC_ALL=C sort -u | while read -r it; do
+            [ ! -d "crates/$it" ] || echo "$it"
+        done)
+        [ "$more" != "$found" ] || break
+        found=$more
     done
-    printf '%s\n' $known
+    echo "$found"
 }
 
 is_new() {
