@@ -35,7 +35,19 @@ import os
 import re
 import reprlib
 import weakref
-from typing import Any, Dict, List, NamedTuple, NoReturn, Optional, Sequence, Tuple, TypeVar, Union
+from typing import (
+    Any,
+    Dict,
+    List,
+    NamedTuple,
+    NoReturn,
+    Optional,
+    Sequence,
+    Tuple,
+    TypeVar,
+    Union,
+    overload,
+)
 
 __all__ = [
     "Fault",
@@ -335,6 +347,10 @@ def _given_move(move: Union[Move, str, Sequence[Optional[int]]], points: int) ->
     return _Move(move[0], move[1], _NONE if move[2] is None else move[2])
 
 
+@overload
+def play(position: str, move: Union[Move, str], board: str = "nine") -> str: ...
+@overload
+def play(position: Position, move: Union[Move, str], board: str = "nine") -> Position: ...
 def play(position: Position, move: Union[Move, str], board: str = "nine") -> Position:
     """The position after a legal move, in which the other player is to move: a text where a text is
     given, and else two masks. The move may be a text such as `3-2` or `3-2x22`. Needs no tables.
@@ -444,9 +460,11 @@ class Tables:
         _done(self._status("morris_value_of", position, out))
         return _value(out)
 
-    def get(
-        self, position: Position, default: Optional[_Default] = None
-    ) -> Union[Value, Optional[_Default]]:
+    @overload
+    def get(self, position: Position) -> Optional[Value]: ...
+    @overload
+    def get(self, position: Position, default: _Default) -> Union[Value, _Default]: ...
+    def get(self, position: Position, default: Optional[_Default] = None) -> object:
         """The value of a position, or `default` where no file has its pair. Else raises what
         `value` raises."""
         out = _Value()
@@ -498,6 +516,10 @@ class Tables:
             found.append(Ply(chosen.move, position))
         return found
 
+    @overload
+    def play(self, position: str, move: Union[Move, str]) -> str: ...
+    @overload
+    def play(self, position: Position, move: Union[Move, str]) -> Position: ...
     def play(self, position: Position, move: Union[Move, str]) -> Position:
         """The position after a legal move, as the function `play` gives it."""
         return play(position, move, self.board)
