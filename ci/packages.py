@@ -242,8 +242,24 @@ def try_crate(room, out, full, classes):
             sys.exit(f"the crate's tests: {said}")
     env["RUSTDOCFLAGS"] = "-D warnings"
     run(["cargo", "doc", "-q", "--offline", "--no-deps"], cwd=crate, env=env)
+    try_finding(room, out, crate, classes)
+
+
+def try_finding(room, out, crate, folder):
+    """The crate finds an installed library by pkg-config, and says where there is none."""
     text = next(made_up())
     words = ["cargo", "run", "-q", "--offline", "--example", "best", "--", folder, text]
+    env = {**os.environ, "CARGO_TARGET_DIR": f"{room}/target", "MORRIS_LIB_DIR": "/nowhere"}
+    done = subprocess.run(words, cwd=crate, env=env, capture_output=True, text=True)
+    if done.returncode == 0 or "MORRIS_LIB_DIR names /nowhere" not in done.stderr:
+        sys.exit(f"the crate without a library: {done.returncode}, {done.stderr}")
+    env["MORRIS_LIB_DIR"] = out
+    if shutil.which("pkg-config"):
+        # Beside this copy stands no library.
+        os.makedirs(f"{room}/elsewhere")
+        crate = shutil.copytree(crate, f"{room}/elsewhere/rust")
+        del env["MORRIS_LIB_DIR"]
+        env["PKG_CONFIG_PATH"] = f"{room}/prefix/lib/pkgconfig"
     found = run(words, cwd=crate, env=env)
     check("the crate's example", found, run([f"{out}/best", folder, text]))
 

@@ -4,8 +4,8 @@ and of `make wheel`.
     morris_wheel.py LIBRARY FOLDER      writes the wheel with this libmorris.so into a folder
 
 The wheel has the module as the package `morris`, its types, the shared library, and the licences.
-Whatever stands beside the module as `explorer.py` and `explorer/` goes with it, as
-`morris.explorer`. The same files give the same bytes.
+The modules beside it whose names begin with `explorer`, and all files of the folder `explorer`, go
+with it, so that there is `morris.explorer`. The same files give the same bytes.
 """
 
 import base64
@@ -42,10 +42,8 @@ def platform_of(library):
 
 def explorer():
     """The files of the explorer, by their names in the package."""
-    module = EMBED / "explorer.py"
-    files = [module] if module.is_file() else []
-    files += sorted(it for it in (EMBED / "explorer").rglob("*") if it.is_file())
-    kept = (it for it in files if "__pycache__" not in it.parts)
+    files = [*EMBED.glob("explorer*.py"), *(EMBED / "explorer").rglob("*")]
+    kept = (it for it in sorted(files) if it.is_file() and "__pycache__" not in it.parts)
     return {f"{NAME}/{it.relative_to(EMBED).as_posix()}": it.read_bytes() for it in kept}
 
 
