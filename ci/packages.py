@@ -1,6 +1,7 @@
 """Makes what others take of embed/, and tries it as they would: what `make install` installs, the
 package for Python in fresh environments, the crate for Rust, and the archive of a release."""
 
+import gzip
 import os
 import re
 import shutil
@@ -10,6 +11,7 @@ import tarfile
 import venv
 
 from embedding import EMBED, all_of_grid, check, made_up, make, run
+from packing import PACKED_LIBRARY, release_library
 from runs import COUNTED, MORRIS, ROOT
 
 # Asks for positions of both boards in a process of its own, with nothing of this one.
@@ -264,6 +266,47 @@ def try_finding(room, out, crate, folder):
     check("the crate's example", found, run([f"{out}/best", folder, text]))
 
 
+# ---- without a kit
+
+
+def copy_of_sources(place):
+    """A copy of what `make -C embed` reads."""
+    left = shutil.ignore_patterns("out", "target", "must-fail", "edits-at-release", "__pycache__")
+    for folder in ("crates", "embed", "ci"):
+        shutil.copytree(f"{ROOT}/{folder}", f"{place}/{folder}", ignore=left)
+    shutil.copy(f"{ROOT}/crates.txt", place)
+    return place
+
+
+def refused_without_kit(place, why):
+    """`make -C embed` says why it makes no library, and leaves none."""
+    words = ["make", "-s", "-C", f"{place}/embed"]
+    done = subprocess.run(words, env=bare(), capture_output=True, text=True)
+    if done.returncode == 0 or why not in done.stderr:
+        sys.exit(f"make -C embed without a kit: {done.returncode}, {done.stderr!r}, not {why!r}")
+    if os.path.exists(f"{place}/crates/morris_c/out/libmorris_c.a"):
+        sys.exit(f"make -C embed, which said {why!r}, left a library")
+
+
+def try_without_kit(room, archive):
+    """Where the library of these sources is released, `make -C embed` needs no kit."""
+    place = copy_of_sources(f"{room}/without-kit")
+    made = f"{place}/crates/morris_c/out/libmorris_c.a"
+    refused_without_kit(place, "rt isn't on the PATH")
+    release_library(place, archive, "none")
+    run(["make", "-s", "-C", f"{place}/embed"], env=bare(), stderr=subprocess.PIPE)
+    if read_bytes(made) != read_bytes(archive):
+        sys.exit("the library that was unpacked isn't the released one")
+    os.remove(made)
+    packed = f"{place}/{PACKED_LIBRARY}"
+    with open(packed, "wb") as file:
+        file.write(gzip.compress(read_bytes(archive) + b"\0", mtime=0))
+    refused_without_kit(place, "hasn't the digest")
+    with open(f"{place}/crates/morris_board/src/points.rt", "a", encoding="utf-8") as file:
+        file.write("\n")
+    refused_without_kit(place, "rt isn't on the PATH")
+
+
 # ---- the archive of a release
 
 
@@ -343,3 +386,4 @@ def try_all(room, out, archive, full, classes):
     try_types()
     try_crate(room, out, full, classes)
     try_archive(room, out, archive, classes)
+    try_without_kit(room, archive)
