@@ -223,9 +223,10 @@ def try_missing_library(room):
 
 
 def try_types():
-    """The types of the module, where mypy is at hand."""
+    """The types of the module and of a program that takes it, where mypy is at hand."""
     if shutil.which("mypy"):
-        run(["mypy", "--strict", "--cache-dir=/dev/null", f"{EMBED}/morris.py"])
+        files = [f"{EMBED}/morris.py", f"{EMBED}/tests/typed.py"]
+        run(["mypy", "--strict", "--cache-dir=/dev/null", *files])
 
 
 # ---- the crate for Rust

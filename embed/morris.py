@@ -171,16 +171,24 @@ class Value(NamedTuple):
         return (1 if self.kind == Kind.WON else -1) / (1 + self.depth)
 
     def __lt__(self, other: object) -> bool:
-        return self._worth() < other._worth() if isinstance(other, Value) else NotImplemented
+        if not isinstance(other, Value):
+            return NotImplemented
+        return self._worth() < other._worth()
 
     def __le__(self, other: object) -> bool:
-        return self._worth() <= other._worth() if isinstance(other, Value) else NotImplemented
+        if not isinstance(other, Value):
+            return NotImplemented
+        return self._worth() <= other._worth()
 
     def __gt__(self, other: object) -> bool:
-        return self._worth() > other._worth() if isinstance(other, Value) else NotImplemented
+        if not isinstance(other, Value):
+            return NotImplemented
+        return self._worth() > other._worth()
 
     def __ge__(self, other: object) -> bool:
-        return self._worth() >= other._worth() if isinstance(other, Value) else NotImplemented
+        if not isinstance(other, Value):
+            return NotImplemented
+        return self._worth() >= other._worth()
 
 
 class Move(NamedTuple):
