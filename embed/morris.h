@@ -174,8 +174,8 @@ int32_t morris_moves_of(const morris_tables *tables, uint32_t own, uint32_t othe
  * keeps the draw; where all lose, one that loses latest. Of several the first, in the order of
  * `morris_moves_of`; but of several that keep the draw one after which the opponent has the fewest
  * moves that keep it too, so that a slip is likeliest. A table tells no draw from another: this is
- * a rule of thumb, which looks two plies ahead. Where a player has three stones and the position is
- * a draw, that takes up to some milliseconds, else some microseconds.
+ * a rule of thumb, which looks two plies ahead. At a draw with three stones that may take a
+ * millisecond, and else some microseconds. It takes 32 KB of stack.
  *
  * The statuses of `morris_lookup` for the position, and of `morris_moves` for it and, at a draw,
  * for those that its drawing moves lead to; MORRIS_OVER; MORRIS_DISAGREE where the value of the

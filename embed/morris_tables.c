@@ -134,13 +134,13 @@ int32_t morris_has(const morris_tables *tables, uint32_t greater, uint32_t lesse
     return file_of(tables, greater, lesser) != NULL;
 }
 
-/* How many points a set has. */
+/* How many points a set has: those of its pairs of bits, then of its fours and its bytes, side by
+ * side. */
 static uint32_t count_of(uint32_t set) {
-    uint32_t count = 0;
-    for (; set != 0; set &= set - 1) {
-        count++;
-    }
-    return count;
+    set -= set >> 1 & 0x55555555u;
+    set = (set & 0x33333333u) + (set >> 2 & 0x33333333u);
+    set = (set + (set >> 4)) & 0x0f0f0f0fu;
+    return set * 0x01010101u >> 24;
 }
 
 /* Puts the file of a pair behind the first `n` of those that a call is handed, where there is one,
