@@ -1,6 +1,6 @@
 /* Prints how many nanoseconds a value and a list of moves take through the library of embed/:
  *
- *     library FOLDER < POSITIONS      of the usual board
+ *     library FOLDER < POSITIONS      of the usual board, over views and then by a handle
  *     library FOLDER first < LINE     how many milliseconds the first value and its moves take
  *
  * No part of the product.
@@ -50,10 +50,30 @@ static double pass(const morris_folder *t, int count, int with_moves, unsigned l
     return now() - began;
 }
 
+/* The same by a handle. */
+static double pass_by_handle(const morris_tables *t, int count, int with_moves, unsigned long long *sum) {
+    double began = now();
+    int i;
+    for (i = 0; i < count; i++) {
+        morris_value value = {0, 0};
+        size_t many = 0;
+        int32_t status = with_moves
+            ? morris_moves_of(t, own[i], other[i], moves, MORRIS_MOST_MOVES, &many)
+            : morris_value_of(t, own[i], other[i], &value);
+        *sum += (unsigned long long)status + value.depth + (value.kind == MORRIS_DRAW ? 0 : 1) + many;
+    }
+    return now() - began;
+}
+
+static double lesser(double a, double b) {
+    return a < b ? a : b;
+}
+
 int main(int argc, char **argv) {
     morris_folder t;
+    morris_tables *tables;
     unsigned long long values = 0, lists = 0;
-    double began = now(), least[2] = {1e9, 1e9};
+    double began = now(), least[4] = {1e9, 1e9, 1e9, 1e9};
     int count = read_all(), i;
     if (argc < 2 || count == 0) {
         return 2;
@@ -70,11 +90,20 @@ int main(int argc, char **argv) {
         printf("%.2f\n", 1e3 * (now() - began));
         return 0;
     }
-    for (i = 0; i < 5; i++) {
-        double took = pass(&t, count, 0, &values);
-        least[0] = took < least[0] ? took : least[0];
+    tables = morris_open(argv[1], MORRIS_NINE, NULL);
+    if (tables == NULL) {
+        return 1;
     }
-    least[1] = pass(&t, count, 1, &lists);
-    printf("%.1f %.1f %llu\n", 1e9 * least[0] / count, 1e9 * least[1] / count, values);
+    for (i = 0; i < 5; i++) {
+        least[0] = lesser(least[0], pass(&t, count, 0, &values));
+        least[1] = lesser(least[1], pass_by_handle(tables, count, 0, &values));
+    }
+    least[2] = pass(&t, count, 1, &lists);
+    least[3] = pass_by_handle(tables, count, 1, &lists);
+    for (i = 0; i < 4; i++) {
+        printf("%.1f ", 1e9 * least[i] / count);
+    }
+    printf("%llu %llu\n", values, lists);
+    morris_close(tables);
     return 0;
 }

@@ -1,5 +1,6 @@
-"""The released program: the folder release/ of a copy of the repository, as ci/release writes it
-and ./morris and ci/released read it."""
+"""What is released: the folder release/ of a copy of the repository. ci/release writes the program
+there, which ./morris and ci/released read, and ci/release_library the library of embed/, which
+embed/packaging/core.sh reads."""
 
 import hashlib
 import os
@@ -9,8 +10,10 @@ from datetime import datetime, timezone
 
 PACKED = "release/morris-x86_64-linux.gz"
 BUILT = "release/BUILT"
-# The packed file has no more bytes.
-MOST_BYTES = 500_000
+PACKED_LIBRARY = "release/libmorris_c.a.gz"
+LIBRARY = "release/LIBRARY"
+# The packed files have no more bytes.
+MOST_BYTES, MOST_BYTES_OF_LIBRARY = 500_000, 100_000
 
 
 def sources(root, *words):
@@ -70,5 +73,25 @@ def release(root, program, gate):
     with open(f"{root}/{PACKED}", "wb") as it:
         it.write(packed)
     with open(f"{root}/{BUILT}", "w", encoding="utf-8") as it:
+        it.writelines(f"{name} {value}\n" for name, value in lines.items())
+    return len(packed)
+
+
+def release_library(root, archive, made_by):
+    """Writes the library into release/ of a copy of the repository from whose sources it was built,
+    and gives the packed file's size."""
+    content = read(archive)
+    how = {"input": content, "stdout": subprocess.PIPE, "check": True}
+    packed = subprocess.run(["gzip", "-9n"], **how).stdout
+    lines = {
+        "sources": sources(root),
+        "library": digest(content),
+        "packed": digest(packed),
+        "kit": made_by,
+    }
+    os.makedirs(f"{root}/release", exist_ok=True)
+    with open(f"{root}/{PACKED_LIBRARY}", "wb") as it:
+        it.write(packed)
+    with open(f"{root}/{LIBRARY}", "w", encoding="utf-8") as it:
         it.writelines(f"{name} {value}\n" for name, value in lines.items())
     return len(packed)

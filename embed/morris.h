@@ -1,10 +1,21 @@
 /* Morris: the values of Nine Men's Morris positions, from the table files that `morris build`
  * makes.
  *
- * A program maps or reads the table files into memory and hands them to each call as an array of
- * views. The library keeps nothing: it has no state, takes no memory, opens no files and never
- * changes what it is handed but for the results. So every call may be made from any thread at any
- * time, with the same views and words, as long as nobody changes these meanwhile.
+ *     int32_t status;
+ *     morris_tables *tables = morris_open("tables", MORRIS_NINE, &status);
+ *     morris_value value;
+ *     if (tables != NULL && morris_value_of(tables, own, other, &value) == MORRIS_OK) {
+ *         ...
+ *     }
+ *     morris_close(tables);
+ *
+ * There are two ways to ask. The calls of "open tables" take a handle, which has the files of a
+ * folder mapped, and are all that most programs need. Those of "files in memory" take the bytes of
+ * the files, which the program has mapped or read itself, as an array of views, and keep nothing:
+ * they have no state, take no memory, open no files and never change what they are handed but for
+ * the results. The first stand on these, and answer the same. Of either, every call may be made
+ * from any thread at any time, with the same handle, or the same views and words, as long as nobody
+ * closes or changes these meanwhile. The calls of "moves without tables" need neither.
  *
  * Boards: MORRIS_NINE is the usual board, with 24 points: three rings of eight, outer, middle and
  * inner, where point 8 * r + k is place k of ring r, clockwise from the top left corner.
@@ -18,9 +29,10 @@
  *
  * Each call answers a status, MORRIS_OK or another, and writes its results only with MORRIS_OK, but
  * where it says otherwise. Any numbers and any bytes may be handed in. What the caller owes is that
- * each pointer is valid: not null, rightly aligned, and with as many elements behind it as are
- * named beside it; and that results have places of their own, which overlap nothing else that is
- * handed in. Where no elements are named, any pointer that isn't null will do. */
+ * each pointer is valid: not null but where that is said, rightly aligned, and with as many
+ * elements behind it as are named beside it; and that results have places of their own, which
+ * overlap nothing else that is handed in. Where no elements are named, any pointer that isn't null
+ * will do. */
 #ifndef MORRIS_H
 #define MORRIS_H
 
@@ -33,6 +45,11 @@ extern "C" {
 
 /* The version of this interface: raised where a program has to be changed or compiled anew. */
 #define MORRIS_INTERFACE 1
+
+/* The version of Morris, as `morris --version` prints it: that of this header, and that of the
+ * library which the program runs with. The text lies in memory that lasts. */
+#define MORRIS_VERSION_STRING "0.2.0"
+const char *morris_version(void);
 
 /* ---- boards, kinds of values */
 
@@ -67,8 +84,17 @@ enum {
     MORRIS_CROWDED = 13,     /* a header has more stones than the board has points */
     MORRIS_ENTRIES = 14,     /* a header states a number of entries that isn't that of its table */
     MORRIS_TRAILING = 15,    /* a file has more bytes than its header says */
-    MORRIS_DIGEST = 16       /* the digest at the end of a file isn't that of its bytes */
+    MORRIS_DIGEST = 16,      /* the digest at the end of a file isn't that of its bytes */
+    MORRIS_ILLEGAL = 19,     /* the move isn't legal in the position */
+    MORRIS_OVER = 20,        /* the game is over: there is no move */
+    MORRIS_DISAGREE = 21     /* what the files say of a position and of its moves disagree */
 };
+
+/* The system refused a file or memory, and errno says why. */
+#define MORRIS_SYSTEM 100
+
+/* A line of English that says what a status means, for any number. It lies in memory that lasts. */
+const char *morris_error(int32_t status);
 
 /* ---- what is handed in and out */
 
@@ -103,7 +129,84 @@ typedef struct morris_header {
     uint64_t entries; /* how many entries the table has */
 } morris_header;
 
-/* ---- once in a program */
+/* ---- open tables */
+
+/* The open table files of one board. What it has inside may change with the library. */
+typedef struct morris_tables morris_tables;
+
+/* Maps the table files of a board that lie in a folder, under the names that `morris build` gives
+ * them: nine-3-3.nmmt, nine-4-3.nmmt and so on to nine-9-9.nmmt, or grid-3-3.nmmt and so on. Those
+ * that aren't there are left out. Where `path` names nothing that is there, colons divide it into
+ * several folders, as in `tables:/usr/share/morris`: of each pair the first one that has its file
+ * gives it, and folders without files are passed over. Links are followed. Only the headers are
+ * looked at here. Where a file is one by classes, opening takes some hundredths of a second and 700
+ * KB of memory.
+ *
+ * Answers null where the tables aren't open, and `*status`, which may be null, says why: MORRIS_OK;
+ * MORRIS_NO_BOARD; MORRIS_NO_TABLE where there is none of these files; or MORRIS_SYSTEM, and errno
+ * says why a file couldn't be opened or mapped, or memory was refused: EINVAL where what has the
+ * name of a table file isn't a regular file, but a folder, a FIFO or a device, say, which isn't
+ * opened or waited for; ENOENT where a path is empty.
+ *
+ * A file that somebody cuts short or changes while it is mapped may end the program (SIGBUS), or
+ * give wrong values: files are replaced by renaming, as `morris build` does. */
+morris_tables *morris_open(const char *path, uint32_t board, int32_t *status);
+
+/* Gives back what is open. Nothing may ask these tables any more. Null may be closed. */
+void morris_close(morris_tables *tables);
+
+/* Whether a file names this pair of numbers of stones in its header, either number first: 1 or
+ * 0. */
+int32_t morris_has(const morris_tables *tables, uint32_t greater, uint32_t lesser);
+
+/* The value of a position, for the player to move, as `morris_lookup` gives it. A call takes less
+ * than a microsecond. Its statuses are those of `morris_lookup`. */
+int32_t morris_value_of(const morris_tables *tables, uint32_t own, uint32_t other,
+                        morris_value *out);
+
+/* The legal moves of a position, each with the value that it leads to, as `morris_moves` gives
+ * them: `out` has `room` places, of which the first `*count` are filled, and MORRIS_MOST_MOVES are
+ * always enough. Its statuses are those of `morris_moves`. */
+int32_t morris_moves_of(const morris_tables *tables, uint32_t own, uint32_t other, morris_move *out,
+                        size_t room, size_t *count);
+
+/* A best move of a position: of those that win, one that wins soonest; where none wins, one that
+ * keeps the draw; where all lose, one that loses latest. Of several the first, in the order of
+ * `morris_moves_of`; but of several that keep the draw one after which the opponent has the fewest
+ * moves that keep it too, so that a slip is likeliest. A table tells no draw from another: this is
+ * a rule of thumb, which looks two plies ahead. At a draw with three stones that may take a
+ * millisecond, and else some microseconds. It takes 32 KB of stack.
+ *
+ * The statuses of `morris_lookup` for the position, and of `morris_moves` for it and, at a draw,
+ * for those that its drawing moves lead to; MORRIS_OVER; MORRIS_DISAGREE where the value of the
+ * position isn't that of its best move, as damaged files have it: `morris verify` tells of them. */
+int32_t morris_best(const morris_tables *tables, uint32_t own, uint32_t other, morris_move *out);
+
+/* Whether each file is whole, by `morris_check` and `morris_digest`. It reads all files, at some
+ * hundred megabytes a second. The status is that of the first file that isn't. */
+int32_t morris_check_tables(const morris_tables *tables);
+
+/* ---- moves without tables */
+
+/* The position after a legal move, from the side of the player who is to move then: the opponent.
+ * Of the move `from`, `to` and `taken` are looked at, and not the value. A move may be played as
+ * `morris_play(board, own, other, &move, &own, &other)`.
+ *
+ * MORRIS_NO_BOARD; MORRIS_OFF_BOARD, MORRIS_OVERLAP, MORRIS_STONES; MORRIS_ILLEGAL where the move
+ * isn't one of `morris_legal_moves`. */
+int32_t morris_play(uint32_t board, uint32_t own, uint32_t other, const morris_move *move,
+                    uint32_t *next_own, uint32_t *next_other);
+
+/* The legal moves of a position, in order of from, to, taken. `out` has `room` places, of which the
+ * first `*count` are filled: MORRIS_MOST_MOVES are always enough. Nothing is known of what a move
+ * leads to: its value is that of a draw.
+ *
+ * MORRIS_NO_BOARD; MORRIS_OFF_BOARD, MORRIS_OVERLAP, MORRIS_STONES; MORRIS_ROOM where `room` is
+ * less than the number of legal moves: then `*count` hasn't changed. */
+int32_t morris_legal_moves(uint32_t board, uint32_t own, uint32_t other, morris_move *out,
+                           size_t room, size_t *count);
+
+/* ---- files in memory: once in a program */
 
 /* How many words `morris_prepare` fills for a board, of 4 bytes each: for MORRIS_NINE they are
  * MORRIS_NINE_WORDS. 0 where there is no such board. It goes through the sets of points, as the
@@ -120,7 +223,7 @@ size_t morris_prepare_size(uint32_t board);
  * MORRIS_NO_BOARD; MORRIS_ROOM, and then some words may have changed. */
 int32_t morris_prepare(uint32_t board, uint32_t *words, size_t room);
 
-/* ---- of a file */
+/* ---- files in memory: of a file */
 
 /* Whether a file is a table file: its header, and how many bytes it has. The codes and the digest
  * aren't looked at. Writes what the header says. For a file of version 2 it goes through all sets
@@ -138,7 +241,7 @@ int32_t morris_check(const morris_view *file, morris_header *out);
  * MORRIS_SHORT where there are fewer than 32 bytes; MORRIS_DIGEST. */
 int32_t morris_digest(const morris_view *file);
 
-/* ---- of a position */
+/* ---- files in memory: of a position */
 
 /* The value of a position: what the first of the `n` files that names its pair in its header
  * states. A player to move with two stones has lost in 0 plies, and no file is needed. Two bytes of
@@ -171,9 +274,6 @@ int32_t morris_lookup(uint32_t board, const morris_view *files, size_t n, const 
 int32_t morris_moves(uint32_t board, const morris_view *files, size_t n, const uint32_t *words,
                      size_t m, uint32_t own, uint32_t other, morris_move *out, size_t room,
                      size_t *count);
-
-/* A line of English that says what a status means, for any number. It lies in memory that lasts. */
-const char *morris_error(int32_t status);
 
 #ifdef __cplusplus
 }

@@ -5,8 +5,9 @@
     with morris.open_tables("tables") as tables:
         position = "XX.X...O.O.O............"
         print(tables.value(position))
-        for outcome in tables.moves(position):
-            print(outcome.move, outcome.value)
+        for move, value in tables.moves(position):
+            print(move, value, tables.play(position, move))
+        print(tables.choose(position))
 
 A position is a text with a character for each point of the board, in order: `X` for a stone of
 the player to move, `O` for one of the opponent, `.` for a vacant point. Or it is a pair of masks,
@@ -14,11 +15,15 @@ of the stones of the player to move and of the opponent's, in which bit p stands
 
 The values are those that the files state: `morris verify BOARD --from FOLDER`, run once before,
 tells whether they are right. The files are mapped, not copied, so any threads may ask the same
-`Tables`. A file that somebody cuts short or changes while it is open may end the program (by the
-signal SIGBUS), or give wrong values: files are replaced by renaming, as `morris build` does.
+`Tables`, and processes that open the same folder share the memory. A file that somebody cuts short
+or changes while it is open may end the program (by the signal SIGBUS), or give wrong values: files
+are replaced by renaming, as `morris build` does.
 
-The shared library `libmorris.so` is looked for beside this file, then in the folder `out` there,
-then where the system looks; the environment variable `MORRIS_LIBRARY` names another.
+`play` and `legal_moves` need no tables.
+
+The shared library `libmorris.so` is looked for beside this file, in the folder `out` there, in the
+folder `lib` in which this file was installed, and then where the system looks. The environment
+variable `MORRIS_LIBRARY` names another.
 """
 
 from __future__ import annotations
@@ -27,9 +32,22 @@ import ctypes
 import enum
 import errno
 import os
+import re
 import reprlib
 import weakref
-from typing import List, NamedTuple, NoReturn, Optional, Tuple, Union
+from typing import (
+    Any,
+    Dict,
+    List,
+    NamedTuple,
+    NoReturn,
+    Optional,
+    Sequence,
+    Tuple,
+    TypeVar,
+    Union,
+    overload,
+)
 
 __all__ = [
     "Fault",
@@ -37,27 +55,32 @@ __all__ = [
     "Kind",
     "Move",
     "Outcome",
+    "Ply",
     "Position",
     "Status",
     "Tables",
     "Value",
+    "legal_moves",
     "open_tables",
+    "play",
+    "version",
 ]
 
 # The number of each board, and how many points it has.
 _BOARDS = {"nine": (0, 24), "grid": (1, 9)}
-# What morris.h has in place of a point, and how many moves and files there are at most.
+# What morris.h has in place of a point, and how many moves there are at most.
 _NONE = 255
 _MOST_MOVES = 1944
-_MOST_FILES = 28
-# The bytes of a header, and where it has the two numbers of stones.
-_HEADER, _GREATER, _LESSER = 16, 6, 7
+# The numbers of stones that tables are of.
+_STONES = range(3, 10)
 
 Position = Union[str, Tuple[int, int], List[int]]
 """A text, or the mask of the player to move and the one of the opponent."""
 
 Folder = Union[str, bytes, "os.PathLike[str]", "os.PathLike[bytes]"]
-"""The path of a folder."""
+"""The path of a folder, or of several with colons between them."""
+
+_Default = TypeVar("_Default")
 
 
 class Status(enum.IntEnum):
@@ -80,11 +103,10 @@ class Status(enum.IntEnum):
     ENTRIES = 14
     TRAILING = 15
     DIGEST = 16
+    ILLEGAL = 19
+    OVER = 20
+    DISAGREE = 21
     SYSTEM = 100
-
-
-class _View(ctypes.Structure):
-    _fields_ = [("bytes", ctypes.c_void_p), ("len", ctypes.c_size_t)]
 
 
 class _Value(ctypes.Structure):
@@ -98,27 +120,6 @@ class _Move(ctypes.Structure):
         ("taken", ctypes.c_uint8),
         ("pad", ctypes.c_uint8),
         ("value", _Value),
-    ]
-
-
-class _Header(ctypes.Structure):
-    _fields_ = [
-        ("version", ctypes.c_uint8),
-        ("board", ctypes.c_uint8),
-        ("greater", ctypes.c_uint8),
-        ("lesser", ctypes.c_uint8),
-        ("pad", ctypes.c_uint32),
-        ("entries", ctypes.c_uint64),
-    ]
-
-
-class _Folder(ctypes.Structure):
-    _fields_ = [
-        ("board", ctypes.c_uint32),
-        ("files", _View * _MOST_FILES),
-        ("n", ctypes.c_size_t),
-        ("words", ctypes.POINTER(ctypes.c_uint32)),
-        ("m", ctypes.c_size_t),
     ]
 
 
@@ -170,16 +171,24 @@ class Value(NamedTuple):
         return (1 if self.kind == Kind.WON else -1) / (1 + self.depth)
 
     def __lt__(self, other: object) -> bool:
-        return self._worth() < other._worth() if isinstance(other, Value) else NotImplemented
+        if not isinstance(other, Value):
+            return NotImplemented
+        return self._worth() < other._worth()
 
     def __le__(self, other: object) -> bool:
-        return self._worth() <= other._worth() if isinstance(other, Value) else NotImplemented
+        if not isinstance(other, Value):
+            return NotImplemented
+        return self._worth() <= other._worth()
 
     def __gt__(self, other: object) -> bool:
-        return self._worth() > other._worth() if isinstance(other, Value) else NotImplemented
+        if not isinstance(other, Value):
+            return NotImplemented
+        return self._worth() > other._worth()
 
     def __ge__(self, other: object) -> bool:
-        return self._worth() >= other._worth() if isinstance(other, Value) else NotImplemented
+        if not isinstance(other, Value):
+            return NotImplemented
+        return self._worth() >= other._worth()
 
 
 class Move(NamedTuple):
@@ -188,6 +197,14 @@ class Move(NamedTuple):
     start: int
     end: int
     taken: Optional[int]
+
+    @classmethod
+    def read(cls, text: str) -> Move:
+        """The move that a text such as `3-2` or `3-2x22` shows. Raises `ValueError` for another."""
+        found = re.fullmatch(r"([0-9]{1,2})-([0-9]{1,2})(?:x([0-9]{1,2}))?", text)
+        if found is None:
+            raise ValueError(f"no move, such as 3-2 or 3-2x22: {reprlib.repr(text)}")
+        return cls(int(found[1]), int(found[2]), None if found[3] is None else int(found[3]))
 
     def __str__(self) -> str:
         capture = "" if self.taken is None else f"x{self.taken}"
@@ -201,7 +218,52 @@ class Outcome(NamedTuple):
     value: Value
 
 
+class Ply(NamedTuple):
+    """A move and the position after it, in which the other player is to move."""
+
+    move: Move
+    position: Position
+
+
 _loaded: Optional[ctypes.CDLL] = None
+
+
+def _load() -> Tuple[str, ctypes.CDLL]:
+    """The name of the shared library, and the library."""
+    name, folder = "libmorris.so", os.path.dirname(os.path.abspath(__file__))
+    beside = [os.path.join(folder, *it, name) for it in ((), ("out",), ("..", ".."))]
+    places = [os.path.normpath(it) for it in beside]
+    where = f"looked for {', '.join(places)}, and where the system looks"
+    name = next(filter(os.path.exists, places), name)
+    if os.environ.get("MORRIS_LIBRARY"):
+        name, where = os.environ["MORRIS_LIBRARY"], "the variable MORRIS_LIBRARY names it"
+    try:
+        return name, ctypes.CDLL(name, use_errno=True)
+    except OSError as error:
+        raise OSError(
+            f"the library of Morris can't be loaded ({error}): {where}. `make -C embed` in a clone "
+            "of Morris makes it, and a wheel of Morris has it"
+        ) from None
+
+
+def _calls() -> Dict[str, Tuple[Any, List[Any]]]:
+    """The results and arguments of the calls of `morris.h` that are made here."""
+    pointer, number, size = ctypes.POINTER, ctypes.c_uint32, ctypes.c_size_t
+    text, status, tables = ctypes.c_char_p, ctypes.c_int32, ctypes.c_void_p
+    listed = [pointer(_Move), size, pointer(size)]
+    return {
+        "morris_open": (tables, [text, number, pointer(status)]),
+        "morris_close": (None, [tables]),
+        "morris_has": (status, [tables, number, number]),
+        "morris_value_of": (status, [tables, number, number, pointer(_Value)]),
+        "morris_moves_of": (status, [tables, number, number, *listed]),
+        "morris_best": (status, [tables, number, number, pointer(_Move)]),
+        "morris_check_tables": (status, [tables]),
+        "morris_legal_moves": (status, [number, number, number, *listed]),
+        "morris_play": (status, [number] * 3 + [pointer(_Move), pointer(number), pointer(number)]),
+        "morris_error": (text, [status]),
+        "morris_version": (text, []),
+    }
 
 
 def _library() -> ctypes.CDLL:
@@ -209,29 +271,20 @@ def _library() -> ctypes.CDLL:
     global _loaded
     if _loaded is not None:
         return _loaded
-    folder = os.path.dirname(os.path.abspath(__file__))
-    places = [os.path.join(folder, *name) for name in (("libmorris.so",), ("out", "libmorris.so"))]
-    beside = next(filter(os.path.exists, places), "libmorris.so")
-    name = os.environ.get("MORRIS_LIBRARY") or beside
-    library = ctypes.CDLL(name, use_errno=True)
-    pointer, number, size = ctypes.POINTER, ctypes.c_uint32, ctypes.c_size_t
-    asked = [number, pointer(_View), size, pointer(number), size, number, number]
-    calls = {
-        "morris_open_folder": (ctypes.c_int32, [ctypes.c_char_p, number, pointer(_Folder)]),
-        "morris_close_folder": (None, [pointer(_Folder)]),
-        "morris_check": (ctypes.c_int32, [pointer(_View), pointer(_Header)]),
-        "morris_digest": (ctypes.c_int32, [pointer(_View)]),
-        "morris_lookup": (ctypes.c_int32, [*asked, pointer(_Value)]),
-        "morris_moves": (ctypes.c_int32, [*asked, pointer(_Move), size, pointer(size)]),
-        "morris_error": (ctypes.c_char_p, [ctypes.c_int32]),
-    }
-    for call, (result, arguments) in calls.items():
+    name, library = _load()
+    for call, (result, arguments) in _calls().items():
         function = getattr(library, call, None)
         if function is None:
-            raise OSError(f"{name} isn't the library of Morris: it has no {call}")
+            raise OSError(f"{name} isn't this version of the library of Morris: it has no {call}")
         function.restype, function.argtypes = result, arguments
     _loaded = library
     return library
+
+
+def version() -> str:
+    """The version of Morris that the library is of, as `morris --version` prints it."""
+    found: bytes = _library().morris_version()
+    return found.decode()
 
 
 def _done(status: int) -> None:
@@ -240,8 +293,16 @@ def _done(status: int) -> None:
         raise Fault(status)
 
 
+# The kinds of values by their numbers.
+_KINDS = tuple(Kind)
+
+
 def _value(value: _Value) -> Value:
-    return Value(Kind(value.kind), value.depth)
+    return Value(_KINDS[value.kind], value.depth)
+
+
+def _move(move: _Move) -> Move:
+    return Move(move.start, move.end, None if move.taken == _NONE else move.taken)
 
 
 def _masks(position: Position, points: int) -> Tuple[int, int]:
@@ -266,39 +327,96 @@ def _masks(position: Position, points: int) -> Tuple[int, int]:
     return own, other
 
 
+def _points(board: str) -> Tuple[int, int]:
+    """The number of a board, and how many points it has."""
+    if board not in _BOARDS:
+        raise ValueError(f"the board is {' or '.join(_BOARDS)}, not {board!r}")
+    return _BOARDS[board]
+
+
+def _text(masks: Tuple[int, int], points: int) -> str:
+    own, other = masks
+    return "".join("X" if own >> p & 1 else "O" if other >> p & 1 else "." for p in range(points))
+
+
+def _given_move(move: Union[Move, str, Sequence[Optional[int]]], points: int) -> _Move:
+    """The move for C. Numbers that are no points reach no call: C would take a part of them."""
+    if isinstance(move, str):
+        move = Move.read(move)
+    if not isinstance(move, tuple):
+        raise TypeError(f"a move is a Move or a text, not {type(move).__name__}")
+    if len(move) != 3:
+        raise ValueError(f"a move has start, end and taken, not {len(move)} parts")
+    for point in move[:2] if move[2] is None else move:
+        if isinstance(point, bool) or not isinstance(point, int):
+            raise TypeError(f"a point is an int, not {type(point).__name__}")
+        if not 0 <= point < points:
+            raise Fault(Status.ILLEGAL)
+    return _Move(move[0], move[1], _NONE if move[2] is None else move[2])
+
+
+@overload
+def play(position: str, move: Union[Move, str], board: str = "nine") -> str: ...
+@overload
+def play(position: Position, move: Union[Move, str], board: str = "nine") -> Position: ...
+def play(position: Position, move: Union[Move, str], board: str = "nine") -> Position:
+    """The position after a legal move, in which the other player is to move: a text where a text is
+    given, and else two masks. The move may be a text such as `3-2` or `3-2x22`. Needs no tables.
+
+    Raises `Fault` with ILLEGAL where the move isn't legal, with OVERLAP or STONES where no position
+    is like that; `ValueError` and `TypeError` for what is no position of the board, or no move."""
+    number, points = _points(board)
+    own, other = ctypes.c_uint32(), ctypes.c_uint32()
+    masks, given = _masks(position, points), _given_move(move, points)
+    _done(_library().morris_play(number, *masks, given, own, other))
+    after = own.value, other.value
+    return _text(after, points) if isinstance(position, str) else after
+
+
+def legal_moves(position: Position, board: str = "nine") -> List[Move]:
+    """The legal moves of a position, in order of start, end and taken. Needs no tables.
+
+    Raises `Fault` with OVERLAP or STONES where no position is like that; `ValueError` and
+    `TypeError` for what is no position of the board."""
+    number, points = _points(board)
+    out, count = (_Move * _MOST_MOVES)(), ctypes.c_size_t()
+    masks = _masks(position, points)
+    _done(_library().morris_legal_moves(number, *masks, out, len(out), count))
+    return [_move(it) for it in out[:count.value]]
+
+
 class _Files:
-    """The open files of a folder. They are given back once nobody has them any more, neither
+    """The open files of some folders. They are given back once nobody has them any more, neither
     `Tables` nor a call that is under way."""
 
-    def __init__(self, folder: _Folder) -> None:
-        self.views = folder.files[:folder.n]
-        # What each call is asked with.
-        self.asked = (folder.board, folder.files, folder.n, folder.words, folder.m)
+    def __init__(self, handle: int) -> None:
+        self.handle = handle
         # At the end of the program the system does it: a thread may still be in a call.
-        weakref.finalize(self, _library().morris_close_folder, folder).atexit = False
+        weakref.finalize(self, _library().morris_close, handle).atexit = False
 
 
 class Tables:
     """Open table files of one board. Made by `open_tables`, and closed by `close` or `with`, or
     once nobody has them any more. `board` is the board's name. Any threads may ask and close them;
-    they can't be copied or pickled (`TypeError`), so each process opens its own."""
+    they can't be copied or pickled (`TypeError`), so each process opens its own, or has those that
+    were open when it was forked."""
 
     def __init__(self, folder: Folder, board: str = "nine") -> None:
-        if board not in _BOARDS:
-            raise ValueError(f"the board is {' or '.join(_BOARDS)}, not {board!r}")
+        number, self._count = _points(board)
         path = os.fsencode(folder)
         if b"\0" in path:
             raise ValueError(f"a path has no NUL byte: {path!r}")
         self.board = board
-        found = _Folder()
-        status = _library().morris_open_folder(path, _BOARDS[board][0], found)
-        if status == Status.NO_TABLE:
+        status = ctypes.c_int32()
+        handle: Optional[int] = _library().morris_open(path, number, status)
+        if status.value == Status.NO_TABLE:
             raise FileNotFoundError(errno.ENOENT, "no table files of the board", os.fspath(folder))
-        if status == Status.SYSTEM:
+        if status.value == Status.SYSTEM:
             why = ctypes.get_errno()
             raise OSError(why, os.strerror(why), os.fspath(folder))
-        _done(status)
-        self._files: Optional[_Files] = _Files(found)
+        _done(status.value)
+        assert handle is not None
+        self._files: Optional[_Files] = _Files(handle)
 
     def __enter__(self) -> Tables:
         self._open_files()
@@ -328,17 +446,15 @@ class Tables:
     def pairs(self) -> List[Tuple[int, int]]:
         """The pairs of numbers of stones, the greater one first, that a file names in its header,
         in order. Raises `Fault` (NO_TABLE) where the tables are closed."""
-        files = self._open_files()
-        long = [view for view in files.views if view.len >= _HEADER]
-        heads = [ctypes.string_at(view.bytes, _HEADER) for view in long]
-        named = {(head[_GREATER], head[_LESSER]) for head in heads}
-        return sorted(it for it in named if 3 <= it[1] <= it[0] <= 9)
+        files, has = self._open_files(), _library().morris_has
+        all_pairs = [(a, b) for a in _STONES for b in _STONES if b <= a]
+        return [pair for pair in all_pairs if has(files.handle, *pair)]
 
     def _status(self, call: str, position: Position, *out: object) -> int:
         """What C answers for a position. No frame of a fault that comes of it has the files."""
-        masks = _masks(position, _BOARDS[self.board][1])
+        masks = _masks(position, self._count)
         files = self._open_files()
-        status: int = getattr(_library(), call)(*files.asked, *masks, *out)
+        status: int = getattr(_library(), call)(files.handle, *masks, *out)
         return status
 
     def value(self, position: Position) -> Value:
@@ -349,24 +465,72 @@ class Tables:
         is like that, with NO_TABLE where no file has its pair or the tables are closed, and with
         SHORT, MAGIC, VERSION, OTHER_BOARD, ENTRIES or TRAILING where the file is refused."""
         out = _Value()
-        _done(self._status("morris_lookup", position, out))
+        _done(self._status("morris_value_of", position, out))
+        return _value(out)
+
+    @overload
+    def get(self, position: Position) -> Optional[Value]: ...
+    @overload
+    def get(self, position: Position, default: _Default) -> Union[Value, _Default]: ...
+    def get(self, position: Position, default: Optional[_Default] = None) -> object:
+        """The value of a position, or `default` where no file has its pair. Else raises what
+        `value` raises."""
+        out = _Value()
+        status = self._status("morris_value_of", position, out)
+        if status == Status.NO_TABLE:
+            return default
+        _done(status)
         return _value(out)
 
     def moves(self, position: Position) -> List[Outcome]:
         """The legal moves in order of start, end and taken, each with what it leads to. Raises what
         `value` raises, for the position itself or one that a move leads to."""
         out, count = (_Move * _MOST_MOVES)(), ctypes.c_size_t()
-        _done(self._status("morris_moves", position, out, len(out), count))
-        return [
-            Outcome(Move(m.start, m.end, None if m.taken == _NONE else m.taken), _value(m.value))
-            for m in out[:count.value]
-        ]
+        _done(self._status("morris_moves_of", position, out, len(out), count))
+        return [Outcome(_move(it), _value(it.value)) for it in out[:count.value]]
 
     def best(self, position: Position) -> List[Outcome]:
         """The best moves: those that lead to the value of the position itself. Raises what `value`
         and `moves` raise."""
         value = self.value(position)
         return [outcome for outcome in self.moves(position) if outcome.value == value]
+
+    def choose(self, position: Position) -> Optional[Outcome]:
+        """One of the best moves, or None where the game is over. Of several that win or lose it is
+        the first; of several that keep a draw the first of those after which the opponent has the
+        fewest moves that keep it too. A table tells no draw from another: this is a rule of thumb.
+
+        Raises what `value` and `moves` raise, for the position and for those that drawing moves
+        lead to, and `Fault` with DISAGREE where the files say of the position what doesn't follow
+        from what they say of its moves."""
+        out = _Move()
+        status = self._status("morris_best", position, out)
+        if status == Status.OVER:
+            return None
+        _done(status)
+        return Outcome(_move(out), _value(out.value))
+
+    def line(self, position: Position) -> List[Ply]:
+        """A line of best play, as `morris lookup --line` gives it: at each ply the first best move,
+        with the position after it, to the end of the game. At a draw it is empty. Raises what
+        `choose` raises, for any position of the line."""
+        found: List[Ply] = []
+        value = self.value(position)
+        while value.kind != Kind.DRAW:
+            chosen = self.choose(position)
+            if chosen is None:
+                break
+            position = self.play(position, chosen.move)
+            found.append(Ply(chosen.move, position))
+        return found
+
+    @overload
+    def play(self, position: str, move: Union[Move, str]) -> str: ...
+    @overload
+    def play(self, position: Position, move: Union[Move, str]) -> Position: ...
+    def play(self, position: Position, move: Union[Move, str]) -> Position:
+        """The position after a legal move, as the function `play` gives it."""
+        return play(position, move, self.board)
 
     def check_digests(self) -> None:
         """Reads all files. Raises `Fault` at the first that is damaged: with SHORT, MAGIC, VERSION,
@@ -377,20 +541,15 @@ class Tables:
 
     def _damage(self) -> int:
         """The status of the first file that is damaged."""
-        files, header, library = self._open_files(), _Header(), _library()
-        for view in files.views:
-            status: int = library.morris_check(view, header)
-            if status == Status.OK and header.board != _BOARDS[self.board][0]:
-                status = Status.OTHER_BOARD
-            status = status or library.morris_digest(view)
-            if status != Status.OK:
-                return status
-        return Status.OK
+        files = self._open_files()
+        status: int = _library().morris_check_tables(files.handle)
+        return status
 
 
 def open_tables(folder: Folder, board: str = "nine") -> Tables:
     """Opens the table files of a board, `nine` or `grid`, that lie in a folder under the names that
-    `morris build` gives them.
+    `morris build` gives them. A path that names nothing that is there is divided at its colons, as
+    in `tables:/usr/share/morris`: of each pair the first folder that has its file gives it.
 
     Raises `FileNotFoundError` where there are none; another `OSError` where the system refuses
     one, where what has such a name isn't a regular file, and where the shared library isn't found;

@@ -33,6 +33,9 @@ const char *morris_error(int32_t status) {
     case MORRIS_ENTRIES: return "wrong number of entries";
     case MORRIS_TRAILING: return "bytes after the table";
     case MORRIS_DIGEST: return "digest is wrong";
+    case MORRIS_ILLEGAL: return "move isn't legal";
+    case MORRIS_OVER: return "the game is over";
+    case MORRIS_DISAGREE: return "the files of this position and its moves disagree";
     case MORRIS_SYSTEM: return "the system refused a file or memory";
     default: return "unknown status";
     }

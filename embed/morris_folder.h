@@ -38,7 +38,6 @@ typedef struct morris_folder {
  * EINVAL where what has the name of a table file isn't a regular file, but a folder, a FIFO or a
  * device, say, which isn't opened or waited for; ENOENT where the path is empty. `out` needn't hold
  * anything before, and what it holds isn't given back. But for MORRIS_OK the folder is empty. */
-#define MORRIS_SYSTEM 100
 int32_t morris_open_folder(const char *path, uint32_t board, morris_folder *out);
 
 /* Gives back what the folder holds, which is empty then. Nothing may read its files or words any

@@ -1,7 +1,7 @@
 /* Answers positions as `morris lookup --moves` does, so that the two can be compared: answers
  * FOLDER reads positions of one board from standard input, one a line, and ends at what is none. A
- * status stands in the place of an answer that was refused. */
-#include "morris_folder.h"
+ * status stands in the place of an answer that was refused. It is C and C++ alike. */
+#include "morris.h"
 
 #include <stdio.h>
 #include <string.h>
@@ -21,15 +21,14 @@ static void print_move(const morris_move *m) {
     }
 }
 
-static int32_t answer(const morris_folder *t, uint32_t own, uint32_t other) {
+static int32_t answer(const morris_tables *tables, uint32_t own, uint32_t other) {
     static morris_move moves[MORRIS_MOST_MOVES];
     const char *before = ": ";
     morris_value value;
-    size_t count, i;
-    int32_t status = morris_lookup(t->board, t->files, t->n, t->words, t->m, own, other, &value);
+    size_t count = 0, i;
+    int32_t status = morris_value_of(tables, own, other, &value);
     if (status == MORRIS_OK) {
-        status = morris_moves(t->board, t->files, t->n, t->words, t->m, own, other, moves,
-                              MORRIS_MOST_MOVES, &count);
+        status = morris_moves_of(tables, own, other, moves, MORRIS_MOST_MOVES, &count);
     }
     if (status != MORRIS_OK) {
         return status;
@@ -55,11 +54,10 @@ static int32_t answer(const morris_folder *t, uint32_t own, uint32_t other) {
 }
 
 int main(int argc, char **argv) {
-    morris_folder t;
+    morris_tables *tables = NULL;
     char line[64];
-    int is_open = 0;
     while (argc == 2 && fgets(line, sizeof line, stdin) != NULL) {
-        uint32_t own = 0, other = 0, point, board;
+        uint32_t own = 0, other = 0, point;
         size_t points = strcspn(line, "\n");
         int32_t status;
         line[points] = '\0';
@@ -70,19 +68,18 @@ int main(int argc, char **argv) {
             own |= (uint32_t)(line[point] == 'X') << point;
             other |= (uint32_t)(line[point] == 'O') << point;
         }
-        board = points == 9 ? MORRIS_GRID : MORRIS_NINE;
-        if (is_open ? t.board != board : morris_open_folder(argv[1], board, &t) != MORRIS_OK) {
+        if (tables == NULL) {
+            tables = morris_open(argv[1], points == 9 ? MORRIS_GRID : MORRIS_NINE, NULL);
+        }
+        if (tables == NULL) {
             return 1;
         }
-        is_open = 1;
         printf("%s", line);
-        status = answer(&t, own, other);
+        status = answer(tables, own, other);
         if (status != MORRIS_OK) {
             printf(": status %d\n", (int)status);
         }
     }
-    if (is_open) {
-        morris_close_folder(&t);
-    }
+    morris_close(tables);
     return argc == 2 ? 0 : 2;
 }

@@ -2,23 +2,13 @@
  * files of version 1, the second those of the same pairs in version 2. Prints what was found, and
  * ends with 0 where all was right. */
 #define _POSIX_C_SOURCE 199309L
+#include "check.h"
 #include "morris_folder.h"
 
 #include <stdio.h>
 #include <stdlib.h>
 #include <string.h>
 #include <time.h>
-
-static int wrong = 0;
-
-#define IS(got, want)                                                                        \
-    do {                                                                                     \
-        long long got_ = (long long)(got), want_ = (long long)(want);                        \
-        if (got_ != want_) {                                                                 \
-            printf("line %d: %s is %lld, not %lld\n", __LINE__, #got, got_, want_);          \
-            wrong++;                                                                         \
-        }                                                                                    \
-    } while (0)
 
 static double now(void) {
     struct timespec t;
@@ -239,6 +229,5 @@ int main(int argc, char **argv) {
     }
     morris_close_folder(&one);
     morris_close_folder(&two);
-    printf(wrong == 0 ? "all right\n" : "%d wrong\n", wrong);
-    return wrong != 0;
+    return end();
 }

@@ -17,22 +17,20 @@ value = tables.value(position)
 """
 # The library, but the tables are closed while a call is on its way to it, as by another thread.
 CLOSED_MEANWHILE = """
+CALLS = "morris_value_of", "morris_moves_of", "morris_best", "morris_check_tables", "morris_has"
+
 class Meanwhile:
     def __init__(self, library):
         self.library = library
 
     def __getattr__(self, name):
         def call(*words):
-            if name in ("morris_lookup", "morris_moves", "morris_check"):
+            if name in CALLS:
                 tables.close()
             return getattr(self.library, name)(*words)
         return call
 
 morris._loaded = Meanwhile(morris._library())
-"""
-CLOSED_AS_PAIRS_ARE_READ = """
-read = morris.ctypes.string_at
-morris.ctypes.string_at = lambda *words: (tables.close(), read(*words))[1]
 """
 # A thread is in a call of the library when the program ends.
 BUSY = """
@@ -59,9 +57,10 @@ def asks_closed(tables):
     """Whatever is asked of closed tables is refused, and they may be closed once more."""
     for _ in range(2):
         for position in ((OWN, OTHER), (TWO, OTHER), "XXXOOO...", "XX.OOO..."):
-            for call in (tables.value, tables.moves, tables.best):
+            for call in (tables.value, tables.get, tables.moves, tables.best, tables.choose):
                 refused(Status.NO_TABLE, lambda: call(position))
         refused(Status.NO_TABLE, tables.check_digests)
+        refused(Status.NO_TABLE, lambda: tables.line((OWN, OTHER)))
         refused(Status.NO_TABLE, lambda: tables.pairs)
         refused(Status.NO_TABLE, tables.__enter__)
         assert "closed" in repr(tables)
@@ -147,7 +146,8 @@ def ends():
         CLOSED_MEANWHILE + "assert tables.value(position) == value",
         CLOSED_MEANWHILE + "assert len(tables.moves(position)) > 0",
         CLOSED_MEANWHILE + "tables.check_digests()",
-        CLOSED_AS_PAIRS_ARE_READ + "assert len(tables.pairs) == 6",
+        CLOSED_MEANWHILE + "assert tables.choose(position) is not None",
+        CLOSED_MEANWHILE + "assert len(tables.pairs) == 6",
     ):
         run_python(CODE + end, folder)
 

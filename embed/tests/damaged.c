@@ -2,6 +2,7 @@
  * FILE2, the files of Grid 3-3 of version 1 and 2. What is handed in ends where a page begins that
  * nobody may read, so a call that reads past its end is killed. */
 #define _GNU_SOURCE
+#include "check.h"
 #include "morris_folder.h"
 
 #include <pthread.h>
@@ -12,17 +13,6 @@
 #include <unistd.h>
 
 enum { HEADER = 16, DIGEST = 32, THREADS = 8, MOST = 1 << 20 };
-
-static int wrong = 0;
-
-#define IS(got, want)                                                                        \
-    do {                                                                                     \
-        long long got_ = (long long)(got), want_ = (long long)(want);                        \
-        if (got_ != want_) {                                                                 \
-            printf("line %d: %s is %lld, not %lld\n", __LINE__, #got, got_, want_);          \
-            wrong++;                                                                         \
-        }                                                                                    \
-    } while (0)
 
 /* Room whose end nobody may read past. */
 static uint8_t *room_end(void) {
@@ -190,6 +180,5 @@ int main(int argc, char **argv) {
     }
     lying_words(&files[1], words, m);
     many_threads(files, words, m);
-    printf(wrong == 0 ? "all right\n" : "%d wrong\n", wrong);
-    return wrong != 0;
+    return end();
 }

@@ -1,5 +1,5 @@
-"""The examples refuse what they aren't made for with a line: examples.py FOLDER PROGRAM.., of which
-the folder has the tables of Grid and of Nine 3-3."""
+"""The examples answer as they should, and refuse what they aren't made for with a line: examples.py
+FOLDER PROGRAM.., of which the folder has the tables of Grid and of Nine 3-3."""
 
 import os
 import subprocess
@@ -28,8 +28,18 @@ def refuses(program, status, *words):
     assert found[:2] == (status, "") and found[2].count("\n") == 1, (program, words, found)
 
 
-def examine(program, folder):
-    assert ran(program, folder, GRID) == (0, "won in 3\n1-5\n", ""), program
+BEST = "won in 3\n1-5\n"
+# A game of three plies, whose moves are those of the line that docs/COMMANDS.md shows.
+THREE_PLIES = "XXX.OO.O."
+GAME = """2-3 XX.XOO.O.
+4-2 XXOX.O.O.
+1-6x2 X..X.OXO.
+the game is over: who is to move has lost
+"""
+
+
+def examine(program, folder, shown, answer):
+    assert ran(program, folder, shown) == (0, answer, ""), program
     assert ran(program, folder, NINE)[0] == 0
     for text in WRONG:
         refuses(program, 2, folder, text)
@@ -46,10 +56,12 @@ def examine(program, folder):
         # A folder's name needn't be text.
         name = os.path.join(os.fsencode(room), b"\xff")
         os.symlink(os.path.abspath(folder), name)
-        assert ran(program, name, GRID) == (0, "won in 3\n1-5\n", ""), program
+        assert ran(program, name, shown) == (0, answer, ""), program
 
 
-programs = [[it] for it in sys.argv[2:]] + [[sys.executable, f"{EMBED}/examples/best.py"]]
+programs = [[it] for it in sys.argv[2:]]
+programs += [[sys.executable, f"{EMBED}/examples/{it}.py"] for it in ("best", "play")]
 for program in programs:
-    examine(program, sys.argv[1])
+    plays = os.path.basename(program[-1]).startswith("play")
+    examine(program, sys.argv[1], *((THREE_PLIES, GAME) if plays else (GRID, BEST)))
 print("all right")

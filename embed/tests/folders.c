@@ -1,6 +1,7 @@
 /* Folders in which something else stands under the name of a table file, and empty folders:
  * folders FILE, which is that of Grid 3-3 by classes. A call that waits is killed. */
 #define _XOPEN_SOURCE 700
+#include "check.h"
 #include "morris_folder.h"
 
 #include <errno.h>
@@ -22,17 +23,6 @@ enum { MOST_SECONDS = 10 };
 #define IN "folder"
 #define NAME IN "/grid-3-3.nmmt"
 #define LATER IN "/grid-4-3.nmmt"
-
-static int wrong = 0;
-
-#define IS(got, want)                                                                        \
-    do {                                                                                     \
-        long long got_ = (long long)(got), want_ = (long long)(want);                        \
-        if (got_ != want_) {                                                                 \
-            printf("line %d: %s is %lld, not %lld\n", __LINE__, #got, got_, want_);          \
-            wrong++;                                                                         \
-        }                                                                                    \
-    } while (0)
 
 static int32_t look(const morris_folder *t, uint32_t own) {
     morris_value value;
@@ -239,6 +229,5 @@ int main(int argc, char **argv) {
     paths();
     IS(remove(NAME) + remove(IN "/link") + remove(IN) + chdir("/") + remove(room), 0);
     free(file);
-    printf(wrong == 0 ? "all right\n" : "%d wrong\n", wrong);
-    return wrong != 0;
+    return end();
 }

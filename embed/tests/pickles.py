@@ -88,6 +88,32 @@ def faults():
     assert said == f"{raised}\n"
 
 
+def start(folder):
+    """What a process of a pool begins with: the tables that it keeps."""
+    global kept
+    kept = morris.open_tables(folder, "grid")
+
+
+def ask_kept(position):
+    return kept.value(position), kept.choose(position)
+
+
+def pools_that_keep():
+    """Each process of a pool opens the tables once."""
+    with opened() as tables:
+        positions = [it for it in POSITIONS if isinstance(it, str)][:2] * 50
+        wanted = [(tables.value(it), tables.choose(it)) for it in positions]
+    for how in ("fork", "spawn", "forkserver"):
+        context = multiprocessing.get_context(how)
+        how = {"initializer": start, "initargs": (sys.argv[1],), "mp_context": context}
+        with ProcessPoolExecutor(2, **how) as pool:
+            assert list(pool.map(ask_kept, positions, chunksize=10)) == wanted, how
+    # A process that was forked has the tables that were open then.
+    start(sys.argv[1])
+    with multiprocessing.get_context("fork").Pool(2) as pool:
+        assert pool.map(ask_kept, positions) == wanted
+
+
 def pools(wanted):
     """Faults and other errors come out of a pool of processes as they do out of a call."""
     for how in ("fork", "spawn"):
@@ -111,4 +137,5 @@ if __name__ == "__main__":
         "Value", "Fault", "Value", "Fault", "Fault", "ValueError", "TypeError"
     ], wanted
     pools(wanted)
+    pools_that_keep()
     print("all right")

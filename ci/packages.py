@@ -1,0 +1,390 @@
+"""Makes what others take of embed/, and tries it as they would: what `make install` installs, the
+package for Python in fresh environments, the crate for Rust, and the archive of a release."""
+
+import gzip
+import os
+import re
+import shutil
+import subprocess
+import sys
+import tarfile
+import venv
+
+from embedding import EMBED, all_of_grid, check, made_up, make, run
+from packing import PACKED_LIBRARY, release_library
+from runs import COUNTED, MORRIS, ROOT
+
+# Asks for positions of both boards in a process of its own, with nothing of this one.
+ASKS = """
+import sys, morris
+assert not morris.__file__.startswith(sys.argv[1]), morris.__file__
+for board, texts in (("nine", sys.argv[3].split()), ("grid", sys.argv[4].split())):
+    with morris.open_tables(sys.argv[2], board) as tables:
+        for text in texts:
+            print(text, tables.value(text), tables.choose(text))
+print(morris.version())
+"""
+# How many positions of a board are asked for through what was installed.
+ASKED = 40
+
+
+def bare(**more):
+    """An environment that knows neither the kit nor this clone."""
+    return {"PATH": "/usr/bin:/bin", "HOME": "/nowhere", "LANG": "C.UTF-8", **more}
+
+
+def header_version():
+    with open(f"{EMBED}/morris.h", encoding="utf-8") as header:
+        return re.search(r'MORRIS_VERSION_STRING "(.*)"', header.read())[1]
+
+
+def check_versions():
+    """The header, the program and the crate are of one version."""
+    wanted = header_version()
+    check("the program's version", run([MORRIS, "--version"]).split()[1], wanted)
+    with open(f"{EMBED}/rust/Cargo.toml", encoding="utf-8") as file:
+        check("the crate's version", re.search(r'^version = "(.*)"', file.read(), re.M)[1], wanted)
+
+
+# ---- what is installed
+
+
+def flags_of(package):
+    """The flags that the file of an installed package says, by pkg-config where it is there."""
+    if shutil.which("pkg-config"):
+        env = {**os.environ, "PKG_CONFIG_PATH": os.path.dirname(package)}
+        return run(["pkg-config", "--cflags", "--libs", "morris"], env=env).split()
+    with open(package, encoding="utf-8") as file:
+        text = file.read().replace("${pcfiledir}", os.path.dirname(package))
+    named = dict(re.findall(r"^(\w+)=(.*)$", text, re.M))
+    said = dict(re.findall(r"^(\w+): (.*)$", text, re.M))
+    flags = f"{said['Cflags']} {said['Libs']}"
+    while "${" in flags:
+        flags = re.sub(r"\$\{(\w+)\}", lambda it: named[it[1]], flags)
+    return flags.split()
+
+
+def answers_in_c(room, prefix, source, folder, text):
+    """What an example writes that was compiled against a prefix alone."""
+    flags = flags_of(f"{prefix}/lib/pkgconfig/morris.pc")
+    run(["cc", "-std=c99", source, *flags, "-o", f"{room}/installed"])
+    env = bare(LD_LIBRARY_PATH=f"{prefix}/lib")
+    return run([f"{room}/installed", folder, text], env=env)
+
+
+def asks(python, folder, **env):
+    """What a program in Python answers that has the module from elsewhere."""
+    texts = [" ".join(it[:ASKED]) for it in (list(made_up()), all_of_grid()[::40])]
+    words = [python, "-c", ASKS, EMBED, folder, *texts]
+    return run(words, env=bare(**env), cwd="/")
+
+
+def asked_here(folder):
+    """The same of the module that stands in this clone."""
+    code = ASKS.replace("assert not", "assert")
+    texts = [" ".join(it[:ASKED]) for it in (list(made_up()), all_of_grid()[::40])]
+    env = {**os.environ, "PYTHONPATH": EMBED}
+    return run([sys.executable, "-c", code, EMBED, folder, *texts], env=env)
+
+
+def try_install(room, out, archive, folder):
+    """Installs into an empty prefix, and runs all that is there."""
+    prefix = f"{room}/prefix"
+    make(out, f"CORE={archive}", f"PROGRAM={MORRIS}", f"PREFIX={prefix}", "install")
+    text = next(made_up())
+    found = answers_in_c(room, prefix, f"{EMBED}/examples/best.c", folder, text)
+    check("an example that was installed", found, run([f"{out}/best", folder, text]))
+    stats = run([f"{prefix}/bin/morris", "stats", "grid", "3-3"], env=bare())
+    check("the program that was installed", stats, COUNTED.decode())
+    sites = [at for at, _, names in os.walk(prefix) if "morris.py" in names]
+    found = asks(sys.executable, folder, PYTHONPATH=sites[0])
+    check("the module that was installed", found, asked_here(folder))
+    with open(f"{prefix}/share/man/man1/morris.1", encoding="utf-8") as page:
+        if not page.read().startswith(".TH"):
+            sys.exit("the man page that was installed is none")
+
+
+# ---- the page
+
+# What the programs of embed/README.md are named, by the language.
+SHOWN = {"c": "game.c", "python": "game.py", "rust": "game.rs"}
+
+
+def shown_programs(room):
+    """The first program in each language that embed/README.md shows, in files."""
+    with open(f"{EMBED}/README.md", encoding="utf-8") as page:
+        blocks = re.findall(r"^```(\w+)\n(.*?)^```$", page.read(), re.M | re.S)
+    for language, text in reversed(blocks):
+        with open(f"{room}/{SHOWN[language]}", "w", encoding="utf-8") as file:
+            file.write(text)
+
+
+def try_page(room, out, folder):
+    """The programs that embed/README.md begins with print what it says, and what they should."""
+    place = f"{room}/page"
+    os.mkdir(place)
+    os.symlink(folder, f"{place}/tables")
+    shown_programs(place)
+    text = "OXO.OXO.XX.............."
+    head, *moves = run([MORRIS, "lookup", "nine", "--from", folder, "--moves", text]).splitlines()
+    value, best = head.removeprefix(f"{text} ").split(": ")
+    import morris
+
+    cc = ["cc", "-std=c99", "-Wall", "-Wextra", "-Werror", f"-I{EMBED}"]
+    run([*cc, f"{place}/game.c", f"{out}/libmorris.a", "-o", f"{place}/in_c"])
+    check("embed/README.md, in C", run([f"{place}/in_c"], cwd=place), "9-10 1 9\n")
+    after = morris.play(text, best)
+    found = run([sys.executable, "game.py"], cwd=place, env={**os.environ, "PYTHONPATH": EMBED})
+    lines = [f"{it.strip()} {morris.play(text, it.split()[0])}" for it in moves]
+    check("embed/README.md, in Python", found, "\n".join([value, *lines, best, ""]))
+    crate = ["--extern", f"morris_tables={out}/libmorris_tables.rlib", "-L", out]
+    words = ["rustc", "--edition", "2021", *crate, "-l", "static=morris", f"{place}/game.rs"]
+    run([*words, "-o", f"{place}/in_rust"])
+    found = run([f"{place}/in_rust"], cwd=place)
+    check("embed/README.md, in Rust", found, f"{value}\n{best} {after}\n")
+
+
+# ---- the package for Python
+
+
+def environment(place):
+    """A fresh virtual environment, and its Python."""
+    venv.create(place, with_pip=True)
+    return f"{place}/bin/python"
+
+
+def pip(python, *words, **env):
+    run([python, "-m", "pip", "-q", "--disable-pip-version-check", *words], env=bare(**env))
+
+
+def has_explorer():
+    return os.path.exists(f"{EMBED}/explorer.py")
+
+
+def stand_in(room):
+    """A copy of embed/ in which something stands in place of the explorer, where there is none."""
+    place = f"{room}/stand-in/embed"
+    shutil.copytree(EMBED, place, ignore=shutil.ignore_patterns("out", "target", "__pycache__"))
+    shutil.copy(f"{ROOT}/LICENSE", f"{room}/stand-in/LICENSE")
+    if not has_explorer():
+        os.makedirs(f"{place}/explorer/deep")
+        for name, text in (
+            ("explorer.py", "import morris\nPAGE = __file__[:-3] + '/deep/page.html'\n"),
+            ("explorer/deep/page.html", "<p>a page</p>\n"),
+        ):
+            with open(f"{place}/{name}", "w", encoding="utf-8") as file:
+                file.write(text)
+    return place
+
+
+def try_explorer(room, out, python):
+    """The package carries the explorer with its files."""
+    place = stand_in(room)
+    library = f"{out}/libmorris.so"
+    pip(python, "install", "--no-index", "--force-reinstall", place, MORRIS_LIBRARY=library)
+    code = "import morris.explorer, os; print(os.path.dirname(morris.explorer.__file__))"
+    installed = run([python, "-c", code], env=bare(), cwd="/").strip()
+    for at, _, names in os.walk(f"{place}/explorer"):
+        for name in (it for it in names if not it.endswith(".pyc")):
+            with open(f"{at}/{name}", "rb") as mine:
+                with open(f"{installed}/{os.path.relpath(at, place)}/{name}", "rb") as its:
+                    if mine.read() != its.read():
+                        sys.exit(f"{name} of the explorer isn't as it was in the package")
+
+
+def try_wheel(room, out, archive, folder):
+    """The wheel in a fresh environment, and the folder in another, with no network."""
+    wanted = asked_here(folder)
+    name = run(["make", "-s", "-C", EMBED, f"OUT={out}", f"CORE={archive}", "wheel"]).strip()
+    python = environment(f"{room}/of-wheel")
+    pip(python, "install", "--no-index", f"{out}/{name}")
+    check("the wheel", asks(python, folder), wanted)
+    files = run([python, "-m", "pip", "show", "-f", "morris"], env=bare())
+    for it in ("morris/py.typed", "morris/libmorris.so", "licenses/LICENSE", "licenses/NOTICES"):
+        if it not in files:
+            sys.exit(f"the wheel has no {it}")
+    python = environment(f"{room}/of-folder")
+    how = {"CORE": archive, "OUT": out}
+    pip(python, "install", "--no-index", "--no-build-isolation", EMBED, **how)
+    check("the package of the folder", asks(python, folder), wanted)
+    try_explorer(room, out, python)
+    try_missing_library(room)
+
+
+def try_missing_library(room):
+    """A module without a library says where it looked and how one is made."""
+    os.mkdir(f"{room}/alone")
+    shutil.copy(f"{EMBED}/morris.py", f"{room}/alone")
+    code = "import morris\ntry:\n    morris.version()\nexcept OSError as error:\n    print(error)"
+    said = run([sys.executable, "-c", code], env=bare(PYTHONPATH=f"{room}/alone"), cwd="/")
+    for it in (f"{room}/alone/libmorris.so", f"{room}/alone/out/libmorris.so", "make -C embed"):
+        if it not in said:
+            sys.exit(f"a missing library is told of by {said!r}, which doesn't say {it}")
+
+
+def try_types():
+    """The types of the module and of a program that takes it, where mypy is at hand."""
+    if shutil.which("mypy"):
+        files = [f"{EMBED}/morris.py", f"{EMBED}/tests/typed.py"]
+        run(["mypy", "--strict", "--cache-dir=/dev/null", *files])
+
+
+# ---- the crate for Rust
+
+
+def try_crate(room, out, full, classes):
+    """Its tests over tables of both versions, its documents without warnings, and its example."""
+    crate = f"{room}/rust"
+    shutil.copytree(f"{EMBED}/rust", crate, ignore=shutil.ignore_patterns("target", "Cargo.lock"))
+    env = {**os.environ, "MORRIS_LIB_DIR": out, "CARGO_TARGET_DIR": f"{room}/target"}
+    for folder in (full, classes):
+        env["MORRIS_TEST_TABLES"] = folder
+        words = ["cargo", "test", "-q", "--offline", "--", "--include-ignored"]
+        said = run(words, cwd=crate, env=env)
+        if not re.search(r"^test result: ok. [1-9]\d* passed; 0 failed; 0 ignored", said, re.M):
+            sys.exit(f"the crate's tests: {said}")
+    env["RUSTDOCFLAGS"] = "-D warnings"
+    run(["cargo", "doc", "-q", "--offline", "--no-deps"], cwd=crate, env=env)
+    try_finding(room, out, crate, classes)
+
+
+def try_finding(room, out, crate, folder):
+    """The crate finds an installed library by pkg-config, and says where there is none."""
+    text = next(made_up())
+    words = ["cargo", "run", "-q", "--offline", "--example", "best", "--", folder, text]
+    env = {**os.environ, "CARGO_TARGET_DIR": f"{room}/target", "MORRIS_LIB_DIR": "/nowhere"}
+    done = subprocess.run(words, cwd=crate, env=env, capture_output=True, text=True)
+    if done.returncode == 0 or "MORRIS_LIB_DIR names /nowhere" not in done.stderr:
+        sys.exit(f"the crate without a library: {done.returncode}, {done.stderr}")
+    env["MORRIS_LIB_DIR"] = out
+    if shutil.which("pkg-config"):
+        # Beside this copy stands no library.
+        os.makedirs(f"{room}/elsewhere")
+        crate = shutil.copytree(crate, f"{room}/elsewhere/rust")
+        del env["MORRIS_LIB_DIR"]
+        env["PKG_CONFIG_PATH"] = f"{room}/prefix/lib/pkgconfig"
+    found = run(words, cwd=crate, env=env)
+    check("the crate's example", found, run([f"{out}/best", folder, text]))
+
+
+# ---- without a kit
+
+
+def copy_of_sources(place):
+    """A copy of what `make -C embed` reads."""
+    left = shutil.ignore_patterns("out", "target", "must-fail", "edits-at-release", "__pycache__")
+    for folder in ("crates", "embed", "ci"):
+        shutil.copytree(f"{ROOT}/{folder}", f"{place}/{folder}", ignore=left)
+    shutil.copy(f"{ROOT}/crates.txt", place)
+    return place
+
+
+def refused_without_kit(place, why):
+    """`make -C embed` says why it makes no library, and leaves none."""
+    words = ["make", "-s", "-C", f"{place}/embed"]
+    done = subprocess.run(words, env=bare(), capture_output=True, text=True)
+    if done.returncode == 0 or why not in done.stderr:
+        sys.exit(f"make -C embed without a kit: {done.returncode}, {done.stderr!r}, not {why!r}")
+    if os.path.exists(f"{place}/crates/morris_c/out/libmorris_c.a"):
+        sys.exit(f"make -C embed, which said {why!r}, left a library")
+
+
+def try_without_kit(room, archive):
+    """Where the library of these sources is released, `make -C embed` needs no kit."""
+    place = copy_of_sources(f"{room}/without-kit")
+    made = f"{place}/crates/morris_c/out/libmorris_c.a"
+    refused_without_kit(place, "rt isn't on the PATH")
+    release_library(place, archive, "none")
+    run(["make", "-s", "-C", f"{place}/embed"], env=bare(), stderr=subprocess.PIPE)
+    if read_bytes(made) != read_bytes(archive):
+        sys.exit("the library that was unpacked isn't the released one")
+    os.remove(made)
+    packed = f"{place}/{PACKED_LIBRARY}"
+    with open(packed, "wb") as file:
+        file.write(gzip.compress(read_bytes(archive) + b"\0", mtime=0))
+    refused_without_kit(place, "hasn't the digest")
+    with open(f"{place}/crates/morris_board/src/points.rt", "a", encoding="utf-8") as file:
+        file.write("\n")
+    refused_without_kit(place, "rt isn't on the PATH")
+
+
+# ---- the archive of a release
+
+
+def make_archive(out, archive):
+    """Makes it, and gives its path."""
+    words = [f"OUT={out}", f"CORE={archive}", f"PROGRAM={MORRIS}", "dist"]
+    return run(["make", "-s", "-C", EMBED, *words]).split()[-1]
+
+
+def read_bytes(path):
+    with open(path, "rb") as file:
+        return file.read()
+
+
+def try_archive(room, out, archive, folder):
+    """Two runs give the same bytes, and what is unpacked runs without the kit."""
+    made = make_archive(out, archive)
+    again = make_archive(f"{room}/again", archive)
+    if read_bytes(made) != read_bytes(again):
+        sys.exit("two runs of `make dist` give different bytes")
+    run(["sha256sum", "-c", "--quiet", "SHA256SUMS"], cwd=out)
+    with tarfile.open(made) as packed:
+        packed.extractall(f"{room}/unpacked")
+    (top,) = os.listdir(f"{room}/unpacked")
+    top = f"{room}/unpacked/{top}"
+    run(["sha256sum", "-c", "--quiet", "SHA256SUMS"], cwd=top)
+    os.symlink(f"{top}/bin/morris", f"{room}/linked")
+    for program in (f"{top}/bin/morris", f"{room}/linked", f"{top}/libexec/morris/morris"):
+        stats = run([program, "stats", "grid", "3-3"], env=bare(), cwd="/")
+        check(f"{program} of the archive", stats, COUNTED.decode())
+    text = next(made_up())
+    wanted = run([f"{out}/best", folder, text])
+    found = answers_in_c(room, top, f"{top}/examples/best.c", folder, text)
+    check("an example of the archive", found, wanted)
+    python = environment(f"{room}/of-archive")
+    pip(python, "install", "--no-index", f"{top}/python/{os.listdir(f'{top}/python')[0]}")
+    found = run([python, f"{top}/examples/best.py", folder, text], env=bare(), cwd="/")
+    check("the example in Python of the archive", found, wanted)
+    env = {**os.environ, "CARGO_TARGET_DIR": f"{room}/target-of-archive"}
+    env.pop("MORRIS_LIB_DIR", None)
+    words = ["cargo", "run", "-q", "--offline", "--example", "best", "--", folder, text]
+    check("the crate of the archive", run(words, cwd=f"{top}/rust", env=env), wanted)
+    try_empty_root(room, top)
+
+
+def libraries_of(program):
+    """The files that the system loads for a program."""
+    return re.findall(r"(/\S+) \(0x", run(["ldd", program]))
+
+
+def try_empty_root(room, top):
+    """The program in a root in which nothing is but what was unpacked and the C library. That takes
+    the leave to change the root."""
+    root = f"{room}/root"
+    shutil.copytree(top, f"{root}/morris", symlinks=True)
+    programs = (f"{top}/libexec/morris/morris", "/bin/sh")
+    for path in {"/bin/sh", *(it for program in programs for it in libraries_of(program))}:
+        os.makedirs(root + os.path.dirname(path), exist_ok=True)
+        shutil.copy(path, root + path)
+    chroot = shutil.which("chroot", path="/usr/sbin:/sbin:/usr/bin:/bin") or "chroot"
+    change = [chroot] if os.geteuid() == 0 else ["unshare", "-r", chroot]
+    try:
+        subprocess.run([*change, root, "/bin/sh", "-c", ":"], capture_output=True, check=True)
+    except (OSError, subprocess.CalledProcessError):
+        print("an empty root wasn't tried: nobody may change the root here")
+        return
+    for program in ("/morris/bin/morris", "/morris/libexec/morris/morris"):
+        stats = run([*change, root, program, "stats", "grid", "3-3"], env=bare())
+        check(f"{program} in an empty root", stats, COUNTED.decode())
+
+
+def try_all(room, out, archive, full, classes):
+    check_versions()
+    try_page(room, out, classes)
+    try_install(room, out, archive, classes)
+    try_wheel(room, out, archive, classes)
+    try_types()
+    try_crate(room, out, full, classes)
+    try_archive(room, out, archive, classes)
+    try_without_kit(room, archive)

@@ -1,0 +1,86 @@
+#!/bin/sh
+# Makes the proved static library, crates/morris_c/out/libmorris_c.a, where it isn't there or a file
+# of a crate that it is made from is newer. Where release/LIBRARY is of these very sources, it is
+# the one that was built from them, and else, or with MORRIS_FROM_PROOFS=1, `rt lib` makes it.
+set -u
+CDPATH='' cd -P -- "$(dirname -- "$0")/../.." || exit 1
+crate=crates/morris_c
+made=$crate/out/libmorris_c.a
+
+say() {
+    echo "$1" >&2
+}
+
+# A crate and those that it stands on, by crates.txt: the crates of the repository among them.
+crates_below() {
+    found=$1
+    while :; do
+        more=$found
+        for it in $found; do
+            more="$more $(sed -n -E "s/^$it( [^:]*)?: *//p" crates.txt)"
+        done
+        # shellcheck disable=SC2086
+        more=$(printf '%s\n' $more | LC_ALL=C sort -u | while read -r it; do
+            [ ! -d "crates/$it" ] || echo "$it"
+        done)
+        [ "$more" != "$found" ] || break
+        found=$more
+    done
+    echo "$found"
+}
+
+is_new() {
+    [ -f "$made" ] || return 1
+    for it in $(crates_below morris_c); do
+        newer=$(find "crates/$it/src" "crates/$it/specs" "crates/$it/proofs" -type f \
+            -newer "$made" 2> /dev/null | head -n 1)
+        [ -z "$newer" ] || return 1
+    done
+}
+
+told() {
+    sed -n "s/^$1 //p" release/LIBRARY
+}
+
+is_released() {
+    [ "${MORRIS_FROM_PROOFS-}" != 1 ] && [ -f release/LIBRARY ] &&
+        [ "$(told sources)" = "$(sh ci/sources)" ]
+}
+
+unpack_released() {
+    mkdir -p "$crate/out" && gzip -dc < release/libmorris_c.a.gz > "$made.part" || return 1
+    if ! echo "$(told library)  $made.part" | sha256sum --check --status; then
+        rm -f -- "$made.part"
+        say "release/libmorris_c.a.gz hasn't the digest that release/LIBRARY tells"
+        return 1
+    fi
+    mv -f -- "$made.part" "$made"
+    say "this is the library that the gate built from these sources; MORRIS_FROM_PROOFS=1 proves and \
+builds it here"
+}
+
+prove() {
+    if ! command -v rt > /dev/null 2>&1; then
+        say "the library of Morris is proved and built by the Rattle kit, whose command rt isn't on \
+the PATH. A release of Morris has it built; CORE=PATH names a libmorris_c.a"
+        return 1
+    fi
+    say "proving and building the library: some minutes, and more where nothing is proved yet"
+    ended=$(mktemp) || return 1
+    trap 'rm -f -- "$ended"' EXIT
+    # By this line the prover says that a type of another crate has no proof that its values can be
+    # compared. No call of the library compares them, and nothing fails by it.
+    {
+        (cd "$crate" && rt lib) 2>&1
+        echo $? > "$ended"
+    } | grep -v 'error\[unsupported-theorem\]' >&2
+    return "$(cat "$ended")"
+}
+
+if ! is_new; then
+    if is_released; then
+        unpack_released
+    else
+        prove
+    fi
+fi

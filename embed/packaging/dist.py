@@ -1,0 +1,114 @@
+"""Collects what a release needs into an archive: dist.py OUT, the folder in which `make dist` made
+the libraries and put the program. It writes there
+
+    morris-VERSION-x86_64-linux.tar.xz    the program, its man page, libraries, headers, the wheel,
+                                          the crate for Rust, examples and licences
+    the wheel by itself
+    SHA256SUMS                            the digests of both
+
+The same files give the same bytes: names are in order, and nobody's name and no time is in them but
+that of SOURCE_DATE_EPOCH, which is 1980 where it isn't set.
+"""
+
+import hashlib
+import io
+import os
+import subprocess
+import sys
+import tarfile
+from pathlib import Path
+
+from morris_wheel import EMBED, EPOCH, version, write_wheel
+
+ROOT = EMBED.parent
+PACKAGING = EMBED / "packaging"
+SONAME = "libmorris.so.1"
+
+
+def tree(folder, to):
+    """The files of a folder, but for what tools leave there, by their names in the archive."""
+    left = {"__pycache__", "target", "Cargo.lock"}
+    files = sorted(it for it in folder.rglob("*") if it.is_file())
+    kept = (it for it in files if not left & set(it.relative_to(folder).parts))
+    return {f"{to}/{it.relative_to(folder).as_posix()}": it.read_bytes() for it in kept}
+
+
+def package_file():
+    """morris.pc, whose prefix is wherever it was unpacked."""
+    words = [PACKAGING / "pc.sh", "${pcfiledir}/../..", version()]
+    return subprocess.run(words, check=True, capture_output=True).stdout
+
+
+def contents(out, wheel):
+    """The files of the archive by their names, without the list of their digests."""
+    files = {
+        "LICENSE": ROOT / "LICENSE",
+        "NOTICES": PACKAGING / "NOTICES",
+        "README.md": PACKAGING / "RELEASE.md",
+        "bin/morris": PACKAGING / "morris.sh",
+        "include/morris.h": EMBED / "morris.h",
+        "include/morris_folder.h": EMBED / "morris_folder.h",
+        "lib/libmorris.a": out / "libmorris.a",
+        f"lib/{SONAME}": out / "libmorris.so",
+        "libexec/morris/morris": out / "program",
+        f"python/{wheel}": out / wheel,
+        "share/man/man1/morris.1": ROOT / "docs" / "morris.1",
+    }
+    found = {name: path.read_bytes() for name, path in files.items()}
+    found["lib/pkgconfig/morris.pc"] = package_file()
+    return {**found, **tree(EMBED / "examples", "examples"), **tree(EMBED / "rust", "rust")}
+
+
+def digests(files):
+    rows = (f"{hashlib.sha256(data).hexdigest()}  {name}\n" for name, data in sorted(files.items()))
+    return "".join(rows).encode()
+
+
+def is_run(name):
+    return name.startswith(("bin/", "libexec/", "lib/libmorris.so"))
+
+
+def member(name):
+    found = tarfile.TarInfo(name)
+    found.mtime = int(os.environ.get("SOURCE_DATE_EPOCH", EPOCH))
+    return found
+
+
+def add_folders(archive, names):
+    """The folders above these names, each before what is in it."""
+    folders = {str(it) for name in names for it in Path(name).parents if str(it) != "."}
+    for name in sorted(folders):
+        found = member(name)
+        found.type, found.mode = tarfile.DIRTYPE, 0o755
+        archive.addfile(found)
+
+
+def write_archive(path, top, files):
+    part = path.with_name(f"{path.name}.part")
+    with tarfile.open(part, "w:xz", format=tarfile.GNU_FORMAT, preset=9) as archive:
+        add_folders(archive, [f"{top}/{name}" for name in files])
+        for name, data in sorted(files.items()):
+            found = member(f"{top}/{name}")
+            found.size, found.mode = len(data), 0o755 if is_run(name) else 0o644
+            archive.addfile(found, io.BytesIO(data))
+        link = member(f"{top}/lib/libmorris.so")
+        link.type, link.linkname, link.mode = tarfile.SYMTYPE, SONAME, 0o777
+        archive.addfile(link)
+    os.replace(part, path)
+
+
+def main():
+    if len(sys.argv) != 2:
+        sys.exit(__doc__)
+    out = Path(sys.argv[1])
+    wheel = write_wheel(out / "libmorris.so", out)
+    top = f"morris-{version()}-x86_64-linux"
+    files = contents(out, wheel)
+    files["SHA256SUMS"] = digests(files)
+    write_archive(out / f"{top}.tar.xz", top, files)
+    made = {it: (out / it).read_bytes() for it in (f"{top}.tar.xz", wheel)}
+    (out / "SHA256SUMS").write_bytes(digests(made))
+    print(f"{out / top}.tar.xz")
+
+
+main()

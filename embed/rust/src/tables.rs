@@ -1,0 +1,189 @@
+//! Open tables.
+
+use crate::error::{done, Error, Status};
+use crate::moves::{Move, Outcome, Value};
+use crate::position::{Board, Position};
+use crate::raw::{self, Handle, RawMove, RawValue, MOST_MOVES};
+use std::ffi::CString;
+use std::io;
+use std::os::unix::ffi::OsStrExt;
+use std::path::Path;
+use std::ptr::NonNull;
+
+/// The open table files of one board. Any threads may ask them at once. They are closed where they
+/// are dropped.
+///
+/// The values are those that the files state: `morris verify BOARD --from FOLDER`, run once before,
+/// tells whether they are right. Files are mapped: to replace one, put another under its name by
+/// renaming, as `morris build` does. One that is cut short or changed while it is open may end the
+/// program, or give wrong values.
+#[derive(Debug)]
+pub struct Tables {
+    handle: NonNull<Handle>,
+    board: Board,
+}
+
+// SAFETY: every call but `morris_close` may be made from any thread at any time with the same
+// handle, and `morris_close` is called once, where nobody has the tables any more.
+unsafe impl Send for Tables {}
+unsafe impl Sync for Tables {}
+
+impl Tables {
+    /// Opens the table files of the usual board that lie in a folder, under the names that
+    /// `morris build` gives them. A path that names nothing that is there is divided at its colons,
+    /// as in `tables:/usr/share/morris`: of each pair the first folder that has its file gives it.
+    ///
+    /// # Errors
+    /// [`Error::Open`] where there are none, and where the system refuses one.
+    pub fn open(path: impl AsRef<Path>) -> Result<Tables, Error> {
+        Tables::open_board(path, Board::Nine)
+    }
+
+    /// Opens the table files of a board, as [`Tables::open`] does.
+    ///
+    /// # Errors
+    /// Those of [`Tables::open`].
+    pub fn open_board(path: impl AsRef<Path>, board: Board) -> Result<Tables, Error> {
+        let path = path.as_ref();
+        let handle = open_handle(path, board).map_err(|why| {
+            let path = path.to_owned();
+            Error::Open { path, why }
+        })?;
+        Ok(Tables { handle, board })
+    }
+
+    /// The board of the tables.
+    pub fn board(&self) -> Board {
+        self.board
+    }
+
+    /// Whether there is a file of this pair of numbers of stones, in either order.
+    pub fn has(&self, greater: u32, lesser: u32) -> bool {
+        // SAFETY: the tables are open, and any numbers may be handed in.
+        unsafe { raw::morris_has(self.handle.as_ptr(), greater, lesser) == 1 }
+    }
+
+    /// The pairs of numbers of stones that there are files of, the greater one first, in order.
+    pub fn pairs(&self) -> Vec<(u32, u32)> {
+        let all = (3..=9).flat_map(|greater| (3..=greater).map(move |lesser| (greater, lesser)));
+        all.filter(|pair| self.has(pair.0, pair.1)).collect()
+    }
+
+    /// The value of a position, for the player to move.
+    ///
+    /// # Errors
+    /// [`Error::Board`]; [`Error::Refused`] with `NoTable` where no file has its pair, and with
+    /// `Short`, `Magic`, `Version`, `OtherBoard`, `Entries` or `Trailing` where its file is none.
+    pub fn value(&self, position: &Position) -> Result<Value, Error> {
+        let (own, other) = self.masks(position)?;
+        let mut out = RawValue::default();
+        // SAFETY: the tables are open, and the pointers are those of values of this function.
+        done(unsafe { raw::morris_value_of(self.handle.as_ptr(), own, other, &mut out) })?;
+        Ok(Value::of(out))
+    }
+
+    /// The legal moves of a position, in order of `from`, `to` and `taken`, each with the value
+    /// that it leads to for the player who makes it.
+    ///
+    /// # Errors
+    /// Those of [`Tables::value`], for a position that a move leads to.
+    pub fn moves(&self, position: &Position) -> Result<Vec<Outcome>, Error> {
+        let (own, other) = self.masks(position)?;
+        let mut out = [RawMove::default(); MOST_MOVES];
+        let (room, mut count) = (out.len(), 0);
+        let handle = self.handle.as_ptr();
+        // SAFETY: the tables are open, `out` has as many places as are named, and the pointers are
+        // those of values of this function.
+        done(unsafe {
+            raw::morris_moves_of(handle, own, other, out.as_mut_ptr(), room, &mut count)
+        })?;
+        Ok(out[..count].iter().map(Outcome::of).collect())
+    }
+
+    /// One of the best moves, or none where the game is over. Of several that win or lose it is the
+    /// first; of several that keep a draw the first of those after which the opponent has the
+    /// fewest moves that keep it too. A table tells no draw from another: this is a rule of thumb.
+    ///
+    /// # Errors
+    /// Those of [`Tables::value`] and [`Tables::moves`], for the position and for those that
+    /// drawing moves lead to; [`Error::Refused`] with `Disagree` where the files say of the
+    /// position what doesn't follow from what they say of its moves.
+    pub fn best(&self, position: &Position) -> Result<Option<Outcome>, Error> {
+        let (own, other) = self.masks(position)?;
+        let mut out = RawMove::default();
+        // SAFETY: the tables are open, and the pointers are those of values of this function.
+        let status = unsafe { raw::morris_best(self.handle.as_ptr(), own, other, &mut out) };
+        if status == Status::Over as i32 {
+            return Ok(None);
+        }
+        done(status)?;
+        Ok(Some(Outcome::of(&out)))
+    }
+
+    /// A line of best play: at each ply the first best move, with the position after it, to the end
+    /// of the game. At a draw it is empty.
+    ///
+    /// # Errors
+    /// Those of [`Tables::best`], for any position of the line.
+    pub fn line(&self, position: &Position) -> Result<Vec<(Move, Position)>, Error> {
+        let mut line = Vec::new();
+        let mut now = *position;
+        if self.value(&now)? == Value::Draw {
+            return Ok(line);
+        }
+        // Each best move leads to a value that is nearer to the end by a ply.
+        while let Some(best) = self.best(&now)? {
+            now = now.play(best.played)?;
+            line.push((best.played, now));
+        }
+        Ok(line)
+    }
+
+    /// The position after a legal move, in which the other player is to move.
+    ///
+    /// # Errors
+    /// [`Error::Board`]; [`Error::Refused`] with `Illegal` where the move isn't legal.
+    pub fn play(&self, position: &Position, played: Move) -> Result<Position, Error> {
+        self.masks(position)?;
+        position.play(played)
+    }
+
+    /// Reads all files, and tells whether each is whole: by its header, its length and its digest.
+    /// Whether its values are right, only `morris verify` tells.
+    ///
+    /// # Errors
+    /// [`Error::Refused`] for the first file that isn't whole.
+    pub fn check_digests(&self) -> Result<(), Error> {
+        // SAFETY: the tables are open.
+        done(unsafe { raw::morris_check_tables(self.handle.as_ptr()) })
+    }
+
+    /// The masks of a position of this board.
+    fn masks(&self, position: &Position) -> Result<(u32, u32), Error> {
+        if position.board() != self.board {
+            return Err(Error::Board);
+        }
+        Ok((position.own(), position.other()))
+    }
+}
+
+fn open_handle(path: &Path, board: Board) -> io::Result<NonNull<Handle>> {
+    let path = CString::new(path.as_os_str().as_bytes())?;
+    let mut status = 0;
+    // SAFETY: the path ends with a zero, and the pointers are those of values of this function.
+    let handle = unsafe { raw::morris_open(path.as_ptr(), board.number(), &mut status) };
+    NonNull::new(handle).ok_or_else(|| {
+        if status == Status::System as i32 {
+            io::Error::last_os_error()
+        } else {
+            io::Error::new(io::ErrorKind::NotFound, "no table files of the board")
+        }
+    })
+}
+
+impl Drop for Tables {
+    fn drop(&mut self) {
+        // SAFETY: the tables are open, and nobody has them any more.
+        unsafe { raw::morris_close(self.handle.as_ptr()) }
+    }
+}
