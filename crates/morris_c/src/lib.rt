@@ -3,6 +3,7 @@
 #![tactic(auto)]
 
 pub mod calls;
+pub mod plays;
 pub mod statuses;
 
 ghost use Rattle.std.specs.Prelude.{◌≡◌, ◌≢◌, ◌<◌, ◌≤◌, ◌-◌, true, false, pos, length, slice_index, IsTrue};
@@ -13,6 +14,7 @@ ghost use Rattle.morris_lookup.specs.Digests.{has_digest};
 ghost use Rattle.morris_lookup.specs.Views.{contents};
 ghost use Rattle.morris_lookup.specs.Prepared.{prepared_count};
 ghost use Rattle.morris_c.specs.Calls.{LooksUp, ListsMoves, Prepares, TellsHeader};
+ghost use Rattle.morris_c.specs.Plays.{ListsLegalMoves, PlaysMove, move_named};
 
 use calls::{check_header, list_moves, look_up, prepare_words};
 use morris_board::grid::Grid;
@@ -22,6 +24,7 @@ use morris_lookup::digest::has_digest;
 use morris_lookup::prepared::prepared_count;
 use morris_lookup::records::{MoveRecord, ValueRecord};
 use morris_lookup::views::View;
+use plays::{list_legal_moves, play_move};
 use statuses::{DIGEST, DONE, NO_BOARD, SHORT};
 
 /// The numbers of the boards.
@@ -124,6 +127,47 @@ pub extern "C" fn morris_moves(
     match board {
         NINE => list_moves::<Nine>(files, words, own, other, out, count),
         GRID => list_moves::<Grid>(files, words, own, other, out, count),
+        _ => NO_BOARD,
+    }
+}
+
+/// The legal moves of a position, without tables.
+#[unsafe(no_mangle)]
+pub extern "C" fn morris_legal_moves(
+    board: u32,
+    own: u32,
+    other: u32,
+    out: &mut [MoveRecord],
+    count: &mut usize,
+) -> i32
+    ensures usual { board ≡ 0 → ListsLegalMoves nine (sides own other) result out.old out.new count.old count.new }
+    ensures small { board ≡ 1 → ListsLegalMoves grid (sides own other) result out.old out.new count.old count.new }
+    ensures none { board ≢ 0 → board ≢ 1 → (result ≡ pos 1) × (out.new ≡ out.old) × (count.new ≡ count.old) }
+{
+    match board {
+        NINE => list_legal_moves::<Nine>(own, other, out, count),
+        GRID => list_legal_moves::<Grid>(own, other, out, count),
+        _ => NO_BOARD,
+    }
+}
+
+/// The position after a legal move, without tables.
+#[unsafe(no_mangle)]
+pub extern "C" fn morris_play(
+    board: u32,
+    own: u32,
+    other: u32,
+    played: &MoveRecord,
+    next_own: &mut u32,
+    next_other: &mut u32,
+) -> i32
+    ensures usual { board ≡ 0 → PlaysMove nine (sides own other) (move_named played.now) result (sides next_own.old next_other.old) (sides next_own.new next_other.new) }
+    ensures small { board ≡ 1 → PlaysMove grid (sides own other) (move_named played.now) result (sides next_own.old next_other.old) (sides next_own.new next_other.new) }
+    ensures none { board ≢ 0 → board ≢ 1 → (result ≡ pos 1) × (next_own.new ≡ next_own.old) × (next_other.new ≡ next_other.old) }
+{
+    match board {
+        NINE => play_move::<Nine>(own, other, played, next_own, next_other),
+        GRID => play_move::<Grid>(own, other, played, next_own, next_other),
         _ => NO_BOARD,
     }
 }

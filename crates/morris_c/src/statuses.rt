@@ -16,6 +16,9 @@ pub const SHORT: i32 = 8;
 /// A digest isn't that of the bytes before it.
 pub const DIGEST: i32 = 16;
 
+/// The move isn't legal.
+pub const ILLEGAL: i32 = 19;
+
 /// The status of masks that aren't a position.
 pub fn mask_status(fault: MaskFault) -> i32
     ensures { result ≡ pos (mask_status fault) }
