@@ -38,7 +38,7 @@ assert {in_capitals(it) for it in listed} == set(in_rust) and len(listed) == len
 texts = {morris.Fault(it).text for it in morris.Status}
 assert len(texts) == len(statuses) and "unknown status" not in texts
 # None of the greater numbers is written out where it is used.
-sources = ["morris_folder.c", "morris_tables.c", "morris_play.c", "morris.py"]
+sources = ["morris_folder.c", "morris_tables.c", "morris.py"]
 sources += [str(it.relative_to(EMBED)) for it in Path(EMBED).glob("examples/*.*")]
 sources += [str(it.relative_to(EMBED)) for it in Path(EMBED).glob("rust/*/*.rs")]
 for name in sources:
