@@ -4,7 +4,7 @@ ghost use Rattle.morris_board.specs.Sets.{has, count_of};
 ghost use Rattle.morris_board.specs.Positions.{IsPosition};
 ghost use Rattle.morris_board.specs.Symmetries.{image_sides};
 ghost use Rattle.morris_index.specs.Carried.{carries};
-ghost use Rattle.morris_index.specs.Classes.{representative_of};
+ghost use Rattle.morris_index.specs.Classes.{class_of, representative_of};
 ghost use Rattle.morris_index.specs.ClassMoves.{class_start_of};
 ghost use Rattle.morris_index.specs.ClassPairs.{class_index_of, class_size_of};
 ghost use Rattle.morris_index.specs.Facing.{turned, facing, AreFaces};
@@ -32,6 +32,8 @@ pub struct Faced<'a, B: Geometry> {
 }
 
 impl<'a, B: Geometry> Model for Faced<'a, B> {
+    ghost use Rattle.std.specs.Prelude.{◌≡◌};
+    ghost use Rattle.morris_index.specs.Classes.{class_of};
     ghost use Rattle.morris_index.specs.Facing.{IsFaced};
     ghost use Rattle.morris_index.specs.Moves.{InPair};
 
@@ -39,7 +41,7 @@ impl<'a, B: Geometry> Model for Faced<'a, B> {
 
     ghost view = { λ faced. faced.after };
 
-    ghost invariant = { λ faced. IsFaced B.shape B.POINTS faced.after faced.entry };
+    ghost invariant = { λ faced. IsFaced B.shape B.POINTS faced.after faced.entry × (faced.class ≡ class_of B.shape faced.after.position.own) };
 }
 
 impl<'a, B: Geometry> Faced<'a, B> {
@@ -62,7 +64,9 @@ impl<'a, B: Geometry> Faced<'a, B> {
     }
 
     /// The number of the class of the stones of the player to move.
-    pub fn class(&self) -> u32 {
+    pub fn class(&self) -> u32
+        ensures { result ≡ class_of B.shape self.now.position.own }
+    {
         self.class
     }
 
@@ -159,6 +163,7 @@ impl<'a, B: Geometry> Facing<'a, B> {
         ensures start { result.0 ≡ class_start_of B.shape B.POINTS self.now.pair position.now.other (count_of position.now.own) }
         ensures representative { result.1 ≡ representative_of B.shape position.now.other }
         ensures few { result.0 ≤ 2 ^ 54 }
+        ensures class { result.3 ≡ class_of B.shape position.now.other }
         ensures carrying { (t : ℕ) → has result.2 t ≡ (nat_lt t B.SYMMETRIES && carries B.shape position.now position.now.other t) }
     {
         let own = from.own();
@@ -186,6 +191,7 @@ impl<'a, B: Geometry> Facing<'a, B> {
         requires representative { representative ≡ representative_of B.shape position.now.other }
         requires symmetry { symmetry < B.SYMMETRIES }
         requires carries { carries B.shape position.now position.now.other symmetry ≡ true }
+        requires class { class ≡ class_of B.shape position.now.other }
         ensures { result ≡ in_pair self.now.pair (image_sides (B.shape.image symmetry) (turned position.now)) }
     {
         // The proof learns the rules of a position where its stones are read.

@@ -3,11 +3,13 @@ use Rattle.std.proofs.Common.{◌≡◌, ◌+◌, ◌<◌, ◌≤◌, true, sym,
 use Rattle.morris_board.specs.Sets.{count_of}
 use Rattle.morris_board.specs.Positions.{Sides}
 use Rattle.morris_board.specs.Symmetries.{image_sides}
+use Rattle.morris_index.specs.Classes.{class_of, representative_of}
 use Rattle.morris_index.specs.ClassMoves.{class_start_of}
 use Rattle.morris_index.specs.ClassPairs.{class_index_of}
 use Rattle.morris_index.specs.Facing.{turned, IsFaced}
 use Rattle.morris_index.specs.Moves.{InPair, in_pair}
 use Rattle.morris_index.specs.Pairs.{is_of}
+use Rattle.morris_index.proofs.ClassLaws.{class_of-representative}
 use Rattle.morris_index.proofs.FacingLaws.{same_others, faced_own, faced_apart, faced_24, faced_few, faced_entry, faced_led, is_faced}
 use Rattle.morris_index.proofs.facing.Facing.faced.Goals as goal
 
@@ -77,6 +79,12 @@ invariant_of-result g c =
     subst (λ (q : InPair). c.args.start ≡ class_start_of board g.B.Geometry.POINTS q.pair p.other (count_of p.own)) (sym c.self.view_is) c.requires.start in
     let entry : c.args.start + c.rank_outside-rank.result ≡ class_index_of board g.B.Geometry.POINTS c.self.inside.pair.now (image_sides (board.image c.args.symmetry) (turned p)) =
     rw (c.rank_outside-rank.ensures, c.other-other.ensures.points, c.requires.representative, faced_is, ← faced_own board g.B.Geometry.POINTS few g.met.B.Geometry.point_count g.met.B.Geometry.has_symmetries c.self.inside.pair.now c.self.invariant.0.pair p c.own.ensures.lawful of c.requires.own c.args.symmetry s_in c.requires.carries, start) (faced_entry board g.B.Geometry.POINTS few g.met.B.Geometry.point_count g.met.B.Geometry.has_symmetries c.self.inside.pair.now c.self.invariant.0.pair p c.own.ensures.lawful of c.requires.own c.args.symmetry s_in c.requires.carries) in
-    subst (λ q. IsFaced board g.B.Geometry.POINTS q (c.args.start + c.rank_outside-rank.result))
-    (sym (c.led_by.ensures ∙ ap (in_pair c.self.inside.pair.now) faced_is))
-    (is_faced board g.B.Geometry.POINTS few g.met.B.Geometry.point_count g.met.B.Geometry.has_symmetries c.self.inside.pair.now c.self.invariant.0.pair p c.own.ensures.lawful of c.requires.own c.args.symmetry s_in c.requires.carries (c.args.start + c.rank_outside-rank.result) entry)
+    let low : board.points ≤ 24 = omega (arith, few, g.met.B.Geometry.point_count) in
+    let own : c.led_by.result.position.own ≡ representative_of board p.other =
+    ap (λ (q : InPair). q.position.own) (c.led_by.ensures ∙ ap (in_pair c.self.inside.pair.now) faced_is)
+    ∙ faced_own board g.B.Geometry.POINTS few g.met.B.Geometry.point_count g.met.B.Geometry.has_symmetries c.self.inside.pair.now c.self.invariant.0.pair p c.own.ensures.lawful of c.requires.own c.args.symmetry s_in c.requires.carries in (
+      subst (λ q. IsFaced board g.B.Geometry.POINTS q (c.args.start + c.rank_outside-rank.result))
+          (sym (c.led_by.ensures ∙ ap (in_pair c.self.inside.pair.now) faced_is))
+          (is_faced board g.B.Geometry.POINTS few g.met.B.Geometry.point_count g.met.B.Geometry.has_symmetries c.self.inside.pair.now c.self.invariant.0.pair p c.own.ensures.lawful of c.requires.own c.args.symmetry s_in c.requires.carries (c.args.start + c.rank_outside-rank.result) entry),
+      c.requires.class ∙ sym (ap (class_of board) own ∙ class_of-representative board low g.met.B.Geometry.has_symmetries p.other c.own.ensures.lawful.stones.other_within),
+    )
