@@ -1,9 +1,8 @@
 -- The seats of workers that are back: where there is a fault of some, nothing more is said of all.
 use Rattle.std.proofs.Common.{Result, Ok, Err, List, ◌∷◌}
-use Rattle.std.specs.Result.{OnOk, result_and}
+use Rattle.std.specs.Result.{result_and}
 use Rattle.std.specs.List.{All}
 use Rattle.std.proofs.lemmas.List.Elements.{All-cons}
-use Rattle.morris_workers.specs.Tickets.{IsSeatOf}
 use Rattle.morris_workers.specs.Working.{IsBack}
 use Rattle.morris_workers.specs.declared.tickets.Tickets.{Tickets}
 use Rattle.morris_workers.specs.declared.tickets.TicketSeat.{TicketSeat}

@@ -441,6 +441,8 @@ impl<L: NodeList + Send + Sync, G: Graph + Sync, A: Gate, R: Threads + Wait + Sy
         )?;
         self.barrier.begin(self.rt, wave.saturating_add(1));
         let (told, sent) = self.work_all(&tickets, 0, wave, seats.as_mut_slice(), watch);
+        // All seats are back, so the numbers that were drawn are those that the workers had.
+        let _ = tickets.close(seats);
         // Where there are no more numbers, nobody goes to the wave that has begun last.
         let last = self.barrier.wave(self.rt).min(wave_after(wave, waves));
         tell(watch, told, last);

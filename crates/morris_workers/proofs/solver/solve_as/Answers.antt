@@ -1,4 +1,4 @@
-use Rattle.std.proofs.Common.{◌≡◌, IfErr, subst, ◌∙◌, arith}
+use Rattle.std.proofs.Common.{IfErr, subst}
 use Rattle.std.proofs.lemmas.Result.{err_from_is_err_and}
 use Rattle.morris_workers.specs.Ranges.{Tells}
 use Rattle.morris_workers.proofs.Faults.{making_tells}

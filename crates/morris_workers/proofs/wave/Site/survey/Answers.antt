@@ -1,5 +1,5 @@
 -- At the last wave a complete block that isn't settled shows that the graph is too deep.
-use Rattle.std.proofs.Common.{◌≡◌, false, true, sym, ◌∙◌, subst, rules}
+use Rattle.std.proofs.Common.{◌≡◌, sym, ◌∙◌, subst, rules}
 use Rattle.morris_wave.specs.Values.{IsTooDeep}
 use Rattle.morris_workers.proofs.wave.Site.survey.Goals.{then-not-settled, else-not-settled}
 use Rattle.morris_workers.proofs.wave.Site.survey.Goals as goal
