@@ -28,7 +28,7 @@ MARKDOWN = ("<!-- from ", " -->", "<!-- end -->")
 MAN = ('.\\" from ', "", '.\\" end')
 BEGINS = re.compile(r"(?:unfoldable |abbrev |pub |use )")
 NAMES = re.compile(
-    r"^\s*(?:unfoldable |abbrev )?(?:pub )?(?:record )?([\w-]+)(?: \(| : )", re.MULTILINE
+    r"^\s*(?:unfoldable |abbrev )?(?:pub )?(?:record )?([\w-]+)(?: [({]| : )", re.MULTILINE
 )
 # A line of the options in a help: an option, its value, what it does, and the default.
 OPTION = re.compile(r" +(?:-h, )?(--[a-z]+)(?: <(\w+)>)? +(.*?)(?: \[default: (\w+)\])?")
