@@ -122,7 +122,13 @@ def find_library():
     if named:
         return named
     made = f"{os.environ.get('OUT', 'out')}/libmorris.so"
-    subprocess.run(["make", "-s", "-C", EMBED, made], check=True, stdout=sys.stderr)
+    try:
+        subprocess.run(["make", "-s", "-C", EMBED, made], check=True, stdout=sys.stderr)
+    except (OSError, subprocess.CalledProcessError) as error:
+        raise RuntimeError(
+            f"libmorris.so can't be made ({error}): `make -C embed` says why, and the environment "
+            "variable MORRIS_LIBRARY names one that is there"
+        ) from None
     return EMBED / made
 
 
@@ -131,6 +137,14 @@ def find_library():
 
 def get_requires_for_build_wheel(config_settings=None):
     return []
+
+
+def prepare_metadata_for_build_wheel(metadata_directory, config_settings=None):
+    """What pip reads before it has the wheel made."""
+    info = Path(metadata_directory, f"{NAME}-{version()}.dist-info")
+    info.mkdir()
+    (info / "METADATA").write_text(metadata(), encoding="utf-8")
+    return info.name
 
 
 def build_wheel(wheel_directory, config_settings=None, metadata_directory=None):
