@@ -72,7 +72,7 @@ export function drawBoard(svg, board, press) {
 function showMark(element, mark) {
   const [pill, text] = [element.querySelector('.pill'), element.querySelector('.mark')];
   text.textContent = mark?.text ?? '';
-  const width = 0.28 + 0.17 * text.textContent.length;
+  const width = 0.4 + 0.17 * Math.max(text.textContent.length - 1, 0);
   pill.setAttribute('x', -width / 2);
   pill.setAttribute('width', width);
 }

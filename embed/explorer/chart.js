@@ -5,12 +5,16 @@ import { element, grouped } from './page.js';
 import { addressOf } from './state.js';
 import { plies, resultWords, SIGNS } from './words.js';
 
-const [WIDTH, HEIGHT, FOOT] = [640, 160, 18];
+const [WIDTH, HEIGHT, FOOT] = [640, 160, 24];
 const RESULTS = { won: 'won', draw: 'drawn', lost: 'lost' };
 
 const sum = (values) => values.reduce((total, { count }) => total + count, 0);
 
-const share = (count, all) => `${((100 * count) / all).toFixed(count === all ? 0 : 1)} %`;
+function share(count, all) {
+  const part = (100 * count) / all;
+  if (part > 0 && part < 0.1) return '< 0.1 %';
+  return part > 99.9 && part < 100 ? '> 99.9 %' : `${part.toFixed(1)} %`;
+}
 
 /** The numbers of a side as rows: the result, in how many plies, and how many positions. */
 function rowsOf(side) {
@@ -60,12 +64,13 @@ function chart(rows, tell) {
   const bars = rows.flatMap((row) => bar(row, width, greatest, tell));
   const numbers = [];
   for (let depth = 0; depth <= most; depth += stepFor(most)) {
-    const place = { x: (depth + 0.5) * width, y: HEIGHT + FOOT - 4 };
+    const place = { x: (depth + 0.5) * width, y: HEIGHT + FOOT - 6 };
     numbers.push(made('text', place, String(depth)));
   }
   const label = 'How many positions are won and lost in how many plies. The table has the numbers.';
   const box = `0 0 ${WIDTH} ${HEIGHT + FOOT}`;
-  return made('svg', { viewBox: box, role: 'img', 'aria-label': label }, ...bars, ...numbers);
+  const foot = made('line', { x1: 0, x2: WIDTH, y1: HEIGHT, y2: HEIGHT });
+  return made('svg', { viewBox: box, role: 'img', 'aria-label': label }, ...bars, foot, ...numbers);
 }
 
 function table(rows, side) {

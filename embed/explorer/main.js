@@ -130,7 +130,7 @@ function keepAddress() {
   const { board, exercise, line } = state;
   const address = exercise ? states.addressOfExercise(exercise.words)
     : states.addressOf(board, current(line));
-  history.replaceState(null, '', address);
+  if (location.hash !== address) history.replaceState(null, '', address);
 }
 
 /** Why the server needn't be asked for a position: no position is like that, or its table isn't
