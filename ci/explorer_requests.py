@@ -6,6 +6,7 @@ import itertools
 import json
 import os
 import random
+import re
 import shutil
 import socket
 import subprocess
@@ -21,6 +22,9 @@ from rules import BOARDS, positions, read_text, text_of
 # How many positions of the usual board are asked for, and how many requests so many clients make.
 ASKED = 2_000
 CLIENTS, LOAD = 8, 10_000
+# How many requests are changed by chance, and what is put into them, besides any bytes.
+CHANGED = 1_000
+ODD = [b"", b"", b"\r\n", b"\n", b" ", b"\0", b"%00", b"&", b"=", b"\xff\xfe", b": ", b"HTTP/9.9"]
 # How many kilobytes the server may grow by while these are answered.
 MOST_GROWTH = 8_192
 # In how many plies positions are asked for that are to be found.
@@ -346,6 +350,34 @@ def check_hostile(server):
     return len(requests)
 
 
+def changed(request, chance):
+    """A request of which some bytes were changed, left out or put in."""
+    data = bytearray(request)
+    for _ in range(chance.randrange(1, 6)):
+        at, more = chance.randrange(len(data)), chance.randrange(1, 9)
+        if chance.random() < 0.3:
+            del data[at : at + more]
+        else:
+            put = chance.choice(ODD) or bytes(chance.choices(range(256), k=more))
+            data[at : at + chance.randrange(2)] = put
+    return bytes(data)
+
+
+def check_changed(server):
+    """Requests that were changed by chance are answered or refused, and the server goes on."""
+    chance = random.Random(SEED)
+    asked = "/api/position?board=grid&text=XXX.OO.O."
+    host = f"Host: 127.0.0.1:{server.port}"
+    whole = f"GET {asked} HTTP/1.1\r\n{host}\r\nConnection: close\r\n\r\n".encode()
+    for _ in range(CHANGED):
+        sent = changed(whole, chance)
+        answer = answer_to(server.port, sent, True)
+        found = re.match(rb"HTTP/1\.1 (200|400|403|404|405|413|414|431|505) ", answer)
+        check(f"whether {sent!r} is answered with {answer[:80]!r}", found is not None, True)
+    told = ask(server, "/api/position", board="grid", text="XXX.OO.O.")
+    check("a position after that", in_words(told), "won in 3")
+
+
 def check_slow(server):
     """Requests that stop half-way, and clients that say nothing, hold nobody up and are let go."""
     links = [socket.create_connection(("127.0.0.1", server.port), timeout=30) for _ in range(40)]
@@ -472,8 +504,10 @@ def check_requests(room, folders):
         check_kept_counts(folder)
     with Server(folders[-1]) as server:
         hostile = check_hostile(server)
+        check_changed(server)
         check_slow(server)
         count, took, growth = check_load(server, folders[-1])
     check_damaged(room, folders[-1])
     check_starts(room, folders[-1])
-    return [*told, f"{hostile} refusals", f"{count} at once in {took:.1f} s, {growth} kB more"]
+    told += [f"{hostile} refusals", f"{CHANGED} changed requests"]
+    return [*told, f"{count} at once in {took:.1f} s, {growth} kB more"]

@@ -327,7 +327,10 @@ async function setExercise(words) {
   }
   show();
   const arrival = ++arrivals;
-  const tell = (part) => { at('note').textContent = `Looking: ${Math.round(100 * part)} %`; };
+  const tell = (part) => {
+    if (arrival === arrivals) at('note').textContent = `Looking: ${Math.round(100 * part)} %`;
+    return arrival === arrivals;
+  };
   const told = await answered(askExercise(words, tell));
   if (arrival !== arrivals) return;
   if (told.fault || told.text === null) {
@@ -403,6 +406,7 @@ const pairShown = () =>
 
 async function showPair(board, pair) {
   stop();
+  arrivals += 1;
   useBoard(board);
   Object.assign(state, { mode: 'pair', exercise: null });
   show();

@@ -41,13 +41,12 @@ export async function askPosition(board, text) {
 }
 
 /** A position of an exercise, or one whose text is null where there is none. `tell` hears how far
- * the search is. */
+ * the search is, and says whether it is still wanted. */
 export async function askExercise(words, tell) {
-  let told = { done: false, searched: 0 };
-  while (!told.done) {
+  let told = { searched: 0 };
+  do {
     told = await ask('/api/find', { ...words, searched: told.searched });
-    tell(told.searched / told.entries);
-  }
+  } while (tell(told.searched / told.entries) && !told.done);
   return told;
 }
 
