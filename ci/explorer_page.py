@@ -2,12 +2,14 @@
 `morris lookup` and `morris stats`."""
 
 from browser import DELETE, DOWN, ENTER, ESCAPE, LEFT, RIGHT, TAB, UP, Browser
+from explorer_requests import found
 from explorer_server import Wrong, all_of_grid, check, line_of, looked_up, made_up, stats_of
 
 ASKED = 200
 COUNTS = [(3, 3), (4, 3), (3, 4), (4, 4)]
 # Won in 9 plies.
 LONG = "OXO.OXO.XX.............."
+LOSES = "loses against best play. Hold out as long as you can."
 GRID_PAIRS = ["3-3", "4-3", "4-4", "5-3", "5-4", "6-3"]
 NINE_PAIRS = ["3-3", "4-3", "4-4"]
 LISTED = """
@@ -40,6 +42,9 @@ NAMELESS = """
         || it.textContent.trim() || it.labels?.length;
     const all = document.querySelectorAll('button, input, select, .point, progress, svg');
     return [...all].filter((it) => !name(it)).map((it) => it.outerHTML);
+"""
+LABELS = """
+    return [...document.querySelectorAll('.point')].map((it) => it.getAttribute('aria-label'));
 """
 PRINTED = """
     return ['#board', '#value', '#moves', 'nav', '#steps', '.text'].map((it) =>
@@ -140,6 +145,16 @@ def check_shown(page, text, looked, mover="white"):
 
 
 # ---- what is tried
+
+
+def check_first(page):
+    """Without an address, the page begins with a position of which there is a table."""
+    page.browser.open(page.server.url)
+    page.shows("nine", LONG)
+    check_shown(page, LONG, page.looked("nine", LONG))
+    page.go("#nine/XXX")
+    page.notes("no position")
+    page.shows("nine", LONG)
 
 
 def check_positions(page):
@@ -287,31 +302,48 @@ def move_of(looked, is_wanted):
     return next((it for it in looked.moves if is_wanted(it.value)), None)
 
 
+def exercise(page, board, kind, *conditions):
+    """Goes to the first exercise of a kind, by its seed, in whose position there are moves with
+    values like that. Gives its text, what is looked up, and such moves."""
+    pair, result, plies_of = kind.split("/")
+    words = {"board": board, "pair": pair, "result": result}
+    words["least"], words["most"] = plies_of.split("-")
+    for seed in range(1, 400):
+        text = found(page.server, **words, seed=seed)["text"]
+        looked = page.looked(board, text)
+        moves = [move_of(looked, it) for it in conditions]
+        if all(moves):
+            page.go(f"#{board}/find/{kind}/{seed}")
+            page.shows(board, text)
+            return text, looked, moves
+    raise Wrong(f"no exercise of {kind} has such moves")
+
+
+def plies_between(one, other):
+    """In how many plies two values of one result differ, in words."""
+    return f"{abs(int(one.split()[-1]) - int(other.split()[-1]))} plies"
+
+
 def check_exercise(page):
     """An exercise: the same from the same address; a wrong move and a slow one, which are taken
     back; and right ones to the end."""
     browser = page.browser
-    page.go("#nine/find/4-3/won/5-99/7")
-    page.has("#task", "it !== ''")
-    board, text, _ = page.shown()
-    looked = page.looked(board, text)
-    check("what is asked", 0 < worth(looked.value) <= 1 / 6, True)
+    conditions = [lambda it: not it.startswith("won"), lambda it: it.startswith("won in 2")]
+    text, looked, (wrong, slow) = exercise(page, "nine", "4-3/won/5-19", *conditions)
+    check("what is asked", 1 / 20 <= worth(looked.value) <= 1 / 6, True)
     check("that values are hidden", is_hidden(page), True)
     browser.reload()
-    page.shows(board, text)
+    page.shows("nine", text)
     check("that values are hidden", is_hidden(page), True)
-    wrong = move_of(looked, lambda value: not value.startswith("won"))
     choose(page, wrong)
     page.notes("The win is gone")
     browser.click("#again")
-    page.shows(board, text)
+    page.shows("nine", text)
     check("that values are hidden", is_hidden(page), True)
-    slow = move_of(looked, lambda value: value.startswith("won") and value != looked.value)
-    if slow:
-        browser.click(f"[data-move='{slow.name}']")
-        page.notes("more than needed")
-        browser.click("#back")
-        page.shows(board, text)
+    browser.click(f"[data-move='{slow.name}']")
+    page.notes(f"{plies_between(slow.value, looked.value)} more than needed")
+    browser.click("#back")
+    page.shows("nine", text)
     solve(page)
 
 
@@ -337,28 +369,36 @@ def check_other_exercises(page):
     """One of a loss and one of a draw; one that there isn't; and values that are shown after
     all."""
     browser = page.browser
-    page.go("#nine/find/4-3/lost/4-40/3")
-    page.has("#task", "it.includes('loses')")
-    board, text, _ = page.shown()
-    looked = page.looked(board, text)
-    check("what is asked", looked.value.startswith("lost in "), True)
-    browser.click(f"[data-move='{looked.best[0]}']")
-    page.notes("Lost in any case")
-    page.go("#grid/find/4-3/draw/1-9/3")
-    page.has("#task", "it.includes('draw')")
-    board, text, _ = page.shown()
-    looked = page.looked(board, text)
+    soon, lost = (lambda it: it in ("lost in 2", "lost in 4")), (lambda it: it.startswith("lost"))
+    _, looked, (fast,) = exercise(page, "nine", "3-3/lost/10-26", soon)
+    check("what is asked", page.text("#task"), f"White {LOSES}")
+    browser.click(f"[data-move='{fast.name}']")
+    page.notes(f"{plies_between(fast.value, looked.value)} sooner than needed")
+    text, looked, (bad,) = exercise(page, "grid", "4-3/draw/1-9", lost)
     check("what is asked", looked.value, "draw")
     browser.click("#reveal")
     check_shown(page, text, looked)
-    bad = move_of(looked, lambda value: value.startswith("lost"))
-    if bad:
-        browser.click(f"[data-move='{bad.name}']")
-        page.notes("The draw is gone")
-        browser.click("#on")
-        page.has("#played", "it.includes(' ')")
+    browser.click(f"[data-move='{bad.name}']")
+    page.notes("The draw is gone")
+    browser.click("#on")
+    page.has("#played", "it.includes(' ')")
+    exercise(page, "grid", "3-3/draw/1-9", lost)
+    hold(page)
     page.go("#grid/find/4-3/won/31-99/3")
     page.notes("No position")
+
+
+def hold(page):
+    """Holds a draw by best moves until a position comes again."""
+    for _ in range(40):
+        board, text, mover = page.shown()
+        if "repeats" in page.text("#note"):
+            page.notes("a draw")
+            return
+        if mover == "white":
+            page.browser.click(f"[data-move='{page.looked(board, text).best[0]}']")
+        page.leaves(f"{board}/{text}/{mover}")
+    raise Wrong("a draw that doesn't end")
 
 
 def check_pair(page, board, pair):
@@ -366,11 +406,11 @@ def check_pair(page, board, pair):
     browser = page.browser
     page.shows_pair(board, pair)
     counts, deepest = stats_of(board, pair)
-    found = {}
+    shown = {}
     for value, count in browser.run(ROWS):
-        found[value] = found.get(value, 0) + count
+        shown[value] = shown.get(value, 0) + count
     wanted = {value: count for value, count in counts.items() if count}
-    check(f"the numbers of {pair}", {it: found[it] for it in found if found[it]}, wanted)
+    check(f"the numbers of {pair}", {it: shown[it] for it in shown if shown[it]}, wanted)
     linked = set()
     for address in browser.run(DEEPEST):
         text = address.split("/")[1]
@@ -475,8 +515,14 @@ def play_by_keys(page, text):
 
 
 def check_labels(page):
-    """Each point, button and field has a name for a screen reader."""
+    """Each button and field has a name for a screen reader, and each point says what stands on
+    it."""
+    page.go(f"#nine/{LONG}/black")
+    page.shows("nine", LONG, "black")
     check("what has no name", page.browser.run(NAMELESS), [])
+    stones = {"X": "Black stone", "O": "White stone", ".": "vacant"}
+    wanted = [f"Point {place}: {stones[mark]}" for place, mark in enumerate(LONG)]
+    check("what points say", page.browser.run(LABELS), wanted)
 
 
 def check_narrow(page):
@@ -506,8 +552,7 @@ def check_page(room, server, folder):
     """All of this, and no error on the browser's console. Returns what is to be told of it."""
     with Browser(room) as browser:
         page = Page(browser, server, folder)
-        browser.open(f"{server.url}#nine/{LONG}")
-        page.shows("nine", LONG)
+        check_first(page)
         positions = check_positions(page)
         for part in (check_set_up, check_play, check_best_line, check_drawn_line, check_exercise):
             part(page)

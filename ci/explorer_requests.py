@@ -15,7 +15,7 @@ import threading
 import time
 import urllib.parse
 
-from explorer_server import EMBED, SEED, Server, all_of_grid, check
+from explorer_server import EMBED, SEED, Server, Wrong, all_of_grid, check
 from explorer_server import looked_up, made_up, make_package, stats_of
 from rules import BOARDS, positions, read_text, text_of
 
@@ -25,6 +25,8 @@ CLIENTS, LOAD = 8, 10_000
 # How many requests are changed by chance, and what is put into them, besides any bytes.
 CHANGED = 1_000
 ODD = [b"", b"", b"\r\n", b"\n", b" ", b"\0", b"%00", b"&", b"=", b"\xff\xfe", b": ", b"HTTP/9.9"]
+# How long a count may take.
+MOST_SECONDS = 60
 # How many kilobytes the server may grow by while these are answered.
 MOST_GROWTH = 8_192
 # In how many plies positions are asked for that are to be found.
@@ -92,11 +94,14 @@ def check_positions(server, folder):
 
 
 def counted(server, board, pair):
-    while True:
+    """The counts of a pair, once they are there."""
+    deadline = time.monotonic() + MOST_SECONDS
+    while time.monotonic() < deadline:
         told = ask(server, "/api/counts", board=board, pair=pair)
         if told["done"]:
             return told
         time.sleep(0.02)
+    raise Wrong(f"{pair} isn't counted after {MOST_SECONDS} seconds")
 
 
 def by_value(sides):
@@ -302,6 +307,9 @@ def hostile_requests(port):
     for status, line, more in heads:
         rest = "".join(f"{it}\r\n" for it in [*more, "Connection: close"]).encode()
         yield status, line + b"\r\n" + rest + b"\r\n", False
+    # What follows a refused head is read, so that its sender gets the answer.
+    body = f"POST / HTTP/1.1\r\n{host}\r\nContent-Length: 900000\r\n\r\n".encode()
+    yield 405, body + b"a" * 900_000, False
     whole = f"GET /api/pairs HTTP/1.1\r\n{host}\r\nX: y\r\n\r\n".encode()
     for end in range(1, len(whole) - 2):
         yield 400, whole[:end], True
@@ -327,7 +335,8 @@ def check_refusal(sent, status, answer):
     shown = f"the answer to {sent[:80]!r}"
     check(shown, head.split(b"\r\n")[0].split(b" ")[:2], [b"HTTP/1.1", str(status).encode()])
     lines = dict(it.lower().split(b": ", 1) for it in head.split(b"\r\n")[1:])
-    check(f"{shown} is guarded", b"default-src 'none'" in lines[b"content-security-policy"], True)
+    policy = lines.get(b"content-security-policy", b"")
+    check(f"whether {shown} is guarded", b"default-src 'none'" in policy, True)
     if sent.startswith(b"HEAD "):
         check(shown, body, b"")
         return

@@ -68,8 +68,9 @@ function showPosition() {
   showBoard(view, points, arrow);
 }
 
+/** Shows a move on the board: none, where it is one of a position that has gone. */
 function point(move) {
-  state.shown = move;
+  state.shown = state.answer?.moves.includes(move) ? move : null;
   showPosition();
 }
 
