@@ -33,7 +33,9 @@ def is_installed():
 
 
 def install():
-    """Installs the browser, which only root may."""
+    """Installs the browser, where there is Debian's apt-get; only root may."""
+    if not shutil.which("apt-get"):
+        return
     words = ["apt-get", "install", "-y", "--no-install-recommends", *PACKAGES]
     how = {"stdout": subprocess.DEVNULL, "env": {**os.environ, "DEBIAN_FRONTEND": "noninteractive"}}
     for command in (["apt-get", "update"], words):
