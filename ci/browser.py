@@ -12,7 +12,7 @@ import urllib.request
 # The name under which an answer has the number of an element.
 ELEMENT = "element-6066-11e4-a52e-4f735466cecf"
 # Keys by the characters that stand for them.
-TAB, ENTER, ESCAPE, SHIFT, DELETE = "\ue004", "\ue007", "\ue00c", "\ue008", "\ue017"
+TAB, ENTER, ESCAPE, DELETE = "\ue004", "\ue007", "\ue00c", "\ue017"
 LEFT, UP, RIGHT, DOWN = "\ue012", "\ue013", "\ue014", "\ue015"
 # How long an answer may take, and what is waited for.
 MOST_SECONDS = 60
@@ -33,7 +33,9 @@ def is_installed():
 
 
 def install():
-    """Installs the browser, which only root may."""
+    """Installs the browser, where there is Debian's apt-get; only root may."""
+    if not shutil.which("apt-get"):
+        return
     words = ["apt-get", "install", "-y", "--no-install-recommends", *PACKAGES]
     how = {"stdout": subprocess.DEVNULL, "env": {**os.environ, "DEBIAN_FRONTEND": "noninteractive"}}
     for command in (["apt-get", "update"], words):
@@ -160,14 +162,9 @@ class Browser:
         size = {"width": width, "height": height, "deviceScaleFactor": scale, "mobile": False}
         self.devtools("Emulation.setDeviceMetricsOverride", **size)
 
-    def emulate(self, media="", **features):
-        """Shows the page as for a medium, with features such as `prefers_color_scheme`."""
-        named = [{"name": k.replace("_", "-"), "value": v} for k, v in features.items()]
-        self.devtools("Emulation.setEmulatedMedia", media=media, features=named)
-
-    def picture(self):
-        """The window as the text of a PNG file in base 64."""
-        return self._ask("GET", "/screenshot")
+    def emulate(self, media=""):
+        """Shows the page as for a medium, such as `print`."""
+        self.devtools("Emulation.setEmulatedMedia", media=media)
 
     def errors(self):
         """What the console has had of errors since it was asked before."""

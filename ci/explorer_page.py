@@ -543,7 +543,7 @@ def check_printed(page):
     browser = page.browser
     page.go(f"#nine/{LONG}")
     page.shows("nine", LONG)
-    browser.emulate(media="print")
+    browser.emulate("print")
     check("what is printed", browser.run(PRINTED), [True, True, True, False, False, False])
     browser.emulate()
 
