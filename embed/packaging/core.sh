@@ -68,8 +68,9 @@ the PATH. A release of Morris has it built; CORE=PATH names a libmorris_c.a"
     say "proving and building the library: some minutes, and more where nothing is proved yet"
     ended=$(mktemp) || return 1
     trap 'rm -f -- "$ended"' EXIT
-    # By this line the prover says that a type of another crate has no proof that its values can be
-    # compared. No call of the library compares them, and nothing fails by it.
+    # The prover's first, quick pass reads functions too that the library doesn't reach. Since one of
+    # them starts threads, it says by this line of each export that nothing can be proved of it. Its
+    # verdict comes after that, and `rt lib` ends with it.
     {
         (cd "$crate" && rt lib) 2>&1
         echo $? > "$ended"
