@@ -90,13 +90,13 @@ pub fn play_move<B: Geometry>(
 }
 
 /// The move that a record names.
-fn move_named(record: &MoveRecord) -> Move
-    ensures { result ≡ move_named record.now }
+fn move_named(played: &MoveRecord) -> Move
+    ensures { result ≡ move_named played.now }
 {
     Move {
-        from: record.from,
-        to: record.to,
-        taken: taken_by(record.taken),
+        from: played.from,
+        to: played.to,
+        taken: taken_by(played.taken),
     }
 }
 
