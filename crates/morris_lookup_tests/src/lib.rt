@@ -1,5 +1,5 @@
-//! The tests of look-ups in table files and of the answers from them, apart so that the libraries
-//! are proved once. They are no part of the product.
+//! The tests of the answers from table files, apart so that the library is proved once. They are no
+//! part of the product.
 #![tactic(auto)]
 
 #[cfg(test)]
@@ -11,8 +11,4 @@ mod failing;
 #[cfg(test)]
 mod lines;
 #[cfg(test)]
-mod looking;
-#[cfg(test)]
 mod making;
-#[cfg(test)]
-mod opening;

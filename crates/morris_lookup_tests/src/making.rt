@@ -2,9 +2,6 @@
 use morris_board::grid::Grid;
 use morris_board::streams::IntoWrite;
 use morris_index::pair::Pair;
-use morris_lookup::opened::Opened;
-use morris_lookup::storage::Storage;
-use morris_lookup::tables::Tables;
 use morris_pairs::exact::Exact;
 use morris_pairs::layout::Layout;
 use morris_pairs::shelf::Shelf;
@@ -34,16 +31,6 @@ fn bytes_of(alloc: Global, table: &Exact<Grid>) -> Option<Vec<u8>> {
     Some(sink.into_inner())
 }
 
-/// The bytes of the file of 3-3 on `grid`, in a layout.
-pub(crate) fn three_three<R: Threads + Wait + Sync>(
-    rt: &R,
-    alloc: Global,
-    layout: Layout,
-) -> Option<Vec<u8>> {
-    let shelf = Shelf::new(alloc).ok()?;
-    bytes_of(alloc, &against_three(rt, alloc, &shelf, 3, layout)?)
-}
-
 /// The bytes of the file of 3-3 and of that of 4-3 on `grid`, in a layout.
 pub(crate) fn files<R: Threads + Wait + Sync>(
     rt: &R,
@@ -56,12 +43,4 @@ pub(crate) fn files<R: Threads + Wait + Sync>(
     shelf.put(first).ok()?;
     let second = against_three(rt, alloc, &shelf, 4, layout)?;
     Some((small, bytes_of(alloc, &second)?))
-}
-
-/// The tables of one file of 3-3.
-pub(crate) fn tables_of<S: Storage + Drop>(alloc: Global, file: S) -> Option<Tables<Grid, S>> {
-    let pair = Pair::new(3, 3).ok()?;
-    let mut tables = Tables::new(alloc).ok()?;
-    tables.put(Opened::open(alloc, file, pair).ok()?);
-    Some(tables)
 }
