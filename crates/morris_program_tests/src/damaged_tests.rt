@@ -1,6 +1,6 @@
 // Files by positions of 3-3 on `grid` of which entries were changed: where what the file states of a
 // position doesn't follow from what it states of the results of the legal moves, that is the answer.
-use crate::asking::is_answered;
+use crate::asking_tests::is_answered;
 use crate::making::files;
 use morris_pairs::layout::Layout;
 use morris_queries::memory::Held;
