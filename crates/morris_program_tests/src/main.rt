@@ -23,9 +23,9 @@ mod line_tests;
 #[cfg(test)]
 mod making;
 #[cfg(test)]
-mod named_tests;
-#[cfg(test)]
 mod streams;
+#[cfg(test)]
+mod verify_in_tests;
 
 use std::alloc::Global;
 use std::env;

@@ -1,47 +1,13 @@
 // `verify_in`, which verifies on the thread of the caller: what it prints, what it refuses, and in
 // which order.
+use crate::making::{file_of, sealed};
 use crate::streams::{Full, dripping};
 use morris_board::streams::{FromRead, IntoWrite};
-use morris_commands::build::build_out;
 use morris_commands::verify_in::verify_in;
 use morris_jobs::fault::Fault;
-use sha2::{Digest, Sha256};
-use std::alloc::{AllocError, Global};
+use morris_pairs::layout::Layout;
 use std::process::Abort;
-use std::sync::Wait;
 use std::test::Fail;
-use std::thread::Threads;
-
-/// The file of a pair of `grid`, or with `all` those of all pairs below it too.
-fn files(
-    rt: &(impl AllocGlobal + Threads + Wait + Sync),
-    pair: &str,
-    all: bool,
-    classes: bool,
-) -> Vec<u8> {
-    let mut output = IntoWrite::new(Vec::new(rt.alloc()));
-    let _ = build_out(
-        rt,
-        rt.alloc(),
-        "grid",
-        pair,
-        1,
-        1,
-        all,
-        classes,
-        &mut output,
-    );
-    output.into_inner()
-}
-
-/// A file of 3-3 whose digest is made right for what stands before it.
-fn sealed(alloc: Global, file: &[u8]) -> Result<Vec<u8>, AllocError> {
-    let mut bytes = Vec::from_slice(alloc, file)?;
-    bytes.truncate(3376);
-    let digest = Sha256::digest(bytes.as_slice());
-    bytes.extend_from_slice(&digest)?;
-    Ok(bytes)
-}
 
 /// `verify_in` answers this to a file, with such a text.
 fn assert_verifies(
@@ -63,27 +29,37 @@ fn verify_in_tells_of_right_files(rt: HostRuntime) {
     let text = "verified 3-3: 1680 entries\n";
     assert_verifies(
         &rt,
-        files(&rt, "3-3", false, false).as_slice(),
+        file_of(&rt, "3-3", Layout::Full).as_slice(),
         Ok(()),
         text,
     );
     let text = "verified 3-3: 320 entries\n";
-    assert_verifies(&rt, files(&rt, "3-3", false, true).as_slice(), Ok(()), text);
+    assert_verifies(
+        &rt,
+        file_of(&rt, "3-3", Layout::Classes).as_slice(),
+        Ok(()),
+        text,
+    );
     let text = "verified 4-3: 2520 entries\n";
     assert_verifies(
         &rt,
-        files(&rt, "4-3", false, false).as_slice(),
+        file_of(&rt, "4-3", Layout::Full).as_slice(),
         Ok(()),
         text,
     );
     let text = "verified 4-3: 470 entries\n";
-    assert_verifies(&rt, files(&rt, "4-3", false, true).as_slice(), Ok(()), text);
+    assert_verifies(
+        &rt,
+        file_of(&rt, "4-3", Layout::Classes).as_slice(),
+        Ok(()),
+        text,
+    );
 }
 
 // No capture is there among the first twenty positions, and the next one wins by one.
 #[test]
 fn verify_in_names_the_first_entry_that_differs(rt: HostRuntime) -> Result<(), Fail> {
-    let right = files(&rt, "3-3", false, false);
+    let right = file_of(&rt, "3-3", Layout::Full);
     let mut equal = right.clone()?;
     for byte in equal.as_mut_slice().iter_mut().skip(16) {
         *byte = 0;
@@ -101,7 +77,7 @@ fn verify_in_names_the_first_entry_that_differs(rt: HostRuntime) -> Result<(), F
 
 #[test]
 fn verify_in_refuses_files_that_are_damaged(rt: HostRuntime) -> Result<(), Fail> {
-    let right = files(&rt, "3-3", false, false);
+    let right = file_of(&rt, "3-3", Layout::Full);
     let right = right.as_slice();
     assert_verifies(&rt, &right[..right.len().min(3407)], Err(Fault::Short), "");
     assert_verifies(&rt, &right[..right.len().min(15)], Err(Fault::Short), "");
@@ -130,7 +106,7 @@ fn verify_in_refuses_files_that_are_damaged(rt: HostRuntime) -> Result<(), Fail>
 
 #[test]
 fn streams_that_fail_end_verify_in(rt: HostRuntime) {
-    let right = files(&rt, "3-3", false, false);
+    let right = file_of(&rt, "3-3", Layout::Full);
     for room in [0, 1, 16, 3407, 3408] {
         let mut output = IntoWrite::new(Vec::new(rt.alloc()));
         let mut input = dripping(right.as_slice(), room);
