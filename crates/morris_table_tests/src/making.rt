@@ -1,6 +1,6 @@
 // Tables, their files and shelves of them, of which the tests are made. A test ends where a call is
 // refused.
-use crate::checks::{holds, same};
+use crate::checks::holds;
 use morris_board::board::{Board, Geometry};
 use morris_board::grid::Grid;
 use morris_board::position::Position;
@@ -17,12 +17,6 @@ use std::alloc::Global;
 use std::process::Abort;
 use std::sync::Wait;
 use std::thread::Threads;
-
-/// The SHA-256 at the end of the file of 3-3, as another program reckons it.
-pub(crate) const DIGEST: [u8; 32] = [
-    0xd6, 0x6a, 0x9e, 0xcf, 0x00, 0x1c, 0xc6, 0x95, 0xc7, 0x90, 0x4b, 0xf2, 0xb8, 0xbd, 0xbc, 0xc3,
-    0xac, 0x27, 0x50, 0x65, 0xc3, 0xb5, 0x79, 0xb9, 0x5f, 0x4f, 0x84, 0x5e, 0x2a, 0x95, 0xd1, 0x8d,
-];
 
 /// The pair of two numbers of stones.
 pub(crate) fn pair<B: Geometry>(rt: &impl Abort, a: u8, b: u8) -> Pair<B> {
@@ -96,30 +90,6 @@ pub(crate) fn file_of(rt: &impl Abort, alloc: Global, table: &Exact<Grid>) -> Ve
     let is_written = write_table(&mut sink, table).is_ok();
     holds(rt, is_written, "a file is written");
     sink.into_inner()
-}
-
-/// The bytes of the file of 3-3, built in a layout.
-pub(crate) fn file_of_three<R: Abort + Threads + Wait + Sync>(
-    rt: &R,
-    alloc: Global,
-    layout: Layout,
-) -> Vec<u8> {
-    let shelf = empty(rt, alloc);
-    let table = built(rt, alloc, &shelf, pair(rt, 3, 3), layout);
-    file_of(rt, alloc, &table)
-}
-
-/// The file of a table has so many bytes, and this digest at its end.
-pub(crate) fn assert_file(
-    rt: &impl Abort,
-    alloc: Global,
-    table: &Exact<Grid>,
-    bytes: u64,
-    digest: &[u8],
-) {
-    let file = file_of(rt, alloc, table);
-    same(rt, file.len() as u64, bytes, "bytes");
-    holds(rt, file.as_slice().ends_with(digest), "digest");
 }
 
 /// Whether two tables of one pair give each of its positions the same value.

@@ -1,5 +1,5 @@
 // Which bytes are opened as the file of 3-3.
-use crate::making::file_of_three;
+use crate::making::three_three;
 use morris_board::grid::Grid;
 use morris_index::pair::Pair;
 use morris_lookup::fault::OpenFault;
@@ -34,6 +34,6 @@ fn is_refused_where_wrong(alloc: Global, bytes: &mut Vec<u8>) -> bool {
 
 #[test]
 fn wrong_bytes_are_refused(rt: HostRuntime) {
-    let mut bytes = file_of_three(&rt, rt.alloc(), Layout::Full);
+    let mut bytes = three_three(&rt, rt.alloc(), Layout::Full).expect(&rt, "a file");
     assert!(rt; is_refused_where_wrong(rt.alloc(), &mut bytes));
 }

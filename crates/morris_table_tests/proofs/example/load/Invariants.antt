@@ -1,5 +1,5 @@
 use Rattle.std.proofs.Common.{◌≡◌}
-use Rattle.morris_library_tests.proofs.example.load.Given as goal
+use Rattle.morris_table_tests.proofs.example.load.Given as goal
 
 -- no read has failed
 abbrev pub invariant-loop : goal.invariant-loop

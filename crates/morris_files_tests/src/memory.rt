@@ -1,5 +1,5 @@
 // Files in memory, written while calls fail.
-use crate::pieces::Two;
+use crate::text::Two;
 use morris_board::streams::Failed;
 use morris_files::folder::Folder;
 use morris_files::memory::MemoryFolder;

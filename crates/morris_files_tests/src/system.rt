@@ -1,5 +1,5 @@
 // Files of the system.
-use crate::pieces::Two;
+use crate::text::Two;
 use morris_board::streams::{Failed, Source};
 use morris_files::folder::Folder;
 use morris_files::reason::Reason;

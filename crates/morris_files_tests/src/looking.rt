@@ -1,10 +1,8 @@
 // What the files of 3-3 on `grid` tell, in either version. The values follow from the rules.
-use crate::making::file_of_three;
+use crate::making::{tables_of, three_three};
 use morris_board::grid::Grid;
 use morris_board::position::Position;
-use morris_index::pair::Pair;
 use morris_lookup::best::{best, next};
-use morris_lookup::opened::Opened;
 use morris_lookup::outcomes::outcomes;
 use morris_lookup::storage::Storage;
 use morris_lookup::tables::Tables;
@@ -15,14 +13,6 @@ use std::alloc::Global;
 use std::fs::File;
 use std::io::Write;
 use std::process::Abort;
-
-/// The tables of one file of 3-3.
-fn tables_of<S: Storage + Drop>(alloc: Global, file: S) -> Option<Tables<Grid, S>> {
-    let pair = Pair::new(3, 3).ok()?;
-    let mut tables = Tables::new(alloc).ok()?;
-    tables.put(Opened::open(alloc, file, pair).ok()?);
-    Some(tables)
-}
 
 /// A move that takes this stone.
 fn taking(from: u8, to: u8, taken: u8) -> Move {
@@ -110,21 +100,21 @@ fn is_right<S: Storage>(alloc: Global, tables: &Tables<Grid, S>) -> bool {
 
 #[test]
 fn a_file_by_positions_tells(rt: HostRuntime) {
-    let bytes = file_of_three(&rt, rt.alloc(), Layout::Full);
+    let bytes = three_three(&rt, rt.alloc(), Layout::Full).expect(&rt, "a file");
     let tables = tables_of(rt.alloc(), bytes.as_slice()).expect(&rt, "tables");
     assert!(rt; is_right(rt.alloc(), &tables));
 }
 
 #[test]
 fn a_file_by_classes_tells(rt: HostRuntime) {
-    let bytes = file_of_three(&rt, rt.alloc(), Layout::Classes);
+    let bytes = three_three(&rt, rt.alloc(), Layout::Classes).expect(&rt, "a file");
     let tables = tables_of(rt.alloc(), bytes.as_slice()).expect(&rt, "tables");
     assert!(rt; is_right(rt.alloc(), &tables));
 }
 
 #[test]
 fn a_file_on_a_disk_tells(rt: HostRuntime) {
-    let bytes = file_of_three(&rt, rt.alloc(), Layout::Classes);
+    let bytes = three_three(&rt, rt.alloc(), Layout::Classes).expect(&rt, "a file");
     let mut file = File::create(&rt, "grid-3-3").expect(&rt, "a place to write");
     file.write_all(bytes.as_slice()).expect(&rt, "room");
     drop(file);
