@@ -5,42 +5,13 @@ use crate::checks::{holds, same, same_bytes};
 use crate::making::{file_of, three_three};
 use morris_board::grid::Grid;
 use morris_board::streams::{Failed, FromRead, Sink};
+use morris_engine_tests::drip::Drip;
 use morris_pairs::exact::Exact;
 use morris_pairs::file_faults::{ReadFault, Write};
 use morris_pairs::reading::read_table;
 use morris_pairs::writing::write_table;
 use std::alloc::Global;
-use std::io;
-use std::io::{ErrorKind, Read};
 use std::process::Abort;
-
-/// Gives a byte a call, and fails once it gave as many as it may.
-#[derive(Drop)]
-struct Drip<'a> {
-    left: &'a [u8],
-    calls: u64,
-    room: u64,
-}
-
-impl Drip<'_> {
-    fn new(left: &[u8], room: u64) -> FromRead<Drip<'_>>
-        ensures { result.failures ≡ 0 }
-    {
-        let calls = 0;
-        FromRead::new(Drip { left, calls, room })
-    }
-}
-
-impl Read for Drip<'_> {
-    fn read(&mut self, buffer: &mut [u8]) -> io::Result<usize> {
-        self.calls = self.calls.saturating_add(1);
-        if self.calls > self.room {
-            return Err(io::Error::from(ErrorKind::Other));
-        }
-        let count = buffer.len().min(1);
-        self.left.read(&mut buffer[..count])
-    }
-}
 
 /// Takes a byte a call, and fails once it took as many as it may.
 #[derive(Drop)]
@@ -88,7 +59,8 @@ impl Sink for Trickle {
 
 /// Reading the file of 3-3 ends at the call that fails after so many others.
 fn assert_ends_reading(rt: &impl Abort, alloc: Global, file: &[u8], room: u64) {
-    let mut source = Drip::new(file, room);
+    let (left, calls) = (file, 0);
+    let mut source = FromRead::new(Drip { left, calls, room });
     let fault = read_table::<Grid, _>(alloc, &mut source).err();
     holds(rt, fault == Some(ReadFault::Read), "a read fails");
     same(

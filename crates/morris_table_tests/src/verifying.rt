@@ -1,5 +1,5 @@
 // Lists of codes that are verified, of which it is known from outside which entry is told.
-use crate::checks::{holds, same};
+use crate::checks::same;
 use crate::making::{empty, pair, three_three};
 use morris_board::grid::Grid;
 use morris_pairs::exact::Exact;
@@ -91,27 +91,4 @@ fn equal_codes_are_refused(rt: HostRuntime) {
     // These losses would be won a ply later, by a code that is one more than the greatest of 16
     // bits.
     assert_told_of_equal(&rt, rt.alloc(), 65_535, 0);
-}
-
-/// Whether so many codes are refused as the table of 3-3. Those that are come back.
-fn is_refused(rt: &impl Abort, alloc: Global, len: usize) -> bool {
-    let codes = vec![in alloc; 7u16; len].expect(rt, "memory");
-    match Raw::from_codes(pair::<Grid>(rt, 3, 3), Layout::Full, codes) {
-        Ok(_) => false,
-        Err((codes, _)) => {
-            same(rt, codes.len() as u64, len as u64, "codes that come back");
-            true
-        }
-    }
-}
-
-#[test]
-fn a_table_has_a_code_for_each_position(rt: HostRuntime) {
-    holds(&rt, is_refused(&rt, rt.alloc(), 1679), "one too few");
-    holds(
-        &rt,
-        !is_refused(&rt, rt.alloc(), 1680),
-        "as many as positions",
-    );
-    holds(&rt, is_refused(&rt, rt.alloc(), 1681), "one too many");
 }

@@ -1,6 +1,6 @@
 //! The calls on graphs and their blocks.
-use morris_samples::told::{mark, or_refused, tell};
-use morris_samples::{PairGraph, Pairs, advance, blocks_after};
+use morris_engine_tests::told::{mark, or_refused, tell};
+use morris_engine_tests::{PairGraph, Pairs, advance, blocks_after};
 use morris_wave::{Batch, Block, Cut, Graph, gather, scatter, sweep};
 use morris_workers::{Tickets, Yard};
 use std::alloc::Global;

@@ -2,6 +2,7 @@
 use morris_board::grid::Grid;
 use morris_board::position::Position;
 use morris_board::streams::{FromRead, IntoWrite};
+use morris_engine_tests::told::{mark, or_refused, tell};
 use morris_index::class_pair::ClassPair;
 use morris_index::classes::Classes;
 use morris_index::pair::Pair;
@@ -15,7 +16,6 @@ use morris_pairs::value::Value;
 use morris_pairs::writing::write_table;
 use morris_probe::best::best;
 use morris_probe::report::report;
-use morris_samples::told::{mark, or_refused, tell};
 use morris_wave::Graph;
 use std::alloc::Global;
 use std::fmt::Display;

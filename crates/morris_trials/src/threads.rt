@@ -1,10 +1,10 @@
 //! The calls that build a table by several workers.
 use crate::tables::{tell_shelf, tell_table};
 use morris_board::grid::Grid;
+use morris_engine_tests::told::mark;
 use morris_index::pair::Pair;
 use morris_pairs::layout::Layout;
 use morris_pairs::shelf::Shelf;
-use morris_samples::told::mark;
 use morris_table::building::{build, build_as};
 use morris_workers::OpenGate;
 use std::alloc::Global;

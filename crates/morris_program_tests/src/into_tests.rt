@@ -27,7 +27,7 @@ d8deb5fa7254d81b0c875ea8de2c9ba02ef7ccbda064d75c7ff60a2b862dcc32  grid-4-3.nmmt
 
 /// What 4-3 into a folder answers whose calls and writes fail that are set in the bits, the folder,
 /// and what is printed.
-pub fn build(
+fn build(
     rt: &(impl AllocGlobal + Threads + Wait + Sync),
     calls: u64,
     writes: u64,

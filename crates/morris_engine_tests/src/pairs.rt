@@ -1,6 +1,6 @@
 //! Two nodes, of which one is won in 41 and the other lost in 42.
 ghost use Rattle.std.specs.Prelude.{◌≡◌};
-ghost use Rattle.morris_samples.specs.Samples.{pair_net, pair_lawful};
+ghost use Rattle.morris_engine_tests.specs.Samples.{pair_net, pair_lawful};
 
 use morris_wave::{Exits, Graph, Levels};
 use std::alloc::AllocError;

@@ -1,7 +1,6 @@
 //! What the commands that run on the thread of the caller do where memory is wanting, and tests of
-//! what no run of the program shows: faults that words are refused before, folders whose calls fail,
-//! the comparison of pairs, and calls that the program makes under another name. No part of the
-//! product.
+//! what no run of the program shows: folders whose calls fail, `verify_in`, which the program doesn't
+//! call, and answers from files in memory. No part of the product.
 //!
 //! The program makes a call by itself: it prints what the call answers, and what it answers when it
 //! is made again. The words of the command line are names of calls. `ci/refused_memory` runs this
@@ -9,22 +8,24 @@
 #![tactic(auto)]
 
 #[cfg(test)]
-mod build_tests;
-#[cfg(test)]
-mod bundle_tests;
+mod asking_tests;
 mod calls;
 #[cfg(test)]
-mod fault_tests;
+mod damaged_tests;
+#[cfg(test)]
+mod failing_tests;
 #[cfg(test)]
 mod from_tests;
 #[cfg(test)]
 mod into_tests;
 #[cfg(test)]
-mod named_tests;
+mod line_tests;
 #[cfg(test)]
-mod pair_tests;
+mod making;
 #[cfg(test)]
 mod streams;
+#[cfg(test)]
+mod verify_in_tests;
 
 use std::alloc::Global;
 use std::env;

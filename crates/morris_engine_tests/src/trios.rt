@@ -1,6 +1,6 @@
 //! Three nodes, of which two have several exits.
 ghost use Rattle.std.specs.Prelude.{◌≡◌};
-ghost use Rattle.morris_samples.specs.Samples.{trio_net, trio_lawful};
+ghost use Rattle.morris_engine_tests.specs.Samples.{trio_net, trio_lawful};
 
 use morris_wave::{Exits, Graph, Levels};
 use std::alloc::AllocError;

@@ -1,6 +1,6 @@
 //! Nodes without any result.
 ghost use Rattle.std.specs.Prelude.{◌≡◌, ℕ};
-ghost use Rattle.morris_samples.specs.Samples.{bare_net, bare_lawful};
+ghost use Rattle.morris_engine_tests.specs.Samples.{bare_net, bare_lawful};
 
 use morris_wave::{Exits, Graph, Levels};
 use std::alloc::AllocError;

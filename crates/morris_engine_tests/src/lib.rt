@@ -1,7 +1,7 @@
 //! Small graphs with exits, gates and watches for tests, and the tests of the engine.
 //!
 //! No part of the product: nothing that is built for use stands on this crate. What it has public
-//! is what `morris_trials` and `morris_commands_tests` take; its own tests are those of `morris_wave`
+//! is what `morris_trials` and other crates of tests take; its own tests are those of `morris_wave`
 //! and `morris_workers`.
 #![tactic(auto)]
 
@@ -9,6 +9,7 @@
 mod bares;
 #[cfg(test)]
 mod checks;
+pub mod drip;
 #[cfg(test)]
 mod engine_tests;
 #[cfg(test)]

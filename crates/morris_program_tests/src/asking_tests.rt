@@ -1,6 +1,6 @@
 // What is answered to texts over the files of 3-3 and 4-3 on `grid`, in either version. The values
 // and moves follow from the rules.
-use crate::making::files;
+use crate::making::file_of;
 use morris_board::streams::IntoWrite;
 use morris_files::reason::Reason;
 use morris_pairs::layout::Layout;
@@ -151,7 +151,8 @@ fn is_four_three_right(alloc: Global, small: &[u8], large: &[u8]) -> bool {
 
 #[test]
 fn files_by_positions_answer(rt: HostRuntime) {
-    let (small, large) = files(&rt, rt.alloc(), Layout::Full).expect(&rt, "two files");
+    let small = file_of(&rt, "3-3", Layout::Full);
+    let large = file_of(&rt, "4-3", Layout::Full);
     let held = [("grid-3-3.nmmt", small.as_slice())];
     let mut held = Held { files: &held };
     assert!(rt; is_right(rt.alloc(), &mut held));
@@ -161,7 +162,8 @@ fn files_by_positions_answer(rt: HostRuntime) {
 
 #[test]
 fn files_by_classes_answer(rt: HostRuntime) {
-    let (small, large) = files(&rt, rt.alloc(), Layout::Classes).expect(&rt, "two files");
+    let small = file_of(&rt, "3-3", Layout::Classes);
+    let large = file_of(&rt, "4-3", Layout::Classes);
     let held = [("grid-3-3.nmmt", small.as_slice())];
     let mut held = Held { files: &held };
     assert!(rt; is_right(rt.alloc(), &mut held));
@@ -171,7 +173,7 @@ fn files_by_classes_answer(rt: HostRuntime) {
 
 #[test]
 fn a_folder_on_a_disk_answers(rt: HostRuntime) {
-    let (small, _) = files(&rt, rt.alloc(), Layout::Classes).expect(&rt, "two files");
+    let small = file_of(&rt, "3-3", Layout::Classes);
     let mut file = File::create(&rt, "grid-3-3.nmmt").expect(&rt, "a place to write");
     file.write_all(small.as_slice()).expect(&rt, "room");
     drop(file);

@@ -7,12 +7,12 @@ use morris_board::streams::{FromRead, IntoWrite};
 use morris_commands::probe::probe_in;
 use morris_commands::stats::stats;
 use morris_commands::verify_in::verify_in;
+use morris_engine_tests::told::{mark, tell};
 use morris_index::pair::Pair;
 use morris_jobs::fault::Fault;
 use morris_pairs::shelf::Shelf;
 use morris_pairs::sweeping::sweep_pair;
 use morris_pairs::writing::write_table;
-use morris_samples::told::{mark, tell};
 use std::alloc::Global;
 
 /// The file of 3-3.

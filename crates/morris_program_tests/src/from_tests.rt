@@ -1,5 +1,5 @@
 // Tables of a folder in memory that are verified.
-use crate::into_tests::build;
+use crate::making::{file_of, sealed};
 use morris_board::board::Geometry;
 use morris_board::streams::IntoWrite;
 use morris_files::folder::Folder;
@@ -14,7 +14,6 @@ use morris_jobs::teller::Teller;
 use morris_pairs::exact::Exact;
 use morris_pairs::layout::Layout;
 use morris_workers::{Unwatched, Watch};
-use sha2::{Digest, Sha256};
 use std::alloc::AllocError;
 use std::process::Abort;
 use std::sync::Wait;
@@ -103,19 +102,14 @@ fn folder_with(
     first: bool,
     second: bool,
 ) -> Result<MemoryFolder, AllocError> {
-    let (_, built, _) = build(rt, 0, 0);
     let mut folder = MemoryFolder::new(rt.alloc(), calls, 0);
     if first {
-        folder.put(
-            "grid-3-3.nmmt",
-            built.get("grid-3-3.nmmt").unwrap_or_default(),
-        )?;
+        let file = file_of(rt, "3-3", Layout::Full);
+        folder.put("grid-3-3.nmmt", file.as_slice())?;
     }
     if second {
-        folder.put(
-            "grid-4-3.nmmt",
-            built.get("grid-4-3.nmmt").unwrap_or_default(),
-        )?;
+        let file = file_of(rt, "4-3", Layout::Full);
+        folder.put("grid-4-3.nmmt", file.as_slice())?;
     }
     Ok(folder)
 }
@@ -210,10 +204,8 @@ fn a_false_file_is_named(rt: HostRuntime) -> Result<(), Fail> {
     if let Some(byte) = file.get_mut(57) {
         *byte = 0;
     }
-    file.truncate(3376);
-    let digest = Sha256::digest(file.as_slice());
-    file.extend_from_slice(&digest)?;
-    folder.put("grid-3-3.nmmt", file.as_slice())?;
+    let false_file = sealed(rt.alloc(), file.as_slice())?;
+    folder.put("grid-3-3.nmmt", false_file.as_slice())?;
     let fault = Fault::InFile(3, 3, Flaw::Differs(20));
     assert_answers(&rt, folder, Err(fault), "");
     let text = format!(in rt.alloc(); "{fault}")?;

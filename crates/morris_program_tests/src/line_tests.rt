@@ -1,35 +1,16 @@
 // What is answered to the lines of an input, over the file of 3-3 on `grid`. The values and moves
 // follow from the rules.
-use crate::making::files;
+use crate::making::file_of;
 use morris_board::streams::{FromRead, IntoWrite};
+use morris_engine_tests::drip::Drip;
 use morris_pairs::layout::Layout;
 use morris_queries::fault::QueryFault;
 use morris_queries::lookup::lookup_lines;
 use morris_queries::memory::Held;
 use morris_queries::show::Show;
 use std::alloc::Global;
-use std::io;
-use std::io::{ErrorKind, Read};
+use std::io::Read;
 use std::process::Abort;
-
-/// Gives a byte a call, and fails at one of its calls.
-#[derive(Drop)]
-struct Drip<'a> {
-    left: &'a [u8],
-    calls: u64,
-    fails_at: u64,
-}
-
-impl Read for Drip<'_> {
-    fn read(&mut self, buffer: &mut [u8]) -> io::Result<usize> {
-        self.calls = self.calls.saturating_add(1);
-        if self.calls == self.fails_at {
-            return Err(io::Error::from(ErrorKind::Other));
-        }
-        let count = buffer.len().min(1);
-        self.left.read(&mut buffer[..count])
-    }
-}
 
 /// What is answered to what a reader gives, and how many answers are faults.
 fn answered<R: Read>(
@@ -63,7 +44,7 @@ OO.OXX.X. lost in 2: 4-2 4-6 4-8 5-2 5-6 5-8 7-2 7-6 7-8
 
 #[test]
 fn lines_are_answered(rt: HostRuntime) {
-    let (small, _) = files(&rt, rt.alloc(), Layout::Full).expect(&rt, "two files");
+    let small = file_of(&rt, "3-3", Layout::Full);
     let held = [("grid-3-3.nmmt", small.as_slice())];
     let mut held = Held { files: &held };
     let (text, refused) = answered(rt.alloc(), "grid", &mut held, GIVEN.as_bytes());
@@ -71,7 +52,7 @@ fn lines_are_answered(rt: HostRuntime) {
     let drip = Drip {
         left: GIVEN.as_bytes(),
         calls: 0,
-        fails_at: 0,
+        room: u64::MAX,
     };
     let (text, refused) = answered(rt.alloc(), "grid", &mut held, drip);
     assert!(rt; text.as_slice() == ANSWERED.as_bytes() && refused == Ok(5));
@@ -107,13 +88,13 @@ fn no_line_has_no_answer(rt: HostRuntime) {
 // The answer to the line before the failure is out, and the line that was begun has none.
 #[test]
 fn a_read_that_fails_ends_the_answers(rt: HostRuntime) {
-    let (small, _) = files(&rt, rt.alloc(), Layout::Full).expect(&rt, "two files");
+    let small = file_of(&rt, "3-3", Layout::Full);
     let held = [("grid-3-3.nmmt", small.as_slice())];
     let mut held = Held { files: &held };
     let drip = Drip {
         left: GIVEN.as_bytes(),
         calls: 0,
-        fails_at: 12,
+        room: 11,
     };
     let (text, refused) = answered(rt.alloc(), "grid", &mut held, drip);
     assert!(rt; text.as_slice() == b"XXXOOO... draw: 0-6 1-7 2-8\n".as_slice());

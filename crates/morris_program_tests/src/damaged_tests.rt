@@ -1,7 +1,7 @@
 // Files by positions of 3-3 on `grid` of which entries were changed: where what the file states of a
 // position doesn't follow from what it states of the results of the legal moves, that is the answer.
-use crate::asking::is_answered;
-use crate::making::files;
+use crate::asking_tests::is_answered;
+use crate::making::file_of;
 use morris_pairs::layout::Layout;
 use morris_queries::memory::Held;
 use morris_queries::show::Show;
@@ -68,7 +68,7 @@ fn disagrees(alloc: Global, small: &[u8], text: &str, fault: &str) -> bool {
 // A draw is stated of what is won in 3.
 #[test]
 fn a_value_that_does_not_follow_is_not_told(rt: HostRuntime) {
-    let (mut small, _) = files(&rt, rt.alloc(), Layout::Full).expect(&rt, "two files");
+    let mut small = file_of(&rt, "3-3", Layout::Full);
     set_code(small.as_mut_slice(), WON, 0);
     assert!(rt; disagrees(rt.alloc(), small.as_slice(), "XXX.OO.O.", WON_FAULT));
 }
@@ -76,7 +76,7 @@ fn a_value_that_does_not_follow_is_not_told(rt: HostRuntime) {
 // A depth is stated that no move leads to: 5 and not 3; then the greatest of a win and of a loss.
 #[test]
 fn a_depth_that_does_not_follow_is_not_told(rt: HostRuntime) {
-    let (mut small, _) = files(&rt, rt.alloc(), Layout::Full).expect(&rt, "two files");
+    let mut small = file_of(&rt, "3-3", Layout::Full);
     for code in [6, 65534, 65535] {
         set_code(small.as_mut_slice(), WON, code);
         assert!(rt; disagrees(rt.alloc(), small.as_slice(), "XXX.OO.O.", WON_FAULT));
@@ -87,7 +87,7 @@ fn a_depth_that_does_not_follow_is_not_told(rt: HostRuntime) {
 // leads to is then a draw, won in 1 and won in 65,535.
 #[test]
 fn a_result_that_contradicts_the_value_is_told(rt: HostRuntime) {
-    let (mut small, _) = files(&rt, rt.alloc(), Layout::Full).expect(&rt, "two files");
+    let mut small = file_of(&rt, "3-3", Layout::Full);
     for code in [0, 1, 65535] {
         set_code(small.as_mut_slice(), LOST, code);
         assert!(rt; disagrees(rt.alloc(), small.as_slice(), "XXX.OO.O.", WON_FAULT));
@@ -98,7 +98,7 @@ fn a_result_that_contradicts_the_value_is_told(rt: HostRuntime) {
 // The files disagree on the second position of the line alone.
 #[test]
 fn a_line_ends_at_the_first_position_that_disagrees(rt: HostRuntime) {
-    let (mut small, _) = files(&rt, rt.alloc(), Layout::Full).expect(&rt, "two files");
+    let mut small = file_of(&rt, "3-3", Layout::Full);
     set_code(small.as_mut_slice(), LAST, 0);
     let told = "XXX.OO.O. won in 3: 2-3\n";
     assert!(rt;
@@ -127,7 +127,7 @@ fn a_line_ends_at_the_first_position_that_disagrees(rt: HostRuntime) {
 // agree, and at the end of the line there are moves.
 #[test]
 fn a_line_does_not_end_where_there_are_moves(rt: HostRuntime) {
-    let (mut small, _) = files(&rt, rt.alloc(), Layout::Full).expect(&rt, "two files");
+    let mut small = file_of(&rt, "3-3", Layout::Full);
     set_code(small.as_mut_slice(), DRAWN, 2);
     set_code(small.as_mut_slice(), AFTER, 1);
     let told = "XXXOOO... won in 1: 0-6\n";
@@ -157,7 +157,7 @@ fn a_line_does_not_end_where_there_are_moves(rt: HostRuntime) {
 // player with two stones has lost all the same.
 #[test]
 fn the_greatest_depth_agrees_with_none(rt: HostRuntime) {
-    let (mut small, _) = files(&rt, rt.alloc(), Layout::Full).expect(&rt, "two files");
+    let mut small = file_of(&rt, "3-3", Layout::Full);
     let count = small.len();
     for (place, byte) in small.as_mut_slice().iter_mut().enumerate() {
         if 16 <= place && place.saturating_add(32) < count {

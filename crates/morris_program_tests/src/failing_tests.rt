@@ -1,5 +1,5 @@
 // A write that fails ends the answers.
-use crate::making::files;
+use crate::making::file_of;
 use morris_board::grid::Grid;
 use morris_files::folder::Folder;
 use morris_files::memory::MemoryFolder;
@@ -12,7 +12,7 @@ use std::process::Abort;
 
 #[test]
 fn a_write_that_fails_is_told(rt: HostRuntime) {
-    let (small, _) = files(&rt, rt.alloc(), Layout::Full).expect(&rt, "two files");
+    let small = file_of(&rt, "3-3", Layout::Full);
     let held = [("grid-3-3.nmmt", small.as_slice())];
     let mut held = Held { files: &held };
     // The second write of the file fails: the first answer has 28 bytes.

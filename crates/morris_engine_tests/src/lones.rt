@@ -1,6 +1,6 @@
 //! One node, whose exits the level tells.
 ghost use Rattle.std.specs.Prelude.{◌≡◌, ◌<◌, ℕ};
-ghost use Rattle.morris_samples.specs.Samples.{lone_net, lone_lawful};
+ghost use Rattle.morris_engine_tests.specs.Samples.{lone_net, lone_lawful};
 
 use morris_wave::{Exits, Graph, Levels};
 use std::alloc::AllocError;
