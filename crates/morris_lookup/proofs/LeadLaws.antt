@@ -1,5 +1,5 @@
 -- Laws of where sets are led: the classes of listed representatives, and the images of one of them.
-use Rattle.std.proofs.Common.{◌≡◌, ◌≢◌, ℕ, zero, suc, ◌+◌, ◌*◌, ◌^◌, ◌<◌, ◌≤◌, Bool, true, List, [], ◌∷◌, ◌++◌, length, get_or, set, get_or-set_other, get_or-set_same, length-append, refl, sym, ap, ◌∙◌, inl, inr, subst, arith}
+use Rattle.std.proofs.Common.{◌≡◌, ◌≢◌, ℕ, zero, suc, ◌+◌, ◌*◌, ◌/◌, ◌%◌, ◌^◌, ◌<◌, ◌≤◌, Bool, true, List, [], ◌∷◌, ◌++◌, length, get_or, set, get_or-set_other, get_or-set_same, length-append, refl, sym, ap, ◌∙◌, inl, inr, subst, arith}
 use Rattle.std.proofs.lemmas.Bool.{cases_Bool, cases_eq, cases_lt}
 use Rattle.std.proofs.lemmas.List.{get_or_append_left, get_or_push}
 use Rattle.morris_board.specs.Boards.{Shape}
@@ -216,3 +216,10 @@ module _ (board : Shape) (few : board.points ≤ 24) (y : HasSymmetries board) (
 
   pub sets_all : (words old : List ℕ) → AreSetsLed board count start (length (representatives_of board count)) words old → AreLed board count start words
   sets_all words old here = λ set small counted. here.led set small counted (class_inside board few y count set small counted)
+
+-- ---- the word of a set
+
+-- the class and the symmetry, from both in one number
+pub lead_parts : (board : Shape) (set : ℕ) → symmetry_of board set < 16 → (lead_of board set / 16 ≡ class_of board set) × (lead_of board set % 16 ≡ symmetry_of board set)
+unfolding lead_of
+lead_parts board set low = (omega (arith, low), omega (arith, low))

@@ -1,12 +1,11 @@
 -- Laws of prepared words: where the sections stand in them.
-use Rattle.std.proofs.Common.{◌≡◌, ℕ, zero, suc, ◌+◌, ◌-◌, ◌/◌, ◌%◌, ◌^◌, ◌<◌, ◌≤◌, false, ltb, List, length, get_or, take, drop, set, get_or-set_other, get_or-set_same, length-set, refl, sym, ap, ◌∙◌, inl, inr, subst, arith}
+use Rattle.std.proofs.Common.{◌≡◌, ℕ, zero, suc, ◌+◌, ◌-◌, ◌^◌, ◌<◌, ◌≤◌, false, ltb, List, length, get_or, take, drop, set, get_or-set_other, get_or-set_same, length-set, refl, sym, ap, ◌∙◌, inl, inr, subst, arith}
 use Rattle.std.proofs.lemmas.Bool.{cases_eq, lt-ltb, ltb-true, false_from_ne_true}
 use Rattle.std.proofs.lemmas.List.{ext_get_or, get_or-take, get_or-drop, length-take-le, length-drop}
 use Rattle.morris_board.specs.Boards.{Shape}
 use Rattle.morris_board.specs.Sets.{members, count_of}
 use Rattle.morris_index.specs.Binomials.{choose}
 use Rattle.morris_index.specs.Numbering.{rank_of}
-use Rattle.morris_index.specs.Classes.{class_of, symmetry_of}
 use Rattle.morris_lookup.specs.Representatives.{representatives_of}
 use Rattle.morris_lookup.specs.Prepared.{section_size, start_of, first_word, lead_of, IsPrepared, IsPreparedTo, AreLed, StayBefore}
 use Rattle.morris_lookup.proofs.LeadLaws.{rank_inside}
@@ -187,11 +186,6 @@ module _ (board : Shape) (words : List ℕ) (here : IsPrepared board words) (k :
       ∙ here.listed k i low (omega (arith, h, len)))
 
 -- ---- where a set is led, in prepared words
-
--- the class and the symmetry, from both in one number
-pub lead_parts : (board : Shape) (set : ℕ) → symmetry_of board set < 16 → (lead_of board set / 16 ≡ class_of board set) × (lead_of board set % 16 ≡ symmetry_of board set)
-unfolding lead_of
-lead_parts board set low = (omega (arith, low), omega (arith, low))
 
 module _ (board : Shape) (few : board.points ≤ 24) (words : List ℕ) (here : IsPrepared board words) (k : ℕ) (low : k < 4)
     (set : ℕ) (small : set < 2 ^ board.points) (counted : count_of set ≡ 3 + k) (section place : ℕ) (is : section ≡ 7 + k) (ranked : place ≡ rank_of (members set)) where

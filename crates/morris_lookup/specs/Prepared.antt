@@ -81,3 +81,8 @@ OthersStay board count start representative words old = (set : ℕ) → set < 2 
 -- so are those before a place
 abbrev pub StayBefore : ℕ → List ℕ → List ℕ → Type 0
 StayBefore place words old = (i : ℕ) → i < place → slice_index words i ≡ slice_index old i
+
+-- Where there are words at all, they have one for each set of `count` points, at its rank: where it
+-- is led.
+abbrev pub LeadAll : Shape → ℕ → List ℕ → Type 0
+LeadAll board count leads = 0 < length leads → (choose board.points count ≤ length leads) × AreLed board count 0 leads

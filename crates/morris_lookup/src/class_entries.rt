@@ -4,10 +4,10 @@ ghost use Rattle.morris_board.specs.Sets.{count_of};
 ghost use Rattle.morris_index.specs.Classes.{class_of, symmetry_of};
 ghost use Rattle.morris_index.specs.Pairs.{IsHalf, is_of};
 ghost use Rattle.morris_index.specs.ClassPairs.{class_half_size, class_half_index, class_size_of, class_index_of};
-ghost use Rattle.morris_lookup.specs.Prepared.{IsPrepared};
+ghost use Rattle.morris_lookup.specs.Prepared.{IsPrepared, LeadAll};
 ghost use Rattle.morris_lookup.specs.Representatives.{representatives_of};
 
-use crate::classes::class_of;
+use crate::classes::class_by;
 use crate::prepared::class_in;
 use crate::ranks::rank_outside;
 use morris_board::board::Geometry;
@@ -32,25 +32,29 @@ pub fn class_size<B: Geometry>(pair: Pair<B>, greater: &[u32], lesser: &[u32]) -
     }
 }
 
-/// The entry of a position of the pair by classes, by the same lists. By other lists it is any
-/// number.
+/// The entry of a position of the pair by classes, by the same lists and by words that may lead the
+/// sets of either number of points. By other lists or words it is any number.
 pub fn class_index<B: Geometry>(
     pair: Pair<B>,
     greater: &[u32],
     lesser: &[u32],
+    greater_leads: &[u32],
+    lesser_leads: &[u32],
     position: &Position<B>,
 ) -> u64
     requires of { is_of pair position.now ≡ true }
     requires greater { length greater.now < 2 ^ 32 }
     requires lesser { length lesser.now < 2 ^ 32 }
-    ensures value { greater.now ≡ representatives_of B.shape pair.greater → lesser.now ≡ representatives_of B.shape pair.lesser → result ≡ class_index_of B.shape B.POINTS pair position.now }
+    ensures value { greater.now ≡ representatives_of B.shape pair.greater → lesser.now ≡ representatives_of B.shape pair.lesser
+        → LeadAll B.shape pair.greater greater_leads.now → LeadAll B.shape pair.lesser lesser_leads.now → result ≡ class_index_of B.shape B.POINTS pair position.now }
     ensures few { result < 2 ^ 55 }
 {
     let most = pair.greater();
     if position.own().count() == most {
-        class_half_index(greater, position)
+        class_half_index(greater, greater_leads, position)
     } else {
-        class_half_size::<B>(greater, most, pair.lesser()) + class_half_index(lesser, position)
+        class_half_size::<B>(greater, most, pair.lesser())
+            + class_half_index(lesser, lesser_leads, position)
     }
 }
 
@@ -90,13 +94,13 @@ fn class_half_size<B: Geometry>(list: &[u32], own: u8, other: u8) -> u64
 }
 
 /// The number of a position's entry among those with as many stones of either player, by the list of
-/// the representatives for those of the player to move.
-fn class_half_index<B: Geometry>(list: &[u32], position: &Position<B>) -> u64
+/// the representatives for those of the player to move and by words that may lead these.
+fn class_half_index<B: Geometry>(list: &[u32], leads: &[u32], position: &Position<B>) -> u64
     requires few { length list.now < 2 ^ 32 }
-    ensures value { list.now ≡ representatives_of B.shape (count_of position.now.own) → result ≡ class_half_index B.shape B.POINTS position.now }
+    ensures value { list.now ≡ representatives_of B.shape (count_of position.now.own) → LeadAll B.shape (count_of position.now.own) leads.now → result ≡ class_half_index B.shape B.POINTS position.now }
     ensures few { result < 2 ^ 54 }
 {
-    let (class, symmetry) = class_of::<B>(list, position.own());
+    let (class, symmetry) = class_by::<B>(list, leads, position.own());
     led_index(position, class, symmetry)
 }
 

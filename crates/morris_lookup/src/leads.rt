@@ -1,14 +1,46 @@
 //! Where sets of few points are led: their classes and symmetries, written at their ranks.
-ghost use Rattle.std.specs.Prelude.{◌≡◌, ℕ, ◌+◌, ◌<◌, ◌≤◌, ◌^◌, length, slice_index};
+ghost use Rattle.std.specs.Prelude.{◌≡◌, ℕ, ◌+◌, ◌<◌, ◌≤◌, ◌^◌, length, slice_index, IfOk};
 ghost use Rattle.morris_board.specs.Sets.{count_of};
 ghost use Rattle.morris_index.specs.Binomials.{choose};
 ghost use Rattle.morris_index.specs.Classes.{representative_of};
-ghost use Rattle.morris_lookup.specs.Prepared.{AreLed, AreLedTo, OthersStay, StayBefore};
+ghost use Rattle.morris_lookup.specs.Prepared.{AreLed, AreLedTo, LeadAll, OthersStay, StayBefore};
 ghost use Rattle.morris_lookup.specs.Representatives.{representatives_of};
 
 use crate::ranks::rank;
 use morris_board::board::Geometry;
 use morris_board::points::Points;
+use morris_index::binomials::binomial;
+use std::alloc::{AllocError, Global};
+
+/// The greatest number of points of sets that have a word each.
+pub(crate) const MOST_LED: u8 = 6;
+
+/// Words that lead the sets of `count` points, of which the representatives are listed; nothing
+/// where the sets have more points than [`MOST_LED`].
+///
+/// # Errors
+/// [`AllocError`] where memory runs out: 4 bytes are taken for each set, and for a while twice as
+/// much.
+pub(crate) fn leads<B: Geometry>(
+    alloc: Global,
+    count: u8,
+    list: &[u32],
+) -> Result<Vec<u32>, AllocError>
+    requires few { count ≤ 9 }
+    requires listed { list.now ≡ representatives_of B.shape count }
+    ensures { IfOk result (λ leads. LeadAll B.shape count leads.items) }
+{
+    if count > MOST_LED {
+        return Ok(Vec::new(alloc));
+    }
+    let classes = list.len();
+    let sets = binomial(B::POINTS, count) as usize;
+    let mut room = vec![in alloc; 0u32; classes + sets]?;
+    let words = room.as_mut_slice();
+    words[..classes].copy_from_slice(list);
+    lead_sets::<B>(count, words, 0, classes, classes);
+    Ok(Vec::from_slice(alloc, &words[classes..])?)
+}
 
 /// Writes where each set of `count` points is led, at its rank from `start` on. The representatives
 /// of these sets are the `classes` words from `list` on.

@@ -7,7 +7,7 @@ ghost use Rattle.morris_lookup.specs.Numberings.{Serve};
 ghost use Rattle.morris_lookup.specs.Prepared.{prepared_count, start_of, looks_prepared, IsPrepared, IsPreparedTo};
 ghost use Rattle.morris_lookup.specs.Representatives.{representatives_of};
 
-use crate::classes::class_of;
+use crate::classes::{class_of, lead_at};
 use crate::fault::{Room, ViewFault};
 use crate::leads::lead_sets;
 use crate::ranks::rank;
@@ -229,6 +229,5 @@ fn led_at(words: &[u32], section: usize, place: u64) -> Option<(usize, u8)>
     ensures outside { IfNone result (13 ≤ length words.now → length words.now ≤ slice_index words.now (1 + section) + place) }
 {
     let start = words.get(1 + section)?;
-    let lead = words.get(*start as usize + place as usize)?;
-    Some(((*lead / 16) as usize, (*lead % 16) as u8))
+    lead_at(words, u64::from(*start) + place)
 }

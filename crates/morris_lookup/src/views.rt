@@ -87,6 +87,8 @@ fn value_of_file<B: Geometry>(
         pair,
         greater,
         lesser,
+        greater_leads: &words[..0],
+        lesser_leads: &words[..0],
     };
     bear_out(header.entries, length, numbering.count())?;
     match code_at(bytes, numbering.entry_in(words, position)) {

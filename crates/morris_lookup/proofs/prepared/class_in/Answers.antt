@@ -7,7 +7,8 @@ use Rattle.morris_index.specs.Classes.{class_of, symmetry_of}
 use Rattle.morris_index.proofs.ClassLaws.{symmetry_within}
 use Rattle.morris_index.proofs.IndexLaws.{within_24}
 use Rattle.morris_lookup.specs.Prepared.{IsPrepared}
-use Rattle.morris_lookup.proofs.PreparedLaws.{start-least, lead_parts, led_inside, led_there}
+use Rattle.morris_lookup.proofs.PreparedLaws.{start-least, led_inside, led_there}
+use Rattle.morris_lookup.proofs.LeadLaws.{lead_parts}
 use Rattle.morris_lookup.proofs.prepared.class_in.Goals as goal
 
 -- what stands in prepared words for a set of few points
