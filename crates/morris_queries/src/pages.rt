@@ -1,5 +1,5 @@
 //! Files of the system of which the pages that were read last are kept.
-ghost use Rattle.std.specs.Prelude.{◌≡◌, ◌<◌, ◌^◌, None};
+ghost use Rattle.std.specs.Prelude.{◌≡◌, ◌/◌, ◌%◌, ◌<◌, ◌^◌, length, take, drop, None, IsTrue};
 
 use morris_board::streams::Failed;
 use morris_lookup::storage::Storage;
@@ -71,24 +71,32 @@ impl Storage for PagedFile {
 }
 
 /// Fills `out` with the bytes from `place` on, where they lie in one page and it can be read; says
-/// whether it did.
+/// whether it did. Pages whose numbers differ by a multiple of [`KEPT`] have one place in turn.
 fn read_kept(file: &File, pages: &mut Vec<Page>, place: u64, out: &mut [u8]) -> bool {
-    let number = place / PAGE;
-    match pages.get_mut((number % KEPT) as usize) {
+    match pages.get_mut((place / PAGE % KEPT) as usize) {
         None => false,
-        Some(page) => {
-            if page.number != number {
-                page.fill(file, number);
-            }
-            page.copy_to((place % PAGE) as usize, out)
-        }
+        Some(page) => page.read(file, place, out),
     }
 }
 
 impl Page {
+    /// Becomes the page that has the place of a file, where it isn't yet, and fills `out` with the
+    /// bytes from there on, where it has them; says whether it did.
+    fn read(&mut self, file: &File, place: u64, out: &mut [u8]) -> bool
+        ensures number { self.new.number ≡ place / 4096 }
+        ensures copied { IsTrue result → out.new ≡ take (length out.old) (drop (place % 4096) self.new.bytes.items) }
+    {
+        let number = place / PAGE;
+        if self.number != number {
+            self.fill(file, number);
+        }
+        self.copy_to((place % PAGE) as usize, out)
+    }
+
     /// Reads the page with this number.
     fn fill(&mut self, file: &File, number: u64)
         requires { number < 2 ^ 52 }
+        ensures { self.new.number ≡ number }
     {
         self.number = number;
         self.count = FileExt::read_at(file, self.bytes.as_mut_slice(), number * PAGE).unwrap_or(0);
@@ -98,17 +106,16 @@ impl Page {
     /// it did.
     fn copy_to(&self, place: usize, out: &mut [u8]) -> bool
         requires { place < 4096 }
+        ensures { IsTrue result → out.new ≡ take (length out.old) (drop place self.now.bytes.items) }
     {
         let end = place + out.len();
         if self.count < end {
             return false;
         }
-        match self.bytes.get(place..end) {
-            None => false,
-            Some(bytes) => {
-                out.copy_from_slice(bytes);
-                true
-            }
+        if self.bytes.len() < end {
+            return false;
         }
+        out.copy_from_slice(&self.bytes[place..end]);
+        true
     }
 }
