@@ -1,4 +1,4 @@
-use Rattle.std.proofs.Common.{◌≡◌, ℕ, ◌+◌, ◌-◌, ◌*◌, ◌<◌, ◌≤◌, ◌^◌, length, sym, ap, ◌∙◌, subst, arith}
+use Rattle.std.proofs.Common.{◌≡◌, ℕ, ◌+◌, ◌-◌, ◌<◌, ◌≤◌, ◌^◌, length, sym, ap, ◌∙◌, subst, arith}
 use Rattle.morris_board.specs.Boards.{Shape}
 use Rattle.morris_board.specs.Sets.{members, count_of}
 use Rattle.morris_board.specs.Symmetries.{image_of, inverse_of, HasSymmetries}
@@ -63,7 +63,7 @@ loop-k-preserved g c =
     c.rank.ensures.value ∙ ap (λ x. rank_of (members x)) (c.image_of-set.ensures ∙ ap (λ i. image_of (board.image i) c.args.representative) c.inverse.ensures) in
     rw at
     (led_more board few g.met.B.Geometry.has_symmetries c.args.count c.args.start c.args.class c.args.representative small c.requires.counted c.requires.least
-    c.loop-k.k s last c.loop-k.words c.args.words.now c.loop-k.invariant room (c.args.class * 16 + c.from.result) (omega (arith, c.from.ensures)))
+    c.loop-k.k s last c.loop-k.words c.args.words.now c.loop-k.invariant room _ (omega (arith, c.from.ensures)))
 
 pub returns-clause-led : goal.returns-clause-led
 returns-clause-led g c =
