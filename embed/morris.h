@@ -139,8 +139,8 @@ typedef struct morris_tables morris_tables;
  * that aren't there are left out. Where `path` names nothing that is there, colons divide it into
  * several folders, as in `tables:/usr/share/morris`: of each pair the first one that has its file
  * gives it, and folders without files are passed over. Links are followed. Only the headers are
- * looked at here. Where a file is one by classes, opening takes some hundredths of a second and 700
- * KB of memory.
+ * looked at here. Where a file is one by classes, opening takes some hundredths of a second and 1.4
+ * MB of memory.
  *
  * Answers null where the tables aren't open, and `*status`, which may be null, says why: MORRIS_OK;
  * MORRIS_NO_BOARD; MORRIS_NO_TABLE where there is none of these files; or MORRIS_SYSTEM, and errno
@@ -212,7 +212,7 @@ int32_t morris_legal_moves(uint32_t board, uint32_t own, uint32_t other, morris_
  * MORRIS_NINE_WORDS. 0 where there is no such board. It goes through the sets of points, as the
  * next call does: that takes some hundredths of a second. A program that has the room of
  * MORRIS_NINE_WORDS at hand needn't ask. */
-#define MORRIS_NINE_WORDS 164475u
+#define MORRIS_NINE_WORDS 354229u
 size_t morris_prepare_size(uint32_t board);
 
 /* Fills `words` with what files of version 2 need for a board. The words are the same each time,

@@ -114,10 +114,11 @@ static void lying_words(const morris_view *file, const uint32_t *words, size_t m
         uint32_t *copy = end - len;
         memcpy(copy, words, len * sizeof *words);
         IS(look(file, copy, len), len == m ? MORRIS_OK : MORRIS_NOT_PREPARED);
-        for (i = 0; i < 50 && len > 9; i++) {
+        for (i = 0; i < 50 && len > 13; i++) {
             seed = seed * 1664525u + 1013904223u;
-            copy[1 + (seed >> 4) % 8] = (seed >> 8) % 4 ? (seed >> 8) % 600 : seed;
-            copy[8] = (uint32_t)len;
+            copy[1 + (seed >> 4) % 12] = (seed >> 8) % 4 ? (seed >> 8) % 600 : seed;
+            copy[13 + (seed >> 12) % (len - 13)] = seed;
+            copy[12] = (uint32_t)len;
             (void)look(file, copy, len);
         }
     }
@@ -167,7 +168,7 @@ static void many_threads(const morris_view *files, const uint32_t *words, size_t
 }
 
 int main(int argc, char **argv) {
-    uint32_t words[500];
+    uint32_t words[1000];
     size_t m = morris_prepare_size(MORRIS_GRID), i;
     morris_view files[2];
     if (argc != 3 || m > sizeof words / sizeof *words || morris_prepare(MORRIS_GRID, words, m) != MORRIS_OK) {

@@ -1,21 +1,36 @@
--- Laws of prepared words: where the representatives stand in them.
-use Rattle.std.proofs.Common.{◌≡◌, ℕ, zero, suc, ◌+◌, ◌-◌, ◌<◌, ◌≤◌, List, length, get_or, take, drop, set, get_or-set_other, get_or-set_same, length-set, refl, sym, ap, ◌∙◌, inl, inr, subst, arith}
-use Rattle.std.proofs.lemmas.Bool.{cases_eq}
+-- Laws of prepared words: where the sections stand in them.
+use Rattle.std.proofs.Common.{◌≡◌, ℕ, zero, suc, ◌+◌, ◌-◌, ◌^◌, ◌<◌, ◌≤◌, false, ltb, List, length, get_or, take, drop, set, get_or-set_other, get_or-set_same, length-set, refl, sym, ap, ◌∙◌, inl, inr, subst, arith}
+use Rattle.std.proofs.lemmas.Bool.{cases_eq, lt-ltb, ltb-true, false_from_ne_true}
 use Rattle.std.proofs.lemmas.List.{ext_get_or, get_or-take, get_or-drop, length-take-le, length-drop}
 use Rattle.morris_board.specs.Boards.{Shape}
+use Rattle.morris_board.specs.Sets.{members, count_of}
+use Rattle.morris_index.specs.Binomials.{choose}
+use Rattle.morris_index.specs.Numbering.{rank_of}
 use Rattle.morris_lookup.specs.Representatives.{representatives_of}
-use Rattle.morris_lookup.specs.Prepared.{start_of, first_word, IsPrepared}
+use Rattle.morris_lookup.specs.Prepared.{section_size, start_of, first_word, lead_of, IsPrepared, IsPreparedTo, AreLed, StayBefore}
+use Rattle.morris_lookup.proofs.LeadLaws.{rank_inside}
 
--- ---- the places of the representatives
+-- ---- the places of the sections
 
 module _ (board : Shape) where
-  pub start-suc : (k : ℕ) → start_of board (suc k) ≡ start_of board k + length (representatives_of board (3 + k))
+  pub start-suc : (k : ℕ) → start_of board (suc k) ≡ start_of board k + section_size board k
   unfolding start_of
   start-suc k = refl
 
-  pub start-zero : start_of board 0 ≡ 9
+  pub start-zero : start_of board 0 ≡ 13
   unfolding start_of
   start-zero = refl
+
+  pub size-listed : (k : ℕ) → k < 7 → section_size board k ≡ length (representatives_of board (3 + k))
+  unfolding section_size
+  size-listed k low = rw (lt-ltb k 7 low) refl
+
+  pub size-led : (k : ℕ) → section_size board (7 + k) ≡ choose board.points (3 + k)
+  unfolding section_size
+  size-led k = rw (not_below k) (let e : 7 + k - 4 ≡ 3 + k = omega arith in ap (choose board.points) e)
+    where
+      not_below : (k : ℕ) → ltb (7 + k) 7 ≡ false
+      not_below k = false_from_ne_true _ (λ h. absurd (omega (arith, ltb-true (7 + k) 7 h)))
 
   pub start-le : (k more : ℕ) → start_of board k ≤ start_of board (k + more)
   start-le k zero = let e : k + 0 ≡ k = omega arith in omega (arith, ap (start_of board) e)
@@ -25,85 +40,134 @@ module _ (board : Shape) where
   pub start-up : (j k : ℕ) → j ≤ k → start_of board j ≤ start_of board k
   start-up j k le = let e : j + (k - j) ≡ k = omega arith in omega (arith, start-le j (k - j), ap (start_of board) e)
 
-  pub start-least : (k : ℕ) → 9 ≤ start_of board k
+  pub start-least : (k : ℕ) → 13 ≤ start_of board k
   start-least k = omega (arith, start-up 0 k (omega arith), start-zero)
 
-  -- those of a number of points end before those of any greater one
-  pub start-next : (j k : ℕ) → j < k → start_of board j + length (representatives_of board (3 + j)) ≤ start_of board k
+  -- a section ends before any later one
+  pub start-next : (j k : ℕ) → j < k → start_of board j + section_size board j ≤ start_of board k
   start-next j k low = omega (arith, start-up (suc j) k (omega arith), start-suc j)
 
-  -- the words are prepared up to the k-th number of points
-  pub record IsPreparedTo (k end : ℕ) (words : List ℕ) : Type 0 where
-    pub ends : end ≡ start_of board k
-    pub first : get_or words 0 0 ≡ first_word board
-    pub starts : (j : ℕ) → j ≤ k → get_or words (1 + j) 0 ≡ start_of board j
-    pub within : end ≤ length words
-    pub listed : (j i : ℕ) → j < k → i < length (representatives_of board (3 + j))
-        → get_or words (start_of board j + i) 0 ≡ get_or (representatives_of board (3 + j)) i 0
+  pub start-listed : (j k : ℕ) → j < k → j < 7 → start_of board j + length (representatives_of board (3 + j)) ≤ start_of board k
+  start-listed j k low listed = omega (arith, start-next j k low, size-listed j listed)
 
-  pub prepared-none : (words : List ℕ) → 9 ≤ length words → get_or words 0 0 ≡ first_word board → get_or words 1 0 ≡ 9 → IsPreparedTo 0 9 words
+  pub start-led : (j k : ℕ) → 7 + j < k → start_of board (7 + j) + choose board.points (3 + j) ≤ start_of board k
+  start-led j k low = omega (arith, start-next (7 + j) k low, size-led j)
+
+  pub prepared-none : (words : List ℕ) → 13 ≤ length words → get_or words 0 0 ≡ first_word board → get_or words 1 0 ≡ 13 → IsPreparedTo board 0 13 words
   prepared-none words long first one = record {
     ends = sym start-zero;
     first = first;
     starts = λ j h. let e : j ≡ 0 = omega arith in rw e (one ∙ sym start-zero);
     within = long;
     listed = λ j i h. absurd (omega arith);
+    led = λ j set h. absurd (omega arith);
   }
 
-  -- the words with those of one number of points more
-  pub prepared-more : (k end next : ℕ) (words listed : List ℕ) → k < 7 → IsPreparedTo k end words → length listed ≡ length words
-      → next ≡ end + length (representatives_of board (3 + k)) → next ≤ length words
-      → ((i : ℕ) → i < length (representatives_of board (3 + k)) → get_or listed (end + i) 0 ≡ get_or (representatives_of board (3 + k)) i 0)
-      → ((i : ℕ) → i < end → get_or listed i 0 ≡ get_or words i 0)
-      → IsPreparedTo (k + 1) next (set listed (k + 2) next)
-  prepared-more k end next words listed low here len is within there before =
-      let least = start-least k in
-      let e : suc k ≡ k + 1 = omega arith in
-      subst (λ m. IsPreparedTo m next (set listed (k + 2) next)) e (record {
-        ends = omega (arith, is, here.ends, start-suc k);
-        first = get_or-set_other listed (k + 2) 0 next 0 (omega arith) ∙ before 0 (omega (arith, here.ends, least)) ∙ here.first;
-        starts = λ j h. elim (cases_eq j (suc k)) [
-          | inl e ↦
-              let at : 1 + j ≡ k + 2 = omega (arith, e) in
-              ap (λ m. get_or (set listed (k + 2) next) m 0) at
-              ∙ get_or-set_same listed (k + 2) next 0 (omega (arith, len, within, is, here.ends, least))
-              ∙ omega (arith, is, here.ends, start-suc k, ap (start_of board) e)
-          | inr d ↦
-              get_or-set_other listed (k + 2) (1 + j) next 0 (omega arith)
-              ∙ before (1 + j) (omega (arith, here.ends, least))
-              ∙ here.starts j (omega arith)
-        ];
-        within = omega (arith, within, len, length-set listed (k + 2) next);
-        listed = λ j i h inside.
-            let at = start-least j in
-            get_or-set_other listed (k + 2) (start_of board j + i) next 0 (omega (arith, at))
-            ∙ elim (cases_eq j k) [
-              | inl e ↦ rw e (rw (← here.ends) (there i (subst (λ m. i < length (representatives_of board (3 + m))) e inside)))
-              | inr d ↦
-                  before (start_of board j + i) (omega (arith, start-next j k (omega arith), here.ends, inside)) ∙ here.listed j i (omega arith) inside
-            ];
-      })
+  -- ---- one section more
 
-  pub prepared-all : (end : ℕ) (words : List ℕ) → IsPreparedTo 7 end words → IsPrepared board words
+  -- where it was filled, and where it ends was noted
+  module _ (few : board.points ≤ 24) (k end next : ℕ) (words filled : List ℕ) (low : k < 11) (here : IsPreparedTo board k end words)
+      (len : length filled ≡ length words) (is : next ≡ end + section_size board k) (within : next ≤ length words)
+      (before : StayBefore end filled words) where
+    abbrev noted : List ℕ
+    noted = set filled (k + 2) next
+
+    in_heading : 13 ≤ end
+    in_heading = omega (arith, here.ends, start-least k)
+
+    -- all but that place is as it was filled
+    old_at : (i : ℕ) → 13 ≤ i → get_or noted i 0 ≡ get_or filled i 0
+    old_at i above = get_or-set_other filled (k + 2) i next 0 (omega (arith, above))
+
+    first_there : get_or noted 0 0 ≡ first_word board
+    first_there = get_or-set_other filled (k + 2) 0 next 0 (omega arith) ∙ before 0 (omega (arith, in_heading)) ∙ here.first
+
+    starts_there : (j : ℕ) → j ≤ suc k → get_or noted (1 + j) 0 ≡ start_of board j
+    starts_there j h = elim (cases_eq j (suc k)) [
+      | inl e ↦
+          let at : 1 + j ≡ k + 2 = omega (arith, e) in
+          ap (λ m. get_or noted m 0) at
+          ∙ get_or-set_same filled (k + 2) next 0 (omega (arith, len, within, is, in_heading))
+          ∙ omega (arith, is, here.ends, start-suc k, ap (start_of board) e)
+      | inr d ↦
+          get_or-set_other filled (k + 2) (1 + j) next 0 (omega arith)
+          ∙ before (1 + j) (omega (arith, in_heading))
+          ∙ here.starts j (omega arith)
+    ]
+
+    listed_there_before : (j i : ℕ) → j < k → j < 7 → i < length (representatives_of board (3 + j))
+        → get_or noted (start_of board j + i) 0 ≡ get_or (representatives_of board (3 + j)) i 0
+    listed_there_before j i h listed inside =
+        old_at (start_of board j + i) (omega (arith, start-least j))
+        ∙ before (start_of board j + i) (omega (arith, start-listed j k h listed, here.ends, inside))
+        ∙ here.listed j i h listed inside
+
+    led_there_before : (j x : ℕ) → 7 + j < k → x < 2 ^ board.points → count_of x ≡ 3 + j
+        → get_or noted (start_of board (7 + j) + rank_of (members x)) 0 ≡ lead_of board x
+    led_there_before j x h small counted =
+        let inside = rank_inside board.points (3 + j) x few small counted in
+        old_at (start_of board (7 + j) + rank_of (members x)) (omega (arith, start-least (7 + j)))
+        ∙ before (start_of board (7 + j) + rank_of (members x)) (omega (arith, start-led j k h, here.ends, inside))
+        ∙ here.led j x h small counted
+
+    pub listed-more : k < 7 → ((i : ℕ) → i < length (representatives_of board (3 + k)) → get_or filled (end + i) 0 ≡ get_or (representatives_of board (3 + k)) i 0)
+        → IsPreparedTo board (k + 1) next noted
+    listed-more small there =
+        let e : suc k ≡ k + 1 = omega arith in
+        subst (λ m. IsPreparedTo board m next noted) e (record {
+          ends = omega (arith, is, here.ends, start-suc k);
+          first = first_there;
+          starts = starts_there;
+          within = omega (arith, within, len, length-set filled (k + 2) next);
+          listed = λ j i h listed inside. elim (cases_eq j k) [
+            | inl e ↦
+                old_at (start_of board j + i) (omega (arith, start-least j))
+                ∙ rw e (rw (← here.ends) (there i (subst (λ m. i < length (representatives_of board (3 + m))) e inside)))
+            | inr d ↦ listed_there_before j i (omega arith) listed inside
+          ];
+          led = λ j x h. absurd (omega arith);
+        })
+
+    pub led-more : (m : ℕ) → k ≡ 7 + m → AreLed board (3 + m) end filled → IsPreparedTo board (k + 1) next noted
+    led-more m at there =
+        let e : suc k ≡ k + 1 = omega arith in
+        subst (λ m. IsPreparedTo board m next noted) e (record {
+          ends = omega (arith, is, here.ends, start-suc k);
+          first = first_there;
+          starts = starts_there;
+          within = omega (arith, within, len, length-set filled (k + 2) next);
+          listed = λ j i h listed inside. listed_there_before j i (omega (arith, at)) listed inside;
+          led = λ j x h small counted. elim (cases_eq j m) [
+            | inl e ↦
+                let start : start_of board (7 + j) ≡ end = ap (start_of board) (let f : 7 + j ≡ k = omega (arith, at, e) in f) ∙ sym here.ends in
+                old_at (start_of board (7 + j) + rank_of (members x)) (omega (arith, start-least (7 + j)))
+                ∙ ap (λ s. get_or filled (s + rank_of (members x)) 0) start
+                ∙ there x small (omega (arith, counted, e))
+            | inr d ↦ led_there_before j x (omega (arith, at, h, d)) small counted
+          ];
+        })
+
+  pub prepared-all : (end : ℕ) (words : List ℕ) → IsPreparedTo board 11 end words → IsPrepared board words
   prepared-all end words here = record {
     first = here.first;
     starts = λ k h. here.starts k (omega arith);
     whole = omega (arith, here.within, here.ends);
-    listed = here.listed;
+    listed = λ k i low. here.listed k i (omega arith) low;
+    led = λ k x low. here.led k x (omega arith);
   }
 
 -- ---- the representatives in prepared words
 
 module _ (board : Shape) (words : List ℕ) (here : IsPrepared board words) (k : ℕ) (low : k < 7) where
   pub ends_within : start_of board (suc k) ≤ length words
-  ends_within = omega (arith, here.whole, start-up board (suc k) 7 (omega arith))
+  ends_within = omega (arith, here.whole, start-up board (suc k) 11 (omega arith))
 
   -- they stand between the places that the words before them say
   pub between_places : (start end : ℕ) → start ≡ get_or words (k + 1) 0 → end ≡ get_or words (k + 1 + 1) 0 → (start ≤ end) × (end ≤ length words)
   between_places start end is ends =
       let a : get_or words (k + 1) 0 ≡ start_of board k = let e : 1 + k ≡ k + 1 = omega arith in ap (λ i. get_or words i 0) (sym e) ∙ here.starts k (omega arith) in
       let b : get_or words (k + 1 + 1) 0 ≡ start_of board (suc k) = let e : 1 + suc k ≡ k + 1 + 1 = omega arith in ap (λ i. get_or words i 0) (sym e) ∙ here.starts (suc k) (omega arith) in
-      (omega (arith, a, b, is, ends, start-suc board k), omega (arith, b, ends, ends_within))
+      (omega (arith, a, b, is, ends, start-suc board k, size-listed board k low), omega (arith, b, ends, ends_within))
 
   pub listed_there : (start end : ℕ) → start ≡ get_or words (k + 1) 0 → end ≡ get_or words (k + 1 + 1) 0
       → take (end - start) (drop start words) ≡ representatives_of board (3 + k)
@@ -111,7 +175,7 @@ module _ (board : Shape) (words : List ℕ) (here : IsPrepared board words) (k :
       let a : start ≡ start_of board k = let e : 1 + k ≡ k + 1 = omega arith in is ∙ ap (λ i. get_or words i 0) (sym e) ∙ here.starts k (omega arith) in
       let b : end ≡ start_of board (suc k) = let e : 1 + suc k ≡ k + 1 + 1 = omega arith in ends ∙ ap (λ i. get_or words i 0) (sym e) ∙ here.starts (suc k) (omega arith) in
       let list : List ℕ = representatives_of board (3 + k) in
-      let size : end - start ≡ length list = omega (arith, a, b, start-suc board k) in
+      let size : end - start ≡ length list = omega (arith, a, b, start-suc board k, size-listed board k low) in
       let len : length (take (end - start) (drop start words)) ≡ length list =
       length-take-le (end - start) (drop start words) (omega (arith, length-drop start words, b, ends_within)) ∙ size in
       ext_get_or 0 (take (end - start) (drop start words)) list len
@@ -120,3 +184,24 @@ module _ (board : Shape) (words : List ℕ) (here : IsPrepared board words) (k :
       ∙ get_or-drop start words i 0
       ∙ ap (λ s. get_or words (s + i) 0) a
       ∙ here.listed k i low (omega (arith, h, len)))
+
+-- ---- where a set is led, in prepared words
+
+module _ (board : Shape) (few : board.points ≤ 24) (words : List ℕ) (here : IsPrepared board words) (k : ℕ) (low : k < 4)
+    (set : ℕ) (small : set < 2 ^ board.points) (counted : count_of set ≡ 3 + k) (section place : ℕ) (is : section ≡ 7 + k) (ranked : place ≡ rank_of (members set)) where
+  led_start : get_or words (1 + section) 0 ≡ start_of board (7 + k)
+  led_start = ap (λ m. get_or words (1 + m) 0) is ∙ here.starts (7 + k) (omega arith)
+
+  pub led_inside : get_or words (1 + section) 0 + place < length words
+  led_inside =
+      omega (
+        arith,
+        led_start,
+        ranked,
+        rank_inside board.points (3 + k) set few small counted,
+        start-led board k 11 (omega arith),
+        here.whole,
+      )
+
+  pub led_there : get_or words (get_or words (1 + section) 0 + place) 0 ≡ lead_of board set
+  led_there = ap (λ m. get_or words (m + place) 0) led_start ∙ ap (λ m. get_or words (start_of board (7 + k) + m) 0) ranked ∙ here.led k set low small counted

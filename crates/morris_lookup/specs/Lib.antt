@@ -1,4 +1,5 @@
 pub mod Representatives
+pub mod Prepared
 pub mod Storage
 pub mod Numberings
 pub mod Opening
@@ -6,7 +7,6 @@ pub mod Lookups
 pub mod FileSets
 pub mod Outcomes
 pub mod Lines
-pub mod Prepared
 pub mod Masks
 pub mod Digests
 pub mod Views

@@ -5,6 +5,7 @@ use Rattle.morris_index.specs.Pairs.{Counts}
 use Rattle.morris_pairs.specs.declared.layout.Layout.{Layout}
 use Rattle.morris_pairs.specs.declared.layout.Layout.TheVariants as layout
 use Rattle.morris_lookup.specs.Representatives.{representatives_of}
+use Rattle.morris_lookup.specs.Prepared.{LeadAll}
 use Rattle.morris_lookup.specs.declared.numbering.Numbering.{Numbering}
 
 -- The lists serve for a pair in a layout: in layout Classes they have the representatives of the
@@ -19,3 +20,12 @@ ServeFor board of = Serve board of.layout of.pair of.greater.now of.lesser.now
 -- the lists have fewer numbers than fill 32 bits
 abbrev pub Fits : {B : Type 0} → Numbering B → Type 0
 Fits of = (length of.greater.now < 2 ^ 32) × (length of.lesser.now < 2 ^ 32)
+
+-- The words lead the sets of a pair in a layout: in layout Classes those of its greater and of its
+-- lesser number of points.
+abbrev pub Lead : Shape → Layout → Counts → List ℕ → List ℕ → Type 0
+Lead board layout.Full c greater lesser = Unit {0}
+Lead board layout.Classes c greater lesser = LeadAll board c.greater greater × LeadAll board c.lesser lesser
+
+abbrev pub LeadFor : {B : Type 0} → Shape → Numbering B → Type 0
+LeadFor board of = Lead board of.layout of.pair of.greater_leads.now of.lesser_leads.now

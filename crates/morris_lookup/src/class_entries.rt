@@ -1,13 +1,15 @@
 //! The entries of a pair by classes, by the lists of the representatives of the classes.
-ghost use Rattle.std.specs.Prelude.{◌≡◌, ◌≢◌, ◌+◌, ◌-◌, ◌*◌, ◌<◌, ◌≤◌, ◌^◌, true, length, map};
-ghost use Rattle.morris_board.specs.Sets.{members, count_of};
-ghost use Rattle.morris_index.specs.Binomials.{choose};
-ghost use Rattle.morris_index.specs.Numbering.{rank_of, number_outside};
+ghost use Rattle.std.specs.Prelude.{◌≡◌, ◌<◌, ◌^◌, true, length};
+ghost use Rattle.morris_board.specs.Sets.{count_of};
+ghost use Rattle.morris_index.specs.Classes.{class_of, symmetry_of};
 ghost use Rattle.morris_index.specs.Pairs.{IsHalf, is_of};
 ghost use Rattle.morris_index.specs.ClassPairs.{class_half_size, class_half_index, class_size_of, class_index_of};
+ghost use Rattle.morris_lookup.specs.Prepared.{IsPrepared, LeadAll};
 ghost use Rattle.morris_lookup.specs.Representatives.{representatives_of};
 
-use crate::classes::class_of;
+use crate::classes::class_by;
+use crate::prepared::class_in;
+use crate::ranks::rank_outside;
 use morris_board::board::Geometry;
 use morris_board::position::Position;
 use morris_index::binomials::binomial;
@@ -30,9 +32,36 @@ pub fn class_size<B: Geometry>(pair: Pair<B>, greater: &[u32], lesser: &[u32]) -
     }
 }
 
-/// The entry of a position of the pair by classes, by the same lists. By other lists it is any
-/// number.
+/// The entry of a position of the pair by classes, by the same lists and by words that may lead the
+/// sets of either number of points. By other lists or words it is any number.
 pub fn class_index<B: Geometry>(
+    pair: Pair<B>,
+    greater: &[u32],
+    lesser: &[u32],
+    greater_leads: &[u32],
+    lesser_leads: &[u32],
+    position: &Position<B>,
+) -> u64
+    requires of { is_of pair position.now ≡ true }
+    requires greater { length greater.now < 2 ^ 32 }
+    requires lesser { length lesser.now < 2 ^ 32 }
+    ensures value { greater.now ≡ representatives_of B.shape pair.greater → lesser.now ≡ representatives_of B.shape pair.lesser
+        → LeadAll B.shape pair.greater greater_leads.now → LeadAll B.shape pair.lesser lesser_leads.now → result ≡ class_index_of B.shape B.POINTS pair position.now }
+    ensures few { result < 2 ^ 55 }
+{
+    let most = pair.greater();
+    if position.own().count() == most {
+        class_half_index(greater, greater_leads, position)
+    } else {
+        class_half_size::<B>(greater, most, pair.lesser())
+            + class_half_index(lesser, lesser_leads, position)
+    }
+}
+
+/// The same entry, by prepared words and the same lists in them. By other words or lists it is any
+/// number.
+pub(crate) fn class_index_in<B: Geometry>(
+    words: &[u32],
     pair: Pair<B>,
     greater: &[u32],
     lesser: &[u32],
@@ -41,15 +70,16 @@ pub fn class_index<B: Geometry>(
     requires of { is_of pair position.now ≡ true }
     requires greater { length greater.now < 2 ^ 32 }
     requires lesser { length lesser.now < 2 ^ 32 }
-    ensures value { greater.now ≡ representatives_of B.shape pair.greater → lesser.now ≡ representatives_of B.shape pair.lesser → result ≡ class_index_of B.shape B.POINTS pair position.now }
+    ensures value { IsPrepared B.shape words.now → greater.now ≡ representatives_of B.shape pair.greater → lesser.now ≡ representatives_of B.shape pair.lesser → result ≡ class_index_of B.shape B.POINTS pair position.now }
     ensures few { result < 2 ^ 55 }
 {
-    let most = pair.greater();
-    if position.own().count() == most {
-        class_half_index(pair, greater, position)
+    let (most, count) = (pair.greater(), position.own().count());
+    if count == most {
+        let (class, symmetry) = class_in::<B>(words, greater, count, position.own());
+        led_index(position, class, symmetry)
     } else {
-        class_half_size::<B>(greater, most, pair.lesser())
-            + class_half_index(pair, lesser, position)
+        let (class, symmetry) = class_in::<B>(words, lesser, count, position.own());
+        class_half_size::<B>(greater, most, pair.lesser()) + led_index(position, class, symmetry)
     }
 }
 
@@ -63,42 +93,29 @@ fn class_half_size<B: Geometry>(list: &[u32], own: u8, other: u8) -> u64
     list.len() as u64 * binomial(B::POINTS - own, other)
 }
 
-/// The number of a position's entry among those with as many stones of either player.
-fn class_half_index<B: Geometry>(pair: Pair<B>, list: &[u32], position: &Position<B>) -> u64
-    requires of { is_of pair position.now ≡ true }
+/// The number of a position's entry among those with as many stones of either player, by the list of
+/// the representatives for those of the player to move and by words that may lead these.
+fn class_half_index<B: Geometry>(list: &[u32], leads: &[u32], position: &Position<B>) -> u64
     requires few { length list.now < 2 ^ 32 }
-    ensures value { list.now ≡ representatives_of B.shape (count_of position.now.own) → result ≡ class_half_index B.shape B.POINTS position.now }
+    ensures value { list.now ≡ representatives_of B.shape (count_of position.now.own) → LeadAll B.shape (count_of position.now.own) leads.now → result ≡ class_half_index B.shape B.POINTS position.now }
     ensures few { result < 2 ^ 54 }
 {
+    let (class, symmetry) = class_by::<B>(list, leads, position.own());
+    led_index(position, class, symmetry)
+}
+
+/// The same number, by the class of the stones of the player to move and the least symmetry that
+/// leads them.
+fn led_index<B: Geometry>(position: &Position<B>, class: usize, symmetry: u8) -> u64
+    requires few { class < 2 ^ 32 }
+    requires one { symmetry < B.SYMMETRIES }
+    ensures value { class ≡ class_of B.shape position.now.own → symmetry ≡ symmetry_of B.shape position.now.own → result ≡ class_half_index B.shape B.POINTS position.now }
+    ensures few { result < 2 ^ 54 }
+{
+    // The proof learns the rules of a position where its stones are read.
+    let _ = position.own();
     let (own, other) = position.counts();
-    let (class, symmetry) = class_of::<B>(list, position.own());
     let choices = binomial(B::POINTS - own, other);
-    class as u64 * choices + other_rank(pair, &position.image(symmetry))
-}
-
-/// The rank of the opponent's points among those that the player to move leaves.
-fn other_rank<B: Geometry>(pair: Pair<B>, position: &Position<B>) -> u64
-    requires { is_of pair position.now ≡ true }
-    ensures value { result ≡ rank_of (map (number_outside position.now.own) (members position.now.other)) }
-    ensures few { result < 2 ^ 21 }
-{
-    let (own, other) = (position.own().count(), position.other().count());
-    let choices = binomial(B::POINTS - own, other);
-    (pair.index(position) - start_of(pair, own, other)) % choices
-}
-
-/// How many positions of the pair stand before those with `own` stones of the player to move and
-/// `other` of the opponent.
-fn start_of<B: Geometry>(pair: Pair<B>, own: u8, other: u8) -> u64
-    requires own { own ≤ 9 }
-    requires other { other ≤ 9 }
-    requires fits { own + other ≤ B.POINTS }
-    ensures first { own ≡ pair.greater → result ≡ 0 }
-    ensures second { own ≢ pair.greater → result ≡ choose B.POINTS other * choose (B.POINTS - other) own }
-{
-    if own == pair.greater() {
-        0
-    } else {
-        binomial(B::POINTS, other) * binomial(B::POINTS - other, own)
-    }
+    let led = position.image(symmetry);
+    class as u64 * choices + rank_outside(led.other(), led.own())
 }

@@ -1,11 +1,54 @@
 //! The class of a set of points, by the list of the representatives.
-ghost use Rattle.std.specs.Prelude.{◌≡◌, ◌≤◌, ◌<◌, ◌^◌, length};
+ghost use Rattle.std.specs.Prelude.{◌≡◌, ◌/◌, ◌%◌, ◌≤◌, ◌<◌, ◌^◌, length, slice_index, IfNone, IfSome};
 ghost use Rattle.morris_board.specs.Sets.{count_of};
 ghost use Rattle.morris_index.specs.Classes.{symmetry_of, representative_of, class_of};
+ghost use Rattle.morris_lookup.specs.Prepared.{LeadAll};
 ghost use Rattle.morris_lookup.specs.Representatives.{representatives_of};
 
+use crate::ranks::rank;
 use morris_board::board::Geometry;
 use morris_board::points::Points;
+
+/// The class of a set of points, and the least symmetry that leads the set to the representative:
+/// by its word where there are words that lead all sets of as many points, and else by the list of
+/// the representatives. By other words or another list they are any class, and any symmetry of the
+/// board.
+pub(crate) fn class_by<B: Geometry>(
+    representatives: &[u32],
+    leads: &[u32],
+    set: Points,
+) -> (usize, u8)
+    requires within { set < 2 ^ B.POINTS }
+    requires most { count_of set ≤ 9 }
+    requires few { length representatives.now < 2 ^ 32 }
+    ensures class { representatives.now ≡ representatives_of B.shape (count_of set) → LeadAll B.shape (count_of set) leads.now → result.0 ≡ class_of B.shape set }
+    ensures symmetry { LeadAll B.shape (count_of set) leads.now → result.1 ≡ symmetry_of B.shape set }
+    ensures few { result.0 < 2 ^ 32 }
+    ensures one { result.1 < B.SYMMETRIES }
+{
+    match lead_at(leads, rank(set)) {
+        None => class_of::<B>(representatives, set),
+        Some((class, symmetry)) => {
+            if symmetry < B::SYMMETRIES {
+                (class, symmetry)
+            } else {
+                class_of::<B>(representatives, set)
+            }
+        }
+    }
+}
+
+/// The class and the symmetry that the word at a place says, where there is one.
+pub(crate) fn lead_at(words: &[u32], place: u64) -> Option<(usize, u8)>
+    ensures class { IfSome result (λ led. led.0 ≡ slice_index words.now place / 16) }
+    ensures symmetry { IfSome result (λ led. led.1 ≡ slice_index words.now place % 16) }
+    ensures few { IfSome result (λ led. led.0 < 2 ^ 28) }
+    ensures inside { IfSome result (λ _. place < length words.now) }
+    ensures outside { IfNone result (length words.now ≤ place) }
+{
+    let lead = words.get(place as usize)?;
+    Some(((*lead / 16) as usize, (*lead % 16) as u8))
+}
 
 /// The class of a set of points, where the representatives of the classes of sets of as many points
 /// are listed in ascending order of their masks; and the least symmetry that leads the set to that

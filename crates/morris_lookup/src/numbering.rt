@@ -2,9 +2,11 @@
 ghost use Rattle.std.specs.Prelude.{◌≡◌, ◌<◌, ◌≤◌, ◌^◌, true, IfOk, IsOk};
 ghost use Rattle.morris_index.specs.Pairs.{IsPair, is_of};
 ghost use Rattle.morris_pairs.specs.Entries.{entry_count, entry_index};
-ghost use Rattle.morris_lookup.specs.Numberings.{Serve, ServeFor, Fits};
+ghost use Rattle.morris_lookup.specs.Numberings.{Serve, ServeFor, Lead, LeadFor, Fits};
+ghost use Rattle.morris_lookup.specs.Prepared.{IsPrepared};
 
-use crate::class_entries::{class_index, class_size};
+use crate::class_entries::{class_index, class_index_in, class_size};
+use crate::leads::leads;
 use crate::representatives::representatives;
 use morris_board::board::Geometry;
 use morris_board::position::Position;
@@ -21,6 +23,9 @@ pub(crate) struct Numbering<'a, B: Geometry> {
     pub(crate) pair: Pair<B>,
     pub(crate) greater: &'a [u32],
     pub(crate) lesser: &'a [u32],
+    /// Words that lead the sets of either number of points, or nothing.
+    pub(crate) greater_leads: &'a [u32],
+    pub(crate) lesser_leads: &'a [u32],
 }
 
 impl<B: Geometry> Numbering<'_, B> {
@@ -40,8 +45,8 @@ impl<B: Geometry> Numbering<'_, B> {
     pub(crate) fn entry(&self, position: &Position<B>) -> u64
         requires fits { Fits self.now }
         requires of { is_of self.now.pair position.now ≡ true }
-        ensures value { ServeFor B.shape self.now → result ≡ entry_index B.shape B.POINTS self.now.layout self.now.pair position.now }
-        ensures below { ServeFor B.shape self.now → result < entry_count B.shape B.POINTS self.now.layout self.now.pair }
+        ensures value { ServeFor B.shape self.now → LeadFor B.shape self.now → result ≡ entry_index B.shape B.POINTS self.now.layout self.now.pair position.now }
+        ensures below { ServeFor B.shape self.now → LeadFor B.shape self.now → result < entry_count B.shape B.POINTS self.now.layout self.now.pair }
         ensures few { result < 2 ^ 55 }
     {
         // The proof learns the rules of a position where its stones are read, and how many entries
@@ -50,7 +55,35 @@ impl<B: Geometry> Numbering<'_, B> {
         let _ = self.pair.size();
         match self.layout {
             Layout::Full => self.pair.index(position),
-            Layout::Classes => class_index(self.pair, self.greater, self.lesser, position),
+            Layout::Classes => class_index(
+                self.pair,
+                self.greater,
+                self.lesser,
+                self.greater_leads,
+                self.lesser_leads,
+                position,
+            ),
+        }
+    }
+
+    /// The same entry, by words that are prepared ones in layout `Classes`, where the lists stand in
+    /// them.
+    pub(crate) fn entry_in(&self, words: &[u32], position: &Position<B>) -> u64
+        requires fits { Fits self.now }
+        requires of { is_of self.now.pair position.now ≡ true }
+        ensures value { (self.now.layout ≡ Layout.Classes → IsPrepared B.shape words.now) → ServeFor B.shape self.now → result ≡ entry_index B.shape B.POINTS self.now.layout self.now.pair position.now }
+        ensures below { (self.now.layout ≡ Layout.Classes → IsPrepared B.shape words.now) → ServeFor B.shape self.now → result < entry_count B.shape B.POINTS self.now.layout self.now.pair }
+        ensures few { result < 2 ^ 55 }
+    {
+        // The proof learns the rules of a position where its stones are read, and how many entries
+        // there may be.
+        let _ = position.own();
+        let _ = self.pair.size();
+        match self.layout {
+            Layout::Full => self.pair.index(position),
+            Layout::Classes => {
+                class_index_in(words, self.pair, self.greater, self.lesser, position)
+            }
         }
     }
 }
@@ -79,5 +112,31 @@ pub(crate) fn lists_of<B: Geometry>(
             };
             Ok((greater, lesser))
         }
+    }
+}
+
+/// Words that lead the sets of the numbers of points of a pair in a layout, by the lists that its
+/// entries go by: 4 bytes for each set of few points, and nothing for sets of more and in layout
+/// `Full`.
+///
+/// # Errors
+/// [`AllocError`] where memory runs out, which isn't asked for in layout `Full`.
+pub(crate) fn leads_of<B: Geometry>(
+    alloc: Global,
+    layout: Layout,
+    pair: Pair<B>,
+    greater: &[u32],
+    lesser: &[u32],
+) -> Result<(Vec<u32>, Vec<u32>), AllocError>
+    requires { Serve B.shape layout pair greater.now lesser.now }
+    ensures lead { IfOk result (λ leads. Lead B.shape layout pair leads.0.items leads.1.items) }
+    ensures full { layout ≡ Layout.Full → IsOk result }
+{
+    match layout {
+        Layout::Full => Ok((Vec::new(alloc), Vec::new(alloc))),
+        Layout::Classes => Ok((
+            leads::<B>(alloc, pair.greater(), greater)?,
+            leads::<B>(alloc, pair.lesser(), lesser)?,
+        )),
     }
 }

@@ -11,7 +11,7 @@ ghost use Rattle.morris_lookup.specs.Lookups.{code_for, depth_of, IsExactFile};
 
 use crate::fault::OpenFault;
 use crate::framing::{bear_out, header_of};
-use crate::numbering::{Numbering, lists_of};
+use crate::numbering::{Numbering, leads_of, lists_of};
 use crate::storage::Storage;
 use morris_board::board::Geometry;
 use morris_board::position::Position;
@@ -35,11 +35,14 @@ pub struct Opened<B: Geometry, S: Storage> {
     /// of the lesser one, in layout `Classes`.
     greater: Vec<u32>,
     lesser: Vec<u32>,
+    /// Words that lead the sets of either number of points, where these are few.
+    greater_leads: Vec<u32>,
+    lesser_leads: Vec<u32>,
     storage: S,
 }
 
 impl<B: Geometry, S: Storage> Model for Opened<B, S> {
-    ghost use Rattle.morris_lookup.specs.Numberings.{Serve};
+    ghost use Rattle.morris_lookup.specs.Numberings.{Serve, Lead};
     ghost use Rattle.morris_lookup.specs.Opening.{OpenFile, open_file, IsOpen};
 
     ghost Value = { OpenFile };
@@ -47,7 +50,8 @@ impl<B: Geometry, S: Storage> Model for Opened<B, S> {
     ghost view = { λ file. open_file file.layout file.pair (S.contents file.storage) };
 
     ghost invariant = { λ file. IsOpen B.shape (open_file file.layout file.pair (S.contents file.storage))
-        × Serve B.shape file.layout file.pair file.greater.items file.lesser.items };
+        × Serve B.shape file.layout file.pair file.greater.items file.lesser.items
+        × Lead B.shape file.layout file.pair file.greater_leads.items file.lesser_leads.items };
 }
 
 impl<B: Geometry, S: Storage> Opened<B, S> {
@@ -73,6 +77,8 @@ impl<B: Geometry, S: Storage> Opened<B, S> {
             pair: self.pair,
             greater: self.greater.as_slice(),
             lesser: self.lesser.as_slice(),
+            greater_leads: self.greater_leads.as_slice(),
+            lesser_leads: self.lesser_leads.as_slice(),
         };
         numbering.entry(position)
     }
@@ -161,11 +167,20 @@ fn frame<B: Geometry, S: Storage + Drop>(
     // The proof learns the pair's invariant where a number is asked for.
     let _ = pair.greater();
     let (greater, lesser) = lists_of(alloc, layout, pair)?;
+    let (greater_leads, lesser_leads) = leads_of(
+        alloc,
+        layout,
+        pair,
+        greater.as_slice(),
+        lesser.as_slice(),
+    )?;
     let numbering = Numbering {
         layout,
         pair,
         greater: greater.as_slice(),
         lesser: lesser.as_slice(),
+        greater_leads: greater_leads.as_slice(),
+        lesser_leads: lesser_leads.as_slice(),
     };
     bear_out(header.entries, length, numbering.count())?;
     Ok(Opened {
@@ -173,6 +188,8 @@ fn frame<B: Geometry, S: Storage + Drop>(
         pair,
         greater,
         lesser,
+        greater_leads,
+        lesser_leads,
         storage,
     })
 }

@@ -87,9 +87,11 @@ fn value_of_file<B: Geometry>(
         pair,
         greater,
         lesser,
+        greater_leads: &words[..0],
+        lesser_leads: &words[..0],
     };
     bear_out(header.entries, length, numbering.count())?;
-    match code_at(bytes, numbering.entry(position)) {
+    match code_at(bytes, numbering.entry_in(words, position)) {
         // The entry lies in the file where the words are prepared ones.
         None => Err(ViewFault::Words),
         Some(code) => Ok(value_of_code(code)),

@@ -9,6 +9,7 @@ mod line;
 pub mod lines;
 pub mod lookup;
 pub mod memory;
+pub mod pages;
 pub mod print;
 mod send;
 pub mod show;

@@ -2,6 +2,7 @@
 ghost use Rattle.std.specs.Prelude.{◌≡◌, None};
 
 use crate::library::{Library, Unfound, Unopened};
+use crate::pages::PagedFile;
 use morris_files::reason::Reason;
 use std::alloc::AllocError;
 use std::fs::{File, Metadata};
@@ -84,7 +85,7 @@ impl<'a, R: Files<File = File> + AllocGlobal> SystemLibrary<'a, R> {
 }
 
 impl<'a, R: Files<File = File> + AllocGlobal> Library for SystemLibrary<'a, R> {
-    type Bytes = File;
+    type Bytes = PagedFile;
 
     ghost files = { λ _. None };
 
@@ -98,12 +99,15 @@ impl<'a, R: Files<File = File> + AllocGlobal> Library for SystemLibrary<'a, R> {
         }
     }
 
-    fn open(&mut self, name: &str) -> Result<Option<File>, Unopened> {
+    fn open(&mut self, name: &str) -> Result<Option<PagedFile>, Unopened> {
         let Ok(path) = self.path_of(name) else {
             return Err(Unopened::Memory);
         };
         match self.open_regular(path.as_str()) {
-            Ok(file) => Ok(Some(file)),
+            Ok(file) => match PagedFile::new(self.rt.alloc(), file) {
+                Ok(paged) => Ok(Some(paged)),
+                Err(_) => Err(Unopened::Memory),
+            },
             Err(fault) => match fault.kind() {
                 ErrorKind::NotFound => Ok(None),
                 ErrorKind::OutOfMemory => Err(Unopened::Memory),

@@ -26,16 +26,26 @@ returns-in_err-greater-clause-refused g c =
     (frame_roomless g.B.Geometry.shape c.in_ok-header.header c.in_ok-header.length c.in_ok-layout.layout c.in_ok-layout.pair c.in_ok-layout.ensures.value (g.S.Storage.contents c.args.storage)
     c.in_ok-header.ensures.found (λ full. false≢true (c.in_err-greater.ensures.full full)))
 
+pub leads_of-requires : goal.leads_of-requires
+leads_of-requires g c = rw (c.as_slice.ensures.value, c.as_slice-2.ensures.value) c.in_ok-greater.ensures.serve
+
+pub returns-in_err-greater_leads-clause-refused : goal.returns-in_err-greater_leads-clause-refused
+returns-in_err-greater_leads-clause-refused g c =
+    let failed = err_from_is_err_and c.from_residual-in_err-greater_leads.result c.from_residual-in_err-greater_leads.ensures.1 in
+    rw (failed.1, failed.2)
+    (frame_roomless g.B.Geometry.shape c.in_ok-header.header c.in_ok-header.length c.in_ok-layout.layout c.in_ok-layout.pair c.in_ok-layout.ensures.value (g.S.Storage.contents c.args.storage)
+    c.in_ok-header.ensures.found (λ full. false≢true (c.in_err-greater_leads.ensures.full full)))
+
 pub count-requires : goal.count-requires
 count-requires g c =
     let low : g.B.Geometry.shape.points ≤ 24 = omega (arith, g.met.B.Geometry.few, g.met.B.Geometry.point_count) in
     let few = serve_few g.B.Geometry.shape low c.in_ok-layout.layout c.in_ok-layout.pair c.in_ok-greater.greater.items c.in_ok-greater.lesser.items c.in_ok-greater.ensures.serve in
-    (omega (arith, ap length c.as_slice.ensures.value, few.0), omega (arith, ap length c.as_slice-2.ensures.value, few.1))
+    (omega (arith, ap length c.as_slice-3.ensures.value, few.0), omega (arith, ap length c.as_slice-4.ensures.value, few.1))
 
 pub returns-in_err-bear_out-clause-refused : goal.returns-in_err-bear_out-clause-refused
 returns-in_err-bear_out-clause-refused g c =
-    let serve : Serve g.B.Geometry.shape c.in_ok-layout.layout c.in_ok-layout.pair c.as_slice.result.now c.as_slice-2.result.now =
-    rw (c.as_slice.ensures.value, c.as_slice-2.ensures.value) c.in_ok-greater.ensures.serve in
+    let serve : Serve g.B.Geometry.shape c.in_ok-layout.layout c.in_ok-layout.pair c.as_slice-3.result.now c.as_slice-4.result.now =
+    rw (c.as_slice-3.ensures.value, c.as_slice-4.ensures.value) c.in_ok-greater.ensures.serve in
     let failed = err_from_is_err_and c.from_residual-in_err-bear_out.result c.from_residual-in_err-bear_out.ensures.1 in
     rw (failed.1, failed.2)
     (frame_not_borne g.B.Geometry.shape c.in_ok-header.header c.in_ok-header.length (c.in_ok-layout.layout, c.in_ok-layout.pair) c.in_ok-layout.ensures.value g.B.Geometry.POINTS
@@ -44,8 +54,8 @@ returns-in_err-bear_out-clause-refused g c =
 
 pub invariant_of-result : goal.invariant_of-result
 invariant_of-result g c =
-    let serve : Serve g.B.Geometry.shape c.in_ok-layout.layout c.in_ok-layout.pair c.as_slice.result.now c.as_slice-2.result.now =
-    rw (c.as_slice.ensures.value, c.as_slice-2.ensures.value) c.in_ok-greater.ensures.serve in (
+    let serve : Serve g.B.Geometry.shape c.in_ok-layout.layout c.in_ok-layout.pair c.as_slice-3.result.now c.as_slice-4.result.now =
+    rw (c.as_slice-3.ensures.value, c.as_slice-4.ensures.value) c.in_ok-greater.ensures.serve in (
       record {
         lawful = subst (λ n. IsPair n c.in_ok-layout.pair) (sym g.met.B.Geometry.point_count) c.greater.ensures.lawful;
         framed = frame_found g.B.Geometry.shape c.in_ok-header.header c.in_ok-header.length (c.in_ok-layout.layout, c.in_ok-layout.pair) c.in_ok-layout.ensures.value g.B.Geometry.POINTS
@@ -53,6 +63,7 @@ invariant_of-result g c =
             c.in_ok-bear_out.ensures;
       },
       c.in_ok-greater.ensures.serve,
+      c.in_ok-greater_leads.ensures.lead,
     )
 
 pub returns-clause-right : goal.returns-clause-right

@@ -1,21 +1,24 @@
-use Rattle.std.proofs.Common.{◌≡◌, ◌+◌, suc, ap, sym, arith}
+use Rattle.std.proofs.Common.{◌≡◌, ◌+◌, suc, ap, arith}
+use Rattle.morris_index.specs.Binomials.{choose}
 use Rattle.morris_lookup.specs.Prepared.{start_of}
-use Rattle.morris_lookup.proofs.PreparedLaws.{start-zero, start-suc}
+use Rattle.morris_lookup.proofs.PreparedLaws.{start-suc, size-led}
 use Rattle.morris_lookup.proofs.prepared.prepared_count.Goals as goal
 
 pub loop-k-init : goal.loop-k-init
-loop-k-init g c = record { ends = sym (start-zero g.B.Geometry.shape); few = omega arith }
+loop-k-init g c = record { ends = c.listed_count-end.ensures.value; few = omega (arith, c.listed_count-end.ensures.few) }
 
 pub loop-k-preserved : goal.loop-k-preserved
 loop-k-preserved g c =
-    let next : suc c.loop-k.k ≡ c.loop-k.k + 1 = omega arith in
+    let next : suc (7 + c.loop-k.k) ≡ 7 + (c.loop-k.k + 1) = omega arith in
     record {
       ends = omega (
         arith,
         c.loop-k.invariant.ends,
-        c.representative_count-end.ensures.value,
-        start-suc g.B.Geometry.shape c.loop-k.k,
+        c.set_count-end.ensures.value,
+        ap (λ n. choose n (3 + c.loop-k.k)) g.met.B.Geometry.point_count,
+        start-suc g.B.Geometry.shape (7 + c.loop-k.k),
+        size-led g.B.Geometry.shape c.loop-k.k,
         ap (start_of g.B.Geometry.shape) next,
       );
-      few = omega (arith, c.loop-k.invariant.few, c.representative_count-end.ensures.few);
+      few = omega (arith, c.loop-k.invariant.few, c.set_count-end.ensures.few);
     }

@@ -8,7 +8,7 @@ returns-then-words-lt-HEADING-clause-found g c = (
   refl,
   λ here. elim c.then-words-lt-HEADING.branch [
     | then-words-lt-HEADING-via-then-words-lt-HEADING w ↦
-        absurd (omega (arith, w.if-words-lt-HEADING.true, here.whole, start-least g.B.Geometry.shape 7))
+        absurd (omega (arith, w.if-words-lt-HEADING.true, here.whole, start-least g.B.Geometry.shape 11))
     | then-words-lt-HEADING-via-else-words-lt-HEADING+then-words-from w ↦
         w.if-words-from.true (here.first ∙ omega (arith, w.from.ensures, w.ID.ensures, g.met.B.Geometry.file_id))
   ],

@@ -1,5 +1,5 @@
 use Rattle.std.proofs.Common.{◌≤◌, length, ap, arith}
-use Rattle.morris_lookup.specs.Numberings.{Serve}
+use Rattle.morris_lookup.specs.Numberings.{Serve, Lead}
 use Rattle.morris_lookup.proofs.EntryLaws.{serve_few}
 use Rattle.morris_lookup.proofs.opened.Opened.entry.Goals as goal
 
@@ -16,10 +16,14 @@ pub returns-clause-value : goal.returns-clause-value
 returns-clause-value g c =
     let serve : Serve g.B.Geometry.shape c.self.inside.layout c.self.inside.pair c.as_slice.result.now c.as_slice-2.result.now =
     rw (c.as_slice.ensures.value, c.as_slice-2.ensures.value) c.self.invariant.1 in
-    rw (← c.self.view_is) (c.entry.ensures.value serve)
+    let lead : Lead g.B.Geometry.shape c.self.inside.layout c.self.inside.pair c.as_slice-3.result.now c.as_slice-4.result.now =
+    rw (c.as_slice-3.ensures.value, c.as_slice-4.ensures.value) c.self.invariant.2 in
+    rw (← c.self.view_is) (c.entry.ensures.value serve lead)
 
 pub returns-clause-below : goal.returns-clause-below
 returns-clause-below g c =
     let serve : Serve g.B.Geometry.shape c.self.inside.layout c.self.inside.pair c.as_slice.result.now c.as_slice-2.result.now =
     rw (c.as_slice.ensures.value, c.as_slice-2.ensures.value) c.self.invariant.1 in
-    rw (← c.self.view_is) (c.entry.ensures.below serve)
+    let lead : Lead g.B.Geometry.shape c.self.inside.layout c.self.inside.pair c.as_slice-3.result.now c.as_slice-4.result.now =
+    rw (c.as_slice-3.ensures.value, c.as_slice-4.ensures.value) c.self.invariant.2 in
+    rw (← c.self.view_is) (c.entry.ensures.below serve lead)

@@ -1,0 +1,33 @@
+use Rattle.std.proofs.Common.{◌≡◌, ◌+◌, ◌*◌, ◌≤◌, ◌<◌, ◌^◌, map, refl, ◌∙◌, sym, ap, ap₂, subst, arith}
+use Rattle.morris_board.specs.Sets.{members}
+use Rattle.morris_board.specs.Symmetries.{image_sides}
+use Rattle.morris_index.specs.Numbering.{rank_of, number_outside}
+use Rattle.morris_index.specs.ClassPairs.{led, class_half_index}
+use Rattle.morris_index.proofs.IndexLaws.{within_24}
+use Rattle.morris_lookup.proofs.EntryLaws.{stones_fit}
+use Rattle.morris_lookup.proofs.class_entries.led_index.Goals as goal
+
+pub overflow_sub-POINTS : goal.overflow_sub-POINTS
+overflow_sub-POINTS g c =
+    omega (
+      arith,
+      stones_fit g.B.Geometry.shape g.B.Geometry.POINTS (omega (arith, g.met.B.Geometry.few)) g.met.B.Geometry.point_count c.args.position.now c.own.ensures.lawful,
+      c.counts-own.ensures.own,
+      c.POINTS.ensures,
+    )
+
+pub rank_outside-requires-clause-board : goal.rank_outside-requires-clause-board
+rank_outside-requires-clause-board g c =
+    let few : g.B.Geometry.shape.points ≤ 24 = omega (arith, g.met.B.Geometry.few, g.met.B.Geometry.point_count) in
+    subst (λ x. x < 2 ^ 24) (sym c.other.ensures.points) (within_24 c.image-led.result.other g.B.Geometry.shape.points c.image-led.ensures.lawful.stones.other_within few)
+
+pub returns-clause-value : goal.returns-clause-value
+unfolding led class_half_index
+returns-clause-value g c = λ class symmetry.
+    let led_is : c.image-led.result ≡ led g.B.Geometry.shape c.args.position.now =
+    c.image-led.ensures.image ∙ ap (λ s. image_sides (g.B.Geometry.shape.image s) c.args.position.now) symmetry in
+    ap₂ (λ a b. a + b)
+    (ap₂ (λ a b. a * b) class (rw (c.binomial-choices.ensures.value, c.POINTS.ensures, c.counts-own.ensures.own, c.counts-own.ensures.other) refl))
+    (c.rank_outside.ensures.value
+    ∙ ap₂ (λ own other. rank_of (map (number_outside own) (members other))) c.own-2.ensures.points c.other.ensures.points
+    ∙ ap (λ s. rank_of (map (number_outside s.own) (members s.other))) led_is)

@@ -1,0 +1,10 @@
+use Rattle.std.proofs.Common.{arith}
+use Rattle.morris_index.proofs.ClassPairLaws.{index-lt}
+use Rattle.morris_lookup.proofs.numbering.Numbering.entry_in.Goals as goal
+
+pub returns-in-Classes-clause-below : goal.returns-in-Classes-clause-below
+returns-in-Classes-clause-below g c = λ prepared serve.
+    let right = rw c.in-Classes.is at serve in
+    let below = index-lt g.B.Geometry.shape g.B.Geometry.POINTS (omega (arith, g.met.B.Geometry.few)) g.met.B.Geometry.point_count g.met.B.Geometry.has_symmetries c.args.self.now.pair
+    c.args.position.now c.own.ensures.lawful c.requires.of in
+    rw c.in-Classes.is (omega (arith, below, c.class_index_in.ensures.value (prepared c.in-Classes.is) right.0 right.1))

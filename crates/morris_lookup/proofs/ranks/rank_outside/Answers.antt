@@ -1,0 +1,52 @@
+use Rattle.std.proofs.Common.{◌≡◌, ◌∷◌, [], map, refl, ap, ◌∙◌, arith, length-append, length}
+use Rattle.morris_board.specs.Sets.{members, count_of}
+use Rattle.morris_index.specs.Numbering.{rank_of, number_outside}
+use Rattle.morris_index.proofs.SumLaws.{next_point}
+use Rattle.morris_lookup.proofs.SetRanks.{rank_more, none_left}
+use Rattle.morris_lookup.proofs.ranks.rank_outside.Goals as goal
+
+pub loop-point-init : goal.loop-point-init
+unfolding rank_of
+loop-point-init c = record {
+  split = ap members (c.into_iter-point-iterator.ensures.into_iter_gives ∙ c.iter-point-items.ensures.points);
+  placed = refl;
+  rank = refl;
+  small = omega arith;
+}
+
+pub number_outside-requires : goal.number_outside-requires
+number_outside-requires c =
+    let next = next_point c.args.set c.in-Some.point c.loop-point.yielded _ _ c.requires.board c.requires.few c.loop-point.invariant.split c.in-Some.ensures.steps in
+    omega (arith, next.low)
+
+pub binomial-rank-requires-clause-things : goal.binomial-rank-requires-clause-things
+binomial-rank-requires-clause-things c =
+    let next = next_point c.args.set c.in-Some.point c.loop-point.yielded _ _ c.requires.board c.requires.few c.loop-point.invariant.split c.in-Some.ensures.steps in
+    omega (arith, next.low, c.number_outside.ensures.few)
+
+pub binomial-rank-requires-clause-chosen : goal.binomial-rank-requires-clause-chosen
+binomial-rank-requires-clause-chosen c =
+    let next = next_point c.args.set c.in-Some.point c.loop-point.yielded _ _ c.requires.board c.requires.few c.loop-point.invariant.split c.in-Some.ensures.steps in
+    omega (arith, next.few, c.loop-point.invariant.placed)
+
+pub loop-point-preserved : goal.loop-point-preserved
+loop-point-preserved c =
+    let next = next_point c.args.set c.in-Some.point c.loop-point.yielded _ _ c.requires.board c.requires.few c.loop-point.invariant.split c.in-Some.ensures.steps in
+    record {
+      split = next.split;
+      placed = omega (arith, c.loop-point.invariant.placed, length-append c.loop-point.yielded (c.in-Some.point ∷ []));
+      rank = rank_more (number_outside c.args.outside) c.loop-point.yielded c.in-Some.point c.number_outside.result c.loop-point.place c.loop-point.rank c.binomial-rank.result
+          c.loop-point.invariant.rank c.loop-point.invariant.placed c.number_outside.ensures.value c.binomial-rank.ensures.value;
+      small = omega (arith, c.loop-point.invariant.small, c.binomial-rank.ensures.few);
+    }
+
+pub returns-clause-value : goal.returns-clause-value
+returns-clause-value c =
+    c.loop-point.invariant.rank
+    ∙ ap (λ ps. rank_of (map (number_outside c.args.outside) ps)) (none_left c.loop-point.yielded _ _ c.loop-point.invariant.split c.in-None.ensures.steps.0)
+
+pub returns-clause-few : goal.returns-clause-few
+unfolding count_of
+returns-clause-few c =
+    let all : length c.loop-point.yielded ≡ length (members c.args.set) = ap length (none_left c.loop-point.yielded _ _ c.loop-point.invariant.split c.in-None.ensures.steps.0) in
+    omega (arith, c.loop-point.invariant.small, c.loop-point.invariant.placed, all, c.requires.few)
