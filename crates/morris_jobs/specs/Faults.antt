@@ -2,7 +2,7 @@
 use Rattle.std.specs.Prelude.{◌≡◌, ℕ, ◌+◌, ◌<◌, ◌==◌, Bool, true, false, List, [], ◌∷◌, ◌++◌, length, take, codes, Option, Some, None, Result, Ok, Err, if◌then◌else◌}
 use Rattle.std.specs.Fmt.{decimal}
 use Rattle.std.specs.Io.KnownBytes.{Appends}
-use Rattle.morris_board.specs.Streams.{CountsFailure}
+use Rattle.morris_board.specs.Streams.{AllSent, CountsFailure, PartSent}
 use Rattle.morris_board.specs.declared.faults.TextFault.{TextFault}
 use Rattle.morris_board.specs.declared.faults.TextFault.TheVariants as text
 use Rattle.morris_index.specs.declared.faults.PairFault.{PairFault}
@@ -250,6 +250,12 @@ abbrev pub Prints : {T : Type 0} → Option (List ℕ) → Option (List ℕ) →
 Prints old new printed (Ok done) = Appends old new printed
 Prints old new printed (Err (fault.Write sent)) = (sent < length printed) × Appends old new (take sent printed)
 Prints old new printed (Err _) = ⊥
+
+-- a line is printed where `sent` bytes were before, or its first bytes are
+abbrev pub PrintsLine : List ℕ → ℕ → Option (List ℕ) → Option (List ℕ) → Result ℕ Fault → Type 0
+PrintsLine text sent old new (Ok now) = AllSent old new sent now text
+PrintsLine text sent old new (Err (fault.Write now)) = PartSent old new sent now text
+PrintsLine text sent old new (Err _) = ⊥
 
 -- whether the answer says that a write failed
 abbrev pub is_write : Fault → Bool
