@@ -1,5 +1,5 @@
 //! The command line: from its words to what goes out, and the exit status.
-ghost use Rattle.std.specs.Prelude.{◌≡◌, ◌≢◌, ◌-◌, ◌^◌, ◌<◌, ◌≤◌, ◌==◌, [], IsTrue, false, length, map, if◌then◌else◌};
+ghost use Rattle.std.specs.Prelude.{◌≡◌, ◌≢◌, ◌-◌, ◌^◌, ◌<◌, ◌≤◌, ◌==◌, IsTrue, false, length, map, if◌then◌else◌};
 ghost use Rattle.morris_jobs.specs.Faults.{ReportsFault, ReportsText};
 ghost use Rattle.morris_jobs.specs.declared.fault.Fault.TheVariants as fault;
 ghost use Rattle.morris_words.specs.Words.{IsInRange, faults_of, named_by};

@@ -8,22 +8,18 @@ use Rattle.morris_jobs.specs.declared.fault.Fault.{Fault}
 use Rattle.morris_jobs.specs.declared.fault.Fault.TheVariants as fault
 use Rattle.morris_jobs.specs.Inputs.{IsUnfit}
 use Rattle.morris_commands.specs.Build.{IsUnbuiltBefore, RestsOnTooDeep}
-use Rattle.morris_commands.specs.Verify.{IsUnverified, IsWrong}
+use Rattle.morris_commands.specs.Verify.{IsUnverified}
 
--- the pairs below aren't built; or they are, and the table isn't right
+-- the pairs below aren't built
 pub unbelieved_before : (board : Shape) (t : Table) (blocks : ℕ) (e : Fault) → IsUnbuiltBefore board t.pair blocks e → IsUnverified board t blocks e
 unbelieved_before board t blocks (fault.Differs index) h = absurd h
 unbelieved_before board t blocks _ h = h
 
-pub unbelieved_itself : (board : Shape) (t : Table) (blocks : ℕ) → ¬ RestsOnTooDeep board t.pair → (e : Fault) → IsWrong board t e → IsUnverified board t blocks e
-unbelieved_itself board t blocks within (fault.Differs index) h = (within, h)
-unbelieved_itself board t blocks within _ h = absurd h
-
--- the pairs below are swept, so that none is missing, and the table isn't right over theirs
-pub unfit : (board : Shape) (t : Table) (shelf : Stored) (e : Fault) → ¬ RestsOnTooDeep board t.pair → first_missing shelf t.pair ≡ None
-    → IsUnfit board shelf t e → IsUnverified board t 0 e
-unfit board t shelf (fault.Needs greater lesser) within ready h =
+-- or they are, so that none is missing, and the table isn't right over theirs
+pub unfit : (board : Shape) (t : Table) (shelf : Stored) (blocks : ℕ) (e : Fault) → ¬ RestsOnTooDeep board t.pair → first_missing shelf t.pair ≡ None
+    → IsUnfit board shelf t e → IsUnverified board t blocks e
+unfit board t shelf blocks (fault.Needs greater lesser) within ready h =
     let bad : None ≡ Some (counts greater lesser) = sym ready ∙ h in
     cc
-unfit board t shelf (fault.Differs index) within ready h = (within, h.1)
-unfit board t shelf _ within ready h = absurd h
+unfit board t shelf blocks (fault.Differs index) within ready h = (within, h.1)
+unfit board t shelf blocks _ within ready h = absurd h

@@ -1,5 +1,4 @@
 pub mod StatsLaws
-mod BundleLaws
 pub mod BuildLaws
 mod OwnLaws
 mod AloneLaws

@@ -1,5 +1,5 @@
 -- What `look` prints of a position.
-use Rattle.std.specs.Prelude.{◌≡◌, ℕ, List, ◌++◌, length, codes, Option, Result}
+use Rattle.std.specs.Prelude.{ℕ, List, ◌++◌, length, codes, Option, Result}
 use Rattle.std.specs.List.{flat_map}
 use Rattle.std.specs.Fmt.{decimal}
 use Rattle.std.specs.Io.KnownBytes.{Keeps}

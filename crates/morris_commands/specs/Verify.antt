@@ -1,10 +1,7 @@
 -- What `verify` answers of the bytes of its input, and what it prints.
-use Rattle.std.specs.Prelude.{◌≡◌, ◌≢◌, ◌⊎◌, ⊤, ℕ, ◌-◌, ◌^◌, ◌<◌, List, ◌++◌, length, codes, Option, Some, None, Result, Ok, Err}
-use Rattle.std.specs.Fmt.{decimal}
-use Rattle.std.specs.List.{Contains}
+use Rattle.std.specs.Prelude.{◌≡◌, ◌⊎◌, ℕ, List, length, Option, Result, Err}
 use Rattle.std.specs.Io.KnownBytes.{Keeps}
 use Rattle.morris_board.specs.Boards.{Shape}
-use Rattle.morris_index.specs.Pairs.{Counts, below_of, pair_text}
 use Rattle.morris_pairs.specs.Tables.{IsTable, Table}
 use Rattle.morris_pairs.specs.Agreement.{IsFirstToDiffer}
 use Rattle.morris_pairs.specs.FileReading.{CountsRead, MayTakeRoom, Reads, StandsInFile, bytes_past, only_file_in}
@@ -17,12 +14,6 @@ use Rattle.morris_jobs.specs.Inputs.{Input}
 use Rattle.morris_jobs.specs.Verified.{verified_text}
 use Rattle.morris_jobs.specs.Answering.{OnBoard, OnRead}
 use Rattle.morris_commands.specs.Build.{IsUnbuiltBefore, RestsOnTooDeep}
-
--- why a table that was read isn't right: the first entry that isn't what the rules give from those
--- of its results
-abbrev pub IsWrong : Shape → Table → Fault → Type 0
-IsWrong board t (fault.Differs index) = IsFirstToDiffer board t index
-IsWrong board t _ = ⊥
 
 -- Why a table that was read isn't believed: the pairs on which its own rests aren't built; or, where
 -- codes suffice for them, the first entry that isn't what the rules give from those of its results.

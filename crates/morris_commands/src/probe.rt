@@ -130,21 +130,21 @@ fn load_bundle<B: Board, I: Source, T: Teller>(
 ) -> Result<Shelf<B>, Fault>
     requires { I.failures input.old < 2 ^ 64 - 1 }
     ensures loaded { LoadsBundle B.shape (input_of (I.remaining input.old) (I.failures input.old))
-        (result, input_of (I.remaining input.new) (I.failures input.new)) }
+        (input_of (I.remaining input.new) (I.failures input.new)) result }
     ensures unwritten { IfErr result (λ refused. is_write refused ≡ false) }
     ensures told { T.becomes teller.old teller.new }
 {
     let mut shelf = Shelf::new(alloc)?;
-    for _ in 0..MOST_FILES {
-        match read_next::<B, I>(alloc, input)? {
-            Some(raw) => join_shelf(&mut shelf, raw, asked, teller)?,
-            None => return Ok(shelf),
+    for place in 0..=MOST_FILES {
+        let Some(raw) = read_next::<B, I>(alloc, input)? else {
+            return Ok(shelf);
+        };
+        if place == MOST_FILES {
+            return Err(Fault::TooMany);
         }
+        join_shelf(&mut shelf, raw, asked, teller)?;
     }
-    match read_next::<B, I>(alloc, input)? {
-        Some(_) => Err(Fault::TooMany),
-        None => Ok(shelf),
-    }
+    unreachable!()
 }
 
 /// Puts a table on the shelf once each of its entries is known to be right. What is told first goes

@@ -1,18 +1,18 @@
 //! The command `verify`.
-ghost use Rattle.std.specs.Prelude.{◌≡◌, ◌-◌, ◌^◌, ◌<◌, None, IfErr, IfOk, IfSome, OnOk};
-ghost use Rattle.morris_pairs.specs.Shelves.{first_missing};
+ghost use Rattle.std.specs.Prelude.{◌≡◌, None, IfErr, IfOk, IfSome, OnOk};
 ghost use Rattle.morris_pairs.specs.Tables.{IsTable};
 ghost use Rattle.morris_jobs.specs.Faults.{CountsWrites};
 ghost use Rattle.morris_jobs.specs.BoardNames.{board_of};
 ghost use Rattle.morris_commands.specs.Build.{RestsOnTooDeep};
-ghost use Rattle.morris_commands.specs.Verify.{AnswersInput, AnswersVerify, IsUnverified, IsWrong};
-ghost use Rattle.morris_jobs.specs.Inputs.{MayFail, input_of};
+ghost use Rattle.morris_commands.specs.Verify.{AnswersInput, AnswersVerify, IsUnverified};
+ghost use Rattle.morris_jobs.specs.Inputs.{IsUnfit, MayFail, input_of};
 
 use crate::build::build_before;
 use morris_board::board::Board;
 use morris_board::streams::{Sink, Source};
 use morris_jobs::fault::Fault;
 use morris_jobs::on_board;
+use morris_jobs::orders::verify_over;
 use morris_jobs::print::print;
 use morris_jobs::print_verified::Verified;
 use morris_jobs::size::Way;
@@ -22,7 +22,6 @@ use morris_pairs::exact::Exact;
 use morris_pairs::raw::Raw;
 use morris_pairs::reading::read_table;
 use morris_pairs::table_set::TableSet;
-use morris_pairs::verify::VerifyFault;
 use morris_table::building::build_watched;
 use morris_workers::OpenGate;
 use std::sync::Wait;
@@ -105,28 +104,21 @@ fn believe<B: Board, R: Threads + Wait + Sync, T: Teller>(
     Ok(exact)
 }
 
-/// The table that was read, once each of its entries is known to be right over a set of tables that
-/// has those that its pair needs.
+/// The table that was read, once each of its entries is known to be right over a set of tables.
 fn judge<B: Board, R: Threads + Wait + Sync, T: Teller>(
     crew: Crew<'_, R>,
     stock: &TableSet<B>,
     raw: Raw<B>,
     teller: &mut T,
 ) -> Result<Exact<B>, Fault>
-    requires ready { first_missing stock.now raw.pair ≡ None }
-    ensures exact { IfOk result (λ exact. IsTable B.shape raw) }
+    ensures exact { OnOk result (IsTable B.shape raw) }
     ensures value { IfOk result (λ exact. exact ≡ raw) }
-    ensures refused { IfErr result (IsWrong B.shape raw) }
+    ensures refused { IfErr result (IsUnfit B.shape stock.now raw) }
     ensures told { T.becomes teller.old teller.new }
 {
-    if let Some(exact) = build_alike(crew, stock, &raw, teller) {
-        return Ok(exact);
-    }
-    let Crew { rt, alloc, team } = crew;
-    match raw.verify_watched(rt, alloc, stock, team.workers, teller) {
-        Ok(exact) => Ok(exact),
-        Err((_, VerifyFault::Differs(index))) => Err(Fault::Differs(index)),
-        Err((_, VerifyFault::Needs(_))) => unreachable!(),
+    match build_alike(crew, stock, &raw, teller) {
+        Some(exact) => Ok(exact),
+        None => verify_over(crew, stock, raw, teller),
     }
 }
 

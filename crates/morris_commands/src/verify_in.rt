@@ -1,5 +1,5 @@
 //! The verification of one file on the thread of the caller.
-ghost use Rattle.std.specs.Prelude.{◌≡◌, ◌-◌, ◌^◌, ◌<◌, None, IfErr, IfOk, OnOk};
+ghost use Rattle.std.specs.Prelude.{◌≡◌, None, IfErr, IfOk, OnOk};
 ghost use Rattle.morris_pairs.specs.Tables.{IsTable};
 ghost use Rattle.morris_jobs.specs.Faults.{CountsWrites};
 ghost use Rattle.morris_jobs.specs.BoardNames.{board_of};

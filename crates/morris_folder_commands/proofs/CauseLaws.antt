@@ -1,14 +1,11 @@
 -- The cause of a refusal is that of the step that failed.
 use Rattle.std.proofs.Common.{◌≡◌, ◌≢◌, ◌⊎◌, ℕ, ◌+◌, ◌<◌, ◌≤◌, Bool, true, false, List, [], length, drop, get_or, codes, Option, Some, None, Result, Ok, Err, refl, sym, ap, subst, ◌∙◌, inl, inr, arith, length-append}
-use Rattle.std.specs.Prelude.{◌-◌, slice_index, unwrap_or, if◌then◌else◌}
+use Rattle.std.specs.Prelude.{unwrap_or}
 use Rattle.std.specs.Option.{option_map}
 use Rattle.std.proofs.lemmas.List.{drop_at}
 use Rattle.morris_board.specs.Boards.{Shape}
-use Rattle.morris_index.specs.Pairs.{Counts, pair_made}
-use Rattle.morris_index.specs.declared.faults.PairFault.{PairFault}
-use Rattle.morris_index.specs.declared.faults.PairFault.TheVariants as pairs
+use Rattle.morris_index.specs.Pairs.{Counts}
 use Rattle.morris_workers.specs.declared.fault.SolveFault.{SolveFault}
-use Rattle.morris_workers.specs.declared.fault.SolveFault.TheVariants as solve
 use Rattle.morris_pairs.specs.Shelves.{Stored}
 use Rattle.morris_pairs.specs.Tables.{Table}
 use Rattle.morris_pairs.specs.declared.file_faults.ReadFault.{ReadFault}
@@ -23,10 +20,11 @@ use Rattle.morris_files.specs.declared.old_list.ListFault.TheVariants as list
 use Rattle.morris_jobs.specs.declared.fault.Fault.{Fault}
 use Rattle.morris_jobs.specs.declared.fault.Fault.TheVariants as fault
 use Rattle.morris_jobs.specs.declared.flaw.Flaw.TheVariants as flaw
-use Rattle.morris_jobs.specs.Faults.{in_file, pair_fault, read_fault, solve_fault}
+use Rattle.morris_jobs.specs.Faults.{PrintsLine, in_file, read_fault, solve_fault}
 use Rattle.morris_jobs.specs.Inputs.{IsUnfit}
 use Rattle.morris_jobs.specs.Orders.{IsUnbuiltAt}
-use Rattle.morris_jobs.specs.PairText.{is_pair_text, pair_read, read_pair_of}
+use Rattle.morris_jobs.proofs.OrderLaws.{of_unfit, of_unread}
+use Rattle.morris_jobs.specs.PairText.{read_pair_of}
 use Rattle.morris_files.specs.Whole.{failed_in}
 use Rattle.morris_files.specs.declared.whole.NotWhole.{NotWhole}
 use Rattle.morris_files.specs.declared.whole.Step.{Step}
@@ -34,11 +32,9 @@ use Rattle.morris_files.specs.declared.whole.Step.TheVariants as step
 use Rattle.morris_files.proofs.WholeLaws.{whole_failed}
 use Rattle.morris_folder_commands.specs.Causes.{HasCause, IsCaused, MayBeLong}
 use Rattle.morris_folder_commands.specs.Entering.{list_fault}
-use Rattle.morris_folder_commands.specs.Into.{digests_fault, unwritten_fault}
+use Rattle.morris_folder_commands.specs.Into.{step_fault}
 use Rattle.morris_folder_commands.specs.Entering.{IsEntered, lock_name}
-use Rattle.morris_folder_commands.specs.Filling.{PrintsLine}
-use Rattle.morris_folder_commands.specs.From.{kept_fault}
-use Rattle.morris_folder_commands.specs.FromSteps.{TakesIn}
+use Rattle.morris_folder_commands.specs.From.{TakesIn, ended, kept_fault}
 
 -- ---- the list of digests
 
@@ -96,31 +92,24 @@ module _ {R W : Type 0} (reading : R → ℕ) (writing : W → ℕ) where
     -- ---- refusals that have nothing to do with the folder
 
     pub unbuilt_caused : (board : Shape) (c : Counts) (blocks : ℕ) (f : Fault) → IsUnbuiltAt board c blocks f → Caused f
-    unbuilt_caused board c blocks fault.Folder h = absurd h
-    unbuilt_caused board c blocks fault.NoFolder h = absurd h
-    unbuilt_caused board c blocks fault.Unlocked h = absurd h
-    unbuilt_caused board c blocks fault.Busy h = absurd h
-    unbuilt_caused board c blocks (fault.Unopened greater lesser) h = absurd h
-    unbuilt_caused board c blocks (fault.Unwritten greater lesser) h = absurd h
-    unbuilt_caused board c blocks fault.Digests h = absurd h
-    unbuilt_caused board c blocks (fault.InFile greater lesser flaw.Read) h = absurd h
-    unbuilt_caused board c blocks _ h = tt
+    unbuilt_caused board c blocks fault.Memory h = tt
+    unbuilt_caused board c blocks (fault.Missing number) h = tt
+    unbuilt_caused board c blocks fault.TooDeep h = tt
+    unbuilt_caused board c blocks _ h = absurd h
 
     pub line_caused : (text : List ℕ) (sent : ℕ) (before after : Option (List ℕ)) (f : Fault) → PrintsLine text sent before after (Err f) → Caused f
-    line_caused text sent before after fault.Folder h = absurd h
-    line_caused text sent before after fault.NoFolder h = absurd h
-    line_caused text sent before after fault.Unlocked h = absurd h
-    line_caused text sent before after fault.Busy h = absurd h
-    line_caused text sent before after (fault.Unopened greater lesser) h = absurd h
-    line_caused text sent before after (fault.Unwritten greater lesser) h = absurd h
-    line_caused text sent before after fault.Digests h = absurd h
-    line_caused text sent before after (fault.InFile greater lesser flaw.Read) h = absurd h
-    line_caused text sent before after _ h = tt
+    line_caused text sent before after (fault.Write now) h = tt
+    line_caused text sent before after _ h = absurd h
 
     unfit_caused : (board : Shape) (stock : Stored) (t : Table) (f : Fault) → IsUnfit board stock t f → Caused (in_file t.pair f)
     unfit_caused board stock t (fault.Needs greater lesser) h = tt
     unfit_caused board stock t (fault.Differs index) h = tt
     unfit_caused board stock t _ h = absurd h
+
+    -- the end, where no call failed
+    pub end_caused : (found : Bool) → new ≡ old → HasCause reading writing taken long old new (ended found)
+    end_caused true none = none
+    end_caused false none = tt
 
     -- a table that isn't taken in
     pub taken_caused : (board : Shape) (stock joined : Stored) (t : Table) (sent : ℕ) (before after : Option (List ℕ)) (f : Fault)
@@ -133,30 +122,12 @@ module _ {R W : Type 0} (reading : R → ℕ) (writing : W → ℕ) where
       | inr both ↦ line_caused _ sent before after f both.1
     ]
 
-    pair_caused : (refused : PairFault) → Caused (pair_fault refused)
-    pair_caused pairs.Counts = tt
-    pair_caused pairs.Crowded = tt
-
-    -- a text that names no pair
+    -- a text that names no pair, and numbers of workers and blocks that aren't in range
     pub text_caused : (n : ℕ) (text : List ℕ) (f : Fault) → Err f ≡ read_pair_of n text → Caused f
-    text_caused n text f e = by_test (is_pair_text text) (pair_made n (slice_index text 0 - 48) (slice_index text 2 - 48)) e
-      where
-        by_test : (b : Bool) (made : Result Counts PairFault) → Err f ≡ (if b then pair_read made else Err fault.PairText) → Caused f
-        by_test true (Ok pair) e = cc
-        by_test true (Err refused) e = let same : pair_fault refused ≡ f = cc in subst Caused same (pair_caused refused)
-        by_test false made e = let same : fault.PairText ≡ f = cc in subst Caused same tt
+    text_caused = of_unread Caused tt tt tt
 
-    solve_caused : (refused : SolveFault) → Caused (solve_fault refused)
-    solve_caused solve.Workers = tt
-    solve_caused solve.Blocks = tt
-    solve_caused solve.Memory = tt
-    solve_caused (solve.Missing number) = tt
-    solve_caused solve.TooDeep = tt
-
-    -- numbers of workers and blocks that aren't in range
-    pub team_caused : (o : Option SolveFault) (f : Fault) → option_map solve_fault o ≡ Some f → Caused f
-    team_caused None f e = cc
-    team_caused (Some refused) f e = let same : solve_fault refused ≡ f = cc in subst Caused same (solve_caused refused)
+    pub team_caused : (wrong : Option SolveFault) (f : Fault) → option_map solve_fault wrong ≡ Some f → Caused f
+    team_caused = of_unfit Caused tt tt tt (λ number. tt) tt
 
     -- ---- a file of the folder
 
@@ -181,41 +152,26 @@ module _ {R W : Type 0} (reading : R → ℕ) (writing : W → ℕ) where
         → IsCaused reading writing taken long mid new f → Caused f
     file_caused mid up c refused f is h = subst Caused (sym is) (kept_caused mid up c refused (subst (IsCaused reading writing taken long mid new) is h))
 
-    -- ---- the list of digests that isn't left
+    -- ---- a file that isn't written
 
-    unleft_caused : (old < new) ⊎ HasFailed writing → Caused fault.Digests
-    unleft_caused why = elim why [ inl low ↦ inl low | inr failed ↦ inr (inr (inl failed)) ]
-
-    pub step_caused : (f : NotWhole) → new ≡ old + failed_in f → (f.step ≡ step.Write → HasFailed writing) → Caused (digests_fault f.step)
-    step_caused f counted unwritten = by_step f.step refl
+    -- a call of the folder failed, or one of a writer, where memory wasn't wanting
+    step_caused : (told : Fault) → ((old < new) ⊎ HasFailed writing → Caused told) → (f : NotWhole) → new ≡ old + failed_in f
+        → (f.step ≡ step.Write → HasFailed writing) → Caused (step_fault told f.step)
+    step_caused told is_told f counted unwritten = by_step f.step refl
       where
-        why : (s : Step) → f.step ≡ s → (s ≡ step.Memory → ⊥) → (old < new) ⊎ HasFailed writing
-        why s is other = whole_failed writing old new f (λ e. other (sym is ∙ e)) counted unwritten
+        why : (s : Step) → f.step ≡ s → (s ≡ step.Memory → ⊥) → Caused told
+        why s is other = is_told (whole_failed writing old new f (λ e. other (sym is ∙ e)) counted unwritten)
 
-        by_step : (s : Step) → f.step ≡ s → Caused (digests_fault s)
+        by_step : (s : Step) → f.step ≡ s → Caused (step_fault told s)
         by_step step.Memory is = tt
-        by_step step.Create is = unleft_caused (why step.Create is (λ e. cc))
-        by_step step.Write is = unleft_caused (why step.Write is (λ e. cc))
-        by_step step.Sync is = unleft_caused (why step.Sync is (λ e. cc))
-        by_step step.Rename is = unleft_caused (why step.Rename is (λ e. cc))
-        by_step step.Settle is = unleft_caused (why step.Settle is (λ e. cc))
+        by_step s is = why s is (λ e. cc)
 
-    -- ---- the file of a pair that isn't written
+    pub digests_caused : (f : NotWhole) → new ≡ old + failed_in f → (f.step ≡ step.Write → HasFailed writing) → Caused (step_fault fault.Digests f.step)
+    digests_caused = step_caused fault.Digests (λ why. elim why [ inl low ↦ inl low | inr failed ↦ inr (inr (inl failed)) ])
 
     pub unwritten_caused : (c : Counts) (f : NotWhole) → new ≡ old + failed_in f → (f.step ≡ step.Write → HasFailed writing)
-        → Caused (unwritten_fault c f.step)
-    unwritten_caused c f counted unwritten = by_step f.step refl
-      where
-        why : (s : Step) → f.step ≡ s → (s ≡ step.Memory → ⊥) → (old < new) ⊎ HasFailed writing
-        why s is other = whole_failed writing old new f (λ e. other (sym is ∙ e)) counted unwritten
-
-        by_step : (s : Step) → f.step ≡ s → Caused (unwritten_fault c s)
-        by_step step.Memory is = tt
-        by_step step.Create is = why step.Create is (λ e. cc)
-        by_step step.Write is = why step.Write is (λ e. cc)
-        by_step step.Sync is = why step.Sync is (λ e. cc)
-        by_step step.Rename is = why step.Rename is (λ e. cc)
-        by_step step.Settle is = why step.Settle is (λ e. cc)
+        → Caused (step_fault (fault.Unwritten c.greater c.lesser) f.step)
+    unwritten_caused c = step_caused (fault.Unwritten c.greater c.lesser) (λ why. why)
 
   -- one that isn't had
   pub unlisted_caused : (taken : Option Bool) (old new : ℕ) (name : List ℕ) (files : Option Files) (refused : ListFault)

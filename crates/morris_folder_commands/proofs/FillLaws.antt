@@ -1,5 +1,5 @@
 -- A folder that is filled pair by pair.
-use Rattle.std.proofs.Common.{◌≡◌, ℕ, ◌+◌, false, List, [], ◌∷◌, ◌++◌, length, Option, Some, None, Result, Err, refl, ap, subst, ◌∙◌, inl, inr}
+use Rattle.std.proofs.Common.{◌≡◌, ℕ, ◌+◌, List, [], ◌∷◌, ◌++◌, Option, Some, None, Result, Ok, Err, refl, ap, subst, ◌∙◌, inl, inr}
 use Rattle.std.specs.List.{flat_map}
 use Rattle.std.proofs.KnownBytes.{Keeps-refl}
 use Rattle.morris_board.specs.Boards.{Shape}
@@ -10,19 +10,15 @@ use Rattle.morris_pairs.specs.Known.{IsBeyondCodes}
 use Rattle.morris_pairs.specs.Tables.{Table}
 use Rattle.morris_files.specs.Files.{Files}
 use Rattle.morris_files.specs.Files as folder
-use Rattle.std.specs.Io.KnownBytes.{Appends}
 use Rattle.std.proofs.lemmas.Grind.{flat_map-append}
 use Rattle.std.proofs.lemmas.List.{append-nil}
 use Rattle.std.proofs.Math.Path.{ap₂}
-use Rattle.morris_board.specs.Streams.{PartSent}
 use Rattle.morris_files.specs.Digests.{digest_line, digest_lines}
 use Rattle.morris_files.specs.declared.table_file.Written.{Written}
 use Rattle.morris_jobs.specs.declared.fault.Fault.{Fault}
-use Rattle.morris_jobs.specs.declared.fault.Fault.TheVariants as fault
 use Rattle.morris_jobs.specs.Orders.{IsUnbuiltAt}
-use Rattle.morris_jobs.specs.Faults.{CountsWrites, is_write}
-use Rattle.morris_folder_commands.specs.Filling.{IsOf, PrintsLine}
-use Rattle.morris_folder_commands.specs.Into.{Ends, Fills, IsBuilt, IsDone, IsFiled, IsUndone, Place, StaysPut, digest_of, filed_line, filed_text}
+use Rattle.morris_folder_commands.specs.Filling.{IsOf}
+use Rattle.morris_folder_commands.specs.Into.{Ends, Fills, IsBuilt, IsDone, IsFiled, Place, StaysPut, digest_of, filed_line, filed_text}
 
 -- nothing is changed where nothing was done
 pub files_kept : (files : Option Files) → folder.Keeps files files
@@ -31,21 +27,6 @@ files_kept (Some files) = λ name. refl
 
 pub stays : (here : Place) → StaysPut here here
 stays here = record { files = files_kept here.files; out = Keeps-refl here.out }
-
--- of these faults none is that of a write
-pub unbuilt_unwritten : (board : Shape) (c : Counts) (blocks : ℕ) (f : Fault) → IsUnbuiltAt board c blocks f → is_write f ≡ false
-unbuilt_unwritten board c blocks (fault.Write sent) h = absurd h
-unbuilt_unwritten board c blocks _ h = refl
-
--- and where no write failed, none is counted
-pub none_counted : (T : Type 0) (old new : ℕ) (f : Fault) → is_write f ≡ false → new ≡ old → CountsWrites {T = T} old new (Err f)
-none_counted T old new f not same = rw not same
-
--- a line of which only a part went out
-pub line_cut : (text : List ℕ) (sent : ℕ) (old new : Option (List ℕ)) (f : Fault) → PrintsLine text sent old new (Err f)
-    → (now : ℕ) × (f ≡ fault.Write now) × PartSent old new sent now text
-line_cut text sent old new (fault.Write now) part = (now, refl, part)
-line_cut text sent old new _ part = absurd part
 
 -- the line is that of the table's file
 pub line_is : {B : Type 0} (board : Shape) (t : Table) (w : Written B) → IsOf board t w
@@ -83,31 +64,12 @@ module _ (board : Shape) (l : Layout) (name : List ℕ) (blocks : ℕ) (kept : L
   unbuilt start all pairs c sent digests here refused leads why = leads here (Err refused) (inl (refused, refl, why, stays here))
 
   -- one that is built and not done
-  pub undone : (start : Place) (all pairs : List Counts) (c : Counts) (sent : ℕ) (digests : List ℕ) (here after : Place) (t : Table) (refused : Fault)
-      → Leads start all (c ∷ pairs) sent digests here → IsBuilt board l c t → ¬ IsBeyondCodes board c → IsUndone board name t sent here after refused
-      → Fills board l name blocks kept all 0 [] start after (Err refused)
+  pub undone : (start : Place) (all pairs : List Counts) (c : Counts) (sent : ℕ) (digests : List ℕ) (here next : Place) (t : Table) (refused : Fault)
+      → Leads start all (c ∷ pairs) sent digests here → IsBuilt board l c t → ¬ IsBeyondCodes board c → IsDone board name t sent here next (Err refused)
+      → Fills board l name blocks kept all 0 [] start next (Err refused)
   unfolding Fills
-  undone start all pairs c sent digests here after t refused leads built within why =
-      leads after (Err refused) (inr (t, built, within, inl (refused, refl, why)))
-
-  -- one that is done
-  pub one_done : (start : Place) (all pairs : List Counts) (c : Counts) (sent now : ℕ) (digests more : List ℕ) (here next : Place) (t : Table)
-      → Leads start all (c ∷ pairs) sent digests here → IsBuilt board l c t → ¬ IsBeyondCodes board c → IsDone board name t here next
-      → now ≡ sent + length (filed_line board t) → more ≡ digests ++ digest_of board name t
-      → Leads start all pairs now more next
-  unfolding Fills
-  one_done start all pairs c sent now digests more here next t leads built within done counted told = λ after result goes.
-      leads after result (inr (
-        t,
-        built,
-        within,
-        inr (
-          next,
-          done,
-          subst (λ d. Fills board l name blocks kept pairs (sent + length (filed_line board t)) d next after result) told
-              (subst (λ n. Fills board l name blocks kept pairs n more next after result) counted goes),
-        ),
-      ))
+  undone start all pairs c sent digests here next t refused leads built within done =
+      leads next (Err refused) (inr (t, built, within, (next, Err refused, done, (refl, refl))))
 
   -- all are done
   pub all_done : (start : Place) (all : List Counts) (sent : ℕ) (digests : List ℕ) (here after : Place) (result : Result (Unit {0}) Fault)
@@ -132,15 +94,16 @@ module _ (board : Shape) (l : Layout) (name : List ℕ) (blocks : ℕ) (kept : L
       → Leads start all pairs sent digests here → Leads start all [] sent digests here
   no_leads start all pairs sent digests here none leads = subst (λ ps. Leads start all ps sent digests here) none leads
 
-  -- a file more
+  -- one that is done, and a file more
   pub done_leads : {B : Type 0} (ws more : List (Written B)) (w : Written B) (start : Place) (all pairs : List Counts) (c : Counts)
       (sent now : ℕ) (here next : Place) (t : Table) → Leads start all (c ∷ pairs) sent (lines_of name ws) here
       → IsBuilt board l c t → ¬ IsBeyondCodes board c → IsFiled board name t here.files next.files → IsOf board t w
       → AllSent here.out next.out sent now (filed_text w.pair w.entries w.bytes w.digest) → more ≡ ws ++ w ∷ []
       → Leads start all pairs now (lines_of name more) next
-  done_leads ws more w start all pairs c sent now here next t leads built within filed is printed pushed =
-      let line = line_is board t w is in
-      one_done start all pairs c sent now (lines_of name ws) (lines_of name more) here next t leads built within
-      (record { filed = filed; told = subst (Appends here.out next.out) line printed.appended })
-      (printed.count ∙ ap (λ text. sent + length text) line)
-      (ap (lines_of name) pushed ∙ one_more name ws w ∙ ap₂ (λ p d. lines_of name ws ++ digest_line name p d) is.pair is.digest)
+  unfolding Fills
+  done_leads ws more w start all pairs c sent now here next t leads built within filed is printed pushed = λ after result goes.
+      let told : lines_of name more ≡ lines_of name ws ++ digest_of board name t =
+      ap (lines_of name) pushed ∙ one_more name ws w ∙ ap₂ (λ p d. lines_of name ws ++ digest_line name p d) is.pair is.digest in
+      let rest = subst (λ d. Fills board l name blocks kept pairs now d next after result) told goes in
+      let done = subst (AllSent here.out next.out sent now) (line_is board t w is) printed in
+      leads after result (inr (t, built, within, (next, Ok now, inr (filed, done), rest)))

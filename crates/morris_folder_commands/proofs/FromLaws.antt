@@ -1,7 +1,6 @@
 -- The pairs of a board one after the other, and the files of a folder that are verified so.
 use Rattle.std.proofs.Common.{◌≡◌, ℕ, zero, suc, ◌+◌, ◌<◌, ◌≤◌, Bool, true, false, ◌&&◌, leb, List, [], ◌∷◌, length, drop, get_or, refl, sym, ◌∙◌, ap, subst, inl, inr, arith, Option, Some, None, Result, Ok, Err, MatchResult}
 use Rattle.std.specs.List.{filter, list_all, slice_get}
-use Rattle.std.specs.Io.KnownBytes.{Appends}
 use Rattle.std.proofs.lemmas.Bool.{and_parts, cases_Bool, both_ways}
 use Rattle.std.proofs.lemmas.List.{drop_more}
 use Rattle.std.proofs.lemmas.List.Folds.{list_all_at}
@@ -9,7 +8,6 @@ use Rattle.std.proofs.lemmas.Option.{slice_get_within, get_or_from_slice_get}
 use Rattle.std.proofs.KnownBytes.{Keeps-refl}
 use Rattle.morris_board.specs.Boards.{Shape}
 use Rattle.morris_board.specs.Positions.{is_between}
-use Rattle.morris_board.specs.Streams.{PartSent}
 use Rattle.morris_index.specs.declared.faults.PairFault.{PairFault}
 use Rattle.morris_index.specs.declared.faults.PairFault.TheVariants as pairs
 use Rattle.morris_index.specs.Pairs.{Counts, all_pairs, pair_made}
@@ -22,11 +20,9 @@ use Rattle.morris_files.specs.Names.{name_of}
 use Rattle.morris_files.specs.declared.kept.KeptFault.{KeptFault}
 use Rattle.morris_files.specs.declared.kept.KeptFault.TheVariants as kept
 use Rattle.morris_jobs.specs.declared.fault.Fault.{Fault}
-use Rattle.morris_jobs.specs.declared.fault.Fault.TheVariants as fault
-use Rattle.morris_folder_commands.specs.From.{AtEnd, KeepsNear, Verifies, fits, kept_fault, pairs_of, verified_line}
-use Rattle.morris_folder_commands.specs.Filling.{PrintsLine}
-use Rattle.morris_folder_commands.specs.FromSteps.{AnswersFile, IsUnfitFile, TakesIn, place_is}
-use Rattle.morris_jobs.specs.Inputs.{Joins}
+use Rattle.morris_jobs.specs.Orders.{KeepsNear}
+use Rattle.morris_folder_commands.specs.From.{TakesIn, Verifies, ended, fits, pairs_of}
+use Rattle.morris_folder_commands.specs.FromSteps.{AnswersFile, place_is}
 
 -- ---- all pairs
 
@@ -129,58 +125,9 @@ module _ (board : Shape) (files : Option Files) (name : List ℕ) (start : Optio
       (after : Option (List ℕ)) (result : Result (Unit {0}) Fault) → Verifies board files name pairs stock found sent here after result
       → Verifies board files name (pairs_of board) empty false 0 start after result
 
-  module _ (pairs : List Counts) (c : Counts) (stock : Stored) (found : Bool) (sent : ℕ) (here : Option (List ℕ))
-      (leads : Leads (c ∷ pairs) stock found sent here) (near : Stored) (goes : KeepsNear stock near c) where
-    -- a file that isn't had
-    pub unkept : (refused : KeptFault) (f : Fault) → AnswersKept board files (name_of name c) c (Err refused) → f ≡ kept_fault c refused
-        → Verifies board files name (pairs_of board) empty false 0 start here (Err f)
-    unfolding Verifies
-    unkept refused f said is = leads here (Err f) (near, goes, (Err refused, said, (ap Err is, Keeps-refl here)))
-
-    -- no file
-    pub no_file : AnswersKept board files (name_of name c) c (Ok None) → Leads pairs near found sent here
-    unfolding Verifies
-    no_file said = λ after result follows. leads after result (near, goes, (Ok None, said, follows))
-
-    module _ (t : Table) (said : AnswersKept board files (name_of name c) c (Ok (Some t))) where
-      -- a table that doesn't join the stock
-      pub unfit : (f : Fault) → IsUnfitFile board near t f → Verifies board files name (pairs_of board) empty false 0 start here (Err f)
-      unfolding Verifies
-      unfit f why = leads here (Err f) (near, goes, (Ok (Some t), said, inl (why.0, why.1, ap Err why.2, Keeps-refl here)))
-
-      module _ (joined : Stored) (joins : Joins board near joined t) where
-        -- one that does, and whose line isn't printed
-        pub untold : (now : ℕ) (after : Option (List ℕ)) → PartSent here after sent now (verified_line t)
-            → Verifies board files name (pairs_of board) empty false 0 start after (Err (fault.Write now))
-        unfolding Verifies
-        untold now after part = leads after (Err (fault.Write now)) (near, goes, (Ok (Some t), said, inr (joined, joins, inl (now, refl, part))))
-
-        -- and whose line is
-        pub told : (now : ℕ) (out : Option (List ℕ)) → Appends here out (verified_line t) → now ≡ sent + length (verified_line t)
-            → Leads pairs joined true now out
-        unfolding Verifies
-        told now out printed counted = λ after result follows.
-            leads after result (
-              near,
-              goes,
-              (
-                Ok (Some t),
-                said,
-                inr (
-                  joined,
-                  joins,
-                  inr (
-                    out,
-                    printed,
-                    subst (λ n. Verifies board files name pairs joined true n out after result) counted follows,
-                  ),
-                ),
-              ),
-            )
-
   -- no pair is left
   pub at_end : (place : ℕ) (stock : Stored) (found : Bool) (sent : ℕ) (here : Option (List ℕ)) (result : Result (Unit {0}) Fault) → 28 ≤ place
-      → Leads (filter (fits board) (drop place all_pairs)) stock found sent here → AtEnd found result
+      → Leads (filter (fits board) (drop place all_pairs)) stock found sent here → result ≡ ended found
       → Verifies board files name (pairs_of board) empty false 0 start here result
   unfolding Verifies
   at_end place stock found sent here result past leads end =
@@ -202,40 +149,30 @@ module _ (board : Shape) (files : Option Files) (name : List ℕ) (start : Optio
   module _ (pairs : List Counts) (c : Counts) (stock : Stored) (found : Bool) (sent : ℕ) (here : Option (List ℕ))
       (leads : Leads (c ∷ pairs) stock found sent here) (near : Stored) (goes : KeepsNear stock near c) (now : Option Files)
       (kept : folder.Keeps files now) where
+    before : (answer : Result (Option Table) KeptFault) → AnswersKept board now (name_of name c) c answer → AnswersKept board files (name_of name c) c answer
+    before answer said = answer_before board files now (name_of name c) c answer kept said
+
     -- a file that isn't had, by what is answered of the folder as it then is
     pub failed_file : (f : Fault) → AnswersFile board now (name_of name c) c (Err f)
         → Verifies board files name (pairs_of board) empty false 0 start here (Err f)
-    failed_file f said =
-        unkept pairs c stock found sent here leads near goes said.0 f (answer_before board files now (name_of name c) c (Err said.0) kept said.2) said.1
+    unfolding Verifies
+    failed_file f said = leads here (Err f) (near, goes, (Err said.0, before (Err said.0) said.2, (ap Err said.1, Keeps-refl here)))
 
+    -- no file
     pub missing_file : AnswersFile board now (name_of name c) c (Ok None) → Leads pairs near found sent here
-    missing_file said = no_file pairs c stock found sent here leads near goes (answer_before board files now (name_of name c) c (Ok None) kept said)
+    unfolding Verifies
+    missing_file said = λ after result follows. leads after result (near, goes, (Ok None, before (Ok None) said, follows))
 
     module _ (t : Table) (answer : AnswersFile board now (name_of name c) c (Ok (Some t))) (joined : Stored) (after : Option (List ℕ)) where
-      said : AnswersKept board files (name_of name c) c (Ok (Some t))
-      said = answer_before board files now (name_of name c) c (Ok (Some t)) kept answer
-
-      line_wrong : Joins board near joined t → (f : Fault) → PrintsLine (verified_line t) sent here after (Err f)
-          → Verifies board files name (pairs_of board) empty false 0 start after (Err f)
-      line_wrong joins (fault.Write n) part = untold pairs c stock found sent here leads near goes t said joined joins n after part
-      line_wrong joins _ part = absurd part
-
       -- a table that isn't taken in, or not told of
       pub taken_wrong : (f : Fault) → TakesIn board near joined t sent here after (Err f)
           → Verifies board files name (pairs_of board) empty false 0 start after (Err f)
-      taken_wrong f takes = elim takes [
-        | inl why ↦
-            let e = why.1 in
-            let same : why.0 ≡ f = cc in
-            subst (λ x. Verifies board files name (pairs_of board) empty false 0 start after (Err x)) same
-            (subst (λ out. Verifies board files name (pairs_of board) empty false 0 start out (Err why.0)) why.3
-            (unfit pairs c stock found sent here leads near goes t said why.0 why.2))
-        | inr both ↦ line_wrong both.0 f both.1
-      ]
+      unfolding Verifies
+      taken_wrong f takes =
+          leads after (Err f) (near, goes, (Ok (Some t), before (Ok (Some t)) answer, (joined, after, Err f, takes, (refl, Keeps-refl after))))
 
       -- one that is
       pub taken_on : (n : ℕ) → TakesIn board near joined t sent here after (Ok n) → Leads pairs joined true n after
-      taken_on n takes = elim takes [
-        | inl why ↦ let e = why.1 in cc
-        | inr both ↦ told pairs c stock found sent here leads near goes t said joined both.0 n after both.1.appended both.1.count
-      ]
+      unfolding Verifies
+      taken_on n takes = λ last result follows.
+          leads last result (near, goes, (Ok (Some t), before (Ok (Some t)) answer, (joined, after, Ok n, takes, follows)))

@@ -2,5 +2,4 @@ pub mod FillLaws
 pub mod LineLaws
 pub mod FromLaws
 pub mod SurveyLaws
-pub mod BundleLaws
 pub mod CauseLaws

@@ -2,7 +2,6 @@
 use Rattle.std.specs.Prelude.{◌≡◌, ℕ, List, ◌++◌, length, Option, Some, None, Result, Ok, Err}
 use Rattle.sha2.specs.Sha256.{sha256}
 use Rattle.morris_board.specs.Boards.{Shape}
-use Rattle.morris_board.specs.Streams.{AllSent, PartSent}
 use Rattle.morris_index.specs.Pairs.{Counts}
 use Rattle.morris_pairs.specs.declared.layout.Layout.{Layout}
 use Rattle.morris_pairs.specs.TableFiles.{file_of}
@@ -10,7 +9,6 @@ use Rattle.morris_pairs.specs.Tables.{Table}
 use Rattle.morris_files.specs.Files.{Files}
 use Rattle.morris_files.specs.declared.table_file.Written.{Written}
 use Rattle.morris_jobs.specs.declared.fault.Fault.{Fault}
-use Rattle.morris_jobs.specs.declared.fault.Fault.TheVariants as fault
 use Rattle.morris_folder_commands.specs.Into.{Ends, FillsFolder, IsFiled, IsUnfiled, Place}
 
 -- what is told of the file of a table
@@ -25,12 +23,6 @@ abbrev pub KeepsTable : {B : Type 0} → Shape → List ℕ → Option Table →
 KeepsTable board name None old new result = ⊥
 KeepsTable board name (Some t) old new (Ok w) = IsFiled board name t old new × IsOf board t w
 KeepsTable board name (Some t) old new (Err refused) = IsUnfiled board name t old new refused
-
--- a line is printed where `sent` bytes were before, or its first bytes are
-abbrev pub PrintsLine : List ℕ → ℕ → Option (List ℕ) → Option (List ℕ) → Result ℕ Fault → Type 0
-PrintsLine text sent old new (Ok now) = AllSent old new sent now text
-PrintsLine text sent old new (Err (fault.Write now)) = PartSent old new sent now text
-PrintsLine text sent old new (Err _) = ⊥
 
 -- once the file of digests is written, or isn't, the folder is filled; the list begins with the lines
 -- that were kept

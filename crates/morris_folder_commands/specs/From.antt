@@ -1,8 +1,7 @@
 -- What `verify --from` makes of the files of a folder, and what it prints.
-use Rattle.std.specs.Prelude.{◌≡◌, ◌⊎◌, ℕ, ◌+◌, ◌<◌, Bool, true, false, nat_le, List, [], ◌∷◌, filter, length, Option, Some, None, Result, Ok, Err}
-use Rattle.std.specs.Io.KnownBytes.{Appends, Keeps}
+use Rattle.std.specs.Prelude.{◌≡◌, ◌⊎◌, ℕ, ◌+◌, Bool, true, false, nat_le, List, [], ◌∷◌, filter, length, Option, Some, None, Result, Ok, Err, if◌then◌else◌}
+use Rattle.std.specs.Io.KnownBytes.{Keeps}
 use Rattle.morris_board.specs.Boards.{Shape}
-use Rattle.morris_board.specs.Streams.{PartSent}
 use Rattle.morris_index.specs.Pairs.{Counts, all_pairs}
 use Rattle.morris_pairs.specs.Shelves.{Stored, table_on}
 use Rattle.morris_pairs.specs.Tables.{Table}
@@ -14,8 +13,9 @@ use Rattle.morris_files.specs.declared.kept.KeptFault.{KeptFault}
 use Rattle.morris_files.specs.declared.kept.KeptFault.TheVariants as kept
 use Rattle.morris_jobs.specs.declared.fault.Fault.{Fault}
 use Rattle.morris_jobs.specs.declared.fault.Fault.TheVariants as fault
-use Rattle.morris_jobs.specs.Faults.{in_file, read_fault}
-use Rattle.morris_jobs.specs.Orders.{IsSpared, stones}
+use Rattle.morris_jobs.specs.Faults.{PrintsLine, in_file, read_fault}
+use Rattle.morris_jobs.specs.Answering.{OnBoard}
+use Rattle.morris_jobs.specs.Orders.{KeepsNear}
 use Rattle.morris_jobs.specs.Inputs.{IsUnfit, Joins}
 use Rattle.morris_jobs.specs.Verified.{verified_text}
 
@@ -38,10 +38,9 @@ kept_fault c kept.OtherPair = fault.OtherPair c.greater c.lesser
 abbrev pub verified_line : Table → List ℕ
 verified_line t = verified_text t.pair (length t.codes)
 
--- The end: there was a file, or there was none at all.
-abbrev pub AtEnd : Bool → Result (Unit {0}) Fault → Type 0
-AtEnd true result = result ≡ Ok tt
-AtEnd false result = result ≡ Err fault.NoFiles
+-- the end, by whether there was a file, or none at all
+abbrev pub ended : Bool → Result (Unit {0}) Fault
+ended found = if found then Ok tt else Err fault.NoFiles
 
 -- What follows from what a file is answered with: the fault of one that isn't had, with no line
 -- more printed; the next pair, where there is no file; or what becomes of the table.
@@ -50,28 +49,34 @@ AfterFile c old new result next taken (Err refused) = (result ≡ Err (kept_faul
 AfterFile c old new result next taken (Ok None) = next
 AfterFile c old new result next taken (Ok (Some t)) = taken t
 
--- At a pair's turn the tables of no more than one stone less are as they were, since it or a pair
--- after it may need them, and no others are there.
-pub record KeepsNear (old new : Stored) (c : Counts) : Type 0 where
-  pub near : IsSpared old new c
-  pub far : (d : Counts) → stones d + 1 < stones c → table_on new d ≡ None
+-- why a table doesn't join a stock, told of its file
+abbrev pub IsUnfitFile : Shape → Stored → Table → Fault → Type 0
+IsUnfitFile board stock t f = (refused : Fault) × IsUnfit board stock t refused × (f ≡ in_file t.pair refused)
 
 -- What becomes of a table over a stock: it doesn't join the stock, with no line more printed; or it
--- does, which it can only where each of its codes is the game's, and its line is printed before
--- the next pair, or its first bytes are.
+-- does, which it can only where each of its codes is the game's, and its line is printed, or its
+-- first bytes are. `sent` bytes were printed before.
+abbrev pub TakesIn : Shape → Stored → Stored → Table → ℕ → Option (List ℕ) → Option (List ℕ) → Result ℕ Fault → Type 0
+TakesIn board stock joined t sent old new result =
+    ((f : Fault) × (result ≡ Err f) × IsUnfitFile board stock t f × (old ≡ new))
+    ⊎ (Joins board stock joined t × PrintsLine (verified_line t) sent old new result)
+
+-- what follows from that: the fault, with no line more printed; or what comes next
+abbrev pub AfterTaking : Option (List ℕ) → Option (List ℕ) → Result (Unit {0}) Fault → (ℕ → Type 0) → Result ℕ Fault → Type 0
+AfterTaking old new result next (Err refused) = (result ≡ Err refused) × Keeps old new
+AfterTaking old new result next (Ok now) = next now
+
 abbrev pub AfterTable : Shape → Stored → ℕ → Option (List ℕ) → Option (List ℕ) → Result (Unit {0}) Fault → (Stored → ℕ → Option (List ℕ) → Type 0) → Table → Type 0
 AfterTable board stock sent old new result next t =
-    ((refused : Fault) × IsUnfit board stock t refused × (result ≡ Err (in_file t.pair refused)) × Keeps old new)
-    ⊎ ((joined : Stored) × Joins board stock joined t
-    × (((now : ℕ) × (result ≡ Err (fault.Write now)) × PartSent old new sent now (verified_line t))
-    ⊎ ((out : Option (List ℕ)) × Appends old out (verified_line t) × next joined (sent + length (verified_line t)) out)))
+    (joined : Stored) × (out : Option (List ℕ)) × (taken : Result ℕ Fault) × TakesIn board stock joined t sent old out taken
+    × AfterTaking out new result (λ now. next joined now out) taken
 
 -- The pairs are gone through in order: at the turn of each the tables are let go that no pair from
 -- it on needs, whether the folder has its file or not; the file is read where the folder has it,
 -- and its table taken into the stock before the next. `sent` bytes were printed before, and `found`
 -- says whether there was a file before.
 unfoldable pub Verifies : Shape → Option Files → List ℕ → List Counts → Stored → Bool → ℕ → Option (List ℕ) → Option (List ℕ) → Result (Unit {0}) Fault → Type 0
-Verifies board files name [] stock found sent old new result = AtEnd found result × Keeps old new
+Verifies board files name [] stock found sent old new result = (result ≡ ended found) × Keeps old new
 Verifies board files name (c ∷ pairs) stock found sent old new result =
     (near : Stored) × KeepsNear stock near c
     × ((answer : Result (Option Table) KeptFault) × AnswersKept board files (name_of name c) c answer
@@ -92,8 +97,6 @@ AnswersFromOn board files name old new result =
     ((result ≡ Err fault.NoFolder) × Keeps old new)
     ⊎ ((found : Option Files) × folder.Keeps files found × AnswersFound board found name old new result)
 
--- What `verify --from` answers: the fault of a board that isn't there, with nothing printed;
--- otherwise what it answers on the board, whose name is that of its files.
+-- what it answers on the board of a name, which is that of its files
 abbrev pub AnswersFrom : Option Shape → Option Files → List ℕ → Option (List ℕ) → Option (List ℕ) → Result (Unit {0}) Fault → Type 0
-AnswersFrom None files name old new result = (result ≡ Err fault.Board) × Keeps old new
-AnswersFrom (Some board) files name old new result = AnswersFromOn board files name old new result
+AnswersFrom named files name old new result = OnBoard named result (Keeps old new) (λ board. AnswersFromOn board files name old new result)

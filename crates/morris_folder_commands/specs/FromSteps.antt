@@ -2,16 +2,12 @@
 use Rattle.std.specs.Prelude.{◌≡◌, ℕ, ◌+◌, ◌-◌, ◌^◌, ◌<◌, ◌⊎◌, List, true, false, slice_get, Option, Some, None, Result, Ok, Err}
 use Rattle.morris_board.specs.Boards.{Shape}
 use Rattle.morris_index.specs.Pairs.{Counts, all_pairs}
-use Rattle.morris_pairs.specs.Shelves.{Stored}
 use Rattle.morris_pairs.specs.Tables.{Table}
 use Rattle.morris_files.specs.Files.{Files}
 use Rattle.morris_files.specs.Kept.{AnswersKept}
 use Rattle.morris_files.specs.declared.kept.KeptFault.{KeptFault}
 use Rattle.morris_jobs.specs.declared.fault.Fault.{Fault}
-use Rattle.morris_jobs.specs.Faults.{in_file}
-use Rattle.morris_folder_commands.specs.Filling.{PrintsLine}
-use Rattle.morris_folder_commands.specs.From.{fits, kept_fault, verified_line}
-use Rattle.morris_jobs.specs.Inputs.{IsUnfit, Joins}
+use Rattle.morris_folder_commands.specs.From.{fits, kept_fault}
 
 -- the pair at a place of all pairs, where the board has points for it
 abbrev pub place_is : Shape → ℕ → Option Counts → Type 0
@@ -30,13 +26,3 @@ EndsAt board end old new =
 abbrev pub AnswersFile : Shape → Option Files → List ℕ → Counts → Result (Option Table) Fault → Type 0
 AnswersFile board files name c (Ok found) = AnswersKept board files name c (Ok found)
 AnswersFile board files name c (Err f) = (refused : KeptFault) × (f ≡ kept_fault c refused) × AnswersKept board files name c (Err refused)
-
--- why a table doesn't join a stock, told of its file
-abbrev pub IsUnfitFile : Shape → Stored → Table → Fault → Type 0
-IsUnfitFile board stock t f = (refused : Fault) × IsUnfit board stock t refused × (f ≡ in_file t.pair refused)
-
--- what becomes of a table
-abbrev pub TakesIn : Shape → Stored → Stored → Table → ℕ → Option (List ℕ) → Option (List ℕ) → Result ℕ Fault → Type 0
-TakesIn board stock joined t sent old new result =
-    ((f : Fault) × (result ≡ Err f) × IsUnfitFile board stock t f × (old ≡ new))
-    ⊎ (Joins board stock joined t × PrintsLine (verified_line t) sent old new result)

@@ -1,14 +1,12 @@
 -- What `build --into` does to a folder, and what it prints.
 use Rattle.std.specs.Prelude.{◌≡◌, ◌⊎◌, ℕ, ◌+◌, List, [], ◌∷◌, ◌++◌, length, codes, Option, Some, None, Result, Ok, Err, IsOk}
 use Rattle.std.specs.Fmt.{decimal}
-use Rattle.std.specs.Io.KnownBytes.{Appends, Keeps}
+use Rattle.std.specs.Io.KnownBytes.{Keeps}
 use Rattle.sha2.specs.Sha256.{sha256}
 use Rattle.hex.specs.Hex.{encode_lower}
 use Rattle.morris_board.specs.Boards.{Shape}
-use Rattle.morris_board.specs.Streams.{PartSent}
 use Rattle.morris_index.specs.Pairs.{Counts, below_of, pair_text}
 use Rattle.morris_workers.specs.Ranges.{range_fault}
-use Rattle.morris_workers.specs.declared.fault.SolveFault.{SolveFault}
 use Rattle.morris_pairs.specs.declared.layout.Layout.{Layout}
 use Rattle.morris_pairs.specs.Known.{IsBeyondCodes}
 use Rattle.morris_pairs.specs.TableFiles.{file_of}
@@ -24,7 +22,8 @@ use Rattle.morris_files.specs.Names.{digests_name_of, name_of}
 use Rattle.morris_jobs.specs.declared.fault.Fault.{Fault}
 use Rattle.morris_jobs.specs.declared.fault.Fault.TheVariants as fault
 use Rattle.morris_jobs.specs.Orders.{IsUnbuiltAt}
-use Rattle.morris_jobs.specs.Faults.{solve_fault}
+use Rattle.morris_jobs.specs.Answering.{OnBoard, OnOrder}
+use Rattle.morris_jobs.specs.Faults.{PrintsLine}
 use Rattle.morris_jobs.specs.PairText.{read_pair_of}
 use Rattle.morris_folder_commands.specs.Entering.{IsBegun, IsEntered, IsShut, IsUnbegun}
 
@@ -65,49 +64,36 @@ pub record IsBuilt (board : Shape) (l : Layout) (c : Counts) (t : Table) : Type 
 abbrev pub IsFiled : Shape → List ℕ → Table → Option Files → Option Files → Type 0
 IsFiled board name t old new = Goes old new (AreWhole (name_of name t.pair) (file_of board t))
 
--- the fault that a file which isn't written is told by
-abbrev pub unwritten_fault : Counts → Step → Fault
-unwritten_fault c step.Memory = fault.Memory
-unwritten_fault c step.Create = fault.Unwritten c.greater c.lesser
-unwritten_fault c step.Write = fault.Unwritten c.greater c.lesser
-unwritten_fault c step.Sync = fault.Unwritten c.greater c.lesser
-unwritten_fault c step.Rename = fault.Unwritten c.greater c.lesser
-unwritten_fault c step.Settle = fault.Unwritten c.greater c.lesser
+-- the fault that a file which isn't written is told by: want of memory, or that it isn't
+abbrev pub step_fault : Fault → Step → Fault
+step_fault told step.Memory = fault.Memory
+step_fault told _ = told
 
 -- the file of a table isn't written: what stood under its name stands there, or the whole file
 abbrev pub IsUnfiled : Shape → List ℕ → Table → Option Files → Option Files → Fault → Type 0
 IsUnfiled board name t old new refused =
-    (why : NotWhole) × (refused ≡ unwritten_fault t.pair why.step) × Goes old new (AreNotWhole (name_of name t.pair) (file_of board t) why)
+    (why : NotWhole) × (refused ≡ step_fault (fault.Unwritten t.pair.greater t.pair.lesser) why.step) × Goes old new (AreNotWhole (name_of name t.pair) (file_of board t) why)
 
--- What is done of a pair whose table was built: its file is written and then its line printed; or
--- the file isn't written, and nothing printed; or it is written, and not the whole line is printed.
--- `sent` bytes were printed before.
-pub record IsDone (board : Shape) (name : List ℕ) (t : Table) (before after : Place) : Type 0 where
-  pub filed : IsFiled board name t before.files after.files
-  pub told : Appends before.out after.out (filed_line board t)
+-- What is done of a pair whose table was built: its file isn't written, and nothing printed; or it is
+-- written, and then its line printed, or its first bytes. `sent` bytes were printed before.
+abbrev pub IsDone : Shape → List ℕ → Table → ℕ → Place → Place → Result ℕ Fault → Type 0
+IsDone board name t sent before after result =
+    ((refused : Fault) × (result ≡ Err refused) × IsUnfiled board name t before.files after.files refused × Keeps before.out after.out)
+    ⊎ (IsFiled board name t before.files after.files × PrintsLine (filed_line board t) sent before.out after.out result)
 
-abbrev pub IsUndone : Shape → List ℕ → Table → ℕ → Place → Place → Fault → Type 0
-IsUndone board name t sent before after refused =
-    (IsUnfiled board name t before.files after.files refused × Keeps before.out after.out)
-    ⊎ ((now : ℕ) × (refused ≡ fault.Write now) × IsFiled board name t before.files after.files × PartSent before.out after.out sent now (filed_line board t))
+-- what follows from that: the fault, or what comes next
+abbrev pub AfterDoing : Place → Place → Result (Unit {0}) Fault → (ℕ → Type 0) → Result ℕ Fault → Type 0
+AfterDoing here after result next (Err refused) = (result ≡ Err refused) × (after ≡ here)
+AfterDoing here after result next (Ok now) = next now
 
 -- ---- all pairs
-
--- the fault that a file of digests which isn't written is told by
-abbrev pub digests_fault : Step → Fault
-digests_fault step.Memory = fault.Memory
-digests_fault step.Create = fault.Digests
-digests_fault step.Write = fault.Digests
-digests_fault step.Sync = fault.Digests
-digests_fault step.Rename = fault.Digests
-digests_fault step.Settle = fault.Digests
 
 -- What is done at the end: the file of digests is written, with this text, or it isn't.
 abbrev pub Ends : List ℕ → List ℕ → Place → Place → Result (Unit {0}) Fault → Type 0
 Ends name digests before after (Ok done) =
     Goes before.files after.files (AreWhole (digests_name_of name) digests) × Keeps before.out after.out
 Ends name digests before after (Err refused) =
-    (why : NotWhole) × (refused ≡ digests_fault why.step) × Goes before.files after.files (AreNotWhole (digests_name_of name) digests why)
+    (why : NotWhole) × (refused ≡ step_fault fault.Digests why.step) × Goes before.files after.files (AreNotWhole (digests_name_of name) digests why)
     × Keeps before.out after.out
 
 -- the line of the digest of a table's file
@@ -123,9 +109,9 @@ Fills board l name blocks kept [] sent digests before after result = Ends name (
 Fills board l name blocks kept (c ∷ pairs) sent digests before after result =
     ((refused : Fault) × (result ≡ Err refused) × IsUnbuiltAt board c blocks refused × StaysPut before after)
     ⊎ ((t : Table) × IsBuilt board l c t × ¬ IsBeyondCodes board c
-    × (((refused : Fault) × (result ≡ Err refused) × IsUndone board name t sent before after refused)
-    ⊎ ((next : Place) × IsDone board name t before next
-    × Fills board l name blocks kept pairs (sent + length (filed_line board t)) (digests ++ digest_of board name t) next after result)))
+    × ((next : Place) × (done : Result ℕ Fault) × IsDone board name t sent before next done
+    × AfterDoing next after result
+    (λ now. Fills board l name blocks kept pairs now (digests ++ digest_of board name t) next after result) done))
 
 -- ---- the answer
 
@@ -150,31 +136,19 @@ AnswersFolder board l name pair blocks before after result =
     ((refused : Fault) × (result ≡ Err refused) × IsShut before.files after.files refused × Keeps before.out after.out)
     ⊎ ((entered : Place) × IsEntered before.files entered.files × Keeps before.out entered.out × AnswersLocked board l name pair blocks entered after result)
 
--- What it answers with so many workers and blocks: where there may not be so many, the fault that
--- says so, with nothing written.
-abbrev pub AnswersTeam : Shape → Layout → List ℕ → Counts → ℕ → Place → Place → Result (Unit {0}) Fault → Option SolveFault → Type 0
-AnswersTeam board l name pair blocks before after result (Some refused) = (result ≡ Err (solve_fault refused)) × StaysPut before after
-AnswersTeam board l name pair blocks before after result None = AnswersFolder board l name pair blocks before after result
+-- What it answers on a board, of the pair that a text names, with so many workers and blocks; the
+-- name of the board is that of its files.
+abbrev pub AnswersIntoOn : Shape → Layout → List ℕ → List ℕ → ℕ → ℕ → Place → Place → Result (Unit {0}) Fault → Type 0
+AnswersIntoOn board l name text workers blocks before after result =
+    OnOrder board text workers blocks result (StaysPut before after) (λ pair. AnswersFolder board l name pair blocks before after result)
 
--- What it answers on a board: the fault of a text that names no pair, with nothing written;
--- otherwise what it answers with its workers and blocks.
-abbrev pub AnswersRead : Shape → Layout → List ℕ → ℕ → ℕ → Place → Place → Result (Unit {0}) Fault → Result Counts Fault → Type 0
-AnswersRead board l name workers blocks before after result (Err refused) = (result ≡ Err refused) × StaysPut before after
-AnswersRead board l name workers blocks before after result (Ok pair) =
-    AnswersTeam board l name pair blocks before after result (range_fault workers blocks)
-
--- What it answers: the fault of a board that isn't there, with nothing written; otherwise what it
--- answers on the board, whose name is that of its files.
+-- what it answers on the board of a name
 abbrev pub AnswersInto : Option Shape → Layout → List ℕ → List ℕ → ℕ → ℕ → Place → Place → Result (Unit {0}) Fault → Type 0
-AnswersInto None l name text workers blocks before after result = (result ≡ Err fault.Board) × StaysPut before after
-AnswersInto (Some board) l name text workers blocks before after result =
-    AnswersRead board l name workers blocks before after result (read_pair_of board.points text)
+AnswersInto named l name text workers blocks before after result =
+    OnBoard named result (StaysPut before after) (λ board. AnswersIntoOn board l name text workers blocks before after result)
 
 -- whether a folder is touched: the board is there, the text is that of a pair, and there may be so
 -- many workers and blocks
-abbrev pub IsAskedOf : ℕ → List ℕ → ℕ → ℕ → Type 0
-IsAskedOf points text workers blocks = IsOk (read_pair_of points text) × (range_fault workers blocks ≡ None)
-
 abbrev pub IsAsked : Option Shape → List ℕ → ℕ → ℕ → Type 0
 IsAsked None text workers blocks = ⊥
-IsAsked (Some board) text workers blocks = IsAskedOf board.points text workers blocks
+IsAsked (Some board) text workers blocks = IsOk (read_pair_of board.points text) × (range_fault workers blocks ≡ None)

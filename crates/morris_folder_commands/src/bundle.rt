@@ -1,16 +1,16 @@
 //! The command `verify` over the table files of one input.
-ghost use Rattle.std.specs.Prelude.{◌≡◌, ◌-◌, ◌^◌, ◌<◌, None};
+ghost use Rattle.std.specs.Prelude.{◌≡◌, None};
 ghost use Rattle.morris_jobs.specs.Faults.{CountsWrites};
 ghost use Rattle.morris_jobs.specs.BoardNames.{board_of};
 ghost use Rattle.morris_folder_commands.specs.Bundle.{AnswersBundle, AnswersBundleOn};
-ghost use Rattle.morris_folder_commands.specs.From.{AtEnd};
 ghost use Rattle.morris_jobs.specs.Inputs.{MayFail, input_of};
 
-use crate::from::{keep_near, take_in};
+use crate::from::{ended, take_in};
 use morris_board::board::Board;
 use morris_board::streams::{Sink, Source};
 use morris_jobs::fault::Fault;
 use morris_jobs::on_board;
+use morris_jobs::orders::spare;
 use morris_jobs::size::FolderSize;
 use morris_jobs::team::{Crew, Team};
 use morris_jobs::teller::Teller;
@@ -77,26 +77,19 @@ fn bundle_on<B: Board, R: Threads + Sync, I: Source, O: Sink, T: Teller>(
 {
     let mut stock = TableSet::new(crew.alloc)?;
     let (mut sent, mut found) = (0, false);
-    for _ in 0..MOST_FILES {
+    for place in 0..=MOST_FILES {
         let Some(raw) = read_next::<B, I>(crew.alloc, input)? else {
-            return end(found);
+            return ended(found);
         };
+        if place == MOST_FILES {
+            return Err(Fault::TooMany);
+        }
         let (pair, entries) = (raw.pair(), raw.len());
         // What was told before isn't told again.
         teller.announce_size(FolderSize::NONE.with(pair, entries).size);
-        keep_near(&mut stock, pair);
+        spare(&mut stock, false, pair);
         sent = take_in(crew, &mut stock, raw, sent, output, teller)?;
         found = true;
     }
-    match read_next::<B, I>(crew.alloc, input)? {
-        Some(_) => Err(Fault::TooMany),
-        None => end(found),
-    }
-}
-
-/// The end of a bundle, by whether it had a file.
-fn end(found: bool) -> Result<(), Fault>
-    ensures { AtEnd found result }
-{
-    if found { Ok(()) } else { Err(Fault::NoFiles) }
+    unreachable!()
 }

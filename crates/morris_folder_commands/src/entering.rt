@@ -4,7 +4,7 @@ ghost use Rattle.std.specs.Prelude.{◌≡◌, ◌-◌, ◌^◌, ◌<◌, [], So
 ghost use Rattle.morris_files.specs.Files.{Goes};
 ghost use Rattle.morris_jobs.specs.Faults.{is_write};
 ghost use Rattle.morris_folder_commands.specs.Causes.{HasCause, MayBeLong};
-ghost use Rattle.morris_folder_commands.specs.Into.{digests_fault};
+ghost use Rattle.morris_folder_commands.specs.Into.{step_fault};
 ghost use Rattle.morris_folder_commands.specs.Entering.{BeginsList, IsEntered, IsLeft, IsShut, IsUnbegun, list_fault};
 
 use morris_board::board::Geometry;
@@ -113,17 +113,17 @@ fn leave_list<B: Geometry, F: Folder>(
     let none: Vec<Written<B>> = Vec::new(alloc);
     match write_list(alloc, folder, board, kept, none.as_slice()) {
         Ok(()) => Ok(()),
-        Err(fault) => Err(digests_fault(fault.step)),
+        Err(fault) => Err(step_fault(Fault::Digests, fault.step)),
     }
 }
 
-/// The fault of a list of digests that isn't left, by the step that failed.
-pub(crate) fn digests_fault(step: Step) -> Fault
-    ensures { result ≡ digests_fault step }
+/// The fault of a file that isn't written, by the step that failed: want of memory, or `fault`.
+pub(crate) fn step_fault(fault: Fault, step: Step) -> Fault
+    ensures { result ≡ step_fault fault step }
 {
     match step {
         Step::Memory => Fault::Memory,
-        _ => Fault::Digests,
+        _ => fault,
     }
 }
 

@@ -1,18 +1,13 @@
 //! The command `verify` over the files of a folder.
-ghost use Rattle.std.specs.Prelude.{◌≡◌, ◌+◌, ◌-◌, ◌^◌, ◌<◌, ◌≤◌, Some, None, false, IfErr, IfOk, OnOk};
-ghost use Rattle.morris_jobs.specs.Inputs.{IsUnfit, Joins};
+ghost use Rattle.std.specs.Prelude.{◌≡◌, ◌+◌, ◌-◌, ◌^◌, ◌<◌, ◌≤◌, Some, None, false, IfErr, IfOk};
 ghost use Rattle.morris_jobs.specs.Inputs.{MayFail};
-ghost use Rattle.morris_jobs.specs.Verified.{verified_text};
 ghost use Rattle.morris_jobs.specs.BoardNames.{board_of};
 ghost use Rattle.morris_jobs.specs.Faults.{CountsWrites, is_write};
 ghost use Rattle.morris_folder_commands.specs.Causes.{HasCause};
-ghost use Rattle.morris_folder_commands.specs.Filling.{PrintsLine};
-ghost use Rattle.morris_folder_commands.specs.From.{AnswersFound, AnswersFrom, AnswersFromOn, KeepsNear};
-ghost use Rattle.morris_folder_commands.specs.FromSteps.{AnswersFile, TakesIn};
+ghost use Rattle.morris_folder_commands.specs.From.{AnswersFound, AnswersFrom, AnswersFromOn, TakesIn, ended};
+ghost use Rattle.morris_folder_commands.specs.FromSteps.{AnswersFile};
 ghost use Rattle.morris_files.specs.Files.{Keeps};
 ghost use Rattle.morris_files.specs.Names.{name_of};
-ghost use Rattle.morris_pairs.specs.Shelves.{first_missing};
-ghost use Rattle.morris_pairs.specs.Tables.{IsTable};
 
 use crate::places::pair_at;
 use crate::survey::look_ahead;
@@ -24,12 +19,11 @@ use morris_index::below::PAIR_COUNT;
 use morris_index::pair::Pair;
 use morris_jobs::fault::Fault;
 use morris_jobs::on_board;
-use morris_jobs::orders::spare;
-use morris_jobs::print::send_after;
+use morris_jobs::orders::{spare, verify_over};
+use morris_jobs::print::print_after;
 use morris_jobs::print_verified::Verified;
 use morris_jobs::team::{Crew, Team};
 use morris_jobs::teller::Teller;
-use morris_pairs::exact::Exact;
 use morris_pairs::raw::Raw;
 use morris_pairs::table_set::TableSet;
 use std::alloc::Global;
@@ -122,7 +116,8 @@ fn verify_found<B: Board, R: Threads + Sync, F: Folder, O: Sink, T: Teller>(
         let Some(pair) = pair_at::<B>(place) else {
             continue;
         };
-        keep_near(&mut stock, pair);
+        // Also where there is no file.
+        spare(&mut stock, false, pair);
         if place == end {
             return Err(Fault::Unopened(pair.greater(), pair.lesser()));
         }
@@ -132,15 +127,14 @@ fn verify_found<B: Board, R: Threads + Sync, F: Folder, O: Sink, T: Teller>(
         sent = take_in(crew, &mut stock, raw, sent, output, teller)?;
         found = true;
     }
-    if found { Ok(()) } else { Err(Fault::NoFiles) }
+    ended(found)
 }
 
-/// Lets the tables go at a pair's turn that neither it needs nor any after it: in a folder before
-/// its file is read, and also where there is none.
-pub(crate) fn keep_near<B: Geometry>(stock: &mut TableSet<B>, pair: Pair<B>)
-    ensures { KeepsNear stock.old stock.new pair }
+/// The end, by whether there was a file.
+pub(crate) fn ended(found: bool) -> Result<(), Fault>
+    ensures { result ≡ ended found }
 {
-    spare(stock, false, pair);
+    if found { Ok(()) } else { Err(Fault::NoFiles) }
 }
 
 /// The table of a pair, where a folder has its file.
@@ -182,71 +176,16 @@ pub(crate) fn take_in<B: Board, R: Threads + Sync, O: Sink, T: Teller>(
     ensures counted { CountsWrites (O.failures output.old) (O.failures output.new) result }
     ensures told { T.becomes teller.old teller.new }
 {
-    let (pair, entries) = (raw.pair(), raw.len());
-    if let Err(refused) = join(crew, stock, raw, teller) {
-        return Err(refused.in_file(pair));
-    }
-    tell_verified(pair, entries, sent, output)
-}
-
-/// Puts a table into a stock once each of its entries is known to be right.
-fn join<B: Board, R: Threads + Sync, T: Teller>(
-    crew: Crew<'_, R>,
-    stock: &mut TableSet<B>,
-    raw: Raw<B>,
-    teller: &mut T,
-) -> Result<(), Fault>
-    ensures joined { OnOk result (Joins B.shape stock.old stock.new raw) }
-    ensures refused { IfErr result (IsUnfit B.shape stock.old raw) }
-    ensures unwritten { IfErr result (λ refused. is_write refused ≡ false) }
-    ensures told { T.becomes teller.old teller.new }
-{
-    teller.begin_pair(raw.pair());
-    let exact = verify_over(crew, stock, raw, teller)?;
-    teller.end_pair(&exact);
-    stock.put(exact);
-    Ok(())
-}
-
-/// The table, once each of its entries is known to be right over the tables of a stock.
-fn verify_over<B: Board, R: Threads + Sync, T: Teller>(
-    crew: Crew<'_, R>,
-    stock: &TableSet<B>,
-    raw: Raw<B>,
-    teller: &mut T,
-) -> Result<Exact<B>, Fault>
-    ensures ready { OnOk result (first_missing stock.now raw.pair ≡ None) }
-    ensures value { IfOk result (λ exact. exact ≡ raw) }
-    ensures exact { OnOk result (IsTable B.shape raw) }
-    ensures refused { IfErr result (IsUnfit B.shape stock.now raw) }
-    ensures unwritten { IfErr result (λ refused. is_write refused ≡ false) }
-    ensures told { T.becomes teller.old teller.new }
-{
-    let Crew { rt, alloc, team } = crew;
-    match raw.verify_watched(rt, alloc, stock, team.workers, teller) {
-        Ok(exact) => Ok(exact),
-        Err((_raw, refused)) => Err(Fault::from(refused)),
-    }
-}
-
-/// Prints that the table of a pair, of so many entries, was verified, where so many bytes were
-/// printed before, and answers how many have then been.
-fn tell_verified<B: Geometry, O: Sink>(
-    pair: Pair<B>,
-    entries: u64,
-    sent: u64,
-    output: &mut O,
-) -> Result<u64, Fault>
-    requires failures { O.failures output.old < 2 ^ 64 - 1 }
-    requires room { sent < 2 ^ 32 }
-    ensures printed { PrintsLine (verified_text pair entries) sent (O.contents output.old) (O.contents output.new) result }
-    ensures few { IfOk result (λ now. now ≤ sent + 2 ^ 10) }
-    ensures counted { CountsWrites (O.failures output.old) (O.failures output.new) result }
-{
+    let pair = raw.pair();
     // The proof learns here that the numbers of stones are those of a pair.
     let _ = pair.greater();
-    match send_after(&Verified { pair, entries }, sent, output) {
-        Ok(now) => Ok(now),
-        Err(now) => Err(Fault::Write(now)),
-    }
+    teller.begin_pair(pair);
+    let exact = match verify_over(crew, stock, raw, teller) {
+        Ok(exact) => exact,
+        Err(refused) => return Err(refused.in_file(pair)),
+    };
+    teller.end_pair(&exact);
+    let entries = exact.len();
+    stock.put(exact);
+    print_after(&Verified { pair, entries }, sent, output)
 }

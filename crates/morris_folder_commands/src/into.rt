@@ -1,30 +1,28 @@
 //! The command `build` into a folder.
-ghost use Rattle.std.specs.Prelude.{◌≡◌, ℕ, ◌+◌, ◌-◌, ◌^◌, ◌<◌, ◌≤◌, ◌++◌, List, Option, Some, true, false, is_some, length, Err, IfErr, IfOk, MatchResult, OnOk};
+ghost use Rattle.std.specs.Prelude.{◌≡◌, ℕ, ◌-◌, ◌^◌, ◌<◌, ◌≤◌, ◌++◌, List, Option, Some, true, false, is_some, length, Err, IfErr, IfOk, MatchResult};
 ghost use Rattle.morris_pairs.specs.Shelves.{table_on};
 ghost use Rattle.morris_jobs.specs.Orders.{layout_asked};
 ghost use Rattle.morris_jobs.specs.Faults.{CountsWrites, is_write};
 ghost use Rattle.morris_folder_commands.specs.Causes.{HasCause, MayBeLong};
-ghost use Rattle.morris_folder_commands.specs.Filling.{IsFilledBut, KeepsTable, PrintsLine};
-ghost use Rattle.morris_folder_commands.specs.Into.{AnswersFolder, AnswersInto, AnswersRead, Ends, FillsFolder, IsAsked, IsAskedOf, filed_text, place_of, unwritten_fault};
+ghost use Rattle.morris_folder_commands.specs.Filling.{IsFilledBut, KeepsTable};
+ghost use Rattle.morris_folder_commands.specs.Into.{AnswersFolder, AnswersInto, AnswersIntoOn, Ends, FillsFolder, IsAsked, filed_text, place_of};
 ghost use Rattle.morris_jobs.specs.BoardNames.{board_of};
-ghost use Rattle.morris_jobs.specs.PairText.{read_pair_of};
 ghost use Rattle.morris_files.specs.Digests.{digest_lines};
 
-use crate::entering::{begin_list, digests_fault, enter};
+use crate::entering::{begin_list, enter, step_fault};
 use crate::print_filed::Filed;
 use morris_board::board::{Board, Geometry};
 use morris_board::streams::Sink;
 use morris_files::digests::write_list;
 use morris_files::folder::Folder;
 use morris_files::table_file::{Written, write_table_file};
-use morris_files::whole::Step;
 use morris_index::below::PAIR_COUNT;
 use morris_index::pair::Pair;
 use morris_jobs::fault::Fault;
 use morris_jobs::on_board;
 use morris_jobs::orders::{Order, build_onto, layout_of, spare};
 use morris_jobs::pairs::read_pair;
-use morris_jobs::print::send_after;
+use morris_jobs::print::print_after;
 use morris_jobs::size::Way;
 use morris_jobs::team::{Crew, Team};
 use morris_jobs::teller::Teller;
@@ -116,10 +114,9 @@ fn into_on<B: Board, R: Threads + Wait + Sync, F: Folder, O: Sink, T: Teller>(
     requires output { O.failures output.old < 2 ^ 64 - 1 }
     // The caller's proof learns here that the board has as many points as its shape says.
     ensures points { B.shape.points ≡ B.POINTS }
-    ensures answer { AnswersRead B.shape layout order.entry.board.now order.entry.workers order.entry.blocks
-        (place_of (F.files folder.old) (O.contents output.old)) (place_of (F.files folder.new) (O.contents output.new)) result
-        (read_pair_of B.shape.points order.entry.pair.now) }
-    ensures untouched { ¬ IsAskedOf B.shape.points order.entry.pair.now order.entry.workers order.entry.blocks → folder.new ≡ folder.old }
+    ensures answer { AnswersIntoOn B.shape layout order.entry.board.now order.entry.pair.now order.entry.workers order.entry.blocks
+        (place_of (F.files folder.old) (O.contents output.old)) (place_of (F.files folder.new) (O.contents output.new)) result }
+    ensures untouched { ¬ IsAsked (Some B.shape) order.entry.pair.now order.entry.workers order.entry.blocks → folder.new ≡ folder.old }
     ensures caused { HasCause F.Reader.failures F.Writer.failures (F.taken folder.old) (MayBeLong order.entry.board.now (F.files folder.old))
         (F.failures folder.old) (F.failures folder.new) result }
     ensures counted { CountsWrites (O.failures output.old) (O.failures output.new) result }
@@ -226,7 +223,7 @@ fn fill<B: Board, R: Threads + Wait + Sync, F: Folder, O: Sink, T: Teller>(
         spare(&mut stock, false, below);
         build_onto(crew, &mut stock, layout, below, teller)?;
         let file = keep_table(alloc, board, &stock, below, folder)?;
-        sent = tell_file(&file, sent, output)?;
+        sent = print_after(&Filed { file: &file }, sent, output)?;
         written.push_reserved(file);
     }
     Ok(written)
@@ -257,37 +254,10 @@ fn keep_table<B: Geometry, F: Folder>(
     let _ = (pair.greater(), table.len());
     match write_table_file(alloc, folder, board, table) {
         Ok(written) => Ok(written),
-        Err(fault) => Err(unwritten_fault(pair, fault.step)),
-    }
-}
-
-/// The fault of a pair whose file isn't written, by the step that failed.
-fn unwritten_fault<B: Geometry>(pair: Pair<B>, step: Step) -> Fault
-    ensures { result ≡ unwritten_fault pair step }
-{
-    match step {
-        Step::Memory => Fault::Memory,
-        _ => Fault::Unwritten(pair.greater(), pair.lesser()),
-    }
-}
-
-/// Prints the line of a file where so many bytes were printed before, and answers how many have
-/// then been.
-fn tell_file<B: Geometry, O: Sink>(
-    file: &Written<B>,
-    sent: u64,
-    output: &mut O,
-) -> Result<u64, Fault>
-    requires failures { O.failures output.old < 2 ^ 64 - 1 }
-    requires short { length (filed_text file.now.pair file.now.entries file.now.bytes file.now.digest) ≤ 2 ^ 10 }
-    requires room { sent < 2 ^ 32 }
-    ensures printed { PrintsLine (filed_text file.now.pair file.now.entries file.now.bytes file.now.digest) sent (O.contents output.old) (O.contents output.new) result }
-    ensures few { IfOk result (λ now. now ≤ sent + 2 ^ 10) }
-    ensures counted { CountsWrites (O.failures output.old) (O.failures output.new) result }
-{
-    match send_after(&Filed { file }, sent, output) {
-        Ok(now) => Ok(now),
-        Err(now) => Err(Fault::Write(now)),
+        Err(fault) => {
+            let unwritten = Fault::Unwritten(pair.greater(), pair.lesser());
+            Err(step_fault(unwritten, fault.step))
+        }
     }
 }
 
@@ -308,6 +278,6 @@ fn end<B: Geometry, F: Folder>(
 {
     match write_list(alloc, folder, board, kept, written) {
         Ok(()) => Ok(()),
-        Err(fault) => Err(digests_fault(fault.step)),
+        Err(fault) => Err(step_fault(Fault::Digests, fault.step)),
     }
 }

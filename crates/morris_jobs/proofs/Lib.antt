@@ -2,4 +2,5 @@
 pub mod NearLaws
 pub mod FaultLaws
 pub mod OrderLaws
+pub mod BundleLaws
 pub mod PieceLaws

@@ -11,7 +11,7 @@ use Rattle.morris_pairs.specs.declared.layout.Layout.{Layout}
 use Rattle.morris_pairs.specs.Shelves.{Stored, first_missing, kept_from, table_on}
 use Rattle.morris_pairs.specs.Tables.{Table}
 use Rattle.morris_pairs.proofs.ShelfLaws.{cases_pair, none-missing}
-use Rattle.morris_jobs.specs.Orders.{HasExactAt, IsSpared, stones}
+use Rattle.morris_jobs.specs.Orders.{HasExactAt, IsSpared, KeepsNear, stones}
 
 -- none has fewer stones than one before it
 abbrev rising : List Counts → Bool
@@ -131,10 +131,13 @@ module _ (old new : Stored) (c : Counts) (goes : (d : Counts) → table_on new d
       let enough : stones c - 1 ≤ stones d = omega arith in
       goes d ∙ cond-true (nat_le (stones c - 1) (stones d)) (table_on old d) None (le-leb _ _ enough)
 
-  pub let_go-gone : (d : Counts) → stones d + 1 < stones c → table_on new d ≡ None
+  let_go-gone : (d : Counts) → stones d + 1 < stones c → table_on new d ≡ None
   let_go-gone d far =
       let few : stones d < stones c - 1 = omega arith in
       goes d ∙ cond-false (nat_le (stones c - 1) (stones d)) (table_on old d) None (fewer (stones c - 1) (stones d) few)
     where
       fewer : (a b : ℕ) → b < a → nat_le a b ≡ false
       fewer a b h = grind arith
+
+  pub let_go-keeps : KeepsNear old new c
+  let_go-keeps = record { near = let_go-spares; far = let_go-gone }

@@ -1,8 +1,8 @@
 -- What is answered of an order that names a pair, by a team that there may be.
 use Rattle.std.proofs.Common.{◌≡◌, ℕ, Bool, true, false, List, Option, None, Some, Result, Ok, Err, refl, sym, ap, subst, ◌∙◌}
-use Rattle.std.specs.Prelude.{option_map, if◌then◌else◌}
+use Rattle.std.specs.Prelude.{◌-◌, option_map, slice_index, if◌then◌else◌}
 use Rattle.morris_board.specs.Boards.{Shape}
-use Rattle.morris_index.specs.Pairs.{Counts}
+use Rattle.morris_index.specs.Pairs.{Counts, pair_made}
 use Rattle.morris_index.specs.declared.faults.PairFault.{PairFault}
 use Rattle.morris_index.specs.declared.faults.PairFault.TheVariants as pair
 use Rattle.morris_workers.specs.Ranges.{range_fault}
@@ -24,37 +24,32 @@ module _ {T : Type 0} {n : ℕ} (board : Shape) (points : board.points ≡ n) (t
       subst (λ found. OnRead (λ refused. refused) found r untouched (λ c. OnTeam (range_fault workers blocks) r untouched (answers c)))
       (read ∙ ap (λ m. read_pair_of m text) (sym points)) (subst (λ wrong. OnTeam wrong r untouched (answers pair)) (sym fits) here)
 
--- the refusal of a text that names no pair isn't that of a write
-same_fault : (f g : Fault) (answer : Result Counts Fault) → Err f ≡ answer → answer ≡ Err g → f ≡ g
-same_fault f g answer e is = cc
+-- what is so of each refusal of a text that names no pair, and of a team that there may not be
+module _ (P : Fault → Type 0) where
+  pub of_unread : P fault.Counts → P fault.Crowded → P fault.PairText → (n : ℕ) (text : List ℕ) (f : Fault) → Err f ≡ read_pair_of n text → P f
+  of_unread counts crowded unnamed n text f e = by_test (is_pair_text text) (pair_made n (slice_index text 0 - 48) (slice_index text 2 - 48)) e
+    where
+      by_test : (b : Bool) (made : Result Counts PairFault) → Err f ≡ (if b then pair_read made else Err fault.PairText) → P f
+      by_test true (Ok made) e = cc
+      by_test true (Err pair.Counts) e = let same : fault.Counts ≡ f = cc in subst P same counts
+      by_test true (Err pair.Crowded) e = let same : fault.Crowded ≡ f = cc in subst P same crowded
+      by_test false made e = let same : fault.PairText ≡ f = cc in subst P same unnamed
 
-unmade : (found : Result Counts PairFault) (f : Fault) → Err f ≡ pair_read found → is_write f ≡ false
-unmade (Ok made) f e =
-    let bad : Err f ≡ Ok made = e in
-    cc
-unmade (Err pair.Counts) f e = ap is_write (same_fault f fault.Counts _ e refl)
-unmade (Err pair.Crowded) f e = ap is_write (same_fault f fault.Crowded _ e refl)
+  pub of_unfit : P fault.Workers → P fault.Blocks → P fault.Memory → ((number : ℕ) → P (fault.Missing number)) → P fault.TooDeep
+      → (wrong : Option SolveFault) (f : Fault) → option_map solve_fault wrong ≡ Some f → P f
+  of_unfit workers blocks memory missing deep None f e = cc
+  of_unfit workers blocks memory missing deep (Some refused) f e = let same : solve_fault refused ≡ f = cc in subst P same (solved refused)
+    where
+      solved : (refused : SolveFault) → P (solve_fault refused)
+      solved solve.Workers = workers
+      solved solve.Blocks = blocks
+      solved solve.Memory = memory
+      solved (solve.Missing number) = missing number
+      solved solve.TooDeep = deep
 
-unnamed : (b : Bool) (found : Result Counts PairFault) (f : Fault) → Err f ≡ (if b then pair_read found else Err fault.PairText) → is_write f ≡ false
-unnamed true found f e = unmade found f e
-unnamed false found f e = ap is_write (same_fault f fault.PairText _ e refl)
-
+-- neither is that of a write
 pub unread_unwritten : (n : ℕ) (text : List ℕ) (f : Fault) → Err f ≡ read_pair_of n text → is_write f ≡ false
-unread_unwritten n text f e = unnamed (is_pair_text text) _ f e
+unread_unwritten = of_unread (λ f. is_write f ≡ false) refl refl refl
 
--- nor is that of a team that there may not be
 pub unfit_unwritten : (wrong : Option SolveFault) (f : Fault) → option_map solve_fault wrong ≡ Some f → is_write f ≡ false
-unfit_unwritten None f e =
-    let bad : None ≡ Some f = e in
-    cc
-unfit_unwritten (Some refused) f e =
-    let same : Some (solve_fault refused) ≡ Some f = e in
-    let told : f ≡ solve_fault refused = cc in
-    ap is_write told ∙ solved refused
-  where
-    solved : (refused : SolveFault) → is_write (solve_fault refused) ≡ false
-    solved solve.Workers = refl
-    solved solve.Blocks = refl
-    solved solve.Memory = refl
-    solved (solve.Missing number) = refl
-    solved solve.TooDeep = refl
+unfit_unwritten = of_unfit (λ f. is_write f ≡ false) refl refl refl (λ number. refl) refl

@@ -2,7 +2,7 @@
 use Rattle.std.specs.Prelude.{◌≡◌, ℕ, ◌+◌, ◌<◌, ◌==◌, Bool, true, false, List, [], ◌∷◌, ◌++◌, length, take, codes, Option, Some, None, Result, Ok, Err, if◌then◌else◌}
 use Rattle.std.specs.Fmt.{decimal}
 use Rattle.std.specs.Io.KnownBytes.{Appends}
-use Rattle.morris_board.specs.Streams.{CountsFailure}
+use Rattle.morris_board.specs.Streams.{AllSent, CountsFailure, PartSent}
 use Rattle.morris_board.specs.declared.faults.TextFault.{TextFault}
 use Rattle.morris_board.specs.declared.faults.TextFault.TheVariants as text
 use Rattle.morris_index.specs.declared.faults.PairFault.{PairFault}
@@ -25,8 +25,6 @@ use Rattle.morris_jobs.specs.declared.flaw.Flaw.{Flaw}
 use Rattle.morris_jobs.specs.declared.flaw.Flaw.TheVariants as flaw
 use Rattle.morris_jobs.specs.declared.wording.Words.{Words}
 use Rattle.morris_jobs.specs.declared.wording.Words.TheVariants.{Plain, Number, Pair}
-use Rattle.morris_jobs.specs.declared.wording.Wording.{Wording}
-use Rattle.morris_jobs.specs.declared.wording.Wording.TheVariants.{Alone, InFile}
 
 -- the fault that a refused text is answered with
 abbrev pub text_fault : TextFault → Fault
@@ -155,15 +153,6 @@ length_around (Plain text) = length text.now
 length_around (Number before number after) = length before.now + length after.now
 length_around (Pair before greater lesser after) = length before.now + length after.now
 
--- words, and in which file
-abbrev pub worded : Wording → List ℕ
-worded (Alone words) = said words
-worded (InFile words greater lesser) = said words ++ codes ", in the file of " ++ stones_text greater lesser
-
-abbrev pub length_worded : Wording → ℕ
-length_worded (Alone words) = length_around words
-length_worded (InFile words greater lesser) = length_around words
-
 -- the text of a flaw
 abbrev pub flaw_text : Flaw → List ℕ
 flaw_text flaw.Short = codes "file is too short"
@@ -222,6 +211,11 @@ fault_text fault.Disagree = codes "the files of this position and its moves disa
 fault_text fault.Unlocked = codes "folder can't be locked"
 fault_text (fault.InFile greater lesser f) = flaw_text f ++ codes ", in the file of " ++ stones_text greater lesser
 
+-- that but for the file in which it was met
+abbrev pub own_text : Fault → List ℕ
+own_text (fault.InFile greater lesser f) = flaw_text f
+own_text f = fault_text f
+
 -- the flaw that a fault says a table file has, where it doesn't say which file
 abbrev pub flaw_in : Fault → Option Flaw
 flaw_in fault.Counts = Some flaw.Counts
@@ -237,11 +231,6 @@ flaw_in fault.Digest = Some flaw.Digest
 flaw_in fault.Trailing = Some flaw.Trailing
 flaw_in fault.Read = Some flaw.Read
 flaw_in _ = None
-
--- whether a fault says in which file a flaw was met
-abbrev pub is_in_file : Fault → Bool
-is_in_file (fault.InFile greater lesser f) = true
-is_in_file _ = false
 
 -- a fault as it is told where it was met in the file of a pair: a flaw says of which file it is
 abbrev pub in_file : Counts → Fault → Fault
@@ -261,6 +250,12 @@ abbrev pub Prints : {T : Type 0} → Option (List ℕ) → Option (List ℕ) →
 Prints old new printed (Ok done) = Appends old new printed
 Prints old new printed (Err (fault.Write sent)) = (sent < length printed) × Appends old new (take sent printed)
 Prints old new printed (Err _) = ⊥
+
+-- a line is printed where `sent` bytes were before, or its first bytes are
+abbrev pub PrintsLine : List ℕ → ℕ → Option (List ℕ) → Option (List ℕ) → Result ℕ Fault → Type 0
+PrintsLine text sent old new (Ok now) = AllSent old new sent now text
+PrintsLine text sent old new (Err (fault.Write now)) = PartSent old new sent now text
+PrintsLine text sent old new (Err _) = ⊥
 
 -- whether the answer says that a write failed
 abbrev pub is_write : Fault → Bool

@@ -35,7 +35,3 @@ abbrev pub IsUnfit : Shape → Stored → Table → Fault → Type 0
 IsUnfit board shelf t (fault.Needs greater lesser) = first_missing shelf t.pair ≡ Some (counts greater lesser)
 IsUnfit board shelf t (fault.Differs index) = (first_missing shelf t.pair ≡ None) × IsFirstToDiffer board t index
 IsUnfit board shelf t _ = ⊥
-
--- at most so many files are taken
-abbrev pub most_files : ℕ
-most_files = 64

@@ -7,4 +7,5 @@ pub mod Sizes
 pub mod Orders
 pub mod Answering
 pub mod Inputs
+pub mod Bundles
 pub mod Verified

@@ -1,5 +1,5 @@
 -- The tables that are asked for, and what is so when one of them is built.
-use Rattle.std.specs.Prelude.{◌≡◌, ⊤, ℕ, ◌+◌, ◌<◌, ◌≤◌, Bool, Some, if◌then◌else◌}
+use Rattle.std.specs.Prelude.{◌≡◌, ⊤, ℕ, ◌+◌, ◌<◌, ◌≤◌, Bool, Some, None, if◌then◌else◌}
 use Rattle.morris_board.specs.Boards.{Shape}
 use Rattle.morris_index.specs.Pairs.{Counts}
 use Rattle.morris_pairs.specs.declared.layout.Layout.{Layout}
@@ -26,6 +26,11 @@ stones c = c.greater + c.lesser
 -- what a pair or one after it may need is still there: it needs tables of one stone less
 abbrev pub IsSpared : Stored → Stored → Counts → Type 0
 IsSpared old new c = (d : Counts) → stones c ≤ stones d + 1 → table_on new d ≡ table_on old d
+
+-- At a pair's turn that is so, and no other tables are there.
+pub record KeepsNear (old new : Stored) (c : Counts) : Type 0 where
+  pub near : IsSpared old new c
+  pub far : (d : Counts) → stones d + 1 < stones c → table_on new d ≡ None
 
 -- Why a pair isn't built, where those that it needs are there: want of memory; a block of this
 -- number was left incomplete; or codes don't suffice for the depths.

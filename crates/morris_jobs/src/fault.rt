@@ -1,9 +1,9 @@
 //! What a command can be refused for.
-ghost use Rattle.std.specs.Prelude.{◌≡◌, ◌≤◌, None, false};
-ghost use Rattle.morris_jobs.specs.Faults.{build_fault, fault_number, fault_text, flaw_in, in_file, is_in_file, length_around, length_worded, needs_fault, pair_fault, probe_fault, said, solve_fault, text_fault, verify_fault, worded};
+ghost use Rattle.std.specs.Prelude.{◌≡◌, ◌≤◌, None};
+ghost use Rattle.morris_jobs.specs.Faults.{build_fault, fault_number, flaw_in, in_file, length_around, needs_fault, own_text, pair_fault, probe_fault, said, solve_fault, text_fault, verify_fault};
 
 use crate::flaw::Flaw;
-use crate::wording::{Wording, Words};
+use crate::wording::Words;
 use morris_board::board::Geometry;
 use morris_board::faults::TextFault;
 use morris_index::faults::PairFault;
@@ -105,97 +105,60 @@ impl Fault {
     pub fn number(&self) -> u8
         ensures { result ≡ fault_number self.now }
     {
+        self.told().0
+    }
+
+    /// The number of the fault, and its words but for the file in which it was met.
+    pub fn told(&self) -> (u8, Words)
+        ensures number { result.0 ≡ fault_number self.now }
+        ensures text { said result.1 ≡ own_text self.now }
+        ensures short { length_around result.1 ≤ 64 }
+    {
         match self.flaw() {
-            Some(flaw) => flaw.number(),
-            None => self.own_number(),
+            Some(flaw) => flaw.told(),
+            None => self.own(),
         }
     }
 
-    /// The number of a fault that isn't a flaw without its file.
-    fn own_number(&self) -> u8
+    /// The same of a fault that isn't a flaw without its file.
+    fn own(&self) -> (u8, Words)
         requires { flaw_in self.now ≡ None }
-        ensures { result ≡ fault_number self.now }
-    {
-        match self {
-            Fault::Length => 1,
-            Fault::Character(_) => 2,
-            Fault::Stones => 3,
-            Fault::Blocks => 6,
-            Fault::Missing(_) => 8,
-            Fault::TooDeep => 10,
-            Fault::Workers => 11,
-            Fault::Memory => 12,
-            Fault::Write(_) => 23,
-            Fault::Board => 25,
-            Fault::PairText => 26,
-            Fault::TooMany => 27,
-            Fault::Folder => 28,
-            Fault::Unwritten(_, _) => 29,
-            Fault::Unopened(_, _) => 30,
-            Fault::OtherPair(_, _) => 31,
-            Fault::NoFiles => 32,
-            Fault::Unanswered(_) => 33,
-            Fault::Digests => 34,
-            Fault::Busy => 35,
-            Fault::NoFolder => 36,
-            Fault::Disagree => 37,
-            Fault::Unlocked => 38,
-            Fault::InFile(_, _, flaw) => flaw.number(),
-            _ => unreachable!(),
-        }
-    }
-
-    /// How the text of the fault is made up.
-    pub fn wording(&self) -> Wording
-        ensures text { worded result ≡ fault_text self.now }
-        ensures short { length_worded result ≤ 64 }
-    {
-        if let Fault::InFile(greater, lesser, flaw) = *self {
-            return Wording::InFile(flaw.words(), greater, lesser);
-        }
-        match self.flaw() {
-            Some(flaw) => Wording::Alone(flaw.words()),
-            None => Wording::Alone(self.own_words()),
-        }
-    }
-
-    /// The words of a fault that isn't a flaw, with its file or without it.
-    fn own_words(&self) -> Words
-        requires no_flaw { flaw_in self.now ≡ None }
-        requires no_file { is_in_file self.now ≡ false }
-        ensures text { said result ≡ fault_text self.now }
-        ensures short { length_around result ≤ 64 }
+        ensures number { result.0 ≡ fault_number self.now }
+        ensures text { said result.1 ≡ own_text self.now }
+        ensures short { length_around result.1 ≤ 64 }
     {
         match *self {
-            Fault::Length => Words::Plain("text is not one character per point"),
-            Fault::Character(place) => Words::Number("bad character at ", place as u64, ""),
-            Fault::Stones => Words::Plain("bad number of stones"),
-            Fault::Blocks => Words::Plain("blocks must be 1 to 1024"),
-            Fault::Missing(number) => Words::Number("block ", number, " is not complete"),
-            Fault::TooDeep => Words::Plain("depth is too great"),
-            Fault::Workers => Words::Plain("workers must be 1 to 64"),
-            Fault::Memory => Words::Plain("out of memory"),
-            Fault::Write(sent) => Words::Number("writing failed after ", sent, " bytes"),
-            Fault::Board => Words::Plain("no such board"),
-            Fault::PairText => Words::Plain("not a pair"),
-            Fault::TooMany => Words::Plain("more than 64 tables"),
-            Fault::Folder => Words::Plain("folder can't be made"),
-            Fault::Unwritten(a, b) => Words::Pair("file of ", a, b, " can't be written"),
-            Fault::Unopened(a, b) => Words::Pair("file of ", a, b, " can't be opened"),
-            Fault::OtherPair(a, b) => Words::Pair(
-                "file of ",
-                a,
-                b,
-                " has the table of another pair",
+            Fault::Length => (1, Words::Plain("text is not one character per point")),
+            Fault::Character(place) => (2, Words::Number("bad character at ", place as u64, "")),
+            Fault::Stones => (3, Words::Plain("bad number of stones")),
+            Fault::Blocks => (6, Words::Plain("blocks must be 1 to 1024")),
+            Fault::Missing(number) => (8, Words::Number("block ", number, " is not complete")),
+            Fault::TooDeep => (10, Words::Plain("depth is too great")),
+            Fault::Workers => (11, Words::Plain("workers must be 1 to 64")),
+            Fault::Memory => (12, Words::Plain("out of memory")),
+            Fault::Write(sent) => (23, Words::Number("writing failed after ", sent, " bytes")),
+            Fault::Board => (25, Words::Plain("no such board")),
+            Fault::PairText => (26, Words::Plain("not a pair")),
+            Fault::TooMany => (27, Words::Plain("more than 64 tables")),
+            Fault::Folder => (28, Words::Plain("folder can't be made")),
+            Fault::Unwritten(a, b) => (29, Words::Pair("file of ", a, b, " can't be written")),
+            Fault::Unopened(a, b) => (30, Words::Pair("file of ", a, b, " can't be opened")),
+            Fault::OtherPair(a, b) => (
+                31,
+                Words::Pair("file of ", a, b, " has the table of another pair"),
             ),
-            Fault::NoFiles => Words::Plain("no table files"),
-            Fault::Unanswered(1) => Words::Plain("1 line has no answer"),
-            Fault::Unanswered(count) => Words::Number("", count, " lines have no answer"),
-            Fault::Digests => Words::Plain("file of digests can't be written"),
-            Fault::Busy => Words::Plain("another build is at work in this folder"),
-            Fault::NoFolder => Words::Plain("no such folder"),
-            Fault::Disagree => Words::Plain("the files of this position and its moves disagree"),
-            Fault::Unlocked => Words::Plain("folder can't be locked"),
+            Fault::NoFiles => (32, Words::Plain("no table files")),
+            Fault::Unanswered(1) => (33, Words::Plain("1 line has no answer")),
+            Fault::Unanswered(count) => (33, Words::Number("", count, " lines have no answer")),
+            Fault::Digests => (34, Words::Plain("file of digests can't be written")),
+            Fault::Busy => (35, Words::Plain("another build is at work in this folder")),
+            Fault::NoFolder => (36, Words::Plain("no such folder")),
+            Fault::Disagree => (
+                37,
+                Words::Plain("the files of this position and its moves disagree"),
+            ),
+            Fault::Unlocked => (38, Words::Plain("folder can't be locked")),
+            Fault::InFile(_, _, flaw) => flaw.told(),
             _ => unreachable!(),
         }
     }
@@ -251,8 +214,13 @@ impl fmt::Display for Fault {
     ghost output = { λ fault. Some (fault_text fault) };
 
     fn fmt<W: fmt::Write>(&self, f: &mut fmt::Formatter<W>) -> fmt::Result {
-        let wording = self.wording();
-        write!(f, "{wording}")
+        let (_, words) = self.told();
+        match *self {
+            Fault::InFile(greater, lesser, _) => {
+                write!(f, "{words}, in the file of {greater}-{lesser}")
+            }
+            _ => write!(f, "{words}"),
+        }
     }
 }
 

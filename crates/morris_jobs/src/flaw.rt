@@ -37,44 +37,25 @@ pub enum Flaw {
 }
 
 impl Flaw {
-    /// The number of the flaw.
-    pub fn number(self) -> u8
-        ensures { result ≡ flaw_number self }
+    /// The number of the flaw, and its words.
+    pub fn told(self) -> (u8, Words)
+        ensures number { result.0 ≡ flaw_number self }
+        ensures text { said result.1 ≡ flaw_text self }
+        ensures short { length_around result.1 ≤ 64 }
     {
         match self {
-            Flaw::Counts => 4,
-            Flaw::Crowded => 5,
-            Flaw::Needs(_, _) => 13,
-            Flaw::Differs(_) => 14,
-            Flaw::Short => 15,
-            Flaw::Magic => 16,
-            Flaw::Version => 17,
-            Flaw::BoardId => 18,
-            Flaw::Count => 19,
-            Flaw::Digest => 20,
-            Flaw::Trailing => 21,
-            Flaw::Read => 22,
-        }
-    }
-
-    /// The words of the flaw.
-    pub fn words(self) -> Words
-        ensures text { said result ≡ flaw_text self }
-        ensures short { length_around result ≤ 64 }
-    {
-        match self {
-            Flaw::Counts => Words::Plain("bad counts"),
-            Flaw::Crowded => Words::Plain("more stones than points"),
-            Flaw::Needs(greater, lesser) => Words::Pair("needs ", greater, lesser, ""),
-            Flaw::Differs(index) => Words::Number("entry ", index, " differs"),
-            Flaw::Short => Words::Plain("file is too short"),
-            Flaw::Magic => Words::Plain("not a table file"),
-            Flaw::Version => Words::Plain("unknown version"),
-            Flaw::BoardId => Words::Plain("another board"),
-            Flaw::Count => Words::Plain("wrong number of entries"),
-            Flaw::Digest => Words::Plain("digest is wrong"),
-            Flaw::Trailing => Words::Plain("bytes after the table"),
-            Flaw::Read => Words::Plain("reading failed"),
+            Flaw::Counts => (4, Words::Plain("bad counts")),
+            Flaw::Crowded => (5, Words::Plain("more stones than points")),
+            Flaw::Needs(greater, lesser) => (13, Words::Pair("needs ", greater, lesser, "")),
+            Flaw::Differs(index) => (14, Words::Number("entry ", index, " differs")),
+            Flaw::Short => (15, Words::Plain("file is too short")),
+            Flaw::Magic => (16, Words::Plain("not a table file")),
+            Flaw::Version => (17, Words::Plain("unknown version")),
+            Flaw::BoardId => (18, Words::Plain("another board")),
+            Flaw::Count => (19, Words::Plain("wrong number of entries")),
+            Flaw::Digest => (20, Words::Plain("digest is wrong")),
+            Flaw::Trailing => (21, Words::Plain("bytes after the table")),
+            Flaw::Read => (22, Words::Plain("reading failed")),
         }
     }
 }

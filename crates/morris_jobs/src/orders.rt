@@ -1,16 +1,21 @@
-//! The tables that are asked for, and how one of them after the other is built.
-ghost use Rattle.std.specs.Prelude.{◌≡◌, ◌≢◌, ◌+◌, ◌<◌, None, true, false, IfErr, OnOk};
+//! The tables that are asked for, and how one of them after the other is built or verified.
+ghost use Rattle.std.specs.Prelude.{◌≡◌, ◌≢◌, None, true, false, IfErr, IfOk, OnOk};
 ghost use Rattle.morris_index.specs.Pairs.{Counts};
 ghost use Rattle.morris_pairs.specs.Known.{IsBeyondCodes};
 ghost use Rattle.morris_pairs.specs.Shelves.{first_missing, table_on};
-ghost use Rattle.morris_jobs.specs.Orders.{HasExactAt, IsSpared, IsUnbuiltAt, layout_asked, stones};
+ghost use Rattle.morris_pairs.specs.Tables.{IsTable};
+ghost use Rattle.morris_jobs.specs.Faults.{is_write};
+ghost use Rattle.morris_jobs.specs.Inputs.{IsUnfit};
+ghost use Rattle.morris_jobs.specs.Orders.{HasExactAt, IsSpared, IsUnbuiltAt, KeepsNear, layout_asked};
 
 use crate::fault::Fault;
 use crate::team::Crew;
 use crate::teller::Teller;
 use morris_board::board::{Board, Geometry};
 use morris_index::pair::Pair;
+use morris_pairs::exact::Exact;
 use morris_pairs::layout::Layout;
+use morris_pairs::raw::Raw;
 use morris_pairs::table_set::TableSet;
 use morris_table::building::build_watched;
 use morris_workers::OpenGate;
@@ -45,7 +50,7 @@ pub fn layout_of(classes: bool) -> Layout
 pub fn spare<B: Geometry>(stock: &mut TableSet<B>, all: bool, pair: Pair<B>)
     ensures near { IsSpared stock.old stock.new pair }
     ensures all { all ≡ true → (c : Counts) → table_on stock.new c ≡ table_on stock.old c }
-    ensures gone { all ≡ false → (c : Counts) → stones c + 1 < stones pair → table_on stock.new c ≡ None }
+    ensures gone { all ≡ false → KeepsNear stock.old stock.new pair }
 {
     if !all {
         stock.let_go(pair.greater() + pair.lesser() - 1);
@@ -76,4 +81,31 @@ pub fn build_onto<B: Board, R: Threads + Wait + Sync, T: Teller>(
     teller.end_pair(&table);
     stock.put(table);
     Ok(())
+}
+
+/// The table that was read of a file, once each of its entries is known to be right over a set of
+/// tables. The workers share the entries out among them.
+///
+/// # Errors
+/// [`Fault::Needs`] with the first pair whose table the table's pair needs and that isn't there,
+/// else [`Fault::Differs`] with the index of the first entry that isn't what the rules give from the
+/// entries of its results.
+pub fn verify_over<B: Board, R: Threads + Sync, T: Teller>(
+    crew: Crew<'_, R>,
+    stock: &TableSet<B>,
+    raw: Raw<B>,
+    teller: &mut T,
+) -> Result<Exact<B>, Fault>
+    ensures ready { OnOk result (first_missing stock.now raw.pair ≡ None) }
+    ensures value { IfOk result (λ exact. exact ≡ raw) }
+    ensures exact { OnOk result (IsTable B.shape raw) }
+    ensures refused { IfErr result (IsUnfit B.shape stock.now raw) }
+    ensures unwritten { IfErr result (λ refused. is_write refused ≡ false) }
+    ensures told { T.becomes teller.old teller.new }
+{
+    let Crew { rt, alloc, team } = crew;
+    match raw.verify_watched(rt, alloc, stock, team.workers, teller) {
+        Ok(exact) => Ok(exact),
+        Err((_raw, refused)) => Err(Fault::from(refused)),
+    }
 }

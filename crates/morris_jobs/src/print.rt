@@ -1,9 +1,9 @@
 //! What is printed: a text, and that it goes out through a buffer.
 ghost use Rattle.std.specs.Prelude.{◌≡◌, ℕ, ◌-◌, ◌^◌, ◌<◌, List, ⊤, [], length, OnOk};
 ghost use Rattle.morris_board.specs.Buffered.{Passes, held_of, sink_of, taken_of};
-ghost use Rattle.morris_board.specs.Streams.{CountsFailure, HasSent};
+ghost use Rattle.morris_board.specs.Streams.{CountsFailure};
 ghost use Rattle.morris_probe.specs.Reports.{WentOut};
-ghost use Rattle.morris_jobs.specs.Faults.{CountsWrites, Prints};
+ghost use Rattle.morris_jobs.specs.Faults.{CountsWrites, Prints, PrintsLine};
 
 use crate::fault::Fault;
 use morris_board::streams::buffered::Buffered;
@@ -50,6 +50,26 @@ pub fn print<P: Printed, S: Sink>(text: &P, output: &mut S) -> Result<(), Fault>
     }
 }
 
+/// Prints a text as [`print`] does, where `sent` bytes were printed before it, and answers how many
+/// have then been.
+///
+/// # Errors
+/// [`Fault::Write`], with all bytes that went out, at the first write that fails.
+pub fn print_after<P: Printed, S: Sink>(text: &P, sent: u64, output: &mut S) -> Result<u64, Fault>
+    requires short { P.is_short text.now }
+    requires few { length (P.bytes text.now) < 2 ^ 32 }
+    requires failures { S.failures output.old < 2 ^ 64 - 1 }
+    requires room { sent < 2 ^ 63 }
+    ensures printed { PrintsLine (P.bytes text.now) sent (S.contents output.old) (S.contents output.new) result }
+    ensures counted { CountsWrites (S.failures output.old) (S.failures output.new) result }
+{
+    let mut out = Buffered::new(output);
+    match put_all(text, &mut out) {
+        Ok(()) => Ok(sent + out.sent()),
+        Err(Failed) => Err(Fault::Write(sent + out.sent())),
+    }
+}
+
 /// Sends a text: the whole, or as many bytes of it as go out, which a refusal tells.
 pub fn send<P: Printed, S: Sink>(text: &P, sink: &mut S) -> Result<(), u64>
     requires short { P.is_short text.now }
@@ -61,23 +81,6 @@ pub fn send<P: Printed, S: Sink>(text: &P, sink: &mut S) -> Result<(), u64>
     match put_all(text, &mut out) {
         Ok(()) => Ok(()),
         Err(Failed) => Err(out.sent()),
-    }
-}
-
-/// Sends a text as [`send`] does, where `sent` bytes went out before it. Both answers count these as
-/// well: at `Ok` with all bytes of the text, at `Err` with those that went out.
-pub fn send_after<P: Printed, S: Sink>(text: &P, sent: u64, sink: &mut S) -> Result<u64, u64>
-    requires short { P.is_short text.now }
-    requires few { length (P.bytes text.now) < 2 ^ 32 }
-    requires failures { S.failures sink.old < 2 ^ 64 - 1 }
-    requires room { sent < 2 ^ 63 }
-    ensures sent { HasSent (S.contents sink.old) (S.contents sink.new) sent (P.bytes text.now) result }
-    ensures counted { CountsFailure (S.failures sink.old) (S.failures sink.new) result }
-{
-    let mut out = Buffered::new(sink);
-    match put_all(text, &mut out) {
-        Ok(()) => Ok(sent + out.sent()),
-        Err(Failed) => Err(sent + out.sent()),
     }
 }
 

@@ -1,12 +1,12 @@
 //! What is printed of a fault.
 ghost use Rattle.std.specs.Prelude.{◌≡◌, ◌+◌, ◌-◌, ◌^◌, ◌<◌, ◌≤◌, OnOk};
 ghost use Rattle.morris_board.specs.Buffered.{Passes, sink_of, taken_of};
-ghost use Rattle.morris_jobs.specs.Faults.{fault_words, length_around, length_worded, said, worded};
+ghost use Rattle.morris_jobs.specs.Faults.{fault_text, fault_words, length_around, own_text, said};
 
 use crate::fault::Fault;
 use crate::pairs::put_stones;
 use crate::print::Printed;
-use crate::wording::{Wording, Words};
+use crate::wording::Words;
 use morris_board::streams::buffered::Buffered;
 use morris_board::streams::{Failed, Sink};
 use morris_probe::print::put_count;
@@ -33,26 +33,28 @@ pub fn put_fault<S: Sink>(out: &mut Buffered<'_, S>, fault: Fault) -> Result<(),
     ensures passed { Passes S.contents S.failures out.old out.new (fault_words fault) result }
     ensures few { OnOk result (taken_of out.new ≤ taken_of out.old + 300) }
 {
-    put_count(out, "fault ", u64::from(fault.number()))?;
+    let (number, words) = fault.told();
+    put_count(out, "fault ", u64::from(number))?;
     out.put(b": ")?;
-    put_wording(out, fault.wording())
+    put_text(out, fault, words)
 }
 
-/// The text of a fault.
-fn put_wording<S: Sink>(out: &mut Buffered<'_, S>, wording: Wording) -> Result<(), Failed>
+/// The text of a fault that has these words: they, and in which file it was met, where it says so.
+fn put_text<S: Sink>(out: &mut Buffered<'_, S>, fault: Fault, words: Words) -> Result<(), Failed>
     requires failures { S.failures (sink_of out.old) < 2 ^ 64 - 1 }
-    requires short { length_worded wording ≤ 64 }
+    requires own { said words ≡ own_text fault }
+    requires short { length_around words ≤ 64 }
     requires room { taken_of out.old < 2 ^ 62 }
-    ensures passed { Passes S.contents S.failures out.old out.new (worded wording) result }
+    ensures passed { Passes S.contents S.failures out.old out.new (fault_text fault) result }
     ensures few { OnOk result (taken_of out.new ≤ taken_of out.old + 200) }
 {
-    match wording {
-        Wording::Alone(words) => put_words(out, words),
-        Wording::InFile(words, greater, lesser) => {
+    match fault {
+        Fault::InFile(greater, lesser, _) => {
             put_words(out, words)?;
             out.put(b", in the file of ")?;
             put_stones(out, greater, lesser)
         }
+        _ => put_words(out, words),
     }
 }
 

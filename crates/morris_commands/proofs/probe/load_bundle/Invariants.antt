@@ -1,14 +1,17 @@
-use Rattle.std.proofs.Common.{◌≡◌, ◌-◌}
+use Rattle.std.proofs.Common.{◌≡◌, ◌-◌, ◌≤◌, Ok}
+use Rattle.morris_commands.specs.Probe.{Shelves}
 use Rattle.morris_jobs.specs.Inputs.{input_of}
-use Rattle.morris_commands.proofs.BundleLaws.{Leads}
+use Rattle.morris_jobs.proofs.BundleLaws.{Leads}
 use Rattle.morris_commands.proofs.probe.load_bundle.Given as goal
 
 -- where the files that are left lead, there leads the whole bundle; what was told since the
 -- start makes up one telling
-abbrev pub invariant-loop : goal.invariant-loop
-invariant-loop g l = record {
-  leads : Leads g.B.Geometry.shape l.initial.shelf (input_of (g.I.Source.remaining l.initial.input) (g.I.Source.failures l.initial.input))
-      (64 - l.counter) l.shelf (input_of (g.I.Source.remaining l.input) (g.I.Source.failures l.input));
+abbrev pub invariant-loop-place : goal.invariant-loop-place
+invariant-loop-place g l = record {
+  leads : Leads g.B.Geometry.shape (Shelves g.B.Geometry.shape) (λ full. Ok full) l.initial.shelf
+      (input_of (g.I.Source.remaining l.initial.input) (g.I.Source.failures l.initial.input))
+      (64 - l.place) l.shelf (input_of (g.I.Source.remaining l.input) (g.I.Source.failures l.input));
+  few : l.place ≤ 64;
   unfailed : g.I.Source.failures l.input ≡ g.I.Source.failures l.initial.input;
   told : g.T.Watch.becomes l.initial.teller l.teller;
 }

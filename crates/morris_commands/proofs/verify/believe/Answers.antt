@@ -1,6 +1,6 @@
 -- What was told before the pairs below are built, by them, and by the table that is verified.
 use Rattle.std.proofs.lemmas.Result.{err_from_is_err_and}
-use Rattle.morris_commands.proofs.AloneLaws.{unbelieved_before, unbelieved_itself}
+use Rattle.morris_commands.proofs.AloneLaws.{unbelieved_before, unfit}
 use Rattle.morris_commands.proofs.verify.believe.Goals as goal
 
 pub returns-clause-told : goal.returns-clause-told
@@ -29,5 +29,5 @@ pub returns-in_err-exact-clause-refused : goal.returns-in_err-exact-clause-refus
 returns-in_err-exact-clause-refused g c =
     let failed = err_from_is_err_and c.from_residual-in_err-exact.result c.from_residual-in_err-exact.ensures.1 in
     rw (failed.1, failed.2)
-    (unbelieved_itself g.B.Geometry.shape c.args.raw c.args.crew.team.blocks (rw c.pair-pair.ensures.value at c.in_ok-stock.ensures.within) _
-    c.in_err-exact.ensures.refused)
+    (unfit g.B.Geometry.shape c.args.raw c.in_ok-stock.stock c.args.crew.team.blocks _ (rw c.pair-pair.ensures.value at c.in_ok-stock.ensures.within)
+    (rw c.pair-pair.ensures.value at c.in_ok-stock.ensures.ready) c.in_err-exact.ensures.refused)

@@ -16,4 +16,4 @@ returns-clause-refused g c =
     let within = rw c.pair.ensures.value at c.in_ok-shelf.ensures.within in
     let ready = rw c.pair.ensures.value at c.in_ok-shelf.ensures.ready in
     IfErr-weaker _ (IsUnfit board c.in_ok-shelf.shelf c.args.raw) (IsUnverified board c.args.raw 0)
-    (λ e h. unfit board c.args.raw c.in_ok-shelf.shelf e within ready h) c.verify_over.ensures.refused
+    (λ e h. unfit board c.args.raw c.in_ok-shelf.shelf 0 e within ready h) c.verify_over.ensures.refused

@@ -1,11 +1,11 @@
 -- The pairs are gone through one after the other.
-use Rattle.std.proofs.Common.{Ok, Err, Some, false, refl, sym, subst, ◌∙◌, inr, arith}
+use Rattle.std.proofs.Common.{Some, false, refl, ◌∙◌, inr, arith}
 use Rattle.std.proofs.Math.Path.{ap₂}
 use Rattle.std.proofs.lemmas.Result.{err_from_is_err_and}
-use Rattle.morris_folder_commands.specs.From.{AtEnd, pairs_of}
+use Rattle.morris_folder_commands.specs.From.{pairs_of}
 use Rattle.morris_jobs.specs.declared.fault.Fault.TheVariants as fault
 use Rattle.morris_files.specs.declared.kept.KeptFault.TheVariants as kept
-use Rattle.morris_folder_commands.proofs.CauseLaws.{file_caused, taken_caused}
+use Rattle.morris_folder_commands.proofs.CauseLaws.{end_caused, file_caused, taken_caused}
 use Rattle.morris_folder_commands.proofs.FromLaws.{at_end, failed_file, kept_on, missing_file, skip_pair, take_pair, taken_on, taken_wrong}
 use Rattle.morris_folder_commands.proofs.SurveyLaws.{all_opened, ends_later, one_unopened, passes, risen}
 use Rattle.morris_folder_commands.proofs.from.verify_found.Goals as goal
@@ -52,7 +52,7 @@ returns-then-place-end-clause-answer g c =
     inr (
       empty,
       c.in_ok-stock.ensures.none,
-      failed_file board files c.args.board.now old empty _ c.in-Some.pair l.stock l.found l.sent out leads c.keep_near.new.stock c.keep_near.ensures (g.F.Folder.files l.folder) l.invariant.kept _
+      failed_file board files c.args.board.now old empty _ c.in-Some.pair l.stock l.found l.sent out leads c.spare.new.stock (c.spare.ensures.gone refl) (g.F.Folder.files l.folder) l.invariant.kept _
           (kept.Unopened, ap₂ fault.Unopened c.greater.ensures.value c.lesser.ensures.value, tt),
     )
 
@@ -71,7 +71,7 @@ returns-in_err-raw-clause-answer g c =
     (inr (
       empty,
       c.in_ok-stock.ensures.none,
-      failed_file board files c.args.board.now old empty _ c.in-Some.pair l.stock l.found l.sent out leads c.keep_near.new.stock c.keep_near.ensures (g.F.Folder.files l.folder) l.invariant.kept _
+      failed_file board files c.args.board.now old empty _ c.in-Some.pair l.stock l.found l.sent out leads c.spare.new.stock (c.spare.ensures.gone refl) (g.F.Folder.files l.folder) l.invariant.kept _
           c.in_err-raw.ensures.answer,
     ))
 
@@ -87,7 +87,7 @@ loop-place-preserved-in_default-2 g c =
     let leads = take_pair board files c.args.board.now old empty l.place c.in-Some.pair l.stock l.found l.sent out c.in-Some.ensures.pair l.invariant.leads in
     record {
       leads =
-          missing_file board files c.args.board.now old empty _ c.in-Some.pair l.stock l.found l.sent out leads c.keep_near.new.stock c.keep_near.ensures (g.F.Folder.files l.folder) l.invariant.kept
+          missing_file board files c.args.board.now old empty _ c.in-Some.pair l.stock l.found l.sent out leads c.spare.new.stock (c.spare.ensures.gone refl) (g.F.Folder.files l.folder) l.invariant.kept
           (rw c.in_default-2.is at c.in_ok-raw.ensures.answer);
       kept = kept_on files (g.F.Folder.files l.folder) (g.F.Folder.files c.read_kept.new.folder) l.invariant.kept c.read_kept.ensures.kept;
       few = omega (arith, l.invariant.few);
@@ -114,7 +114,7 @@ returns-in_err-sent-clause-answer g c =
     (inr (
       empty,
       c.in_ok-stock.ensures.none,
-      taken_wrong board files c.args.board.now old empty _ c.in-Some.pair l.stock l.found l.sent out leads c.keep_near.new.stock c.keep_near.ensures (g.F.Folder.files l.folder) l.invariant.kept
+      taken_wrong board files c.args.board.now old empty _ c.in-Some.pair l.stock l.found l.sent out leads c.spare.new.stock (c.spare.ensures.gone refl) (g.F.Folder.files l.folder) l.invariant.kept
           c.in-Some-2.raw (rw c.in-Some-2.is at c.in_ok-raw.ensures.answer) _ _ _ c.in_err-sent.ensures.taken,
     ))
 
@@ -130,7 +130,7 @@ loop-place-preserved g c =
     let leads = take_pair board files c.args.board.now old empty l.place c.in-Some.pair l.stock l.found l.sent out c.in-Some.ensures.pair l.invariant.leads in
     record {
       leads =
-          taken_on board files c.args.board.now old empty _ c.in-Some.pair l.stock l.found l.sent out leads c.keep_near.new.stock c.keep_near.ensures (g.F.Folder.files l.folder) l.invariant.kept
+          taken_on board files c.args.board.now old empty _ c.in-Some.pair l.stock l.found l.sent out leads c.spare.new.stock (c.spare.ensures.gone refl) (g.F.Folder.files l.folder) l.invariant.kept
           c.in-Some-2.raw (rw c.in-Some-2.is at c.in_ok-raw.ensures.answer) _ _ c.in_ok-sent.sent c.in_ok-sent.ensures.taken;
       kept = kept_on files (g.F.Folder.files l.folder) (g.F.Folder.files c.read_kept.new.folder) l.invariant.kept c.read_kept.ensures.kept;
       few = omega (arith, l.invariant.few, c.in_ok-sent.ensures.few);
@@ -143,35 +143,24 @@ loop-place-preserved g c =
     }
 
 -- no pair is left
-pub returns-then-found-clause-answer : goal.returns-then-found-clause-answer
-returns-then-found-clause-answer g c =
-    let l = c.loop-place in
-    let out = g.O.Sink.contents l.output in
-    inr (
-      c.in_ok-stock.stock,
-      c.in_ok-stock.ensures.none,
-      at_end g.B.Geometry.shape (g.F.Folder.files c.args.folder.now) c.args.board.now (g.O.Sink.contents c.args.output.now) c.in_ok-stock.stock
-          l.place l.stock l.found l.sent out (Ok tt) c.loop-place-test.false l.invariant.leads
-          (subst (λ b. AtEnd b (Ok tt)) (sym c.if-found.true) refl),
-    )
-
 pub returns-clause-answer : goal.returns-clause-answer
 returns-clause-answer g c =
     let l = c.loop-place in
-    let out = g.O.Sink.contents l.output in
     inr (
       c.in_ok-stock.stock,
       c.in_ok-stock.ensures.none,
       at_end g.B.Geometry.shape (g.F.Folder.files c.args.folder.now) c.args.board.now (g.O.Sink.contents c.args.output.now) c.in_ok-stock.stock
-          l.place l.stock l.found l.sent out (Err fault.NoFiles) c.loop-place-test.false l.invariant.leads
-          (subst (λ b. AtEnd b (Err fault.NoFiles)) (sym c.if-found.false) refl),
+          l.place l.stock l.found l.sent (g.O.Sink.contents l.output) c.ended.result c.loop-place-test.false l.invariant.leads c.ended.ensures,
     )
 
-pub returns-then-found-clause-caused : goal.returns-then-found-clause-caused
-returns-then-found-clause-caused g c =
+pub returns-clause-caused : goal.returns-clause-caused
+returns-clause-caused g c =
     let l = c.loop-place in
-    all_opened g.B.Geometry.shape l.place c.in_ok-end.end (g.F.Folder.failures c.args.folder.now) (g.F.Folder.failures l.folder) l.invariant.ends
-    l.invariant.ahead c.loop-place-test.false
+    let old = g.F.Folder.failures c.args.folder.now in
+    let new = g.F.Folder.failures l.folder in
+    rw c.ended.ensures
+    (end_caused g.F.Reader.Source.failures g.F.Writer.Sink.failures (Some false) ⊥ old new l.found
+    (all_opened g.B.Geometry.shape l.place c.in_ok-end.end old new l.invariant.ends l.invariant.ahead c.loop-place-test.false))
 
 -- ---- what a refusal has for a cause
 
@@ -198,5 +187,5 @@ returns-in_err-sent-clause-caused g c =
     let failed = err_from_is_err_and c.from_residual-in_err-sent.result c.from_residual-in_err-sent.ensures.1 in
     rw (failed.1, failed.2)
     (taken_caused g.F.Reader.Source.failures g.F.Writer.Sink.failures (Some false) ⊥ (g.F.Folder.failures c.args.folder.now)
-    (g.F.Folder.failures c.read_kept.new.folder) g.B.Geometry.shape c.keep_near.new.stock c.take_in.new.stock c.in-Some-2.raw c.loop-place.sent
+    (g.F.Folder.failures c.read_kept.new.folder) g.B.Geometry.shape c.spare.new.stock c.take_in.new.stock c.in-Some-2.raw c.loop-place.sent
     (g.O.Sink.contents c.loop-place.output) (g.O.Sink.contents c.take_in.new.output) c.in_err-sent.field-0.0 c.in_err-sent.ensures.taken)

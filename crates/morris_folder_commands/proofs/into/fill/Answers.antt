@@ -2,13 +2,13 @@
 use Rattle.std.proofs.Common.{rules, ◌≡◌, ◌∷◌, [], ◌++◌, Option, Some, false, Ok, Err, length-append, refl, sym, ap, subst, ◌∙◌, inl, inr, arith, append_assoc}
 use Rattle.std.proofs.KnownBytes.{Keeps-refl}
 use Rattle.std.proofs.lemmas.Result.{err_from_is_err_and}
-use Rattle.morris_board.specs.Streams.{PartSent}
+use Rattle.morris_jobs.specs.Faults.{PrintsLine}
 use Rattle.morris_index.specs.Pairs.{below_of}
 use Rattle.morris_pairs.specs.Tables.{Table}
 use Rattle.morris_folder_commands.specs.Filling.{IsOf, KeepsTable}
 use Rattle.morris_folder_commands.specs.Into.{IsBuilt, IsFiled, IsUnfiled, filed_text, place_of}
 use Rattle.morris_folder_commands.proofs.CauseLaws.{caused_on, line_caused, unbuilt_caused}
-use Rattle.morris_folder_commands.proofs.FillLaws.{all_done, done_leads, line_cut, line_is, lines_of, next_leads, no_leads, start_leads, unbuilt, undone}
+use Rattle.morris_folder_commands.proofs.FillLaws.{all_done, done_leads, line_is, lines_of, next_leads, no_leads, start_leads, unbuilt, undone}
 use Rattle.morris_jobs.proofs.NearLaws.{near-more, near-ready}
 use Rattle.morris_folder_commands.proofs.into.fill.Goals as goal
 
@@ -79,7 +79,7 @@ returns-in_err-file-clause-filled g c = λ stays.
     subst (λ (o : Option Table). KeepsTable {B = g.row.B.Denot} board name o here.files files (Err refused)) exact.1 c.in_err-file.ensures.kept in
     rw (failed.1, failed.2)
     (inr (undone board c.args.filling.now.layout name blocks stays start all c.next.new.self pair l.sent digests here after t refused leads built within
-    (inl (unfiled, Keeps-refl here.out))))
+    (inl (refused, refl, unfiled, Keeps-refl here.out))))
 
 -- one whose line isn't printed
 pub returns-in_err-sent-clause-filled : goal.returns-in_err-sent-clause-filled
@@ -100,16 +100,16 @@ returns-in_err-sent-clause-filled g c = λ stays.
     let built : IsBuilt board c.args.filling.now.layout pair t = record { of_pair = exact.2; of_layout = exact.3; exact = exact.4 } in
     let within = c.in_ok-build_onto.ensures.within in
     let files = g.F.Folder.files c.keep_table.new.folder in
-    let out = g.O.Sink.contents c.tell_file.new.output in
+    let out = g.O.Sink.contents c.print_after.new.output in
     let after = place_of files out in
     let refused = c.in_err-sent.field-0.0 in
     let w = c.in_ok-file.file in
     let kept : IsFiled board name t here.files files × IsOf board t w =
     subst (λ (o : Option Table). KeepsTable board name o here.files files (Ok w)) exact.1 c.in_ok-file.ensures.kept in
-    let cut = line_cut (filed_text w.pair w.entries w.bytes w.digest) l.sent here.out out refused c.in_err-sent.ensures.printed in
+    let printed = subst (λ text. PrintsLine text l.sent here.out out (Err refused)) (line_is board t w kept.1) c.in_err-sent.ensures.printed in
     rw (failed.1, failed.2)
     (inr (undone board c.args.filling.now.layout name blocks stays start all c.next.new.self pair l.sent digests here after t refused leads built within
-    (inr (cut.0, cut.1, kept.0, subst (PartSent here.out out l.sent cut.0) (line_is board t w kept.1) cut.2))))
+    (inr (kept.0, printed))))
 
 -- one that is done
 pub loop-below-preserved : goal.loop-below-preserved
@@ -128,7 +128,7 @@ loop-below-preserved g c =
     let built : IsBuilt board c.args.filling.now.layout pair t = record { of_pair = exact.2; of_layout = exact.3; exact = exact.4 } in
     let within = c.in_ok-build_onto.ensures.within in
     let files = g.F.Folder.files c.keep_table.new.folder in
-    let out = g.O.Sink.contents c.tell_file.new.output in
+    let out = g.O.Sink.contents c.print_after.new.output in
     let next = place_of files out in
     let w = c.in_ok-file.file in
     let kept : IsFiled board name t here.files files × IsOf board t w =
@@ -148,7 +148,7 @@ loop-below-preserved g c =
           built within kept.0 kept.1 c.in_ok-sent.ensures.printed c.push_reserved.ensures.items;
       room = c.push_reserved.ensures.capacity ∙ l.invariant.room;
       count = omega (arith, c.push_reserved.ensures.len, l.invariant.count, length-append l.yielded (pair ∷ []));
-      few = omega (arith, c.in_ok-sent.ensures.few, l.invariant.few, length-append l.yielded (pair ∷ []));
+      few = omega (arith, c.in_ok-sent.ensures.printed.count, c.in_ok-file.ensures.short, l.invariant.few, length-append l.yielded (pair ∷ []));
       locked = c.keep_table.ensures.locked;
       unfailed = c.in_ok-file.ensures.caused ∙ l.invariant.unfailed;
       uncounted = c.in_ok-sent.ensures.counted ∙ l.invariant.uncounted;
@@ -202,4 +202,4 @@ returns-in_err-sent-clause-caused g c =
     rw (failed.1, failed.2)
     (line_caused g.F.Reader.Source.failures g.F.Writer.Sink.failures (Some false) ⊥ (g.F.Folder.failures c.args.folder.now)
     (g.F.Folder.failures c.keep_table.new.folder) (filed_text w.pair w.entries w.bytes w.digest) c.loop-below.sent (g.O.Sink.contents c.loop-below.output)
-    (g.O.Sink.contents c.tell_file.new.output) c.in_err-sent.field-0.0 c.in_err-sent.ensures.printed)
+    (g.O.Sink.contents c.print_after.new.output) c.in_err-sent.field-0.0 c.in_err-sent.ensures.printed)

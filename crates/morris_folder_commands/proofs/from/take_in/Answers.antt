@@ -1,0 +1,41 @@
+-- The line of a table that was verified is short.
+use Rattle.std.proofs.Common.{◌≡◌, ◌<◌, ◌^◌, arith, inr, refl, subst}
+use Rattle.morris_jobs.specs.Faults.{PrintsLine}
+use Rattle.morris_jobs.specs.Verified.{verified_text}
+use Rattle.morris_folder_commands.specs.From.{verified_line}
+use Rattle.morris_folder_commands.proofs.LineLaws.{line_few, verified_short}
+use Rattle.morris_folder_commands.proofs.from.take_in.Goals as goal
+
+pub print_after-requires-clause-few : goal.print_after-requires-clause-few
+print_after-requires-clause-few g c =
+    let pair = c.greater.ensures.lawful in
+    let low : c.len-entries.result < 2 ^ 64 = omega (arith, c.len-entries.ensures.few) in
+    omega (arith, verified_short c.pair-pair.result c.len-entries.result pair.most (omega (arith, pair.ordered, pair.most)) low)
+
+pub returns-clause-few : goal.returns-clause-few
+returns-clause-few g c =
+    let pair = c.greater.ensures.lawful in
+    let low : c.len-entries.result < 2 ^ 64 = omega (arith, c.len-entries.ensures.few) in
+    line_few _ c.args.sent (g.O.Sink.contents c.args.output.now) (g.O.Sink.contents c.print_after.new.output) c.print_after.result
+    (verified_short c.pair-pair.result c.len-entries.result pair.most (omega (arith, pair.ordered, pair.most)) low) c.print_after.ensures.printed
+
+-- the table joins the others, and its line is printed
+pub returns-clause-taken : goal.returns-clause-taken
+returns-clause-taken g c =
+    let exact = c.in-Ok.ensures in
+    let line : verified_text c.pair-pair.result c.len-entries.result ≡ verified_line c.args.raw = rw (c.pair-pair.ensures.value, c.len-entries.ensures.value, exact.value) refl in
+    inr (
+      record { ready = exact.ready; exact = exact.exact; this = rw exact.value at c.put.ensures.this; others = rw exact.value at c.put.ensures.others },
+      subst (λ text. PrintsLine text c.args.sent (g.O.Sink.contents c.args.output.now) (g.O.Sink.contents c.print_after.new.output) c.print_after.result) line
+          c.print_after.ensures.printed,
+    )
+
+-- ---- what was told as the pair began, by its verification, and at its end
+
+pub returns-in-Err-clause-told : goal.returns-in-Err-clause-told
+returns-in-Err-clause-told g c = g.met.T.Watch.joins _ _ _ c.begin_pair.ensures.told c.verify_over.ensures.told
+
+pub returns-clause-told : goal.returns-clause-told
+returns-clause-told g c =
+    let verified = g.met.T.Watch.joins _ _ _ c.begin_pair.ensures.told c.verify_over.ensures.told in
+    g.met.T.Watch.joins _ _ _ verified c.end_pair.ensures.told
