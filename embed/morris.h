@@ -215,10 +215,12 @@ int32_t morris_legal_moves(uint32_t board, uint32_t own, uint32_t other, morris_
 #define MORRIS_NINE_WORDS 354229u
 size_t morris_prepare_size(uint32_t board);
 
-/* Fills `words` with what files of version 2 need for a board. The words are the same each time,
- * and on any machine of the same byte order. `room` is how many there are, at least
- * `morris_prepare_size(board)`; those after the first ones keep what they have. A program that has
- * files of version 1 alone needs no words, and hands in none (`m` is 0) where words are asked for.
+/* Fills `words` with what files of version 2 need for a board. By one version of this library the
+ * words are the same each time, on any machine of the same byte order; another version may read
+ * them as other ones and answer wrongly, so words that are kept are prepared anew for it. `room` is
+ * how many there are, at least `morris_prepare_size(board)`; those after the first ones keep what
+ * they have. A program that has files of version 1 alone needs no words, and hands in none (`m` is
+ * 0) where words are asked for.
  *
  * MORRIS_NO_BOARD; MORRIS_ROOM, and then some words may have changed. */
 int32_t morris_prepare(uint32_t board, uint32_t *words, size_t room);
