@@ -1,14 +1,15 @@
 -- The positions that have an entry: each is led to the position of the entry by one of the
 -- symmetries, and those that are led there have this entry.
-use Rattle.std.proofs.Common.{◌≡◌, ◌≢◌, ℕ, zero, suc, ◌+◌, ◌-◌, ◌<◌, ◌≤◌, Bool, true, false, List, [], ◌∷◌, length, map, filter, ◌↔◌, refl, sym, ◌∙◌, ap, ap₂, subst, inl, inr, arith}
+use Rattle.std.proofs.Common.{◌≡◌, ◌≢◌, ℕ, zero, suc, ◌+◌, ◌-◌, ◌<◌, ◌≤◌, Bool, true, false, nat_eq, List, [], ◌∷◌, length, map, filter, ◌↔◌, refl, sym, ◌∙◌, ap, ap₂, subst, inl, inr, arith}
 use Rattle.std.proofs.lemmas.Bool.{cases_Bool, cases_eq, eqb-true, eq-eqb, ne_eqb}
 use Rattle.std.proofs.lemmas.List.Elements.{All-contains_itself, All-weaker, Contains-append_left, Contains-append_right, Contains-append_cases, Contains-push, Contains-push_cases}
 use Rattle.std.proofs.lemmas.List.Kept.{AllPairs-cons}
+use Rattle.std.proofs.lemmas.List.{length-map}
 use Rattle.std.specs.List.{range_with_len, AllPairs, Contains}
 use Rattle.morris_board.specs.Boards.{Shape}
 use Rattle.morris_board.specs.Sets.{members, count_of}
 use Rattle.morris_board.specs.Positions.{Sides, IsPosition}
-use Rattle.morris_board.specs.Symmetries.{image_sides, inverse_of, HasSymmetries}
+use Rattle.morris_board.specs.Symmetries.{image_of, image_sides, inverse_of, HasSymmetries}
 use Rattle.morris_board.proofs.ImageLaws.{IsOneToOne, IsOneToOne-back, one_to_one, IsPosition-image, count_of-image, image_sides-undone}
 use Rattle.morris_index.specs.Numbering.{rank_of, number_outside}
 use Rattle.morris_index.specs.Classes.{symmetry_of, classes_below, class_of}
@@ -216,3 +217,11 @@ falls-once board p =
 pub falls-few : (board : Shape) (p : Sides) → length (falls_from board p 0) ≤ board.symmetries
 unfolding falls_from
 falls-few board p = omega (arith, kept-few (taken_from board p) (is_led_by board p) 0 (board.symmetries - 0))
+
+-- how many are led to a position depends on the stones of the player to move alone
+pub falls_same : (board : Shape) (p q : Sides) → q.own ≡ p.own → length (falls_from board q 0) ≡ length (falls_from board p 0)
+unfolding falls_from
+falls_same board p q own =
+    length-map (filter (is_led_by board q) (range_with_len 0 (board.symmetries - 0))) (taken_from board q)
+    ∙ ap (λ set. length (filter (λ s. nat_eq (symmetry_of board (image_of (board.image (inverse_of s)) set)) s) (range_with_len 0 (board.symmetries - 0)))) own
+    ∙ sym (length-map (filter (is_led_by board p) (range_with_len 0 (board.symmetries - 0))) (taken_from board p))

@@ -193,7 +193,7 @@ module _ (n : ℕ) (c : Counts) where
   unfolding size_of
   size-two d = rw (ne_eqb c.greater c.lesser d) refl
 
-  size-ge : half_size n c.greater c.lesser ≤ size_of n c
+  pub size-ge : half_size n c.greater c.lesser ≤ size_of n c
   size-ge = elim (cases_eq c.greater c.lesser) [
     | inl e ↦ omega (arith, size-one e)
     | inr d ↦ omega (arith, size-two d)

@@ -8,7 +8,7 @@ use Rattle.morris_index.specs.Binomials.{choose}
 use Rattle.morris_index.specs.Numbering.{IsRanked}
 use Rattle.morris_index.specs.Pairs.{Counts, IsPair, is_of}
 use Rattle.morris_index.specs.Classes.{representative_of}
-use Rattle.morris_index.specs.ClassPairs.{class_half_size, class_index_of}
+use Rattle.morris_index.specs.ClassPairs.{class_half_size, class_index_of, led}
 use Rattle.morris_index.specs.ClassMoves.{class_half_start, class_start_of}
 use Rattle.morris_index.specs.Standings.{are_of}
 
@@ -29,6 +29,11 @@ pub record IsInRow (board : Shape) (n : ℕ) (row : InRow) (place : ℕ) (s : Si
   pub counts : is_of row.pair s ≡ true
   pub own : s.own ≡ row.own
   pub entry : class_index_of board n row.pair s ≡ row.first + place
+
+-- s is the position of the entry at a place, and all positions that have the entry are led to it
+pub record StandsIn (board : Shape) (n : ℕ) (row : InRow) (place : ℕ) (s : Sides) : Type 0 where
+  pub inside : IsInRow board n row place s
+  pub led : (t : Sides) → IsPosition board t → is_of row.pair t ≡ true → class_index_of board n row.pair t ≡ row.first + place → s ≡ led board t
 
 -- how many stones the opponent has where the player to move has the stones `own`
 abbrev pub opposed : Counts → ℕ → ℕ

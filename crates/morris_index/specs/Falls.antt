@@ -1,7 +1,7 @@
 -- The positions of a pair that have a given entry. They are found from the one that all of them are
 -- led to: each symmetry leads one of its images there.
-use Rattle.std.specs.Prelude.{◌≡◌, ℕ, ◌-◌, Bool, true, nat_eq, List, map, filter}
-use Rattle.std.specs.List.{range_with_len}
+use Rattle.std.specs.Prelude.{◌≡◌, ◌≢◌, ◌↔◌, ℕ, ◌-◌, Bool, true, nat_eq, List, length, map, filter}
+use Rattle.std.specs.List.{AllPairs, Contains, range_with_len}
 use Rattle.morris_board.specs.Boards.{Shape}
 use Rattle.morris_board.specs.Positions.{Sides, IsPosition}
 use Rattle.morris_board.specs.Symmetries.{image_sides, inverse_of}
@@ -14,6 +14,14 @@ pub record HasEntry (board : Shape) (n : ℕ) (c : Counts) (entry : ℕ) (s : Si
   pub lawful : IsPosition board s
   pub counts : is_of c s ≡ true
   pub entry_is : class_index_of board n c s ≡ entry
+
+-- So many positions have an entry by classes: there is a list of just these, each of them once, and
+-- it is so long.
+pub record HasPositions (board : Shape) (n : ℕ) (c : Counts) (entry count : ℕ) : Type 0 where
+  pub positions : List Sides
+  pub listed : (s : Sides) → Contains positions s ↔ HasEntry board n c entry s
+  pub once : AllPairs (λ s t. s ≢ t) positions
+  pub many : length positions ≡ count
 
 -- the position that symmetry s takes to p
 abbrev pub taken_from : Shape → Sides → ℕ → Sides

@@ -6,10 +6,10 @@ ghost use Rattle.morris_board.specs.Positions.{Sides, sides, IsPosition};
 ghost use Rattle.morris_index.specs.Numbering.{rank_of, number_outside};
 ghost use Rattle.morris_index.specs.Pairs.{IsPair, IsHalf, is_of};
 ghost use Rattle.morris_index.specs.Classes.{symmetry_of, representative_of, class_count};
-ghost use Rattle.morris_index.specs.ClassPairs.{led, class_size_of, class_index_of};
+ghost use Rattle.morris_index.specs.ClassPairs.{led, class_half_size, class_size_of, class_index_of};
 ghost use Rattle.morris_index.specs.ClassMoves.{class_start_of};
 ghost use Rattle.morris_index.specs.EntryRows.{row_end};
-ghost use Rattle.morris_index.specs.Falls.{HasEntry};
+ghost use Rattle.morris_index.specs.Falls.{HasEntry, HasPositions, falls_from};
 ghost use Rattle.morris_index.specs.Halves.{half_of};
 ghost use Rattle.morris_index.specs.Carried.{IsReturning, IsReturningKept};
 ghost use Rattle.morris_index.specs.Standings.{are_of};
@@ -147,6 +147,16 @@ impl<B: Geometry> ClassPair<B> {
         } else {
             self.first + class_half_size::<B>(self.lesser.count(), lesser, greater)
         }
+    }
+
+    /// How many of the entries have the greater number of stones of the player to move. They are
+    /// the first ones.
+    pub fn first_half(&self) -> u64
+        ensures value { result ≡ class_half_size B.shape B.POINTS self.now.greater self.now.lesser }
+        ensures within { result ≤ class_size_of B.shape B.POINTS self.now }
+        ensures few { result ≤ 2 ^ 39 }
+    {
+        self.first
     }
 
     /// The entry of a position of the pair, below [`ClassPair::size`]. The position is led by the
@@ -299,6 +309,27 @@ impl<B: Geometry> ClassPair<B> {
         ensures few { length result ≤ B.SYMMETRIES }
     {
         let position = self.position(index);
+        self.falls_to(position)
+    }
+
+    /// How many positions have each of the entries of a row of the pair: as many as the first one.
+    pub fn share(&self, row: &EntryRow<'_, B>) -> u64
+        requires { row.now.pair ≡ self.now }
+        ensures each { (place : ℕ) → place < row.now.len → HasPositions B.shape B.POINTS self.now (row.now.first + place) result }
+        ensures few { result ≤ 16 }
+    {
+        // The proof learns here that there is an entry, and what stands in each.
+        let _ = row.len();
+        let first = row.position(0);
+        self.falls_to(first).count() as u64
+    }
+
+    /// The positions that are led to `position`, one of the pair.
+    fn falls_to(&self, position: Position<B>) -> FallsOn<'_, B>
+        requires { is_of self.now position ≡ true }
+        ensures value { result ≡ falls_from B.shape position 0 }
+        ensures few { length result ≤ B.SYMMETRIES }
+    {
         let classes = if position.own().count() == self.pair.greater() {
             &self.greater
         } else {

@@ -5,7 +5,7 @@ ghost use Rattle.morris_board.specs.Sets.{count_of};
 ghost use Rattle.morris_board.specs.Positions.{Sides, IsPosition};
 ghost use Rattle.morris_index.specs.Classes.{representative_of};
 ghost use Rattle.morris_index.specs.ClassPairs.{led, class_index_of};
-ghost use Rattle.morris_index.specs.EntryRows.{in_row, IsInRow, IsEntryRow};
+ghost use Rattle.morris_index.specs.EntryRows.{in_row, IsInRow, IsEntryRow, StandsIn};
 ghost use Rattle.morris_index.specs.Pairs.{is_of};
 ghost use Rattle.morris_index.specs.Parts.{squeezed_below};
 
@@ -70,6 +70,7 @@ impl<'a, B: Geometry> EntryRow<'a, B> {
     pub fn len(&self) -> usize
         ensures value { result ≡ self.now.len }
         ensures some { 1 ≤ result }
+        ensures stand { (place : ℕ) → place < result → (s : Sides) × StandsIn B.shape B.POINTS self.now place s }
     {
         self.numbers.len()
     }

@@ -4,6 +4,7 @@ ghost use Rattle.std.specs.Option.{option_to_list};
 ghost use Rattle.morris_board.specs.Positions.{Sides, IsPosition, is_between};
 ghost use Rattle.morris_index.specs.Pairs.{counts, IsPair, pair_made, pair_of, is_of, size_of, index_of, needs_of, needed, below_of, EndsIn, NeedsFirst};
 ghost use Rattle.morris_index.specs.Moves.{start_of};
+ghost use Rattle.morris_index.specs.Numbering.{half_size};
 
 use crate::below::Below;
 use crate::faults::PairFault;
@@ -153,6 +154,16 @@ impl<B: Geometry> Pair<B> {
         } else {
             half_size::<B>(self.greater, self.lesser)
         }
+    }
+
+    /// How many of the positions have the greater number of stones of the player to move. They have
+    /// the first indices.
+    pub fn first_half(&self) -> u64
+        ensures value { result ≡ half_size B.POINTS self.now.greater self.now.lesser }
+        ensures within { result ≤ size_of B.POINTS self.now }
+        ensures few { result ≤ 2 ^ 39 }
+    {
+        half_size::<B>(self.greater, self.lesser)
     }
 
     /// The index of a position of the pair, below [`Pair::size`]. The positions in which the player

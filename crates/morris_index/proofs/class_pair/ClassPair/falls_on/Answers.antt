@@ -1,12 +1,12 @@
-use Rattle.std.proofs.Common.{◌≢◌, ◌≤◌, ◌↔◌, length, sym, subst, arith}
+use Rattle.std.proofs.Common.{◌≢◌, ◌↔◌, sym, subst, arith}
 use Rattle.std.specs.List.{AllPairs, Contains}
 use Rattle.morris_index.specs.Falls.{HasEntry}
-use Rattle.morris_index.proofs.FallLaws.{falls-listed, falls-once, falls-few}
+use Rattle.morris_index.proofs.FallLaws.{falls-listed, falls-once}
 use Rattle.morris_index.proofs.class_pair.ClassPair.falls_on.Goals as goal
 
 pub returns-clause-listed : goal.returns-clause-listed
 returns-clause-listed g c = λ s.
-    subst (λ list. Contains list s ↔ HasEntry g.B.Geometry.shape g.B.Geometry.POINTS c.args.self.now c.args.index s) (sym c.of.ensures)
+    subst (λ list. Contains list s ↔ HasEntry g.B.Geometry.shape g.B.Geometry.POINTS c.args.self.now c.args.index s) (sym c.falls_to.ensures.value)
     (falls-listed g.B.Geometry.shape g.B.Geometry.POINTS (omega (arith, g.met.B.Geometry.few)) g.met.B.Geometry.point_count g.met.B.Geometry.has_symmetries c.args.self.now c.args.index c.position-position.result
     (record {
       lawful = c.position-position.ensures.lawful;
@@ -16,9 +16,4 @@ returns-clause-listed g c = λ s.
     c.position-position.ensures.led s)
 
 pub returns-clause-once : goal.returns-clause-once
-returns-clause-once g c = subst (AllPairs (λ s t. s ≢ t)) (sym c.of.ensures) (falls-once g.B.Geometry.shape c.position-position.result)
-
-pub returns-clause-few : goal.returns-clause-few
-returns-clause-few g c =
-    subst (λ list. length list ≤ g.B.Geometry.SYMMETRIES) (sym c.of.ensures)
-    (omega (arith, falls-few g.B.Geometry.shape c.position-position.result, g.met.B.Geometry.symmetry_count))
+returns-clause-once g c = subst (AllPairs (λ s t. s ≢ t)) (sym c.falls_to.ensures.value) (falls-once g.B.Geometry.shape c.position-position.result)
