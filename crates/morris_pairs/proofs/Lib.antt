@@ -2,6 +2,7 @@
 pub mod CodeLaws
 pub mod RankedSets
 pub mod PositionLaws
+pub mod CountLaws
 pub mod NodeLaws
 pub mod HeadlineLaws
 pub mod LateLaws

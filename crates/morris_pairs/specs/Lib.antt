@@ -9,6 +9,7 @@ pub mod Backward
 pub mod Rows
 pub mod NumberedRows
 pub mod Tables
+pub mod Counting
 pub mod Numberings
 pub mod Raws
 pub mod TableFiles

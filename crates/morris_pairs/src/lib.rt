@@ -7,6 +7,7 @@ mod backward;
 pub mod build_fault;
 mod by_result;
 pub mod class_graph;
+pub mod counting;
 pub mod exact;
 pub mod file_faults;
 pub mod graph;
