@@ -4,6 +4,7 @@ pub mod StretchLaws
 pub mod EntryLaws
 pub mod OpeningLaws
 pub mod FileLookups
+pub mod PieceLaws
 pub mod FileSetLaws
 pub mod OutcomeLaws
 pub mod PreparedLaws

@@ -4,6 +4,7 @@ pub mod Storage
 pub mod Numberings
 pub mod Opening
 pub mod Lookups
+pub mod FileCodes
 pub mod FileSets
 pub mod Outcomes
 pub mod Lines

@@ -5,6 +5,7 @@ pub mod best;
 pub mod check;
 pub mod class_entries;
 mod classes;
+pub mod codes;
 pub mod digest;
 pub mod fault;
 mod framing;

@@ -1,5 +1,5 @@
 //! A table file that was opened: its codes are read where they lie.
-ghost use Rattle.std.specs.Prelude.{◌≡◌, ◌<◌, ◌≤◌, ◌^◌, ◌↔◌, true, IsTrue, Ok, Err, Some, IfOk, IfErr, IfSome};
+ghost use Rattle.std.specs.Prelude.{◌≡◌, ◌-◌, ◌*◌, ◌<◌, ◌≤◌, ◌^◌, ◌↔◌, true, length, IsTrue, Ok, Err, Some, IfOk, IfErr, IfSome, IsOk, IsSome};
 ghost use Rattle.morris_index.specs.Pairs.{is_of};
 ghost use Rattle.morris_pairs.specs.Codes.{IsCodeOf, IsValue, value_in};
 ghost use Rattle.morris_pairs.specs.Entries.{entry_count, entry_index};
@@ -7,7 +7,9 @@ ghost use Rattle.morris_pairs.specs.Raws.{IsRaw};
 ghost use Rattle.morris_pairs.specs.Tables.{Table};
 ghost use Rattle.morris_pairs.specs.TableFiles.{file_of};
 ghost use Rattle.morris_lookup.specs.Opening.{IsFramingRefusal, IsOpeningRefusal, IsOpen, Opens};
+ghost use Rattle.morris_lookup.specs.FileCodes.{IsPiece};
 ghost use Rattle.morris_lookup.specs.Lookups.{code_for, depth_of, IsExactFile};
+ghost use Rattle.morris_lookup.specs.Numberings.{Fits, ServeFor, LeadFor};
 
 use crate::fault::OpenFault;
 use crate::framing::{bear_out, header_of};
@@ -65,6 +67,59 @@ impl<B: Geometry, S: Storage> Opened<B, S> {
         self.pair
     }
 
+    /// How the entries of the file are laid out.
+    pub fn layout(&self) -> Layout
+        ensures { result ≡ self.now.layout }
+    {
+        self.layout
+    }
+
+    /// How many entries the file has.
+    pub fn count(&self) -> u64
+        ensures value { result ≡ entry_count B.shape B.POINTS self.now.layout self.now.pair }
+        ensures few { result < 2 ^ 54 }
+    {
+        self.numbering().count()
+    }
+
+    /// Reads the codes from the entry `first` on, as many as there are and as there is room for:
+    /// two bytes each, the high one first. Answers the entry after the last of them.
+    ///
+    /// # Errors
+    /// [`Failed`] where they can't be read. Then `out` is open.
+    pub(crate) fn read_codes(&self, first: u64, out: &mut [u8]) -> Result<u64, Failed>
+        requires inside { first < entry_count B.shape B.POINTS self.now.layout self.now.pair }
+        requires room { 2 ≤ length out.old }
+        ensures more { IfOk result (λ end. first < end) }
+        ensures fits { IfOk result (λ end. 2 * (end - first) ≤ length out.old) }
+        ensures within { IfOk result (λ end. end ≤ entry_count B.shape B.POINTS self.now.layout self.now.pair) }
+        ensures read { IfSome self.now.bytes (λ bytes. IfOk result (λ end. IsPiece bytes first end out.new)) }
+        ensures sure { IsSome self.now.bytes → IsOk result }
+    {
+        let many = (self.count() - first).min((out.len() / 2) as u64);
+        let piece = &mut out[..2 * many as usize];
+        self.storage.read_at(HEADER as u64 + 2 * first, piece)?;
+        Ok(first + many)
+    }
+
+    /// How the entries are numbered.
+    fn numbering(&self) -> Numbering<'_, B>
+        ensures layout { result.layout ≡ self.now.layout }
+        ensures pair { result.pair ≡ self.now.pair }
+        ensures serve { ServeFor B.shape result }
+        ensures lead { LeadFor B.shape result }
+        ensures fits { Fits result }
+    {
+        Numbering {
+            layout: self.layout,
+            pair: self.pair,
+            greater: self.greater.as_slice(),
+            lesser: self.lesser.as_slice(),
+            greater_leads: self.greater_leads.as_slice(),
+            lesser_leads: self.lesser_leads.as_slice(),
+        }
+    }
+
     /// The entry of a position of its pair.
     fn entry(&self, position: &Position<B>) -> u64
         requires { is_of self.now.pair position.now ≡ true }
@@ -72,15 +127,7 @@ impl<B: Geometry, S: Storage> Opened<B, S> {
         ensures below { result < entry_count B.shape B.POINTS self.now.layout self.now.pair }
         ensures few { result < 2 ^ 55 }
     {
-        let numbering = Numbering {
-            layout: self.layout,
-            pair: self.pair,
-            greater: self.greater.as_slice(),
-            lesser: self.lesser.as_slice(),
-            greater_leads: self.greater_leads.as_slice(),
-            lesser_leads: self.lesser_leads.as_slice(),
-        };
-        numbering.entry(position)
+        self.numbering().entry(position)
     }
 
     /// The code that the file states at the entry of a position of its pair: the two bytes that
