@@ -4,3 +4,5 @@ pub mod FaultLaws
 pub mod OrderLaws
 pub mod BundleLaws
 pub mod PieceLaws
+pub mod LineLaws
+pub mod CountedLaws

@@ -12,6 +12,8 @@ use Rattle.morris_workers.specs.declared.fault.SolveFault.{SolveFault}
 use Rattle.morris_workers.specs.declared.fault.SolveFault.TheVariants as solve
 use Rattle.morris_pairs.specs.declared.build_fault.BuildFault.{BuildFault}
 use Rattle.morris_pairs.specs.declared.build_fault.BuildFault.TheVariants as build
+use Rattle.morris_pairs.specs.declared.counting.CountFault.{CountFault}
+use Rattle.morris_pairs.specs.declared.counting.CountFault.TheVariants as count
 use Rattle.morris_pairs.specs.declared.file_faults.ReadFault.{ReadFault}
 use Rattle.morris_pairs.specs.declared.file_faults.ReadFault.TheVariants as read
 use Rattle.morris_pairs.specs.declared.verify.VerifyFault.{VerifyFault}
@@ -50,6 +52,11 @@ read_fault read.Digest = fault.Digest
 read_fault read.Trailing = fault.Trailing
 read_fault read.Read = fault.Read
 read_fault read.Memory = fault.Memory
+
+-- the fault that positions which aren't counted are answered with
+abbrev pub count_fault : CountFault → Fault
+count_fault count.Memory = fault.Memory
+count_fault count.Read = fault.Read
 
 -- the fault that a missing table is answered with
 abbrev pub needs_fault : Counts → Fault
@@ -123,6 +130,7 @@ fault_number fault.Read = 22
 fault_number (fault.Write sent) = 23
 fault_number fault.Board = 25
 fault_number fault.PairText = 26
+fault_number fault.ValueText = 39
 fault_number fault.TooMany = 27
 fault_number fault.Folder = 28
 fault_number (fault.Unwritten greater lesser) = 29
@@ -197,6 +205,7 @@ fault_text fault.Read = flaw_text flaw.Read
 fault_text (fault.Write sent) = codes "writing failed after " ++ decimal sent ++ codes " bytes"
 fault_text fault.Board = codes "no such board"
 fault_text fault.PairText = codes "not a pair"
+fault_text fault.ValueText = codes "not a value: draw, won, lost, won in D, lost in D or deepest"
 fault_text fault.TooMany = codes "more than 64 tables"
 fault_text fault.Folder = codes "folder can't be made"
 fault_text (fault.Unwritten greater lesser) = codes "file of " ++ stones_text greater lesser ++ codes " can't be written"

@@ -9,3 +9,4 @@ pub mod Answering
 pub mod Inputs
 pub mod Bundles
 pub mod Verified
+pub mod Counted

@@ -1,6 +1,6 @@
 //! What a command can be refused for.
 ghost use Rattle.std.specs.Prelude.{◌≡◌, ◌≤◌, None};
-ghost use Rattle.morris_jobs.specs.Faults.{build_fault, fault_number, flaw_in, in_file, length_around, needs_fault, own_text, pair_fault, probe_fault, said, solve_fault, text_fault, verify_fault};
+ghost use Rattle.morris_jobs.specs.Faults.{build_fault, count_fault, fault_number, flaw_in, in_file, length_around, needs_fault, own_text, pair_fault, probe_fault, said, solve_fault, text_fault, verify_fault};
 
 use crate::flaw::Flaw;
 use crate::wording::Words;
@@ -9,6 +9,7 @@ use morris_board::faults::TextFault;
 use morris_index::faults::PairFault;
 use morris_index::pair::Pair;
 use morris_pairs::build_fault::BuildFault;
+use morris_pairs::counting::CountFault;
 use morris_pairs::file_faults::ReadFault;
 use morris_pairs::shelf::Needs;
 use morris_pairs::verify::VerifyFault;
@@ -71,6 +72,8 @@ pub enum Fault {
     Board,
     /// A text isn't that of a pair: a digit, a hyphen and a digit.
     PairText,
+    /// A text isn't that of a value that positions may be asked for by.
+    ValueText,
     /// The input has more than 64 table files.
     TooMany,
     /// The folder can't be made.
@@ -139,6 +142,10 @@ impl Fault {
             Fault::Write(sent) => (23, Words::Number("writing failed after ", sent, " bytes")),
             Fault::Board => (25, Words::Plain("no such board")),
             Fault::PairText => (26, Words::Plain("not a pair")),
+            Fault::ValueText => (
+                39,
+                Words::Plain("not a value: draw, won, lost, won in D, lost in D or deepest"),
+            ),
             Fault::TooMany => (27, Words::Plain("more than 64 tables")),
             Fault::Folder => (28, Words::Plain("folder can't be made")),
             Fault::Unwritten(a, b) => (29, Words::Pair("file of ", a, b, " can't be written")),
@@ -253,6 +260,14 @@ impl From<ReadFault> for Fault {
             ReadFault: Short, Magic, Version, BoardId, Counts, Crowded, Count, Digest, Trailing, Read,
             Memory,
         )
+    }
+}
+
+impl From<CountFault> for Fault {
+    ghost from_gives = { λ refused e. e ≡ count_fault refused };
+
+    fn from(refused: CountFault) -> Fault {
+        same_fault!(refused, CountFault: Memory, Read)
     }
 }
 

@@ -4,12 +4,14 @@
 #![tactic(auto)]
 
 pub mod boards;
+pub mod counts;
 pub mod fault;
 pub mod flaw;
 mod memory;
 pub mod orders;
 pub mod pairs;
 pub mod print;
+pub mod print_counts;
 pub mod print_fault;
 mod print_progress;
 pub mod print_verified;
