@@ -1,5 +1,5 @@
 -- The lines of what was found show a deepest win and a deepest loss.
-use Rattle.std.proofs.Common.{Bool, true, false, List, Option, Some, None, ℕ, codes, refl, ap, inl, inr}
+use Rattle.std.proofs.Common.{List, Option, Some, None, ℕ, codes, refl, inl, inr}
 use Rattle.morris_board.specs.Boards.{Shape}
 use Rattle.morris_index.specs.Pairs.{Counts}
 use Rattle.morris_commands.specs.declared.deepest.Deep.{Deep}
@@ -14,11 +14,8 @@ shows : {B : Type 0} (board : Shape) (c : Counts) (outcome : Outcome) (head labe
 shows board c outcome head label None none = inr (none, refl)
 shows board c outcome head label (Some deep) h = inl (deep.position, deep.depth, h, refl)
 
-pub shown : {B : Type 0} (board : Shape) (c : Counts) (asked : Bool) (found : Option (Deepest B)) → HasDeepest board c asked found
-    → ShowsDeepest board c asked (deepest_lines board found)
-shown board c false found h = ap (deepest_lines board) h
-shown board c true None h = absurd h
-shown board c true (Some deepest) h = (
+pub shown : {B : Type 0} (board : Shape) (c : Counts) (found : Deepest B) → HasDeepest board c found → ShowsDeepest board c (deepest_lines board found)
+shown board c deepest h = (
   win_line board deepest.win,
   loss_line board deepest.loss,
   shows board c Won (codes "deepest win: ") (codes " won in ") deepest.win h.0,

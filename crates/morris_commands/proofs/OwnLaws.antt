@@ -12,6 +12,7 @@ use Rattle.morris_jobs.specs.declared.fault.Fault.{Fault}
 use Rattle.morris_jobs.specs.declared.fault.Fault.TheVariants as fault
 use Rattle.morris_commands.specs.Build.{HasExact, HasExactBut, HasTooDeep, IsUnbuiltBefore, IsUnbuiltFor, RestsOnTooDeep, pairs_written}
 use Rattle.morris_jobs.specs.Orders.{HasExactAt, IsUnbuiltAt}
+use Rattle.morris_jobs.specs.declared.counts.Form.{Form}
 use Rattle.morris_commands.specs.Stats.{AnswersCounts, AnswersPair}
 use Rattle.morris_commands.proofs.BuildLaws.{written_exact}
 
@@ -52,9 +53,9 @@ with_own board l all pair stock new every here others =
     ]) here
 
 -- what `stats` answers of a pair, by what it answers over its table
-pub answers_pair : {T : Type 0} (board : Shape) (pair : Counts) (blocks : ℕ) (deepest : Bool) (old new : Option (List ℕ)) (r : Result T Fault)
-    → ¬ HasTooDeep board pair → AnswersCounts board pair deepest old new r → AnswersPair board pair blocks deepest old new r
-answers_pair board pair blocks deepest old new r within counts =
+pub answers_pair : {T : Type 0} (board : Shape) (pair : Counts) (blocks : ℕ) (form : Form) (old new : Option (List ℕ)) (r : Result T Fault)
+    → ¬ HasTooDeep board pair → AnswersCounts board pair form old new r → AnswersPair board pair blocks form old new r
+answers_pair board pair blocks form old new r within counts =
     elim counts [
       | inl lacks ↦ inl (fault.Memory, lacks.0, tt, lacks.1)
       | inr prints ↦ inr (within, prints)

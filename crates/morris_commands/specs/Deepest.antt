@@ -1,6 +1,6 @@
 -- The deepest positions of a pair, of those that are won, or lost, one with the greatest depth; and
 -- what `stats --deepest` prints of them after the counts.
-use Rattle.std.specs.Prelude.{◌≡◌, ◌≢◌, ◌⊎◌, ℕ, ◌<◌, ◌≤◌, ◌%◌, Bool, true, false, ◌&&◌, nat_eq, nat_lt, List, [], ◌++◌, slice_index, codes, Option, Some, None}
+use Rattle.std.specs.Prelude.{◌≡◌, ◌≢◌, ◌⊎◌, ℕ, ◌<◌, ◌≤◌, ◌%◌, Bool, true, ◌&&◌, nat_eq, nat_lt, List, ◌++◌, slice_index, codes, Option, Some, None}
 use Rattle.morris_board.specs.Boards.{Shape}
 use Rattle.morris_board.specs.Positions.{Sides, IsPosition, text_of}
 use Rattle.morris_moves.specs.Values.{IsLostIn, IsWonIn}
@@ -35,11 +35,9 @@ abbrev pub IsDeepest : {B : Type 0} → Shape → Counts → Outcome → Option 
 IsDeepest board c outcome None = HasNone board c outcome
 IsDeepest board c outcome (Some deep) = IsDeepestAt board c outcome deep.position deep.depth
 
--- these are a deepest win and a deepest loss of the pair, where they are asked for, else nothing
-abbrev pub HasDeepest : {B : Type 0} → Shape → Counts → Bool → Option (Deepest B) → Type 0
-HasDeepest board c false found = found ≡ None
-HasDeepest board c true None = ⊥
-HasDeepest board c true (Some deepest) = IsDeepest board c Won deepest.win × IsDeepest board c Lost deepest.loss
+-- these are a deepest win and a deepest loss of the pair
+abbrev pub HasDeepest : {B : Type 0} → Shape → Counts → Deepest B → Type 0
+HasDeepest board c deepest = IsDeepest board c Won deepest.win × IsDeepest board c Lost deepest.loss
 
 -- whether a code says that outcome: codes of losses are odd, and those of wins even and above 0
 abbrev pub is_told_by : Outcome → ℕ → Bool
@@ -81,10 +79,9 @@ win_line board win = found_line board (codes "deepest win: ") (codes " won in ")
 abbrev pub loss_line : {B : Type 0} → Shape → Option (Deep B) → List ℕ
 loss_line board loss = found_line board (codes "deepest loss: ") (codes " lost in ") loss
 
--- both lines, where they are asked for
-abbrev pub deepest_lines : {B : Type 0} → Shape → Option (Deepest B) → List ℕ
-deepest_lines board None = []
-deepest_lines board (Some deepest) = win_line board deepest.win ++ loss_line board deepest.loss
+-- both lines
+abbrev pub deepest_lines : {B : Type 0} → Shape → Deepest B → List ℕ
+deepest_lines board deepest = win_line board deepest.win ++ loss_line board deepest.loss
 
 -- a line shows a deepest position of the pair with the outcome and its depth, or that no position
 -- has the outcome
@@ -93,11 +90,9 @@ Shows board c outcome head label line =
     ((s : Sides) × (depth : ℕ) × IsDeepestAt board c outcome s depth × (line ≡ deep_line board head label s depth))
     ⊎ (HasNone board c outcome × (line ≡ none_line head))
 
--- the lines show a deepest win and a deepest loss of the pair, where they are asked for; else there
--- are none
-abbrev pub ShowsDeepest : Shape → Counts → Bool → List ℕ → Type 0
-ShowsDeepest board c false lines = lines ≡ []
-ShowsDeepest board c true lines =
+-- the lines show a deepest win and a deepest loss of the pair
+abbrev pub ShowsDeepest : Shape → Counts → List ℕ → Type 0
+ShowsDeepest board c lines =
     (win : List ℕ) × (loss : List ℕ)
     × Shows board c Won (codes "deepest win: ") (codes " won in ") win
     × Shows board c Lost (codes "deepest loss: ") (codes " lost in ") loss

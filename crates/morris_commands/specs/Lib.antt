@@ -1,5 +1,4 @@
 pub mod Look
-pub mod Census
 pub mod Deepest
 pub mod Build
 pub mod Stats

@@ -3,7 +3,7 @@ ghost use Rattle.std.specs.Prelude.{◌≡◌, ◌<◌, true, length, IfOk};
 ghost use Rattle.morris_board.specs.Positions.{IsPosition};
 ghost use Rattle.morris_index.specs.Pairs.{is_of};
 ghost use Rattle.morris_pairs.specs.Entries.{entry_count, entry_index, has_own_entry};
-ghost use Rattle.morris_commands.specs.Deepest.{IsDeepest, IsGreatestTold, is_told_by};
+ghost use Rattle.morris_commands.specs.Deepest.{HasDeepest, IsDeepest, IsGreatestTold, is_told_by};
 
 use morris_board::board::Geometry;
 use morris_board::position::Position;
@@ -57,8 +57,7 @@ impl<B: Geometry> Deepest<B> {
     /// # Errors
     /// [`AllocError`] where memory runs out, which isn't asked for in layout `Full`.
     pub fn of(alloc: Global, table: &Exact<B>) -> Result<Deepest<B>, AllocError>
-        ensures win { IfOk result (λ found. IsDeepest B.shape table.now.pair Outcome.Won found.win) }
-        ensures loss { IfOk result (λ found. IsDeepest B.shape table.now.pair Outcome.Lost found.loss) }
+        ensures { IfOk result (HasDeepest B.shape table.now.pair) }
     {
         let win = find_deepest(alloc, table, Outcome::Won)?;
         let loss = find_deepest(alloc, table, Outcome::Lost)?;

@@ -3,7 +3,6 @@
 #![tactic(auto)]
 
 pub mod build;
-pub mod counting;
 pub mod deepest;
 pub mod look;
 mod print_deepest;

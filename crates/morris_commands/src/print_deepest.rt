@@ -1,9 +1,9 @@
 //! What `stats --deepest` prints after the counts, piece by piece. Each function ends at the first
 //! write that fails.
-ghost use Rattle.std.specs.Prelude.{◌≡◌, ◌+◌, ◌-◌, ◌^◌, ◌++◌, ◌<◌, ◌≤◌, length, OnOk};
+ghost use Rattle.std.specs.Prelude.{◌+◌, ◌-◌, ◌^◌, ◌<◌, ◌≤◌, length, OnOk};
 ghost use Rattle.morris_board.specs.Buffered.{Passes, sink_of, taken_of};
 ghost use Rattle.morris_board.specs.Positions.{text_of};
-ghost use Rattle.morris_commands.specs.Deepest.{deep_line, deepest_lines, found_line, loss_line, none_line, win_line};
+ghost use Rattle.morris_commands.specs.Deepest.{deep_line, deepest_lines, found_line, none_line};
 
 use crate::deepest::{Deep, Deepest};
 use morris_board::board::Geometry;
@@ -12,30 +12,15 @@ use morris_board::streams::buffered::Buffered;
 use morris_board::streams::{Failed, Sink};
 use morris_probe::print::put_number_line;
 
-/// A deepest win and a deepest loss, where they were asked for.
+/// The lines of a deepest win and a deepest loss.
+#[tactic(auto, using(morris_board::proofs::BufferedLaws::passed_laws))]
 pub(crate) fn put_deepest<B: Geometry, S: Sink>(
-    out: &mut Buffered<'_, S>,
-    deepest: Option<Deepest<B>>,
-) -> Result<(), Failed>
-    requires failures { S.failures (sink_of out.old) < 2 ^ 64 - 1 }
-    requires room { taken_of out.old < 2 ^ 34 }
-    ensures passed { Passes S.contents S.failures out.old out.new (deepest_lines B.shape deepest) result }
-    ensures few { OnOk result (taken_of out.new < 2 ^ 35) }
-{
-    match deepest {
-        None => Ok(()),
-        Some(deepest) => put_both(out, deepest),
-    }
-}
-
-/// The lines of both.
-fn put_both<B: Geometry, S: Sink>(
     out: &mut Buffered<'_, S>,
     deepest: Deepest<B>,
 ) -> Result<(), Failed>
     requires failures { S.failures (sink_of out.old) < 2 ^ 64 - 1 }
     requires room { taken_of out.old < 2 ^ 34 }
-    ensures passed { Passes S.contents S.failures out.old out.new (win_line B.shape deepest.win ++ loss_line B.shape deepest.loss) result }
+    ensures passed { Passes S.contents S.failures out.old out.new (deepest_lines B.shape deepest) result }
     ensures few { OnOk result (taken_of out.new < 2 ^ 35) }
 {
     put_found(out, "deepest win: ", " won in ", deepest.win)?;

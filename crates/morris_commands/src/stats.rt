@@ -1,8 +1,10 @@
 //! The command `stats`.
-ghost use Rattle.std.specs.Prelude.{◌≡◌, ◌≢◌, ◌-◌, ◌^◌, ◌<◌, None, false, IfErr, IfOk, OnOk};
+ghost use Rattle.std.specs.Prelude.{◌≡◌, ◌≢◌, ◌-◌, ◌^◌, ◌<◌, None, Some, IfErr, IfOk, OnOk};
 ghost use Rattle.morris_index.specs.Pairs.{Counts, EndsIn, below_of};
+ghost use Rattle.morris_pairs.specs.Counting.{coded_entries};
 ghost use Rattle.morris_pairs.specs.Known.{IsBeyondCodes};
 ghost use Rattle.morris_pairs.specs.Shelves.{first_missing, table_on};
+ghost use Rattle.morris_pairs.specs.Tables.{IsTable};
 ghost use Rattle.morris_jobs.specs.Faults.{CountsWrites};
 ghost use Rattle.morris_jobs.specs.BoardNames.{board_of};
 ghost use Rattle.morris_jobs.specs.Orders.{HasExactAt, IsUnbuiltAt};
@@ -11,10 +13,12 @@ ghost use Rattle.morris_commands.specs.Stats.{AnswersCounts, AnswersOn, AnswersS
 ghost use Rattle.morris_commands.specs.StatsByClasses.{AnswersByClasses, AnswersByClassesOn};
 
 use crate::build::build_before;
+use crate::deepest::Deepest;
 use crate::print_stats::Counted;
 use morris_board::board::{Board, Geometry};
 use morris_board::streams::Sink;
 use morris_index::pair::Pair;
+use morris_jobs::counts::{Form, Tallied, print_counts};
 use morris_jobs::fault::Fault;
 use morris_jobs::on_board;
 use morris_jobs::orders::{Order, build_onto};
@@ -23,6 +27,7 @@ use morris_jobs::print::print;
 use morris_jobs::size::Way;
 use morris_jobs::team::{Crew, Team};
 use morris_jobs::teller::Teller;
+use morris_pairs::counting::Entries;
 use morris_pairs::exact::Exact;
 use morris_pairs::layout::Layout;
 use morris_pairs::shelf::Shelf;
@@ -41,15 +46,16 @@ use std::thread::Threads;
 /// Those of [`stats_with`].
 pub fn stats<S: Sink>(alloc: Global, board: &str, pair: &str, output: &mut S) -> Result<(), Fault>
     requires { S.failures output.old < 2 ^ 64 - 1 }
-    ensures answer { AnswersStats (board_of board.now) pair.now false (S.contents output.old) (S.contents output.new) result }
+    ensures answer { AnswersStats (board_of board.now) pair.now Form.Text (S.contents output.old) (S.contents output.new) result }
     ensures counted { CountsWrites (S.failures output.old) (S.failures output.new) result }
 {
-    stats_with(alloc, board, pair, false, output, &mut Unwatched)
+    stats_with(alloc, board, pair, Form::Text, output, &mut Unwatched)
 }
 
-/// Prints what [`stats`] prints, and tells `teller` how far it is. Where `deepest` is true, two
-/// lines more show positions of the pair with the greatest depths: one that is won, and one that is
-/// lost; of several the one with the least index.
+/// Prints what [`stats`] prints in this form, and tells `teller` how far it is. With
+/// [`Form::Deepest`] two lines more show positions of the pair with the greatest depths: one that
+/// is won, and one that is lost; of several the one with the least index. With [`Form::Csv`] a line
+/// of fields stands for each number of stones of the player to move and each value that occurs.
 ///
 /// # Errors
 /// [`Fault::Board`] where there is no such board, else [`Fault::PairText`], [`Fault::Counts`] or
@@ -61,30 +67,27 @@ pub fn stats_with<S: Sink, T: Teller>(
     alloc: Global,
     board: &str,
     pair: &str,
-    deepest: bool,
+    form: Form,
     output: &mut S,
     teller: &mut T,
 ) -> Result<(), Fault>
     requires { S.failures output.old < 2 ^ 64 - 1 }
-    ensures answer { AnswersStats (board_of board.now) pair.now deepest (S.contents output.old) (S.contents output.new) result }
+    ensures answer { AnswersStats (board_of board.now) pair.now form (S.contents output.old) (S.contents output.new) result }
     ensures counted { CountsWrites (S.failures output.old) (S.failures output.new) result }
     ensures told { T.becomes teller.old teller.new }
 {
-    on_board!(
-        board,
-        stats_on::<S, T>(alloc, pair, deepest, output, teller)
-    )
+    on_board!(board, stats_on::<S, T>(alloc, pair, form, output, teller))
 }
 
 fn stats_on<B: Board, S: Sink, T: Teller>(
     alloc: Global,
     text: &str,
-    deepest: bool,
+    form: Form,
     output: &mut S,
     teller: &mut T,
 ) -> Result<(), Fault>
     requires { S.failures output.old < 2 ^ 64 - 1 }
-    ensures answer { AnswersOn B.shape text.now deepest (S.contents output.old) (S.contents output.new) result }
+    ensures answer { AnswersOn B.shape text.now form (S.contents output.old) (S.contents output.new) result }
     ensures counted { CountsWrites (S.failures output.old) (S.failures output.new) result }
     ensures told { T.becomes teller.old teller.new }
 {
@@ -95,23 +98,47 @@ fn stats_on<B: Board, S: Sink, T: Teller>(
     let Some(table) = shelf.get(pair) else {
         unreachable!()
     };
-    print_counts(alloc, table, deepest, output)
+    print_form(alloc, table, form, output)
 }
 
-/// Prints how many positions of a table's pair have each value, and the deepest ones, where they
-/// are asked for.
-fn print_counts<B: Geometry, S: Sink>(
+/// Prints how many positions of a table's pair have each value, in the form that is asked for.
+fn print_form<B: Geometry, S: Sink>(
     alloc: Global,
     table: &Exact<B>,
-    deepest: bool,
+    form: Form,
     output: &mut S,
 ) -> Result<(), Fault>
     requires { S.failures output.old < 2 ^ 64 - 1 }
-    ensures answer { AnswersCounts B.shape table.now.pair deepest (S.contents output.old) (S.contents output.new) result }
+    ensures answer { AnswersCounts B.shape table.now.pair form (S.contents output.old) (S.contents output.new) result }
     ensures counted { CountsWrites (S.failures output.old) (S.failures output.new) result }
 {
-    let counted = Counted::of(alloc, table, deepest)?;
-    print(&counted, output)
+    // The proof learns here that the table is exact, and how many codes it has.
+    let (pair, _) = (table.pair(), table.len());
+    let mut entries = Entries::of(alloc, pair, table.layout(), table)?;
+    match form {
+        Form::Text => print_counts(alloc, &mut entries, false, output),
+        Form::Csv => print_counts(alloc, &mut entries, true, output),
+        Form::Deepest => print_deepest(alloc, table, &mut entries, output),
+    }
+}
+
+/// Prints how many positions of a table's pair have each value, and the deepest ones. The entries
+/// are those of the table.
+fn print_deepest<B: Geometry, S: Sink>(
+    alloc: Global,
+    table: &Exact<B>,
+    entries: &mut Entries<B, &Exact<B>>,
+    output: &mut S,
+) -> Result<(), Fault>
+    requires failures { S.failures output.old < 2 ^ 64 - 1 }
+    requires exact { IsTable B.shape table.now }
+    requires same { entries.old ≡ coded_entries table.now.layout table.now.pair (Some table.now.codes) }
+    ensures answer { AnswersCounts B.shape table.now.pair Form.Deepest (S.contents output.old) (S.contents output.new) result }
+    ensures counted { CountsWrites (S.failures output.old) (S.failures output.new) result }
+{
+    let tallied = Tallied::of(alloc, entries)?;
+    let deepest = Deepest::of(alloc, table)?;
+    print(&Counted { tallied, deepest }, output)
 }
 
 /// The tables of all pairs below a pair but its own, among them those that it needs.
@@ -162,9 +189,7 @@ fn sweep_onto<B: Board, T: Teller>(
 
 /// Prints what [`stats_with`] prints, counted from tables with an entry for each class of
 /// positions. So many workers build each of these over so many blocks; the text is the same for
-/// every number of them. `teller` is told how far it is. Where `deepest` is true, two lines more
-/// show positions of the pair with the greatest depths: one that is won, and one that is lost; of
-/// several the one with the least index.
+/// every number of them. `teller` is told how far it is.
 ///
 /// # Errors
 /// [`Fault::Board`] where there is no such board, else [`Fault::PairText`], [`Fault::Counts`] or
@@ -178,19 +203,19 @@ pub fn stats_by_classes<R: Threads + Wait + Sync, S: Sink, T: Teller>(
     rt: &R,
     alloc: Global,
     order: Order<'_>,
-    deepest: bool,
+    form: Form,
     output: &mut S,
     teller: &mut T,
 ) -> Result<(), Fault>
     requires { S.failures output.old < 2 ^ 64 - 1 }
-    ensures answer { AnswersByClasses (board_of order.entry.board.now) order.entry.pair.now order.entry.workers order.entry.blocks deepest
+    ensures answer { AnswersByClasses (board_of order.entry.board.now) order.entry.pair.now order.entry.workers order.entry.blocks form
         (S.contents output.old) (S.contents output.new) result }
     ensures counted { CountsWrites (S.failures output.old) (S.failures output.new) result }
     ensures told { T.becomes teller.old teller.new }
 {
     on_board!(
         order.board,
-        by_classes_on::<R, S, T>(rt, alloc, order, deepest, output, teller)
+        by_classes_on::<R, S, T>(rt, alloc, order, form, output, teller)
     )
 }
 
@@ -198,12 +223,12 @@ fn by_classes_on<B: Board, R: Threads + Wait + Sync, S: Sink, T: Teller>(
     rt: &R,
     alloc: Global,
     order: Order<'_>,
-    deepest: bool,
+    form: Form,
     output: &mut S,
     teller: &mut T,
 ) -> Result<(), Fault>
     requires { S.failures output.old < 2 ^ 64 - 1 }
-    ensures answer { AnswersByClassesOn B.shape order.entry.pair.now order.entry.workers order.entry.blocks deepest
+    ensures answer { AnswersByClassesOn B.shape order.entry.pair.now order.entry.workers order.entry.blocks form
         (S.contents output.old) (S.contents output.new) result }
     ensures counted { CountsWrites (S.failures output.old) (S.failures output.new) result }
     ensures told { T.becomes teller.old teller.new }
@@ -219,5 +244,5 @@ fn by_classes_on<B: Board, R: Threads + Wait + Sync, S: Sink, T: Teller>(
     let Some(table) = stock.get(pair) else {
         unreachable!()
     };
-    print_counts(alloc, table, deepest, output)
+    print_form(alloc, table, form, output)
 }

@@ -30,12 +30,12 @@ returns-clause-answer g c =
     let order = c.args.order in
     let pair = c.in_ok-pair.pair in
     let old = g.S.Sink.contents c.args.output.now in
-    let new = g.S.Sink.contents c.print_counts.new.output in
-    let r = c.print_counts.result in
+    let new = g.S.Sink.contents c.print_form.new.output in
+    let r = c.print_form.result in
     answers_order board c.in_ok-stock.ensures.points order.pair.now pair c.in_ok-pair.ensures r (Keeps old new)
-    (λ p. AnswersPair board p order.blocks c.args.deepest old new r) order.workers order.blocks c.in_ok-team.ensures.2
-    (answers_pair board pair order.blocks c.args.deepest old new r (none_too_deep board pair c.in_ok-stock.ensures.within c.in_ok-build_onto.ensures.within)
-    (subst (λ d. AnswersCounts board d c.args.deepest old new r) c.in-Some.ensures.exact.0 c.print_counts.ensures.answer))
+    (λ p. AnswersPair board p order.blocks c.args.form old new r) order.workers order.blocks c.in_ok-team.ensures.2
+    (answers_pair board pair order.blocks c.args.form old new r (none_too_deep board pair c.in_ok-stock.ensures.within c.in_ok-build_onto.ensures.within)
+    (subst (λ d. AnswersCounts board d c.args.form old new r) c.in-Some.ensures.exact.0 c.print_form.ensures.answer))
 
 -- nothing is printed where a pair isn't built: one below it, or the pair itself
 pub returns-in_err-stock-clause-answer : goal.returns-in_err-stock-clause-answer
@@ -47,7 +47,7 @@ returns-in_err-stock-clause-answer g c =
     let r = c.from_residual-in_err-stock.result in
     let failed = err_from_is_err_and r c.from_residual-in_err-stock.ensures.1 in
     answers_order board c.in_err-stock.ensures.points order.pair.now pair c.in_ok-pair.ensures r (Keeps old old)
-    (λ p. AnswersPair board p order.blocks c.args.deepest old old r) order.workers order.blocks c.in_ok-team.ensures.2
+    (λ p. AnswersPair board p order.blocks c.args.form old old r) order.workers order.blocks c.in_ok-team.ensures.2
     (inl (_, failed.1 ∙ ap Err failed.2, unbuilt_before board pair order.blocks _ (rw c.in_ok-team.ensures.1 at c.in_err-stock.ensures.refused), Keeps-refl old))
 
 pub returns-in_err-build_onto-clause-answer : goal.returns-in_err-build_onto-clause-answer
@@ -59,7 +59,7 @@ returns-in_err-build_onto-clause-answer g c =
     let r = c.from_residual-in_err-build_onto.result in
     let failed = err_from_is_err_and r c.from_residual-in_err-build_onto.ensures.1 in
     answers_order board c.in_ok-stock.ensures.points order.pair.now pair c.in_ok-pair.ensures r (Keeps old old)
-    (λ p. AnswersPair board p order.blocks c.args.deepest old old r) order.workers order.blocks c.in_ok-team.ensures.2
+    (λ p. AnswersPair board p order.blocks c.args.form old old r) order.workers order.blocks c.in_ok-team.ensures.2
     (inl (
       _,
       failed.1 ∙ ap Err failed.2,
@@ -83,7 +83,7 @@ returns-in_err-build_onto-clause-counted g c =
     (unwritten (IsUnbuiltAt g.B.Geometry.shape c.in_ok-pair.pair c.args.order.blocks) (λ sent none. none) _ (rw c.in_ok-team.ensures.1 at c.in_err-build_onto.ensures.refused))
 
 pub returns-clause-counted : goal.returns-clause-counted
-returns-clause-counted g c = c.print_counts.ensures.counted
+returns-clause-counted g c = c.print_form.ensures.counted
 
 pub returns-in_err-pair-clause-told : goal.returns-in_err-pair-clause-told
 returns-in_err-pair-clause-told g c = g.met.T.Watch.stays c.args.teller.now

@@ -22,12 +22,12 @@ returns-clause-answer g c =
     let board = g.B.Geometry.shape in
     let pair = c.in_ok-pair.pair in
     let old = g.S.Sink.contents c.args.output.now in
-    let new = g.S.Sink.contents c.print_counts.new.output in
-    let r = c.print_counts.result in
+    let new = g.S.Sink.contents c.print_form.new.output in
+    let r = c.print_form.result in
     answers_read board c.in_ok-shelf.ensures.points c.args.text.now pair c.in_ok-pair.ensures r (Keeps old new)
-    (λ p. AnswersPair board p 0 c.args.deepest old new r)
-    (answers_pair board pair 0 c.args.deepest old new r (none_too_deep board pair c.in_ok-shelf.ensures.within c.in_ok-sweep_onto.ensures.within)
-    (subst (λ d. AnswersCounts board d c.args.deepest old new r) c.in-Some.ensures.exact.0 c.print_counts.ensures.answer))
+    (λ p. AnswersPair board p 0 c.args.form old new r)
+    (answers_pair board pair 0 c.args.form old new r (none_too_deep board pair c.in_ok-shelf.ensures.within c.in_ok-sweep_onto.ensures.within)
+    (subst (λ d. AnswersCounts board d c.args.form old new r) c.in-Some.ensures.exact.0 c.print_form.ensures.answer))
 
 -- nothing is printed where a pair isn't swept: one below it, or the pair itself
 pub returns-in_err-shelf-clause-answer : goal.returns-in_err-shelf-clause-answer
@@ -38,7 +38,7 @@ returns-in_err-shelf-clause-answer g c =
     let r = c.from_residual-in_err-shelf.result in
     let failed = err_from_is_err_and r c.from_residual-in_err-shelf.ensures.1 in
     answers_read board c.in_err-shelf.ensures.points c.args.text.now pair c.in_ok-pair.ensures r (Keeps old old)
-    (λ p. AnswersPair board p 0 c.args.deepest old old r)
+    (λ p. AnswersPair board p 0 c.args.form old old r)
     (inl (_, failed.1 ∙ ap Err failed.2, unbuilt_before board pair 0 _ c.in_err-shelf.ensures.refused, Keeps-refl old))
 
 pub returns-in_err-sweep_onto-clause-answer : goal.returns-in_err-sweep_onto-clause-answer
@@ -49,7 +49,7 @@ returns-in_err-sweep_onto-clause-answer g c =
     let r = c.from_residual-in_err-sweep_onto.result in
     let failed = err_from_is_err_and r c.from_residual-in_err-sweep_onto.ensures.1 in
     answers_read board c.in_ok-shelf.ensures.points c.args.text.now pair c.in_ok-pair.ensures r (Keeps old old)
-    (λ p. AnswersPair board p 0 c.args.deepest old old r)
+    (λ p. AnswersPair board p 0 c.args.form old old r)
     (inl (_, failed.1 ∙ ap Err failed.2, unbuilt_itself board pair 0 c.in_ok-shelf.ensures.last _ c.in_err-sweep_onto.ensures.refused, Keeps-refl old))
 
 -- a refusal of a sweep isn't that of a write
@@ -68,7 +68,7 @@ returns-in_err-sweep_onto-clause-counted g c =
     (unwritten (IsUnbuiltAt g.B.Geometry.shape c.in_ok-pair.pair 0) (λ sent none. none) _ c.in_err-sweep_onto.ensures.refused)
 
 pub returns-clause-counted : goal.returns-clause-counted
-returns-clause-counted g c = c.print_counts.ensures.counted
+returns-clause-counted g c = c.print_form.ensures.counted
 
 pub returns-in_err-pair-clause-told : goal.returns-in_err-pair-clause-told
 returns-in_err-pair-clause-told g c = g.met.T.Watch.stays c.args.teller.now

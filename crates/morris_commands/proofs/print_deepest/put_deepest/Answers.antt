@@ -1,7 +1,7 @@
 use Rattle.morris_board.proofs.BufferedLaws.{goes_on}
 use Rattle.morris_jobs.proofs.PieceLaws.{first_failed}
 use Rattle.morris_commands.specs.Deepest.{loss_line, win_line}
-use Rattle.morris_commands.proofs.print_deepest.put_both.Goals as goal
+use Rattle.morris_commands.proofs.print_deepest.put_deepest.Goals as goal
 
 pub returns-in_err-put_found-clause-passed : goal.returns-in_err-put_found-clause-passed
 returns-in_err-put_found-clause-passed g c =
