@@ -8,3 +8,8 @@ pub mod ExactLaws
 pub mod LineLaws
 pub mod LineAnswerLaws
 pub mod ReadingLaws
+pub mod FoundLaws
+pub mod FindLaws
+pub mod WantedLaws
+pub mod GameLaws
+pub mod AskLaws

@@ -8,3 +8,6 @@ pub mod InputLines
 pub mod LineAnswers
 pub mod Refusals
 pub mod Readings
+pub mod Wanted
+pub mod Found
+pub mod Asked

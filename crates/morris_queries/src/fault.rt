@@ -40,6 +40,14 @@ impl From<QueryFault> for Fault {
     }
 }
 
+impl From<Unfound> for Fault {
+    ghost from_gives = { λ unfound fault. fault ≡ query_fault (find_fault unfound) };
+
+    fn from(unfound: Unfound) -> Fault {
+        Fault::from(QueryFault::from(unfound))
+    }
+}
+
 impl From<Unfound> for QueryFault {
     ghost from_gives = { λ unfound refused. refused ≡ find_fault unfound };
 

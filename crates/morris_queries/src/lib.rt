@@ -1,9 +1,12 @@
-//! The command `lookup`: values, best moves and lines of play of any number of positions, read from
-//! table files as they lie in a folder.
+//! The commands over table files as they lie in a folder: `lookup`, values, best moves and lines of
+//! play of any number of positions; `find`, the positions that have a value; and `stats --from`,
+//! how many have each.
 #![tactic(auto)]
 
 pub mod answer;
+pub mod ask;
 pub mod fault;
+pub mod find;
 pub mod library;
 mod line;
 pub mod lines;
@@ -17,3 +20,4 @@ pub mod system;
 pub mod texts;
 mod told;
 pub mod values;
+pub mod wanted;

@@ -28,7 +28,7 @@ pub struct Folder<'n, 'l, 't, B: Geometry, L: Library> {
     pub(crate) alloc: Global,
     board: &'n str,
     library: &'l mut L,
-    tables: &'t mut Tables<B, L::Bytes>,
+    pub(crate) tables: &'t mut Tables<B, L::Bytes>,
 }
 
 #[tactic(auto, using(crate::proofs::FolderLaws::stays_laws))]
@@ -76,7 +76,7 @@ impl<'n, 'l, 't, B: Geometry, L: Library> Folder<'n, 'l, 't, B, L> {
     ///
     /// # Errors
     /// Those of [`open_file`](Folder::open_file), where it wasn't open.
-    fn make_ready(&mut self, pair: Pair<B>) -> Result<(), Fault>
+    pub(crate) fn make_ready(&mut self, pair: Pair<B>) -> Result<(), Fault>
         ensures stays { Stays B.shape L.files self.old self.new }
         ensures ready { OnOk result (IsSome (file_for self.new.tables.now pair)) }
         ensures refused { Tells B.shape L.files self.old (λ name files. IfErr result (λ refused. IsRefusal refused (table_in B.shape name files pair))) }

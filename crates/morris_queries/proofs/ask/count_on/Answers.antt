@@ -1,0 +1,14 @@
+-- What is printed of the pair that the text names.
+use Rattle.std.specs.Io.KnownBytes.{Keeps}
+use Rattle.morris_jobs.proofs.OrderLaws.{answers_read}
+use Rattle.morris_queries.specs.declared.ask.Question.TheVariants.{Counts as Counting}
+use Rattle.morris_queries.specs.Asked.{AnswersFrom}
+use Rattle.morris_queries.proofs.ask.count_on.Goals as goal
+
+pub returns-clause-answer : goal.returns-clause-answer
+returns-clause-answer g c =
+    let board = g.B.Geometry.shape in
+    let old = g.O.Sink.contents c.args.output.now in
+    let new = g.O.Sink.contents c.ask.new.output in
+    answers_read board g.met.B.Geometry.point_count c.args.pair.now c.in_ok-pair.pair c.in_ok-pair.ensures c.ask.result (Keeps old new)
+    (λ p. AnswersFrom board c.args.board.now (g.L.Library.files c.args.library.now) p (Counting c.args.csv) old new c.ask.result) c.ask.ensures.answer

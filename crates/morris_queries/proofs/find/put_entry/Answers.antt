@@ -1,0 +1,53 @@
+use Rattle.std.proofs.Common.{◌≡◌, ◌≤◌, true, false, [], ◌∷◌, sym, subst, inl, inr, arith}
+use Rattle.morris_board.specs.Boards.{Shape}
+use Rattle.morris_index.specs.Pairs.{IsPair}
+use Rattle.morris_pairs.specs.Entries.{entry_index}
+use Rattle.morris_queries.proofs.FoundLaws.{one_left, own_listed, own_text, shared_listed}
+use Rattle.morris_queries.proofs.find.put_entry.Goals as goal
+
+-- each position has an entry of its own
+pub returns-in-None-clause-put : goal.returns-in-None-clause-put
+returns-in-None-clause-put g c =
+    let board : Shape = g.B.Geometry.shape in
+    let few : board.points ≤ 24 = omega (arith, g.met.B.Geometry.few, g.met.B.Geometry.point_count) in
+    let entries = c.args.entries.now in
+    let p = c.position.result in
+    let lawful : IsPair board.points entries.pair = rw g.met.B.Geometry.point_count c.count.ensures.lawful in (
+      p ∷ [],
+      own_listed board few g.met.B.Geometry.has_symmetries entries.layout entries.pair lawful c.args.all (inr c.in-None.ensures) p c.position.ensures.lawful
+          c.position.ensures.counts c.position.ensures.own c.args.entry
+          (subst (λ n. entry_index board n entries.layout entries.pair p ≡ c.args.entry) (sym g.met.B.Geometry.point_count) c.position.ensures.entry),
+      (λ i j d less within. absurd (omega arith)),
+      rw (own_text board c.args.most p c.requires.some) c.put_one.ensures.passed,
+      one_left c.args.most c.put_one.result c.put_one.ensures.left,
+    )
+
+-- all that share the entry
+pub returns-in-Some-clause-put : goal.returns-in-Some-clause-put
+returns-in-Some-clause-put g c =
+    let board : Shape = g.B.Geometry.shape in
+    let entries = c.args.entries.now in (
+      c.falls_on.result,
+      shared_listed board g.B.Geometry.POINTS g.met.B.Geometry.point_count entries.layout entries.pair c.args.all c.if-all.true c.in-Some.ensures.0 c.args.entry
+          c.falls_on.result (rw c.in-Some.ensures.1 at c.falls_on.ensures.listed),
+      c.falls_on.ensures.once,
+      c.put_falls.ensures.passed,
+      c.put_falls.ensures.left,
+    )
+
+-- the one that has it for its own
+pub returns-in-Some-2-clause-put : goal.returns-in-Some-2-clause-put
+returns-in-Some-2-clause-put g c =
+    let board : Shape = g.B.Geometry.shape in
+    let few : board.points ≤ 24 = omega (arith, g.met.B.Geometry.few, g.met.B.Geometry.point_count) in
+    let entries = c.args.entries.now in
+    let p = c.position-in-Some-2.result in
+    let lawful : IsPair board.points entries.pair = rw g.met.B.Geometry.point_count c.count.ensures.lawful in (
+      p ∷ [],
+      own_listed board few g.met.B.Geometry.has_symmetries entries.layout entries.pair lawful c.args.all (inl c.if-all.false) p c.position-in-Some-2.ensures.lawful
+          c.position-in-Some-2.ensures.counts c.position-in-Some-2.ensures.own c.args.entry
+          (subst (λ n. entry_index board n entries.layout entries.pair p ≡ c.args.entry) (sym g.met.B.Geometry.point_count) c.position-in-Some-2.ensures.entry),
+      (λ i j d less within. absurd (omega arith)),
+      rw (own_text board c.args.most p c.requires.some) c.put_one-in-Some-2.ensures.passed,
+      one_left c.args.most c.put_one-in-Some-2.result c.put_one-in-Some-2.ensures.left,
+    )

@@ -1,0 +1,171 @@
+-- The positions of a pair that have a value, by what the entries of a file state, and how they are
+-- printed.
+use Rattle.std.specs.Prelude.{◌≡◌, ◌≢◌, ◌↔◌, ◌⊎◌, ℕ, ◌+◌, ◌-◌, ◌≤◌, Bool, true, List, [], ◌++◌, length, take, slice_index, Option, Some, None, Result, Ok, Err, IfOk, IfSome, IsOk, if◌then◌else◌}
+use Rattle.std.specs.List.{AllPairs, Contains, flat_map, range_with_len, sum_by}
+use Rattle.std.specs.Io.KnownBytes.{Appends, Keeps}
+use Rattle.morris_board.specs.Boards.{Shape}
+use Rattle.morris_board.specs.Buffered.{AllPassed, PartPassed, Passes}
+use Rattle.morris_board.specs.declared.streams.Failed.{Failed}
+use Rattle.morris_board.specs.declared.streams.buffered.Buffered.{Buffered}
+use Rattle.morris_board.specs.Positions.{Sides, IsPosition, text_of}
+use Rattle.morris_index.specs.Pairs.{Counts, is_of}
+use Rattle.morris_pairs.specs.declared.layout.Layout.{Layout}
+use Rattle.morris_pairs.specs.declared.value.Value.{Value}
+use Rattle.morris_pairs.specs.Codes.{IsValue, value_in}
+use Rattle.morris_pairs.specs.Counting.{AreSoMany, AreTallies, CodedEntries, HasStated, IsOfEntry, is_shown, table_of}
+use Rattle.morris_pairs.specs.Entries.{entry_index}
+use Rattle.morris_pairs.specs.Tables.{Table}
+use Rattle.morris_probe.specs.Lines.{line, number_line}
+use Rattle.morris_jobs.specs.declared.fault.Fault.{Fault}
+use Rattle.morris_jobs.specs.declared.fault.Fault.TheVariants as fault
+use Rattle.morris_jobs.specs.Faults.{Prints}
+use Rattle.morris_queries.specs.declared.find.Shown.{Shown}
+use Rattle.morris_queries.specs.declared.find.Shown.TheVariants.{Texts, Count}
+use Rattle.morris_queries.specs.declared.find.Stop.{Stop}
+use Rattle.morris_queries.specs.declared.find.Stop.TheVariants as stop
+use Rattle.morris_queries.specs.declared.wanted.Kind.{Kind}
+use Rattle.morris_queries.specs.declared.wanted.Wanted.{Wanted}
+use Rattle.morris_queries.specs.declared.wanted.Wanted.TheVariants.{Every, Deepest}
+use Rattle.morris_queries.specs.Wanted.{AreDeepestKinds, is_of_kind}
+
+-- ---- which positions
+
+-- a position of the pair, shown, whose entry states a value of the kind
+pub record IsStated (board : Shape) (t : Table) (all : Bool) (kind : Kind) (s : Sides) : Type 0 where
+  pub lawful : IsPosition board s
+  pub of : is_of t.pair s ≡ true
+  pub shown : is_shown board t.layout all s ≡ true
+  pub asked : is_of_kind kind (value_in (slice_index t.codes (entry_index board board.points t.layout t.pair s))) ≡ true
+
+-- a position of the pair, shown, whose value in the game is of the kind
+pub record IsInGame (board : Shape) (l : Layout) (c : Counts) (all : Bool) (kind : Kind) (s : Sides) : Type 0 where
+  pub lawful : IsPosition board s
+  pub of : is_of c s ≡ true
+  pub shown : is_shown board l all s ≡ true
+  pub value : Value
+  pub valued : IsValue board s value
+  pub asked : is_of_kind kind value ≡ true
+
+-- These are found, of which there may be so many: each is asked for; they stand in the order of their
+-- entries, and none twice; and one that is asked for is among them, or there are as many as there may
+-- be, and none of these comes after it.
+pub record AreFound (asked : Sides → Type 0) (entry : Sides → ℕ) (most : ℕ) (positions : List Sides) : Type 0 where
+  pub each : (s : Sides) → Contains positions s → asked s
+  pub in_order : AllPairs (λ s t. (entry s ≤ entry t) × (s ≢ t)) positions
+  pub few : length positions ≤ most
+  pub whole : (s : Sides) → asked s → Contains positions s ⊎ ((length positions ≡ most) × ((t : Sides) → Contains positions t → entry t ≤ entry s))
+
+-- what is found of one kind, and of two, one after the other; nothing of a kind that there isn't
+abbrev pub AreOf : (Kind → Sides → Type 0) → (Sides → ℕ) → ℕ → Option Kind → List Sides → Type 0
+AreOf asked entry most None positions = positions ≡ []
+AreOf asked entry most (Some kind) positions = AreFound (asked kind) entry most positions
+
+pub record AreOfBoth (asked : Kind → Sides → Type 0) (entry : Sides → ℕ) (most : ℕ) (kinds : Option Kind × Option Kind) (positions : List Sides) : Type 0 where
+  pub first : List Sides
+  pub second : List Sides
+  pub split : positions ≡ first ++ second
+  pub of_first : AreOf asked entry most kinds.0 first
+  pub of_second : AreOf asked entry (most - length first) kinds.1 second
+
+-- what positions of both kinds there are, counted
+pub record AreManyOfBoth (asked : Kind → Sides → Type 0) (kinds : Option Kind × Option Kind) (count : ℕ) : Type 0 where
+  pub first : ℕ
+  pub second : ℕ
+  pub sum : count ≡ first + second
+  pub of_first : IfSome kinds.0 (λ kind. AreSoMany (asked kind) first)
+  pub of_second : IfSome kinds.1 (λ kind. AreSoMany (asked kind) second)
+  pub none_first : kinds.0 ≡ None → first ≡ 0
+  pub none_second : kinds.1 ≡ None → second ≡ 0
+
+-- a position that is shown has this code
+abbrev pub has_shown : Shape → Table → Bool → Sides → ℕ → Type 0
+has_shown board t all s code = HasStated board t s code × (is_shown board t.layout all s ≡ true)
+
+-- The kinds that are asked for: one; or those of the deepest positions, by how many positions say
+-- each code.
+abbrev pub AreKinds : (Sides → ℕ → Type 0) → Wanted → Option Kind × Option Kind → Type 0
+AreKinds says (Every kind) kinds = kinds ≡ (Some kind, None)
+AreKinds says Deepest kinds = (tallies : List ℕ) × AreTallies says tallies × AreDeepestKinds tallies kinds
+
+-- ---- what is printed
+
+-- the text of each position, one a line
+unfoldable pub found_text : Shape → List Sides → List ℕ
+found_text board positions = flat_map (λ s. line (text_of board s)) positions
+
+-- The texts of the positions that are found, as many of them as there may be, or of the first of these
+-- where a write failed; or how many there are, as a line.
+abbrev pub PrintsFound : {T : Type 0} → Shape → (Sides → ℕ → Type 0) → (Kind → Sides → Type 0) → (Sides → ℕ) → Wanted → Shown → Option (List ℕ) → Option (List ℕ) → Result T Fault → Type 0
+PrintsFound board says asked entry wanted (Texts most) old new result =
+    (kinds : Option Kind × Option Kind) × (n : ℕ) × (positions : List Sides) × AreKinds says wanted kinds × (n ≤ most) × (IsOk result → n ≡ most)
+    × AreOfBoth asked entry n kinds positions × Prints old new (found_text board positions) result
+PrintsFound board says asked entry wanted Count old new result =
+    (kinds : Option Kind × Option Kind) × (count : ℕ) × AreKinds says wanted kinds × AreManyOfBoth asked kinds count
+    × Prints old new (number_line [] count) result
+
+-- some texts, or some number, were printed
+abbrev pub PrintsAny : {T : Type 0} → Shape → Shown → Option (List ℕ) → Option (List ℕ) → Result T Fault → Type 0
+PrintsAny board (Texts most) old new result = (positions : List Sides) × Prints old new (found_text board positions) result
+PrintsAny board Count old new result = (count : ℕ) × Prints old new (number_line [] count) result
+
+-- of entries whose codes are known: what they state
+abbrev pub FindsStated : {T : Type 0} → Shape → CodedEntries → List ℕ → Bool → Wanted → Shown → Option (List ℕ) → Option (List ℕ) → Result T Fault → Type 0
+FindsStated board entries known all wanted shown old new result =
+    PrintsFound board (has_shown board (table_of entries known) all) (IsStated board (table_of entries known) all)
+    (entry_index board board.points entries.layout entries.pair) wanted shown old new result
+
+-- What is answered: want of memory, with nothing printed; codes that can't be read and so aren't
+-- known, with what was found before them; otherwise what is found is printed.
+abbrev pub AnswersFind : {T : Type 0} → Shape → CodedEntries → Bool → Wanted → Shown → Option (List ℕ) → Option (List ℕ) → Result T Fault → Type 0
+AnswersFind board entries all wanted shown old new result =
+    ((result ≡ Err fault.Memory) × Keeps old new)
+    ⊎ (((result ≡ Err fault.Read) × (entries.stated ≡ None) × ((before : List Sides) × Appends old new (found_text board before)))
+    ⊎ (PrintsAny board shown old new result × IfSome entries.stated (λ known. FindsStated board entries known all wanted shown old new result)))
+
+-- ---- parts of a call
+
+-- how many of the positions with these tallies have a value of a kind
+abbrev pub kind_sum : Option Kind → List ℕ → ℕ
+kind_sum None tallies = 0
+kind_sum (Some kind) tallies =
+    sum_by (λ code. if is_of_kind kind (value_in code) then slice_index tallies code else 0) (range_with_len 0 (length tallies))
+
+module _ {S : Type 0} (contents : S → Option (List ℕ)) (failures : S → ℕ) (board : Shape) where
+  -- a text went in; or a write of it failed
+  abbrev pub Went : {T : Type 0} → Buffered S → Buffered S → List ℕ → Result T Stop → Type 0
+  Went old new text (Ok done) = AllPassed contents failures old new text
+  Went old new text (Err stop.Read) = AllPassed contents failures old new text
+  Went old new text (Err stop.Write) = PartPassed contents failures old new text
+
+  -- The texts of the positions of an entry went in, so many of them at most, and the answer is how
+  -- many more there may be; or a write of them failed.
+  abbrev pub PutsEntry : Layout → Counts → Bool → ℕ → ℕ → Buffered S → Buffered S → Result ℕ Failed → Type 0
+  PutsEntry l c all entry most old new result =
+      (positions : List Sides) × ((s : Sides) → Contains positions s ↔ IsOfEntry board l c all entry s) × AllPairs (λ s t. s ≢ t) positions
+      × Passes contents failures old new (found_text board (take most positions)) result × IfOk result (λ left. left ≡ most - length positions)
+
+  -- These positions are what is found of a kind: as many as there may be, and the answer is how many
+  -- more; or, where a write failed, the first of them.
+  abbrev pub IsFoundOf : (Option Kind → ℕ → List Sides → Type 0) → Option Kind → ℕ → List Sides → Result ℕ Stop → Type 0
+  IsFoundOf are kind most positions (Ok left) = are kind most positions × (left ≡ most - length positions)
+  IsFoundOf are kind most positions (Err stop.Write) = (n : ℕ) × (n ≤ most) × are kind n positions
+  IsFoundOf are kind most positions (Err stop.Read) = ⊥
+
+  -- the texts of some positions went in, of the ones that are found where the codes are known
+  abbrev pub PutsKind : CodedEntries → Bool → Option Kind → ℕ → Buffered S → Buffered S → Result ℕ Stop → Type 0
+  PutsKind entries all kind most old new result =
+      (positions : List Sides) × Went old new (found_text board positions) result
+      × IfSome entries.stated (λ known. IsFoundOf (λ k n ps. AreOf (IsStated board (table_of entries known) all) (entry_index board board.points entries.layout entries.pair) n k ps)
+      kind most positions result)
+
+  -- the same of both kinds, one after the other
+  abbrev pub AreKindsFound : {T : Type 0} → (ℕ → List Sides → Type 0) → ℕ → List Sides → Result T Stop → Type 0
+  AreKindsFound are most positions (Ok done) = are most positions
+  AreKindsFound are most positions (Err stop.Write) = (n : ℕ) × (n ≤ most) × are n positions
+  AreKindsFound are most positions (Err stop.Read) = ⊥
+
+  abbrev pub PutsKinds : {T : Type 0} → CodedEntries → Bool → Option Kind × Option Kind → ℕ → Buffered S → Buffered S → Result T Stop → Type 0
+  PutsKinds entries all kinds most old new result =
+      (positions : List Sides) × Went old new (found_text board positions) result
+      × IfSome entries.stated (λ known. AreKindsFound (λ n ps. AreOfBoth (IsStated board (table_of entries known) all)
+      (entry_index board board.points entries.layout entries.pair) n kinds ps) most positions result)

@@ -1,0 +1,328 @@
+//! The positions of a pair that have a value, as the entries of a file state it.
+ghost use Rattle.std.specs.Prelude.{◌≡◌, ◌≢◌, ◌⊎◌, ℕ, ◌+◌, ◌-◌, ◌^◌, ◌<◌, ◌≤◌, [], Err, length, slice_index, take, IfOk, IfSome, IsSome, OnOk};
+ghost use Rattle.morris_board.specs.Buffered.{Passes, held_of, sink_of, taken_of};
+ghost use Rattle.morris_board.specs.Positions.{text_of};
+ghost use Rattle.morris_pairs.specs.Counting.{table_of};
+ghost use Rattle.morris_pairs.specs.Entries.{entry_count};
+ghost use Rattle.morris_probe.specs.Lines.{line};
+ghost use Rattle.morris_jobs.specs.Faults.{CountsWrites};
+ghost use Rattle.morris_queries.specs.Found.{AnswersFind, AreKinds, PutsEntry, PutsKind, PutsKinds, found_text, has_shown, kind_sum};
+
+use crate::wanted::{Kind, Wanted, kinds_by};
+use morris_board::board::Geometry;
+use morris_board::position::Position;
+use morris_board::streams::buffered::Buffered;
+use morris_board::streams::{Failed, Sink};
+use morris_index::falls::FallsOn;
+use morris_jobs::fault::Fault;
+use morris_jobs::print::{Printed, print};
+use morris_pairs::counting::{Coded, CountFault, Entries};
+use morris_pairs::exact::value_of_code;
+use morris_probe::print::{put_number_line, put_position};
+use std::alloc::Global;
+
+/// What is printed of the positions that are found.
+#[derive(Clone, Copy, Debug, PartialEq, Eq)]
+pub enum Shown {
+    /// Their texts, so many of them at most.
+    Texts(u64),
+    /// How many there are.
+    Count,
+}
+
+/// Which positions are looked for, and what is printed of them.
+#[derive(Clone, Copy, Debug, PartialEq, Eq)]
+pub struct Search {
+    /// Those that are asked for.
+    pub wanted: Wanted,
+    /// All that have an entry, and not only the one that has it for its own.
+    pub all: bool,
+    /// What is printed.
+    pub shown: Shown,
+}
+
+/// Why the looking for positions stops before its end.
+#[derive(Clone, Copy, Debug, PartialEq, Eq)]
+pub(crate) enum Stop {
+    /// A code can't be read.
+    Read,
+    /// A write failed.
+    Write,
+}
+
+impl From<Failed> for Stop {
+    ghost use Rattle.morris_queries.specs.declared.find.Stop.TheVariants.{Write};
+
+    ghost from_gives = { λ _ stop. stop ≡ Write };
+
+    fn from(_failed: Failed) -> Stop {
+        Stop::Write
+    }
+}
+
+/// The kinds of values that are looked for, one after the other.
+type Kinds = (Option<Kind>, Option<Kind>);
+
+/// Finds positions of the pair of these entries, and prints what is asked of them: their texts, one
+/// a line, in the order of their entries, each as soon as its code is read; or how many there are.
+///
+/// # Errors
+/// [`Fault::Memory`] where memory is refused, with nothing printed; [`Fault::Read`] where a code
+/// can't be read, after the texts that were found before; [`Fault::Write`], with the bytes that
+/// went out, at the first write that fails.
+pub(crate) fn find<B: Geometry, C: Coded, S: Sink>(
+    alloc: Global,
+    entries: &mut Entries<B, C>,
+    search: Search,
+    output: &mut S,
+) -> Result<(), Fault>
+    requires { S.failures output.old < 2 ^ 64 - 1 }
+    ensures answer { AnswersFind B.shape entries.old search.all search.wanted search.shown (S.contents output.old) (S.contents output.new) result }
+    ensures counted { CountsWrites (S.failures output.old) (S.failures output.new) result }
+{
+    match search.shown {
+        Shown::Texts(most) => print_texts(alloc, entries, search, most, output),
+        Shown::Count => print_count(alloc, entries, search, output),
+    }
+}
+
+/// Prints how many positions there are, as a line.
+fn print_count<B: Geometry, C: Coded, S: Sink>(
+    alloc: Global,
+    entries: &mut Entries<B, C>,
+    search: Search,
+    output: &mut S,
+) -> Result<(), Fault>
+    requires { S.failures output.old < 2 ^ 64 - 1 }
+    ensures answer { AnswersFind B.shape entries.old search.all search.wanted Shown.Count (S.contents output.old) (S.contents output.new) result }
+    ensures counted { CountsWrites (S.failures output.old) (S.failures output.new) result }
+{
+    let count = entries.count();
+    let tallies = entries.tally(alloc, search.all, 0, count)?;
+    let kinds = kinds_by(search.wanted, tallies.as_slice());
+    let total = Total(sum_of(kinds.0, tallies.as_slice()) + sum_of(kinds.1, tallies.as_slice()));
+    print(&total, output)
+}
+
+/// How many of the positions with these tallies have a value of the kind.
+fn sum_of(kind: Option<Kind>, tallies: &[u64]) -> u64
+    requires few { length tallies.now ≤ 2 ^ 16 }
+    requires small { (code : ℕ) → slice_index tallies.now code ≤ 2 ^ 44 }
+    ensures sum { result ≡ kind_sum kind tallies.now }
+    ensures small { result ≤ 2 ^ 60 }
+{
+    let Some(kind) = kind else {
+        return 0;
+    };
+    let mut sum = 0;
+    for (code, count) in tallies.iter().enumerate() {
+        if !kind.has(value_of_code(code as u16)) {
+            continue;
+        }
+        sum += *count;
+    }
+    sum
+}
+
+/// A number, as a line.
+#[derive(Clone, Copy)]
+struct Total(u64);
+
+impl Printed for Total {
+    ghost use Rattle.std.specs.Prelude.{[]};
+    ghost use Rattle.morris_probe.specs.Lines.{number_line};
+
+    ghost bytes = { λ total. number_line [] total.0 };
+
+    fn put_into<S: Sink>(&self, out: &mut Buffered<'_, S>) -> Result<(), Failed> {
+        put_number_line(out, "", self.0)
+    }
+}
+
+/// Prints the texts of the positions, so many of them at most.
+fn print_texts<B: Geometry, C: Coded, S: Sink>(
+    alloc: Global,
+    entries: &mut Entries<B, C>,
+    search: Search,
+    most: u64,
+    output: &mut S,
+) -> Result<(), Fault>
+    requires { S.failures output.old < 2 ^ 64 - 1 }
+    ensures answer { AnswersFind B.shape entries.old search.all search.wanted (Shown.Texts most) (S.contents output.old) (S.contents output.new) result }
+    ensures counted { CountsWrites (S.failures output.old) (S.failures output.new) result }
+{
+    let kinds = kinds_of(alloc, entries, search)?;
+    let mut out = Buffered::new(output);
+    match put_all(entries, kinds, search.all, most, &mut out) {
+        Ok(()) => Ok(()),
+        Err(Stop::Read) => Err(Fault::Read),
+        Err(Stop::Write) => Err(Fault::Write(out.sent())),
+    }
+}
+
+/// The kinds of values that are looked for. For the deepest positions all entries are read once.
+///
+/// # Errors
+/// Those of [`Entries::tally`].
+fn kinds_of<B: Geometry, C: Coded>(
+    alloc: Global,
+    entries: &mut Entries<B, C>,
+    search: Search,
+) -> Result<Kinds, CountFault>
+    ensures stays { entries.new ≡ entries.old }
+    ensures kinds { IfOk result (λ kinds. IfSome entries.old.stated (λ known. AreKinds (has_shown B.shape (table_of entries.old known) search.all) search.wanted kinds)) }
+    ensures sure { IsSome entries.old.stated → result ≢ Err CountFault.Read }
+{
+    match search.wanted {
+        Wanted::Every(kind) => Ok((Some(kind), None)),
+        Wanted::Deepest => {
+            let count = entries.count();
+            let tallies = entries.tally(alloc, search.all, 0, count)?;
+            Ok(kinds_by(search.wanted, tallies.as_slice()))
+        }
+    }
+}
+
+/// Puts the texts of the positions of both kinds in, to the last byte: nothing is held back, but
+/// after a write that failed.
+fn put_all<B: Geometry, C: Coded, S: Sink>(
+    entries: &mut Entries<B, C>,
+    kinds: Kinds,
+    all: bool,
+    most: u64,
+    out: &mut Buffered<'_, S>,
+) -> Result<(), Stop>
+    requires failures { S.failures (sink_of out.old) < 2 ^ 64 - 1 }
+    requires new { taken_of out.old ≡ 0 }
+    ensures put { PutsKinds S.contents S.failures B.shape entries.old all kinds most out.old out.new result }
+    ensures empty { (result ≡ Err Stop.Write) ⊎ (held_of out.new ≡ []) }
+{
+    match put_kinds(entries, kinds, all, most, out) {
+        Ok(()) => Ok(out.flush()?),
+        Err(Stop::Read) => {
+            out.flush()?;
+            Err(Stop::Read)
+        }
+        Err(Stop::Write) => Err(Stop::Write),
+    }
+}
+
+/// Puts the texts of the positions of both kinds in, one kind after the other, so many at most.
+fn put_kinds<B: Geometry, C: Coded, S: Sink>(
+    entries: &mut Entries<B, C>,
+    kinds: Kinds,
+    all: bool,
+    most: u64,
+    out: &mut Buffered<'_, S>,
+) -> Result<(), Stop>
+    requires failures { S.failures (sink_of out.old) < 2 ^ 64 - 1 }
+    requires new { taken_of out.old ≡ 0 }
+    ensures put { PutsKinds S.contents S.failures B.shape entries.old all kinds most out.old out.new result }
+    ensures few { (result ≡ Err Stop.Write) ⊎ (taken_of out.new < 2 ^ 60) }
+{
+    let left = put_kind(entries, kinds.0, all, most, out)?;
+    put_kind(entries, kinds.1, all, left, out)?;
+    Ok(())
+}
+
+/// Puts the texts of the positions of a kind in, so many at most, and answers how many more there
+/// may be.
+fn put_kind<B: Geometry, C: Coded, S: Sink>(
+    entries: &mut Entries<B, C>,
+    kind: Option<Kind>,
+    all: bool,
+    most: u64,
+    out: &mut Buffered<'_, S>,
+) -> Result<u64, Stop>
+    requires failures { S.failures (sink_of out.old) < 2 ^ 64 - 1 }
+    requires room { taken_of out.old < 2 ^ 52 }
+    ensures stays { entries.new ≡ entries.old }
+    ensures put { PutsKind S.contents S.failures B.shape entries.old all kind most out.old out.new result }
+    ensures few { (result ≡ Err Stop.Write) ⊎ (taken_of out.new ≤ taken_of out.old + 2 ^ 50) }
+{
+    let Some(kind) = kind else {
+        return Ok(most);
+    };
+    let mut left = most;
+    for entry in 0..entries.count() {
+        if left == 0 {
+            return Ok(0);
+        }
+        let code = match entries.read_code(entry) {
+            Ok(code) => code,
+            Err(Failed) => return Err(Stop::Read),
+        };
+        if !kind.has(value_of_code(code)) {
+            continue;
+        }
+        left = put_entry(entries, entry, all, left, out)?;
+    }
+    Ok(left)
+}
+
+/// Puts the texts of the positions of an entry in, so many at most, and answers how many more there
+/// may be.
+fn put_entry<B: Geometry, C: Coded, S: Sink>(
+    entries: &Entries<B, C>,
+    entry: u64,
+    all: bool,
+    most: u64,
+    out: &mut Buffered<'_, S>,
+) -> Result<u64, Failed>
+    requires inside { entry < entry_count B.shape B.POINTS entries.now.layout entries.now.pair }
+    requires failures { S.failures (sink_of out.old) < 2 ^ 64 - 1 }
+    requires room { taken_of out.old < 2 ^ 62 }
+    requires some { 0 < most }
+    ensures put { PutsEntry S.contents S.failures B.shape entries.now.layout entries.now.pair all entry most out.old out.new result }
+    ensures few { OnOk result (taken_of out.new ≤ taken_of out.old + 2 ^ 10) }
+{
+    // The proof learns here that the numbers of stones are those of a pair.
+    let _ = entries.count();
+    match entries.classes() {
+        None => put_one(&entries.position(entry), most, out),
+        Some(classes) if all => put_falls(classes.falls_on(entry), most, out),
+        Some(_) => put_one(&entries.position(entry), most, out),
+    }
+}
+
+/// Puts the text of a position in, and answers how many more there may be.
+fn put_one<B: Geometry, S: Sink>(
+    position: &Position<B>,
+    most: u64,
+    out: &mut Buffered<'_, S>,
+) -> Result<u64, Failed>
+    requires failures { S.failures (sink_of out.old) < 2 ^ 64 - 1 }
+    requires room { taken_of out.old < 2 ^ 62 }
+    requires some { 0 < most }
+    ensures passed { Passes S.contents S.failures out.old out.new (line (text_of B.shape position.now)) result }
+    ensures left { IfOk result (λ left. left + 1 ≡ most) }
+    ensures few { OnOk result (taken_of out.new ≤ taken_of out.old + 64) }
+{
+    put_position(out, position)?;
+    Ok(most - 1)
+}
+
+/// Puts the texts of the positions that have an entry in, so many at most, and answers how many
+/// more there may be.
+fn put_falls<B: Geometry, S: Sink>(
+    falls: FallsOn<'_, B>,
+    most: u64,
+    out: &mut Buffered<'_, S>,
+) -> Result<u64, Failed>
+    requires failures { S.failures (sink_of out.old) < 2 ^ 64 - 1 }
+    requires room { taken_of out.old < 2 ^ 62 }
+    requires few { length falls ≤ 16 }
+    ensures passed { Passes S.contents S.failures out.old out.new (found_text B.shape (take most falls.entry)) result }
+    ensures left { IfOk result (λ left. left ≡ most - length falls.entry) }
+    ensures few { OnOk result (taken_of out.new ≤ taken_of out.old + 2 ^ 10) }
+{
+    let mut left = most;
+    for position in falls {
+        if left == 0 {
+            return Ok(0);
+        }
+        put_position(out, &position)?;
+        left -= 1;
+    }
+    Ok(left)
+}
