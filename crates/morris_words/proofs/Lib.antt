@@ -1,4 +1,5 @@
 pub mod Parsed
 pub mod Requests
 pub mod ReadLaws
+pub mod GivenLaws
 pub mod ArgLaws

@@ -1,10 +1,10 @@
 -- What a command takes, and what it reads of the values that its words gave.
-use Rattle.std.proofs.Common.{◌≡◌, ◌∙◌, ◌||◌, Bool, true, false, ap, ap₂, inl, inr, refl, subst, sym, List, [], ◌∷◌, Option, Some, None, Result, codes, is_some, option_map}
+use Rattle.std.proofs.Common.{◌≡◌, ◌∙◌, ◌||◌, ℕ, Bool, true, false, ap, ap₂, inl, inr, refl, subst, sym, List, [], ◌∷◌, Option, Some, None, Result, codes, is_some, option_map}
 use Rattle.std.specs.Box.{box_value}
 use Rattle.std.specs.Option.{option_zip}
 use Rattle.std.specs.Result.{result_ok}
 use Rattle.std.specs.Prelude.{Err, IfOk, Ok}
-use Rattle.std.specs.Prelude.{Box, if◌then◌else◌}
+use Rattle.std.specs.Prelude.{Box, find, if◌then◌else◌, option_and_then, slice_get}
 use Rattle.std.specs.Str.{bytes_eq}
 use Rattle.std.proofs.lemmas.Slice.Eq.{bytes_eq-Decides}
 use Rattle.clap.proofs.WalkLemmas.{one_text-rows}
@@ -12,8 +12,11 @@ use Rattle.clap.specs.Words.{AddsArg, AddsInTurn, AddsSubcommand, App, Rule, app
 use Rattle.clap.specs.declared.builder.arg.Arg.{Arg}
 use Rattle.clap.specs.declared.builder.command.Command.{Command}
 use Rattle.clap.specs.Matches.{one_text}
+use Rattle.clap.specs.Takes.{is_given}
 use Rattle.clap.specs.Values.{bool_text}
-use Rattle.clap.specs.Walk.{Row, Text, one_of, rows_of}
+use Rattle.clap.specs.Values.{read_as}
+use Rattle.clap.specs.declared.builder.value_parser.Reading.{Reading}
+use Rattle.clap.specs.Walk.{Row, Text, first_of, one_of, row_text, rows_of}
 use Rattle.clap.specs.Words.{found_of, subcommand_name_of, subcommand_rows_of}
 use Rattle.std.specs.Borrow.{Bor}
 use Rattle.clap.specs.declared.parser.matches.ArgMatches.{ArgMatches}
@@ -21,7 +24,7 @@ use Rattle.clap.specs.declared.parser.matches.ArgMatches.TheViews.{out-SubComman
 use Rattle.clap.specs.declared.parser.matches.Found.{Found}
 use Rattle.clap.specs.declared.parser.matches.SubCommand.{SubCommand}
 use Rattle.clap.specs.declared.error.kind.ErrorKind.TheVariants.{ArgumentConflict}
-use Rattle.morris_words.specs.Words.{AreArgs, HasBuildValues, HasLookValues, HasLookupValues, HasProbeValues, HasStatsValues, HasVerifyValues, Is, IsAnswerTo, IsAnswerToOneOf, IsArg, NamesCommand, clashes, has_clash, is_on, with_rules}
+use Rattle.morris_words.specs.Words.{AreArgs, HasBuildValues, HasFindValues, HasLookValues, HasLookupValues, HasProbeValues, HasStatsValues, HasVerifyValues, Is, IsAnswerTo, IsAnswerToOneOf, IsArg, IsLimit, NamesCommand, clashes, has_clash, is_on, with_rules}
 use Rattle.morris_words.specs.declared.words.Refusal.{Refusal}
 use Rattle.morris_words.specs.declared.words.Refusal.TheVariants.{Memory, Help, Version, Wrong}
 
@@ -91,6 +94,23 @@ clash_answered name rows r both answers =
     among (Version text) h = cc
     among (Wrong text) h = (ArgumentConflict, h.0, h.1, inl refl)
 
+-- whether there is a clash, where it is known by what was looked for
+pub is_clash : {X : Type 0} (name : Text) (rows : List Row) (o : Option X) (x : X) → o ≡ Some x → is_some o ≡ has_clash name rows → has_clash name rows ≡ true
+is_clash name rows o x is same = sym same ∙ ap is_some is
+
+pub free_of_clash : {X : Type 0} (name : Text) (rows : List Row) (o : Option X) → o ≡ None → is_some o ≡ has_clash name rows
+    → clashes (Some (name, rows)) ≡ []
+free_of_clash name rows o is same =
+    let none : has_clash name rows ≡ false = sym same ∙ ap is_some is in
+    rw none refl
+
+-- a limit that is there was given
+pub limit_given : (rows : List Row) (limit : Option ℕ) → is_some limit ≡ true → IsLimit rows limit → is_given (codes "limit") rows ≡ true
+limit_given rows None some is =
+    let bad : false ≡ true = some in
+    cc
+limit_given rows (Some most) some is = is.0
+
 -- the name and the rows of a subcommand, each of which is known
 pub named_rows : {Z : Type 0} (o : Option (Box SubCommand Z)) (name : Text) (rows : List Row)
     → option_map (λ b. (out-SubCommand (box_value b)).name.now) o ≡ Some name → option_map (λ p. p.1) (subcommand_rows o) ≡ Some rows
@@ -116,6 +136,20 @@ differ a b other same =
     let bad : true ≡ false = sym ((bytes_eq-Decides a b).1 same) ∙ other in
     cc
 
+-- an argument without a first value has no text to read
+pub no_text : (name : Text) (rows : List Row) → is_some (first_of name rows) ≡ false → one_of name rows ≡ None
+no_text name rows none = go (find (λ (r : Row). bytes_eq r.id name) rows) none
+  where
+    empty : (reading : Reading) (values : List Text) → is_some (slice_get values 0) ≡ false → option_map (read_as reading) (slice_get values 0) ≡ None
+    empty reading [] none = refl
+    empty reading (value ∷ others) none =
+        let bad : true ≡ false = none in
+        cc
+
+    go : (o : Option Row) → is_some (option_and_then (λ (r : Row). slice_get r.values 0) o) ≡ false → option_and_then row_text o ≡ None
+    go None none = refl
+    go (Some r) none = empty r.reading r.values none
+
 -- the values of `look`, where that was named
 pub look_values : (rows : List Row) → NamesCommand (codes "look", rows) → HasLookValues rows
 look_values rows named = elim named [
@@ -124,7 +158,8 @@ look_values rows named = elim named [
   | inr (inr (inl has)) ↦ absurd (differ (codes "look") (codes "build") refl has.0)
   | inr (inr (inr (inl has))) ↦ absurd (differ (codes "look") (codes "verify") refl has.0)
   | inr (inr (inr (inr (inl has)))) ↦ absurd (differ (codes "look") (codes "probe") refl has.0)
-  | inr (inr (inr (inr (inr has)))) ↦ absurd (differ (codes "look") (codes "lookup") refl has.0)
+  | inr (inr (inr (inr (inr (inl has))))) ↦ absurd (differ (codes "look") (codes "lookup") refl has.0)
+  | inr (inr (inr (inr (inr (inr has))))) ↦ absurd (differ (codes "look") (codes "find") refl has.0)
 ]
 
 -- the values of `stats`, where that was named
@@ -135,7 +170,8 @@ stats_values rows named = elim named [
   | inr (inr (inl has)) ↦ absurd (differ (codes "stats") (codes "build") refl has.0)
   | inr (inr (inr (inl has))) ↦ absurd (differ (codes "stats") (codes "verify") refl has.0)
   | inr (inr (inr (inr (inl has)))) ↦ absurd (differ (codes "stats") (codes "probe") refl has.0)
-  | inr (inr (inr (inr (inr has)))) ↦ absurd (differ (codes "stats") (codes "lookup") refl has.0)
+  | inr (inr (inr (inr (inr (inl has))))) ↦ absurd (differ (codes "stats") (codes "lookup") refl has.0)
+  | inr (inr (inr (inr (inr (inr has))))) ↦ absurd (differ (codes "stats") (codes "find") refl has.0)
 ]
 
 -- the values of `build`, where that was named
@@ -146,7 +182,8 @@ build_values rows named = elim named [
   | inr (inr (inl has)) ↦ has.1
   | inr (inr (inr (inl has))) ↦ absurd (differ (codes "build") (codes "verify") refl has.0)
   | inr (inr (inr (inr (inl has)))) ↦ absurd (differ (codes "build") (codes "probe") refl has.0)
-  | inr (inr (inr (inr (inr has)))) ↦ absurd (differ (codes "build") (codes "lookup") refl has.0)
+  | inr (inr (inr (inr (inr (inl has))))) ↦ absurd (differ (codes "build") (codes "lookup") refl has.0)
+  | inr (inr (inr (inr (inr (inr has))))) ↦ absurd (differ (codes "build") (codes "find") refl has.0)
 ]
 
 -- the values of `verify`, where that was named
@@ -157,7 +194,8 @@ verify_values rows named = elim named [
   | inr (inr (inl has)) ↦ absurd (differ (codes "verify") (codes "build") refl has.0)
   | inr (inr (inr (inl has))) ↦ has.1
   | inr (inr (inr (inr (inl has)))) ↦ absurd (differ (codes "verify") (codes "probe") refl has.0)
-  | inr (inr (inr (inr (inr has)))) ↦ absurd (differ (codes "verify") (codes "lookup") refl has.0)
+  | inr (inr (inr (inr (inr (inl has))))) ↦ absurd (differ (codes "verify") (codes "lookup") refl has.0)
+  | inr (inr (inr (inr (inr (inr has))))) ↦ absurd (differ (codes "verify") (codes "find") refl has.0)
 ]
 
 -- the values of `probe`, where that was named
@@ -168,7 +206,8 @@ probe_values rows named = elim named [
   | inr (inr (inl has)) ↦ absurd (differ (codes "probe") (codes "build") refl has.0)
   | inr (inr (inr (inl has))) ↦ absurd (differ (codes "probe") (codes "verify") refl has.0)
   | inr (inr (inr (inr (inl has)))) ↦ has.1
-  | inr (inr (inr (inr (inr has)))) ↦ absurd (differ (codes "probe") (codes "lookup") refl has.0)
+  | inr (inr (inr (inr (inr (inl has))))) ↦ absurd (differ (codes "probe") (codes "lookup") refl has.0)
+  | inr (inr (inr (inr (inr (inr has))))) ↦ absurd (differ (codes "probe") (codes "find") refl has.0)
 ]
 
 -- the values of `lookup`, where that was named
@@ -179,5 +218,18 @@ lookup_values rows named = elim named [
   | inr (inr (inl has)) ↦ absurd (differ (codes "lookup") (codes "build") refl has.0)
   | inr (inr (inr (inl has))) ↦ absurd (differ (codes "lookup") (codes "verify") refl has.0)
   | inr (inr (inr (inr (inl has)))) ↦ absurd (differ (codes "lookup") (codes "probe") refl has.0)
-  | inr (inr (inr (inr (inr has)))) ↦ has.1
+  | inr (inr (inr (inr (inr (inl has))))) ↦ has.1
+  | inr (inr (inr (inr (inr (inr has))))) ↦ absurd (differ (codes "lookup") (codes "find") refl has.0)
+]
+
+-- the values of `find`, where that was named
+pub find_values : (rows : List Row) → NamesCommand (codes "find", rows) → HasFindValues rows
+find_values rows named = elim named [
+  | inl has ↦ absurd (differ (codes "find") (codes "look") refl has.0)
+  | inr (inl has) ↦ absurd (differ (codes "find") (codes "stats") refl has.0)
+  | inr (inr (inl has)) ↦ absurd (differ (codes "find") (codes "build") refl has.0)
+  | inr (inr (inr (inl has))) ↦ absurd (differ (codes "find") (codes "verify") refl has.0)
+  | inr (inr (inr (inr (inl has)))) ↦ absurd (differ (codes "find") (codes "probe") refl has.0)
+  | inr (inr (inr (inr (inr (inl has))))) ↦ absurd (differ (codes "find") (codes "lookup") refl has.0)
+  | inr (inr (inr (inr (inr (inr has))))) ↦ has.1
 ]

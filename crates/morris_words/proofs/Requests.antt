@@ -15,7 +15,7 @@ use Rattle.clap.specs.Walk.{Row, Rule, Text, action_of, answers_to, arg_by_id, f
 use Rattle.clap.specs.Simple.{App, Shape, argument_words, built, built_leaf, entered, filled, help_rule, inherited, label_of, marked_built, names_of, new_rule, new_shape, rows_at, with_index, with_leaf_noted, with_subcommand}
 use Rattle.clap.specs.declared.builder.action.ArgAction.TheVariants.{Append, Set, SetTrue}
 use Rattle.clap.specs.declared.builder.value_parser.ValueParser.TheVariants as parser
-use Rattle.morris_words.specs.Words.{HasBuildValues, HasLookValues, HasLookupValues, HasProbeValues, HasStatsValues, HasVerifyValues, NamesRequest, blocks_rule, build_app, depth_rule, flag_rule, look_app, lookup_app, morris_app, named_by, option_rule, probe_app, program, required_option_rule, required_rule, several_rule, stats_app, verify_app, workers_rule}
+use Rattle.morris_words.specs.Words.{HasBuildValues, HasFindValues, HasLookValues, HasLookupValues, HasProbeValues, HasStatsValues, HasVerifyValues, NamesRequest, blocks_rule, build_app, depth_rule, find_app, flag_rule, limit_rule, look_app, lookup_app, morris_app, named_by, option_rule, probe_app, program, required_option_rule, required_rule, several_rule, stats_app, verify_app, workers_rule}
 use Rattle.morris_words.proofs.Parsed.{Each, Each-find, HasValue, IsNotHelp, IsPlainRule, Passing, arguments_there, default_fills, default_keeps, given_value, level_passes, row_value, subcommand_there, text_given}
 
 -- ---- arguments that have a value where they are left out
@@ -86,7 +86,7 @@ look_top = record (new_shape (codes "look")) { rules = required_rule (codes "BOA
 abbrev stats_top : Shape
 stats_top = record (new_shape (codes "stats")) {
   rules = required_rule (codes "BOARD") ∷ required_rule (codes "PAIR") ∷ flag_rule (codes "classes") ∷ workers_rule ∷ blocks_rule
-      ∷ flag_rule (codes "deepest") ∷ flag_rule (codes "progress") ∷ [];
+      ∷ flag_rule (codes "deepest") ∷ option_rule (codes "from") ∷ flag_rule (codes "csv") ∷ flag_rule (codes "progress") ∷ [];
 }
 
 abbrev build_top : Shape
@@ -109,10 +109,16 @@ lookup_top = record (new_shape (codes "lookup")) {
       ∷ several_rule (codes "TEXT") ∷ [];
 }
 
+abbrev find_top : Shape
+find_top = record (new_shape (codes "find")) {
+  rules = required_rule (codes "BOARD") ∷ required_rule (codes "PAIR") ∷ required_rule (codes "VALUE") ∷ required_option_rule (codes "from")
+      ∷ flag_rule (codes "all") ∷ limit_rule ∷ flag_rule (codes "count") ∷ [];
+}
+
 abbrev whole : App
 whole =
-    with_subcommand (with_subcommand (with_subcommand (with_subcommand (with_subcommand (with_subcommand program look_top) stats_top) build_top) verify_top)
-    probe_top) lookup_top
+    with_subcommand (with_subcommand (with_subcommand (with_subcommand (with_subcommand (with_subcommand (with_subcommand program look_top) stats_top) build_top)
+    verify_top) probe_top) lookup_top) find_top
 
 abbrev look : Shape
 look = built_leaf (inherited (with_leaf_noted (marked_built whole.top)) look_top)
@@ -153,13 +159,22 @@ workers = filled workers_rule
 abbrev blocks : Rule
 blocks = filled blocks_rule
 
+abbrev from : Rule
+from = filled (option_rule (codes "from"))
+
 abbrev stats : Shape
 stats = built_leaf (inherited (with_leaf_noted (marked_built whole.top)) stats_top)
 
 stats_plain : Each (IsPlainRule stats.rules) stats.rules
 stats_plain = (
   sets refl refl refl,
-  (sets refl refl refl, (stands refl refl refl, (sets refl refl refl, (sets refl refl refl, (stands refl refl refl, (stands refl refl refl, (asks refl refl, tt))))))),
+  (
+    sets refl refl refl,
+    (
+      stands refl refl refl,
+      (sets refl refl refl, (sets refl refl refl, (stands refl refl refl, (sets refl refl refl, (stands refl refl refl, (stands refl refl refl, (asks refl refl, tt))))))),
+    ),
+  ),
 )
 
 stats_fits : (words : List Text) → level_fault stats [] nothing_held words false [] ≡ [] → HasStatsValues (rows_after stats.rules [] words)
@@ -173,8 +188,9 @@ stats_fits words none =
     let three = with_default two (flag (codes "classes")) in
     let four = with_default three workers in
     let five = with_default four blocks in
-    let six = with_default five (flag (codes "deepest")) in
-    let after_deepest = flag (codes "progress") ∷ help ∷ [] in
+    let seven = with_default (with_default five (flag (codes "deepest"))) from in
+    let after_csv = flag (codes "progress") ∷ help ∷ [] in
+    let after_deepest = from ∷ flag (codes "csv") ∷ after_csv in
     let after_blocks = flag (codes "deepest") ∷ after_deepest in
     let after_workers = blocks ∷ after_blocks in
     let first : HasValue rows board = given_value stats.rules rows board level.rows given.0 refl in
@@ -183,7 +199,8 @@ stats_fits words none =
     let third : HasValue rows workers = row_value stats.rules rows workers level.rows (default_stays workers (codes "2") [] after_workers three refl) refl in
     let fourth : HasValue rows blocks = row_value stats.rules rows blocks level.rows (default_stays blocks (codes "16") [] after_blocks four refl) refl in
     let deepest = flag_says stats.rules (codes "deepest") after_deepest five level.rows refl in
-    let progress = flag_says stats.rules (codes "progress") (help ∷ []) six level.rows refl in
+    let csv = flag_says stats.rules (codes "csv") after_csv seven level.rows refl in
+    let progress = flag_says stats.rules (codes "progress") (help ∷ []) (with_default seven (flag (codes "csv"))) level.rows refl in
     record {
       board = ap is_some first.is_first;
       pair = ap is_some second.is_first;
@@ -191,6 +208,8 @@ stats_fits words none =
       workers = record { text = third.first; read = third.read; in_range = accepts-Accepts false (parser.Signed (pos 1) (pos 64)) third.first third.passes };
       blocks = record { text = fourth.first; read = fourth.read; in_range = accepts-Accepts false (parser.Signed (pos 1) (pos 1024)) fourth.first fourth.passes };
       deepest = deepest;
+      from = text_given stats.rules rows from level.rows refl refl;
+      csv = csv;
       progress = progress;
     }
 
@@ -243,9 +262,6 @@ build_fits words none =
     }
 
 -- ---- `verify`, as it is built
-
-abbrev from : Rule
-from = filled (option_rule (codes "from"))
 
 abbrev verify : Shape
 verify = built_leaf (inherited (with_leaf_noted (marked_built whole.top)) verify_top)
@@ -342,6 +358,62 @@ lookup_fits words none =
       line = line;
     }
 
+-- ---- `find`, as it is built
+
+abbrev value : Rule
+value = with_index 3 (filled (required_rule (codes "VALUE")))
+
+abbrev limit : Rule
+limit = filled limit_rule
+
+abbrev find_built : Shape
+find_built = built_leaf (inherited (with_leaf_noted (marked_built whole.top)) find_top)
+
+find_plain : Each (IsPlainRule find_built.rules) find_built.rules
+find_plain = (
+  sets refl refl refl,
+  (sets refl refl refl, (sets refl refl refl, (sets refl refl refl, (stands refl refl refl, (sets refl refl refl, (stands refl refl refl, (asks refl refl, tt))))))),
+)
+
+four_given : (p q r s : Bool) → (not p || (not q || (not r || (not s || false)))) ≡ false → (p ≡ true) × (q ≡ true) × (r ≡ true) × (s ≡ true)
+four_given true true true true h = (refl, refl, refl, refl)
+four_given true true true false h = cc
+four_given true true false s h = cc
+four_given true false r s h = cc
+four_given false q r s h = cc
+
+find_fits : (words : List Text) → level_fault find_built [] nothing_held words false [] ≡ [] → HasFindValues (rows_after find_built.rules [] words)
+find_fits words none =
+    let level = level_passes find_built [] words false [] find_plain none in
+    let rows = rows_after find_built.rules [] words in
+    let start = (settled find_built.rules (walk find_built.rules [] nothing_held words).held).rows in
+    let missing : (not (is_given (codes "BOARD") rows)
+    || (not (is_given (codes "PAIR") rows) || (not (is_given (codes "VALUE") rows) || (not (is_given (codes "from") rows) || false)))) ≡ false =
+    arguments_there find_built rows false level.checked in
+    let given = four_given _ _ _ _ missing in
+    let four = with_default (with_default (with_default (with_default start board) pair) value) folder in
+    let after_limit = flag (codes "count") ∷ help ∷ [] in
+    let first : HasValue rows board = given_value find_built.rules rows board level.rows given.0 refl in
+    let second : HasValue rows pair = given_value find_built.rules rows pair level.rows given.1 refl in
+    let third : HasValue rows value = given_value find_built.rules rows value level.rows given.2 refl in
+    let fourth : HasValue rows folder = given_value find_built.rules rows folder level.rows given.3 refl in
+    let all = flag_says find_built.rules (codes "all") (limit ∷ after_limit) four level.rows refl in
+    let count = flag_says find_built.rules (codes "count") (help ∷ []) (with_default (with_default four (flag (codes "all"))) limit) level.rows refl in
+    record {
+      board = ap is_some first.is_first;
+      pair = ap is_some second.is_first;
+      value = ap is_some third.is_first;
+      from = ap is_some fourth.is_first;
+      all = all;
+      limit = record {
+        there = text_given find_built.rules rows limit level.rows refl refl;
+        number = λ there.
+            let most : HasValue rows limit = given_value find_built.rules rows limit level.rows there refl in
+            record { text = most.first; read = most.read; in_range = accepts-Accepts false (parser.Signed (pos 1) (pos 4294967295)) most.first most.passes };
+      };
+      count = count;
+    }
+
 -- ---- the program
 
 only_left : (b : Bool) → (b || false) ≡ true → b ≡ true
@@ -365,7 +437,10 @@ all_serve = (
         inl (λ words none. inr (inr (inr (inl (refl, verify_fits words none))))),
         (
           inl (λ words none. inr (inr (inr (inr (inl (refl, probe_fits words none)))))),
-          (inl (λ words none. inr (inr (inr (inr (inr (refl, lookup_fits words none)))))), (inr (refl, refl), tt)),
+          (
+            inl (λ words none. inr (inr (inr (inr (inr (inl (refl, lookup_fits words none))))))),
+            (inl (λ words none. inr (inr (inr (inr (inr (inr (refl, find_fits words none))))))), (inr (refl, refl), tt)),
+          ),
         ),
       ),
     ),
@@ -419,5 +494,5 @@ program_named a words plain serves wants offers none =
     entered_named a stop serves (level.stopped offers) level.below_none (there has wanted)
 
 pub named : (words : List Text) → fault_of morris_app words ≡ [] → NamesRequest (named_by words)
-unfolding morris_app look_app stats_app build_app verify_app probe_app lookup_app
+unfolding morris_app look_app stats_app build_app verify_app probe_app lookup_app find_app
 named words none = program_named (built whole) (argument_words whole words) program_plain all_serve refl refl none

@@ -23,7 +23,7 @@ use Rattle.morris_words.specs.declared.words.Request.{Request}
 use Rattle.morris_words.specs.declared.words.Show.{Show}
 use Rattle.morris_words.specs.declared.words.Show.TheVariants.{Best, Moves, Line}
 use Rattle.morris_words.specs.declared.words.Task.{Task}
-use Rattle.morris_words.specs.declared.words.Task.TheVariants.{Look, Stats, Build, Verify, Probe, Lookup}
+use Rattle.morris_words.specs.declared.words.Task.TheVariants.{Look, Stats, Build, Verify, Probe, Lookup, Find}
 use Rattle.morris_words.specs.declared.words.Refusal.{Refusal}
 use Rattle.morris_words.specs.declared.words.Refusal.TheVariants.{Memory, Help, Version, Wrong}
 
@@ -81,15 +81,17 @@ blocks_rule = record (new_rule (codes "blocks")) {
   defaults = codes "16" ∷ [];
 }
 
--- `stats BOARD PAIR [--classes] [--workers W] [--blocks K] [--deepest] [--progress]`
-unfoldable pub stats_app : App
-stats_app =
-    with_rule (with_rule (with_rule (with_rule (with_rule (with_rule (with_rule (new_app (codes "stats")) (required_rule (codes "BOARD")))
-    (required_rule (codes "PAIR"))) (flag_rule (codes "classes"))) workers_rule) blocks_rule) (flag_rule (codes "deepest"))) (flag_rule (codes "progress"))
-
 -- `--NAME VALUE`, an option that may be left out, and has no value then
 abbrev pub option_rule : Text → Rule
 option_rule name = record (new_rule name) { long = Some name; value_names = 1 }
+
+-- `stats BOARD PAIR [--classes] [--workers W] [--blocks K] [--deepest] [--from FOLDER] [--csv]
+-- [--progress]`
+unfoldable pub stats_app : App
+stats_app =
+    with_rule (with_rule (with_rule (with_rule (with_rule (with_rule (with_rule (with_rule (with_rule (new_app (codes "stats"))
+    (required_rule (codes "BOARD"))) (required_rule (codes "PAIR"))) (flag_rule (codes "classes"))) workers_rule) blocks_rule) (flag_rule (codes "deepest")))
+    (option_rule (codes "from"))) (flag_rule (codes "csv"))) (flag_rule (codes "progress"))
 
 -- `build BOARD PAIR [--workers W] [--blocks K] [--all] [--into FOLDER] [--classes] [--progress]`
 unfoldable pub build_app : App
@@ -124,11 +126,26 @@ lookup_app =
     with_rule (with_rule (with_rule (with_rule (with_rule (new_app (codes "lookup")) (required_rule (codes "BOARD")))
     (required_option_rule (codes "from"))) (flag_rule (codes "moves"))) (flag_rule (codes "line"))) (several_rule (codes "TEXT"))
 
+-- `--limit N`, N a number of 32 bits from 1 on, which may be left out
+abbrev pub limit_rule : Rule
+limit_rule = record (new_rule (codes "limit")) {
+  long = Some (codes "limit");
+  value_names = 1;
+  parser = Some (parser.Signed (pos 1) (pos 4294967295));
+}
+
+-- `find BOARD PAIR VALUE --from FOLDER [--all] [--limit N] [--count]`
+unfoldable pub find_app : App
+find_app =
+    with_rule (with_rule (with_rule (with_rule (with_rule (with_rule (with_rule (new_app (codes "find")) (required_rule (codes "BOARD")))
+    (required_rule (codes "PAIR"))) (required_rule (codes "VALUE"))) (required_option_rule (codes "from"))) (flag_rule (codes "all"))) limit_rule)
+    (flag_rule (codes "count"))
+
 -- the program `morris` with its commands
 unfoldable pub morris_app : App
 morris_app =
-    with_subcommand (with_subcommand (with_subcommand (with_subcommand (with_subcommand (with_subcommand program look_app.top) stats_app.top)
-    build_app.top) verify_app.top) probe_app.top) lookup_app.top
+    with_subcommand (with_subcommand (with_subcommand (with_subcommand (with_subcommand (with_subcommand (with_subcommand program look_app.top)
+    stats_app.top) build_app.top) verify_app.top) probe_app.top) lookup_app.top) find_app.top
 
 -- the command takes what `a` says, and none of its arguments, or of those of its own commands, is
 -- global
@@ -155,13 +172,27 @@ named_by words = subcommand_of morris_app words
 abbrev pub is_on : Text → List Row → Bool
 is_on name rows = option_map_or (λ t. bytes_eq t (codes "true")) (one_of name rows) false
 
--- two arguments of the command exclude each other: `--all` and `--into` of `build`, `--all` and
--- `--from` of `verify`, or `--moves` and `--line` of `lookup`
+-- an argument of `stats` doesn't go with a folder: the values aren't found, but read
+abbrev pub finds_values : List Row → Bool
+finds_values rows =
+    is_on (codes "classes") rows
+    || (is_given (codes "workers") rows || (is_given (codes "blocks") rows || (is_on (codes "deepest") rows || is_on (codes "progress") rows)))
+
+-- two arguments of `stats` exclude each other: `--csv` and `--deepest`, or `--from` and one of those
+-- that say how values are found
+abbrev pub stats_clash : List Row → Bool
+stats_clash rows = (is_on (codes "csv") rows && is_on (codes "deepest") rows) || (is_given (codes "from") rows && finds_values rows)
+
+-- two arguments of the command exclude each other: those of `stats`, `--all` and `--into` of `build`,
+-- `--all` and `--from` of `verify`, `--moves` and `--line` of `lookup`, or `--limit` and `--count` of
+-- `find`
 abbrev pub has_clash : Text → List Row → Bool
 has_clash name rows =
     (bytes_eq name (codes "build") && (is_on (codes "all") rows && is_given (codes "into") rows))
     || ((bytes_eq name (codes "verify") && (is_on (codes "all") rows && is_given (codes "from") rows))
-    || (bytes_eq name (codes "lookup") && (is_on (codes "moves") rows && is_on (codes "line") rows)))
+    || ((bytes_eq name (codes "lookup") && (is_on (codes "moves") rows && is_on (codes "line") rows))
+    || ((bytes_eq name (codes "stats") && stats_clash rows)
+    || (bytes_eq name (codes "find") && (is_on (codes "count") rows && is_given (codes "limit") rows)))))
 
 -- the mistake of such a command
 abbrev pub clashes : Option (Text × List Row) → Kinds
@@ -188,6 +219,11 @@ IsShown rows Best = (is_on (codes "moves") rows ≡ false) × (is_on (codes "lin
 IsShown rows Moves = (is_on (codes "moves") rows ≡ true) × (is_on (codes "line") rows ≡ false)
 IsShown rows Line = (is_on (codes "moves") rows ≡ false) × (is_on (codes "line") rows ≡ true)
 
+-- how many positions `find` shows at most: the number that was given, where one was
+abbrev pub IsLimit : List Row → Option ℕ → Type 0
+IsLimit rows None = is_given (codes "limit") rows ≡ false
+IsLimit rows (Some n) = (is_given (codes "limit") rows ≡ true) × (option_map number_of (one_of (codes "limit") rows) ≡ Some n)
+
 -- the task is that of the command that was named, with the values of its arguments; the value of a
 -- flag says whether it was given
 abbrev pub AsksForTask : Text → List Row → Task → Type 0
@@ -195,12 +231,14 @@ AsksForTask name rows (Look board text depth) =
     (name ≡ codes "look") × (first_of (codes "BOARD") rows ≡ Some board.now)
     × (first_of (codes "TEXT") rows ≡ Some text.now)
     × (option_map number_of (one_of (codes "depth") rows) ≡ Some depth)
-AsksForTask name rows (Stats board pair classes workers blocks deepest) =
+AsksForTask name rows (Stats board pair classes workers blocks deepest from csv) =
     (name ≡ codes "stats") × (first_of (codes "BOARD") rows ≡ Some board.now) × (first_of (codes "PAIR") rows ≡ Some pair.now)
     × (one_of (codes "classes") rows ≡ Some (bool_text classes))
     × (option_map number_of (one_of (codes "workers") rows) ≡ Some workers)
     × (option_map number_of (one_of (codes "blocks") rows) ≡ Some blocks)
     × (one_of (codes "deepest") rows ≡ Some (bool_text deepest))
+    × IsOption (codes "from") rows from
+    × (one_of (codes "csv") rows ≡ Some (bool_text csv))
 AsksForTask name rows (Build board pair workers blocks all into classes) =
     (name ≡ codes "build") × (first_of (codes "BOARD") rows ≡ Some board.now) × (first_of (codes "PAIR") rows ≡ Some pair.now)
     × (option_map number_of (one_of (codes "workers") rows) ≡ Some workers)
@@ -218,11 +256,16 @@ AsksForTask name rows (Probe board text) =
 AsksForTask name rows (Lookup board from show texts) =
     (name ≡ codes "lookup") × (first_of (codes "BOARD") rows ≡ Some board.now) × (first_of (codes "from") rows ≡ Some from.now)
     × IsShown rows show × (unwrap_or (all_of (codes "TEXT") rows) [] ≡ map (λ t. t.now) texts.items)
+AsksForTask name rows (Find board pair value from all limit count) =
+    (name ≡ codes "find") × (first_of (codes "BOARD") rows ≡ Some board.now) × (first_of (codes "PAIR") rows ≡ Some pair.now)
+    × (first_of (codes "VALUE") rows ≡ Some value.now) × (first_of (codes "from") rows ≡ Some from.now)
+    × (one_of (codes "all") rows ≡ Some (bool_text all)) × IsLimit rows limit × (one_of (codes "count") rows ≡ Some (bool_text count))
 
--- progress is to be told where `--progress` was given, which `look` and `lookup` don't take
+-- progress is to be told where `--progress` was given, which `look`, `lookup` and `find` don't take
 abbrev pub AsksToTell : Task → List Row → Bool → Type 0
 AsksToTell (Look board text depth) rows progress = progress ≡ false
 AsksToTell (Lookup board from show texts) rows progress = progress ≡ false
+AsksToTell (Find board pair value from all limit count) rows progress = progress ≡ false
 AsksToTell _ rows progress = one_of (codes "progress") rows ≡ Some (bool_text progress)
 
 -- the request is for the command that was named, with the values of its arguments
@@ -233,7 +276,7 @@ AsksFor (Some (name, rows)) r = AsksForTask name rows r.task × AsksToTell r.tas
 -- a depth to look ahead is at most 6 plies; workers are 1 to 64, and blocks 1 to 1,024
 abbrev pub IsInRange : Task → Type 0
 IsInRange (Look board text depth) = depth ≤ 6
-IsInRange (Stats board pair classes workers blocks deepest) = ((1 ≤ workers) × (workers ≤ 64)) × ((1 ≤ blocks) × (blocks ≤ 1024))
+IsInRange (Stats board pair classes workers blocks deepest from csv) = ((1 ≤ workers) × (workers ≤ 64)) × ((1 ≤ blocks) × (blocks ≤ 1024))
 IsInRange (Build board pair workers blocks all into classes) = ((1 ≤ workers) × (workers ≤ 64)) × ((1 ≤ blocks) × (blocks ≤ 1024))
 IsInRange (Verify board all from workers) = (1 ≤ workers) × (workers ≤ 64)
 IsInRange _ = ⊤
@@ -265,7 +308,8 @@ pub record HasLookValues (rows : List Row) : Type 0 where
   pub depth : HasNumber (codes "depth") 0 6 rows
 
 -- the values of which `stats` makes its request: board and pair are there, and so are a number of
--- workers from 1 to 64, one of blocks from 1 to 1,024, and the values of its flags
+-- workers from 1 to 64, one of blocks from 1 to 1,024, the values of its flags, and a folder where one
+-- was given
 pub record HasStatsValues (rows : List Row) : Type 0 where
   pub board : is_some (first_of (codes "BOARD") rows) ≡ true
   pub pair : is_some (first_of (codes "PAIR") rows) ≡ true
@@ -273,6 +317,8 @@ pub record HasStatsValues (rows : List Row) : Type 0 where
   pub workers : HasNumber (codes "workers") 1 64 rows
   pub blocks : HasNumber (codes "blocks") 1 1024 rows
   pub deepest : HasFlag (codes "deepest") rows
+  pub from : HasOption (codes "from") rows
+  pub csv : HasFlag (codes "csv") rows
   pub progress : HasFlag (codes "progress") rows
 
 -- the values of which `build` makes its request: board and pair are there, and so are a number of
@@ -312,6 +358,22 @@ pub record HasLookupValues (rows : List Row) : Type 0 where
   pub moves : HasFlag (codes "moves") rows
   pub line : HasFlag (codes "line") rows
 
+-- a number from 1 on is there of the limit exactly where it was given
+pub record HasLimit (rows : List Row) : Type 0 where
+  pub there : is_given (codes "limit") rows ≡ is_some (first_of (codes "limit") rows)
+  pub number : is_given (codes "limit") rows ≡ true → HasNumber (codes "limit") 1 4294967295 rows
+
+-- the values of which `find` makes its request: board, pair, value and folder are there, and so are
+-- the values of its flags, and a limit where one was given
+pub record HasFindValues (rows : List Row) : Type 0 where
+  pub board : is_some (first_of (codes "BOARD") rows) ≡ true
+  pub pair : is_some (first_of (codes "PAIR") rows) ≡ true
+  pub value : is_some (first_of (codes "VALUE") rows) ≡ true
+  pub from : is_some (first_of (codes "from") rows) ≡ true
+  pub all : HasFlag (codes "all") rows
+  pub limit : HasLimit rows
+  pub count : HasFlag (codes "count") rows
+
 -- a name and values: of a command of the program, and those of which it makes its request
 abbrev pub NamesCommand : Text × List Row → Type 0
 NamesCommand named =
@@ -319,7 +381,8 @@ NamesCommand named =
     ⊎ (((named.0 ≡ codes "stats") × HasStatsValues named.1)
     ⊎ (((named.0 ≡ codes "build") × HasBuildValues named.1)
     ⊎ (((named.0 ≡ codes "verify") × HasVerifyValues named.1)
-    ⊎ (((named.0 ≡ codes "probe") × HasProbeValues named.1) ⊎ ((named.0 ≡ codes "lookup") × HasLookupValues named.1)))))
+    ⊎ (((named.0 ≡ codes "probe") × HasProbeValues named.1)
+    ⊎ (((named.0 ≡ codes "lookup") × HasLookupValues named.1) ⊎ ((named.0 ≡ codes "find") × HasFindValues named.1))))))
 
 -- such a command was named
 abbrev pub NamesRequest : Option (Text × List Row) → Type 0

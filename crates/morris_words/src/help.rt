@@ -137,6 +137,18 @@ With --deepest it prints two lines more: a position that is won in the greatest\
 number of plies, and one that is lost in the greatest number. Of several it is\n\
 the one whose entry comes first in the table.\n\
 \n\
+With --from it finds nothing, but reads the pair's table file in a folder, once\n\
+and from front to back, and counts what the file says. It believes the file: it\n\
+checks nothing but the header and the length. What makes it right to is `morris\n\
+verify BOARD --from FOLDER`, run once before. --classes, --workers, --blocks,\n\
+--deepest and --progress don't go with it; `morris find` shows the deepest.\n\
+\n\
+With --csv it prints a line for each number of stones of the player to move and\n\
+each value that some position has, with commas between its fields:\n  \
+own,other,result,depth,positions\n  \
+3,3,won,1,936\n\
+The depth of a draw is left empty.\n\
+\n\
 "
     PROGRESS
     EXIT
@@ -259,4 +271,36 @@ $ morris build grid 4-3 --into folder\n  \
 $ morris verify grid --from folder\n  \
 $ morris lookup grid --from folder XX..OO.OX\n  \
 XX..OO.OX won in 1: 8-2x4 8-2x5 8-2x7"
+);
+
+/// Of `find`.
+pub(crate) const FIND: &str = page!(
+    []
+    PAIR
+    "\
+It reads the pair's table file in a folder and prints each position of the pair\n\
+that has the value, one a line, in the order of the entries and as soon as its\n\
+entry is read: a text that `morris lookup` takes. VALUE is for the player to\n\
+move, and one word for the shell:\n  \
+draw, won, lost  neither can force a win; one of the two can\n  \
+'won in 9'       won in 9 plies, not in fewer (a ply is one player's move)\n  \
+'lost in 8'      lost in 8 plies\n  \
+deepest          won in the most plies that occur, then lost in the most\n\
+\n\
+In a file that `build --classes` wrote, most positions that a symmetry of the\n\
+board leads to one another share an entry. One of them is printed; with --all\n\
+each of them is. With --limit it prints N positions at most, the first ones.\n\
+With --count it prints how many there are, and nothing else.\n\
+\n\
+It believes the file: it checks nothing but the header and the length. What\n\
+makes it right to is `morris verify BOARD --from FOLDER`, run once before.\n\
+\n\
+"
+    EXIT
+    "\
+Example:\n  \
+$ morris build grid 3-3 --into folder\n  \
+$ morris find grid 3-3 --from folder 'lost in 2' --count\n  \
+36\n  \
+$ morris find grid 3-3 --from folder draw | morris lookup grid --from folder"
 );

@@ -1,16 +1,18 @@
 //! The words of the command line, and the request that they make.
 ghost use Rattle.std.specs.Prelude.{◌≡◌, List, ℕ, ◌<◌, ◌≤◌, ◌^◌, [], IfErr, IfOk, IfSome, None, OnOk, Some, codes, is_some, map, option_map, true, unwrap_or};
+ghost use Rattle.clap.specs.Takes.{is_given};
 ghost use Rattle.clap.specs.Values.{bool_text};
 ghost use Rattle.clap.specs.Words.{App, FailsBy, Rule, all_of, app_of, fault_of, first_of, found_of, kind_of, new_app, one_of, rows_of, subcommand_rows_of, with_subcommand};
 ghost use Rattle.clap.specs.declared.error.kind.ErrorKind.TheVariants.{ArgumentConflict};
-ghost use Rattle.morris_words.specs.Words.{AreArgs, AsksFor, HasBuildValues, HasFlag, HasLookValues, HasLookupValues, HasNumber, HasOption, HasProbeValues};
-ghost use Rattle.morris_words.specs.Words.{HasStatsValues, HasVerifyValues, Is, IsAnswerTo, IsAnswerToOneOf, IsArg, IsInRange, IsOption, IsRequestOf, IsShown};
-ghost use Rattle.morris_words.specs.Words.{NamesRequest, blocks_rule, build_app, clashes, depth_rule, faults_of, flag_rule, has_clash, look_app};
+ghost use Rattle.morris_words.specs.Words.{AreArgs, AsksFor, HasBuildValues, HasFindValues, HasFlag, HasLimit, HasLookValues, HasLookupValues, HasNumber, HasOption, HasProbeValues};
+ghost use Rattle.morris_words.specs.Words.{HasStatsValues, HasVerifyValues, Is, IsAnswerTo, IsAnswerToOneOf, IsArg, IsInRange, IsLimit, IsOption, IsRequestOf, IsShown};
+ghost use Rattle.morris_words.specs.Words.{NamesRequest, blocks_rule, build_app, clashes, depth_rule, faults_of, find_app, flag_rule, has_clash, limit_rule, look_app};
 ghost use Rattle.morris_words.specs.Words.{lookup_app, morris_app, named_by, number_of, option_rule, probe_app, program, required_option_rule, required_rule};
 ghost use Rattle.morris_words.specs.Words.{several_rule, stats_app, verify_app, with_rules, workers_rule};
 
 use crate::help;
 use clap::error::ErrorKind;
+use clap::parser::ValueSource;
 use clap::{Arg, ArgAction, ArgMatches, Command, Error, value_parser};
 use std::alloc::{AllocError, Global};
 use std::convert::AsStr;
@@ -20,7 +22,8 @@ use std::convert::AsStr;
 pub struct Request<'a> {
     /// What it is to do.
     pub task: Task<'a>,
-    /// Whether it is to tell on standard error how far it is, which `look` and `lookup` never are.
+    /// Whether it is to tell on standard error how far it is, which `look`, `lookup` and `find`
+    /// never are.
     pub progress: bool,
 }
 
@@ -37,7 +40,9 @@ pub enum Task<'a> {
     /// Count the values of the positions of the pair that `pair` names on the board named `board`,
     /// with 1 to 64 `workers` and 1 to 1,024 `blocks`. Where `classes` is true the tables have an
     /// entry for each class of positions, and where `deepest` is true the deepest positions are
-    /// shown as well.
+    /// shown as well. Where there is a folder `from`, the values are those that the file of the
+    /// pair in it states; `classes` and `deepest` are then false. Where `csv` is true the counts
+    /// are shown as fields with commas between them; `deepest` is then false.
     Stats {
         board: &'a str,
         pair: &'a str,
@@ -45,6 +50,8 @@ pub enum Task<'a> {
         workers: u8,
         blocks: u16,
         deepest: bool,
+        from: Option<&'a str>,
+        csv: bool,
     },
     /// Build the table of the pair that `pair` names on the board named `board`, and of each pair
     /// below it, with 1 to 64 `workers` and 1 to 1,024 `blocks`. Write the table file of the pair
@@ -84,6 +91,19 @@ pub enum Task<'a> {
         from: &'a str,
         show: Show,
         texts: Vec<&'a str>,
+    },
+    /// Show the positions of the pair that `pair` names on the board named `board` that have the
+    /// value of the text `value`, by the file of the pair in the folder `from`: at most so many as
+    /// `limit` says, where it is there; or, where `count` is true, how many there are, in which
+    /// case there is no `limit`. Where `all` is true, each position that shares an entry is shown.
+    Find {
+        board: &'a str,
+        pair: &'a str,
+        value: &'a str,
+        from: &'a str,
+        all: bool,
+        limit: Option<u32>,
+        count: bool,
     },
 }
 
@@ -166,6 +186,16 @@ const MOVES_HELP: &str = "Show each move with the value after it";
 
 const LINE_HELP: &str = "Show a line of best moves to the game's end";
 
+const COUNT_FROM_HELP: &str = "Count by the file of the pair in this folder, as it lies";
+
+const CSV_HELP: &str = "Print fields with commas between them, for a spreadsheet";
+
+const VALUE_HELP: &str = "The value: draw, won, lost, 'won in D', 'lost in D' or deepest";
+
+const EACH_HELP: &str = "Show each position, also those that share an entry";
+
+const COUNT_HELP: &str = "Show how many positions there are, and nothing else";
+
 const POSITIONS_HELP: &str = "The positions, or else one on each line of standard input";
 
 // How `clap` ends what it says of a mistake.
@@ -186,7 +216,8 @@ fn morris_command<'a>(alloc: Global) -> Result<Command<'a>, AllocError>
     let program = with_command(program, build_command(alloc));
     let program = with_command(program, verify_command(alloc));
     let program = with_command(program, probe_command(alloc));
-    with_command(program, lookup_command(alloc))
+    let program = with_command(program, lookup_command(alloc));
+    with_command(program, find_command(alloc))
 }
 
 // The program, with no command yet.
@@ -253,6 +284,8 @@ fn stats_command<'a>(alloc: Global) -> Result<Command<'a>, AllocError>
         workers_arg(alloc),
         blocks_arg(alloc),
         flag_arg(alloc, "deepest", DEEPEST_HELP),
+        option_arg(alloc, "from", "FOLDER", COUNT_FROM_HELP),
+        flag_arg(alloc, "csv", CSV_HELP),
         flag_arg(alloc, "progress", PROGRESS_HELP),
     ]?;
     command_of(alloc, "stats", about, help::STATS, args)
@@ -316,6 +349,22 @@ fn lookup_command<'a>(alloc: Global) -> Result<Command<'a>, AllocError>
     command_of(alloc, "lookup", about, help::LOOKUP, args)
 }
 
+fn find_command<'a>(alloc: Global) -> Result<Command<'a>, AllocError>
+    ensures { IfOk result (Is find_app) }
+{
+    let about = "Find the positions that have a value in the table file of a pair";
+    let args = vec![in alloc;
+        required_arg(alloc, "BOARD", BOARD_HELP),
+        required_arg(alloc, "PAIR", PAIR_HELP),
+        required_arg(alloc, "VALUE", VALUE_HELP),
+        required_option_arg(alloc, "from", "FOLDER", TABLES_HELP),
+        flag_arg(alloc, "all", EACH_HELP),
+        limit_arg(alloc),
+        flag_arg(alloc, "count", COUNT_HELP),
+    ]?;
+    command_of(alloc, "find", about, help::FIND, args)
+}
+
 fn required_arg<'a>(alloc: Global, name: &'a str, help: &'a str) -> Arg<'a>
     ensures { IsArg (required_rule name.entry.now) result }
 {
@@ -355,6 +404,16 @@ fn blocks_arg<'a>(alloc: Global) -> Arg<'a>
         .help("Into how many blocks the positions are cut, 1 to 1024")
 }
 
+fn limit_arg<'a>(alloc: Global) -> Arg<'a>
+    ensures { IsArg limit_rule result }
+{
+    Arg::new(alloc, "limit")
+        .long("limit")
+        .value_name("N")
+        .value_parser(value_parser!(u32).range(1..=4_294_967_295))
+        .help("Show so many positions at most")
+}
+
 fn flag_arg<'a>(alloc: Global, name: &'a str, help: &'a str) -> Arg<'a>
     ensures { IsArg (flag_rule name.entry.now) result }
 {
@@ -392,11 +451,12 @@ fn request_of<'a>(alloc: Global, matches: &ArgMatches<'a>) -> Result<Request<'a>
 {
     match matches.subcommand() {
         Some(("look", found)) => Ok(look_request(found)),
-        Some(("stats", found)) => Ok(stats_request(found)),
+        Some(("stats", found)) => stats_request(alloc, found),
         Some(("build", found)) => build_request(alloc, found),
         Some(("verify", found)) => verify_request(alloc, found),
         Some(("probe", found)) => Ok(probe_request(found)),
         Some(("lookup", found)) => lookup_request(alloc, found),
+        Some(("find", found)) => find_request(alloc, found),
         _ => unreachable!(),
     }
 }
@@ -415,12 +475,16 @@ fn look_request<'a>(found: &ArgMatches<'a>) -> Request<'a>
     }
 }
 
-fn stats_request<'a>(found: &ArgMatches<'a>) -> Request<'a>
+fn stats_request<'a>(alloc: Global, found: &ArgMatches<'a>) -> Result<Request<'a>, Refusal>
     requires { HasStatsValues (rows_of (found_of found.now)) }
-    ensures { IsRequestOf (Some (codes "stats", rows_of (found_of found.now))) result }
+    ensures request { IfOk result (IsRequestOf (Some (codes "stats", rows_of (found_of found.now)))) }
+    ensures refused { IfErr result (IsAnswerToOneOf (clashes (Some (codes "stats", rows_of (found_of found.now))))) }
 {
+    if let Some((one, other)) = stats_clash(found) {
+        return Err(clash(alloc, one, other));
+    }
     let classes = flag(found, "classes");
-    Request {
+    Ok(Request {
         task: Task::Stats {
             board: given(found, "BOARD"),
             pair: given(found, "PAIR"),
@@ -428,9 +492,39 @@ fn stats_request<'a>(found: &ArgMatches<'a>) -> Request<'a>
             workers: number(found, "workers") as u8,
             blocks: number(found, "blocks"),
             deepest: flag(found, "deepest"),
+            from: optional(found, "from"),
+            csv: flag(found, "csv"),
         },
         progress: flag(found, "progress"),
+    })
+}
+
+/// Two arguments of `stats` that exclude each other, where there are any.
+fn stats_clash(found: &ArgMatches<'_>) -> Option<(&'static str, &'static str)>
+    requires { HasStatsValues (rows_of (found_of found.now)) }
+    ensures { is_some result ≡ has_clash (codes "stats") (rows_of (found_of found.now)) }
+{
+    let (csv, deepest) = (flag(found, "csv"), flag(found, "deepest"));
+    if csv && deepest {
+        return Some(("--csv", "--deepest"));
     }
+    optional(found, "from")?;
+    let (classes, progress) = (flag(found, "classes"), flag(found, "progress"));
+    let (workers, blocks) = (was_given(found, "workers"), was_given(found, "blocks"));
+    let other = if classes {
+        "--classes"
+    } else if workers {
+        "--workers <W>"
+    } else if blocks {
+        "--blocks <K>"
+    } else if deepest {
+        "--deepest"
+    } else if progress {
+        "--progress"
+    } else {
+        return None;
+    };
+    Some((other, "--from <FOLDER>"))
 }
 
 fn build_request<'a>(alloc: Global, found: &ArgMatches<'a>) -> Result<Request<'a>, Refusal>
@@ -511,6 +605,29 @@ fn lookup_request<'a>(alloc: Global, found: &ArgMatches<'a>) -> Result<Request<'
     })
 }
 
+fn find_request<'a>(alloc: Global, found: &ArgMatches<'a>) -> Result<Request<'a>, Refusal>
+    requires { HasFindValues (rows_of (found_of found.now)) }
+    ensures request { IfOk result (IsRequestOf (Some (codes "find", rows_of (found_of found.now)))) }
+    ensures refused { IfErr result (IsAnswerToOneOf (clashes (Some (codes "find", rows_of (found_of found.now))))) }
+{
+    let (limit, count) = (limit_of(found), flag(found, "count"));
+    if count && limit.is_some() {
+        return Err(clash(alloc, "--limit <N>", "--count"));
+    }
+    Ok(Request {
+        task: Task::Find {
+            board: given(found, "BOARD"),
+            pair: given(found, "PAIR"),
+            value: given(found, "VALUE"),
+            from: given(found, "from"),
+            all: flag(found, "all"),
+            limit,
+            count,
+        },
+        progress: false,
+    })
+}
+
 /// What `lookup` is to show; `None` where both flags were given.
 fn shown(found: &ArgMatches<'_>) -> Option<Show>
     requires moves { HasFlag (codes "moves") (rows_of (found_of found.now)) }
@@ -543,6 +660,24 @@ fn optional<'a>(found: &ArgMatches<'a>, name: &str) -> Option<&'a str>
     ensures { IsOption name.now (rows_of (found_of found.now)) result }
 {
     found.get_str(name)
+}
+
+/// Whether the words gave an argument, which may have another value where they didn't.
+fn was_given(found: &ArgMatches<'_>, name: &str) -> bool
+    ensures { result ≡ is_given name.now (rows_of (found_of found.now)) }
+{
+    match found.value_source(name) {
+        Some(ValueSource::DefaultValue) => false,
+        _ => found.contains_id(name),
+    }
+}
+
+/// How many positions there are to be at most, where the words say so.
+fn limit_of(found: &ArgMatches<'_>) -> Option<u32>
+    requires { HasLimit (rows_of (found_of found.now)) }
+    ensures { IsLimit (rows_of (found_of found.now)) result }
+{
+    found.get_one::<u32>("limit")
 }
 
 /// The texts of an argument that may be given several times, in order.

@@ -2,7 +2,7 @@ use Rattle.std.proofs.Common.{codes, subst, sym}
 use Rattle.std.specs.Prelude.{IfErr, IfOk}
 use Rattle.clap.specs.Words.{found_of, rows_of}
 use Rattle.morris_words.specs.Words.{IsAnswerToOneOf, IsRequestOf, NamesRequest, clashes}
-use Rattle.morris_words.proofs.ReadLaws.{build_values, look_values, lookup_values, named_here, probe_values, stats_values, verify_values}
+use Rattle.morris_words.proofs.ReadLaws.{build_values, find_values, look_values, lookup_values, named_here, probe_values, stats_values, verify_values}
 use Rattle.morris_words.proofs.words.request_of.Goals as goal
 
 pub look_request-requires : goal.look_request-requires
@@ -27,7 +27,13 @@ pub returns-in-Some-stats-default-clause-request : goal.returns-in-Some-stats-de
 returns-in-Some-stats-default-clause-request c =
     let here = c.in-Some-stats-default in
     let named = named_here c.args.matches.now c.subcommand.result _ (codes "stats") c.subcommand.ensures.name c.subcommand.ensures.rows here.is here.is-stats in
-    subst (λ named. IsRequestOf named c.stats_request.result) (sym named) c.stats_request.ensures
+    subst (λ named. IfOk c.stats_request.result (IsRequestOf named)) (sym named) c.stats_request.ensures.request
+
+pub returns-in-Some-stats-default-clause-refused : goal.returns-in-Some-stats-default-clause-refused
+returns-in-Some-stats-default-clause-refused c =
+    let here = c.in-Some-stats-default in
+    let named = named_here c.args.matches.now c.subcommand.result _ (codes "stats") c.subcommand.ensures.name c.subcommand.ensures.rows here.is here.is-stats in
+    subst (λ named. IfErr c.stats_request.result (IsAnswerToOneOf (clashes named))) (sym named) c.stats_request.ensures.refused
 
 pub build_request-requires : goal.build_request-requires
 build_request-requires c =
@@ -94,3 +100,21 @@ returns-in-Some-lookup-default-clause-refused c =
     let here = c.in-Some-lookup-default in
     let named = named_here c.args.matches.now c.subcommand.result _ (codes "lookup") c.subcommand.ensures.name c.subcommand.ensures.rows here.is here.is-lookup in
     subst (λ named. IfErr c.lookup_request.result (IsAnswerToOneOf (clashes named))) (sym named) c.lookup_request.ensures.refused
+
+pub find_request-requires : goal.find_request-requires
+find_request-requires c =
+    let here = c.in-Some-find-default in
+    let named = named_here c.args.matches.now c.subcommand.result _ (codes "find") c.subcommand.ensures.name c.subcommand.ensures.rows here.is here.is-find in
+    find_values (rows_of (found_of here.found.now)) (subst NamesRequest named c.requires)
+
+pub returns-in-Some-find-default-clause-request : goal.returns-in-Some-find-default-clause-request
+returns-in-Some-find-default-clause-request c =
+    let here = c.in-Some-find-default in
+    let named = named_here c.args.matches.now c.subcommand.result _ (codes "find") c.subcommand.ensures.name c.subcommand.ensures.rows here.is here.is-find in
+    subst (λ named. IfOk c.find_request.result (IsRequestOf named)) (sym named) c.find_request.ensures.request
+
+pub returns-in-Some-find-default-clause-refused : goal.returns-in-Some-find-default-clause-refused
+returns-in-Some-find-default-clause-refused c =
+    let here = c.in-Some-find-default in
+    let named = named_here c.args.matches.now c.subcommand.result _ (codes "find") c.subcommand.ensures.name c.subcommand.ensures.rows here.is here.is-find in
+    subst (λ named. IfErr c.find_request.result (IsAnswerToOneOf (clashes named))) (sym named) c.find_request.ensures.refused
