@@ -1,5 +1,5 @@
 -- What the program makes of its words.
-use Rattle.std.specs.Prelude.{◌≡◌, ◌≢◌, ◌⊎◌, ◌==◌, ℕ, Bool, true, false, List, [], ◌∷◌, String, codes, if◌then◌else◌, length, map, string_bytes, Option, Some, None, Result, Ok, Err}
+use Rattle.std.specs.Prelude.{◌≡◌, ◌≢◌, ◌⊎◌, ◌==◌, ◌-◌, ◌^◌, ℕ, Bool, true, false, List, [], ◌∷◌, String, codes, if◌then◌else◌, length, map, string_bytes, Option, Some, None, Result, Ok, Err}
 use Rattle.std.specs.Vec.Iter.{into_iter_items}
 use Rattle.std.specs.declared.vec.IntoIter.{IntoIter}
 use Rattle.std.specs.Io.KnownBytes.{Keeps}
@@ -14,7 +14,7 @@ use Rattle.morris_jobs.specs.Progress.{TellsInOrder}
 use Rattle.morris_words.specs.Words.{AsksFor, faults_of, named_by}
 use Rattle.morris_words.specs.declared.words.Request.{Request}
 use Rattle.morris_words.specs.declared.words.Task.{Task}
-use Rattle.morris_words.specs.declared.words.Task.TheVariants.{Look, Stats, Build, Verify, Probe, Lookup}
+use Rattle.morris_words.specs.declared.words.Task.TheVariants.{Look, Stats, Build, Verify, Probe, Lookup, Find}
 use Rattle.morris_jobs.specs.BoardNames.{board_of}
 use Rattle.morris_commands.specs.Look.{Looks}
 use Rattle.morris_commands.specs.Stats.{AnswersStats}
@@ -27,7 +27,12 @@ use Rattle.morris_folder_commands.specs.Into.{AnswersInto, place_of}
 use Rattle.morris_commands.specs.Probe.{AnswersProbe}
 use Rattle.morris_commands.specs.Verify.{AnswersVerify}
 use Rattle.morris_jobs.specs.Inputs.{Input}
+use Rattle.morris_jobs.specs.declared.counts.Form.{Form}
+use Rattle.morris_jobs.specs.declared.counts.Form.TheVariants as form
 use Rattle.morris_queries.specs.Answers.{AnswersLookup}
+use Rattle.morris_queries.specs.Asked.{AnswersCountsFrom, AnswersFindFrom}
+use Rattle.morris_queries.specs.declared.find.Shown.{Shown}
+use Rattle.morris_queries.specs.declared.find.Shown.TheVariants as found
 use Rattle.morris_queries.specs.LineAnswers.{AnswersInput}
 use Rattle.morris_queries.specs.Refusals.{query_fault}
 use Rattle.morris_queries.specs.declared.fault.QueryFault.{QueryFault}
@@ -63,12 +68,31 @@ AnswersQueries name show [] before after old new result =
 AnswersQueries name show (text ∷ texts) before after old new result =
     (ended : Result ℕ QueryFault) × AnswersLookup (board_of name) name None (shown_of show) (text ∷ texts) old new ended × (result ≡ end_of ended)
 
--- What `stats` answers on the board of a name: with `--classes` from tables by classes, which so many
--- workers build over so many blocks; without it the workers and blocks count for nothing. With
--- `--deepest` the deepest positions are shown too.
-abbrev pub AnswersCount : Bool → List ℕ → List ℕ → ℕ → ℕ → Bool → Option (List ℕ) → Option (List ℕ) → Result (Unit {0}) Fault → Type 0
-AnswersCount false name text workers blocks deepest old new result = AnswersStats (board_of name) text deepest old new result
-AnswersCount true name text workers blocks deepest old new result = AnswersByClasses (board_of name) text workers blocks deepest old new result
+-- the form in which `stats` prints, as its words say it
+abbrev pub form_of : Bool → Bool → Form
+form_of deepest true = form.Csv
+form_of true false = form.Deepest
+form_of false false = form.Text
+
+-- whether it is that of lines of fields
+abbrev pub is_csv : Form → Bool
+is_csv form.Csv = true
+is_csv _ = false
+
+-- What `stats` answers on the board of a name, in this form: by the file of the pair in a folder, where
+-- there is a folder, whose bytes no contract knows; else with `--classes` from tables by classes, which
+-- so many workers build over so many blocks; without it the workers and blocks count for nothing.
+abbrev pub AnswersCount : {A : Type 0} → Bool → List ℕ → List ℕ → ℕ → ℕ → Form → Option A → Option (List ℕ) → Option (List ℕ) → Result (Unit {0}) Fault → Type 0
+AnswersCount classes name text workers blocks form (Some folder) old new result = AnswersCountsFrom (board_of name) name None text (is_csv form) old new result
+AnswersCount false name text workers blocks form None old new result = AnswersStats (board_of name) text form old new result
+AnswersCount true name text workers blocks form None old new result = AnswersByClasses (board_of name) text workers blocks form old new result
+
+-- what `find` prints, as its words say it: how many positions there are; or their texts, as many as
+-- there may be, and else as many as 64 bits count
+abbrev pub shown_as : Option ℕ → Bool → Shown
+shown_as limit true = found.Count
+shown_as None false = found.Texts (2 ^ 64 - 1)
+shown_as (Some most) false = found.Texts most
 
 -- What `build` answers on the board of a name: of the files that are printed, or of those that are
 -- written into a folder, whose bytes no contract knows.
@@ -85,21 +109,25 @@ verified_blocks = 64
 -- contract knows what the system keeps in a folder: nothing is said of the bytes of its files.
 abbrev pub Answers : Input → Input → Option (List ℕ) → Option (List ℕ) → Task → Result (Unit {0}) Fault → Type 0
 Answers before after old new (Look board text depth) result = Looks (board_of board.now) text.now depth old new result
-Answers before after old new (Stats board pair classes workers blocks deepest) result =
-    AnswersCount classes board.now pair.now workers blocks deepest old new result
+Answers before after old new (Stats board pair classes workers blocks deepest from csv) result =
+    AnswersCount classes board.now pair.now workers blocks (form_of deepest csv) from old new result
 Answers before after old new (Build board pair workers blocks all into classes) result =
     AnswersTables board.now pair.now workers blocks all into classes old new result
 Answers before after old new (Verify board false None workers) result = AnswersVerify (board_of board.now) verified_blocks before after old new result
 Answers before after old new (Verify board true None workers) result = AnswersBundle (board_of board.now) before after old new result
 Answers before after old new (Verify board all (Some folder) workers) result = AnswersFrom (board_of board.now) None board.now old new result
 Answers before after old new (Probe board text) result = AnswersProbe (board_of board.now) text.now before after old new result
+Answers before after old new (Find board pair value from all limit count) result =
+    AnswersFindFrom (board_of board.now) board.now None pair.now value.now all (shown_as limit count) old new result
 Answers before after old new (Lookup board from show texts) result = AnswersQueries board.now show (map (λ t. t.now) texts.items) before after old new result
 
 -- the path of the folder that a task works in, where it names one
 abbrev pub folder_of : Task → Option (List ℕ)
 folder_of (Build board pair workers blocks all into classes) = option_map (λ path. path.now) into
 folder_of (Verify board all from workers) = option_map (λ path. path.now) from
+folder_of (Stats board pair classes workers blocks deepest from csv) = option_map (λ path. path.now) from
 folder_of (Lookup board from show texts) = Some from.now
+folder_of (Find board pair value from all limit count) = Some from.now
 folder_of _ = None
 
 -- whether the command of a task reads its input

@@ -7,8 +7,10 @@ ghost use Rattle.morris_words.specs.declared.words.Task.TheVariants as task;
 ghost use Rattle.morris_jobs.specs.Inputs.{MayFail, input_of};
 ghost use Rattle.morris.specs.Reporting.{ReportsAt};
 ghost use Rattle.std.specs.Option.{option_map};
-ghost use Rattle.std.specs.Prelude.{Option, List, ℕ};
-ghost use Rattle.morris.specs.Command.{NamesFolder, folder_of, Answers, AnswersCount, AnswersQueries, AnswersTables, AsksToRead, Ends, HasMistake, TellsProgress, end_of, not_text, shown_of, status_of, takes_input};
+ghost use Rattle.std.specs.Prelude.{Option, None, List, ℕ};
+ghost use Rattle.morris_jobs.specs.BoardNames.{board_of};
+ghost use Rattle.morris_queries.specs.Asked.{AnswersFindFrom};
+ghost use Rattle.morris.specs.Command.{NamesFolder, folder_of, Answers, AnswersCount, AnswersQueries, AnswersTables, AsksToRead, Ends, HasMistake, TellsProgress, end_of, form_of, not_text, shown_as, shown_of, status_of, takes_input};
 
 use crate::report::{Place, report};
 use morris_board::streams::{Sink, Source};
@@ -22,6 +24,7 @@ use morris_files::system::SystemFolder;
 use morris_folder_commands::bundle::verify_bundle;
 use morris_folder_commands::from::verify_from;
 use morris_folder_commands::into::build_into;
+use morris_jobs::counts::Form;
 use morris_jobs::fault::Fault;
 use morris_jobs::on_board;
 use morris_jobs::orders::{Order, layout_of};
@@ -29,7 +32,9 @@ use morris_jobs::print::{print, send};
 use morris_jobs::progress::Progress;
 use morris_jobs::team::{Crew, Team};
 use morris_jobs::teller::Teller;
+use morris_queries::ask::{find_from, stats_from};
 use morris_queries::fault::QueryFault;
+use morris_queries::find::Shown;
 use morris_queries::lookup::{lookup_lines, lookup_texts};
 use morris_queries::show::Show;
 use morris_queries::system::SystemLibrary;
@@ -133,8 +138,9 @@ fn folder_of<'a>(task: &Task<'a>) -> Option<&'a str>
     match task {
         Task::Build { into, .. } => *into,
         Task::Verify { from, .. } => *from,
-        Task::Lookup { from, .. } => Some(*from),
-        Task::Look { .. } | Task::Stats { .. } | Task::Probe { .. } => None,
+        Task::Stats { from, .. } => *from,
+        Task::Lookup { from, .. } | Task::Find { from, .. } => Some(*from),
+        Task::Look { .. } | Task::Probe { .. } => None,
     }
 }
 
@@ -165,9 +171,12 @@ fn run<R: Threads + Wait + Sync + Files<File = File> + AllocGlobal, I: Source, O
             workers,
             blocks,
             deepest,
+            from,
+            csv,
         } => {
             let order = order_of(board, pair, workers, blocks);
-            count(rt, alloc, order, classes, deepest, output, teller)
+            let form = form_of(deepest, csv);
+            count(rt, alloc, order, classes, form, from, why, output, teller)
         }
         Task::Build {
             board,
@@ -196,6 +205,18 @@ fn run<R: Threads + Wait + Sync + Files<File = File> + AllocGlobal, I: Source, O
             show,
             texts,
         } => look_up(rt, alloc, board, from, show, texts, why, input, output),
+        Task::Find {
+            board,
+            pair,
+            value,
+            from,
+            all,
+            limit,
+            count,
+        } => {
+            let shown = shown_as(limit, count);
+            find(rt, alloc, board, pair, value, from, all, shown, why, output)
+        }
     }
 }
 
@@ -214,28 +235,85 @@ fn order_of<'a>(board: &'a str, pair: &'a str, workers: u8, blocks: u16) -> Orde
     }
 }
 
-/// Counts the values of a pair's positions: with `classes` from tables by classes, which so many
-/// workers build over so many blocks, and else on one thread; and with `deepest` shows the deepest
-/// positions too.
-fn count<R: Threads + Wait + Sync, O: Sink, T: Teller>(
+/// The form in which `stats` prints, as its words say it. No request has both.
+fn form_of(deepest: bool, csv: bool) -> Form
+    ensures { result ≡ form_of deepest csv }
+{
+    if csv {
+        Form::Csv
+    } else if deepest {
+        Form::Deepest
+    } else {
+        Form::Text
+    }
+}
+
+/// Counts the values of a pair's positions: those that the file of the pair in a folder states,
+/// where there is a folder; else with `classes` from tables by classes, which so many workers build
+/// over so many blocks, and without it on one thread.
+fn count<R: Threads + Wait + Sync + Files<File = File> + AllocGlobal, O: Sink, T: Teller>(
     rt: &R,
     alloc: Global,
     order: Order<'_>,
     classes: bool,
-    deepest: bool,
+    form: Form,
+    from: Option<&str>,
+    why: &mut Option<Reason>,
     output: &mut O,
     teller: &mut T,
 ) -> Result<(), Fault>
     requires output { O.failures output.old < 2 ^ 64 - 1 }
-    ensures answer { AnswersCount classes order.entry.board.now order.entry.pair.now order.entry.workers order.entry.blocks deepest
+    ensures answer { AnswersCount classes order.entry.board.now order.entry.pair.now order.entry.workers order.entry.blocks form from.entry
         (O.contents output.old) (O.contents output.new) result }
     ensures told { T.becomes teller.old teller.new }
 {
-    if classes {
-        stats_by_classes(rt, alloc, order, deepest, output, teller)
-    } else {
-        stats_with(alloc, order.board, order.pair, deepest, output, teller)
+    match from {
+        Some(path) => {
+            let library = &mut SystemLibrary::new(rt, path);
+            let csv = form == Form::Csv;
+            let done = stats_from(alloc, order.board, order.pair, csv, library, output);
+            *why = library.why();
+            done
+        }
+        None if classes => stats_by_classes(rt, alloc, order, form, output, teller),
+        None => stats_with(alloc, order.board, order.pair, form, output, teller),
     }
+}
+
+/// What `find` prints, as its words say it: how many positions there are, or their texts, as many
+/// as there may be.
+fn shown_as(limit: Option<u32>, count: bool) -> Shown
+    ensures { result ≡ shown_as limit count }
+{
+    if count {
+        return Shown::Count;
+    }
+    match limit {
+        Some(most) => Shown::Texts(u64::from(most)),
+        None => Shown::Texts(u64::MAX),
+    }
+}
+
+/// Finds the positions of a pair that have a value in the file of the pair in a folder.
+fn find<R: Files<File = File> + AllocGlobal, O: Sink>(
+    rt: &R,
+    alloc: Global,
+    board: &str,
+    pair: &str,
+    value: &str,
+    from: &str,
+    all: bool,
+    shown: Shown,
+    why: &mut Option<Reason>,
+    output: &mut O,
+) -> Result<(), Fault>
+    requires output { O.failures output.old < 2 ^ 64 - 1 }
+    ensures answer { AnswersFindFrom (board_of board.now) board.now None pair.now value.now all shown (O.contents output.old) (O.contents output.new) result }
+{
+    let library = &mut SystemLibrary::new(rt, from);
+    let done = find_from(alloc, board, pair, value, all, shown, library, output);
+    *why = library.why();
+    done
 }
 
 /// Builds the tables of a pair by so many workers over so many blocks: into the files of a folder,
