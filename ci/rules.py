@@ -424,6 +424,70 @@ def stats(game, board, text):
     return "".join(f"{it}\n" for it in [*lines, f"draw: {codes.count(0)}"])
 
 
+def counted_by_own(codes, nodes):
+    """How many positions have each number of stones of the player to move and each code."""
+    found = {}
+    for code, (own, other) in zip(codes, nodes):
+        key = len(own), len(other), code
+        found[key] = found.get(key, 0) + 1
+    return found
+
+
+def fields_of(counted):
+    """Lines of fields with commas between them: by the stones of the player to move, then draws,
+    wins and losses, each by their depth."""
+    lines = ["own,other,result,depth,positions"]
+    results = ["draw", "won", "lost"]
+
+    def order(key):
+        own, _, code = key
+        return own, results.index(in_words(code).split(" ")[0]), code
+
+    for own, other, code in sorted(counted, key=order):
+        result, depth = in_words(code).split(" ")[0], code - 1 if code else ""
+        lines.append(f"{own},{other},{result},{depth},{counted[own, other, code]}")
+    return "".join(f"{it}\n" for it in lines)
+
+
+def csv(game, board, text):
+    pair = read_pair(text, board)
+    return fields_of(counted_by_own(game.listed[pair, 1], positions(pair)))
+
+
+def sharing(position, board):
+    """The positions that are led to this one, in the order of the symmetries that lead them."""
+    for number, image in enumerate(board.symmetries):
+        back = {image[p]: p for p in board.points}
+        came = tuple(frozenset(back[p] for p in side) for side in position)
+        images = [sum(1 << it[p] for p in came[0]) for it in board.symmetries]
+        if images.index(min(images)) == number:
+            yield came
+
+
+def is_asked(code, value):
+    """Whether a code says a value: `draw`, `won`, `lost`, or one of these in so many plies."""
+    words = in_words(code)
+    return words == value or words.split(" ")[0] == value
+
+
+def values_asked(codes, value):
+    """The values that are looked for, one after the other."""
+    if value != "deepest":
+        return [value]
+    greatest = (max((it for it in codes if it and it % 2 == odd), default=0) for odd in (0, 1))
+    return [in_words(it) for it in greatest if it]
+
+
+def find(codes, nodes, board, value, every):
+    """The texts of the positions of these entries that have a value, in order; with `every` of all
+    that share an entry."""
+    for asked in values_asked(codes, value):
+        for code, node in zip(codes, nodes):
+            if is_asked(code, asked):
+                for it in sharing(node, board) if every else [node]:
+                    yield text_of(it, board)
+
+
 def text_of(position, board):
     own, other = position
     return "".join("X" if it in own else "O" if it in other else "." for it in board.points)
