@@ -1,13 +1,12 @@
--- Whether words gave an argument, by where its value came from.
-use Rattle.std.proofs.Common.{◌≡◌, ◌≢◌, ◌∙◌, ◌≤◌, ◌<◌, ◌^◌, ◌&&◌, ◌||◌, ℕ, Bool, true, false, List, Option, Some, None, Result, ap, refl, sym, subst, codes, is_some}
+-- Whether words gave an argument, by where its value came from, and which number of 32 bits they gave.
+use Rattle.std.proofs.Common.{◌≡◌, ◌∙◌, ◌≤◌, ◌<◌, ◌^◌, ℕ, Bool, true, false, List, Option, Some, None, Result, ap, refl, sym, subst, is_some}
 use Rattle.std.specs.Option.{option_map_or}
 use Rattle.std.specs.Prelude.{Ok, option_and_then, pos}
 use Rattle.std.specs.Str.Parse.{ParsesUnsigned}
 use Rattle.clap.specs.Facts.{explicit_source}
 use Rattle.clap.specs.Matches.{matched_of}
 use Rattle.clap.specs.Takes.{is_given}
-use Rattle.clap.specs.Values.{bool_text}
-use Rattle.clap.specs.Walk.{Row, Text, one_of, rows_of}
+use Rattle.clap.specs.Walk.{Text, rows_of}
 use Rattle.clap.specs.Words.{IsSignedIn, ReadsOne, without_minus}
 use Rattle.clap.specs.declared.parser.matches.Found.{Found}
 use Rattle.clap.specs.declared.parser.matches.MatchedArg.{MatchedArg}
@@ -15,8 +14,7 @@ use Rattle.clap.specs.declared.parser.matches.ValueSource.{ValueSource}
 use Rattle.clap.specs.declared.parser.matches.ValueSource.TheVariants.{CommandLine, DefaultValue}
 use Rattle.clap.proofs.CallerReads.{signed_reads}
 use Rattle.clap.proofs.TakesLemmas.{present_row}
-use Rattle.morris_words.specs.Words.{has_clash, number_of}
-use Rattle.morris_words.proofs.ReadLaws.{flag_on}
+use Rattle.morris_words.specs.Words.{number_of}
 
 -- where it came from
 abbrev source_of : Option MatchedArg → Option ValueSource
@@ -26,27 +24,28 @@ abbrev is_there : Option MatchedArg → Bool
 is_there found = option_map_or (λ (a : MatchedArg). explicit_source a.source) found false
 
 by_default : (found : Option MatchedArg) → source_of found ≡ Some DefaultValue → is_there found ≡ false
-by_default None is =
-    let bad : None ≡ Some DefaultValue = is in
-    cc
+by_default None is = cc
 by_default (Some a) is = ap explicit_source is
 
-not_default : (source : Option ValueSource) → source ≢ Some DefaultValue → explicit_source source ≡ true
-not_default None other = refl
-not_default (Some DefaultValue) other = absurd (other refl)
-not_default (Some CommandLine) other = refl
+by_words : (found : Option MatchedArg) → source_of found ≡ Some CommandLine → is_there found ≡ true
+by_words None is = cc
+by_words (Some a) is = ap explicit_source is
 
-by_words : (found : Option MatchedArg) → source_of found ≢ Some DefaultValue → is_some found ≡ is_there found
-by_words None other = refl
-by_words (Some a) other = sym (not_default a.source other)
+from_nowhere : (found : Option MatchedArg) → source_of found ≡ None → is_some found ≡ is_there found
+from_nowhere None is = refl
+from_nowhere (Some a) is = sym (ap explicit_source is)
 
 -- it wasn't given where its value is the default
 pub default_given : (f : Found) (name : Text) → source_of (matched_of f name) ≡ Some DefaultValue → is_given name (rows_of f) ≡ false
 default_given f name is = sym (present_row f name) ∙ by_default (matched_of f name) is
 
+-- it was given where its value is of the words
+pub words_given : (f : Found) (name : Text) → source_of (matched_of f name) ≡ Some CommandLine → is_given name (rows_of f) ≡ true
+words_given f name is = sym (present_row f name) ∙ by_words (matched_of f name) is
+
 -- else it was given where it is there
-pub words_given : (f : Found) (name : Text) → source_of (matched_of f name) ≢ Some DefaultValue → is_some (matched_of f name) ≡ is_given name (rows_of f)
-words_given f name other = by_words (matched_of f name) other ∙ present_row f name
+pub there_given : (f : Found) (name : Text) → source_of (matched_of f name) ≡ None → is_some (matched_of f name) ≡ is_given name (rows_of f)
+there_given f name is = from_nowhere (matched_of f name) is ∙ present_row f name
 
 -- what is read of a text in a range, by a reader of numbers of 32 bits
 pub wide_number : {E : Type 0} (G : List ℕ → Result ℕ E → Type 0) (low high : ℕ) (t : List ℕ) (r : Option ℕ)
@@ -56,23 +55,3 @@ wide_number {E} G low high t r one only fits in_range =
     let got = signed_reads E G 32 low high t r one only fits in_range in
     let reads : G (without_minus t) (Ok got.0) = subst (λ o. ReadsOne G (without_minus t) o) got.1 one in
     (got.0, got.1, got.2, got.3, sym (only (without_minus t) (Ok got.0) reads).1)
-
--- ---- arguments of `stats` that exclude each other
-
-module _ (rows : List Row) (csv deepest classes progress : Bool) (has_csv : one_of (codes "csv") rows ≡ Some (bool_text csv))
-    (has_deepest : one_of (codes "deepest") rows ≡ Some (bool_text deepest)) (has_classes : one_of (codes "classes") rows ≡ Some (bool_text classes))
-    (has_progress : one_of (codes "progress") rows ≡ Some (bool_text progress)) where
-  -- whether there are any, by what the words gave
-  pub clash_of_stats : (from workers blocks : Bool) → is_given (codes "from") rows ≡ from → is_given (codes "workers") rows ≡ workers
-      → is_given (codes "blocks") rows ≡ blocks
-      → has_clash (codes "stats") rows ≡ (csv && deepest) || (from && (classes || (workers || (blocks || (deepest || progress)))))
-  clash_of_stats from workers blocks has_from has_workers has_blocks =
-      rw (
-        flag_on (codes "csv") rows csv has_csv,
-        flag_on (codes "deepest") rows deepest has_deepest,
-        flag_on (codes "classes") rows classes has_classes,
-        flag_on (codes "progress") rows progress has_progress,
-        has_from,
-        has_workers,
-        has_blocks,
-      ) refl

@@ -668,7 +668,8 @@ fn was_given(found: &ArgMatches<'_>, name: &str) -> bool
 {
     match found.value_source(name) {
         Some(ValueSource::DefaultValue) => false,
-        _ => found.contains_id(name),
+        Some(ValueSource::CommandLine) => true,
+        None => found.contains_id(name),
     }
 }
 
