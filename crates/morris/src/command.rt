@@ -58,11 +58,11 @@ const VERIFIED_BLOCKS: usize = 64;
 /// 0: the words have no mistake, and the whole text of the command, or of the help or the version
 /// that was asked for, went to `output`, and nothing to `errors`. 1: the command was refused, or
 /// memory was, and `output` has got nothing, or a part of the text where a write failed, or what a
-/// command that goes from file to file or from text to text has told until then; the fault went to
-/// `errors` as one line, `fault N: ` and its text. 2: the words name no command, or not the
-/// arguments that it takes, or two that exclude each other; what is wrong with them went to
-/// `errors`, and nothing to `output`. A fault while `errors` is written is ignored. Only `probe`,
-/// `verify` without a folder and `lookup` without texts read `input`.
+/// command that goes from file to file, from text to text or from entry to entry has told until
+/// then; the fault went to `errors` as one line, `fault N: ` and its text. 2: the words name no
+/// command, or not the arguments that it takes, or two that exclude each other; what is wrong with
+/// them went to `errors`, and nothing to `output`. A fault while `errors` is written is ignored.
+/// Only `probe`, `verify` without a folder and `lookup` without texts read `input`.
 ///
 /// Where the words ask for it, lines that begin with `progress: ` go to `errors` before all else
 /// there, first one that says how much there is to do, with the seconds by the clock of `rt`, until
