@@ -21,7 +21,6 @@ use Rattle.morris_jobs.specs.Faults.{Prints, count_fault}
 use Rattle.morris_jobs.proofs.CountedLaws.{both_some, some_map}
 use Rattle.morris_queries.specs.declared.find.Shown.{Shown}
 use Rattle.morris_queries.specs.declared.find.Shown.TheVariants.{Count, Texts}
-use Rattle.morris_queries.specs.declared.find.Stop.{Stop}
 use Rattle.morris_queries.specs.declared.find.Stop.TheVariants as stop
 use Rattle.morris_queries.specs.declared.wanted.Kind.{Kind}
 use Rattle.morris_queries.specs.declared.wanted.Wanted.{Wanted}

@@ -1,6 +1,5 @@
 -- Texts that ask for nothing.
 use Rattle.std.proofs.Common.{◌≡◌, ◌≢◌, ℕ, ◌++◌, List, codes}
-use Rattle.morris_queries.specs.declared.wanted.Kind.{Kind}
 use Rattle.morris_queries.specs.declared.wanted.Kind.TheVariants.{Draw, Won, Lost, WonIn, LostIn}
 use Rattle.morris_queries.specs.declared.wanted.Wanted.{Wanted}
 use Rattle.morris_queries.specs.declared.wanted.Wanted.TheVariants.{Deepest, Every}

@@ -1,8 +1,9 @@
 //! The value of any position, from files that are opened when a position first needs them.
-ghost use Rattle.std.specs.Prelude.{◌≡◌, ◌≤◌, ℕ, List, Option, None, Some, IfErr, IfOk, IsSome, OnOk};
+ghost use Rattle.std.specs.Prelude.{◌≡◌, ◌≤◌, ℕ, List, Option, None, Some, false, IfErr, IfOk, IsSome, OnOk};
 ghost use Rattle.morris_lookup.specs.FileSets.{file_for, missing_file};
 ghost use Rattle.morris_lookup.specs.Lookups.{depth_of};
 ghost use Rattle.morris_files.specs.Files.{Files};
+ghost use Rattle.morris_jobs.specs.Faults.{is_write};
 ghost use Rattle.morris_queries.specs.Folders.{IsOf, Stays, Tells, lent_of, library_of};
 ghost use Rattle.morris_queries.specs.Libraries.{IsFound};
 ghost use Rattle.morris_queries.specs.Telling.{Agrees, AreOf, IsRefusal, opened_as, table_in, told_value};
@@ -63,6 +64,7 @@ impl<'n, 'l, 't, B: Geometry, L: Library> Folder<'n, 'l, 't, B, L> {
         ensures stays { Stays B.shape L.files self.old self.new }
         ensures pair { IfOk result (λ file. file.pair ≡ pair) }
         ensures opened { Tells B.shape L.files self.old (λ name files. Agrees result (table_in B.shape name files pair)) }
+        ensures unwritten { IfErr result (λ refused. is_write refused ≡ false) }
     {
         let name = file_name(self.alloc, self.board, pair)?;
         match self.library.open(name.as_str()) {
@@ -80,6 +82,7 @@ impl<'n, 'l, 't, B: Geometry, L: Library> Folder<'n, 'l, 't, B, L> {
         ensures stays { Stays B.shape L.files self.old self.new }
         ensures ready { OnOk result (IsSome (file_for self.new.tables.now pair)) }
         ensures refused { Tells B.shape L.files self.old (λ name files. IfErr result (λ refused. IsRefusal refused (table_in B.shape name files pair))) }
+        ensures unwritten { IfErr result (λ refused. is_write refused ≡ false) }
     {
         if self.tables.get(pair).is_none() {
             let file = self.open_file(pair)?;
@@ -134,6 +137,7 @@ fn open_found<B: Geometry, S: Storage + Drop>(
 ) -> Result<Opened<B, S>, Fault>
     ensures pair { IfOk result (λ file. file.pair ≡ pair) }
     ensures opened { (stored : Option (List ℕ)) → IsFound S.contents stored found → Agrees result (opened_as B.shape pair stored) }
+    ensures unwritten { IfErr result (λ refused. is_write refused ≡ false) }
 {
     match found {
         None => Err(Fault::from(Needs(pair))),

@@ -29,8 +29,8 @@ returns-in-Counts-clause-answer g c =
     (subst (λ (e : CodedEntries). AnswersStated board e c.in-Counts.csv (g.O.Sink.contents c.args.output.now) (g.O.Sink.contents c.print_counts.new.output) c.print_counts.result)
     same c.print_counts.ensures.answer)
 
-pub returns-in-Positions-clause-answer : goal.returns-in-Positions-clause-answer
-returns-in-Positions-clause-answer g c =
+pub returns-clause-answer : goal.returns-clause-answer
+returns-clause-answer g c =
     let board = g.B.Geometry.shape in
     let search = c.in-Positions.search in
     let same : c.in_ok-entries.entries ≡ entries_in board c.args.file.now =
