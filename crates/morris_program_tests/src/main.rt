@@ -15,6 +15,8 @@ mod damaged_tests;
 #[cfg(test)]
 mod failing_tests;
 #[cfg(test)]
+mod finding_tests;
+#[cfg(test)]
 mod from_tests;
 #[cfg(test)]
 mod into_tests;

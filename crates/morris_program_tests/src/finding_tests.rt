@@ -1,0 +1,153 @@
+// `stats_from` and `find_from` over the file of 3-3 on `grid`: what is refused, and in which order,
+// and what a read or a write that fails leaves.
+use crate::making::file_of;
+use morris_board::streams::{Failed, IntoWrite};
+use morris_files::folder::Folder;
+use morris_files::memory::MemoryFolder;
+use morris_jobs::fault::Fault;
+use morris_lookup::storage::Storage;
+use morris_pairs::layout::Layout;
+use morris_queries::ask::{find_from, stats_from};
+use morris_queries::find::Shown;
+use morris_queries::library::{Library, Unfound, Unopened};
+use morris_queries::memory::Held;
+use std::alloc::Global;
+use std::process::Abort;
+
+/// Whether the counts of a pair are refused for this fault, and nothing is printed.
+fn is_uncounted<L: Library>(
+    alloc: Global,
+    library: &mut L,
+    board: &str,
+    pair: &str,
+    fault: Fault,
+) -> bool {
+    let mut output = IntoWrite::new(Vec::new(alloc));
+    let answer = stats_from(alloc, board, pair, false, library, &mut output);
+    answer == Err(fault) && output.into_inner().is_empty()
+}
+
+/// Whether the positions of a pair of `grid` with this value are refused for this fault, and nothing
+/// is printed.
+fn is_unfound<L: Library>(
+    alloc: Global,
+    library: &mut L,
+    pair: &str,
+    value: &str,
+    fault: Fault,
+) -> bool {
+    let mut output = IntoWrite::new(Vec::new(alloc));
+    let answer = find_from(
+        alloc,
+        "grid",
+        pair,
+        value,
+        true,
+        Shown::Texts(9),
+        library,
+        &mut output,
+    );
+    answer == Err(fault) && output.into_inner().is_empty()
+}
+
+// First the board, then the pair, then the value, then what is under the name of the pair's file.
+#[test]
+fn refusals_of_questions_to_a_file_come_in_order(rt: HostRuntime) {
+    let large = file_of(&rt, "4-3", Layout::Full);
+    let held: [(&str, &[u8]); 2] = [
+        ("grid-3-3.nmmt", large.as_slice()),
+        ("grid-4-3.nmmt", b"NMMT"),
+    ];
+    let mut held = Held { files: &held };
+    let alloc = rt.alloc();
+    assert!(rt; is_uncounted(alloc, &mut held, "round", "33", Fault::Board));
+    assert!(rt; is_uncounted(alloc, &mut held, "grid", "33", Fault::PairText));
+    assert!(rt; is_uncounted(alloc, &mut held, "grid", "9-9", Fault::Crowded));
+    assert!(rt; is_uncounted(alloc, &mut held, "grid", "3-3", Fault::Needs(3, 3)));
+    assert!(rt; is_uncounted(alloc, &mut held, "grid", "4-3", Fault::Short));
+    assert!(rt; is_uncounted(alloc, &mut held, "grid", "4-4", Fault::Needs(4, 4)));
+    assert!(rt; is_unfound(alloc, &mut held, "33", "Won", Fault::PairText));
+    assert!(rt; is_unfound(alloc, &mut held, "4-4", "Won", Fault::ValueText));
+    assert!(rt; is_unfound(alloc, &mut held, "4-4", "won", Fault::Needs(4, 4)));
+}
+
+/// A file of which only the first bytes can be read.
+#[derive(Clone, Copy)]
+struct Cut<'a> {
+    readable: &'a [u8],
+    size: u64,
+}
+
+impl Storage for Cut<'_> {
+    ghost use Rattle.std.specs.Prelude.{None};
+
+    ghost contents = { λ _. None };
+
+    fn len(&self) -> Result<u64, Failed> {
+        Ok(self.size)
+    }
+
+    fn read_at(&self, place: u64, out: &mut [u8]) -> Result<(), Failed> {
+        let start = place as usize;
+        match self.readable.get(start..start.saturating_add(out.len())) {
+            Some(bytes) if bytes.len() == out.len() => {
+                out.copy_from_slice(bytes);
+                Ok(())
+            }
+            _ => Err(Failed),
+        }
+    }
+}
+
+/// A folder in which each name is that of this file.
+impl<'a> Library for Cut<'a> {
+    ghost use Rattle.std.specs.Prelude.{None};
+
+    type Bytes = Cut<'a>;
+
+    ghost files = { λ _. None };
+
+    fn find(&mut self) -> Result<(), Unfound> {
+        Ok(())
+    }
+
+    fn open(&mut self, _name: &str) -> Result<Option<Cut<'a>>, Unopened> {
+        Ok(Some(*self))
+    }
+}
+
+// The header has 16 bytes.
+#[test]
+fn a_file_that_can_not_be_read_is_told(rt: HostRuntime) {
+    let small = file_of(&rt, "3-3", Layout::Full);
+    let alloc = rt.alloc();
+    for count in [15, 16, 17, 3375] {
+        let mut cut = Cut {
+            readable: &small.as_slice()[..count.min(small.len())],
+            size: small.len() as u64,
+        };
+        assert!(rt; is_uncounted(alloc, &mut cut, "grid", "3-3", Fault::Read));
+        assert!(rt; is_unfound(alloc, &mut cut, "3-3", "won", Fault::Read));
+    }
+}
+
+// The second write fails. Before it the buffer of 8,192 bytes went out, with lines of 10 bytes.
+#[test]
+fn a_write_of_positions_that_fails_is_counted(rt: HostRuntime) {
+    let small = file_of(&rt, "3-3", Layout::Full);
+    let held = [("grid-3-3.nmmt", small.as_slice())];
+    let mut held = Held { files: &held };
+    let mut folder = MemoryFolder::new(rt.alloc(), 0, 2);
+    let mut output = folder.create("out").expect(&rt, "a file");
+    let answer = find_from(
+        rt.alloc(),
+        "grid",
+        "3-3",
+        "won",
+        true,
+        Shown::Texts(u64::MAX),
+        &mut held,
+        &mut output,
+    );
+    assert!(rt; answer == Err(Fault::Write(8190)));
+}
