@@ -28,15 +28,16 @@ where
     (output.into_inner(), refused)
 }
 
-const GIVEN: &str = "XXXOOO...\nXXX.OO.O.\r\nXX.X\n\n\r\nXXXOOO...XXXOOO...XXXOOO...XXXOOO...\n\
+// A line that is empty or begins with `#` is passed over.
+const GIVEN: &str =
+    "XXXOOO...\n# XX\nXXX.OO.O.\r\nXX.X\n\n\r\n#\r\n #\nXXXOOO...XXXOOO...XXXOOO...XXXOOO...\n\
     XXXOOO...\r\r\nOO.OXX.X.";
 
 const ANSWERED: &str = "\
 XXXOOO... draw: 0-6 1-7 2-8
 XXX.OO.O. won in 3: 2-3
 XX.X: fault 1: text is not one character per point
-: fault 1: text is not one character per point
-: fault 1: text is not one character per point
+ #: fault 1: text is not one character per point
 XXXOOO... (too long): fault 1: text is not one character per point
 XXXOOO... (too long): fault 1: text is not one character per point
 OO.OXX.X. lost in 2: 4-2 4-6 4-8 5-2 5-6 5-8 7-2 7-6 7-8
@@ -48,14 +49,14 @@ fn lines_are_answered(rt: HostRuntime) {
     let held = [("grid-3-3.nmmt", small.as_slice())];
     let mut held = Held { files: &held };
     let (text, refused) = answered(rt.alloc(), "grid", &mut held, GIVEN.as_bytes());
-    assert!(rt; text.as_slice() == ANSWERED.as_bytes() && refused == Ok(5));
+    assert!(rt; text.as_slice() == ANSWERED.as_bytes() && refused == Ok(4));
     let drip = Drip {
         left: GIVEN.as_bytes(),
         calls: 0,
         room: u64::MAX,
     };
     let (text, refused) = answered(rt.alloc(), "grid", &mut held, drip);
-    assert!(rt; text.as_slice() == ANSWERED.as_bytes() && refused == Ok(5));
+    assert!(rt; text.as_slice() == ANSWERED.as_bytes() && refused == Ok(4));
 }
 
 // An escape (27), the first byte of a character that is cut off, a delete (127), a backslash and a
@@ -79,8 +80,10 @@ fn bytes_that_are_not_printable_are_shown_by_their_digits(rt: HostRuntime) {
 #[test]
 fn no_line_has_no_answer(rt: HostRuntime) {
     let mut held = Held { files: &[] };
-    let (text, refused) = answered(rt.alloc(), "nine", &mut held, b"".as_slice());
-    assert!(rt; text.is_empty() && refused == Ok(0));
+    for none in ["", "\n", "\r", "# XXXOOO...\n\n#"] {
+        let (text, refused) = answered(rt.alloc(), "nine", &mut held, none.as_bytes());
+        assert!(rt; text.is_empty() && refused == Ok(0));
+    }
     let (text, refused) = answered(rt.alloc(), "none", &mut held, b"X\n".as_slice());
     assert!(rt; text.is_empty() && refused == Err(QueryFault::Board));
 }

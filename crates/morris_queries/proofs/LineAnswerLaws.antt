@@ -1,5 +1,5 @@
 -- How the answers to the lines of an input go on with each byte.
-use Rattle.std.proofs.Common.{◌≡◌, ◌≢◌, ◌⊎◌, ℕ, ◌+◌, ◌≤◌, ◌<◌, min, false, List, [], ◌∷◌, ◌++◌, take, drop, get_or, length, codes, append_assoc, take-append-drop, Option, Result, Ok, Err, refl, sym, ap, subst, ◌∙◌, inl, inr, arith}
+use Rattle.std.proofs.Common.{◌≡◌, ◌≢◌, ◌⊎◌, ℕ, ◌+◌, ◌≤◌, ◌<◌, min, Bool, true, false, List, [], ◌∷◌, ◌++◌, take, drop, get_or, length, codes, append_assoc, take-append-drop, Option, Result, Ok, Err, refl, sym, ap, subst, ◌∙◌, inl, inr, arith}
 use Rattle.std.specs.Prelude.{is_err, nat_eq, nat_le}
 use Rattle.std.specs.List.{flat_map}
 use Rattle.std.specs.Io.KnownBytes.{Consumes, Keeps}
@@ -16,12 +16,12 @@ use Rattle.morris_queries.specs.declared.fault.QueryFault.TheVariants as query
 use Rattle.morris_queries.specs.declared.show.Show.{Show}
 use Rattle.morris_queries.specs.declared.texts.Tally.{Tally}
 use Rattle.morris_queries.specs.Answers.{Answer, AnswersText, AnswersTexts, AreGiven, AreOut, ArePartOut, GoesOut, IsAnswer, IsTallied, counted_to}
-use Rattle.morris_queries.specs.InputLines.{begun_after, ended_by, text_in, texts_ended, texts_in, whole_lines}
+use Rattle.morris_queries.specs.InputLines.{begun_after, ended_by, is_passed_over, text_in, texts_ended, texts_in, whole_lines}
 use Rattle.morris_queries.specs.LineAnswers.{AnswersFound, AnswersLines, IsReadTo, StopsIn}
 use Rattle.morris_queries.specs.Printing.{answer_text, first_line, shown_byte, shown_text, told_text}
 use Rattle.morris_queries.specs.Telling.{Agrees, Telling, told_to, told_text as told_of_text}
 use Rattle.morris_queries.proofs.AnswerLaws.{out_failed, out_none, texts_more}
-use Rattle.morris_queries.proofs.LineLaws.{begun_after-byte, begun_after-feed, text_in-start, texts_ended-append, texts_ended-byte, texts_ended-feed}
+use Rattle.morris_queries.proofs.LineLaws.{begun_after-byte, begun_after-feed, passed_over-start, text_in-start, texts_ended-append, texts_ended-byte, texts_ended-feed, texts_ended-passed}
 
 -- ---- the first 25 bytes of a text tell its answer
 
@@ -111,15 +111,29 @@ module _ (board : Shape) (name : List ℕ) (known : Option Files) (show : Show) 
         out = subst (λ ts. AreOut board name known show ts old new tally) (sym (texts_ended-byte read b off)) h.out;
       }
 
+  -- whether the line that is begun is passed over, by its first bytes
+  begun_passed : (read line : List ℕ) (passed : Bool) → line ≡ take 26 (begun_after [] read) → is_passed_over (text_in line) ≡ passed
+      → is_passed_over (text_in (begun_after [] read)) ≡ passed
+  begun_passed read line passed kept is = sym (passed_over-start (begun_after [] read)) ∙ (ap (λ l. is_passed_over (text_in l)) (sym kept) ∙ is)
+
+  -- a line feed, where its line is passed over
+  pub read_passed : (read : List ℕ) (old new : Option (List ℕ)) (line more : List ℕ) (tally : Tally) → is_passed_over (text_in line) ≡ true → more ≡ []
+      → ReadTo read old new line tally → ReadTo (read ++ 10 ∷ []) old new more tally
+  read_passed read old new line more tally passed empty h = record {
+    kept = empty ∙ ap (take 26) (sym (begun_after-feed read));
+    out = subst (λ ts. AreOut board name known show ts old new tally) (sym (texts_ended-passed read (begun_passed read line true h.kept passed))) h.out;
+  }
+
   -- a line feed, and the answer to its line
   pub read_feed : (read : List ℕ) (old mid new : Option (List ℕ)) (line more : List ℕ) (before after : Tally) (answered : Result Answered ℕ)
+      → is_passed_over (text_in line) ≡ false
       → ((whole : List ℕ) → line ≡ take 26 whole → AnswersText board name known show (text_in whole) mid new answered)
       → IsTallied before after answered (Ok tt) → more ≡ [] → ReadTo read old mid line before
       → ReadTo (read ++ 10 ∷ []) old new more after
-  read_feed read old mid new line more before after answered answers tallied empty h = record {
+  read_feed read old mid new line more before after answered asked answers tallied empty h = record {
     kept = empty ∙ ap (take 26) (sym (begun_after-feed read));
     out =
-        subst (λ ts. AreOut board name known show ts old new after) (sym (texts_ended-feed read))
+        subst (λ ts. AreOut board name known show ts old new after) (sym (texts_ended-feed read (begun_passed read line false h.kept asked)))
         (texts_more board name known show (texts_ended read) (text_in (begun_after [] read)) old mid new before after answered h.out
         (answers (begun_after [] read) h.kept) tallied);
   }
@@ -131,15 +145,16 @@ module _ (board : Shape) (name : List ℕ) (known : Option Files) (show : Show) 
       (length texts, part.0, subst (λ ts. AreGiven board name known show ts part.0) (sym (take_all (length texts) texts (omega arith))) part.1, part.2)
 
   pub feed_stops : (read : List ℕ) (old mid new : Option (List ℕ)) (line : List ℕ) (before after : Tally) (answered : Result Answered ℕ) (refusal : QueryFault)
+      → is_passed_over (text_in line) ≡ false
       → ((whole : List ℕ) → line ≡ take 26 whole → AnswersText board name known show (text_in whole) mid new answered)
       → IsTallied before after answered (Err refusal) → ReadTo read old mid line before
       → StopsIn board name known show (texts_ended (read ++ 10 ∷ [])) old new refusal
-  feed_stops read old mid new line before after (Ok done) refusal answers tallied h = let no : Err refusal ≡ Ok tt = tallied.0 in cc
-  feed_stops read old mid new line before after (Err sent) refusal answers tallied h =
+  feed_stops read old mid new line before after (Ok done) refusal asked answers tallied h = let no : Err refusal ≡ Ok tt = tallied.0 in cc
+  feed_stops read old mid new line before after (Err sent) refusal asked answers tallied h =
       let is : query.Write (counted_to (before.sent + sent)) ≡ refusal = cc in
       let part = out_failed board name known show (texts_ended read) (text_in (begun_after [] read)) old mid new before sent h.out (answers (begun_after [] read) h.kept) in
       let stops = part_stops (texts_ended read ++ text_in (begun_after [] read) ∷ []) old new (counted_to (before.sent + sent)) part in
-      subst (λ ts. StopsIn board name known show ts old new refusal) (sym (texts_ended-feed read))
+      subst (λ ts. StopsIn board name known show ts old new refusal) (sym (texts_ended-feed read (begun_passed read line false h.kept asked)))
       (subst (StopsIn board name known show (texts_ended read ++ text_in (begun_after [] read) ∷ []) old new) is stops)
 
   -- what stopped among some texts stopped among more

@@ -1,10 +1,11 @@
 -- How the lines of bytes go on with the bytes after them, and what the first bytes of a line tell of
 -- its text.
-use Rattle.std.proofs.Common.{◌≡◌, ℕ, ◌-◌, ◌≤◌, ◌<◌, Bool, true, false, List, [], ◌∷◌, ◌++◌, map, take, length, refl, sym, ap, ◌∙◌, inl, inr, arith, length-append, append-nil}
-use Rattle.std.specs.Prelude.{nat_eq, slice_index}
+use Rattle.std.proofs.Common.{◌≡◌, ℕ, ◌-◌, ◌≤◌, ◌<◌, Bool, true, false, List, [], ◌∷◌, ◌++◌, map, take, length, refl, sym, ap, ◌∙◌, inl, inr, arith, length-append, append-nil, filter}
+use Rattle.std.specs.Prelude.{nat_eq, not, slice_index}
 use Rattle.std.proofs.lemmas.Bool.{cases_lt}
+use Rattle.std.proofs.lemmas.List.Elements.{filter-append}
 use Rattle.std.proofs.lemmas.List.{take-take, take-append-le, take_all, length-take, map-append}
-use Rattle.morris_queries.specs.InputLines.{begun_after, texts_ended, text_in, whole_lines}
+use Rattle.morris_queries.specs.InputLines.{begun_after, is_passed_over, text_in, texts_ended, texts_of, whole_lines}
 
 -- ---- bytes after bytes
 
@@ -31,13 +32,28 @@ begun_after-append begun (x ∷ xs) ys = go (nat_eq x 10) refl (begun_after-appe
     go false e ended other = rw e other
 
 -- the texts of the lines that end within bytes stay the first ones
-pub texts_ended-append : (xs ys : List ℕ) → texts_ended (xs ++ ys) ≡ texts_ended xs ++ map text_in (whole_lines (begun_after [] xs) ys)
-texts_ended-append xs ys = ap (map text_in) (whole_lines-append [] xs ys) ∙ map-append text_in (whole_lines [] xs) _
+texts_of-append : (xs ys : List (List ℕ)) → texts_of (xs ++ ys) ≡ texts_of xs ++ texts_of ys
+texts_of-append xs ys =
+    ap (filter (λ text. not (is_passed_over text))) (map-append text_in xs ys)
+    ∙ filter-append (λ text. not (is_passed_over text)) (map text_in xs) (map text_in ys)
 
--- a line feed ends the line that was begun
-pub texts_ended-feed : (xs : List ℕ) → texts_ended (xs ++ 10 ∷ []) ≡ texts_ended xs ++ text_in (begun_after [] xs) ∷ []
+pub texts_ended-append : (xs ys : List ℕ) → texts_ended (xs ++ ys) ≡ texts_ended xs ++ texts_of (whole_lines (begun_after [] xs) ys)
+texts_ended-append xs ys = ap texts_of (whole_lines-append [] xs ys) ∙ texts_of-append (whole_lines [] xs) _
+
+-- a line feed ends the line that was begun, which is answered
+pub texts_ended-feed : (xs : List ℕ) → is_passed_over (text_in (begun_after [] xs)) ≡ false
+    → texts_ended (xs ++ 10 ∷ []) ≡ texts_ended xs ++ text_in (begun_after [] xs) ∷ []
 unfolding whole_lines
-texts_ended-feed xs = texts_ended-append xs (10 ∷ [])
+texts_ended-feed xs asked =
+    let one : texts_of (begun_after [] xs ∷ []) ≡ text_in (begun_after [] xs) ∷ [] = rw asked refl in
+    texts_ended-append xs (10 ∷ []) ∙ ap (λ ts. texts_ended xs ++ ts) one
+
+-- or passed over
+pub texts_ended-passed : (xs : List ℕ) → is_passed_over (text_in (begun_after [] xs)) ≡ true → texts_ended (xs ++ 10 ∷ []) ≡ texts_ended xs
+unfolding whole_lines
+texts_ended-passed xs passed =
+    let none : texts_of (begun_after [] xs ∷ []) ≡ [] = rw passed refl in
+    texts_ended-append xs (10 ∷ []) ∙ (ap (λ ts. texts_ended xs ++ ts) none ∙ append-nil (texts_ended xs))
 
 pub begun_after-feed : (xs : List ℕ) → begun_after [] (xs ++ 10 ∷ []) ≡ []
 unfolding begun_after
@@ -48,7 +64,7 @@ pub texts_ended-byte : (xs : List ℕ) (b : ℕ) → nat_eq b 10 ≡ false → t
 unfolding whole_lines
 texts_ended-byte xs b other =
     let none : whole_lines (begun_after [] xs) (b ∷ []) ≡ [] = rw other refl in
-    texts_ended-append xs (b ∷ []) ∙ (ap (λ ls. texts_ended xs ++ map text_in ls) none ∙ append-nil (texts_ended xs))
+    texts_ended-append xs (b ∷ []) ∙ (ap (λ ls. texts_ended xs ++ texts_of ls) none ∙ append-nil (texts_ended xs))
 
 pub begun_after-byte : (xs : List ℕ) (b : ℕ) → nat_eq b 10 ≡ false → begun_after [] (xs ++ b ∷ []) ≡ begun_after [] xs ++ b ∷ []
 unfolding begun_after
@@ -87,3 +103,11 @@ text_in-start line = elim (cases_lt 26 (length line)) [
       let kept : 26 ≤ length (take 26 line) = omega (arith, long, length-take 26 line) in
       text_in-long (take 26 line) kept ∙ (take-take 25 26 line (omega arith) ∙ sym (text_in-long line (omega (arith, long))))
 ]
+
+-- and so whether it is passed over
+pub passed_over-start : (line : List ℕ) → is_passed_over (text_in (take 26 line)) ≡ is_passed_over (text_in line)
+passed_over-start line = first (text_in (take 26 line)) ∙ (ap is_passed_over (text_in-start line) ∙ sym (first (text_in line)))
+  where
+    first : (text : List ℕ) → is_passed_over text ≡ is_passed_over (take 25 text)
+    first [] = refl
+    first (b ∷ text) = refl

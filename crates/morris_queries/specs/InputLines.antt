@@ -1,5 +1,5 @@
 -- The lines of an input, and the texts that they write.
-use Rattle.std.specs.Prelude.{ℕ, ◌-◌, nat_eq, List, [], ◌∷◌, ◌++◌, length, map, take, slice_index, if◌then◌else◌}
+use Rattle.std.specs.Prelude.{ℕ, ◌-◌, nat_eq, Bool, true, not, List, [], ◌∷◌, ◌++◌, length, map, filter, take, slice_index, if◌then◌else◌}
 
 -- The lines that end within bytes, each before a line feed (10). What was begun before the bytes
 -- belongs to the first of them.
@@ -16,15 +16,24 @@ begun_after begun (b ∷ bytes) = if nat_eq b 10 then begun_after [] bytes else 
 abbrev pub text_in : List ℕ → List ℕ
 text_in line = if nat_eq (slice_index line (length line - 1)) 13 then take (length line - 1) line else line
 
--- the texts of the lines that end within bytes
+-- a line of this text is passed over: an empty one, or one that begins with `#` (35)
+abbrev pub is_passed_over : List ℕ → Bool
+is_passed_over [] = true
+is_passed_over (b ∷ text) = nat_eq b 35
+
+-- the texts of these lines, but for those that are passed over
+abbrev pub texts_of : List (List ℕ) → List (List ℕ)
+texts_of lines = filter (λ text. not (is_passed_over text)) (map text_in lines)
+
+-- the texts of the lines that end within bytes, but for those that are passed over
 abbrev pub texts_ended : List ℕ → List (List ℕ)
-texts_ended bytes = map text_in (whole_lines [] bytes)
+texts_ended bytes = texts_of (whole_lines [] bytes)
 
 -- an input that is at its end: a last line that isn't empty ends there as before a line feed
 abbrev pub ended_by : List ℕ → List ℕ → List ℕ
 ended_by [] bytes = bytes
 ended_by (b ∷ line) bytes = bytes ++ 10 ∷ []
 
--- the texts of all lines of an input
+-- the texts of all lines of an input, but for those that are passed over
 abbrev pub texts_in : List ℕ → List (List ℕ)
 texts_in bytes = texts_ended (ended_by (begun_after [] bytes) bytes)

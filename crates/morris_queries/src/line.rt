@@ -1,6 +1,6 @@
 //! One line of an input: its first bytes while it is read, and the text that it writes.
 ghost use Rattle.std.specs.Prelude.{◌≡◌, ℕ, [], ◌∷◌, ◌++◌, List, take};
-ghost use Rattle.morris_queries.specs.InputLines.{text_in};
+ghost use Rattle.morris_queries.specs.InputLines.{is_passed_over, text_in};
 
 use arrayvec::ArrayVec;
 
@@ -25,4 +25,11 @@ pub(crate) fn text_of(line: &[u8]) -> &[u8]
         Some(b'\r') => &line[..line.len() - 1],
         _ => line,
     }
+}
+
+/// Whether a line of this text is passed over: an empty one, or one that begins with `#`.
+pub(crate) fn is_passed_over(text: &[u8]) -> bool
+    ensures { result ≡ is_passed_over text.now }
+{
+    matches!(text.first(), None | Some(b'#'))
 }

@@ -11,7 +11,7 @@ ghost use Rattle.morris_queries.specs.Readings.{Ends, Stands, StaysOf, Takes};
 use crate::answer::{Answered, answer_text};
 use crate::fault::QueryFault;
 use crate::library::Library;
-use crate::line::{KEPT, take_in, text_of};
+use crate::line::{KEPT, is_passed_over, take_in, text_of};
 use crate::show::Show;
 use crate::texts::Tally;
 use crate::values::{Folder, no_files};
@@ -61,7 +61,8 @@ impl<'n, 'l, 't, 'o, B: Geometry, L: Library, O: Sink> Reading<'n, 'l, 't, 'o, B
         }
     }
 
-    /// Takes in the next byte: at a line feed the line before it is answered.
+    /// Takes in the next byte: at a line feed the line before it is answered, unless it is passed
+    /// over.
     ///
     /// # Errors
     /// [`QueryFault::Write`], with the bytes that went out, where a write failed.
@@ -72,13 +73,28 @@ impl<'n, 'l, 't, 'o, B: Geometry, L: Library, O: Sink> Reading<'n, 'l, 't, 'o, B
         ensures counted { CountsWrites (O.failures self.old.output.now) (O.failures self.new.output.now) result }
     {
         if byte == b'\n' {
-            let line = self.line.as_slice();
+            return self.end_line();
+        }
+        take_in(&mut self.line, byte);
+        Ok(())
+    }
+
+    /// Ends the line that is being read: it is answered, unless it is passed over.
+    ///
+    /// # Errors
+    /// Those of [`take_byte`](Reading::take_byte).
+    fn end_line(&mut self) -> Result<(), QueryFault>
+        requires { O.failures self.old.output.now < 2 ^ 64 - 1 }
+        ensures stays { StaysOf B.shape L.files self.old self.new }
+        ensures taken { Takes B.shape L.files O.contents self.old self.new (10 ∷ []) result }
+        ensures counted { CountsWrites (O.failures self.old.output.now) (O.failures self.new.output.now) result }
+    {
+        let line = self.line.as_slice();
+        if !is_passed_over(text_of(line)) {
             let answered = answer_line(&mut self.folder, line, self.show, self.output);
             self.tally.take(answered)?;
-            self.line.clear();
-        } else {
-            take_in(&mut self.line, byte);
         }
+        self.line.clear();
         Ok(())
     }
 
@@ -160,7 +176,8 @@ fn answer_line<B: Geometry, L: Library, O: Sink>(
 
 /// Answers the lines of an input, each as [`answer_text`] answers its text, and counts those that
 /// are answered by a fault. A line ends before a line feed, and a carriage return there is passed
-/// over; a last line without a line feed counts where it isn't empty.
+/// over; a last line needs no line feed. A line that is empty then, or begins with `#`, is passed
+/// over: there is no answer to it, and nothing is counted.
 ///
 /// What has come is read, up to 4 KiB at a time, and the answers to all lines that end there have
 /// gone out before more is read: who asks through a pipe gets the answer without having to send
