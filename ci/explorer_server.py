@@ -163,7 +163,7 @@ def looked_up(board, folder, texts):
 def line_of(board, folder, text):
     """The moves and positions of `morris lookup --line`."""
     told = run([MORRIS, "lookup", board, "--from", folder, "--line", text])
-    return [tuple(it.split()) for it in told.splitlines()[1:]]
+    return [tuple(it.split()[:2]) for it in told.splitlines()[1:]]
 
 
 @functools.lru_cache(maxsize=None)

@@ -63,9 +63,9 @@ XXX.OO.O. won in 3: 2-3
 
 const LINE: &str = "\
 XXX.OO.O. won in 3: 2-3
-  2-3 OO.OXX.X.
-  4-2 XXOX.O.O.
-  1-6x2 O..O.XOX.
+  2-3 OO.OXX.X. lost in 2
+  4-2 XXOX.O.O. won in 1
+  1-6x2 O..O.XOX. lost in 0
 XXXOOO... draw: 0-6 1-7 2-8
 ";
 

@@ -44,7 +44,7 @@ use Rattle.morris_queries.specs.Answers.{IsExactAnswer}
 use Rattle.morris_queries.specs.Exactness.{AreExactIn, AreExactNear, AreExactWithin, IsExactAt, IsExactBytes, IsExactFor, LeadsTo, IsBestLine, HasLine, IsGame}
 use Rattle.morris_queries.specs.declared.show.Show.{Show}
 use Rattle.morris_queries.specs.declared.show.Show.TheVariants as show
-use Rattle.morris_queries.specs.Telling.{followed, with_first, Agrees, Telling, telling, best_among, same_value, same_counts, framed_as, value_from, outcome, told_from, told_of, told_line, told_shown, shown_line, told_value, told_outcome, told_outcomes, value_at, opened_as, table_in, stated_in}
+use Rattle.morris_queries.specs.Telling.{followed, with_first, Agrees, Played, played, Telling, telling, best_among, same_value, same_counts, framed_as, value_from, outcome, told_from, told_of, told_line, told_shown, shown_line, told_value, told_outcome, told_outcomes, value_at, opened_as, table_in, stated_in}
 use Rattle.morris_queries.proofs.OpenLaws.{framed_found}
 use Rattle.morris_queries.proofs.AgreeLaws.{best-turned, follows, same_itself}
 use Rattle.morris_queries.proofs.TellingLaws.{agreed, first_there, from_same, from_told}
@@ -375,64 +375,61 @@ module _ (board : Shape) (few : board.points ≤ 24) (y : HasSymmetries board) (
       from (Ok value) found (Err refused) all e = cc
       from (Err refused) found q all e = cc
 
-  best_line : (n : ℕ) (s : Sides) → IsPosition board s → AreExactWithin board name files n s → (value : Value) → IsValue board s value → depth_of value ≡ n → (line : List (Move × Sides))
-      → told_line board name files n s ≡ Ok line → IsBestLine board s value line
-  unfolding told_line
-  best_line zero s position exact value here deep line e = from (told_of board name files s) e
-    where
-      from : (r : Result Telling Fault) → followed r (λ t. Ok []) ≡ Ok line → IsBestLine board s value line
-      from (Ok t) e = let none : [] ≡ line = cc in subst (IsBestLine board s value) none deep
-      from (Err refused) e = cc
-  best_line (suc k) s position exact value here deep line e = from (best_line k) (told_of board name files s) refl e
-    where
-      none_here : (t : Telling) → told_of board name files s ≡ Ok t → AreBestOf board s value (moves_of board s) t.best
-      none_here t found =
-          let right = told_right s position exact.0 t found in
-          subst (λ v. AreBestOf board s v (moves_of board s) t.best) (one_value board s t.value value right.value here) right.best
+  -- the line of so many plies, from each position of which this is told
+  abbrev GoesOn : ℕ → Type 0
+  GoesOn n = (s : Sides) → IsPosition board s → AreExactWithin board name files n s → (t : Telling) → told_of board name files s ≡ Ok t → depth_of t.value ≡ n → (line : List Played)
+      → told_line board name files n s (slice_get t.best 0) ≡ Ok line → IsBestLine board s t.value line
 
-      stuck : (t : Telling) → told_of board name files s ≡ Ok t → None ≡ slice_get t.best 0 → ⊥
-      stuck t found none =
-          let right = told_right s position exact.0 t found in
-          empty t.best none (never_stuck board s value k t.best here deep right.known (none_here t found))
+  best_line : (n : ℕ) → GoesOn n
+  unfolding told_line
+  best_line zero s position exact t found deep line e = let none : [] ≡ line = cc in subst (IsBestLine board s t.value) none deep
+  best_line (suc k) s position exact t found deep line e = at_first (best_line k) (slice_get t.best 0) refl e
+    where
+      right : IsRight board s t
+      right = told_right s position exact.0 t found
+
+      stuck : None ≡ slice_get t.best 0 → ⊥
+      stuck none = empty t.best none (never_stuck board s t.value k t.best right.value deep right.known right.best)
         where
           empty : (ms : List Move) → None ≡ slice_get ms 0 → 0 < length ms → ⊥
           empty [] none low = absurd (omega (arith, low))
           empty (m ∷ ms) none low = cc
 
-      step : ((u : Sides) → IsPosition board u → AreExactWithin board name files k u → (w : Value) → IsValue board u w → depth_of w ≡ k → (l : List (Move × Sides)) → told_line board name files k u ≡ Ok l → IsBestLine board u w l)
-          → (t : Telling) → told_of board name files s ≡ Ok t → (m : Move) → Some m ≡ slice_get t.best 0 → (rest : List (Move × Sides)) → told_line board name files k (result_of s m) ≡ Ok rest
-          → IsBestLine board s value ((m, result_of s m) ∷ rest)
-      step on t found m first rest played =
-          let all = none_here t found in
-          let there = (all.each m).0 (first_there t.best m first) in
-          let leads : LeadsOn board s value m = there.1 in (
-            record { best = (there.0, (value, here, leads)); leads = refl },
-            (
-              leads.0,
-              leads.1,
-              leads.2,
-              on (result_of s m) (result-position board few s position m there.0) (exact.1 m there.0) leads.0 leads.2 (one_less value leads.0 k deep leads.1) rest played,
-            ),
+      step : GoesOn k → (m : Move) → Some m ≡ slice_get t.best 0 → (u : Telling) → told_of board name files (result_of s m) ≡ Ok u → (rest : List Played)
+          → told_line board name files k (result_of s m) (slice_get u.best 0) ≡ Ok rest → IsBestLine board s t.value (played m (result_of s m) u.value ∷ rest)
+      step on m first u next rest goes =
+          let there = (right.best.each m).0 (first_there t.best m first) in
+          let leads : LeadsOn board s t.value m = there.1 in
+          let after : IsPosition board (result_of s m) = result-position board few s position m there.0 in
+          let own = told_right (result_of s m) after (near_of k (result_of s m) (exact.1 m there.0)) u next in
+          let same : leads.0 ≡ u.value = one_value board (result_of s m) leads.0 u.value leads.2 own.value in
+          let falls : after_best t.value ≡ Some u.value = leads.1 ∙ ap (λ v. Some v) same in (
+            record { best = (there.0, (t.value, right.value, leads)); leads = refl },
+            falls,
+            own.value,
+            on (result_of s m) after (exact.1 m there.0) u next (one_less t.value u.value k deep falls) rest goes,
           )
 
-      rest_of : ((u : Sides) → IsPosition board u → AreExactWithin board name files k u → (w : Value) → IsValue board u w → depth_of w ≡ k → (l : List (Move × Sides)) → told_line board name files k u ≡ Ok l → IsBestLine board u w l)
-          → (t : Telling) → told_of board name files s ≡ Ok t → (m : Move) → Some m ≡ slice_get t.best 0 → (q : Result (List (Move × Sides)) Fault) → told_line board name files k (result_of s m) ≡ q
-          → followed q (λ rest. Ok ((m, result_of s m) ∷ rest)) ≡ Ok line → IsBestLine board s value line
-      rest_of on t found m first (Ok rest) played e = let same : (m, result_of s m) ∷ rest ≡ line = cc in subst (IsBestLine board s value) same (step on t found m first rest played)
-      rest_of on t found m first (Err refused) played e = cc
+      rest_of : GoesOn k → (m : Move) → Some m ≡ slice_get t.best 0 → (u : Telling) → told_of board name files (result_of s m) ≡ Ok u → (q : Result (List Played) Fault)
+          → told_line board name files k (result_of s m) (slice_get u.best 0) ≡ q
+          → followed q (λ rest. Ok (played m (result_of s m) u.value ∷ rest)) ≡ Ok line → IsBestLine board s t.value line
+      rest_of on m first u next (Ok rest) goes e =
+          let same : played m (result_of s m) u.value ∷ rest ≡ line = cc in
+          subst (IsBestLine board s t.value) same (step on m first u next rest goes)
+      rest_of on m first u next (Err refused) goes e = cc
 
-      at_first : ((u : Sides) → IsPosition board u → AreExactWithin board name files k u → (w : Value) → IsValue board u w → depth_of w ≡ k → (l : List (Move × Sides)) → told_line board name files k u ≡ Ok l → IsBestLine board u w l)
-          → (t : Telling) → told_of board name files s ≡ Ok t → (o : Option Move) → o ≡ slice_get t.best 0
-          → with_first o (Ok []) (λ m. followed (told_line board name files k (result_of s m)) (λ rest. Ok ((m, result_of s m) ∷ rest))) ≡ Ok line → IsBestLine board s value line
-      at_first on t found None first e = absurd (stuck t found first)
-      at_first on t found (Some m) first e = rest_of on t found m first (told_line board name files k (result_of s m)) refl e
+      next_of : GoesOn k → (m : Move) → Some m ≡ slice_get t.best 0 → (r : Result Telling Fault) → told_of board name files (result_of s m) ≡ r
+          → followed r (λ u. followed (told_line board name files k (result_of s m) (slice_get u.best 0)) (λ rest. Ok (played m (result_of s m) u.value ∷ rest))) ≡ Ok line
+          → IsBestLine board s t.value line
+      next_of on m first (Ok u) next e = rest_of on m first u next (told_line board name files k (result_of s m) (slice_get u.best 0)) refl e
+      next_of on m first (Err refused) next e = cc
 
-      from : ((u : Sides) → IsPosition board u → AreExactWithin board name files k u → (w : Value) → IsValue board u w → depth_of w ≡ k → (l : List (Move × Sides)) → told_line board name files k u ≡ Ok l → IsBestLine board u w l)
-          → (r : Result Telling Fault) → told_of board name files s ≡ r
-          → followed r (λ t. with_first (slice_get t.best 0) (Ok []) (λ m. followed (told_line board name files k (result_of s m)) (λ rest. Ok ((m, result_of s m) ∷ rest)))) ≡ Ok line
-          → IsBestLine board s value line
-      from on (Ok t) found e = at_first on t found (slice_get t.best 0) refl e
-      from on (Err refused) found e = cc
+      at_first : GoesOn k → (o : Option Move) → o ≡ slice_get t.best 0
+          → with_first o (Ok []) (λ m. followed (told_of board name files (result_of s m)) (λ u.
+          followed (told_line board name files k (result_of s m) (slice_get u.best 0)) (λ rest. Ok (played m (result_of s m) u.value ∷ rest)))) ≡ Ok line
+          → IsBestLine board s t.value line
+      at_first on None first e = absurd (stuck first)
+      at_first on (Some m) first e = next_of on m first (told_of board name files (result_of s m)) refl e
 
   -- ---- what is told
 
@@ -440,31 +437,31 @@ module _ (board : Shape) (few : board.points ≤ 24) (y : HasSymmetries board) (
   unfolding told_shown
   game_of what s position right t e = from what right (told_of board name files s) refl e
     where
-      with_line : (kind : Show) → AreExactNear board name files s → (u : Telling) → told_of board name files s ≡ Ok u → (line : List (Move × Sides)) → HasLine board kind s (telling u.value u.best u.outcomes line)
+      with_line : (kind : Show) → AreExactNear board name files s → (u : Telling) → told_of board name files s ≡ Ok u → (line : List Played) → HasLine board kind s (telling u.value u.best u.outcomes line)
           → telling u.value u.best u.outcomes line ≡ t → IsGame board kind s t
-      with_line kind near u found line played same =
+      with_line kind near u found line goes same =
           let right = told_right s position near u found in
           subst (IsGame board kind s) same (record {
             value = right.value;
             best = best_all board s u.value u.best right.value right.best;
             leads = right.lead;
-            line = played;
+            line = goes;
           })
 
-      lined : ((plies : ℕ) → AreExactWithin board name files plies s) → (u : Telling) → told_of board name files s ≡ Ok u → (q : Result (List (Move × Sides)) Fault)
-          → told_line board name files (depth_of u.value) s ≡ q → followed q (λ line. Ok (telling u.value u.best u.outcomes line)) ≡ Ok t → IsGame board show.Line s t
-      lined exact u found (Ok line) played e =
+      lined : ((plies : ℕ) → AreExactWithin board name files plies s) → (u : Telling) → told_of board name files s ≡ Ok u → (q : Result (List Played) Fault)
+          → told_line board name files (depth_of u.value) s (slice_get u.best 0) ≡ q → followed q (λ line. Ok (telling u.value u.best u.outcomes line)) ≡ Ok t → IsGame board show.Line s t
+      lined exact u found (Ok line) goes e =
           let same : telling u.value u.best u.outcomes line ≡ t = cc in
           let near = near_of 0 s (exact 0) in
           with_line show.Line near u found line
-          (best_line (depth_of u.value) s position (exact (depth_of u.value)) u.value (told_right s position near u found).value refl line played) same
-      lined exact u found (Err refused) played e = cc
+          (best_line (depth_of u.value) s position (exact (depth_of u.value)) u found refl line goes) same
+      lined exact u found (Err refused) goes e = cc
 
       from : (kind : Show) → AreExactIn board name files kind s → (r : Result Telling Fault) → told_of board name files s ≡ r
-          → followed r (λ u. followed (shown_line board name files kind u.value s) (λ line. Ok (telling u.value u.best u.outcomes line))) ≡ Ok t → IsGame board kind s t
+          → followed r (λ u. followed (shown_line board name files kind u s) (λ line. Ok (telling u.value u.best u.outcomes line))) ≡ Ok t → IsGame board kind s t
       from show.Best exact (Ok u) found e = let same : telling u.value u.best u.outcomes [] ≡ t = cc in with_line show.Best exact u found [] refl same
       from show.Moves exact (Ok u) found e = let same : telling u.value u.best u.outcomes [] ≡ t = cc in with_line show.Moves exact u found [] refl same
-      from show.Line exact (Ok u) found e = lined exact u found (told_line board name files (depth_of u.value) s) refl e
+      from show.Line exact (Ok u) found e = lined exact u found (told_line board name files (depth_of u.value) s (slice_get u.best 0)) refl e
       from show.Best exact (Err refused) found e = cc
       from show.Moves exact (Err refused) found e = cc
       from show.Line exact (Err refused) found e = cc
@@ -493,51 +490,53 @@ module _ (board : Shape) (few : board.points ≤ 24) (y : HasSymmetries board) (
       from (Ok value) found (Err refused) all e = let is : refused ≡ fault.Disagree = cc in outcomes_never board name files s (moves_of board s) (all ∙ ap (λ f. Err f) is)
       from (Err refused) found q all e = let is : refused ≡ fault.Disagree = cc in value_never board name files s (found ∙ ap (λ f. Err f) is)
 
-  never_played : (n : ℕ) (s : Sides) → IsPosition board s → AreExactWithin board name files n s → told_line board name files n s ≡ Err fault.Disagree → ⊥
+  abbrev NeverOn : ℕ → Type 0
+  NeverOn n = (s : Sides) → IsPosition board s → AreExactWithin board name files n s → (t : Telling) → told_of board name files s ≡ Ok t
+      → told_line board name files n s (slice_get t.best 0) ≡ Err fault.Disagree → ⊥
+
+  never_played : (n : ℕ) → NeverOn n
   unfolding told_line
-  never_played zero s position exact e = from (told_of board name files s) refl e
+  never_played zero s position exact t found e = cc
+  never_played (suc k) s position exact t found e = at_first (never_played k) (slice_get t.best 0) refl e
     where
-      from : (r : Result Telling Fault) → told_of board name files s ≡ r → followed {B = List (Move × Sides)} r (λ t. Ok []) ≡ Err fault.Disagree → ⊥
-      from (Ok t) found e = cc
-      from (Err refused) found e = let is : refused ≡ fault.Disagree = cc in never_told s position exact (found ∙ ap (λ f. Err f) is)
-  never_played (suc k) s position exact e = from (never_played k) (told_of board name files s) refl e
-    where
-      rest_of : ((u : Sides) → IsPosition board u → AreExactWithin board name files k u → told_line board name files k u ≡ Err fault.Disagree → ⊥) → (m : Move)
-          → IsPosition board (result_of s m) → AreExactWithin board name files k (result_of s m)
-          → (q : Result (List (Move × Sides)) Fault) → told_line board name files k (result_of s m) ≡ q
-          → followed q (λ rest. Ok ((m, result_of s m) ∷ rest)) ≡ Err fault.Disagree → ⊥
-      rest_of on m there right (Ok rest) played e = cc
-      rest_of on m there right (Err refused) played e = on (result_of s m) there right (played ∙ e)
+      rest_of : (m : Move) (u : Telling) → (told_line board name files k (result_of s m) (slice_get u.best 0) ≡ Err fault.Disagree → ⊥) → (q : Result (List Played) Fault)
+          → told_line board name files k (result_of s m) (slice_get u.best 0) ≡ q
+          → followed q (λ rest. Ok (played m (result_of s m) u.value ∷ rest)) ≡ Err fault.Disagree → ⊥
+      rest_of m u never (Ok rest) goes e = cc
+      rest_of m u never (Err refused) goes e = never (goes ∙ e)
 
-      at_first : ((u : Sides) → IsPosition board u → AreExactWithin board name files k u → told_line board name files k u ≡ Err fault.Disagree → ⊥)
-          → (t : Telling) → told_of board name files s ≡ Ok t → (o : Option Move) → o ≡ slice_get t.best 0
-          → with_first o (Ok []) (λ m. followed (told_line board name files k (result_of s m)) (λ rest. Ok ((m, result_of s m) ∷ rest))) ≡ Err fault.Disagree → ⊥
-      at_first on t found None first e = cc
-      at_first on t found (Some m) first e =
+      next_of : NeverOn k → (m : Move) → IsPosition board (result_of s m) → AreExactWithin board name files k (result_of s m) → (r : Result Telling Fault)
+          → told_of board name files (result_of s m) ≡ r
+          → followed r (λ u. followed (told_line board name files k (result_of s m) (slice_get u.best 0)) (λ rest. Ok (played m (result_of s m) u.value ∷ rest))) ≡ Err fault.Disagree → ⊥
+      next_of on m there right (Ok u) next e =
+          rest_of m u (on (result_of s m) there right u next) (told_line board name files k (result_of s m) (slice_get u.best 0)) refl e
+      next_of on m there right (Err refused) next e =
+          let is : refused ≡ fault.Disagree = cc in never_told (result_of s m) there (near_of k (result_of s m) right) (next ∙ ap (λ f. Err f) is)
+
+      at_first : NeverOn k → (o : Option Move) → o ≡ slice_get t.best 0
+          → with_first o (Ok []) (λ m. followed (told_of board name files (result_of s m)) (λ u.
+          followed (told_line board name files k (result_of s m) (slice_get u.best 0)) (λ rest. Ok (played m (result_of s m) u.value ∷ rest)))) ≡ Err fault.Disagree → ⊥
+      at_first on None first e = cc
+      at_first on (Some m) first e =
           let listed = (((told_right s position exact.0 t found).best.each m).0 (first_there t.best m first)).0 in
-          rest_of on m (result-position board few s position m listed) (exact.1 m listed) (told_line board name files k (result_of s m)) refl e
-
-      from : ((u : Sides) → IsPosition board u → AreExactWithin board name files k u → told_line board name files k u ≡ Err fault.Disagree → ⊥)
-          → (r : Result Telling Fault) → told_of board name files s ≡ r
-          → followed r (λ t. with_first (slice_get t.best 0) (Ok []) (λ m. followed (told_line board name files k (result_of s m)) (λ rest. Ok ((m, result_of s m) ∷ rest))))
-          ≡ Err fault.Disagree → ⊥
-      from on (Ok t) found e = at_first on t found (slice_get t.best 0) refl e
-      from on (Err refused) found e = let is : refused ≡ fault.Disagree = cc in never_told s position exact.0 (found ∙ ap (λ f. Err f) is)
+          next_of on m (result-position board few s position m listed) (exact.1 m listed) (told_of board name files (result_of s m)) refl e
 
   never_shown : (what : Show) (s : Sides) → IsPosition board s → AreExactIn board name files what s → told_shown board name files what s ≡ Err fault.Disagree → ⊥
   unfolding told_shown
   never_shown what s position right e = from what right (told_of board name files s) refl e
     where
-      lined : ((plies : ℕ) → AreExactWithin board name files plies s) → (u : Telling) → (q : Result (List (Move × Sides)) Fault) → told_line board name files (depth_of u.value) s ≡ q
+      lined : ((plies : ℕ) → AreExactWithin board name files plies s) → (u : Telling) → told_of board name files s ≡ Ok u → (q : Result (List Played) Fault)
+          → told_line board name files (depth_of u.value) s (slice_get u.best 0) ≡ q
           → followed q (λ line. Ok (telling u.value u.best u.outcomes line)) ≡ Err fault.Disagree → ⊥
-      lined exact u (Ok line) played e = cc
-      lined exact u (Err refused) played e = let is : refused ≡ fault.Disagree = cc in never_played (depth_of u.value) s position (exact (depth_of u.value)) (played ∙ ap (λ f. Err f) is)
+      lined exact u found (Ok line) goes e = cc
+      lined exact u found (Err refused) goes e =
+          let is : refused ≡ fault.Disagree = cc in never_played (depth_of u.value) s position (exact (depth_of u.value)) u found (goes ∙ ap (λ f. Err f) is)
 
       from : (kind : Show) → AreExactIn board name files kind s → (r : Result Telling Fault) → told_of board name files s ≡ r
-          → followed r (λ u. followed (shown_line board name files kind u.value s) (λ line. Ok (telling u.value u.best u.outcomes line))) ≡ Err fault.Disagree → ⊥
+          → followed r (λ u. followed (shown_line board name files kind u s) (λ line. Ok (telling u.value u.best u.outcomes line))) ≡ Err fault.Disagree → ⊥
       from show.Best exact (Ok u) found e = cc
       from show.Moves exact (Ok u) found e = cc
-      from show.Line exact (Ok u) found e = lined exact u (told_line board name files (depth_of u.value) s) refl e
+      from show.Line exact (Ok u) found e = lined exact u found (told_line board name files (depth_of u.value) s (slice_get u.best 0)) refl e
       from show.Best exact (Err refused) found e = never_told s position exact (found ∙ e)
       from show.Moves exact (Err refused) found e = never_told s position exact (found ∙ e)
       from show.Line exact (Err refused) found e = never_told s position (near_of 0 s (exact 0)) (found ∙ e)

@@ -1,7 +1,7 @@
 -- How the steps of an answer follow one another.
-use Rattle.std.proofs.Common.{◌≡◌, ℕ, suc, ◌≤◌, true, false, List, [], ◌∷◌, ◌++◌, map, length, Some, None, Result, Ok, Err, refl, sym, ap, ap₂, subst, ◌∙◌, inl, inr, arith, append_assoc, append-nil}
+use Rattle.std.proofs.Common.{◌≡◌, ℕ, suc, ◌≤◌, true, false, List, [], ◌∷◌, ◌++◌, map, length, Option, Some, None, Result, Ok, Err, refl, sym, ap, ap₂, subst, ◌∙◌, inl, inr, arith, append_assoc, append-nil}
 use Rattle.std.specs.List.{Contains}
-use Rattle.std.specs.Prelude.{slice_get}
+use Rattle.std.specs.Prelude.{IfSome, slice_get}
 use Rattle.std.proofs.lemmas.Bool.{cases_Bool}
 use Rattle.morris_board.specs.Boards.{Shape}
 use Rattle.morris_board.specs.Positions.{Sides}
@@ -15,7 +15,7 @@ use Rattle.morris_lookup.specs.Lookups.{depth_of}
 use Rattle.morris_lookup.specs.Outcomes.{turned}
 use Rattle.morris_jobs.specs.declared.fault.Fault.{Fault}
 use Rattle.morris_jobs.specs.declared.fault.Fault.TheVariants as fault
-use Rattle.morris_queries.specs.Telling.{followed, with_first, Agrees, IsRefusal, IsListed, Telling, telling, outcome, best_among, same_value, value_from, told_from, told_value, told_outcome, told_outcomes, told_of, told_line, shown_line, told_shown}
+use Rattle.morris_queries.specs.Telling.{followed, with_first, Agrees, IsRefusal, IsListed, Played, played, Telling, telling, outcome, best_among, same_value, value_from, told_from, told_value, told_outcome, told_outcomes, told_of, told_line, shown_line, told_shown}
 use Rattle.morris_queries.specs.declared.show.Show.{Show}
 use Rattle.morris_queries.specs.declared.show.Show.TheVariants as show
 
@@ -149,7 +149,7 @@ module _ (board : Shape) (name : List ℕ) (files : Files) (s : Sides) where
         ap (λ r. followed r (λ v. followed (told_outcomes board name files s (moves_of board s)) (told_from v))) found
         ∙ ap (λ r. followed r (told_from value)) all
 
-    pub told_found : (best : List Move) (line : List (Move × Sides)) → best ≡ best_among value os → line ≡ [] → same_value value (value_from os) ≡ true
+    pub told_found : (best : List Move) (line : List Played) → best ≡ best_among value os → line ≡ [] → same_value value (value_from os) ≡ true
         → told_of board name files s ≡ Ok (telling value best os line)
     told_found best line is none same = told_both ∙ from_same value os same ∙ ap₂ (λ b l. Ok (telling value b os l)) (sym is) (sym none)
 
@@ -181,62 +181,56 @@ pub first_there : (moves : List Move) (m : Move) → Some m ≡ slice_get moves 
 first_there [] m e = cc
 first_there (x ∷ moves) m e = let same : x ≡ m = cc in subst (Contains (x ∷ moves)) same (Contains-head x moves)
 
--- the first best move is legal
-pub first_legal : (board : Shape) (s : Sides) (t : Telling) (m : Move) → IsListed board s t → Some m ≡ slice_get t.best 0 → Contains (moves_of board s) m
-first_legal board s t m listed e =
-    let there : Contains (best_among t.value t.outcomes) m = subst (λ ms. Contains ms m) listed.best (first_there t.best m e) in
-    subst (λ ms. Contains ms m) listed.legal (best_listed t.value t.outcomes m there)
+-- the first best move, if there is one, is legal
+pub first_legal : (board : Shape) (s : Sides) (t : Telling) → IsListed board s t → IfSome (slice_get t.best 0) (Contains (moves_of board s))
+first_legal board s t listed = from (slice_get t.best 0) refl
+  where
+    from : (o : Option Move) → o ≡ slice_get t.best 0 → IfSome o (Contains (moves_of board s))
+    from None e = tt
+    from (Some m) e =
+        let there : Contains (best_among t.value t.outcomes) m = subst (λ ms. Contains ms m) listed.best (first_there t.best m e) in
+        subst (λ ms. Contains ms m) listed.legal (best_listed t.value t.outcomes m there)
 
 -- ---- the line of play
 
-module _ (board : Shape) (name : List ℕ) (files : Files) (s : Sides) (items : List (Move × Sides)) (n k : ℕ) (all : Result (List (Move × Sides)) Fault)
-    (so_far : all ≡ prepended items (told_line board name files n s)) where
+module _ (board : Shape) (name : List ℕ) (files : Files) (s : Sides) (items : List Played) (n k : ℕ) (first : Option Move) (all : Result (List Played) Fault)
+    (so_far : all ≡ prepended items (told_line board name files n s first)) where
+  -- what follows on the move, and on the position after it
+  abbrev and_on : Move → Sides → Telling → Result (List Played) Fault
+  and_on m next t = followed (told_line board name files k next (slice_get t.best 0)) (λ rest. Ok (played m next t.value ∷ rest))
+
   -- one ply more is to be shown
   module _ (one : n ≡ suc k) where
-    ply_here : all ≡ prepended items (told_line board name files (suc k) s)
-    ply_here = subst (λ i. all ≡ prepended items (told_line board name files i s)) one so_far
+    ply_here : (o : Option Move) → first ≡ o → all ≡ prepended items (told_line board name files (suc k) s o)
+    ply_here o is = so_far ∙ ap (λ i. prepended items (told_line board name files i s first)) one ∙ ap (λ f. prepended items (told_line board name files (suc k) s f)) is
 
-    pub line_refused : (refused : Fault) → IsRefusal refused (told_of board name files s) → IsRefusal refused all
+    pub line_ends : first ≡ None → all ≡ Ok items
     unfolding told_line
-    line_refused refused h =
-        refusal_prepended refused items all (told_line board name files (suc k) s) ply_here
-        (refusal_followed refused (told_of board name files s) (λ t. with_first (slice_get t.best 0) (Ok []) (λ m.
-        followed (told_line board name files k (result_of s m)) (λ rest. Ok ((m, result_of s m) ∷ rest)))) h)
+    line_ends none = ply_here None none ∙ ap (λ xs. Ok xs) (append-nil items)
 
-    told_here : (t : Telling) → told_of board name files s ≡ Ok t
-        → all ≡ prepended items (with_first (slice_get t.best 0) (Ok []) (λ m. followed (told_line board name files k (result_of s m)) (λ rest. Ok ((m, result_of s m) ∷ rest))))
-    unfolding told_line
-    told_here t found =
-        ply_here ∙ ap (λ r. prepended items (followed r (λ u. with_first (slice_get u.best 0) (Ok []) (λ m.
-        followed (told_line board name files k (result_of s m)) (λ rest. Ok ((m, result_of s m) ∷ rest)))))) found
+    module _ (m : Move) (next : Sides) (there : first ≡ Some m) (leads : next ≡ result_of s m) where
+      by_move : all ≡ prepended items (followed (told_of board name files next) (and_on m next))
+      unfolding told_line
+      by_move = ply_here (Some m) there ∙ ap (λ p. prepended items (followed (told_of board name files p) (and_on m p))) (sym leads)
 
-    pub line_ends : (t : Telling) → told_of board name files s ≡ Ok t → None ≡ slice_get t.best 0 → all ≡ Ok items
-    line_ends t found none =
-        told_here t found
-        ∙ ap (λ o. prepended items (with_first o (Ok []) (λ m. followed (told_line board name files k (result_of s m)) (λ rest. Ok ((m, result_of s m) ∷ rest))))) (sym none)
-        ∙ ap (λ xs. Ok xs) (append-nil items)
+      pub line_refused : (refused : Fault) → IsRefusal refused (told_of board name files next) → IsRefusal refused all
+      line_refused refused h =
+          refusal_prepended refused items all (followed (told_of board name files next) (and_on m next)) by_move
+          (refusal_followed refused (told_of board name files next) (and_on m next) h)
 
-    pub line_more : (t : Telling) (m : Move) (next : Sides) (pushed : List (Move × Sides)) → told_of board name files s ≡ Ok t → Some m ≡ slice_get t.best 0
-        → next ≡ result_of s m → pushed ≡ items ++ (m, next) ∷ [] → all ≡ prepended pushed (told_line board name files k next)
-    line_more t m next pushed found first leads added =
-        told_here t found
-        ∙ ap (λ o. prepended items (with_first o (Ok []) (λ x. followed (told_line board name files k (result_of s x)) (λ rest. Ok ((x, result_of s x) ∷ rest))))) (sym first)
-        ∙ ap (λ p. prepended items (followed (told_line board name files k p) (λ rest. Ok ((m, p) ∷ rest)))) (sym leads)
-        ∙ prepended-more items (m, next) (told_line board name files k next)
-        ∙ ap (λ xs. prepended xs (told_line board name files k next)) (sym added)
+      pub line_more : (t : Telling) (pushed : List Played) (best : Option Move) → told_of board name files next ≡ Ok t → best ≡ slice_get t.best 0
+          → pushed ≡ items ++ played m next t.value ∷ [] → all ≡ prepended pushed (told_line board name files k next best)
+      line_more t pushed best found is added =
+          by_move
+          ∙ ap (λ r. prepended items (followed r (and_on m next))) found
+          ∙ prepended-more items (played m next t.value) (told_line board name files k next (slice_get t.best 0))
+          ∙ ap (λ xs. prepended xs (told_line board name files k next (slice_get t.best 0))) (sym added)
+          ∙ ap (λ o. prepended pushed (told_line board name files k next o)) (sym is)
 
   -- all were shown
-  module _ (none : n ≡ 0) where
-    end_here : all ≡ prepended items (told_line board name files 0 s)
-    end_here = subst (λ i. all ≡ prepended items (told_line board name files i s)) none so_far
-
-    pub end_refused : (refused : Fault) → IsRefusal refused (told_of board name files s) → IsRefusal refused all
-    unfolding told_line
-    end_refused refused h = refusal_prepended refused items all (told_line board name files 0 s) end_here (refusal_followed refused (told_of board name files s) (λ t. Ok []) h)
-
-    pub line_all : (t : Telling) → told_of board name files s ≡ Ok t → all ≡ Ok items
-    unfolding told_line
-    line_all t found = end_here ∙ ap (λ r. prepended items (followed r (λ u. Ok []))) found ∙ ap (λ xs. Ok xs) (append-nil items)
+  pub line_all : n ≡ 0 → all ≡ Ok items
+  unfolding told_line
+  line_all none = so_far ∙ ap (λ i. prepended items (told_line board name files i s first)) none ∙ ap (λ xs. Ok xs) (append-nil items)
 
 -- ---- what is shown
 
@@ -255,31 +249,31 @@ module _ (board : Shape) (name : List ℕ) (files : Files) (s : Sides) where
   unfolding told_shown
   shown_refused what refused h =
       refusal_followed refused (told_of board name files s)
-      (λ t. followed (shown_line board name files what t.value s) (λ line. Ok (telling t.value t.best t.outcomes line))) h
+      (λ t. followed (shown_line board name files what t s) (λ line. Ok (telling t.value t.best t.outcomes line))) h
 
-  pub shown_line_refused : (t : Telling) (refused : Fault) → told_of board name files s ≡ Ok t → IsRefusal refused (told_line board name files (depth_of t.value) s)
+  pub shown_line_refused : (t : Telling) (refused : Fault) → told_of board name files s ≡ Ok t → IsRefusal refused (told_line board name files (depth_of t.value) s (slice_get t.best 0))
       → IsRefusal refused (told_shown board name files show.Line s)
   unfolding told_shown
   shown_line_refused t refused found h =
       refusal_after refused (told_of board name files s) t
-      (λ u. followed (told_line board name files (depth_of u.value) s) (λ line. Ok (telling u.value u.best u.outcomes line))) found
-      (refusal_followed refused (told_line board name files (depth_of t.value) s) (λ line. Ok (telling t.value t.best t.outcomes line)) h)
+      (λ u. followed (told_line board name files (depth_of u.value) s (slice_get u.best 0)) (λ line. Ok (telling u.value u.best u.outcomes line))) found
+      (refusal_followed refused (told_line board name files (depth_of t.value) s (slice_get t.best 0)) (λ line. Ok (telling t.value t.best t.outcomes line)) h)
 
-  pub shown_with_line : (t : Telling) (line : List (Move × Sides)) → told_of board name files s ≡ Ok t → told_line board name files (depth_of t.value) s ≡ Ok line
+  pub shown_with_line : (t : Telling) (line : List Played) → told_of board name files s ≡ Ok t → told_line board name files (depth_of t.value) s (slice_get t.best 0) ≡ Ok line
       → told_shown board name files show.Line s ≡ Ok (telling t.value t.best t.outcomes line)
   unfolding told_shown
-  shown_with_line t line found played =
-      ap (λ r. followed r (λ u. followed (told_line board name files (depth_of u.value) s) (λ l. Ok (telling u.value u.best u.outcomes l)))) found
-      ∙ ap (λ r. followed r (λ l. Ok (telling t.value t.best t.outcomes l))) played
+  shown_with_line t line found goes =
+      ap (λ r. followed r (λ u. followed (told_line board name files (depth_of u.value) s (slice_get u.best 0)) (λ l. Ok (telling u.value u.best u.outcomes l)))) found
+      ∙ ap (λ r. followed r (λ l. Ok (telling t.value t.best t.outcomes l))) goes
 
-  none_shown : (what : Show) (value : Value) → (what ≡ show.Line → ⊥) → shown_line board name files what value s ≡ Ok []
-  none_shown show.Best value other = refl
-  none_shown show.Moves value other = refl
-  none_shown show.Line value other = absurd (other refl)
+  none_shown : (what : Show) (t : Telling) → (what ≡ show.Line → ⊥) → shown_line board name files what t s ≡ Ok []
+  none_shown show.Best t other = refl
+  none_shown show.Moves t other = refl
+  none_shown show.Line t other = absurd (other refl)
 
   pub shown_without : (what : Show) (t : Telling) → (what ≡ show.Line → ⊥) → told_of board name files s ≡ Ok t → told_shown board name files what s ≡ Ok t
   unfolding told_shown
   shown_without what t other found =
-      ap (λ r. followed r (λ u. followed (shown_line board name files what u.value s) (λ l. Ok (telling u.value u.best u.outcomes l)))) found
-      ∙ ap (λ r. followed r (λ l. Ok (telling t.value t.best t.outcomes l))) (none_shown what t.value other)
+      ap (λ r. followed r (λ u. followed (shown_line board name files what u s) (λ l. Ok (telling u.value u.best u.outcomes l)))) found
+      ∙ ap (λ r. followed r (λ l. Ok (telling t.value t.best t.outcomes l))) (none_shown what t other)
       ∙ ap (λ l. Ok (telling t.value t.best t.outcomes l)) (sym (told_of-line t found))

@@ -20,7 +20,7 @@ use Rattle.morris_files.specs.Files.{Files}
 use Rattle.morris_files.specs.Names.{name_of}
 use Rattle.morris_queries.specs.declared.show.Show.{Show}
 use Rattle.morris_queries.specs.declared.show.Show.TheVariants as show
-use Rattle.morris_queries.specs.Telling.{Telling}
+use Rattle.morris_queries.specs.Telling.{Played, Telling}
 
 -- what stands under the name of a pair's file is the file of an exact table of the pair
 abbrev pub IsExactBytes : Shape → Counts → List ℕ → Type 0
@@ -58,11 +58,12 @@ abbrev pub LeadsTo : Shape → Sides → Outcome → Type 0
 LeadsTo board s o = (next : Value) × IsValue board (result_of s o.step) next × (o.value ≡ turned next)
 
 -- A line of best play from a position of this value: each move is a best one, the value falls by
--- one ply with each, and the line ends at depth 0.
-abbrev pub IsBestLine : Shape → Sides → Value → List (Move × Sides) → Type 0
+-- one ply with each, the one that is told of the position after it is its own, and the line ends at
+-- depth 0.
+abbrev pub IsBestLine : Shape → Sides → Value → List Played → Type 0
 IsBestLine board s value [] = depth_of value ≡ 0
 IsBestLine board s value (ply ∷ line) =
-    IsBestStep board s ply × ((next : Value) × (after_best value ≡ Some next) × IsValue board ply.1 next × IsBestLine board ply.1 next line)
+    IsBestStep board s (ply.step, ply.after) × (after_best value ≡ Some ply.value) × IsValue board ply.after ply.value × IsBestLine board ply.after ply.value line
 
 abbrev pub HasLine : Shape → Show → Sides → Telling → Type 0
 HasLine board show.Best s t = t.line ≡ []

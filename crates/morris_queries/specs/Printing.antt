@@ -4,7 +4,7 @@ use Rattle.std.specs.List.{flat_map}
 use Rattle.std.specs.Fmt.{decimal}
 use Rattle.hex.specs.Hex.{encode_lower}
 use Rattle.morris_board.specs.Boards.{Shape}
-use Rattle.morris_board.specs.Positions.{Sides, text_of}
+use Rattle.morris_board.specs.Positions.{text_of}
 use Rattle.morris_moves.specs.MoveText.{move_text}
 use Rattle.morris_moves.specs.declared.step.Move.{Move}
 use Rattle.morris_pairs.specs.declared.value.Value.{Value}
@@ -14,7 +14,7 @@ use Rattle.morris_jobs.specs.declared.fault.Fault.{Fault}
 use Rattle.morris_jobs.specs.Faults.{fault_line}
 use Rattle.morris_queries.specs.declared.show.Show.{Show}
 use Rattle.morris_queries.specs.declared.show.Show.TheVariants as show
-use Rattle.morris_queries.specs.Telling.{Telling}
+use Rattle.morris_queries.specs.Telling.{Played, Telling}
 
 -- `draw`, `won in D` or `lost in D`
 abbrev pub value_text : Value → List ℕ
@@ -52,9 +52,9 @@ first_line points text t = shown_text points text ++ (codes " " ++ value_text t.
 unfoldable pub outcome_line : Outcome → List ℕ
 outcome_line o = codes "  " ++ move_text o.step ++ (codes " " ++ value_text o.value) ++ (10 ∷ [])
 
--- two blanks, a move, and the text of the position after it
-unfoldable pub ply_line : Shape → Move × Sides → List ℕ
-ply_line board ply = codes "  " ++ move_text ply.0 ++ (codes " " ++ text_of board ply.1) ++ (10 ∷ [])
+-- two blanks, a move, the text of the position after it, and its value
+unfoldable pub ply_line : Shape → Played → List ℕ
+ply_line board ply = codes "  " ++ move_text ply.step ++ (codes " " ++ text_of board ply.after) ++ (codes " " ++ value_text ply.value) ++ (10 ∷ [])
 
 -- what stands below the first line
 abbrev pub below_text : Shape → Show → Telling → List ℕ

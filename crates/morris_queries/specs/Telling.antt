@@ -96,15 +96,25 @@ value_from outcomes = fold (λ best o. better best o.value) (Lost 0) outcomes
 abbrev pub outcome : Move → Value → Outcome
 outcome m value = record { step = m; value = value }
 
--- what is told of a position: its value, its best moves, what each legal move leads to, and the
--- moves of a line of play, each with the position after it
+-- a ply of a line of play: a move, the position after it, and the value of that position for the
+-- player to move there
+pub record Played : Type 0 where
+  pub step : Move
+  pub after : Sides
+  pub value : Value
+
+abbrev pub played : Move → Sides → Value → Played
+played m s value = record { step = m; after = s; value = value }
+
+-- what is told of a position: its value, its best moves, what each legal move leads to, and a line
+-- of play
 pub record Telling : Type 0 where
   pub value : Value
   pub best : List Move
   pub outcomes : List Outcome
-  pub line : List (Move × Sides)
+  pub line : List Played
 
-abbrev pub telling : Value → List Move → List Outcome → List (Move × Sides) → Telling
+abbrev pub telling : Value → List Move → List Outcome → List Played → Telling
 telling value best outcomes line = record { value = value; best = best; outcomes = outcomes; line = line }
 
 -- What is told of a position that its files agree on: this value, if it is the one that follows from
@@ -155,23 +165,23 @@ module _ (board : Shape) (name : List ℕ) (files : Files) where
   unfoldable pub told_of : Sides → Result Telling Fault
   told_of s = followed (told_value s) (λ value. followed (told_outcomes s (moves_of board s)) (told_from value))
 
-  -- The line of best play over so many plies at most: the first best move, the position after it,
-  -- and what follows from there. It ends where there is no best move. On each position of it the
-  -- files have to agree, on the last one too.
-  unfoldable pub told_line : ℕ → Sides → Result (List (Move × Sides)) Fault
-  told_line zero s = followed (told_of s) (λ t. Ok [])
-  told_line (suc plies) s = followed (told_of s) (λ t. with_first (slice_get t.best 0) (Ok []) (λ m.
-      followed (told_line plies (result_of s m)) (λ rest. Ok ((m, result_of s m) ∷ rest))))
+  -- The line of play from a position by this move, over so many plies at most: the move, the position
+  -- after it with its value, and what follows from there by its first best move. It ends where there
+  -- is no move. On each position of it the files have to agree, on the last one too.
+  unfoldable pub told_line : ℕ → Sides → Option Move → Result (List Played) Fault
+  told_line zero s first = Ok []
+  told_line (suc plies) s first = with_first first (Ok []) (λ m. followed (told_of (result_of s m)) (λ t.
+      followed (told_line plies (result_of s m) (slice_get t.best 0)) (λ rest. Ok (played m (result_of s m) t.value ∷ rest))))
 
-  -- the line that is shown: as many plies as the value says, none at a draw
-  abbrev pub shown_line : Show → Value → Sides → Result (List (Move × Sides)) Fault
-  shown_line show.Best value s = Ok []
-  shown_line show.Moves value s = Ok []
-  shown_line show.Line value s = told_line (depth_of value) s
+  -- the line of best play that is shown: as many plies as the value says, none at a draw
+  abbrev pub shown_line : Show → Telling → Sides → Result (List Played) Fault
+  shown_line show.Best t s = Ok []
+  shown_line show.Moves t s = Ok []
+  shown_line show.Line t s = told_line (depth_of t.value) s (slice_get t.best 0)
 
   unfoldable pub told_shown : Show → Sides → Result Telling Fault
   told_shown show s = followed (told_of s) (λ t.
-      followed (shown_line show t.value s) (λ line. Ok (telling t.value t.best t.outcomes line)))
+      followed (shown_line show t s) (λ line. Ok (telling t.value t.best t.outcomes line)))
 
   -- the answer to a text
   abbrev pub told_to : Show → Result Sides TextFault → Result Telling Fault

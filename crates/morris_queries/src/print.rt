@@ -9,7 +9,7 @@ ghost use Rattle.morris_moves.specs.MoveText.{move_text};
 ghost use Rattle.morris_queries.specs.Printing.{best_text, below_text, first_line, outcome_line, ply_line, shown_byte, shown_text, spaced, told_text, value_text, IsShort};
 
 use crate::show::Show;
-use crate::told::Told;
+use crate::told::{Ply, Told};
 use hex::encode_to_slice;
 use morris_board::board::Geometry;
 use morris_board::position::Position;
@@ -78,18 +78,17 @@ fn put_spaced<W: Word, S: Sink>(out: &mut Buffered<'_, S>, word: &W) -> Result<(
     word.put_word(out)
 }
 
-/// The line of a move, and a word that goes with it.
+/// The beginning of the line of a move: two blanks, the move, and a word that goes with it.
 #[tactic(auto, using(morris_board::proofs::BufferedLaws::passed_laws))]
-fn put_line<W: Word, S: Sink>(out: &mut Buffered<'_, S>, m: Move, word: &W) -> Result<(), Failed>
+fn put_begun<W: Word, S: Sink>(out: &mut Buffered<'_, S>, m: Move, word: &W) -> Result<(), Failed>
     requires failures { S.failures (sink_of out.old) < 2 ^ 64 - 1 }
     requires room { taken_of out.old < 2 ^ 62 }
-    ensures passed { Passes S.contents S.failures out.old out.new (codes "  " ++ move_text m ++ (codes " " ++ W.text word.now) ++ (10 ∷ [])) result }
-    ensures few { OnOk result (taken_of out.new ≤ taken_of out.old + 128) }
+    ensures passed { Passes S.contents S.failures out.old out.new (codes "  " ++ move_text m ++ (codes " " ++ W.text word.now)) result }
+    ensures few { OnOk result (taken_of out.new ≤ taken_of out.old + 127) }
 {
     out.put(b"  ")?;
     put_move(out, m)?;
-    put_spaced(out, word)?;
-    out.put_byte(b'\n')
+    put_spaced(out, word)
 }
 
 /// What is printed in a list.
@@ -143,22 +142,13 @@ impl Listed for Move {
 }
 
 /// In the list of what each legal move leads to.
-#[tactic(auto, unfolding(crate::specs::Printing::outcome_line))]
+#[tactic(auto, using(morris_board::proofs::BufferedLaws::passed_laws), unfolding(crate::specs::Printing::outcome_line))]
 impl Listed for Outcome {
     ghost text = { outcome_line };
 
     fn put_listed<S: Sink>(&self, out: &mut Buffered<'_, S>) -> Result<(), Failed> {
-        put_line(out, self.step, &self.value)
-    }
-}
-
-/// In a line of play.
-#[tactic(auto, unfolding(crate::specs::Printing::ply_line))]
-impl<B: Geometry> Listed for (Move, Position<B>) {
-    ghost text = { ply_line B.shape };
-
-    fn put_listed<S: Sink>(&self, out: &mut Buffered<'_, S>) -> Result<(), Failed> {
-        put_line(out, self.0, &self.1)
+        put_begun(out, self.step, &self.value)?;
+        out.put_byte(b'\n')
     }
 }
 
@@ -172,6 +162,33 @@ fn put_list<T: Listed, S: Sink>(out: &mut Buffered<'_, S>, list: &[T]) -> Result
 {
     for item in list {
         item.put_listed(out)?;
+    }
+    Ok(())
+}
+
+/// A ply of a line of play, as a line.
+#[tactic(auto, using(morris_board::proofs::BufferedLaws::passed_laws), unfolding(crate::specs::Printing::ply_line))]
+fn put_ply<B: Geometry, S: Sink>(out: &mut Buffered<'_, S>, ply: &Ply<B>) -> Result<(), Failed>
+    requires failures { S.failures (sink_of out.old) < 2 ^ 64 - 1 }
+    requires room { taken_of out.old < 2 ^ 62 }
+    ensures passed { Passes S.contents S.failures out.old out.new (ply_line B.shape ply.now) result }
+    ensures few { OnOk result (taken_of out.new ≤ taken_of out.old + 192) }
+{
+    put_begun(out, ply.step, &ply.position)?;
+    put_spaced(out, &ply.value)?;
+    out.put_byte(b'\n')
+}
+
+/// The plies of a line of play, one after the other.
+fn put_plies<B: Geometry, S: Sink>(out: &mut Buffered<'_, S>, line: &[Ply<B>]) -> Result<(), Failed>
+    requires failures { S.failures (sink_of out.old) < 2 ^ 64 - 1 }
+    requires room { taken_of out.old < 2 ^ 21 }
+    requires few { length line.now ≤ 65535 }
+    ensures passed { Passes S.contents S.failures out.old out.new (flat_map (ply_line B.shape) line.now) result }
+    ensures few { OnOk result (taken_of out.new ≤ taken_of out.old + 192 * length line.now) }
+{
+    for ply in line {
+        put_ply(out, ply)?;
     }
     Ok(())
 }
@@ -260,7 +277,7 @@ fn put_below<B: Geometry, S: Sink>(
     match show {
         Show::Best => Ok(()),
         Show::Moves => put_list(out, told.outcomes()),
-        Show::Line => put_list(out, told.line()),
+        Show::Line => put_plies(out, told.line()),
     }
 }
 

@@ -1,6 +1,7 @@
 //! What is told of a position: its value, its best moves, what each legal move leads to, and the
 //! line of best play.
-ghost use Rattle.std.specs.Prelude.{◌≡◌, ◌≤◌, ◌*◌, ◌++◌, ◌∷◌, [], map, length, IfOk, OnOk};
+ghost use Rattle.std.specs.Prelude.{◌≡◌, ◌≤◌, ◌*◌, ◌++◌, ◌∷◌, [], map, length, IfOk, IfSome, OnOk};
+ghost use Rattle.std.specs.List.{Contains};
 ghost use Rattle.morris_lookup.specs.declared.outcomes.Outcome.{Outcome};
 ghost use Rattle.morris_lookup.specs.Lookups.{depth_of};
 ghost use Rattle.morris_moves.specs.Rules.{moves_of};
@@ -21,13 +22,32 @@ use morris_pairs::value::Value;
 use std::alloc::{AllocError, Global};
 use std::marker::Model;
 
+/// A ply of a line of play.
+#[derive(Drop)]
+pub struct Ply<B: Geometry> {
+    /// The move.
+    pub step: Move,
+    /// The position after it.
+    pub position: Position<B>,
+    /// The value of that position, for the player to move there.
+    pub value: Value,
+}
+
+impl<B: Geometry> Model for Ply<B> {
+    ghost use Rattle.morris_queries.specs.Telling.{Played};
+
+    ghost Value = { Played };
+
+    ghost view = { λ ply. record { step = ply.step; after = ply.position; value = ply.value } };
+}
+
 /// What is told of a position.
 #[derive(Drop)]
 pub struct Told<B: Geometry> {
     value: Value,
     best: Vec<Move>,
     outcomes: Vec<Outcome>,
-    line: Vec<(Move, Position<B>)>,
+    line: Vec<Ply<B>>,
 }
 
 impl<B: Geometry> Model for Told<B> {
@@ -60,8 +80,8 @@ impl<B: Geometry> Told<B> {
         self.outcomes.as_slice()
     }
 
-    /// The line of best play, where it is to be shown: each move with the position after it.
-    pub fn line(&self) -> &[(Move, Position<B>)]
+    /// The line of best play, where it is to be shown.
+    pub fn line(&self) -> &[Ply<B>]
         ensures { result.now ≡ self.now.line }
     {
         self.line.as_slice()
@@ -119,9 +139,9 @@ impl<B: Geometry, L: Library> Folder<'_, '_, '_, B, L> {
         })
     }
 
-    /// The line of best play from a position: the first best move at each of at most so many plies,
-    /// each with the position after it. It ends where there is no best move. The position at its end
-    /// is looked at as each of the line is.
+    /// The line of play from a position by this move, over so many plies at most: the first best move
+    /// goes on from each position. It ends where there is no move. Each position of it is looked at,
+    /// the last one too.
     ///
     /// # Errors
     /// Those of [`tell_best`](Folder::tell_best), at the first position of the line for which there
@@ -129,24 +149,31 @@ impl<B: Geometry, L: Library> Folder<'_, '_, '_, B, L> {
     fn play_out(
         &mut self,
         position: &Position<B>,
+        first: Option<Move>,
         plies: u16,
-    ) -> Result<Vec<(Move, Position<B>)>, Fault>
+    ) -> Result<Vec<Ply<B>>, Fault>
+        requires legal { IfSome first (Contains (moves_of B.shape position.now)) }
         ensures stays { Stays B.shape L.files self.old self.new }
         ensures few { IfOk result (λ line. length line.items ≤ plies) }
-        ensures told { Tells B.shape L.files self.old (λ name files. Gives result (λ line. line.items) (told_line B.shape name files plies position.now)) }
+        ensures told { Tells B.shape L.files self.old (λ name files. Gives result (λ line. line.items) (told_line B.shape name files plies position.now first)) }
     {
         let mut line = Vec::new(self.alloc);
         let mut here = *position;
+        let mut next = first;
         for _ in 0..plies {
-            let told = self.tell_best(&here)?;
-            let m = match told.best().first() {
-                None => return Ok(line),
-                Some(m) => *m,
+            let Some(m) = next else {
+                return Ok(line);
             };
             here = play(&here, m);
-            keep(&mut line, (m, here))?;
+            let told = self.tell_best(&here)?;
+            next = told.best().first().copied();
+            let ply = Ply {
+                step: m,
+                position: here,
+                value: told.value(),
+            };
+            keep(&mut line, ply)?;
         }
-        let _ = self.tell_best(&here)?;
         Ok(line)
     }
 
@@ -164,7 +191,8 @@ impl<B: Geometry, L: Library> Folder<'_, '_, '_, B, L> {
         let told = self.tell_best(position)?;
         match show {
             Show::Line => {
-                let line = self.play_out(position, depth_of(told.value))?;
+                let first = told.best().first().copied();
+                let line = self.play_out(position, first, depth_of(told.value))?;
                 Ok(Told {
                     value: told.value,
                     best: told.best,

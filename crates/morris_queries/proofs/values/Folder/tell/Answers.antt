@@ -1,8 +1,11 @@
-use Rattle.std.proofs.Common.{◌≡◌, Ok, Some, inl}
+use Rattle.std.proofs.Common.{◌≡◌, ◌∙◌, Ok, Some, ap, inl, subst, sym}
+use Rattle.std.specs.List.{Contains}
+use Rattle.std.specs.Prelude.{IfSome, slice_get}
 use Rattle.std.proofs.lemmas.Result.{err_from_is_err_and}
+use Rattle.morris_moves.specs.Rules.{moves_of}
 use Rattle.morris_queries.specs.Telling.{Telling, telling, told_of}
 use Rattle.morris_queries.proofs.FolderLaws.{stays_on}
-use Rattle.morris_queries.proofs.TellingLaws.{refusal_from, agrees_from, agreed, shown_refused, shown_line_refused, shown_with_line, shown_without}
+use Rattle.morris_queries.proofs.TellingLaws.{refusal_from, agrees_from, agreed, first_legal, shown_refused, shown_line_refused, shown_with_line, shown_without}
 use Rattle.morris_queries.proofs.values.Folder.tell.Goals as goal
 
 pub returns-in_err-told-clause-told : goal.returns-in_err-told-clause-told
@@ -11,6 +14,16 @@ returns-in_err-told-clause-told g c = λ name files of.
     rw (failed.1, failed.2)
     (agrees_from _ _ (shown_refused g.B.Geometry.shape name files c.args.position.now c.args.show c.in_err-told.field-0.0
     (refusal_from _ _ (c.in_err-told.ensures.told name files of))))
+
+pub play_out-requires : goal.play_out-requires
+play_out-requires g c =
+    let first : c.copied-first.result ≡ slice_get c.in_ok-told.told.best 0 =
+    c.copied-first.ensures ∙ (c.first.ensures.value ∙ ap (λ ms. slice_get ms 0) c.best.ensures) in
+    record {
+      legal =
+          subst (λ o. IfSome o (Contains (moves_of g.B.Geometry.shape c.args.position.now))) (sym first)
+          (first_legal g.B.Geometry.shape c.args.position.now c.in_ok-told.told c.in_ok-told.ensures.listed);
+    }
 
 pub returns-in_err-line-in-Line-clause-stays : goal.returns-in_err-line-in-Line-clause-stays
 returns-in_err-line-in-Line-clause-stays g c =
@@ -21,9 +34,11 @@ returns-in_err-line-in-Line-clause-told g c = λ name files of.
     let failed = err_from_is_err_and c.from_residual-in_err-line-in-Line.result c.from_residual-in_err-line-in-Line.ensures.1 in
     let t : Telling = telling c.told.inside.value c.told.inside.best.items c.told.inside.outcomes.items c.told.inside.line.items in
     let found : told_of g.B.Geometry.shape name files c.args.position.now ≡ Ok t = rw (← c.told.view_is) at (agreed _ _ (c.in_ok-told.ensures.told name files of)) in
+    let first : c.copied-first.result ≡ slice_get t.best 0 =
+    c.copied-first.ensures ∙ (c.first.ensures.value ∙ ap (λ ms. slice_get ms 0) (c.best.ensures ∙ ap (λ (u : Telling). u.best) (sym c.told.view_is))) in
     rw (failed.1, failed.2, c.in-Line.is)
     (agrees_from _ _ (shown_line_refused g.B.Geometry.shape name files c.args.position.now t c.in_err-line-in-Line.field-0.0 found
-    (rw c.depth_of.ensures at (c.in_err-line-in-Line.ensures.told name files (c.in_ok-told.ensures.stays.still name (Some files) of)))))
+    (rw (c.depth_of.ensures, first) at (c.in_err-line-in-Line.ensures.told name files (c.in_ok-told.ensures.stays.still name (Some files) of)))))
 
 pub returns-in_ok-line-in-Line-clause-stays : goal.returns-in_ok-line-in-Line-clause-stays
 returns-in_ok-line-in-Line-clause-stays g c =
@@ -33,9 +48,11 @@ pub returns-in_ok-line-in-Line-clause-told : goal.returns-in_ok-line-in-Line-cla
 returns-in_ok-line-in-Line-clause-told g c = λ name files of.
     let t : Telling = telling c.told.inside.value c.told.inside.best.items c.told.inside.outcomes.items c.told.inside.line.items in
     let found : told_of g.B.Geometry.shape name files c.args.position.now ≡ Ok t = rw (← c.told.view_is) at (agreed _ _ (c.in_ok-told.ensures.told name files of)) in
+    let first : c.copied-first.result ≡ slice_get t.best 0 =
+    c.copied-first.ensures ∙ (c.first.ensures.value ∙ ap (λ ms. slice_get ms 0) (c.best.ensures ∙ ap (λ (u : Telling). u.best) (sym c.told.view_is))) in
     rw c.in-Line.is
     (inl (shown_with_line g.B.Geometry.shape name files c.args.position.now t c.in_ok-line-in-Line.line.items found
-    (rw c.depth_of.ensures at (c.in_ok-line-in-Line.ensures.told name files (c.in_ok-told.ensures.stays.still name (Some files) of)))))
+    (rw (c.depth_of.ensures, first) at (c.in_ok-line-in-Line.ensures.told name files (c.in_ok-told.ensures.stays.still name (Some files) of)))))
 
 pub returns-in_default : goal.returns-in_default
 returns-in_default g c = record {
