@@ -15,7 +15,7 @@ use Rattle.morris_lookup.specs.Lookups.{depth_of}
 use Rattle.morris_lookup.specs.Outcomes.{turned}
 use Rattle.morris_jobs.specs.declared.fault.Fault.{Fault}
 use Rattle.morris_jobs.specs.declared.fault.Fault.TheVariants as fault
-use Rattle.morris_queries.specs.Telling.{followed, with_first, Agrees, IsRefusal, IsListed, Played, played, Telling, telling, outcome, best_among, same_value, value_from, told_from, told_value, told_outcome, told_outcomes, told_of, told_line, shown_line, told_shown}
+use Rattle.morris_queries.specs.Telling.{followed, Agrees, IsRefusal, IsListed, Played, played, Telling, telling, outcome, best_among, same_value, value_from, told_from, told_value, told_outcome, told_outcomes, told_of, told_line, shown_line, told_shown}
 use Rattle.morris_queries.specs.declared.show.Show.{Show}
 use Rattle.morris_queries.specs.declared.show.Show.TheVariants as show
 
