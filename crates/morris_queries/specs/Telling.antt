@@ -165,9 +165,9 @@ module _ (board : Shape) (name : List ℕ) (files : Files) where
   unfoldable pub told_of : Sides → Result Telling Fault
   told_of s = followed (told_value s) (λ value. followed (told_outcomes s (moves_of board s)) (told_from value))
 
-  -- The line of play from a position by this move, over so many plies at most: the move, the position
-  -- after it with its value, and what follows from there by its first best move. It ends where there
-  -- is no move. On each position of it the files have to agree, on the last one too.
+  -- The line of play from a position by this move, over so many plies at most: the move, the
+  -- position after it with its value, and what follows from there by its first best move. It ends
+  -- where there is no move. On each position of it the files have to agree, on the last one too.
   unfoldable pub told_line : ℕ → Sides → Option Move → Result (List Played) Fault
   told_line zero s first = Ok []
   told_line (suc plies) s first = with_first first (Ok []) (λ m. followed (told_of (result_of s m)) (λ t.

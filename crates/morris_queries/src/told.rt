@@ -7,7 +7,7 @@ ghost use Rattle.morris_lookup.specs.Lookups.{depth_of};
 ghost use Rattle.morris_moves.specs.Rules.{moves_of};
 ghost use Rattle.morris_queries.specs.Folders.{Stays, Tells};
 ghost use Rattle.morris_queries.specs.Printing.{IsShort};
-ghost use Rattle.morris_queries.specs.Telling.{Agrees, Gives, IsListed, best_among, better, same_value, value_from, told_of, told_line, told_outcomes, told_shown};
+ghost use Rattle.morris_queries.specs.Telling.{Agrees, Gives, IsListed, best_among, better, played, same_value, value_from, told_of, told_line, told_outcomes, told_shown};
 
 use crate::library::Library;
 use crate::show::Show;
@@ -139,9 +139,9 @@ impl<B: Geometry, L: Library> Folder<'_, '_, '_, B, L> {
         })
     }
 
-    /// The line of play from a position by this move, over so many plies at most: the first best move
-    /// goes on from each position. It ends where there is no move. Each position of it is looked at,
-    /// the last one too.
+    /// The line of play from a position by this move, over so many plies at most: the first best
+    /// move goes on from each position. It ends where there is no move. Each position of it is looked
+    /// at, the last one too.
     ///
     /// # Errors
     /// Those of [`tell_best`](Folder::tell_best), at the first position of the line for which there
@@ -167,12 +167,7 @@ impl<B: Geometry, L: Library> Folder<'_, '_, '_, B, L> {
             here = play(&here, m);
             let told = self.tell_best(&here)?;
             next = told.best().first().copied();
-            let ply = Ply {
-                step: m,
-                position: here,
-                value: told.value(),
-            };
-            keep(&mut line, ply)?;
+            keep(&mut line, ply_to(&here, m, &told))?;
         }
         Ok(line)
     }
@@ -202,6 +197,17 @@ impl<B: Geometry, L: Library> Folder<'_, '_, '_, B, L> {
             }
             _ => Ok(told),
         }
+    }
+}
+
+/// The ply of a move to a position of which this is told.
+fn ply_to<B: Geometry>(position: &Position<B>, m: Move, told: &Told<B>) -> Ply<B>
+    ensures { result ≡ played m position.now told.now.value }
+{
+    Ply {
+        step: m,
+        position: *position,
+        value: told.value(),
     }
 }
 

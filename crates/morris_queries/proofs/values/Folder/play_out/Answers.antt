@@ -3,7 +3,7 @@ use Rattle.std.specs.List.{Contains}
 use Rattle.std.specs.Prelude.{IfSome, slice_get}
 use Rattle.std.proofs.lemmas.Result.{err_from_is_err_and}
 use Rattle.morris_moves.specs.Rules.{moves_of}
-use Rattle.morris_queries.specs.Telling.{told_line, played}
+use Rattle.morris_queries.specs.Telling.{told_line}
 use Rattle.morris_queries.proofs.FolderLaws.{stays_here, stays_on}
 use Rattle.morris_queries.proofs.TellingLaws.{refusal_from, agreed, first_legal, line_refused, line_ends, line_more, line_all, prepended-nil}
 use Rattle.morris_queries.proofs.values.Folder.play_out.Goals as goal
@@ -52,7 +52,7 @@ loop-preserved g c =
     let first : c.copied-next.result ≡ slice_get c.in_ok-told.told.best 0 =
     c.copied-next.ensures ∙ (c.first.ensures.value ∙ ap (λ ms. slice_get ms 0) c.best.ensures) in
     record {
-      few = omega (arith, ap length c.in_ok-keep.ensures, length-append c.loop.line.items (played c.in-Some.m c.play-here.result c.value.result ∷ []), c.loop.invariant.few);
+      few = omega (arith, ap length c.in_ok-keep.ensures, length-append c.loop.line.items (c.ply_to.result ∷ []), c.loop.invariant.few);
       stays = stays_on g.B.Geometry.shape g.L.Library.files c.args.self.now c.loop.self _ c.loop.invariant.stays c.in_ok-told.ensures.stays;
       legal =
           subst (λ o. IfSome o (Contains (moves_of g.B.Geometry.shape c.play-here.result))) (sym first)
@@ -62,7 +62,7 @@ loop-preserved g c =
           (told_line g.B.Geometry.shape name files c.args.plies c.args.position.now c.args.first) (c.loop.invariant.told name files of) (omega arith)
           c.in-Some.m c.play-here.result c.in-Some.is c.play-here.ensures c.in_ok-told.told c.keep.new.list.items c.copied-next.result
           (agreed _ _ (c.in_ok-told.ensures.told name files (c.loop.invariant.stays.still name (Some files) of))) first
-          (c.in_ok-keep.ensures ∙ ap (λ v. c.loop.line.items ++ played c.in-Some.m c.play-here.result v ∷ []) c.value.ensures);
+          (c.in_ok-keep.ensures ∙ ap (λ p. c.loop.line.items ++ p ∷ []) c.ply_to.ensures);
     }
 
 pub returns-clause-stays : goal.returns-clause-stays
