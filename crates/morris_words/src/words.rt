@@ -411,7 +411,7 @@ fn limit_arg<'a>(alloc: Global) -> Arg<'a>
         .long("limit")
         .value_name("N")
         .value_parser(value_parser!(u32).range(1..=4_294_967_295))
-        .help("Show so many positions at most")
+        .help("Show at most N positions")
 }
 
 fn flag_arg<'a>(alloc: Global, name: &'a str, help: &'a str) -> Arg<'a>

@@ -1,4 +1,4 @@
-use Rattle.std.proofs.Common.{◌≡◌, ◌∙◌, ap, true, false, not, sym}
+use Rattle.std.proofs.Common.{◌≡◌, ◌∙◌, ap, true, false, sym}
 use Rattle.std.proofs.lemmas.Result.{err_from_is_err_and}
 use Rattle.morris_queries.specs.InputLines.{is_passed_over, text_in}
 use Rattle.morris_queries.proofs.LineAnswerLaws.{feed_stops, read_feed, read_passed}
