@@ -120,8 +120,6 @@ fn fill(bytes: &mut Vec<u8>, count: usize)
     ensures room { count ≤ vec_capacity bytes.new }
 {
     for _ in 0..count {
-        let Ok(()) = bytes.push(0) else {
-            unreachable!()
-        };
+        bytes.push_reserved(0);
     }
 }

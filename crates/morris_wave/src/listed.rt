@@ -95,25 +95,23 @@ impl<L: NodeList> Listed<L> {
         ensures frame { SameFrame self.old self.new }
         ensures codes { Marks self.old.entries.codes self.new.entries.codes (λ k. (place == k) && ready) (self.old.wave + 1) }
     {
-        if ready {
+        if ready && self.entries.codes.get(place as usize) == 0 {
             self.give(place);
         }
     }
 
-    // The same of an entry that is ready. Few are: this is out of line, so that the test alone goes
-    // into the loops that mark.
+    // Gives an open entry the code of this wave. Few are marked: this is out of line, so that the
+    // tests alone go into the loops that mark.
     #[inline(never)]
     fn give(&mut self, place: u64)
         requires inside { place < length self.old.entries.codes }
+        requires open { slice_index self.old.entries.codes place ≡ 0 }
         ensures frame { SameFrame self.old self.new }
         ensures codes { Marks self.old.entries.codes self.new.entries.codes (λ k. place == k) (self.old.wave + 1) }
     {
         let node = self.first + place;
-        let place = place as usize;
-        if self.entries.codes.get(place) == 0 {
-            self.entries.put(place, self.wave + 1);
-            self.decided.put_last(node);
-        }
+        self.entries.put(place as usize, self.wave + 1);
+        self.decided.put_last(node);
     }
 
     // Begins the next wave.

@@ -102,9 +102,7 @@ impl NodeList for Vec<u64> {
     }
 
     fn put_last(&mut self, node: u64) {
-        let Ok(()) = self.push(node) else {
-            unreachable!()
-        };
+        self.push_reserved(node);
     }
 
     fn forget(&mut self, _count: usize) -> usize {
@@ -163,9 +161,7 @@ impl NodeList for Recent {
     }
 
     fn put_last(&mut self, node: u64) {
-        let Ok(()) = self.nodes.push(node as u32) else {
-            unreachable!()
-        };
+        self.nodes.push_reserved(node as u32);
     }
 
     fn forget(&mut self, count: usize) -> usize {

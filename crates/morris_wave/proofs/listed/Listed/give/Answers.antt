@@ -8,20 +8,18 @@ pub put_last-requires-clause-room : goal.put_last-requires-clause-room
 put_last-requires-clause-room g c =
     let s = c.args.self.now in
     let codes = s.entries.codes in
-    let read : slice_index codes c.args.place ≡ 0 = sym c.get.ensures ∙ c.if-get-eq0.true in
-    omega (arith, s.room, s.counted, s.entries.won_counted, s.entries.lost_counted, room_left codes c.args.place c.requires.inside read)
+    omega (arith, s.room, s.counted, s.entries.won_counted, s.entries.lost_counted, room_left codes c.args.place c.requires.inside c.requires.open)
 
 pub invariant_of-self-clause-ranked : goal.invariant_of-self-clause-ranked
 invariant_of-self-clause-ranked g c =
     let s = c.args.self.now in
     let codes = s.entries.codes in
-    let read : slice_index codes c.args.place ≡ 0 = sym c.get.ensures ∙ c.if-get-eq0.true in
     subst (λ (xs : List ℕ). Ranked g.L.NodeList.keeps s.first s.wave xs (g.L.NodeList.items c.put_last.new.self) s.before s.here) (sym c.put.ensures.codes)
     (subst (λ (xs : List ℕ). Ranked g.L.NodeList.keeps s.first s.wave (set codes c.args.place (s.wave + 1)) xs s.before s.here) (sym c.put_last.ensures.items)
-    (ranked_more s.first s.wave s.before s.here codes (g.L.NodeList.items s.decided) s.ranked c.args.place c.requires.inside read))
+    (ranked_more s.first s.wave s.before s.here codes (g.L.NodeList.items s.decided) s.ranked c.args.place c.requires.inside c.requires.open))
 
-pub returns-then-get-eq0-clause-frame : goal.returns-then-get-eq0-clause-frame
-returns-then-get-eq0-clause-frame g c =
+pub returns-clause-frame : goal.returns-clause-frame
+returns-clause-frame g c =
     let s = c.args.self.now in
     record {
       len = c.put.ensures.len;
