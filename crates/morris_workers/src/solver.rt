@@ -111,7 +111,7 @@ fn solve_as<
 {
     // The proof learns here that there are some blocks and workers.
     let _numbers = (cut.blocks(), shares.blocks());
-    let made = make_blocks::<L, G, R>(rt, alloc, graph, cut, shares)?;
+    let made = make_blocks::<L, G, R, W>(rt, alloc, graph, cut, shares, watch)?;
     let yard = Yard::new(alloc, made)?;
     let site = Site {
         rt,
@@ -180,12 +180,13 @@ pub fn solve<G: Graph + Send + Sync, A: Gate, R: Threads + Wait + Sync>(
 /// [`solve`], with lists of 4 bytes a node where the graph has at most `short` nodes, up to
 /// [`SHORT_NODES`], and of 8 otherwise. On this thread it tells `watch` of each wave once it has
 /// begun, in their order (see [`Watch`]): of waves 1, 2, .. and of no wave where the blocks are
-/// settled before the first one.
+/// settled before the first one. Before the waves it tells that no entry is done, after each block
+/// that this thread made.
 ///
 /// # Errors
 ///
-/// Those of [`solve`]. Where numbers are out of range, or the blocks aren't made, the watch is told
-/// nothing. A wave that was told may still be refused.
+/// Those of [`solve`]. Where numbers are out of range the watch is told nothing, and of no wave where
+/// the blocks aren't made. A wave that was told may still be refused.
 pub fn solve_with<G: Graph + Send + Sync, A: Gate, R: Threads + Wait + Sync, W: Watch>(
     rt: &R,
     alloc: Global,

@@ -18,8 +18,8 @@ close-drawn-requires-clause-seats g c κs =
     let same = written_back c.in_ok-tickets.seats.items c.make_all.new.seats c.in_ok-tickets.seats.len c.in_ok-tickets.seats.ok.0 (c.make_all.ensures.count ∙ ap length c.as_mut_slice.ensures.value) in
     subst (All (IsSeatOf c.in_ok-tickets.tickets)) (sym same) c.make_all.ensures.drawn.of κs
 
-pub returns : goal.returns
-returns g c =
+pub returns-clause-share : goal.returns-clause-share
+returns-clause-share g c =
     let old : List TicketSeat = c.in_ok-tickets.seats.items in
     let new : List TicketSeat = c.make_all.new.seats in
     let seats : List TicketSeat = take c.in_ok-tickets.seats.len (new ++ drop (length new) old) in

@@ -5,8 +5,8 @@ use Rattle.morris_wave.specs.Blocks.{BlockState, IsLastDue}
 use Rattle.morris_workers.proofs.Lateness.{late_block}
 use Rattle.morris_workers.proofs.making.make_drawn.Goals as goal
 
-pub returns-then-last_due-from : goal.returns-then-last_due-from
-returns-then-last_due-from g c =
+pub returns-then-last_due-from-clause-drawn : goal.returns-then-last_due-from-clause-drawn
+returns-then-last_due-from-clause-drawn g c =
     let level = g.G.Graph.level c.args.graph.now in
     let net = g.G.Name.Levels.net level in
     let block : BlockState = c.in_ok-block.block in
@@ -16,12 +16,12 @@ returns-then-last_due-from g c =
     (omega (arith, c.in-Some.ensures.below, c.requires.plan.limit)) last (omega (arith, c.from.ensures)) in
     record { of = c.draw.ensures.seat; numbers = tt; ended = tt; fault = deep }
 
-pub returns-in_err-block : goal.returns-in_err-block
-returns-in_err-block g c =
+pub returns-in_err-block-clause-drawn : goal.returns-in_err-block-clause-drawn
+returns-in_err-block-clause-drawn g c =
     let failed = err_from_is_err_and c.from_residual.result c.from_residual.ensures.1 in
     rw (failed.1, failed.2) (record { of = c.draw.ensures.seat; numbers = tt; ended = tt; fault = tt })
 
-pub returns-in_err-map_err : goal.returns-in_err-map_err
-returns-in_err-map_err g c =
+pub returns-in_err-map_err-clause-drawn : goal.returns-in_err-map_err-clause-drawn
+returns-in_err-map_err-clause-drawn g c =
     let failed = err_from_is_err_and c.from_residual-in_err-map_err.result c.from_residual-in_err-map_err.ensures.1 in
     rw (failed.1, failed.2) (record { of = c.draw.ensures.seat; numbers = tt; ended = tt; fault = tt })
