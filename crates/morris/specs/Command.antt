@@ -54,6 +54,7 @@ abbrev pub shown_of : words.Show → Show
 shown_of asked.Best = show.Best
 shown_of asked.Moves = show.Moves
 shown_of asked.Line = show.Line
+shown_of asked.Csv = show.Csv
 
 -- how `lookup` ends: texts that have no answer are a fault, which says how many they are
 abbrev pub end_of : Result ℕ QueryFault → Result (Unit {0}) Fault

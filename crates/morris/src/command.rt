@@ -451,6 +451,7 @@ fn shown(show: words::Show) -> Show
         words::Show::Best => Show::Best,
         words::Show::Moves => Show::Moves,
         words::Show::Line => Show::Line,
+        words::Show::Csv => Show::Csv,
     }
 }
 

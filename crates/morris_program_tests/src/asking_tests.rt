@@ -69,6 +69,20 @@ XXX.OO.O. won in 3: 2-3
 XXXOOO... draw: 0-6 1-7 2-8
 ";
 
+const FIELDS: &str = "\
+text,move,result,depth
+XXX.OO.O.,0-3,draw,
+XXX.OO.O.,0-6,lost,2
+XXX.OO.O.,0-8,lost,2
+XXX.OO.O.,1-3,lost,2
+XXX.OO.O.,1-6,lost,2
+XXX.OO.O.,1-8,lost,2
+XXX.OO.O.,2-3,won,3
+XXX.OO.O.,2-6,lost,2
+XXX.OO.O.,2-8,lost,2
+XX.X: fault 1: text is not one character per point
+";
+
 /// Whether all answers are right that need no more than 3-3.
 fn is_right<L: Library>(alloc: Global, held: &mut L) -> bool {
     let four = ["XXXOOO...", "XXX.OO.O.", "OO.OXX.X.", "XX..OO.OX"];
@@ -83,9 +97,11 @@ fn is_right<L: Library>(alloc: Global, held: &mut L) -> bool {
         "",
     ];
     let line = ["XXX.OO.O.", "XXXOOO..."];
+    let fields = ["XXX.OO.O.", "XX.OOO...", "XX.X"];
     is_answered(alloc, held, &four, Show::Best, FOUR, 0)
         && is_answered(alloc, held, &mixed, Show::Best, MIXED, 6)
         && is_answered(alloc, held, &line, Show::Line, LINE, 0)
+        && is_answered(alloc, held, &fields, Show::Csv, FIELDS, 1)
 }
 
 /// How many lines a text has, and whether this one is among them.

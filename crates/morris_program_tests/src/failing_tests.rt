@@ -15,17 +15,19 @@ fn a_write_that_fails_is_told(rt: HostRuntime) {
     let small = file_of(&rt, "3-3", Layout::Full);
     let held = [("grid-3-3.nmmt", small.as_slice())];
     let mut held = Held { files: &held };
-    // The second write of the file fails: the first answer has 28 bytes.
-    let mut folder = MemoryFolder::new(rt.alloc(), 0, 2);
-    let mut output = folder.create("out").expect(&rt, "a file");
+    // The second write of the file fails: the first answer has 28 bytes, the names of the fields 23.
     let texts = ["XXXOOO...", "XXX.OO.O."];
-    let answer = answer_texts::<Grid, _, _>(
-        rt.alloc(),
-        "grid",
-        &mut held,
-        &texts,
-        Show::Best,
-        &mut output,
-    );
-    assert!(rt; answer == Err(QueryFault::Write(28)));
+    for (show, sent) in [(Show::Best, 28), (Show::Csv, 23)] {
+        let mut folder = MemoryFolder::new(rt.alloc(), 0, 2);
+        let mut output = folder.create("out").expect(&rt, "a file");
+        let answer = answer_texts::<Grid, _, _>(
+            rt.alloc(),
+            "grid",
+            &mut held,
+            &texts,
+            show,
+            &mut output,
+        );
+        assert!(rt; answer == Err(QueryFault::Write(sent)));
+    }
 }

@@ -1,9 +1,10 @@
 -- What an answer is, and how what went out of one text, and then of the next, makes up what went
 -- out of both.
-use Rattle.std.proofs.Common.{◌≡◌, ℕ, ◌+◌, ◌-◌, ◌^◌, ◌<◌, ◌≤◌, min, List, [], ◌∷◌, ◌++◌, Bor, get_or, take, map, length, Option, Some, Result, Ok, Err, refl, sym, ap, subst, ◌∙◌, inl, inr, arith, length-append, append-nil}
+use Rattle.std.proofs.Common.{◌≡◌, ℕ, ◌+◌, ◌-◌, ◌^◌, ◌<◌, ◌≤◌, min, List, [], ◌∷◌, ◌++◌, Bor, get_or, take, map, length, Option, Some, Result, Ok, Err, refl, sym, ap, subst, ◌∙◌, inl, inr, arith, length-append, append-nil, append_assoc}
 use Rattle.std.specs.Prelude.{IfOk, is_err, if◌then◌else◌}
 use Rattle.std.specs.Io.KnownBytes.{Appends}
-use Rattle.std.proofs.KnownBytes.{Appends-nil, Appends-trans}
+use Rattle.std.specs.List.{flat_map}
+use Rattle.std.proofs.KnownBytes.{Appends-trans}
 use Rattle.std.proofs.Math.Seq.{take-append-add}
 use Rattle.std.proofs.lemmas.List.{take-append-le, take_more, get_or-map, length-map}
 use Rattle.std.proofs.lemmas.Grind.{flat_map-append}
@@ -16,11 +17,12 @@ use Rattle.morris_files.specs.Files.{Files}
 use Rattle.morris_jobs.specs.Faults.{text_fault}
 use Rattle.morris_queries.specs.declared.answer.Answered.{Answered}
 use Rattle.morris_queries.specs.declared.show.Show.{Show}
+use Rattle.morris_queries.specs.declared.show.Show.TheVariants as show
 use Rattle.morris_queries.specs.declared.fault.QueryFault.{QueryFault}
 use Rattle.morris_queries.specs.declared.fault.QueryFault.TheVariants as query
 use Rattle.morris_queries.specs.declared.texts.Tally.{Tally}
-use Rattle.morris_queries.specs.Answers.{Answer, IsAnswer, IsExactAnswer, Given, AreGiven, AreOut, ArePartOut, AnswersText, AnswersTexts, CountsWrites, WentIn, IsTallied, counted_to, printed_of, refused_in}
-use Rattle.morris_queries.specs.Printing.{answer_text}
+use Rattle.morris_queries.specs.Answers.{Answer, IsAnswer, IsExactAnswer, Given, AreGiven, AreOut, ArePartOut, AnswersText, AnswersTexts, Begins, CountsWrites, WentIn, IsTallied, counted_to, printed_of, refused_in}
+use Rattle.morris_queries.specs.Printing.{answer_text, head_text}
 use Rattle.morris_queries.specs.Exactness.{AreExactIn}
 use Rattle.morris_queries.specs.Telling.{Agrees, IsListed, told_to, told_text, told_shown}
 
@@ -83,15 +85,30 @@ part_first old new t u a part low =
 
 -- ---- texts that were answered
 
+-- what stands before all answers is short
+head_short : (kind : Show) → length (head_text kind) ≤ 32
+head_short show.Best = omega arith
+head_short show.Moves = omega arith
+head_short show.Line = omega arith
+head_short show.Csv = omega arith
+
 module _ (board : Shape) (name : List ℕ) (known : Option Files) (show : Show) where
-  pub out_none : (old : Option (List ℕ)) (tally : Tally) → tally.sent ≡ 0 → tally.refused ≡ 0 → AreOut board name known show [] old old tally
-  out_none old tally none nothing = record {
+  none_given : AreGiven board name known show [] []
+  none_given = record { listed = refl; each = λ g c. absurd (omega (arith, c.1)) }
+
+  pub out_begun : (old new : Option (List ℕ)) (tally : Tally) → Begins show old new (Ok tally) → AreOut board name known show [] old new tally
+  out_begun old new tally begun = record {
     given = [];
-    are = record { listed = refl; each = λ g c. absurd (omega (arith, c.1)) };
-    out = Appends-nil old;
-    sent = none;
-    refused = nothing;
+    are = none_given;
+    out = subst (Appends old new) (sym (append-nil (head_text show))) begun.0;
+    sent = omega (arith, begun.1, head_short show, ap length (append-nil (head_text show)));
+    refused = begun.2;
   }
+
+  -- a write of it failed
+  pub begun_failed : (texts : List (List ℕ)) (old new : Option (List ℕ)) (sent : ℕ) → Begins show old new (Err sent)
+      → AnswersTexts board name known show texts old new (Err (query.Write sent))
+  begun_failed texts old new sent begun = (0, [], none_given, subst (λ whole. WentIn old new whole sent) (sym (append-nil (head_text show))) begun)
 
   given_more : (texts : List (List ℕ)) (text : List ℕ) (given : Given) (answer : Answer) → AreGiven board name known show texts given
       → IsAnswer board name known show text answer → AreGiven board name known show (texts ++ text ∷ []) (given ++ (text, answer) ∷ [])
@@ -110,8 +127,10 @@ module _ (board : Shape) (name : List ℕ) (known : Option Files) (show : Show) 
   printed_more : (given : Given) (text : List ℕ) (answer : Answer)
       → printed_of board show (given ++ (text, answer) ∷ []) ≡ printed_of board show given ++ answer_text board show text answer
   printed_more given text answer =
-      flat_map-append (λ (g : List ℕ × Answer). answer_text board show g.0 g.1) given ((text, answer) ∷ [])
-      ∙ ap (λ ys. printed_of board show given ++ ys) (append-nil (answer_text board show text answer))
+      let print : List ℕ × Answer → List ℕ = λ g. answer_text board show g.0 g.1 in
+      ap (λ ys. head_text show ++ ys) (flat_map-append print given ((text, answer) ∷ []))
+      ∙ (sym (append_assoc (head_text show) (flat_map print given) (flat_map print ((text, answer) ∷ [])))
+      ∙ ap (λ ys. printed_of board show given ++ ys) (append-nil (answer_text board show text answer)))
 
   refused_more : (given : Given) (text : List ℕ) (answer : Answer) → refused_in (given ++ (text, answer) ∷ []) ≡ refused_in given + (if is_err answer then 1 else 0)
   refused_more [] text (Ok t) = refl

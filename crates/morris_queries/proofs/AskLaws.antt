@@ -1,15 +1,19 @@
 -- Why the file of a pair isn't opened.
-use Rattle.std.proofs.Common.{◌≡◌, ℕ, List, Option, None, Some, Result, Err, inl, inr, refl}
+use Rattle.std.proofs.Common.{◌≡◌, ℕ, List, Option, None, Some, false, Result, Err, inl, inr, refl}
 use Rattle.std.proofs.KnownBytes.{Keeps-refl}
 use Rattle.morris_board.specs.Boards.{Shape}
 use Rattle.morris_files.specs.Files.{Files}
 use Rattle.morris_index.specs.Pairs.{Counts}
 use Rattle.morris_jobs.specs.declared.fault.Fault.{Fault}
 use Rattle.morris_jobs.specs.declared.fault.Fault.TheVariants as fault
+use Rattle.morris_jobs.specs.Faults.{is_write}
 use Rattle.morris_lookup.specs.Opening.{OpenFile}
 use Rattle.morris_queries.specs.Asked.{AnswersFile, AnswersFrom}
 use Rattle.morris_queries.specs.declared.ask.Question.{Question}
 use Rattle.morris_queries.specs.declared.ask.Question.TheVariants.{Counts as Counting, Positions}
+use Rattle.morris_queries.specs.declared.library.Unfound.{Unfound}
+use Rattle.morris_queries.specs.declared.library.Unfound.TheVariants as unfound
+use Rattle.morris_queries.specs.Refusals.{find_fault, query_fault}
 use Rattle.morris_queries.specs.Telling.{IsRefusal, table_in}
 
 -- that it is refused by the file, or memory was refused
@@ -29,3 +33,8 @@ pub memory_answer : {T : Type 0} (board : Shape) (file : OpenFile) (question : Q
     → AnswersFile board file question output output r
 memory_answer board file (Counting csv) output r is = inl (is, Keeps-refl output)
 memory_answer board file (Positions search) output r is = inl (is, Keeps-refl output)
+
+-- that the place of the files isn't found isn't the fault of a write
+pub unfound_unwritten : (refused : Unfound) → is_write (query_fault (find_fault refused)) ≡ false
+unfound_unwritten unfound.Memory = refl
+unfound_unwritten unfound.Folder = refl

@@ -461,9 +461,11 @@ module _ (board : Shape) (few : board.points ≤ 24) (y : HasSymmetries board) (
           → followed r (λ u. followed (shown_line board name files kind u s) (λ line. Ok (telling u.value u.best u.outcomes line))) ≡ Ok t → IsGame board kind s t
       from show.Best exact (Ok u) found e = let same : telling u.value u.best u.outcomes [] ≡ t = cc in with_line show.Best exact u found [] refl same
       from show.Moves exact (Ok u) found e = let same : telling u.value u.best u.outcomes [] ≡ t = cc in with_line show.Moves exact u found [] refl same
+      from show.Csv exact (Ok u) found e = let same : telling u.value u.best u.outcomes [] ≡ t = cc in with_line show.Csv exact u found [] refl same
       from show.Line exact (Ok u) found e = lined exact u found (told_line board name files (depth_of u.value) s (slice_get u.best 0)) refl e
       from show.Best exact (Err refused) found e = cc
       from show.Moves exact (Err refused) found e = cc
+      from show.Csv exact (Err refused) found e = cc
       from show.Line exact (Err refused) found e = cc
 
   -- ---- the files don't disagree
@@ -536,9 +538,11 @@ module _ (board : Shape) (few : board.points ≤ 24) (y : HasSymmetries board) (
           → followed r (λ u. followed (shown_line board name files kind u s) (λ line. Ok (telling u.value u.best u.outcomes line))) ≡ Err fault.Disagree → ⊥
       from show.Best exact (Ok u) found e = cc
       from show.Moves exact (Ok u) found e = cc
+      from show.Csv exact (Ok u) found e = cc
       from show.Line exact (Ok u) found e = lined exact u found (told_line board name files (depth_of u.value) s (slice_get u.best 0)) refl e
       from show.Best exact (Err refused) found e = never_told s position exact (found ∙ e)
       from show.Moves exact (Err refused) found e = never_told s position exact (found ∙ e)
+      from show.Csv exact (Err refused) found e = never_told s position exact (found ∙ e)
       from show.Line exact (Err refused) found e = never_told s position (near_of 0 s (exact 0)) (found ∙ e)
 
   pub game_told : (what : Show) (s : Sides) → IsPosition board s → AreExactIn board name files what s → (answer : Result Telling Fault) → Agrees answer (told_shown board name files what s) → IsExactAnswer board what s answer

@@ -9,18 +9,21 @@ use Rattle.std.proofs.lemmas.List.{length-take, take-append-le, take-take, take_
 use Rattle.morris_board.specs.Boards.{Shape}
 use Rattle.morris_board.specs.Positions.{read_of}
 use Rattle.morris_board.specs.declared.faults.TextFault.TheVariants as fault
+use Rattle.morris_moves.specs.MoveText.{move_text}
+use Rattle.morris_lookup.specs.declared.outcomes.Outcome.{Outcome}
 use Rattle.morris_files.specs.Files.{Files}
 use Rattle.morris_queries.specs.declared.answer.Answered.{Answered}
 use Rattle.morris_queries.specs.declared.fault.QueryFault.{QueryFault}
 use Rattle.morris_queries.specs.declared.fault.QueryFault.TheVariants as query
 use Rattle.morris_queries.specs.declared.show.Show.{Show}
+use Rattle.morris_queries.specs.declared.show.Show.TheVariants as show
 use Rattle.morris_queries.specs.declared.texts.Tally.{Tally}
 use Rattle.morris_queries.specs.Answers.{Answer, AnswersText, AnswersTexts, AreGiven, AreOut, ArePartOut, GoesOut, IsAnswer, IsTallied, counted_to}
-use Rattle.morris_queries.specs.InputLines.{begun_after, ended_by, is_passed_over, text_in, texts_ended, texts_in, whole_lines}
+use Rattle.morris_queries.specs.InputLines.{begun_after, is_passed_over, text_in, texts_ended, whole_lines}
 use Rattle.morris_queries.specs.LineAnswers.{AnswersFound, AnswersLines, IsReadTo, StopsIn}
-use Rattle.morris_queries.specs.Printing.{answer_text, first_line, shown_byte, shown_text, told_text}
+use Rattle.morris_queries.specs.Printing.{answer_text, csv_line, csv_value, first_line, shown_byte, shown_text, told_text}
 use Rattle.morris_queries.specs.Telling.{Agrees, Telling, told_to, told_text as told_of_text}
-use Rattle.morris_queries.proofs.AnswerLaws.{out_failed, out_none, texts_more}
+use Rattle.morris_queries.proofs.AnswerLaws.{out_failed, texts_more}
 use Rattle.morris_queries.proofs.LineLaws.{begun_after-byte, begun_after-feed, passed_over-start, text_in-start, texts_ended-append, texts_ended-byte, texts_ended-feed, texts_ended-passed}
 
 -- ---- the first 25 bytes of a text tell its answer
@@ -61,8 +64,11 @@ module _ (board : Shape) (few : board.points ≤ 24) (k t : List ℕ) (start : t
   ]
 
   told_same : (show : Show) (told : Telling) → told_text board show k told ≡ told_text board show t told
-  unfolding told_text first_line
-  told_same show told = rw shown_same refl
+  unfolding told_text first_line csv_line
+  told_same show.Best told = rw shown_same refl
+  told_same show.Moves told = rw shown_same refl
+  told_same show.Line told = rw shown_same refl
+  told_same show.Csv told = ap (λ shown. flat_map (λ (o : Outcome). shown ++ codes "," ++ move_text o.step ++ csv_value o.value) told.outcomes) shown_same
 
   answer_same : (show : Show) (answer : Answer) → answer_text board show k answer ≡ answer_text board show t answer
   answer_same show (Ok told) = told_same show told
@@ -96,9 +102,9 @@ module _ (board : Shape) (name : List ℕ) (known : Option Files) (show : Show) 
   abbrev ReadTo : List ℕ → Option (List ℕ) → Option (List ℕ) → List ℕ → Tally → Type 0
   ReadTo read old new line tally = IsReadTo board name known show read old new line tally
 
-  pub read_none : (old : Option (List ℕ)) (line : List ℕ) (tally : Tally) → line ≡ [] → tally.sent ≡ 0 → tally.refused ≡ 0 → ReadTo [] old old line tally
+  pub read_none : (old new : Option (List ℕ)) (line : List ℕ) (tally : Tally) → line ≡ [] → AreOut board name known show [] old new tally → ReadTo [] old new line tally
   unfolding whole_lines begun_after
-  read_none old line tally empty none nothing = record { kept = empty; out = out_none board name known show old tally none nothing }
+  read_none old new line tally empty out = record { kept = empty; out = out }
 
   -- a byte that is no line feed
   pub read_byte : (read : List ℕ) (b : ℕ) (old new : Option (List ℕ)) (line more : List ℕ) (tally : Tally) → b ≢ 10
@@ -177,45 +183,17 @@ module _ (board : Shape) (name : List ℕ) (known : Option Files) (show : Show) 
 
   -- ---- at the end of the input
 
-  pub stops_in : (read : List ℕ) (old new : Option (List ℕ)) (refusal : QueryFault) → StopsIn board name known show (texts_ended read) old new refusal
-      → StopsIn board name known show (texts_in read) old new refusal
-  stops_in read old new refusal h = go (begun_after [] read)
-    where
-      go : (line : List ℕ) → StopsIn board name known show (texts_ended (ended_by line read)) old new refusal
-      go [] = h
-      go (b ∷ line) = stops_later read (10 ∷ []) old new refusal h
-
   -- the answers to all texts went out
   pub all_out : (texts : List (List ℕ)) (old new : Option (List ℕ)) (tally : Tally) → AreOut board name known show texts old new tally
       → AnswersTexts board name known show texts old new (Ok tally.refused)
   all_out texts old new tally h = (h.given, h.are, h.out, h.refused)
-
-  -- a line was begun, or none
-  begun_some : (line : List ℕ) (b : ℕ) (kept : List ℕ) → take 26 line ≡ b ∷ kept → (read : List ℕ) → ended_by line read ≡ read ++ 10 ∷ []
-  begun_some [] b kept is read = cc
-  begun_some (c ∷ line) b kept is read = refl
-
-  begun_none : (line : List ℕ) → take 26 line ≡ [] → (read : List ℕ) → ended_by line read ≡ read
-  begun_none [] is read = refl
-  begun_none (c ∷ line) is read = cc
-
-  pub ends_at : (read : List ℕ) (old new : Option (List ℕ)) (line : List ℕ) (tally : Tally) → line ≡ [] → ReadTo read old new line tally
-      → AnswersTexts board name known show (texts_in read) old new (Ok tally.refused)
-  ends_at read old new line tally empty h =
-      let none = begun_none (begun_after [] read) (sym h.kept ∙ empty) read in
-      subst (λ bytes. AnswersTexts board name known show (texts_ended bytes) old new (Ok tally.refused)) (sym none) (all_out (texts_ended read) old new tally h.out)
-
-  pub texts_in-line : (read : List ℕ) (old mid : Option (List ℕ)) (line : List ℕ) (tally : Tally) → line ≢ [] → ReadTo read old mid line tally
-      → texts_in read ≡ texts_ended (read ++ 10 ∷ [])
-  texts_in-line read old mid [] tally some h = absurd (some refl)
-  texts_in-line read old mid (b ∷ line) tally some h = ap texts_ended (begun_some (begun_after [] read) b line (sym h.kept) read)
 
   -- ---- the answer to the whole input
 
   pub lines_stopped : (before mid after : Option (List ℕ)) (old new : Option (List ℕ)) (read more : List ℕ) (refusal : QueryFault) → Consumes before mid read → Consumes mid after more
       → StopsIn board name known show (texts_ended (read ++ more)) old new refusal → AnswersLines board name known show before after old new (Err refusal)
   lines_stopped before mid after old new read more (query.Write sent) got next stops =
-      (read ++ more, Consumes-trans before mid after read more got next, stops_in (read ++ more) old new (query.Write sent) stops)
+      (read ++ more, Consumes-trans before mid after read more got next, stops_later (read ++ more) (10 ∷ []) old new (query.Write sent) stops)
   lines_stopped before mid after old new read more query.Board got next stops = absurd stops
   lines_stopped before mid after old new read more query.NoFolder got next stops = absurd stops
   lines_stopped before mid after old new read more query.Memory got next stops = absurd stops
@@ -249,7 +227,3 @@ read_more read bytes i low = append_assoc read (take i bytes) (get_or bytes i 0 
 
 pub read_rest : (read bytes : List ℕ) (i : ℕ) → (read ++ take i bytes) ++ drop i bytes ≡ read ++ bytes
 read_rest read bytes i = append_assoc read (take i bytes) (drop i bytes) ∙ ap (λ l. read ++ l) (take-append-drop i bytes)
-
-pub no_bytes : (xs : List ℕ) → length xs ≡ 0 → xs ≡ []
-no_bytes [] none = refl
-no_bytes (x ∷ xs) none = absurd (omega (arith, none))

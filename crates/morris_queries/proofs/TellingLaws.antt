@@ -269,6 +269,7 @@ module _ (board : Shape) (name : List ℕ) (files : Files) (s : Sides) where
   none_shown : (what : Show) (t : Telling) → (what ≡ show.Line → ⊥) → shown_line board name files what t s ≡ Ok []
   none_shown show.Best t other = refl
   none_shown show.Moves t other = refl
+  none_shown show.Csv t other = refl
   none_shown show.Line t other = absurd (other refl)
 
   pub shown_without : (what : Show) (t : Telling) → (what ≡ show.Line → ⊥) → told_of board name files s ≡ Ok t → told_shown board name files what s ≡ Ok t

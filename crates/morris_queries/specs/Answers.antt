@@ -1,5 +1,5 @@
 -- What is answered to texts, and what of the answers went out.
-use Rattle.std.specs.Prelude.{◌≡◌, ◌≢◌, ℕ, ◌+◌, ◌-◌, ◌^◌, ◌<◌, min, Bool, List, [], ◌∷◌, map, take, length, is_err, Option, Some, None, Result, Ok, Err, IfOk, if◌then◌else◌}
+use Rattle.std.specs.Prelude.{◌≡◌, ◌≢◌, ℕ, ◌+◌, ◌-◌, ◌^◌, ◌<◌, min, Bool, List, [], ◌∷◌, ◌++◌, map, take, length, is_err, Option, Some, None, Result, Ok, Err, IfOk, if◌then◌else◌}
 use Rattle.std.specs.List.{flat_map, Contains}
 use Rattle.std.specs.Io.KnownBytes.{Appends, Keeps}
 use Rattle.morris_board.specs.Boards.{Shape}
@@ -16,7 +16,7 @@ use Rattle.morris_queries.specs.declared.fault.QueryFault.TheVariants as query
 use Rattle.morris_queries.specs.declared.show.Show.{Show}
 use Rattle.morris_queries.specs.Telling.{Telling, Agrees, IsListed, told_text}
 use Rattle.morris_queries.specs.Exactness.{AreExactIn, IsGame}
-use Rattle.morris_queries.specs.Printing.{answer_text}
+use Rattle.morris_queries.specs.Printing.{answer_text, head_text}
 
 -- an answer to a text: what is told of its position, or a fault
 abbrev pub Answer : Type 0
@@ -67,9 +67,9 @@ pub record AreGiven (board : Shape) (name : List ℕ) (known : Option Files) (sh
   pub listed : map (λ (g : List ℕ × Answer). g.0) given ≡ texts
   pub each : (g : List ℕ × Answer) → Contains given g → IsAnswer board name known show g.0 g.1
 
--- what is printed of them, one after the other
+-- what is printed of them, one after the other, and before them
 abbrev pub printed_of : Shape → Show → Given → List ℕ
-printed_of board show given = flat_map (λ (g : List ℕ × Answer). answer_text board show g.0 g.1) given
+printed_of board show given = head_text show ++ flat_map (λ (g : List ℕ × Answer). answer_text board show g.0 g.1) given
 
 -- how many of them are faults
 abbrev pub refused_in : Given → ℕ
@@ -83,6 +83,11 @@ pub record AreOut (board : Shape) (name : List ℕ) (known : Option Files) (show
   pub out : Appends old new (printed_of board show given)
   pub sent : tally.sent ≡ counted_to (length (printed_of board show given))
   pub refused : tally.refused ≡ counted_to (refused_in given)
+
+-- what stands before all answers went out, and was counted; or a part of it did
+abbrev pub Begins : Show → Option (List ℕ) → Option (List ℕ) → Result Tally ℕ → Type 0
+Begins show old new (Ok tally) = Appends old new (head_text show) × (tally.sent ≡ length (head_text show)) × (tally.refused ≡ 0)
+Begins show old new (Err sent) = WentIn old new (head_text show) sent
 
 -- the answers to these texts are those that a part went out of
 abbrev pub ArePartOut : Shape → List ℕ → Option Files → Show → List (List ℕ) → Option (List ℕ) → Option (List ℕ) → ℕ → Type 0

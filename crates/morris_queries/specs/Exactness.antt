@@ -51,6 +51,7 @@ AreExactWithin board name files (suc plies) s =
 abbrev pub AreExactIn : Shape → List ℕ → Files → Show → Sides → Type 0
 AreExactIn board name files show.Best s = AreExactNear board name files s
 AreExactIn board name files show.Moves s = AreExactNear board name files s
+AreExactIn board name files show.Csv s = AreExactNear board name files s
 AreExactIn board name files show.Line s = (plies : ℕ) → AreExactWithin board name files plies s
 
 -- a move leads to this value: that of the position after it, turned round
@@ -68,6 +69,7 @@ IsBestLine board s value (ply ∷ line) =
 abbrev pub HasLine : Shape → Show → Sides → Telling → Type 0
 HasLine board show.Best s t = t.line ≡ []
 HasLine board show.Moves s t = t.line ≡ []
+HasLine board show.Csv s t = t.line ≡ []
 HasLine board show.Line s t = IsBestLine board s t.value t.line
 
 -- what is told is the game's

@@ -29,11 +29,7 @@ texts_of lines = filter (λ text. not (is_passed_over text)) (map text_in lines)
 abbrev pub texts_ended : List ℕ → List (List ℕ)
 texts_ended bytes = texts_of (whole_lines [] bytes)
 
--- an input that is at its end: a last line that isn't empty ends there as before a line feed
-abbrev pub ended_by : List ℕ → List ℕ → List ℕ
-ended_by [] bytes = bytes
-ended_by (b ∷ line) bytes = bytes ++ 10 ∷ []
-
--- the texts of all lines of an input, but for those that are passed over
+-- the texts of all lines of an input, of which the last ends there as before a line feed, but for those
+-- that are passed over
 abbrev pub texts_in : List ℕ → List (List ℕ)
-texts_in bytes = texts_ended (ended_by (begun_after [] bytes) bytes)
+texts_in bytes = texts_ended (bytes ++ 10 ∷ [])

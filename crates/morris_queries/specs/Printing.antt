@@ -9,6 +9,7 @@ use Rattle.morris_moves.specs.MoveText.{move_text}
 use Rattle.morris_moves.specs.declared.step.Move.{Move}
 use Rattle.morris_pairs.specs.declared.value.Value.{Value}
 use Rattle.morris_pairs.specs.declared.value.Value.TheVariants.{Draw, Won, Lost}
+use Rattle.morris_probe.specs.Lines.{number_line}
 use Rattle.morris_lookup.specs.declared.outcomes.Outcome.{Outcome}
 use Rattle.morris_jobs.specs.declared.fault.Fault.{Fault}
 use Rattle.morris_jobs.specs.Faults.{fault_line}
@@ -56,15 +57,27 @@ outcome_line o = codes "  " ++ move_text o.step ++ (codes " " ++ value_text o.va
 unfoldable pub ply_line : Shape → Played → List ℕ
 ply_line board ply = codes "  " ++ move_text ply.step ++ (codes " " ++ text_of board ply.after) ++ (codes " " ++ value_text ply.value) ++ (10 ∷ [])
 
--- what stands below the first line
-abbrev pub below_text : Shape → Show → Telling → List ℕ
-below_text board show.Best t = []
-below_text board show.Moves t = flat_map outcome_line t.outcomes
-below_text board show.Line t = flat_map (ply_line board) t.line
+-- the end of a line of fields: the result that a move leads to, and its depth, which a draw hasn't
+abbrev pub csv_value : Value → List ℕ
+csv_value Draw = codes ",draw,\n"
+csv_value (Won depth) = number_line (codes ",won,") depth
+csv_value (Lost depth) = number_line (codes ",lost,") depth
 
--- what is told of a position, below the text that was asked about
+-- a line of fields: the text that was asked about, a move, and the value that it leads to
+unfoldable pub csv_line : ℕ → List ℕ → Outcome → List ℕ
+csv_line points text o = shown_text points text ++ codes "," ++ move_text o.step ++ csv_value o.value
+
+-- what stands before all answers: the names of the fields, where fields are shown
+abbrev pub head_text : Show → List ℕ
+head_text show.Csv = codes "text,move,result,depth\n"
+head_text _ = []
+
+-- what is told of a position, with the text that was asked about
 unfoldable pub told_text : Shape → Show → List ℕ → Telling → List ℕ
-told_text board show text t = first_line board.points text t ++ below_text board show t
+told_text board show.Best text t = first_line board.points text t
+told_text board show.Moves text t = first_line board.points text t ++ flat_map outcome_line t.outcomes
+told_text board show.Line text t = first_line board.points text t ++ flat_map (ply_line board) t.line
+told_text board show.Csv text t = flat_map (csv_line board.points text) t.outcomes
 
 -- the answer to a text: what is told of the position, or the line of the fault after the text
 abbrev pub answer_text : Shape → Show → List ℕ → Result Telling Fault → List ℕ

@@ -177,6 +177,7 @@ module _ (board : Shape) (name : List ℕ) (files : Files) where
   abbrev pub shown_line : Show → Telling → Sides → Result (List Played) Fault
   shown_line show.Best t s = Ok []
   shown_line show.Moves t s = Ok []
+  shown_line show.Csv t s = Ok []
   shown_line show.Line t s = told_line (depth_of t.value) s (slice_get t.best 0)
 
   unfoldable pub told_shown : Show → Sides → Result Telling Fault

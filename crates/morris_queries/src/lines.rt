@@ -2,7 +2,7 @@
 ghost use Rattle.std.specs.Prelude.{◌≡◌, ℕ, ◌-◌, ◌^◌, ◌<◌, ◌∷◌, [], List, Option, Err, take};
 ghost use Rattle.morris_board.specs.Streams.{CountsFailure};
 ghost use Rattle.morris_files.specs.Files.{Files};
-ghost use Rattle.morris_queries.specs.Answers.{AnswersText, CountsWrites};
+ghost use Rattle.morris_queries.specs.Answers.{AnswersText, AreOut, CountsWrites};
 ghost use Rattle.morris_queries.specs.Folders.{IsOf, Stays};
 ghost use Rattle.morris_queries.specs.InputLines.{text_in};
 ghost use Rattle.morris_queries.specs.LineAnswers.{AnswersFound, AnswersLines, CountsReads};
@@ -40,23 +40,25 @@ struct Reading<'n, 'l, 't, 'o, B: Geometry, L: Library, O> {
 
 #[tactic(auto, using(crate::proofs::ReadingLaws::reading_laws))]
 impl<'n, 'l, 't, 'o, B: Geometry, L: Library, O: Sink> Reading<'n, 'l, 't, 'o, B, L, O> {
-    /// Nothing is read yet.
+    /// Nothing is read yet; what stands before all answers went out.
     fn new(
         folder: Folder<'n, 'l, 't, B, L>,
         show: Show,
         output: &'o mut O,
+        tally: Tally,
     ) -> Reading<'n, 'l, 't, 'o, B, L, O>
         ensures lent { result.output.ghost_name ≡ output.entry.ghost_name }
         ensures output { result.output.now ≡ output.old }
         ensures folder { result.folder ≡ folder.entry }
         ensures show { result.show ≡ show }
-        ensures stands { (name : List ℕ) (known : Option Files) → IsOf B.shape L.files name known folder.entry → Stands B.shape L.files O.contents name known (O.contents output.old) [] result }
+        ensures stands { (name : List ℕ) (known : Option Files) (start : Option (List ℕ)) → IsOf B.shape L.files name known folder.entry
+            → AreOut B.shape name known show [] start (O.contents output.old) tally → Stands B.shape L.files O.contents name known start [] result }
     {
         Reading {
             folder,
             show,
             output,
-            tally: Tally::NONE,
+            tally,
             line: ArrayVec::new(),
         }
     }
@@ -114,8 +116,7 @@ impl<'n, 'l, 't, 'o, B: Geometry, L: Library, O: Sink> Reading<'n, 'l, 't, 'o, B
         Ok(())
     }
 
-    /// Ends the reading: a last line that isn't empty is answered too. Answers how many of the
-    /// answers were faults.
+    /// Ends the reading, and with it the last line. Answers how many of the answers were faults.
     ///
     /// # Errors
     /// Those of [`take_byte`](Reading::take_byte).
@@ -125,9 +126,7 @@ impl<'n, 'l, 't, 'o, B: Geometry, L: Library, O: Sink> Reading<'n, 'l, 't, 'o, B
         ensures ended { Ends B.shape L.files O.contents self.old self.new result }
         ensures counted { CountsWrites (O.failures self.old.output.now) (O.failures self.new.output.now) result }
     {
-        if !self.line.is_empty() {
-            self.take_byte(b'\n')?;
-        }
+        self.end_line()?;
         Ok(self.tally.refused)
     }
 
@@ -209,6 +208,11 @@ pub fn answer_lines<B: Geometry, L: Library, I: Source, O: Sink>(
         return Err(QueryFault::Memory);
     };
     let folder = Folder::new(alloc, board, library, &mut tables);
-    let mut reading = Reading::new(folder, show, output);
-    reading.read_all(input)
+    match Tally::begin(show, output) {
+        Ok(tally) => {
+            let mut reading = Reading::new(folder, show, output, tally);
+            reading.read_all(input)
+        }
+        Err(sent) => Err(QueryFault::Write(sent)),
+    }
 }

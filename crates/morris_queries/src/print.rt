@@ -6,7 +6,7 @@ ghost use Rattle.hex.specs.Hex.{encode_lower};
 ghost use Rattle.morris_board.specs.Buffered.{Passes, sink_of, taken_of};
 ghost use Rattle.morris_board.specs.Positions.{text_of};
 ghost use Rattle.morris_moves.specs.MoveText.{move_text};
-ghost use Rattle.morris_queries.specs.Printing.{best_text, below_text, first_line, outcome_line, ply_line, shown_byte, shown_text, spaced, told_text, value_text, IsShort};
+ghost use Rattle.morris_queries.specs.Printing.{best_text, csv_line, csv_value, first_line, outcome_line, ply_line, shown_byte, shown_text, spaced, told_text, value_text, IsShort};
 
 use crate::show::Show;
 use crate::told::{Ply, Told};
@@ -19,7 +19,7 @@ use morris_jobs::print::Printed;
 use morris_lookup::outcomes::Outcome;
 use morris_moves::step::Move;
 use morris_pairs::value::Value;
-use morris_probe::print::{put_count, put_move};
+use morris_probe::print::{put_count, put_move, put_number_line};
 
 /// What is printed as a word.
 trait Word {
@@ -155,7 +155,7 @@ impl Listed for Outcome {
 /// A list, one after the other.
 fn put_list<T: Listed, S: Sink>(out: &mut Buffered<'_, S>, list: &[T]) -> Result<(), Failed>
     requires failures { S.failures (sink_of out.old) < 2 ^ 64 - 1 }
-    requires room { taken_of out.old < 2 ^ 21 }
+    requires room { taken_of out.old < 2 ^ 61 }
     requires few { length list.now ≤ 65535 }
     ensures passed { Passes S.contents S.failures out.old out.new (flat_map T.text list.now) result }
     ensures few { OnOk result (taken_of out.new ≤ taken_of out.old + 128 * length list.now) }
@@ -230,10 +230,10 @@ fn put_best<S: Sink>(out: &mut Buffered<'_, S>, best: &[Move]) -> Result<(), Fai
 #[tactic(auto, using(morris_board::proofs::BufferedLaws::passed_laws))]
 fn put_shown<S: Sink>(out: &mut Buffered<'_, S>, points: u8, text: &[u8]) -> Result<(), Failed>
     requires failures { S.failures (sink_of out.old) < 2 ^ 64 - 1 }
-    requires room { taken_of out.old ≡ 0 }
+    requires room { taken_of out.old < 2 ^ 61 }
     requires points { points ≤ 24 }
     ensures passed { Passes S.contents S.failures out.old out.new (shown_text points text.now) result }
-    ensures few { OnOk result (taken_of out.new < 2 ^ 12) }
+    ensures few { OnOk result (taken_of out.new ≤ taken_of out.old + 2 ^ 12) }
 {
     let points = usize::from(points);
     if text.len() <= points {
@@ -262,23 +262,58 @@ fn put_first_line<B: Geometry, S: Sink>(
     out.put_byte(b'\n')
 }
 
-/// What stands below the first line.
-fn put_below<B: Geometry, S: Sink>(
+/// The end of a line of fields: the result that a move leads to, and its depth, which a draw hasn't.
+fn put_csv_value<S: Sink>(out: &mut Buffered<'_, S>, value: Value) -> Result<(), Failed>
+    requires failures { S.failures (sink_of out.old) < 2 ^ 64 - 1 }
+    requires room { taken_of out.old < 2 ^ 62 }
+    ensures passed { Passes S.contents S.failures out.old out.new (csv_value value) result }
+    ensures few { OnOk result (taken_of out.new ≤ taken_of out.old + 53) }
+{
+    match value {
+        Value::Draw => out.put(b",draw,\n"),
+        Value::Won(depth) => put_number_line(out, ",won,", u64::from(depth)),
+        Value::Lost(depth) => put_number_line(out, ",lost,", u64::from(depth)),
+    }
+}
+
+/// A move and what it leads to, as a line of fields after the text that was asked about.
+#[tactic(auto, using(morris_board::proofs::BufferedLaws::passed_laws), unfolding(crate::specs::Printing::csv_line))]
+fn put_csv_line<S: Sink>(
     out: &mut Buffered<'_, S>,
-    show: Show,
-    told: &Told<B>,
+    points: u8,
+    text: &[u8],
+    outcome: &Outcome,
 ) -> Result<(), Failed>
     requires failures { S.failures (sink_of out.old) < 2 ^ 64 - 1 }
-    requires room { taken_of out.old ≤ 2 ^ 20 }
-    requires short { IsShort told.now }
-    ensures passed { Passes S.contents S.failures out.old out.new (below_text B.shape show told.now) result }
+    requires room { taken_of out.old < 2 ^ 60 }
+    requires points { points ≤ 24 }
+    ensures passed { Passes S.contents S.failures out.old out.new (csv_line points text.now outcome.now) result }
+    ensures few { OnOk result (taken_of out.new ≤ taken_of out.old + 2 ^ 13) }
+{
+    put_shown(out, points, text)?;
+    out.put(b",")?;
+    put_move(out, outcome.step)?;
+    put_csv_value(out, outcome.value)
+}
+
+/// The legal moves and what they lead to, as lines of fields.
+fn put_csv<S: Sink>(
+    out: &mut Buffered<'_, S>,
+    points: u8,
+    text: &[u8],
+    outcomes: &[Outcome],
+) -> Result<(), Failed>
+    requires failures { S.failures (sink_of out.old) < 2 ^ 64 - 1 }
+    requires room { taken_of out.old ≡ 0 }
+    requires points { points ≤ 24 }
+    requires few { length outcomes.now ≤ 65535 }
+    ensures passed { Passes S.contents S.failures out.old out.new (flat_map (csv_line points text.now) outcomes.now) result }
     ensures few { OnOk result (taken_of out.new < 2 ^ 30) }
 {
-    match show {
-        Show::Best => Ok(()),
-        Show::Moves => put_list(out, told.outcomes()),
-        Show::Line => put_plies(out, told.line()),
+    for outcome in outcomes {
+        put_csv_line(out, points, text, outcome)?;
     }
+    Ok(())
 }
 
 /// What is told of a position.
@@ -295,11 +330,21 @@ fn put_told<B: Geometry, S: Sink>(
     ensures passed { Passes S.contents S.failures out.old out.new (told_text B.shape show text.now told.now) result }
     ensures few { OnOk result (taken_of out.new < 2 ^ 30) }
 {
-    put_first_line(out, text, told)?;
-    put_below(out, show, told)
+    match show {
+        Show::Best => put_first_line(out, text, told),
+        Show::Moves => {
+            put_first_line(out, text, told)?;
+            put_list(out, told.outcomes())
+        }
+        Show::Line => {
+            put_first_line(out, text, told)?;
+            put_plies(out, told.line())
+        }
+        Show::Csv => put_csv(out, B::POINTS, text, told.outcomes()),
+    }
 }
 
-/// What is told of a position, after the text that was asked about.
+/// What is told of a position, with the text that was asked about.
 #[derive(Drop)]
 pub(crate) struct ToldOf<'a, B: Geometry> {
     /// The text.

@@ -1,12 +1,15 @@
 //! The answers to a list of texts.
-ghost use Rattle.std.specs.Prelude.{◌≡◌, ◌-◌, ◌^◌, ◌<◌, ℕ, List, Option, map};
+ghost use Rattle.std.specs.Prelude.{◌≡◌, ◌-◌, ◌^◌, ◌<◌, ℕ, List, [], Option, map};
+ghost use Rattle.morris_board.specs.Streams.{CountsFailure};
 ghost use Rattle.morris_files.specs.Files.{Files};
-ghost use Rattle.morris_queries.specs.Answers.{AnswersTexts, CountsWrites, IsTallied};
+ghost use Rattle.morris_queries.specs.Answers.{AnswersTexts, AreOut, Begins, CountsWrites, IsTallied};
 ghost use Rattle.morris_queries.specs.Folders.{IsOf, Stays};
+ghost use Rattle.morris_queries.specs.Printing.{head_text};
 
 use crate::answer::{Answered, answer_text};
 use crate::fault::QueryFault;
 use crate::library::Library;
+use crate::send::send;
 use crate::show::Show;
 use crate::values::{Folder, no_files};
 use morris_board::board::Geometry;
@@ -23,11 +26,18 @@ pub(crate) struct Tally {
 }
 
 impl Tally {
-    /// Nothing yet.
-    pub(crate) const NONE: Tally = Tally {
-        sent: 0,
-        refused: 0,
-    };
+    /// Sends what stands before all answers, and counts it.
+    ///
+    /// # Errors
+    /// How many bytes went out until a write failed.
+    pub(crate) fn begin<O: Sink>(show: Show, output: &mut O) -> Result<Tally, u64>
+        requires failures { O.failures output.old < 2 ^ 64 - 1 }
+        ensures begun { Begins show (O.contents output.old) (O.contents output.new) result }
+        ensures counted { CountsFailure (O.failures output.old) (O.failures output.new) result }
+    {
+        let sent = send(&head_text(show), output)?;
+        Ok(Tally { sent, refused: 0 })
+    }
 
     /// Takes in what came of the next text.
     ///
@@ -45,6 +55,16 @@ impl Tally {
             }
             Err(sent) => Err(QueryFault::Write(self.sent.saturating_add(sent))),
         }
+    }
+}
+
+/// What stands before all answers.
+fn head_text(show: Show) -> &'static str
+    ensures { result.now ≡ head_text show }
+{
+    match show {
+        Show::Csv => "text,move,result,depth\n",
+        _ => "",
     }
 }
 
@@ -73,10 +93,14 @@ pub fn answer_texts<B: Geometry, L: Library, O: Sink>(
         return Err(QueryFault::Memory);
     };
     let mut folder = Folder::new(alloc, board, library, &mut tables);
-    answer_each(&mut folder, texts, show, output)
+    match Tally::begin(show, output) {
+        Ok(tally) => answer_each(&mut folder, texts, show, tally, output),
+        Err(sent) => Err(QueryFault::Write(sent)),
+    }
 }
 
-/// Answers a list of texts, one after the other, and counts those that are answered by a fault.
+/// Answers a list of texts, one after the other, after what was sent before all answers, and counts
+/// those that are answered by a fault.
 ///
 /// # Errors
 /// [`QueryFault::Write`], with the bytes that went out, at the first write that fails.
@@ -85,14 +109,17 @@ fn answer_each<B: Geometry, L: Library, O: Sink>(
     folder: &mut Folder<'_, '_, '_, B, L>,
     texts: &[&str],
     show: Show,
+    begun: Tally,
     output: &mut O,
 ) -> Result<u64, QueryFault>
     requires { O.failures output.old < 2 ^ 64 - 1 }
     ensures stays { Stays B.shape L.files folder.old folder.new }
-    ensures answer { (name : List ℕ) (known : Option Files) → IsOf B.shape L.files name known folder.old → AnswersTexts B.shape name known show (map (λ text. text.now) texts.now) (O.contents output.old) (O.contents output.new) result }
+    ensures answer { (name : List ℕ) (known : Option Files) (start : Option (List ℕ)) → IsOf B.shape L.files name known folder.old
+        → AreOut B.shape name known show [] start (O.contents output.old) begun
+        → AnswersTexts B.shape name known show (map (λ text. text.now) texts.now) start (O.contents output.new) result }
     ensures counted { CountsWrites (O.failures output.old) (O.failures output.new) result }
 {
-    let mut tally = Tally::NONE;
+    let mut tally = begun;
     for text in texts {
         let answered = answer_text(folder, text.as_bytes(), show, output);
         tally.take(answered)?;

@@ -106,7 +106,7 @@ probe_top = record (new_shape (codes "probe")) { rules = required_rule (codes "B
 abbrev lookup_top : Shape
 lookup_top = record (new_shape (codes "lookup")) {
   rules = required_rule (codes "BOARD") ∷ required_option_rule (codes "from") ∷ flag_rule (codes "moves") ∷ flag_rule (codes "line")
-      ∷ several_rule (codes "TEXT") ∷ [];
+      ∷ flag_rule (codes "csv") ∷ several_rule (codes "TEXT") ∷ [];
 }
 
 abbrev find_top : Shape
@@ -335,7 +335,7 @@ lookup = built_leaf (inherited (with_leaf_noted (marked_built whole.top)) lookup
 lookup_plain : Each (IsPlainRule lookup.rules) lookup.rules
 lookup_plain = (
   sets refl refl refl,
-  (sets refl refl refl, (stands refl refl refl, (stands refl refl refl, (appends refl refl refl, (asks refl refl, tt))))),
+  (sets refl refl refl, (stands refl refl refl, (stands refl refl refl, (stands refl refl refl, (appends refl refl refl, (asks refl refl, tt)))))),
 )
 
 lookup_fits : (words : List Text) → level_fault lookup [] nothing_held words false [] ≡ [] → HasLookupValues (rows_after lookup.rules [] words)
@@ -346,16 +346,20 @@ lookup_fits words none =
     let missing : (not (is_given (codes "BOARD") rows) || (not (is_given (codes "from") rows) || false)) ≡ false = arguments_there lookup rows false level.checked in
     let given = both_given _ _ missing in
     let two = with_default (with_default start board) folder in
-    let after_line = positions ∷ help ∷ [] in
+    let after_csv = positions ∷ help ∷ [] in
+    let after_line = flag (codes "csv") ∷ after_csv in
+    let three = with_default two (flag (codes "moves")) in
     let first : HasValue rows board = given_value lookup.rules rows board level.rows given.0 refl in
     let second : HasValue rows folder = given_value lookup.rules rows folder level.rows given.1 refl in
     let moves = flag_says lookup.rules (codes "moves") (flag (codes "line") ∷ after_line) two level.rows refl in
-    let line = flag_says lookup.rules (codes "line") after_line (with_default two (flag (codes "moves"))) level.rows refl in
+    let line = flag_says lookup.rules (codes "line") after_line three level.rows refl in
+    let csv = flag_says lookup.rules (codes "csv") after_csv (with_default three (flag (codes "line"))) level.rows refl in
     record {
       board = ap is_some first.is_first;
       from = ap is_some second.is_first;
       moves = moves;
       line = line;
+      csv = csv;
     }
 
 -- ---- `find`, as it is built

@@ -1,6 +1,6 @@
 -- The command line, as `clap` reads it, and what its words ask for.
 use Rattle.std.specs.Prelude.{◌≡◌, ◌≢◌, ◌≤◌, ◌⊎◌, ◌&&◌, ◌||◌, ⊤, ℕ, Bool, true, false, List, [], ◌∷◌, Option, Some, None}
-use Rattle.std.specs.Prelude.{IsSomeAnd, codes, if◌then◌else◌, is_some, map, option_map, pos, unwrap_or}
+use Rattle.std.specs.Prelude.{IsSomeAnd, codes, if◌then◌else◌, is_some, map, not, option_map, pos, unwrap_or}
 use Rattle.std.specs.Borrow.{Bor}
 use Rattle.std.specs.Option.{option_map_or}
 use Rattle.std.specs.Str.{bytes_eq}
@@ -21,7 +21,7 @@ use Rattle.clap.specs.declared.error.kind.ErrorKind.{ErrorKind}
 use Rattle.clap.specs.declared.error.kind.ErrorKind.TheVariants as kind
 use Rattle.morris_words.specs.declared.words.Request.{Request}
 use Rattle.morris_words.specs.declared.words.Show.{Show}
-use Rattle.morris_words.specs.declared.words.Show.TheVariants.{Best, Moves, Line}
+use Rattle.morris_words.specs.declared.words.Show.TheVariants.{Best, Moves, Line, Csv}
 use Rattle.morris_words.specs.declared.words.Task.{Task}
 use Rattle.morris_words.specs.declared.words.Task.TheVariants.{Look, Stats, Build, Verify, Probe, Lookup, Find}
 use Rattle.morris_words.specs.declared.words.Refusal.{Refusal}
@@ -120,11 +120,11 @@ required_option_rule name = record (option_rule name) { required = true }
 abbrev pub several_rule : Text → Rule
 several_rule name = record (new_rule name) { range = Some (record { start_inclusive = 1; end_inclusive = usize_max }) }
 
--- `lookup BOARD --from FOLDER [--moves] [--line] [TEXT]..`
+-- `lookup BOARD --from FOLDER [--moves] [--line] [--csv] [TEXT]..`
 unfoldable pub lookup_app : App
 lookup_app =
-    with_rule (with_rule (with_rule (with_rule (with_rule (new_app (codes "lookup")) (required_rule (codes "BOARD")))
-    (required_option_rule (codes "from"))) (flag_rule (codes "moves"))) (flag_rule (codes "line"))) (several_rule (codes "TEXT"))
+    with_rule (with_rule (with_rule (with_rule (with_rule (with_rule (new_app (codes "lookup")) (required_rule (codes "BOARD")))
+    (required_option_rule (codes "from"))) (flag_rule (codes "moves"))) (flag_rule (codes "line"))) (flag_rule (codes "csv"))) (several_rule (codes "TEXT"))
 
 -- `--limit N`, N a number of 32 bits from 1 on, which may be left out
 abbrev pub limit_rule : Rule
@@ -183,14 +183,17 @@ finds_values rows =
 abbrev pub stats_clash : List Row → Bool
 stats_clash rows = (is_on (codes "csv") rows && is_on (codes "deepest") rows) || (is_given (codes "from") rows && finds_values rows)
 
--- two arguments of the command exclude each other: those of `stats`, `--all` and `--into` of `build`,
--- `--all` and `--from` of `verify`, `--moves` and `--line` of `lookup`, or `--limit` and `--count` of
--- `find`
+-- two arguments of `lookup` exclude each other, `--moves` and `--line`, or `--csv` has no `--moves`
+abbrev pub lookup_clash : List Row → Bool
+lookup_clash rows = (is_on (codes "moves") rows && is_on (codes "line") rows) || (is_on (codes "csv") rows && not (is_on (codes "moves") rows))
+
+-- arguments of the command don't go together: those of `stats` or of `lookup`, `--all` and `--into` of
+-- `build`, `--all` and `--from` of `verify`, or `--limit` and `--count` of `find`
 abbrev pub has_clash : Text → List Row → Bool
 has_clash name rows =
     (bytes_eq name (codes "build") && (is_on (codes "all") rows && is_given (codes "into") rows))
     || ((bytes_eq name (codes "verify") && (is_on (codes "all") rows && is_given (codes "from") rows))
-    || ((bytes_eq name (codes "lookup") && (is_on (codes "moves") rows && is_on (codes "line") rows))
+    || ((bytes_eq name (codes "lookup") && lookup_clash rows)
     || ((bytes_eq name (codes "stats") && stats_clash rows)
     || (bytes_eq name (codes "find") && (is_on (codes "count") rows && is_given (codes "limit") rows)))))
 
@@ -215,9 +218,10 @@ IsOption name rows text = (first_of name rows ≡ option_map (λ t. t.now) text)
 
 -- what `lookup` shows of a position, as its flags say
 abbrev pub IsShown : List Row → Show → Type 0
-IsShown rows Best = (is_on (codes "moves") rows ≡ false) × (is_on (codes "line") rows ≡ false)
-IsShown rows Moves = (is_on (codes "moves") rows ≡ true) × (is_on (codes "line") rows ≡ false)
-IsShown rows Line = (is_on (codes "moves") rows ≡ false) × (is_on (codes "line") rows ≡ true)
+IsShown rows Best = (is_on (codes "moves") rows ≡ false) × (is_on (codes "line") rows ≡ false) × (is_on (codes "csv") rows ≡ false)
+IsShown rows Moves = (is_on (codes "moves") rows ≡ true) × (is_on (codes "line") rows ≡ false) × (is_on (codes "csv") rows ≡ false)
+IsShown rows Line = (is_on (codes "moves") rows ≡ false) × (is_on (codes "line") rows ≡ true) × (is_on (codes "csv") rows ≡ false)
+IsShown rows Csv = (is_on (codes "moves") rows ≡ true) × (is_on (codes "line") rows ≡ false) × (is_on (codes "csv") rows ≡ true)
 
 -- how many positions `find` shows at most: the number that was given, where one was
 abbrev pub IsLimit : List Row → Option ℕ → Type 0
@@ -357,6 +361,7 @@ pub record HasLookupValues (rows : List Row) : Type 0 where
   pub from : is_some (first_of (codes "from") rows) ≡ true
   pub moves : HasFlag (codes "moves") rows
   pub line : HasFlag (codes "line") rows
+  pub csv : HasFlag (codes "csv") rows
 
 -- a number from 1 on is there of the limit exactly where it was given
 pub record HasLimit (rows : List Row) : Type 0 where

@@ -256,11 +256,18 @@ it needs, and prints a line: the text, the value (`won in 3`, `lost in 2`, in\n\
 plies, or `draw`) and the best moves: those that win soonest, else those that\n\
 keep the draw, else those that lose latest. 8-2x5 is a move from point 8 to\n\
 point 2 that takes the stone on point 5. With --moves a line follows for each\n\
-legal move, with the value that it leads to; with --line one for each move of a\n\
-line of best moves to the game's end, with the position after it and its value.\n\
-Without texts it reads them from standard input, one a line, and skips lines\n\
-that are empty or begin with #. A text that has no answer is followed by its\n\
-fault, and the next one is answered.\n\
+legal move, with the value that it leads to for the player who makes it; with\n\
+--line one for each move of a line of best moves to the game's end, with the\n\
+position after it and its value. Without texts it reads them from standard\n\
+input, one a line, and skips lines that are empty or begin with #. A text that\n\
+has no answer is followed by its fault, and the next one is answered.\n\
+\n\
+With --moves and --csv the lines of the moves alone are printed, with commas\n\
+between their fields, and first a line with the names of these:\n  \
+text,move,result,depth\n  \
+XX..OO.OX,8-2x4,won,1\n\
+The result is for the player who makes the move, as with --moves alone. The\n\
+depth is in plies, and that of a draw is left empty.\n\
 \n\
 It believes the files: it reads them as they are and checks nothing but headers.\n\
 What makes it right to is `morris verify BOARD --from FOLDER`, run once before.\n\

@@ -1,5 +1,5 @@
 //! The words of the command line, and the request that they make.
-ghost use Rattle.std.specs.Prelude.{◌≡◌, List, ℕ, ◌<◌, ◌≤◌, ◌^◌, [], IfErr, IfOk, IfSome, None, OnOk, Some, codes, is_some, map, option_map, true, unwrap_or};
+ghost use Rattle.std.specs.Prelude.{◌≡◌, List, ℕ, ◌<◌, ◌≤◌, ◌^◌, [], IfErr, IfOk, OnOk, Some, codes, is_some, map, option_map, true, unwrap_or};
 ghost use Rattle.clap.specs.Takes.{is_given};
 ghost use Rattle.clap.specs.Values.{bool_text};
 ghost use Rattle.clap.specs.Words.{App, FailsBy, Rule, all_of, app_of, fault_of, first_of, found_of, kind_of, new_app, one_of, rows_of, subcommand_rows_of, with_subcommand};
@@ -116,6 +116,8 @@ pub enum Show {
     Moves,
     /// Its value, and a line of best moves to the game's end.
     Line,
+    /// Each of its moves with the value after it, as fields with commas between them.
+    Csv,
 }
 
 /// Why the words make no request.
@@ -344,6 +346,7 @@ fn lookup_command<'a>(alloc: Global) -> Result<Command<'a>, AllocError>
         required_option_arg(alloc, "from", "FOLDER", TABLES_HELP),
         flag_arg(alloc, "moves", MOVES_HELP),
         flag_arg(alloc, "line", LINE_HELP),
+        flag_arg(alloc, "csv", CSV_HELP),
         several_arg(alloc, "TEXT", POSITIONS_HELP),
     ]?;
     command_of(alloc, "lookup", about, help::LOOKUP, args)
@@ -506,7 +509,7 @@ fn stats_clash(found: &ArgMatches<'_>) -> Option<(&'static str, &'static str)>
 {
     let (csv, deepest) = (flag(found, "csv"), flag(found, "deepest"));
     if csv && deepest {
-        return Some(("--csv", "--deepest"));
+        return Some(("--csv", "with '--deepest'"));
     }
     optional(found, "from")?;
     let (classes, progress) = (flag(found, "classes"), flag(found, "progress"));
@@ -524,7 +527,7 @@ fn stats_clash(found: &ArgMatches<'_>) -> Option<(&'static str, &'static str)>
     } else {
         return None;
     };
-    Some((other, "--from <FOLDER>"))
+    Some((other, "with '--from <FOLDER>'"))
 }
 
 fn build_request<'a>(alloc: Global, found: &ArgMatches<'a>) -> Result<Request<'a>, Refusal>
@@ -534,7 +537,7 @@ fn build_request<'a>(alloc: Global, found: &ArgMatches<'a>) -> Result<Request<'a
 {
     let (all, into) = (flag(found, "all"), optional(found, "into"));
     if all && into.is_some() {
-        return Err(clash(alloc, "--all", "--into <FOLDER>"));
+        return Err(clash(alloc, "--all", "with '--into <FOLDER>'"));
     }
     Ok(Request {
         task: Task::Build {
@@ -557,7 +560,7 @@ fn verify_request<'a>(alloc: Global, found: &ArgMatches<'a>) -> Result<Request<'
 {
     let (all, from) = (flag(found, "all"), optional(found, "from"));
     if all && from.is_some() {
-        return Err(clash(alloc, "--all", "--from <FOLDER>"));
+        return Err(clash(alloc, "--all", "with '--from <FOLDER>'"));
     }
     Ok(Request {
         task: Task::Verify {
@@ -588,8 +591,9 @@ fn lookup_request<'a>(alloc: Global, found: &ArgMatches<'a>) -> Result<Request<'
     ensures request { IfOk result (IsRequestOf (Some (codes "lookup", rows_of (found_of found.now)))) }
     ensures refused { IfErr result (IsAnswerToOneOf (clashes (Some (codes "lookup", rows_of (found_of found.now))))) }
 {
-    let Some(show) = shown(found) else {
-        return Err(clash(alloc, "--moves", "--line"));
+    let show = match shown(found) {
+        Ok(show) => show,
+        Err((one, other)) => return Err(clash(alloc, one, other)),
     };
     let Ok(texts) = all_given(alloc, found, "TEXT") else {
         return Err(Refusal::Memory);
@@ -612,7 +616,7 @@ fn find_request<'a>(alloc: Global, found: &ArgMatches<'a>) -> Result<Request<'a>
 {
     let (limit, count) = (limit_of(found), flag(found, "count"));
     if count && limit.is_some() {
-        return Err(clash(alloc, "--limit <N>", "--count"));
+        return Err(clash(alloc, "--limit <N>", "with '--count'"));
     }
     Ok(Request {
         task: Task::Find {
@@ -628,18 +632,23 @@ fn find_request<'a>(alloc: Global, found: &ArgMatches<'a>) -> Result<Request<'a>
     })
 }
 
-/// What `lookup` is to show; `None` where both flags were given.
-fn shown(found: &ArgMatches<'_>) -> Option<Show>
-    requires moves { HasFlag (codes "moves") (rows_of (found_of found.now)) }
-    requires line { HasFlag (codes "line") (rows_of (found_of found.now)) }
-    ensures show { IfSome result (IsShown (rows_of (found_of found.now))) }
-    ensures clash { result ≡ None → has_clash (codes "lookup") (rows_of (found_of found.now)) ≡ true }
+/// What `lookup` is to show; or one of its flags, and which other doesn't go or is missing with it.
+fn shown(found: &ArgMatches<'_>) -> Result<Show, (&'static str, &'static str)>
+    requires { HasLookupValues (rows_of (found_of found.now)) }
+    ensures show { IfOk result (IsShown (rows_of (found_of found.now))) }
+    ensures clash { IfErr result (λ why. has_clash (codes "lookup") (rows_of (found_of found.now)) ≡ true) }
 {
-    match (flag(found, "moves"), flag(found, "line")) {
-        (false, false) => Some(Show::Best),
-        (true, false) => Some(Show::Moves),
-        (false, true) => Some(Show::Line),
-        (true, true) => None,
+    match (
+        flag(found, "moves"),
+        flag(found, "line"),
+        flag(found, "csv"),
+    ) {
+        (false, false, false) => Ok(Show::Best),
+        (true, false, false) => Ok(Show::Moves),
+        (false, true, false) => Ok(Show::Line),
+        (true, false, true) => Ok(Show::Csv),
+        (true, true, _) => Err(("--moves", "with '--line'")),
+        (false, _, true) => Err(("--csv", "without '--moves'")),
     }
 }
 
@@ -715,13 +724,11 @@ fn flag(found: &ArgMatches<'_>, name: &str) -> bool
     found.get_flag(name)
 }
 
-/// Why two arguments that exclude each other are refused.
+/// Why arguments that don't go together are refused: one of them, and with or without which other.
 fn clash(alloc: Global, one: &str, other: &str) -> Refusal
     ensures { IsAnswerTo ArgumentConflict result }
 {
-    match format!(in alloc;
-        "error: the argument '{one}' cannot be used with '{other}'{MORE_HELP}"
-    ) {
+    match format!(in alloc; "error: the argument '{one}' cannot be used {other}{MORE_HELP}") {
         Ok(text) => Refusal::Wrong(text),
         Err(AllocError) => Refusal::Memory,
     }

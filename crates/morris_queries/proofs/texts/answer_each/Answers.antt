@@ -1,7 +1,7 @@
 use Rattle.std.proofs.Common.{Bor, List, ℕ, arith, map, take, refl, sym, subst}
 use Rattle.std.proofs.lemmas.Result.{err_from_is_err_and}
 use Rattle.morris_queries.specs.Answers.{AreOut}
-use Rattle.morris_queries.proofs.AnswerLaws.{out_none, texts_stopped, texts_more, counts_stopped, counts_on, text_next}
+use Rattle.morris_queries.proofs.AnswerLaws.{texts_stopped, texts_more, counts_stopped, counts_on, text_next}
 use Rattle.std.proofs.lemmas.List.{length-map, take_all}
 use Rattle.morris_queries.proofs.LineAnswerLaws.{all_out}
 use Rattle.morris_queries.proofs.FolderLaws.{stays_here, stays_on}
@@ -11,19 +11,19 @@ pub loop-text-init : goal.loop-text-init
 loop-text-init g c = record {
   stays = stays_here g.B.Geometry.shape g.L.Library.files c.args.folder.now;
   unfailed = refl;
-  out = λ name known of. out_none g.B.Geometry.shape name known c.args.show (g.O.Sink.contents c.args.output.now) _ refl refl;
+  out = λ name known start of begun. begun;
 }
 
 pub returns-in_err-take-clause-stays : goal.returns-in_err-take-clause-stays
 returns-in_err-take-clause-stays g c = stays_on g.B.Geometry.shape g.L.Library.files c.args.folder.now c.loop-text.folder _ c.loop-text.invariant.stays c.answer_text-answered.ensures.stays
 
 pub returns-in_err-take-clause-answer : goal.returns-in_err-take-clause-answer
-returns-in_err-take-clause-answer g c = λ name known of.
+returns-in_err-take-clause-answer g c = λ name known start of begun.
     let failed = err_from_is_err_and c.from_residual.result c.from_residual.ensures.1 in
     rw (failed.1, failed.2)
     (texts_stopped g.B.Geometry.shape name known c.args.show (map (λ (t : Bor (List ℕ)). t.now) c.args.texts.now) c.loop-text.text-index
-    c.as_bytes.result.now (g.O.Sink.contents c.args.output.now) (g.O.Sink.contents c.loop-text.output) (g.O.Sink.contents c.answer_text-answered.new.output)
-    c.loop-text.tally c.take.new.self c.answer_text-answered.result c.in_err-take.field-0.0 (c.loop-text.invariant.out name known of)
+    c.as_bytes.result.now start (g.O.Sink.contents c.loop-text.output) (g.O.Sink.contents c.answer_text-answered.new.output)
+    c.loop-text.tally c.take.new.self c.answer_text-answered.result c.in_err-take.field-0.0 (c.loop-text.invariant.out name known start of begun)
     (c.answer_text-answered.ensures.answer name known (c.loop-text.invariant.stays.still name known of)) c.in_err-take.ensures
     (text_next c.args.texts.now c.loop-text.text-index _ c.as_bytes.result.now c.loop-text-test.true c.as_bytes.ensures.value))
 
@@ -40,20 +40,20 @@ loop-text-preserved g c = record {
   unfailed =
       counts_on (g.O.Sink.failures c.args.output.now) (g.O.Sink.failures c.loop-text.output) (g.O.Sink.failures c.answer_text-answered.new.output)
       c.loop-text.tally c.take.new.self c.answer_text-answered.result c.loop-text.invariant.unfailed c.answer_text-answered.ensures.counted c.in_ok-take.ensures;
-  out = λ name known of.
-      subst (λ ts. AreOut g.B.Geometry.shape name known c.args.show ts (g.O.Sink.contents c.args.output.now)
+  out = λ name known start of begun.
+      subst (λ ts. AreOut g.B.Geometry.shape name known c.args.show ts start
       (g.O.Sink.contents c.answer_text-answered.new.output) c.take.new.self)
       (sym (text_next c.args.texts.now c.loop-text.text-index _ c.as_bytes.result.now c.loop-text-test.true c.as_bytes.ensures.value))
       (texts_more g.B.Geometry.shape name known c.args.show (take c.loop-text.text-index (map (λ (t : Bor (List ℕ)). t.now) c.args.texts.now))
-      c.as_bytes.result.now (g.O.Sink.contents c.args.output.now) (g.O.Sink.contents c.loop-text.output) (g.O.Sink.contents c.answer_text-answered.new.output)
-      c.loop-text.tally c.take.new.self c.answer_text-answered.result (c.loop-text.invariant.out name known of)
+      c.as_bytes.result.now start (g.O.Sink.contents c.loop-text.output) (g.O.Sink.contents c.answer_text-answered.new.output)
+      c.loop-text.tally c.take.new.self c.answer_text-answered.result (c.loop-text.invariant.out name known start of begun)
       (c.answer_text-answered.ensures.answer name known (c.loop-text.invariant.stays.still name known of)) c.in_ok-take.ensures);
 }
 
 pub returns-clause-answer : goal.returns-clause-answer
-returns-clause-answer g c = λ name known of.
+returns-clause-answer g c = λ name known start of begun.
     let texts = map (λ (t : Bor (List ℕ)). t.now) c.args.texts.now in
-    all_out g.B.Geometry.shape name known c.args.show texts (g.O.Sink.contents c.args.output.now) (g.O.Sink.contents c.loop-text.output) c.loop-text.tally
-    (subst (λ ts. AreOut g.B.Geometry.shape name known c.args.show ts (g.O.Sink.contents c.args.output.now) (g.O.Sink.contents c.loop-text.output) c.loop-text.tally)
+    all_out g.B.Geometry.shape name known c.args.show texts start (g.O.Sink.contents c.loop-text.output) c.loop-text.tally
+    (subst (λ ts. AreOut g.B.Geometry.shape name known c.args.show ts start (g.O.Sink.contents c.loop-text.output) c.loop-text.tally)
     (take_all c.loop-text.text-index texts (omega (arith, c.loop-text-test.false, length-map c.args.texts.now (λ (t : Bor (List ℕ)). t.now))))
-    (c.loop-text.invariant.out name known of))
+    (c.loop-text.invariant.out name known start of begun))

@@ -6,6 +6,7 @@ use Rattle.morris_words.proofs.words.lookup_command.Goals as goal
 pub returns : goal.returns
 unfolding lookup_app
 returns c =
-    let rules : List Rule = required_rule (codes "BOARD") ∷ required_option_rule (codes "from") ∷ flag_rule (codes "moves") ∷ flag_rule (codes "line") ∷ several_rule (codes "TEXT") ∷ [] in
+    let rules : List Rule = required_rule (codes "BOARD") ∷ required_option_rule (codes "from") ∷ flag_rule (codes "moves") ∷ flag_rule (codes "line")
+    ∷ flag_rule (codes "csv") ∷ several_rule (codes "TEXT") ∷ [] in
     c.command_of.ensures rules
-    (subst (AreArgs rules) (sym c.in_ok-args.ensures.items) (c.required_arg.ensures, (c.required_option_arg.ensures, (c.flag_arg.ensures, (c.flag_arg-2.ensures, (c.several_arg.ensures, tt))))))
+    (subst (AreArgs rules) (sym c.in_ok-args.ensures.items) (c.required_arg.ensures, (c.required_option_arg.ensures, (c.flag_arg.ensures, (c.flag_arg-2.ensures, (c.flag_arg-3.ensures, (c.several_arg.ensures, tt)))))))

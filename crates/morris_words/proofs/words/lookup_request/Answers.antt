@@ -3,6 +3,5 @@ use Rattle.clap.specs.Words.{found_of, rows_of}
 use Rattle.morris_words.proofs.ReadLaws.{clash_answered}
 use Rattle.morris_words.proofs.words.lookup_request.Goals as goal
 
-pub returns-in_default-clause-refused : goal.returns-in_default-clause-refused
-returns-in_default-clause-refused c =
-    clash_answered (codes "lookup") (rows_of (found_of c.args.found.now)) c.clash.result (c.shown.ensures.clash c.in_default.is) c.clash.ensures
+pub returns-in-Err-clause-refused : goal.returns-in-Err-clause-refused
+returns-in-Err-clause-refused c = clash_answered (codes "lookup") (rows_of (found_of c.args.found.now)) c.clash.result c.in-Err.ensures.clash c.clash.ensures
