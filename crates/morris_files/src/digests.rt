@@ -11,6 +11,8 @@ use crate::table_file::Written;
 use crate::whole::{Contents, NotWhole, Step, write_whole};
 use morris_board::board::Geometry;
 use morris_board::streams::{Failed, Sink, put};
+use morris_wave::Watch;
+use sha2::{Digest, Sha256};
 use std::alloc::{AllocError, Global};
 
 /// The bytes of a list: lines that were kept of an older one, and those after them.
@@ -23,11 +25,19 @@ struct ListBytes<'a> {
 impl Contents for ListBytes<'_> {
     ghost bytes = { λ list. list.kept.now ++ list.lines.now };
 
-    fn write_to<S: Sink>(&self, sink: &mut S) -> Result<(), Failed> {
-        if put(sink, 0, self.kept).is_err() || put(sink, 0, self.lines.as_bytes()).is_err() {
+    fn write_to<S: Sink, W: Watch>(
+        &self,
+        sink: &mut S,
+        _watch: &mut W,
+    ) -> Result<[u8; 32], Failed> {
+        let lines = self.lines.as_bytes();
+        if put(sink, 0, self.kept).is_err() || put(sink, 0, lines).is_err() {
             return Err(Failed);
         }
-        Ok(())
+        let mut hasher = Sha256::new();
+        hasher.update(self.kept);
+        hasher.update(lines);
+        Ok(hasher.finalize())
     }
 }
 

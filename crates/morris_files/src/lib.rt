@@ -2,7 +2,7 @@
 //! name of its own.
 #![tactic(auto)]
 
-pub mod digest;
+mod digest;
 pub mod digests;
 pub mod folder;
 pub mod header;

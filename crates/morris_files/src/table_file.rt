@@ -6,26 +6,22 @@ ghost use Rattle.morris_files.specs.Files.{HasFailed};
 ghost use Rattle.morris_files.specs.Whole.{failed_in};
 ghost use Rattle.morris_files.specs.Kept.{AnswersTableFile};
 
-use crate::digest::digest_of_file;
+use crate::digest::write_digested;
 use crate::folder::Folder;
 use crate::names::file_name;
-use crate::whole::{Contents, NotWhole, Step, write_whole};
+use crate::whole::{Contents, NotWhole, Step, write_whole_watched};
 use morris_board::board::Geometry;
 use morris_board::streams::{Failed, Sink};
 use morris_index::pair::Pair;
 use morris_pairs::exact::Exact;
-use morris_pairs::file_faults::Write;
-use morris_pairs::writing::write_table;
+use morris_wave::{Unwatched, Watch};
 use std::alloc::Global;
 
 impl<B: Geometry> Contents for Exact<B> {
     ghost bytes = { λ table. file_of B.shape table };
 
-    fn write_to<S: Sink>(&self, sink: &mut S) -> Result<(), Failed> {
-        match write_table(sink, self) {
-            Ok(()) => Ok(()),
-            Err(Write(_)) => Err(Failed),
-        }
+    fn write_to<S: Sink, W: Watch>(&self, sink: &mut S, watch: &mut W) -> Result<[u8; 32], Failed> {
+        write_digested(sink, self, watch)
     }
 }
 
@@ -68,6 +64,33 @@ pub fn write_table_file<B: Geometry, F: Folder>(
     ensures bytes { IfOk result (λ written. written.bytes ≡ length (file_of B.shape table.now)) }
     ensures digest { IfOk result (λ written. written.digest ≡ sha256 (file_of B.shape table.now)) }
 {
+    write_file_watched(alloc, folder, board, table, &mut Unwatched)
+}
+
+/// [`write_table_file`], which tells `watch` after each piece that no entry more is done, so that it
+/// hears of the work.
+///
+/// # Errors
+/// Those of [`write_table_file`].
+pub fn write_file_watched<B: Geometry, F: Folder, W: Watch>(
+    alloc: Global,
+    folder: &mut F,
+    board: &str,
+    table: &Exact<B>,
+    watch: &mut W,
+) -> Result<Written<B>, NotWhole>
+    requires { F.failures folder.old < 2 ^ 64 - 2 }
+    ensures answer { AnswersTableFile B.shape board.now table.now (F.files folder.old) (F.files folder.new) result }
+    ensures counted { MatchResult result (λ _. F.failures folder.new ≡ F.failures folder.old) (λ fault. F.failures folder.new ≡ F.failures folder.old + failed_in fault) }
+    ensures unwritten { IfErr result (λ fault. fault.step ≡ Step.Write → HasFailed F.Writer.failures) }
+    ensures held { F.locked folder.new ≡ F.locked folder.old }
+    ensures pair { IfOk result (λ written. written.pair ≡ table.now.pair) }
+    ensures entries { IfOk result (λ written. written.entries ≡ length table.now.codes) }
+    ensures bytes { IfOk result (λ written. written.bytes ≡ length (file_of B.shape table.now)) }
+    ensures digest { IfOk result (λ written. written.digest ≡ sha256 (file_of B.shape table.now)) }
+    // The watch is as it may be after it was told, whatever the answer.
+    ensures watched { W.becomes watch.old watch.new }
+{
     let pair = table.pair();
     let entries = table.len();
     let Ok(name) = file_name(alloc, board, pair) else {
@@ -76,11 +99,11 @@ pub fn write_table_file<B: Geometry, F: Folder>(
             left: false,
         });
     };
-    write_whole(alloc, folder, name.as_str(), table)?;
+    let digest = write_whole_watched(alloc, folder, name.as_str(), table, watch)?;
     Ok(Written {
         pair,
         entries,
         bytes: 16 + 2 * entries + 32,
-        digest: digest_of_file(table),
+        digest,
     })
 }

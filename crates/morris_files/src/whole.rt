@@ -1,12 +1,14 @@
 //! Files that are written whole or not at all.
 ghost use Rattle.std.specs.Prelude.{◌≡◌, ℕ, ◌+◌, ◌-◌, ◌^◌, ◌<◌, List, IfErr, IfOk, MatchResult, OnOk, string_bytes, Err};
 ghost use Rattle.std.specs.Io.KnownBytes.{Appends};
+ghost use Rattle.sha2.specs.Sha256.{sha256};
 ghost use Rattle.morris_board.specs.Streams.{CountsFailure};
 ghost use Rattle.morris_files.specs.Files.{Goes, HasFailed};
 ghost use Rattle.morris_files.specs.Whole.{AnswersPart, AnswersWhole, AreGivenUp, IsMade, part_of, may_leave, failed_at, failed_in};
 
 use crate::folder::Folder;
 use morris_board::streams::{Failed, Sink};
+use morris_wave::{Unwatched, Watch};
 use std::alloc::{AllocError, Global};
 use thiserror::Error;
 
@@ -15,16 +17,19 @@ pub trait Contents {
     /// The bytes.
     ghost bytes: { Self → List ℕ };
 
-    /// Writes all the bytes to the sink.
+    /// Writes all the bytes to the sink, and answers their SHA-256. Where there are many the watch
+    /// is told now and then that no entry more is done, so that it hears of the work.
     ///
     /// Fewer than `u64::MAX` calls of the sink may have failed before.
     ///
     /// # Errors
     /// [`Failed`] at the first write that failed. No write is tried again.
-    fn write_to<S: Sink>(&self, sink: &mut S) -> Result<(), Failed>
+    fn write_to<S: Sink, W: Watch>(&self, sink: &mut S, watch: &mut W) -> Result<[u8; 32], Failed>
         requires { S.failures sink.old < 2 ^ 64 - 1 }
         ensures whole { OnOk result (Appends (S.contents sink.old) (S.contents sink.new) (bytes self.now)) }
-        ensures counted { CountsFailure (S.failures sink.old) (S.failures sink.new) result };
+        ensures digest { IfOk result (λ digest. digest ≡ sha256 (bytes self.now)) }
+        ensures counted { CountsFailure (S.failures sink.old) (S.failures sink.new) result }
+        ensures watched { W.becomes watch.old watch.new };
 }
 
 /// What was to be done where a file wasn't written whole.
@@ -96,38 +101,68 @@ pub fn write_whole<F: Folder, C: Contents>(
     ensures unwritten { IfErr result (λ fault. fault.step ≡ Step.Write → HasFailed F.Writer.failures) }
     ensures held { F.locked folder.new ≡ F.locked folder.old }
 {
+    match write_whole_watched(alloc, folder, name, contents, &mut Unwatched) {
+        Ok(_) => Ok(()),
+        Err(fault) => Err(fault),
+    }
+}
+
+/// [`write_whole`], which answers the SHA-256 of the bytes, and tells `watch` now and then that no
+/// entry more is done, so that it hears of the work (see [`Contents`]).
+///
+/// # Errors
+/// Those of [`write_whole`].
+pub fn write_whole_watched<F: Folder, C: Contents, W: Watch>(
+    alloc: Global,
+    folder: &mut F,
+    name: &str,
+    contents: &C,
+    watch: &mut W,
+) -> Result<[u8; 32], NotWhole>
+    requires { F.failures folder.old < 2 ^ 64 - 2 }
+    ensures answer { AnswersWhole name.now (C.bytes contents.now) (F.files folder.old) (F.files folder.new) result }
+    ensures counted { MatchResult result (λ _. F.failures folder.new ≡ F.failures folder.old) (λ fault. F.failures folder.new ≡ F.failures folder.old + failed_in fault) }
+    ensures unwritten { IfErr result (λ fault. fault.step ≡ Step.Write → HasFailed F.Writer.failures) }
+    ensures held { F.locked folder.new ≡ F.locked folder.old }
+    ensures digest { IfOk result (λ digest. digest ≡ sha256 (C.bytes contents.now)) }
+    ensures watched { W.becomes watch.old watch.new }
+{
     let Ok(part) = part_name(alloc, name) else {
         return Err(NotWhole {
             step: Step::Memory,
             left: false,
         });
     };
-    write_by_part(folder, part.as_str(), name, contents)
+    write_by_part(folder, part.as_str(), name, contents, watch)
 }
 
 /// Writes a file under the name of its part, and gives it its own.
-fn write_by_part<F: Folder, C: Contents>(
+fn write_by_part<F: Folder, C: Contents, W: Watch>(
     folder: &mut F,
     part: &str,
     name: &str,
     contents: &C,
-) -> Result<(), NotWhole>
+    watch: &mut W,
+) -> Result<[u8; 32], NotWhole>
     requires failures { F.failures folder.old < 2 ^ 64 - 2 }
     requires part { part.now ≡ part_of name.now }
     ensures answer { AnswersWhole name.now (C.bytes contents.now) (F.files folder.old) (F.files folder.new) result }
     ensures counted { MatchResult result (λ _. F.failures folder.new ≡ F.failures folder.old) (λ fault. F.failures folder.new ≡ F.failures folder.old + failed_in fault) }
     ensures unwritten { IfErr result (λ fault. fault.step ≡ Step.Write → HasFailed F.Writer.failures) }
     ensures held { F.locked folder.new ≡ F.locked folder.old }
+    ensures digest { IfOk result (λ digest. digest ≡ sha256 (C.bytes contents.now)) }
+    ensures watched { W.becomes watch.old watch.new }
 {
-    if let Err(step) = write_part(folder, part, contents) {
-        return Err(give_up(folder, part, step));
-    }
+    let digest = match write_part(folder, part, contents, watch) {
+        Ok(digest) => digest,
+        Err(step) => return Err(give_up(folder, part, step)),
+    };
     match folder.rename(part, name) {
         Ok(()) => {}
         Err(Failed) => return Err(give_up(folder, part, Step::Rename)),
     }
     match folder.settle() {
-        Ok(()) => Ok(()),
+        Ok(()) => Ok(digest),
         Err(Failed) => Err(NotWhole {
             step: Step::Settle,
             left: false,
@@ -144,26 +179,33 @@ fn part_name(alloc: Global, name: &str) -> Result<String, AllocError>
 }
 
 /// Writes a file under the name of a part.
-fn write_part<F: Folder, C: Contents>(folder: &mut F, part: &str, contents: &C) -> Result<(), Step>
+fn write_part<F: Folder, C: Contents, W: Watch>(
+    folder: &mut F,
+    part: &str,
+    contents: &C,
+    watch: &mut W,
+) -> Result<[u8; 32], Step>
     requires { F.failures folder.old < 2 ^ 64 - 1 }
     ensures answer { AnswersPart part.now (C.bytes contents.now) (F.files folder.old) (F.files folder.new) result }
     ensures counted { MatchResult result (λ _. F.failures folder.new ≡ F.failures folder.old) (λ step. F.failures folder.new ≡ F.failures folder.old + failed_at step) }
     ensures unwritten { result ≡ Err Step.Write → HasFailed F.Writer.failures }
     ensures held { F.locked folder.new ≡ F.locked folder.old }
+    ensures digest { IfOk result (λ digest. digest ≡ sha256 (C.bytes contents.now)) }
+    ensures watched { W.becomes watch.old watch.new }
 {
     let mut writer = match make_part(folder, part) {
         Ok(writer) => writer,
         Err(Failed) => return Err(Step::Create),
     };
-    match contents.write_to(&mut writer) {
-        Ok(()) => {}
+    let digest = match contents.write_to(&mut writer, watch) {
+        Ok(digest) => digest,
         Err(Failed) => {
             folder.abandon(writer);
             return Err(Step::Write);
         }
-    }
+    };
     match folder.sync(part, writer) {
-        Ok(()) => Ok(()),
+        Ok(()) => Ok(digest),
         Err(Failed) => Err(Step::Sync),
     }
 }

@@ -15,7 +15,7 @@ use morris_board::board::{Board, Geometry};
 use morris_board::streams::Sink;
 use morris_files::digests::write_list;
 use morris_files::folder::Folder;
-use morris_files::table_file::{Written, write_table_file};
+use morris_files::table_file::{Written, write_file_watched};
 use morris_index::below::PAIR_COUNT;
 use morris_index::pair::Pair;
 use morris_jobs::fault::Fault;
@@ -28,6 +28,7 @@ use morris_jobs::team::{Crew, Team};
 use morris_jobs::teller::Teller;
 use morris_pairs::layout::Layout;
 use morris_pairs::table_set::TableSet;
+use morris_workers::Watch;
 use std::alloc::Global;
 use std::sync::Wait;
 use std::thread::Threads;
@@ -222,7 +223,7 @@ fn fill<B: Board, R: Threads + Wait + Sync, F: Folder, O: Sink, T: Teller>(
     for below in pair.below() {
         spare(&mut stock, false, below);
         build_onto(crew, &mut stock, layout, below, teller)?;
-        let file = keep_table(alloc, board, &stock, below, folder)?;
+        let file = keep_table(alloc, board, &stock, below, folder, teller)?;
         sent = print_after(&Filed { file: &file }, sent, output)?;
         written.push_reserved(file);
     }
@@ -230,12 +231,13 @@ fn fill<B: Board, R: Threads + Wait + Sync, F: Folder, O: Sink, T: Teller>(
 }
 
 /// Writes the file of the table that a stock has of a pair into a folder.
-fn keep_table<B: Geometry, F: Folder>(
+fn keep_table<B: Geometry, F: Folder, W: Watch>(
     alloc: Global,
     board: &str,
     stock: &TableSet<B>,
     pair: Pair<B>,
     folder: &mut F,
+    watch: &mut W,
 ) -> Result<Written<B>, Fault>
     requires failures { F.failures folder.old < 2 ^ 64 - 2 }
     requires locked { F.locked folder.old ≡ true }
@@ -245,6 +247,7 @@ fn keep_table<B: Geometry, F: Folder>(
     ensures locked { F.locked folder.new ≡ true }
     ensures caused { HasCause F.Reader.failures F.Writer.failures (Some false) ⊥ (F.failures folder.old) (F.failures folder.new) result }
     ensures unwritten { IfErr result (λ refused. is_write refused ≡ false) }
+    ensures told { W.becomes watch.old watch.new }
 {
     let Some(table) = stock.get(pair) else {
         unreachable!()
@@ -252,7 +255,7 @@ fn keep_table<B: Geometry, F: Folder>(
     // The proof learns here that the numbers of stones are those of a pair, and how many entries
     // there may be.
     let _ = (pair.greater(), table.len());
-    match write_table_file(alloc, folder, board, table) {
+    match write_file_watched(alloc, folder, board, table, watch) {
         Ok(written) => Ok(written),
         Err(fault) => {
             let unwritten = Fault::Unwritten(pair.greater(), pair.lesser());

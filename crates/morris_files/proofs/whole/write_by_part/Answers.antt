@@ -13,7 +13,7 @@ pub returns-in-Err-rename-clause-answer : goal.returns-in-Err-rename-clause-answ
 returns-in-Err-rename-clause-answer g c =
     let fault = c.give_up-in-Err-rename in
     goes-trans_three (unrenamed _ c.args.name.now (g.C.Contents.bytes c.args.contents.now) fault.result c.requires.part fault.ensures.step)
-    _ _ _ _ c.in_default.ensures.answer c.in-Err-rename.ensures.renamed fault.ensures.given_up
+    _ _ _ _ c.in-Ok.ensures.answer c.in-Err-rename.ensures.renamed fault.ensures.given_up
 
 -- the step that failed is the one that is told
 pub returns-in-Err-clause-unwritten : goal.returns-in-Err-clause-unwritten

@@ -152,7 +152,9 @@ loop-below-preserved g c =
       locked = c.keep_table.ensures.locked;
       unfailed = c.in_ok-file.ensures.caused ∙ l.invariant.unfailed;
       uncounted = c.in_ok-sent.ensures.counted ∙ l.invariant.uncounted;
-      told = g.met.T.Watch.joins c.announce.new.self l.teller c.build_onto.new.teller l.invariant.told c.build_onto.ensures.told;
+      told =
+          g.met.T.Watch.joins c.announce.new.self c.build_onto.new.teller c.keep_table.new.watch
+          (g.met.T.Watch.joins c.announce.new.self l.teller c.build_onto.new.teller l.invariant.told c.build_onto.ensures.told) c.keep_table.ensures.told;
     }
 
 -- no pair is left
@@ -171,11 +173,13 @@ returns-clause-filled g c = λ stays after result ends.
 
 pub returns-in_err-file-clause-told : goal.returns-in_err-file-clause-told
 returns-in_err-file-clause-told g c =
-    g.met.T.Watch.joins _ _ _ (g.met.T.Watch.joins _ _ _ c.announce.ensures.told c.loop-below.invariant.told) c.build_onto.ensures.told
+    g.met.T.Watch.joins _ _ _ (g.met.T.Watch.joins _ _ _ (g.met.T.Watch.joins _ _ _ c.announce.ensures.told c.loop-below.invariant.told) c.build_onto.ensures.told)
+    c.keep_table.ensures.told
 
 pub returns-in_err-sent-clause-told : goal.returns-in_err-sent-clause-told
 returns-in_err-sent-clause-told g c =
-    g.met.T.Watch.joins _ _ _ (g.met.T.Watch.joins _ _ _ c.announce.ensures.told c.loop-below.invariant.told) c.build_onto.ensures.told
+    g.met.T.Watch.joins _ _ _ (g.met.T.Watch.joins _ _ _ (g.met.T.Watch.joins _ _ _ c.announce.ensures.told c.loop-below.invariant.told) c.build_onto.ensures.told)
+    c.keep_table.ensures.told
 
 -- ---- what a refusal has for a cause
 
