@@ -139,10 +139,11 @@ takes_input (Lookup board from show texts) = length texts.items == 0
 takes_input _ = false
 
 -- what was told of how far the command is: nothing; or, where the words ask for it, some lines, of
--- which the first says how much there is to do
-abbrev pub TellsProgress : {E : Type 0} → (E → Option (List ℕ)) → (E → ℕ) → List Text → E → E → Type 0
-TellsProgress contents failures words old new =
-    (new ≡ old) ⊎ ((request : Request) × AsksFor (named_by words) request × (request.progress ≡ true) × TellsInOrder contents failures old new)
+-- which the first says how much there is to do; on a terminal they take one another's place
+abbrev pub TellsProgress : {E : Type 0} → (E → Option (List ℕ)) → (E → ℕ) → List Text → Bool → E → E → Type 0
+TellsProgress contents failures words on_terminal old new =
+    (new ≡ old)
+    ⊎ ((request : Request) × AsksFor (named_by words) request × (request.progress ≡ true) × TellsInOrder contents failures on_terminal old new)
 
 -- the path is that of the folder which the command that was named works in; or there is none
 abbrev pub NamesFolder : List Text → Option (List ℕ) → Type 0

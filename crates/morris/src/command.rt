@@ -86,14 +86,49 @@ pub fn command<
     ensures answer { result ≢ 2 → (answer : _) × (midway : _)
         × Ends (map W.text words.now) (input_of (I.remaining input.old) (I.failures input.old)) (input_of (I.remaining input.new) (I.failures input.new))
         (O.contents output.old) (O.contents output.new) answer
-        × TellsProgress E.contents E.failures (map W.text words.now) errors.old midway
+        × TellsProgress E.contents E.failures (map W.text words.now) false errors.old midway
+        × (result ≡ status_of answer)
+        × ((path : Option (List ℕ)) × (why : _) × NamesFolder (map W.text words.now) path × ReportsAt E.contents E.failures path why midway errors.new answer) }
+{
+    command_at(rt, alloc, words, false, input, output, errors)
+}
+
+/// Does what [`command`] does; `on_terminal` says that `errors` is a terminal, on which a line of
+/// progress takes the place of the last one, and is cleared at the end.
+pub(crate) fn command_at<
+    R: Threads + Wait + Clock + Sync + Files<File = File> + AllocGlobal,
+    W: AsStr,
+    I: Source,
+    O: Sink,
+    E: Sink,
+>(
+    rt: &R,
+    alloc: Global,
+    words: &[W],
+    on_terminal: bool,
+    input: &mut I,
+    output: &mut O,
+    errors: &mut E,
+) -> u8
+    requires streams { MayFail (I.failures input.old) (O.failures output.old) }
+    requires errors { E.failures errors.old < 2 ^ 64 - 1 }
+    ensures status { result ≤ 2 }
+    ensures mistaken { result ≡ 2 → HasMistake (faults_of (map W.text words.now)) }
+    ensures silent { result ≡ 2 → output.new ≡ output.old }
+    ensures untouched { result ≡ 2 → input.new ≡ input.old }
+    ensures told { result ≡ 2 → (text : _) × ReportsText E.contents E.failures errors.old errors.new text }
+    ensures unread { ¬ AsksToRead (named_by (map W.text words.now)) → input.new ≡ input.old }
+    ensures answer { result ≢ 2 → (answer : _) × (midway : _)
+        × Ends (map W.text words.now) (input_of (I.remaining input.old) (I.failures input.old)) (input_of (I.remaining input.new) (I.failures input.new))
+        (O.contents output.old) (O.contents output.new) answer
+        × TellsProgress E.contents E.failures (map W.text words.now) on_terminal errors.old midway
         × (result ≡ status_of answer)
         × ((path : Option (List ℕ)) × (why : _) × NamesFolder (map W.text words.now) path × ReportsAt E.contents E.failures path why midway errors.new answer) }
 {
     match read_words(alloc, words) {
         Ok(request) => {
             let path = folder_of(&request.task);
-            let mut progress = Progress::new(rt, request.progress, errors);
+            let mut progress = Progress::new(rt, request.progress, on_terminal, errors);
             let mut why = None;
             let done = run(
                 rt,
@@ -104,6 +139,7 @@ pub fn command<
                 output,
                 &mut progress,
             );
+            progress.clear();
             finish(done, Place { path, why }, errors)
         }
         Err(Refusal::Help(text)) => finish(print(&text.as_str(), output), Place::NONE, errors),

@@ -11,7 +11,7 @@ ghost use Rattle.morris_jobs.specs.Inputs.{input_of};
 ghost use Rattle.morris_words.specs.Words.{faults_of, named_by};
 ghost use Rattle.morris_jobs.specs.declared.fault.Fault.TheVariants as fault;
 
-use crate::command::{command, refuse_words};
+use crate::command::{command_at, refuse_words};
 use morris_board::streams::{Sink, Source};
 use std::alloc::{AllocError, Global};
 use std::env::Args;
@@ -25,8 +25,9 @@ use std::thread::Threads;
 use std::time::Clock;
 
 /// Answers the words that the system gave, of which the first is the program's own name: runs the
-/// command that they name, as [`command`] says, on all of them and on these three streams, and
-/// gives its exit status. `main` does nothing but call this.
+/// command that they name, as [`command`](crate::command::command) says, on all of them and on these
+/// three streams, of which `errors` may be a terminal, and gives its exit status. `main` does nothing
+/// but call this.
 ///
 /// Where the system gave no words, nothing is read and nothing goes to `output`: with want of
 /// memory the status is 1 and fault 12 goes to `errors`, and with a word that isn't text (of bytes
@@ -36,7 +37,14 @@ pub fn answer_words<
     I: Source,
     O: Sink,
     E: Sink,
->(rt: &R, words: io::Result<Args>, input: &mut I, output: &mut O, errors: &mut E) -> ExitCode
+>(
+    rt: &R,
+    words: io::Result<Args>,
+    on_terminal: bool,
+    input: &mut I,
+    output: &mut O,
+    errors: &mut E,
+) -> ExitCode
     requires input { I.failures input.old < 2 ^ 64 - 1 }
     requires output { O.failures output.old < 2 ^ 64 - 1 }
     requires errors { E.failures errors.old < 2 ^ 64 - 1 }
@@ -49,7 +57,7 @@ pub fn answer_words<
     ensures answer { IfOk words (λ given. exit_status result ≢ 2 → (answer : _) × (midway : _)
         × Ends (texts_of given) (input_of (I.remaining input.old) (I.failures input.old)) (input_of (I.remaining input.new) (I.failures input.new))
         (O.contents output.old) (O.contents output.new) answer
-        × TellsProgress E.contents E.failures (texts_of given) errors.old midway
+        × TellsProgress E.contents E.failures (texts_of given) on_terminal errors.old midway
         × (exit_status result ≡ status_of answer)
         × ((path : Option (List ℕ)) × (why : _) × NamesFolder (texts_of given) path × ReportsAt E.contents E.failures path why midway errors.new answer)) }
 
@@ -64,7 +72,8 @@ pub fn answer_words<
         Ok(words) => match list_of(rt.alloc(), words) {
             Ok(words) => {
                 let words = words.as_slice();
-                ExitCode::from(command(rt, rt.alloc(), words, input, output, errors))
+                let status = command_at(rt, rt.alloc(), words, on_terminal, input, output, errors);
+                ExitCode::from(status)
             }
             Err(AllocError) => ExitCode::from(refuse_words(true, errors)),
         },

@@ -16,12 +16,14 @@ pub use morris_commands::verify_in::verify_in;
 pub use morris_jobs::fault::Fault;
 pub use morris_jobs::pairs::read_pair;
 use std::env;
+use std::io::IsTerminal;
 use std::process::ExitCode;
 
 fn main(rt: HostRuntime) -> ExitCode {
     answer_words(
         &rt,
         env::args(&rt),
+        rt.stderr().is_terminal(),
         &mut FromRead::new(rt.stdin()),
         &mut IntoWrite::new(rt.stdout()),
         &mut IntoWrite::new(rt.stderr()),

@@ -1,5 +1,5 @@
 -- What is told of how far a command is.
-use Rattle.std.specs.Prelude.{◌≡◌, ◌⊎◌, ⊤, ℕ, ◌+◌, ◌-◌, ◌^◌, ◌<◌, ◌≤◌, max, Bool, true, false, List, [], ◌∷◌, ◌++◌, codes, Option, Result, is_ok}
+use Rattle.std.specs.Prelude.{◌≡◌, ◌⊎◌, ⊤, ℕ, ◌+◌, ◌-◌, ◌*◌, ◌/◌, ◌%◌, ◌^◌, ◌<◌, ◌≤◌, nat_eq, nat_lt, if◌then◌else◌, max, Bool, true, false, List, [], ◌∷◌, ◌++◌, codes, Option, Result, is_ok}
 use Rattle.std.specs.Borrow.{GName}
 use Rattle.std.specs.Fmt.{decimal}
 use Rattle.morris_board.specs.Streams.{CountsFailure}
@@ -21,21 +21,50 @@ labelled label number = label ++ decimal number
 abbrev pub stones_text : ℕ → ℕ → List ℕ
 stones_text greater lesser = labelled (codes "progress: ") greater ++ (45 ∷ decimal lesser)
 
--- `, D of N entries, S s`, where D of the N entries are done, S seconds after the start
+-- how many in a hundred are done, rounded down; all where there are none
+abbrev pub percent_of : ℕ → ℕ → ℕ
+percent_of done whole = if nat_lt done whole then 100 * done / whole else 100
+
+-- `, about S s left`, and from two minutes up `, about M min left`, rounded; nothing at 0
+abbrev pub left_text : ℕ → List ℕ
+left_text seconds =
+    if nat_eq seconds 0 then [] else (if nat_lt seconds 120 then labelled (codes ", about ") seconds ++ codes " s left"
+    else labelled (codes ", about ") (seconds / 60 + seconds % 60 / 30) ++ codes " min left")
+
+-- `, D of N entries (P %)`, where D of the N entries are done, P in a hundred
+abbrev pub entries_text : ℕ → ℕ → List ℕ
+entries_text done whole = labelled (codes ", ") done ++ labelled (codes " of ") whole ++ labelled (codes " entries (") (percent_of done whole) ++ codes " %)"
+
+-- how many entries are done; `, S s`, S seconds after the start; and how long the rest takes
 abbrev pub so_far_text : SoFar → List ℕ
-so_far_text s = labelled (codes ", ") s.done ++ labelled (codes " of ") s.whole ++ labelled (codes " entries, ") s.seconds ++ codes " s\n"
+so_far_text s = entries_text s.done s.whole ++ (labelled (codes ", ") s.seconds ++ codes " s" ++ left_text s.left)
 
 -- `progress: N entries, about M MB of memory`
-abbrev pub whole_line : ℕ → ℕ → List ℕ
-whole_line entries megabytes = labelled (codes "progress: ") entries ++ labelled (codes " entries, about ") megabytes ++ codes " MB of memory\n"
+abbrev pub whole_text : ℕ → ℕ → List ℕ
+whole_text entries megabytes = labelled (codes "progress: ") entries ++ labelled (codes " entries, about ") megabytes ++ codes " MB of memory"
 
 -- what is told: how much there is to do; the wave of a pair that begins; how many entries are done
--- in the midst of a pair; the pair that is done
-abbrev pub news_line : News → List ℕ
-news_line (news.Whole entries megabytes) = whole_line entries megabytes
-news_line (news.Wave greater lesser wave so_far) = stones_text greater lesser ++ labelled (codes " wave ") wave ++ so_far_text so_far
-news_line (news.Part greater lesser so_far) = stones_text greater lesser ++ so_far_text so_far
-news_line (news.Done greater lesser so_far) = stones_text greater lesser ++ codes " done" ++ so_far_text so_far
+-- in the midst of a pair; the pair that is done; nothing, in the place of what a terminal shows
+abbrev pub news_text : News → List ℕ
+news_text (news.Whole entries megabytes) = whole_text entries megabytes
+news_text (news.Wave greater lesser wave so_far) = stones_text greater lesser ++ labelled (codes " wave ") wave ++ so_far_text so_far
+news_text (news.Part greater lesser so_far) = stones_text greater lesser ++ so_far_text so_far
+news_text (news.Done greater lesser so_far) = stones_text greater lesser ++ codes " done" ++ so_far_text so_far
+news_text news.Cleared = []
+
+-- what a terminal shows until something takes its place
+abbrev pub is_passing : News → Bool
+is_passing (news.Whole entries megabytes) = false
+is_passing (news.Wave greater lesser wave so_far) = true
+is_passing (news.Part greater lesser so_far) = true
+is_passing (news.Done greater lesser so_far) = false
+is_passing news.Cleared = true
+
+-- As a line: on a terminal in the place of the one at which it is, of which the rest is cleared, and
+-- without a line feed where it is to be replaced itself.
+abbrev pub news_line : Bool → News → List ℕ
+news_line false n = news_text n ++ (10 ∷ [])
+news_line true n = (13 ∷ []) ++ news_text n ++ (27 ∷ codes "[K") ++ (if is_passing n then [] else 10 ∷ [])
 
 -- ---- what was told
 
@@ -45,13 +74,13 @@ abbrev pub GoesOn : ℕ → ℕ → List News → Type 0
 GoesOn old new [] = ⊤
 GoesOn old new (n ∷ rest) = new ≡ old
 
-module _ {E : Type 0} (contents : E → Option (List ℕ)) (failures : E → ℕ) where
+module _ {E : Type 0} (contents : E → Option (List ℕ)) (failures : E → ℕ) (rewrites : Bool) where
   -- these lines were written, one after the other and nothing else; where a write failed, the first
   -- bytes of its line, which is the last
   unfoldable pub Told : E → E → List News → Type 0
   Told old new [] = new ≡ old
   Told old new (n ∷ rest) =
-      (midway : E) × ReportsText contents failures old midway (news_line n) × GoesOn (failures old) (failures midway) rest × Told midway new rest
+      (midway : E) × ReportsText contents failures old midway (news_line rewrites n) × GoesOn (failures old) (failures midway) rest × Told midway new rest
 
   -- some lines were told, and at most one write failed
   pub record Tells (old new : E) : Type 0 where
@@ -67,10 +96,11 @@ IsWholeFirst (news.Whole entries megabytes ∷ rest) = ⊤
 IsWholeFirst (news.Wave greater lesser wave so_far ∷ rest) = ⊥
 IsWholeFirst (news.Part greater lesser so_far ∷ rest) = ⊥
 IsWholeFirst (news.Done greater lesser so_far ∷ rest) = ⊥
+IsWholeFirst (news.Cleared ∷ rest) = ⊥
 
 -- such lines were told
-abbrev pub TellsInOrder : {E : Type 0} → (E → Option (List ℕ)) → (E → ℕ) → E → E → Type 0
-TellsInOrder contents failures old new = (tells : Tells contents failures old new) × IsWholeFirst tells.lines
+abbrev pub TellsInOrder : {E : Type 0} → (E → Option (List ℕ)) → (E → ℕ) → Bool → E → E → Type 0
+TellsInOrder contents failures rewrites old new = (tells : Tells contents failures rewrites old new) × IsWholeFirst tells.lines
 
 -- ---- who tells
 
@@ -85,6 +115,10 @@ sink_of p = p.errors.now
 -- whether it is told anything
 abbrev pub tells_of : {R E : Type 0} → Progress R E → Bool
 tells_of p = p.tells
+
+-- whether the lines go to a terminal, where each takes the place of the last
+abbrev pub rewrites_of : {R E : Type 0} → Progress R E → Bool
+rewrites_of p = p.rewrites
 
 -- whether it is known how much there is to do; how many entries that is, and how many are those of
 -- the pairs that are done
@@ -112,6 +146,7 @@ BeginsWithWhole has_begun tells whole (news.Whole entries megabytes ∷ rest) = 
 BeginsWithWhole has_begun tells whole (news.Wave greater lesser wave so_far ∷ rest) = ⊥
 BeginsWithWhole has_begun tells whole (news.Part greater lesser so_far ∷ rest) = ⊥
 BeginsWithWhole has_begun tells whole (news.Done greater lesser so_far ∷ rest) = ⊥
+BeginsWithWhole has_begun tells whole (news.Cleared ∷ rest) = ⊥
 
 -- So are the lines that make the one who tells what they are then, where it wasn't known before how
 -- much there is to do; otherwise that stays what it is.
@@ -126,7 +161,8 @@ TellsWholeFirst old new lines =
 pub record Becomes {R E : Type 0} (contents : E → Option (List ℕ)) (failures : E → ℕ) (old new : Progress R E) : Type 0 where
   pub same : lent_of new ≡ lent_of old
   pub silent : tells_of old ≡ false → (tells_of new ≡ false) × (sink_of new ≡ sink_of old)
-  pub told : Tells contents failures (sink_of old) (sink_of new)
+  pub rewrites : rewrites_of new ≡ rewrites_of old
+  pub told : Tells contents failures (rewrites_of old) (sink_of old) (sink_of new)
   pub unfailed : tells_of new ≡ true → failures (sink_of new) ≡ failures (sink_of old)
   pub first : TellsWholeFirst old new told.lines
 
@@ -136,7 +172,7 @@ pub record Becomes {R E : Type 0} (contents : E → Option (List ℕ)) (failures
 -- went out
 abbrev pub SaysLine : {R E : Type 0} → (E → Option (List ℕ)) → (E → ℕ) → Progress R E → Progress R E → News → Type 0
 SaysLine contents failures old new n =
-    (sent : Result (Unit {0}) ℕ) × WentOut (contents (sink_of old)) (contents (sink_of new)) (news_line n) sent
+    (sent : Result (Unit {0}) ℕ) × WentOut (contents (sink_of old)) (contents (sink_of new)) (news_line (rewrites_of old) n) sent
     × CountsFailure (failures (sink_of old)) (failures (sink_of new)) sent × (tells_of new ≡ is_ok sent)
 
 -- What telling one of the news makes of who tells: what it was, where it isn't told anything or it
@@ -144,6 +180,7 @@ SaysLine contents failures old new n =
 -- sink has no room for a failure more.
 pub record Speaks {R E : Type 0} (contents : E → Option (List ℕ)) (failures : E → ℕ) (old new : Progress R E) (n : News) : Type 0 where
   pub same : lent_of new ≡ lent_of old
+  pub rewrites : rewrites_of new ≡ rewrites_of old
   pub begun : has_begun_of new ≡ has_begun_of old
   pub whole : whole_of new ≡ whole_of old
   pub done : done_of new ≡ done_of old
@@ -158,7 +195,7 @@ pub record Speaks {R E : Type 0} (contents : E → Option (List ℕ)) (failures 
 -- the sink has room for a failure more and for one after it.
 abbrev pub TellsLine : {R E : Type 0} → (E → Option (List ℕ)) → (E → ℕ) → Progress R E → Progress R E → News → Type 0
 TellsLine contents failures old new n =
-    tells_of old ≡ true → failures (sink_of old) < 2 ^ 64 - 3 → ReportsText contents failures (sink_of old) (sink_of new) (news_line n)
+    tells_of old ≡ true → failures (sink_of old) < 2 ^ 64 - 3 → ReportsText contents failures (sink_of old) (sink_of new) (news_line (rewrites_of old) n)
 
 -- that line, or none
 abbrev pub MayTell : {R E : Type 0} → (E → Option (List ℕ)) → (E → ℕ) → Progress R E → Progress R E → News → Type 0

@@ -5,6 +5,7 @@
 
 pub mod boards;
 pub mod counts;
+mod estimate;
 pub mod fault;
 pub mod flaw;
 mod memory;

@@ -1,10 +1,10 @@
 //! What is printed of how far a command is.
-ghost use Rattle.std.specs.Prelude.{◌≡◌, ◌+◌, ◌-◌, ◌^◌, ◌<◌, ◌≤◌, OnOk};
+ghost use Rattle.std.specs.Prelude.{◌≡◌, ◌+◌, ◌-◌, ◌^◌, ◌<◌, ◌≤◌, ◌++◌, OnOk, codes};
 ghost use Rattle.morris_board.specs.Buffered.{Passes, sink_of, taken_of};
-ghost use Rattle.morris_jobs.specs.Progress.{so_far_text, stones_text, whole_line};
+ghost use Rattle.morris_jobs.specs.Progress.{entries_text, labelled, left_text, news_text, percent_of, so_far_text, stones_text, whole_text};
 
 use crate::print::Printed;
-use crate::progress::{News, SoFar};
+use crate::progress::{Line, News, SoFar};
 use morris_board::streams::buffered::Buffered;
 use morris_board::streams::{Failed, Sink};
 use morris_probe::print::{put_count, put_signed};
@@ -20,67 +20,142 @@ fn put_stones<S: Sink>(out: &mut Buffered<'_, S>, greater: u8, lesser: u8) -> Re
     put_signed(out, b'-', lesser)
 }
 
-/// How many entries are done of how many, and when.
+/// How many in a hundred are done, rounded down.
+fn percent(done: u64, whole: u64) -> u64
+    ensures { result ≡ percent_of done whole }
+{
+    if done < whole {
+        (100 * u128::from(done) / u128::from(whole)) as u64
+    } else {
+        100
+    }
+}
+
+/// About how many seconds are left, or minutes where they are many.
+fn put_left<S: Sink>(out: &mut Buffered<'_, S>, seconds: u64) -> Result<(), Failed>
+    requires failures { S.failures (sink_of out.old) < 2 ^ 64 - 1 }
+    requires room { taken_of out.old < 2 ^ 12 + 2 ^ 8 }
+    ensures passed { Passes S.contents S.failures out.old out.new (left_text seconds) result }
+    ensures few { OnOk result (taken_of out.new < 2 ^ 13) }
+{
+    if seconds == 0 {
+        Ok(())
+    } else if seconds < 120 {
+        put_count(out, ", about ", seconds)?;
+        out.put(b" s left")
+    } else {
+        put_count(out, ", about ", seconds / 60 + seconds % 60 / 30)?;
+        out.put(b" min left")
+    }
+}
+
+/// When, and about how long the rest takes.
+fn put_times<S: Sink>(out: &mut Buffered<'_, S>, seconds: u64, left: u64) -> Result<(), Failed>
+    requires failures { S.failures (sink_of out.old) < 2 ^ 64 - 1 }
+    requires room { taken_of out.old < 2 ^ 12 }
+    ensures passed { Passes S.contents S.failures out.old out.new (labelled (codes ", ") seconds ++ codes " s" ++ left_text left) result }
+    ensures few { OnOk result (taken_of out.new < 2 ^ 13) }
+{
+    put_count(out, ", ", seconds)?;
+    out.put(b" s")?;
+    put_left(out, left)
+}
+
+/// How many entries are done of how many.
+fn put_entries<S: Sink>(out: &mut Buffered<'_, S>, done: u64, whole: u64) -> Result<(), Failed>
+    requires failures { S.failures (sink_of out.old) < 2 ^ 64 - 1 }
+    requires room { taken_of out.old < 2 ^ 11 }
+    ensures passed { Passes S.contents S.failures out.old out.new (entries_text done whole) result }
+    ensures few { OnOk result (taken_of out.new < 2 ^ 12) }
+{
+    put_count(out, ", ", done)?;
+    put_count(out, " of ", whole)?;
+    put_count(out, " entries (", percent(done, whole))?;
+    out.put(b" %)")
+}
+
+/// How many entries are done of how many, when, and about how long the rest takes.
 fn put_so_far<S: Sink>(out: &mut Buffered<'_, S>, so_far: SoFar) -> Result<(), Failed>
     requires failures { S.failures (sink_of out.old) < 2 ^ 64 - 1 }
     requires room { taken_of out.old < 2 ^ 11 }
     ensures passed { Passes S.contents S.failures out.old out.new (so_far_text so_far) result }
-    ensures few { OnOk result (taken_of out.new < 2 ^ 12) }
+    ensures few { OnOk result (taken_of out.new < 2 ^ 13) }
 {
-    put_count(out, ", ", so_far.done)?;
-    put_count(out, " of ", so_far.whole)?;
-    put_count(out, " entries, ", so_far.seconds)?;
-    out.put(b" s\n")
+    put_entries(out, so_far.done, so_far.whole)?;
+    put_times(out, so_far.seconds, so_far.left)
 }
 
 /// How much there is to do.
 fn put_whole<S: Sink>(out: &mut Buffered<'_, S>, entries: u64, megabytes: u64) -> Result<(), Failed>
     requires failures { S.failures (sink_of out.old) < 2 ^ 64 - 1 }
     requires room { taken_of out.old < 2 ^ 11 }
-    ensures passed { Passes S.contents S.failures out.old out.new (whole_line entries megabytes) result }
+    ensures passed { Passes S.contents S.failures out.old out.new (whole_text entries megabytes) result }
     ensures few { OnOk result (taken_of out.new < 2 ^ 12) }
 {
     put_count(out, "progress: ", entries)?;
     put_count(out, " entries, about ", megabytes)?;
-    out.put(b" MB of memory\n")
+    out.put(b" MB of memory")
+}
+
+/// What is told, without the end of its line.
+fn put_news<S: Sink>(out: &mut Buffered<'_, S>, news: News) -> Result<(), Failed>
+    requires failures { S.failures (sink_of out.old) < 2 ^ 64 - 1 }
+    requires room { taken_of out.old < 2 ^ 10 }
+    ensures passed { Passes S.contents S.failures out.old out.new (news_text news) result }
+    ensures few { OnOk result (taken_of out.new < 2 ^ 13) }
+{
+    match news {
+        News::Whole { entries, megabytes } => put_whole(out, entries, megabytes),
+        News::Wave {
+            greater,
+            lesser,
+            wave,
+            so_far,
+        } => {
+            put_stones(out, greater, lesser)?;
+            put_count(out, " wave ", u64::from(wave))?;
+            put_so_far(out, so_far)
+        }
+        News::Part {
+            greater,
+            lesser,
+            so_far,
+        } => {
+            put_stones(out, greater, lesser)?;
+            put_so_far(out, so_far)
+        }
+        News::Done {
+            greater,
+            lesser,
+            so_far,
+        } => {
+            put_stones(out, greater, lesser)?;
+            out.put(b" done")?;
+            put_so_far(out, so_far)
+        }
+        News::Cleared => Ok(()),
+    }
 }
 
 /// The line of one of the news.
-impl Printed for News {
+impl Printed for Line {
     ghost use Rattle.morris_jobs.specs.Progress.{news_line};
 
-    ghost bytes = { λ news. news_line news };
+    ghost bytes = { λ line. news_line line.rewrites line.news };
 
     fn put_into<S: Sink>(&self, out: &mut Buffered<'_, S>) -> Result<(), Failed> {
-        match *self {
-            News::Whole { entries, megabytes } => put_whole(out, entries, megabytes),
-            News::Wave {
-                greater,
-                lesser,
-                wave,
-                so_far,
-            } => {
-                put_stones(out, greater, lesser)?;
-                put_count(out, " wave ", u64::from(wave))?;
-                put_so_far(out, so_far)
-            }
-            News::Part {
-                greater,
-                lesser,
-                so_far,
-            } => {
-                put_stones(out, greater, lesser)?;
-                put_so_far(out, so_far)
-            }
-            News::Done {
-                greater,
-                lesser,
-                so_far,
-            } => {
-                put_stones(out, greater, lesser)?;
-                out.put(b" done")?;
-                put_so_far(out, so_far)
-            }
+        let Line { news, rewrites } = *self;
+        if !rewrites {
+            put_news(out, news)?;
+            return out.put(b"\n");
+        }
+        out.put(b"\r")?;
+        put_news(out, news)?;
+        out.put(b"\x1b[K")?;
+        if news.is_passing() {
+            Ok(())
+        } else {
+            out.put(b"\n")
         }
     }
 }

@@ -1,8 +1,9 @@
 //! How far a command is, told line by line.
 ghost use Rattle.std.specs.Prelude.{◌≡◌, ℕ, ◌-◌, ◌^◌, ◌<◌, true, false, length, max};
-ghost use Rattle.morris_jobs.specs.Progress.{Becomes, CountsMore, MayTell, Speaks, TellsLine, at_work_of, has_begun_of, lent_of, part_of, sink_of, tells_of};
+ghost use Rattle.morris_jobs.specs.Progress.{Becomes, CountsMore, MayTell, Speaks, TellsLine, at_work_of, has_begun_of, is_passing, lent_of, part_of, rewrites_of, sink_of, tells_of};
 ghost use Rattle.morris_jobs.specs.Sizes.{entries_below};
 
+use crate::estimate::{Estimate, VERIFIED, weight_of};
 use crate::print::send;
 use crate::size::{Size, Way};
 use crate::teller::Teller;
@@ -42,6 +43,27 @@ pub enum News {
         lesser: u8,
         so_far: SoFar,
     },
+    /// Nothing, in the place of what a terminal shows.
+    Cleared,
+}
+
+impl News {
+    /// Whether a terminal shows it until something takes its place.
+    pub(crate) fn is_passing(&self) -> bool
+        ensures { result ≡ is_passing self.now }
+    {
+        match self {
+            News::Whole { .. } | News::Done { .. } => false,
+            News::Wave { .. } | News::Part { .. } | News::Cleared => true,
+        }
+    }
+}
+
+/// One of the news as a line, which on a terminal takes the place of the last one.
+#[derive(Clone, Copy, Debug)]
+pub(crate) struct Line {
+    pub(crate) news: News,
+    pub(crate) rewrites: bool,
 }
 
 /// How far it is.
@@ -53,17 +75,21 @@ pub struct SoFar {
     pub whole: u64,
     /// How many seconds it has taken, rounded down.
     pub seconds: u64,
+    /// About how many it takes from here on; 0 where that isn't known.
+    pub left: u64,
 }
 
 /// Tells on a sink how far a command is, a line at a time, or nothing where nobody asked.
 ///
 /// A line of a wave or of entries comes at most once a second; one of a pair that is done always.
-/// After a line that couldn't be written nothing more is told, and nothing else changes.
+/// On a terminal each takes the place of the last one, unless that tells how much there is to do or
+/// that a pair is done. After a line that couldn't be written nothing more is told, and nothing else changes.
 #[derive(Drop)]
 pub struct Progress<'a, R, E> {
     clock: &'a R,
     errors: &'a mut E,
     tells: bool,
+    rewrites: bool,
     // Nothing where the clock can't be read: then all is told at second 0.
     began: Option<Instant>,
     // When the last line of a pair was told: of a wave, of its entries or of its end.
@@ -77,20 +103,24 @@ pub struct Progress<'a, R, E> {
     part: u64,
     done: u64,
     whole: u64,
+    estimate: Estimate,
 }
 
 impl<'a, R: Clock, E: Sink> Progress<'a, R, E> {
-    /// Who tells on `errors`, if it is wanted, with the seconds from now on by `clock`.
-    pub fn new(clock: &'a R, wanted: bool, errors: &'a mut E) -> Progress<'a, R, E>
+    /// Who tells on `errors`, if it is wanted, with the seconds from now on by `clock`. `rewrites`
+    /// says that it is a terminal.
+    pub fn new(clock: &'a R, wanted: bool, rewrites: bool, errors: &'a mut E) -> Progress<'a, R, E>
         ensures lent { lent_of result ≡ errors.entry.ghost_name }
         ensures sink { sink_of result ≡ errors.old }
         ensures tells { tells_of result ≡ wanted }
+        ensures rewrites { rewrites_of result ≡ rewrites }
         ensures new { has_begun_of result ≡ false }
     {
         Progress {
             clock,
             errors,
             tells: wanted,
+            rewrites,
             began: Instant::now(clock).ok(),
             last_second: 0,
             has_begun: false,
@@ -99,26 +129,41 @@ impl<'a, R: Clock, E: Sink> Progress<'a, R, E> {
             part: 0,
             done: 0,
             whole: 0,
+            estimate: Estimate::new(0),
         }
     }
 
-    fn so_far(&self) -> SoFar
+    /// Clears what a terminal still shows. Nothing is to be told after that.
+    pub fn clear(&mut self)
+        ensures told { Becomes E.contents E.failures self.old self.new }
+        ensures line { rewrites_of self.old ≡ true → has_begun_of self.old ≡ true → TellsLine E.contents E.failures self.old self.new News.Cleared }
+        ensures lines { rewrites_of self.old ≡ false → self.new ≡ self.old }
+    {
+        if self.rewrites {
+            self.tell(News::Cleared);
+        }
+    }
+
+    /// How far it is after so many milliseconds.
+    fn so_far(&self, passed: u64) -> SoFar
         ensures { CountsMore self.now (part_of self.now) result }
     {
         let done = self.done.saturating_add(self.part);
         SoFar {
             done,
             whole: self.whole.max(done),
-            seconds: self.seconds(),
+            seconds: passed / 1000,
+            left: self.estimate.left(passed),
         }
     }
 
-    fn seconds(&self) -> u64 {
+    /// How many milliseconds it has taken.
+    fn passed(&self) -> u64 {
         let Some(began) = self.began else {
             return 0;
         };
         match began.elapsed(self.clock) {
-            Ok(passed) => passed.as_secs(),
+            Ok(passed) => u64::try_from(passed.as_millis()).unwrap_or(u64::MAX),
             Err(_) => 0,
         }
     }
@@ -136,7 +181,11 @@ impl<'a, R: Clock, E: Sink> Progress<'a, R, E> {
             self.tells = false;
             return;
         }
-        self.tells = send(&news, self.errors).is_ok();
+        let line = Line {
+            news,
+            rewrites: self.rewrites,
+        };
+        self.tells = send(&line, self.errors).is_ok();
     }
 
     /// Tells one of the news of this second, where none was told in it.
@@ -172,9 +221,14 @@ impl<'a, R: Clock, E: Sink> Teller for Progress<'a, R, E> {
         if !self.tells || self.has_begun {
             return;
         }
-        let Size { entries, bytes } = size;
+        let Size {
+            entries,
+            work,
+            bytes,
+        } = size;
         self.has_begun = true;
         self.whole = entries;
+        self.estimate = Estimate::new(work);
         let megabytes = bytes.div_ceil(1_000_000);
         self.tell(News::Whole { entries, megabytes });
     }
@@ -203,6 +257,7 @@ impl<'a, R: Clock, E: Sink> Teller for Progress<'a, R, E> {
         self.greater = pair.greater();
         self.lesser = pair.lesser();
         self.part = 0;
+        self.estimate.weigh(weight_of(pair));
     }
 
     /// Tells that the pair of an exact table is done, with all entries of the table.
@@ -214,7 +269,9 @@ impl<'a, R: Clock, E: Sink> Teller for Progress<'a, R, E> {
         let pair = table.pair();
         self.part = 0;
         self.done = self.done.saturating_add(table.len());
-        let so_far = self.so_far();
+        let passed = self.passed();
+        self.estimate.end(table.len(), passed);
+        let so_far = self.so_far(passed);
         self.last_second = so_far.seconds;
         self.tell(News::Done {
             greater: pair.greater(),
@@ -233,7 +290,7 @@ impl<'a, R: Clock, E: Sink> Watch for Progress<'a, R, E> {
     ghost becomes = { λ old new. Becomes E.contents E.failures old new };
 
     fn wave(&mut self, wave: u16) {
-        let so_far = self.so_far();
+        let so_far = self.so_far(self.passed());
         let news = News::Wave {
             greater: self.greater,
             lesser: self.lesser,
@@ -251,7 +308,11 @@ impl<'a, R: Clock, E: Sink> Watch for Progress<'a, R, E> {
             × MayTell E.contents E.failures self.old self.new (News.Part (at_work_of self.old).greater (at_work_of self.old).lesser so_far) }
     {
         self.part = self.part.max(done);
-        let so_far = self.so_far();
+        let passed = self.passed();
+        // Who tells of entries verifies them.
+        self.estimate.weigh(VERIFIED);
+        self.estimate.part(self.part, passed);
+        let so_far = self.so_far(passed);
         let news = News::Part {
             greater: self.greater,
             lesser: self.lesser,

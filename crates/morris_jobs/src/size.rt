@@ -2,6 +2,7 @@
 ghost use Rattle.std.specs.Prelude.{◌≡◌, ◌+◌, ◌^◌, ◌<◌};
 ghost use Rattle.morris_jobs.specs.Sizes.{entries_below, entries_of};
 
+use crate::estimate::{VERIFIED, weight_of};
 use crate::memory::{BASE, CODE, bytes_of_making, bytes_of_table};
 use crate::team::Team;
 use morris_board::board::Geometry;
@@ -81,6 +82,8 @@ impl Near {
 pub struct Size {
     /// The entries of all tables.
     pub entries: u64,
+    /// What they weigh, each what it takes to find or to verify.
+    pub(crate) work: u64,
     /// About how many bytes are taken at once at most.
     pub bytes: u64,
 }
@@ -89,16 +92,18 @@ impl Size {
     /// Of no table.
     const NONE: Size = Size {
         entries: 0,
+        work: 0,
         bytes: BASE,
     };
 
-    /// With a table of so many entries more, where so many bytes are taken at once while it comes
-    /// about.
-    fn with(self, entries: u64, at_once: u64) -> Size
+    /// With a table of so many entries more, of which each weighs so much, where so many bytes are
+    /// taken at once while it comes about.
+    fn with(self, entries: u64, weight: u64, at_once: u64) -> Size
         ensures { self.entries + entries < 2 ^ 64 → result.entries ≡ self.entries + entries }
     {
         Size {
             entries: self.entries.saturating_add(entries),
+            work: self.work.saturating_add(entries.saturating_mul(weight)),
             bytes: self.bytes.max(at_once.saturating_add(BASE)),
         }
     }
@@ -119,7 +124,8 @@ impl Size {
             all = all.saturating_add(table);
             let kept = if way.lets_go() { near.bytes() } else { all };
             let making = bytes_beside(below, entries, way);
-            size = size.with(entries, kept.saturating_add(making));
+            let weight = weight_in(below, pair, way);
+            size = size.with(entries, weight, kept.saturating_add(making));
         }
         size
     }
@@ -149,7 +155,7 @@ impl FolderSize {
         let table = CODE.saturating_mul(entries);
         let near = self.near.before(pair).with(table);
         FolderSize {
-            size: self.size.with(entries, near.bytes()),
+            size: self.size.with(entries, VERIFIED, near.bytes()),
             near,
         }
     }
@@ -167,6 +173,15 @@ fn count_entries<B: Geometry>(pair: Pair<B>, last: Pair<B>, layout: Layout, way:
     match layout {
         Layout::Full => pair.size(),
         Layout::Classes => class_size(pair),
+    }
+}
+
+/// What an entry of the table of a pair weighs, where it is one of those below `last`.
+fn weight_in<B: Geometry>(pair: Pair<B>, last: Pair<B>, way: Way) -> u64 {
+    match way {
+        Way::Swept | Way::Built { .. } => weight_of(pair),
+        Way::Verified { .. } if pair != last => weight_of(pair),
+        Way::Verified { .. } | Way::Read => VERIFIED,
     }
 }
 

@@ -17,13 +17,13 @@ pub returns-in-Ok-list_of-clause-mistaken : goal.returns-in-Ok-list_of-clause-mi
 returns-in-Ok-list_of-clause-mistaken g c =
     let same = ap (map string_bytes) (c.as_slice-words.ensures.value ∙ c.in-Ok-list_of.ensures) in
     of_ok c.args.words c.in-Ok.words _ c.in-Ok.is
-    (λ two. subst (λ (t : List Text). HasMistake (faults_of t)) same (c.command.ensures.mistaken (sym c.from.ensures ∙ two)))
+    (λ two. subst (λ (t : List Text). HasMistake (faults_of t)) same (c.command_at-status.ensures.mistaken (sym c.from.ensures ∙ two)))
 
 pub returns-in-Ok-list_of-clause-unread : goal.returns-in-Ok-list_of-clause-unread
 returns-in-Ok-list_of-clause-unread g c =
     let same = ap (map string_bytes) (c.as_slice-words.ensures.value ∙ c.in-Ok-list_of.ensures) in
     of_ok c.args.words c.in-Ok.words _ c.in-Ok.is
-    (λ unasked. c.command.ensures.unread (λ asks. unasked (subst (λ (t : List Text). AsksToRead (named_by t)) same asks)))
+    (λ unasked. c.command_at-status.ensures.unread (λ asks. unasked (subst (λ (t : List Text). AsksToRead (named_by t)) same asks)))
 
 same_end : (given words : List Text) (before after : Input) (old new : Option (List ℕ)) (answer : Result (Unit {0}) Fault)
     → given ≡ words → Ends given before after old new answer → Ends words before after old new answer
@@ -33,16 +33,16 @@ pub returns-in-Ok-list_of-clause-answer : goal.returns-in-Ok-list_of-clause-answ
 returns-in-Ok-list_of-clause-answer g c =
     let same = ap (map string_bytes) (c.as_slice-words.ensures.value ∙ c.in-Ok-list_of.ensures) in
     let before = input_of (g.I.Source.remaining c.args.input.now) (g.I.Source.failures c.args.input.now) in
-    let after = input_of (g.I.Source.remaining c.command.new.input) (g.I.Source.failures c.command.new.input) in
+    let after = input_of (g.I.Source.remaining c.command_at-status.new.input) (g.I.Source.failures c.command_at-status.new.input) in
     let old = g.O.Sink.contents c.args.output.now in
-    let new = g.O.Sink.contents c.command.new.output in
+    let new = g.O.Sink.contents c.command_at-status.new.output in
     of_ok c.args.words c.in-Ok.words _ c.in-Ok.is
     (λ other.
-    let ended = c.command.ensures.answer (λ two. other (c.from.ensures ∙ two)) in (
+    let ended = c.command_at-status.ensures.answer (λ two. other (c.from.ensures ∙ two)) in (
       ended.0,
       ended.1,
       same_end (map string_bytes c.as_slice-words.result.now) (texts_of c.in-Ok.words) before after old new ended.0 same ended.2,
-      subst (λ (t : List Text). TellsProgress g.E.Sink.contents g.E.Sink.failures t c.args.errors.now ended.1) same ended.3,
+      subst (λ (t : List Text). TellsProgress g.E.Sink.contents g.E.Sink.failures t c.args.on_terminal c.args.errors.now ended.1) same ended.3,
       c.from.ensures ∙ ended.4,
       (ended.5.0, ended.5.1, subst (λ (t : List Text). NamesFolder t ended.5.0) same ended.5.2, ended.5.3),
     ))

@@ -5,6 +5,7 @@ use Rattle.morris_jobs.proofs.progress.Progress.tell.Goals as goal
 pub returns : goal.returns
 returns g c = record {
   same = refl;
+  rewrites = refl;
   begun = refl;
   whole = refl;
   done = refl;

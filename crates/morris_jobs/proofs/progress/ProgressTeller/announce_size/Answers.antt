@@ -9,5 +9,5 @@ returns-then-not-self-clause-told g c = Becomes-stays g.E.Sink.contents g.E.Sink
 
 pub returns-clause-told : goal.returns-clause-told
 returns-clause-told g c =
-    Becomes-begins g.E.Sink.contents g.E.Sink.failures c.args.self.now _ c.tell.new.self _ refl refl c.if-not-self.false c.if-not-self.false
+    Becomes-begins g.E.Sink.contents g.E.Sink.failures c.args.self.now _ c.tell.new.self _ refl refl refl c.if-not-self.false c.if-not-self.false
     c.if-self.false refl c.tell.ensures

@@ -4,4 +4,4 @@ use Rattle.morris_jobs.proofs.progress.ProgressTeller.end_pair.Goals as goal
 
 pub returns-clause-told : goal.returns-clause-told
 returns-clause-told g c =
-    Becomes-speaks g.E.Sink.contents g.E.Sink.failures c.args.self.now _ c.tell.new.self _ refl refl refl refl refl c.tell.ensures
+    Becomes-speaks g.E.Sink.contents g.E.Sink.failures c.args.self.now _ c.tell.new.self _ refl refl refl refl refl refl c.tell.ensures

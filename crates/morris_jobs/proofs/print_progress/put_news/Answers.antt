@@ -2,7 +2,7 @@ use Rattle.std.proofs.Common.{codes}
 use Rattle.morris_board.proofs.BufferedLaws.{both, goes_on}
 use Rattle.morris_jobs.specs.Progress.{labelled, so_far_text, stones_text}
 use Rattle.morris_jobs.proofs.PieceLaws.{first_failed, first_of_three, second_failed}
-use Rattle.morris_jobs.proofs.print_progress.NewsPrinted.put_into.Goals as goal
+use Rattle.morris_jobs.proofs.print_progress.put_news.Goals as goal
 
 pub returns-in_err-put_stones-in-Wave-clause-passed : goal.returns-in_err-put_stones-in-Wave-clause-passed
 returns-in_err-put_stones-in-Wave-clause-passed g c =
