@@ -99,8 +99,8 @@ pub fn build_as<B: Board, A: Gate, R: Threads + Wait + Sync>(
     )
 }
 
-/// [`build_as`] over a set of tables, and tells `watch` of each wave, in their order (see
-/// [`Watch`]).
+/// [`build_as`] over a set of tables, and tells `watch` as [`solve_with`] does: after each block that
+/// this thread makes, and then of each wave, in their order (see [`Watch`]).
 ///
 /// # Errors
 /// Those of [`build_as`], in the same order. The watch is told nothing before the graph of the pair
