@@ -1,5 +1,5 @@
 -- What the program makes of its words.
-use Rattle.std.specs.Prelude.{◌≡◌, ◌≢◌, ◌⊎◌, ◌==◌, ◌-◌, ◌^◌, ℕ, Bool, true, false, List, [], ◌∷◌, String, codes, if◌then◌else◌, length, map, string_bytes, Option, Some, None, Result, Ok, Err}
+use Rattle.std.specs.Prelude.{◌≡◌, ◌≢◌, ◌⊎◌, ◌==◌, ◌&&◌, ◌-◌, ◌^◌, ℕ, Bool, true, false, List, [], ◌∷◌, String, codes, if◌then◌else◌, length, map, string_bytes, Option, Some, None, is_none, Result, Ok, Err}
 use Rattle.std.specs.Vec.Iter.{into_iter_items}
 use Rattle.std.specs.declared.vec.IntoIter.{IntoIter}
 use Rattle.std.specs.Io.KnownBytes.{Keeps}
@@ -122,6 +122,17 @@ Answers before after old new (Find board pair value from all limit count) result
     AnswersFindFrom (board_of board.now) board.now None pair.now value.now all (shown_as limit count) old new result
 Answers before after old new (Lookup board from show texts) result = AnswersQueries board.now show (map (λ t. t.now) texts.items) before after old new result
 
+-- whether the command of a task prints tables
+abbrev pub prints_tables : Task → Bool
+prints_tables (Build board pair workers blocks all into classes) = is_none into
+prints_tables _ = false
+
+-- The same where the output may be a terminal. A command that prints tables is refused there, with
+-- nothing read and nothing printed.
+abbrev pub AnswersAt : Bool → Input → Input → Option (List ℕ) → Option (List ℕ) → Task → Result (Unit {0}) Fault → Type 0
+AnswersAt true before after old new task result = (result ≡ Err fault.Terminal) × (after ≡ before) × Keeps old new
+AnswersAt false before after old new task result = Answers before after old new task result
+
 -- the path of the folder that a task works in, where it names one
 abbrev pub folder_of : Task → Option (List ℕ)
 folder_of (Build board pair workers blocks all into classes) = option_map (λ path. path.now) into
@@ -158,11 +169,13 @@ abbrev pub status_of : {T : Type 0} → Result T Fault → ℕ
 status_of (Ok done) = 0
 status_of (Err fault) = 1
 
--- How the words were answered, where they have no mistake: by the command that they ask for; by a
--- text where they ask for help or for the version, or by want of memory, with nothing read.
-abbrev pub Ends : List Text → Input → Input → Option (List ℕ) → Option (List ℕ) → Result (Unit {0}) Fault → Type 0
-Ends words before after old new answer =
-    ((request : Request) × AsksFor (named_by words) request × (faults_of words ≡ []) × Answers before after old new request.task answer)
+-- How the words were answered, where they have no mistake: by the command that they ask for, whose
+-- output may be a terminal; by a text where they ask for help or for the version, or by want of memory,
+-- with nothing read.
+abbrev pub Ends : Bool → List Text → Input → Input → Option (List ℕ) → Option (List ℕ) → Result (Unit {0}) Fault → Type 0
+Ends on_terminal words before after old new answer =
+    ((request : Request) × AsksFor (named_by words) request × (faults_of words ≡ [])
+    × AnswersAt (prints_tables request.task && on_terminal) before after old new request.task answer)
     ⊎ ((AsksToShow (faults_of words) × (after ≡ before) × ((text : List ℕ) × Prints old new text answer))
     ⊎ ((answer ≡ Err fault.Memory) × (after ≡ before) × Keeps old new))
 

@@ -1,16 +1,16 @@
 //! The command line: from its words to what goes out, and the exit status.
-ghost use Rattle.std.specs.Prelude.{◌≡◌, ◌≢◌, ◌-◌, ◌^◌, ◌<◌, ◌≤◌, ◌==◌, IsTrue, false, length, map, if◌then◌else◌};
+ghost use Rattle.std.specs.Prelude.{◌≡◌, ◌≢◌, ◌&&◌, is_none, ◌-◌, ◌^◌, ◌<◌, ◌≤◌, ◌==◌, IsTrue, false, length, map, if◌then◌else◌};
 ghost use Rattle.morris_jobs.specs.Faults.{ReportsFault, ReportsText};
 ghost use Rattle.morris_jobs.specs.declared.fault.Fault.TheVariants as fault;
 ghost use Rattle.morris_words.specs.Words.{IsInRange, faults_of, named_by};
 ghost use Rattle.morris_words.specs.declared.words.Task.TheVariants as task;
-ghost use Rattle.morris_jobs.specs.Inputs.{MayFail, input_of};
+ghost use Rattle.morris_jobs.specs.Inputs.{Input, MayFail, input_of};
 ghost use Rattle.morris.specs.Reporting.{ReportsAt};
 ghost use Rattle.std.specs.Option.{option_map};
 ghost use Rattle.std.specs.Prelude.{Option, None, List, ℕ};
 ghost use Rattle.morris_jobs.specs.BoardNames.{board_of};
 ghost use Rattle.morris_queries.specs.Asked.{AnswersFindFrom};
-ghost use Rattle.morris.specs.Command.{NamesFolder, folder_of, Answers, AnswersCount, AnswersQueries, AnswersTables, AsksToRead, Ends, HasMistake, TellsProgress, end_of, form_of, not_text, shown_as, shown_of, status_of, takes_input};
+ghost use Rattle.morris.specs.Command.{NamesFolder, folder_of, Answers, AnswersAt, AnswersCount, AnswersQueries, AsksToRead, Ends, HasMistake, TellsProgress, end_of, form_of, not_text, prints_tables, shown_as, shown_of, status_of, takes_input};
 
 use crate::report::{Place, report};
 use morris_board::streams::{Sink, Source};
@@ -84,17 +84,36 @@ pub fn command<
     ensures told { result ≡ 2 → (text : _) × ReportsText E.contents E.failures errors.old errors.new text }
     ensures unread { ¬ AsksToRead (named_by (map W.text words.now)) → input.new ≡ input.old }
     ensures answer { result ≢ 2 → (answer : _) × (midway : _)
-        × Ends (map W.text words.now) (input_of (I.remaining input.old) (I.failures input.old)) (input_of (I.remaining input.new) (I.failures input.new))
+        × Ends false (map W.text words.now) (input_of (I.remaining input.old) (I.failures input.old)) (input_of (I.remaining input.new) (I.failures input.new))
         (O.contents output.old) (O.contents output.new) answer
         × TellsProgress E.contents E.failures (map W.text words.now) false errors.old midway
         × (result ≡ status_of answer)
         × ((path : Option (List ℕ)) × (why : _) × NamesFolder (map W.text words.now) path × ReportsAt E.contents E.failures path why midway errors.new answer) }
 {
-    command_at(rt, alloc, words, false, input, output, errors)
+    command_at(rt, alloc, words, Terminals::NONE, input, output, errors)
 }
 
-/// Does what [`command`] does; `on_terminal` says that `errors` is a terminal, on which a line of
-/// progress takes the place of the last one, and is cleared at the end.
+/// Which of the streams are terminals.
+#[derive(Clone, Copy, Debug)]
+pub struct Terminals {
+    /// Whether the output is one, to which no table goes.
+    pub output: bool,
+    /// Whether the stream for faults is one, on which a line of progress takes the place of the last
+    /// one, and is cleared at the end.
+    pub errors: bool,
+}
+
+impl Terminals {
+    /// None of them.
+    pub const NONE: Terminals = Terminals {
+        output: false,
+        errors: false,
+    };
+}
+
+/// Does what [`command`] does where these streams are terminals.
+///
+/// The command `build` without a folder is refused where the output is one, before all else.
 pub(crate) fn command_at<
     R: Threads + Wait + Clock + Sync + Files<File = File> + AllocGlobal,
     W: AsStr,
@@ -105,7 +124,7 @@ pub(crate) fn command_at<
     rt: &R,
     alloc: Global,
     words: &[W],
-    on_terminal: bool,
+    terminals: Terminals,
     input: &mut I,
     output: &mut O,
     errors: &mut E,
@@ -119,21 +138,22 @@ pub(crate) fn command_at<
     ensures told { result ≡ 2 → (text : _) × ReportsText E.contents E.failures errors.old errors.new text }
     ensures unread { ¬ AsksToRead (named_by (map W.text words.now)) → input.new ≡ input.old }
     ensures answer { result ≢ 2 → (answer : _) × (midway : _)
-        × Ends (map W.text words.now) (input_of (I.remaining input.old) (I.failures input.old)) (input_of (I.remaining input.new) (I.failures input.new))
+        × Ends terminals.output (map W.text words.now) (input_of (I.remaining input.old) (I.failures input.old)) (input_of (I.remaining input.new) (I.failures input.new))
         (O.contents output.old) (O.contents output.new) answer
-        × TellsProgress E.contents E.failures (map W.text words.now) on_terminal errors.old midway
+        × TellsProgress E.contents E.failures (map W.text words.now) terminals.errors errors.old midway
         × (result ≡ status_of answer)
         × ((path : Option (List ℕ)) × (why : _) × NamesFolder (map W.text words.now) path × ReportsAt E.contents E.failures path why midway errors.new answer) }
 {
     match read_words(alloc, words) {
         Ok(request) => {
             let path = folder_of(&request.task);
-            let mut progress = Progress::new(rt, request.progress, on_terminal, errors);
+            let mut progress = Progress::new(rt, request.progress, terminals.errors, errors);
             let mut why = None;
             let done = run(
                 rt,
                 alloc,
                 request.task,
+                terminals.output,
                 &mut why,
                 input,
                 output,
@@ -180,12 +200,13 @@ fn folder_of<'a>(task: &Task<'a>) -> Option<&'a str>
     }
 }
 
-/// Runs the command of a task, and tells `teller` how far it is. `why` is what the system said of
-/// the task's folder, where it refused something.
+/// Runs the command of a task, and tells `teller` how far it is; `on_terminal` says that `output` is
+/// a terminal. `why` is what the system said of the task's folder, where it refused something.
 fn run<R: Threads + Wait + Sync + Files<File = File> + AllocGlobal, I: Source, O: Sink, T: Teller>(
     rt: &R,
     alloc: Global,
     task: Task<'_>,
+    on_terminal: bool,
     why: &mut Option<Reason>,
     input: &mut I,
     output: &mut O,
@@ -193,8 +214,8 @@ fn run<R: Threads + Wait + Sync + Files<File = File> + AllocGlobal, I: Source, O
 ) -> Result<(), Fault>
     requires range { IsInRange task }
     requires streams { MayFail (I.failures input.old) (O.failures output.old) }
-    ensures answer { Answers (input_of (I.remaining input.old) (I.failures input.old)) (input_of (I.remaining input.new) (I.failures input.new))
-        (O.contents output.old) (O.contents output.new) task.entry result }
+    ensures answer { AnswersAt (prints_tables task.entry && on_terminal) (input_of (I.remaining input.old) (I.failures input.old))
+        (input_of (I.remaining input.new) (I.failures input.new)) (O.contents output.old) (O.contents output.new) task.entry result }
     ensures unread { takes_input task.entry ≡ false → input.new ≡ input.old }
     ensures told { T.becomes teller.old teller.new }
 {
@@ -224,7 +245,18 @@ fn run<R: Threads + Wait + Sync + Files<File = File> + AllocGlobal, I: Source, O
             classes,
         } => {
             let order = order_of(board, pair, workers, blocks);
-            build(rt, alloc, order, all, into, classes, why, output, teller)
+            build(
+                rt,
+                alloc,
+                order,
+                all,
+                into,
+                classes,
+                on_terminal,
+                why,
+                output,
+                teller,
+            )
         }
         Task::Verify {
             board,
@@ -353,7 +385,7 @@ fn find<R: Files<File = File> + AllocGlobal, O: Sink>(
 }
 
 /// Builds the tables of a pair by so many workers over so many blocks: into the files of a folder,
-/// where there is one, and else onto `output`.
+/// where there is one, and else onto `output`, unless that is a terminal.
 fn build<R: Threads + Wait + Sync + Files<File = File> + AllocGlobal, O: Sink, T: Teller>(
     rt: &R,
     alloc: Global,
@@ -361,13 +393,14 @@ fn build<R: Threads + Wait + Sync + Files<File = File> + AllocGlobal, O: Sink, T
     all: bool,
     into: Option<&str>,
     classes: bool,
+    on_terminal: bool,
     why: &mut Option<Reason>,
     output: &mut O,
     teller: &mut T,
 ) -> Result<(), Fault>
     requires output { O.failures output.old < 2 ^ 64 - 1 }
-    ensures answer { AnswersTables order.entry.board.now order.entry.pair.now order.entry.workers order.entry.blocks all into.entry classes
-        (O.contents output.old) (O.contents output.new) result }
+    ensures answer { (input : Input) → AnswersAt (is_none into.entry && on_terminal) input input (O.contents output.old) (O.contents output.new)
+        (task.Build order.entry.board order.entry.pair order.entry.workers order.entry.blocks all into.entry classes) result }
     ensures told { T.becomes teller.old teller.new }
 {
     match into {
@@ -385,6 +418,7 @@ fn build<R: Threads + Wait + Sync + Files<File = File> + AllocGlobal, O: Sink, T
             *why = folder.why();
             done
         }
+        None if on_terminal => Err(Fault::Terminal),
         None => {
             let layout = layout_of(classes);
             on_board!(

@@ -11,7 +11,7 @@ ghost use Rattle.morris_jobs.specs.Inputs.{input_of};
 ghost use Rattle.morris_words.specs.Words.{faults_of, named_by};
 ghost use Rattle.morris_jobs.specs.declared.fault.Fault.TheVariants as fault;
 
-use crate::command::{command_at, refuse_words};
+use crate::command::{Terminals, command_at, refuse_words};
 use morris_board::streams::{Sink, Source};
 use std::alloc::{AllocError, Global};
 use std::env::Args;
@@ -26,8 +26,8 @@ use std::time::Clock;
 
 /// Answers the words that the system gave, of which the first is the program's own name: runs the
 /// command that they name, as [`command`](crate::command::command) says, on all of them and on these
-/// three streams, of which `errors` may be a terminal, and gives its exit status. `main` does nothing
-/// but call this.
+/// three streams, some of which may be terminals, and gives its exit status. `main` does nothing but
+/// call this.
 ///
 /// Where the system gave no words, nothing is read and nothing goes to `output`: with want of
 /// memory the status is 1 and fault 12 goes to `errors`, and with a word that isn't text (of bytes
@@ -40,7 +40,7 @@ pub fn answer_words<
 >(
     rt: &R,
     words: io::Result<Args>,
-    on_terminal: bool,
+    terminals: Terminals,
     input: &mut I,
     output: &mut O,
     errors: &mut E,
@@ -55,9 +55,9 @@ pub fn answer_words<
     ensures mistaken { IfOk words (λ given. exit_status result ≡ 2 → HasMistake (faults_of (texts_of given))) }
     ensures unread { IfOk words (λ given. ¬ AsksToRead (named_by (texts_of given)) → input.new ≡ input.old) }
     ensures answer { IfOk words (λ given. exit_status result ≢ 2 → (answer : _) × (midway : _)
-        × Ends (texts_of given) (input_of (I.remaining input.old) (I.failures input.old)) (input_of (I.remaining input.new) (I.failures input.new))
+        × Ends terminals.output (texts_of given) (input_of (I.remaining input.old) (I.failures input.old)) (input_of (I.remaining input.new) (I.failures input.new))
         (O.contents output.old) (O.contents output.new) answer
-        × TellsProgress E.contents E.failures (texts_of given) on_terminal errors.old midway
+        × TellsProgress E.contents E.failures (texts_of given) terminals.errors errors.old midway
         × (exit_status result ≡ status_of answer)
         × ((path : Option (List ℕ)) × (why : _) × NamesFolder (texts_of given) path × ReportsAt E.contents E.failures path why midway errors.new answer)) }
 
@@ -72,7 +72,7 @@ pub fn answer_words<
         Ok(words) => match list_of(rt.alloc(), words) {
             Ok(words) => {
                 let words = words.as_slice();
-                let status = command_at(rt, rt.alloc(), words, on_terminal, input, output, errors);
+                let status = command_at(rt, rt.alloc(), words, terminals, input, output, errors);
                 ExitCode::from(status)
             }
             Err(AllocError) => ExitCode::from(refuse_words(true, errors)),

@@ -6,6 +6,7 @@ mod entry;
 mod report;
 
 // The commands from one input to one output, each as one call, with what it is refused for.
+use command::Terminals;
 use entry::answer_words;
 use morris_board::streams::{FromRead, IntoWrite};
 pub use morris_commands::build::build_out;
@@ -23,7 +24,10 @@ fn main(rt: HostRuntime) -> ExitCode {
     answer_words(
         &rt,
         env::args(&rt),
-        rt.stderr().is_terminal(),
+        Terminals {
+            output: rt.stdout().is_terminal(),
+            errors: rt.stderr().is_terminal(),
+        },
         &mut FromRead::new(rt.stdin()),
         &mut IntoWrite::new(rt.stdout()),
         &mut IntoWrite::new(rt.stderr()),

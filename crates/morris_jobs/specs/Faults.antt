@@ -143,6 +143,7 @@ fault_number fault.Busy = 35
 fault_number fault.NoFolder = 36
 fault_number fault.Disagree = 37
 fault_number fault.Unlocked = 38
+fault_number fault.Terminal = 40
 fault_number (fault.InFile greater lesser f) = flaw_number f
 
 -- numbers of stones, with a hyphen (45) between them
@@ -218,6 +219,7 @@ fault_text fault.Busy = codes "another build is at work in this folder"
 fault_text fault.NoFolder = codes "no such folder"
 fault_text fault.Disagree = codes "the files of this position and its moves disagree"
 fault_text fault.Unlocked = codes "folder can't be locked"
+fault_text fault.Terminal = codes "a table isn't for a terminal: add --into FOLDER or > FILE"
 fault_text (fault.InFile greater lesser f) = flaw_text f ++ codes ", in the file of " ++ stones_text greater lesser
 
 -- that but for the file in which it was met

@@ -99,6 +99,8 @@ pub enum Fault {
     Disagree,
     /// The lock of the folder can't be had, for another cause than that another build has it.
     Unlocked,
+    /// A table would go to a terminal.
+    Terminal,
     /// The file of the pair of these numbers of stones, the greater one first, has this flaw.
     InFile(u8, u8, Flaw),
 }
@@ -165,6 +167,10 @@ impl Fault {
                 Words::Plain("the files of this position and its moves disagree"),
             ),
             Fault::Unlocked => (38, Words::Plain("folder can't be locked")),
+            Fault::Terminal => (
+                40,
+                Words::Plain("a table isn't for a terminal: add --into FOLDER or > FILE"),
+            ),
             Fault::InFile(_, _, flaw) => flaw.told(),
             _ => unreachable!(),
         }

@@ -87,18 +87,18 @@ returns-in-Ok-clause-answer g c = λ other. (
     here = c.errors-1.given.1 (sym (tells.same ∙ c.new-progress.ensures.lent))
 
     told : (b : Bool) → c.in-Ok.request.progress ≡ b
-        → TellsProgress g.E.Sink.contents g.E.Sink.failures (map g.W.AsStr.text c.args.words.now) c.args.on_terminal c.args.errors.now
+        → TellsProgress g.E.Sink.contents g.E.Sink.failures (map g.W.AsStr.text c.args.words.now) c.args.terminals.errors c.args.errors.now
         c.errors-1.given.0
     told true is =
         inr (
           c.in-Ok.request,
           c.in-Ok.ensures.request,
           is,
-          told_in_order g.E.Sink.contents g.E.Sink.failures c.new-progress.result c.clear.new.self tells c.args.on_terminal
+          told_in_order g.E.Sink.contents g.E.Sink.failures c.new-progress.result c.clear.new.self tells c.args.terminals.errors
               c.args.errors.now c.errors-1.given.0 c.new-progress.ensures.rewrites c.new-progress.ensures.sink here c.new-progress.ensures.new,
         )
     told false is =
-        inl (told_nothing g.E.Sink.contents g.E.Sink.failures c.new-progress.result c.clear.new.self tells c.args.on_terminal
+        inl (told_nothing g.E.Sink.contents g.E.Sink.failures c.new-progress.result c.clear.new.self tells c.args.terminals.errors
         c.args.errors.now c.errors-1.given.0 c.new-progress.ensures.rewrites c.new-progress.ensures.sink here (c.new-progress.ensures.tells ∙ is))
 
 -- There is room for a failure more.

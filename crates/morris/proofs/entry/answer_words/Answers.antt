@@ -1,5 +1,5 @@
 -- The words are those that the system gave, and the exit status is that of the command.
-use Rattle.std.proofs.Common.{ℕ, None, Option, ◌≡◌, ◌∙◌, ap, inl, inr, List, map, refl, subst, sym, Result, Ok, Err, string_bytes}
+use Rattle.std.proofs.Common.{ℕ, Bool, None, Option, ◌≡◌, ◌∙◌, ap, inl, inr, List, map, refl, subst, sym, Result, Ok, Err, string_bytes}
 use Rattle.std.specs.Prelude.{IfOk}
 use Rattle.std.proofs.KnownBytes.{Keeps-refl}
 use Rattle.clap.specs.Words.{Text}
@@ -25,9 +25,9 @@ returns-in-Ok-list_of-clause-unread g c =
     of_ok c.args.words c.in-Ok.words _ c.in-Ok.is
     (λ unasked. c.command_at-status.ensures.unread (λ asks. unasked (subst (λ (t : List Text). AsksToRead (named_by t)) same asks)))
 
-same_end : (given words : List Text) (before after : Input) (old new : Option (List ℕ)) (answer : Result (Unit {0}) Fault)
-    → given ≡ words → Ends given before after old new answer → Ends words before after old new answer
-same_end given words before after old new answer same ended = subst (λ (t : List Text). Ends t before after old new answer) same ended
+same_end : (on_terminal : Bool) (given words : List Text) (before after : Input) (old new : Option (List ℕ)) (answer : Result (Unit {0}) Fault)
+    → given ≡ words → Ends on_terminal given before after old new answer → Ends on_terminal words before after old new answer
+same_end on_terminal given words before after old new answer same ended = subst (λ (t : List Text). Ends on_terminal t before after old new answer) same ended
 
 pub returns-in-Ok-list_of-clause-answer : goal.returns-in-Ok-list_of-clause-answer
 returns-in-Ok-list_of-clause-answer g c =
@@ -41,8 +41,8 @@ returns-in-Ok-list_of-clause-answer g c =
     let ended = c.command_at-status.ensures.answer (λ two. other (c.from.ensures ∙ two)) in (
       ended.0,
       ended.1,
-      same_end (map string_bytes c.as_slice-words.result.now) (texts_of c.in-Ok.words) before after old new ended.0 same ended.2,
-      subst (λ (t : List Text). TellsProgress g.E.Sink.contents g.E.Sink.failures t c.args.on_terminal c.args.errors.now ended.1) same ended.3,
+      same_end c.args.terminals.output (map string_bytes c.as_slice-words.result.now) (texts_of c.in-Ok.words) before after old new ended.0 same ended.2,
+      subst (λ (t : List Text). TellsProgress g.E.Sink.contents g.E.Sink.failures t c.args.terminals.errors c.args.errors.now ended.1) same ended.3,
       c.from.ensures ∙ ended.4,
       (ended.5.0, ended.5.1, subst (λ (t : List Text). NamesFolder t ended.5.0) same ended.5.2, ended.5.3),
     ))
