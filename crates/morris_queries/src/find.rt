@@ -279,9 +279,8 @@ fn put_entry<B: Geometry, C: Coded, S: Sink>(
     // The proof learns here that the numbers of stones are those of a pair.
     let _ = entries.count();
     match entries.classes() {
-        None => put_one(&entries.position(entry), most, out),
         Some(classes) if all => put_falls(classes.falls_on(entry), most, out),
-        Some(_) => put_one(&entries.position(entry), most, out),
+        _ => put_one(&entries.position(entry), most, out),
     }
 }
 

@@ -1,26 +1,11 @@
-use Rattle.std.proofs.Common.{◌≡◌, ◌≤◌, [], ◌∷◌, sym, subst, inl, inr, arith}
+use Rattle.std.proofs.Common.{◌≡◌, ◌⊎◌, ◌≤◌, [], ◌∷◌, false, sym, subst, inl, inr, arith}
 use Rattle.morris_board.specs.Boards.{Shape}
 use Rattle.morris_index.specs.Pairs.{IsPair}
+use Rattle.morris_pairs.specs.declared.layout.Layout.TheVariants.{Full}
 use Rattle.morris_pairs.specs.Entries.{entry_index}
 use Rattle.morris_queries.proofs.FoundLaws.{one_left, own_listed, own_text, shared_listed}
 use Rattle.morris_queries.proofs.find.put_entry.Goals as goal
-
--- each position has an entry of its own
-pub returns-in-None-clause-put : goal.returns-in-None-clause-put
-returns-in-None-clause-put g c =
-    let board : Shape = g.B.Geometry.shape in
-    let few : board.points ≤ 24 = omega (arith, g.met.B.Geometry.few, g.met.B.Geometry.point_count) in
-    let entries = c.args.entries.now in
-    let p = c.position.result in
-    let lawful : IsPair board.points entries.pair = rw g.met.B.Geometry.point_count c.count.ensures.lawful in (
-      p ∷ [],
-      own_listed board few g.met.B.Geometry.has_symmetries entries.layout entries.pair lawful c.args.all (inr c.in-None.ensures) p c.position.ensures.lawful
-          c.position.ensures.counts c.position.ensures.own c.args.entry
-          (subst (λ n. entry_index board n entries.layout entries.pair p ≡ c.args.entry) (sym g.met.B.Geometry.point_count) c.position.ensures.entry),
-      (λ i j d less within. absurd (omega arith)),
-      rw (own_text board c.args.most p c.requires.some) c.put_one.ensures.passed,
-      one_left c.args.most c.put_one.result c.put_one.ensures.left,
-    )
+use Rattle.morris_queries.proofs.find.put_entry.Goals.{in_default-via-in-Some+else-all, in_default-via-in_default}
 
 -- all that share the entry
 pub returns-in-Some-clause-put : goal.returns-in-Some-clause-put
@@ -35,19 +20,23 @@ returns-in-Some-clause-put g c =
       c.put_falls.ensures.left,
     )
 
--- the one that has it for its own
-pub returns-in-Some-2-clause-put : goal.returns-in-Some-2-clause-put
-returns-in-Some-2-clause-put g c =
+-- the one that has it for its own, or the one that has it
+pub returns-in_default-clause-put : goal.returns-in_default-clause-put
+returns-in_default-clause-put g c =
     let board : Shape = g.B.Geometry.shape in
     let few : board.points ≤ 24 = omega (arith, g.met.B.Geometry.few, g.met.B.Geometry.point_count) in
     let entries = c.args.entries.now in
-    let p = c.position-in-Some-2.result in
-    let lawful : IsPair board.points entries.pair = rw g.met.B.Geometry.point_count c.count.ensures.lawful in (
+    let p = c.position.result in
+    let lawful : IsPair board.points entries.pair = rw g.met.B.Geometry.point_count c.count.ensures.lawful in
+    let one : (c.args.all ≡ false) ⊎ (entries.layout ≡ Full) = elim c.in_default.branch [
+      | in_default-via-in-Some+else-all w ↦ inl w.if-all.false
+      | in_default-via-in_default w ↦ inr (rw w.in_default.is at c.classes.ensures)
+    ] in (
       p ∷ [],
-      own_listed board few g.met.B.Geometry.has_symmetries entries.layout entries.pair lawful c.args.all (inl c.if-all.false) p c.position-in-Some-2.ensures.lawful
-          c.position-in-Some-2.ensures.counts c.position-in-Some-2.ensures.own c.args.entry
-          (subst (λ n. entry_index board n entries.layout entries.pair p ≡ c.args.entry) (sym g.met.B.Geometry.point_count) c.position-in-Some-2.ensures.entry),
+      own_listed board few g.met.B.Geometry.has_symmetries entries.layout entries.pair lawful c.args.all one p c.position.ensures.lawful
+          c.position.ensures.counts c.position.ensures.own c.args.entry
+          (subst (λ n. entry_index board n entries.layout entries.pair p ≡ c.args.entry) (sym g.met.B.Geometry.point_count) c.position.ensures.entry),
       (λ i j d less within. absurd (omega arith)),
-      rw (own_text board c.args.most p c.requires.some) c.put_one-in-Some-2.ensures.passed,
-      one_left c.args.most c.put_one-in-Some-2.result c.put_one-in-Some-2.ensures.left,
+      rw (own_text board c.args.most p c.requires.some) c.put_one.ensures.passed,
+      one_left c.args.most c.put_one.result c.put_one.ensures.left,
     )
