@@ -134,9 +134,9 @@ def answer(run):
 
 def masked(errors, without_memory):
     """Errors in which S stands for the seconds that lines of progress tell, without about how many
-    are left, and where it is asked for M for the memory. A line of a wave, which comes where the
-    machine is slow, is left out where it tells the pair that is done next, and how much was done
-    before."""
+    are left, and where it is asked for M for the memory. A line of a wave or of a block, which
+    comes where the machine is slow, is left out where it tells the pair that is done next, and how
+    much was done before."""
     lines, done = [], b"0"
     for line in errors.splitlines(keepends=True):
         if without_memory:
@@ -145,9 +145,9 @@ def masked(errors, without_memory):
         lines.append(line)
     kept = []
     for place, line in enumerate(lines):
-        found = re.fullmatch(rb"(progress: .-.) wave \d+, (\d+) (of \d+ entries .*, S s\n)", line)
+        found = re.fullmatch(rb"(progress: .-.)( wave \d+)?, (\d+) of \d+ entries .*, S s\n", line)
         after = b"".join(it for it in lines[place + 1 :] if b" done, " in it)
-        if found and found[2] == done and after.startswith(found[1] + b" done, "):
+        if found and found[3] == done and after.startswith(found[1] + b" done, "):
             continue
         kept.append(line)
         if b" done, " in line:
