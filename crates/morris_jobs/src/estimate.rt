@@ -53,8 +53,17 @@ impl Estimate {
         self.weight = weight;
     }
 
-    /// So many entries of the pair at work are done, so many milliseconds after the start.
-    pub(crate) fn part(&mut self, entries: u64, passed: u64) {
+    /// So many entries of the pair at work are verified, so many milliseconds after the start. Where
+    /// it is none, nothing is known of them: it is also told while a pair is built.
+    pub(crate) fn verified(&mut self, entries: u64, passed: u64) {
+        if entries > 0 {
+            self.weight = VERIFIED;
+            self.part(entries, passed);
+        }
+    }
+
+    /// So many entries of the pair at work are done.
+    fn part(&mut self, entries: u64, passed: u64) {
         let done = self.done_with(entries);
         if done > 0 {
             let expected = u128::from(passed) * u128::from(self.work) / u128::from(done);

@@ -3,7 +3,7 @@ ghost use Rattle.std.specs.Prelude.{◌≡◌, ℕ, ◌-◌, ◌^◌, ◌<◌, t
 ghost use Rattle.morris_jobs.specs.Progress.{Becomes, CountsMore, MayTell, Speaks, TellsLine, at_work_of, has_begun_of, is_passing, lent_of, part_of, rewrites_of, sink_of, tells_of};
 ghost use Rattle.morris_jobs.specs.Sizes.{entries_below};
 
-use crate::estimate::{Estimate, VERIFIED, weight_of};
+use crate::estimate::{Estimate, weight_of};
 use crate::print::send;
 use crate::size::{Size, Way};
 use crate::teller::Teller;
@@ -309,9 +309,7 @@ impl<'a, R: Clock, E: Sink> Watch for Progress<'a, R, E> {
     {
         self.part = self.part.max(done);
         let passed = self.passed();
-        // Who tells of entries verifies them.
-        self.estimate.weigh(VERIFIED);
-        self.estimate.part(self.part, passed);
+        self.estimate.verified(self.part, passed);
         let so_far = self.so_far(passed);
         let news = News::Part {
             greater: self.greater,
