@@ -174,10 +174,15 @@ class Proofs:
 
     def jobs_for(self, crate):
         """How many jobs are wanted for a crate: more than half as many as there are processors
-        where all others wait for a row that begins with it, or nearly as long a one."""
+        where all others wait for a row that begins with it, or nearly as long a one, but no more
+        than leave as many to each of several such crates."""
         half = self.processors // 2
-        share = self.behind[crate] / max(self.behind[it] for it in [*self.running, *self.left])
-        return min(MOST_JOBS, 1 + half if share >= 0.9 else half if share >= 0.6 else 1)
+        longest = max(self.behind[it] for it in [*self.running, *self.left])
+        share = self.behind[crate] / longest
+        if share < 0.9:
+            return min(MOST_JOBS, half) if share >= 0.6 else 1
+        alike = [it for it in {*self.running, *self.ready()} if self.behind[it] >= 0.9 * longest]
+        return min(MOST_JOBS, 1 + half, max(1, (self.processors + half) // len(alike)))
 
     def begin(self):
         """Begins what can, as far as processors and memory go, and gives their names."""
