@@ -2,8 +2,7 @@
 # is unpacked where it can be kept: into out/, or into a folder of the user's own.
 # shellcheck shell=sh
 
-release=$root/release
-packed=$release/morris-x86_64-linux.gz
+. "$root/ci/archive.sh" || exit 126
 
 # The user's folder for what can be made again, where there is one.
 cache_folder() {
@@ -11,25 +10,6 @@ cache_folder() {
         /.cache) ;;
         /*) printf '%s\n' "${XDG_CACHE_HOME:-$HOME/.cache}/morris" ;;
     esac
-}
-
-# What release/BUILT says under a name, or nothing.
-told() {
-    [ -f "$release/BUILT" ] || return 0
-    while read -r name value; do
-        [ "$name" != "$1" ] || printf '%s\n' "$value"
-    done < "$release/BUILT"
-}
-
-digest_of() {
-    sum=$(sha256sum < "$1") && printf '%s\n' "${sum%% *}"
-}
-
-# Ends where a file hasn't the digest that BUILT tells.
-hold_against() {
-    has=$(digest_of "$1") || refuse "$1 can't be read"
-    [ "$has" = "$2" ] || refuse "$1 has the digest $has, and not $2, as release/BUILT says: \
-nothing is run"
 }
 
 # Whether the released program is there, may be run and has its digest.
@@ -40,7 +20,7 @@ is_kept() {
 # Unpacks into a file that is there, and holds what came against its digest and against the machine.
 # Fails where the file can't be written to, or nothing may be run from its folder.
 unpack() {
-    gzip -dc < "$packed" 2> /dev/null > "$1" || return 1
+    from_archive libexec/morris/morris > "$1" || return 1
     hold_against "$1" "$digest"
     chmod 755 "$1" && [ -x "$1" ] || return 1
     "$1" --version > /dev/null 2>&1 || refuse "the released program doesn't run on this machine: \
@@ -88,12 +68,8 @@ lets programs run"
 }
 
 run_released() {
-    for it in sha256sum gzip mktemp; do
-        command -v "$it" > /dev/null 2>&1 || refuse "the command $it is not on the PATH, so the \
-released program can't be unpacked"
-    done
-    [ -f "$packed" ] || refuse "there is no released program: $packed isn't there"
-    hold_against "$packed" "$(told packed)"
+    need mktemp
+    hold_archive
     digest=$(told program)
     cache=$(cache_folder)
     for place in "$out/released" ${cache:+"$cache"}; do

@@ -1,18 +1,17 @@
 """Makes what others take of embed/, and tries it as they would: what `make install` installs, the
 package for Python in fresh environments, the crate for Rust, and the archive of a release."""
 
-import gzip
 import os
 import re
 import shutil
 import subprocess
 import sys
-import tarfile
-import venv
 
+import packing
 from embedding import EMBED, all_of_grid, check, made_up, make, run
-from packing import PACKED_LIBRARY, release_library
+from packing import read
 from runs import COUNTED, MORRIS, ROOT
+from unpacked import answers_in_c, bare, environment, pip, try_unpacked
 
 # Asks for positions of both boards in a process of its own, with nothing of this one.
 ASKS = """
@@ -28,48 +27,7 @@ print(morris.version())
 ASKED = 40
 
 
-def bare(**more):
-    """An environment that knows neither the kit nor this clone."""
-    return {"PATH": "/usr/bin:/bin", "HOME": "/nowhere", "LANG": "C.UTF-8", **more}
-
-
-def header_version():
-    with open(f"{EMBED}/morris.h", encoding="utf-8") as header:
-        return re.search(r'MORRIS_VERSION_STRING "(.*)"', header.read())[1]
-
-
-def check_versions():
-    """The header, the program and the crate are of one version."""
-    wanted = header_version()
-    check("the program's version", run([MORRIS, "--version"]).split()[1], wanted)
-    with open(f"{EMBED}/rust/Cargo.toml", encoding="utf-8") as file:
-        check("the crate's version", re.search(r'^version = "(.*)"', file.read(), re.M)[1], wanted)
-
-
 # ---- what is installed
-
-
-def flags_of(package):
-    """The flags that the file of an installed package says, by pkg-config where it is there."""
-    if shutil.which("pkg-config"):
-        env = {**os.environ, "PKG_CONFIG_PATH": os.path.dirname(package)}
-        return run(["pkg-config", "--cflags", "--libs", "morris"], env=env).split()
-    with open(package, encoding="utf-8") as file:
-        text = file.read().replace("${pcfiledir}", os.path.dirname(package))
-    named = dict(re.findall(r"^(\w+)=(.*)$", text, re.M))
-    said = dict(re.findall(r"^(\w+): (.*)$", text, re.M))
-    flags = f"{said['Cflags']} {said['Libs']}"
-    while "${" in flags:
-        flags = re.sub(r"\$\{(\w+)\}", lambda it: named[it[1]], flags)
-    return flags.split()
-
-
-def answers_in_c(room, prefix, source, folder, text):
-    """What an example writes that was compiled against a prefix alone."""
-    flags = flags_of(f"{prefix}/lib/pkgconfig/morris.pc")
-    run(["cc", "-std=c99", source, *flags, "-o", f"{room}/installed"])
-    env = bare(LD_LIBRARY_PATH=f"{prefix}/lib")
-    return run([f"{room}/installed", folder, text], env=env)
 
 
 def asks(python, folder, **env):
@@ -147,16 +105,6 @@ def try_page(room, out, folder):
 # ---- the package for Python
 
 
-def environment(place):
-    """A fresh virtual environment, and its Python."""
-    venv.create(place, with_pip=True)
-    return f"{place}/bin/python"
-
-
-def pip(python, *words, **env):
-    run([python, "-m", "pip", "-q", "--disable-pip-version-check", *words], env=bare(**env))
-
-
 def has_explorer():
     return os.path.exists(f"{EMBED}/explorer.py")
 
@@ -217,7 +165,8 @@ def try_missing_library(room):
     shutil.copy(f"{EMBED}/morris.py", f"{room}/alone")
     code = "import morris\ntry:\n    morris.version()\nexcept OSError as error:\n    print(error)"
     said = run([sys.executable, "-c", code], env=bare(PYTHONPATH=f"{room}/alone"), cwd="/")
-    for it in (f"{room}/alone/libmorris.so", f"{room}/alone/out/libmorris.so", "make -C embed"):
+    places = [f"{room}/{it}/libmorris.so" for it in ("alone", "alone/out", "lib")]
+    for it in (*places, "make -C embed"):
         if it not in said:
             sys.exit(f"a missing library is told of by {said!r}, which doesn't say {it}")
 
@@ -267,15 +216,40 @@ def try_finding(room, out, crate, folder):
     check("the crate's example", found, run([f"{out}/best", folder, text]))
 
 
+# ---- the archive of a release
+
+
+def try_archive(room, out, core):
+    """Two runs give the same bytes, and what is unpacked runs without the kit. Gives its path."""
+    words = (f"CORE={core}", f"PROGRAM={MORRIS}")
+    made = packing.make_archive(out, *words)
+    again = packing.make_archive(f"{room}/again", *words)
+    if read(made) != read(again):
+        sys.exit("two runs of `make dist` give different bytes")
+    run(["sha256sum", "-c", "--quiet", "SHA256SUMS"], cwd=out)
+    try_unpacked(made, f"{room}/archive")
+    return made
+
+
+def compare_released(core):
+    """The library in release/ is the one that was just built, where it is of these sources and this
+    kit."""
+    told = packing.told(ROOT)
+    if (told.get("sources"), told.get("kit")) == (packing.sources(ROOT), packing.kit()):
+        check("the released library", told["library"], packing.digest(read(core)))
+
+
 # ---- without a kit
 
 
 def copy_of_sources(place):
-    """A copy of what `make -C embed` reads."""
+    """A copy of what `make -C embed install` reads."""
     left = shutil.ignore_patterns("out", "target", "must-fail", "edits-at-release", "__pycache__")
     for folder in ("crates", "embed", "ci"):
         shutil.copytree(f"{ROOT}/{folder}", f"{place}/{folder}", ignore=left)
-    shutil.copy(f"{ROOT}/crates.txt", place)
+    os.mkdir(f"{place}/docs")
+    for name in ("crates.txt", "docs/morris.1"):
+        shutil.copy(f"{ROOT}/{name}", f"{place}/{name}")
     return place
 
 
@@ -285,106 +259,40 @@ def refused_without_kit(place, why):
     done = subprocess.run(words, env=bare(), capture_output=True, text=True)
     if done.returncode == 0 or why not in done.stderr:
         sys.exit(f"make -C embed without a kit: {done.returncode}, {done.stderr!r}, not {why!r}")
-    if os.path.exists(f"{place}/crates/morris_c/out/libmorris_c.a"):
-        sys.exit(f"make -C embed, which said {why!r}, left a library")
+    left = [it for _, _, it in os.walk(f"{place}/crates/morris_c/out") if it]
+    if left:
+        sys.exit(f"make -C embed, which said {why!r}, left {left}")
 
 
-def try_without_kit(room, archive):
-    """Where the library of these sources is released, `make -C embed` needs no kit."""
+def try_without_kit(room, core, archive):
+    """Where the archive of these sources is released, `make -C embed` needs no kit."""
     place = copy_of_sources(f"{room}/without-kit")
     made = f"{place}/crates/morris_c/out/libmorris_c.a"
     refused_without_kit(place, "rt isn't on the PATH")
-    release_library(place, archive, "none")
-    run(["make", "-s", "-C", f"{place}/embed"], env=bare(), stderr=subprocess.PIPE)
-    if read_bytes(made) != read_bytes(archive):
-        sys.exit("the library that was unpacked isn't the released one")
+    lines = packing.facts(place, archive, 0, "none")
+    packing.release(place, archive, lines)
+    prefix = f"{room}/prefix-without-kit"
+    words = ["make", "-s", "-C", f"{place}/embed", f"PYTHON={sys.executable}", f"PREFIX={prefix}"]
+    run([*words, "install"], env=bare(), stderr=subprocess.PIPE)
+    if (read(made), read(f"{prefix}/libexec/morris/morris")) != (read(core), read(MORRIS)):
+        sys.exit("the library or the program that was unpacked isn't the released one")
     os.remove(made)
-    packed = f"{place}/{PACKED_LIBRARY}"
-    with open(packed, "wb") as file:
-        file.write(gzip.compress(read_bytes(archive) + b"\0", mtime=0))
-    refused_without_kit(place, "hasn't the digest")
+    packing.release(place, archive, {**lines, "library": 64 * "0"})
+    refused_without_kit(place, "has the digest")
+    packing.release(place, archive, lines)
+    with open(packing.archive_of(place), "ab") as file:
+        file.write(b"\0")
+    refused_without_kit(place, "has the digest")
     with open(f"{place}/crates/morris_board/src/points.rt", "a", encoding="utf-8") as file:
         file.write("\n")
     refused_without_kit(place, "rt isn't on the PATH")
 
 
-# ---- the archive of a release
-
-
-def make_archive(out, archive):
-    """Makes it, and gives its path."""
-    words = [f"OUT={out}", f"CORE={archive}", f"PROGRAM={MORRIS}", "dist"]
-    return run(["make", "-s", "-C", EMBED, *words]).split()[-1]
-
-
-def read_bytes(path):
-    with open(path, "rb") as file:
-        return file.read()
-
-
-def try_archive(room, out, archive, folder):
-    """Two runs give the same bytes, and what is unpacked runs without the kit."""
-    made = make_archive(out, archive)
-    again = make_archive(f"{room}/again", archive)
-    if read_bytes(made) != read_bytes(again):
-        sys.exit("two runs of `make dist` give different bytes")
-    run(["sha256sum", "-c", "--quiet", "SHA256SUMS"], cwd=out)
-    with tarfile.open(made) as packed:
-        packed.extractall(f"{room}/unpacked")
-    (top,) = os.listdir(f"{room}/unpacked")
-    top = f"{room}/unpacked/{top}"
-    run(["sha256sum", "-c", "--quiet", "SHA256SUMS"], cwd=top)
-    os.symlink(f"{top}/bin/morris", f"{room}/linked")
-    for program in (f"{top}/bin/morris", f"{room}/linked", f"{top}/libexec/morris/morris"):
-        stats = run([program, "stats", "grid", "3-3"], env=bare(), cwd="/")
-        check(f"{program} of the archive", stats, COUNTED.decode())
-    text = next(made_up())
-    wanted = run([f"{out}/best", folder, text])
-    found = answers_in_c(room, top, f"{top}/examples/best.c", folder, text)
-    check("an example of the archive", found, wanted)
-    python = environment(f"{room}/of-archive")
-    pip(python, "install", "--no-index", f"{top}/python/{os.listdir(f'{top}/python')[0]}")
-    found = run([python, f"{top}/examples/best.py", folder, text], env=bare(), cwd="/")
-    check("the example in Python of the archive", found, wanted)
-    env = {**os.environ, "CARGO_TARGET_DIR": f"{room}/target-of-archive"}
-    env.pop("MORRIS_LIB_DIR", None)
-    words = ["cargo", "run", "-q", "--offline", "--example", "best", "--", folder, text]
-    check("the crate of the archive", run(words, cwd=f"{top}/rust", env=env), wanted)
-    try_empty_root(room, top)
-
-
-def libraries_of(program):
-    """The files that the system loads for a program."""
-    return re.findall(r"(/\S+) \(0x", run(["ldd", program]))
-
-
-def try_empty_root(room, top):
-    """The program in a root in which nothing is but what was unpacked and the C library. That takes
-    the leave to change the root."""
-    root = f"{room}/root"
-    shutil.copytree(top, f"{root}/morris", symlinks=True)
-    programs = (f"{top}/libexec/morris/morris", "/bin/sh")
-    for path in {"/bin/sh", *(it for program in programs for it in libraries_of(program))}:
-        os.makedirs(root + os.path.dirname(path), exist_ok=True)
-        shutil.copy(path, root + path)
-    chroot = shutil.which("chroot", path="/usr/sbin:/sbin:/usr/bin:/bin") or "chroot"
-    change = [chroot] if os.geteuid() == 0 else ["unshare", "-r", chroot]
-    try:
-        subprocess.run([*change, root, "/bin/sh", "-c", ":"], capture_output=True, check=True)
-    except (OSError, subprocess.CalledProcessError):
-        print("an empty root wasn't tried: nobody may change the root here")
-        return
-    for program in ("/morris/bin/morris", "/morris/libexec/morris/morris"):
-        stats = run([*change, root, program, "stats", "grid", "3-3"], env=bare())
-        check(f"{program} in an empty root", stats, COUNTED.decode())
-
-
 def try_all(room, out, archive, full, classes):
-    check_versions()
     try_page(room, out, classes)
     try_install(room, out, archive, classes)
     try_wheel(room, out, archive, classes)
     try_types()
     try_crate(room, out, full, classes)
-    try_archive(room, out, archive, classes)
-    try_without_kit(room, archive)
+    compare_released(archive)
+    try_without_kit(room, archive, try_archive(room, out, archive))

@@ -1,19 +1,30 @@
-"""What is released: the folder release/ of a copy of the repository. ci/release writes the program
-there, which ./morris and ci/released read, and ci/release_library the library of embed/, which
-embed/packaging/core.sh reads."""
+"""What is released: the folder release/ of a copy of the repository. It has the archive that
+`make -C embed dist` made, its digest in SHA256SUMS, and BUILT, which says what it was made from.
+ci/release writes them; ci/archive.sh, for ./morris and for embed/packaging/, and ci/released read
+them."""
 
 import hashlib
 import os
 import platform
 import subprocess
+import sys
+import tarfile
+import tempfile
 from datetime import datetime, timezone
+from pathlib import Path
 
-PACKED = "release/morris-x86_64-linux.gz"
-BUILT = "release/BUILT"
-PACKED_LIBRARY = "release/libmorris_c.a.gz"
-LIBRARY = "release/LIBRARY"
-# The packed files have no more bytes.
-MOST_BYTES, MOST_BYTES_OF_LIBRARY = 500_000, 100_000
+from runs import ROOT
+
+sys.path.insert(0, f"{ROOT}/embed/packaging")
+from dist import digests, write_archive
+
+FOLDER, BUILT, SUMS = "release", "release/BUILT", "release/SHA256SUMS"
+# An archive has no more bytes.
+MOST_BYTES = 3_000_000
+# What the launcher and `make -C embed` take from it, and the parts of the library that C files of
+# embed/ were compiled to.
+PROGRAM, LIBRARY = "libexec/morris/morris", "lib/libmorris.a"
+COMPILED = ("morris_folder.o", "morris_tables.o")
 
 
 def sources(root, *words):
@@ -22,10 +33,19 @@ def sources(root, *words):
     return done.stdout.decode().strip()
 
 
+def said(*words):
+    done = subprocess.run(words, stdout=subprocess.PIPE, check=True)
+    return done.stdout.decode()
+
+
 def kit():
     """What the kit on the PATH is, by its own words."""
-    done = subprocess.run(["rt", "version"], stdout=subprocess.PIPE, check=True)
-    return " ".join(done.stdout.decode().split())
+    return " ".join(said("rt", "version").split())
+
+
+def compiler():
+    """What compiled the C files of embed/."""
+    return said("cc", "--version").splitlines()[0]
 
 
 def read(path):
@@ -37,12 +57,6 @@ def digest(content):
     return hashlib.sha256(content).hexdigest()
 
 
-def unpacked(packed):
-    """The program in a packed file."""
-    how = {"input": packed, "stdout": subprocess.PIPE, "check": True}
-    return subprocess.run(["gzip", "-dc"], **how).stdout
-
-
 def told(root):
     """What BUILT says, by name, or nothing where it isn't there."""
     if not os.path.exists(f"{root}/{BUILT}"):
@@ -51,47 +65,73 @@ def told(root):
     return dict(line.split(" ", 1) for line in lines)
 
 
-def release(root, program, gate):
-    """Writes the folder release/ of a copy of the repository from a program that was built from its
-    sources, and from the last line of the gate that built it. Gives the packed file's size."""
-    content = read(program)
-    how = {"input": content, "stdout": subprocess.PIPE, "check": True}
-    packed = subprocess.run(["gzip", "-9n"], **how).stdout
-    date = datetime.fromtimestamp(int(os.path.getmtime(program)), timezone.utc)
-    machine = platform.uname()
-    lines = {
+def archive_of(root):
+    """The path of the archive that BUILT names."""
+    return f"{root}/{FOLDER}/{told(root)['archive']}"
+
+
+def files_of(archive):
+    """The files in an archive, without the name of the folder in which all stand."""
+    with tarfile.open(archive) as it:
+        found = [member for member in it.getmembers() if member.isfile()]
+        return {member.name.partition("/")[2]: it.extractfile(member).read() for member in found}
+
+
+def proved_part(library):
+    """The proved static library in one that `make -C embed` made."""
+    with tempfile.TemporaryDirectory() as room:
+        path = f"{room}/libmorris.a"
+        Path(path).write_bytes(library)
+        subprocess.run(["ar", "dD", path, *COMPILED], check=True)
+        return read(path)
+
+
+def small_archive(folder, program):
+    """An archive in which nothing is but a program."""
+    top = "morris-of-these-sources-x86_64-linux"
+    path = Path(folder, f"{top}.tar.gz")
+    write_archive(path, top, {PROGRAM: read(program)})
+    return str(path)
+
+
+def make_archive(out, *words, **how):
+    """What `make dist` makes in a folder: the path of the archive."""
+    words = ["make", "-s", "-C", f"{ROOT}/embed", f"OUT={out}", *words, "dist"]
+    done = subprocess.run(words, stdout=subprocess.PIPE, check=True, text=True, **how)
+    return done.stdout.split()[-1]
+
+
+def facts(root, archive, built, gate):
+    """What BUILT says of an archive with what was built, at a time, from the sources of a copy of
+    the repository, and of the gate that built it."""
+    files, machine = files_of(archive), platform.uname()
+    date = datetime.fromtimestamp(int(built), timezone.utc)
+    found = {
         "sources": sources(root),
-        "program": digest(content),
-        "packed": digest(packed),
+        "archive": os.path.basename(archive),
+        "packed": digest(read(archive)),
+        "program": digest(files[PROGRAM]),
+    }
+    if LIBRARY in files:
+        found["library"] = digest(proved_part(files[LIBRARY]))
+    return {
+        **found,
         "kit": kit(),
+        "compiler": compiler(),
         "machine": f"{machine.system} {machine.release} {machine.machine}, "
         f"{os.cpu_count()} processors",
         "date": f"{date:%Y-%m-%dT%H:%M:%SZ}",
         "gate": gate,
     }
-    os.makedirs(f"{root}/release", exist_ok=True)
-    with open(f"{root}/{PACKED}", "wb") as it:
-        it.write(packed)
-    with open(f"{root}/{BUILT}", "w", encoding="utf-8") as it:
-        it.writelines(f"{name} {value}\n" for name, value in lines.items())
-    return len(packed)
 
 
-def release_library(root, archive, made_by):
-    """Writes the library into release/ of a copy of the repository from whose sources it was built,
-    and gives the packed file's size."""
-    content = read(archive)
-    how = {"input": content, "stdout": subprocess.PIPE, "check": True}
-    packed = subprocess.run(["gzip", "-9n"], **how).stdout
-    lines = {
-        "sources": sources(root),
-        "library": digest(content),
-        "packed": digest(packed),
-        "kit": made_by,
-    }
-    os.makedirs(f"{root}/release", exist_ok=True)
-    with open(f"{root}/{PACKED_LIBRARY}", "wb") as it:
-        it.write(packed)
-    with open(f"{root}/{LIBRARY}", "w", encoding="utf-8") as it:
-        it.writelines(f"{name} {value}\n" for name, value in lines.items())
-    return len(packed)
+def release(root, archive, lines):
+    """Puts an archive into release/ of a copy of the repository, and what BUILT says of it, in the
+    place of all that stood there."""
+    folder, content = f"{root}/{FOLDER}", read(archive)
+    os.makedirs(folder, exist_ok=True)
+    for name in os.listdir(folder):
+        os.remove(f"{folder}/{name}")
+    Path(folder, lines["archive"]).write_bytes(content)
+    Path(root, SUMS).write_bytes(digests({lines["archive"]: content}))
+    Path(root, BUILT).write_text("".join(f"{name} {value}\n" for name, value in lines.items()))

@@ -22,8 +22,8 @@ are replaced by renaming, as `morris build` does.
 `play` and `legal_moves` need no tables.
 
 The shared library `libmorris.so` is looked for beside this file, in the folder `out` there, in the
-folder `lib` in which this file was installed, and then where the system looks. The environment
-variable `MORRIS_LIBRARY` names another.
+folder `lib` of a release or of the place to which this file was installed, and then where the
+system looks. The environment variable `MORRIS_LIBRARY` names another.
 """
 
 from __future__ import annotations
@@ -231,8 +231,8 @@ _loaded: Optional[ctypes.CDLL] = None
 def _load() -> Tuple[str, ctypes.CDLL]:
     """The name of the shared library, and the library."""
     name, folder = "libmorris.so", os.path.dirname(os.path.abspath(__file__))
-    beside = [os.path.join(folder, *it, name) for it in ((), ("out",), ("..", ".."))]
-    places = [os.path.normpath(it) for it in beside]
+    near = ((), ("out",), ("..", "lib"), ("..", ".."))
+    places = [os.path.normpath(os.path.join(folder, *it, name)) for it in near]
     where = f"looked for {', '.join(places)}, and where the system looks"
     name = next(filter(os.path.exists, places), name)
     if os.environ.get("MORRIS_LIBRARY"):

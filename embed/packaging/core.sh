@@ -1,15 +1,23 @@
 #!/bin/sh
 # Makes the proved static library, crates/morris_c/out/libmorris_c.a, where it isn't there or a file
-# of a crate that it is made from is newer. Where release/LIBRARY is of these very sources, it is
-# the one that was built from them, and else, or with MORRIS_FROM_PROOFS=1, `rt lib` makes it.
+# of a crate that it is made from is newer. Where release/BUILT is of these very sources, it is the
+# one that was built from them, and else, or with MORRIS_FROM_PROOFS=1, `rt lib` makes it.
 set -u
 CDPATH='' cd -P -- "$(dirname -- "$0")/../.." || exit 1
+root=$PWD
 crate=crates/morris_c
 made=$crate/out/libmorris_c.a
 
 say() {
     echo "$1" >&2
 }
+
+refuse() {
+    say "$1"
+    exit 1
+}
+
+. ci/archive.sh || exit 1
 
 # A crate and those that it stands on, by crates.txt: the crates of the repository among them.
 crates_below() {
@@ -38,22 +46,20 @@ is_new() {
     done
 }
 
-told() {
-    sed -n "s/^$1 //p" release/LIBRARY
-}
-
 is_released() {
-    [ "${MORRIS_FROM_PROOFS-}" != 1 ] && [ -f release/LIBRARY ] &&
-        [ "$(told sources)" = "$(sh ci/sources)" ]
+    [ "${MORRIS_FROM_PROOFS-}" != 1 ] && [ "$(told sources)" = "$(sh ci/sources)" ]
 }
 
+# The released library without what the C files of embed/ give it.
 unpack_released() {
-    mkdir -p "$crate/out" && gzip -dc < release/libmorris_c.a.gz > "$made.part" || return 1
-    if ! echo "$(told library)  $made.part" | sha256sum --check --status; then
-        rm -f -- "$made.part"
-        say "release/libmorris_c.a.gz hasn't the digest that release/LIBRARY tells"
-        return 1
+    hold_archive
+    trap 'rm -f -- "$made.part"' EXIT
+    mkdir -p "$crate/out" || exit 1
+    if ! from_archive lib/libmorris.a > "$made.part" ||
+        ! "${AR:-ar}" dD "$made.part" morris_folder.o morris_tables.o; then
+        refuse "$packed can't be unpacked into $crate/out"
     fi
+    hold_against "$made.part" "$(told library)"
     mv -f -- "$made.part" "$made"
     say "this is the library that the gate built from these sources; MORRIS_FROM_PROOFS=1 proves and \
 builds it here"

@@ -1,8 +1,9 @@
 """Collects what a release needs into an archive: dist.py OUT, the folder in which `make dist` made
 the libraries and put the program. It writes there
 
-    morris-VERSION-x86_64-linux.tar.xz    the program, its man page, libraries, headers, the wheel,
-                                          the crate for Rust, examples and licences
+    morris-VERSION-x86_64-linux.tar.gz    the program, its man page, libraries, headers, the wheel,
+                                          the modules for Python with the explorer, the crate for
+                                          Rust, examples and licences
     the wheel by itself
     SHA256SUMS                            the digests of both
 
@@ -18,7 +19,7 @@ import sys
 import tarfile
 from pathlib import Path
 
-from morris_wheel import EMBED, EPOCH, version, write_wheel
+from morris_wheel import EMBED, EPOCH, NAME, explorer, version, write_wheel
 
 ROOT = EMBED.parent
 PACKAGING = EMBED / "packaging"
@@ -31,6 +32,12 @@ def tree(folder, to):
     files = sorted(it for it in folder.rglob("*") if it.is_file())
     kept = (it for it in files if not left & set(it.relative_to(folder).parts))
     return {f"{to}/{it.relative_to(folder).as_posix()}": it.read_bytes() for it in kept}
+
+
+def modules():
+    """What a wheel has for Python, as it stands here: it runs without being installed."""
+    found = {name.replace(NAME, "python", 1): data for name, data in explorer().items()}
+    return {f"python/{NAME}.py": (EMBED / f"{NAME}.py").read_bytes(), **found}
 
 
 def package_file():
@@ -56,7 +63,8 @@ def contents(out, wheel):
     }
     found = {name: path.read_bytes() for name, path in files.items()}
     found["lib/pkgconfig/morris.pc"] = package_file()
-    return {**found, **tree(EMBED / "examples", "examples"), **tree(EMBED / "rust", "rust")}
+    folders = {**tree(EMBED / "examples", "examples"), **tree(EMBED / "rust", "rust")}
+    return {**found, **modules(), **folders}
 
 
 def digests(files):
@@ -84,16 +92,22 @@ def add_folders(archive, names):
 
 
 def write_archive(path, top, files):
-    part = path.with_name(f"{path.name}.part")
-    with tarfile.open(part, "w:xz", format=tarfile.GNU_FORMAT, preset=9) as archive:
+    """Writes files, which all get into one folder, into an archive."""
+    packed = io.BytesIO()
+    with tarfile.open(fileobj=packed, mode="w", format=tarfile.GNU_FORMAT) as archive:
         add_folders(archive, [f"{top}/{name}" for name in files])
         for name, data in sorted(files.items()):
             found = member(f"{top}/{name}")
             found.size, found.mode = len(data), 0o755 if is_run(name) else 0o644
             archive.addfile(found, io.BytesIO(data))
-        link = member(f"{top}/lib/libmorris.so")
-        link.type, link.linkname, link.mode = tarfile.SYMTYPE, SONAME, 0o777
-        archive.addfile(link)
+        if f"lib/{SONAME}" in files:
+            link = member(f"{top}/lib/libmorris.so")
+            link.type, link.linkname, link.mode = tarfile.SYMTYPE, SONAME, 0o777
+            archive.addfile(link)
+    # (gzip gives the same bytes in all its versions, which Python's module doesn't)
+    how = {"input": packed.getvalue(), "stdout": subprocess.PIPE, "check": True}
+    part = path.with_name(f"{path.name}.part")
+    part.write_bytes(subprocess.run(["gzip", "-9n"], **how).stdout)
     os.replace(part, path)
 
 
@@ -105,10 +119,11 @@ def main():
     top = f"morris-{version()}-x86_64-linux"
     files = contents(out, wheel)
     files["SHA256SUMS"] = digests(files)
-    write_archive(out / f"{top}.tar.xz", top, files)
-    made = {it: (out / it).read_bytes() for it in (f"{top}.tar.xz", wheel)}
+    write_archive(out / f"{top}.tar.gz", top, files)
+    made = {it: (out / it).read_bytes() for it in (f"{top}.tar.gz", wheel)}
     (out / "SHA256SUMS").write_bytes(digests(made))
-    print(f"{out / top}.tar.xz")
+    print(f"{out / top}.tar.gz")
 
 
-main()
+if __name__ == "__main__":
+    main()

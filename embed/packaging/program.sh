@@ -5,12 +5,15 @@ set -eu
 place=$1
 named=${2-}
 CDPATH='' cd -P -- "$(dirname -- "$0")/../.."
+root=$PWD
 built=crates/morris/out/morris
-packed=release/morris-x86_64-linux.gz
 
-told() {
-    sed -n "s/^$1 //p" release/BUILT
+refuse() {
+    echo "$1" >&2
+    exit 1
 }
+
+. ci/archive.sh
 
 is_built() {
     [ -x "$built" ] &&
@@ -21,16 +24,14 @@ if [ -n "$named" ]; then
     cp -- "$named" "$place.part"
 elif is_built; then
     cp -- "$built" "$place.part"
-elif [ -f release/BUILT ] && [ "$(told sources)" = "$(sh ci/sources)" ]; then
-    gzip -dc < "$packed" > "$place.part"
-    if ! echo "$(told program)  $place.part" | sha256sum --check --status; then
-        echo "$packed hasn't the digest that release/BUILT tells" >&2
-        exit 1
-    fi
+elif [ "$(told sources)" = "$(sh ci/sources)" ]; then
+    hold_archive
+    from_archive libexec/morris/morris > "$place.part" ||
+        refuse "$packed can't be unpacked into $place.part"
+    hold_against "$place.part" "$(told program)"
 else
-    echo "the program isn't built from these sources: run ./morris --from-proofs once," \
-        "or name it by PROGRAM=PATH" >&2
-    exit 1
+    refuse "the program isn't built from these sources: run ./morris --from-proofs once, or name \
+it by PROGRAM=PATH"
 fi
 chmod 755 "$place.part"
 mv -f -- "$place.part" "$place"
