@@ -13,8 +13,10 @@ A part stands between a mark `<!-- from KIND WORDS -->`, of one line or more, an
     edits                     the edits that the prover has to refuse, crate by crate
     edit-counts               how many there are of each crate
     options COMMAND           the options of a command, as its help lists them
+    pairs FILE                what bench/pairs printed into docs/FILE, as a table
 """
 
+import csv
 import os
 import re
 import subprocess
@@ -185,12 +187,25 @@ def options(path, command):
     return made
 
 
+def pairs(_, file):
+    """What was found of each pair, as a table."""
+    rows = csv.DictReader(read(f"docs/{file}").splitlines())
+    made = ["| pair | deepest win | deepest loss | won | lost | drawn | SHA-256 |"]
+    made += ["|---|---|---|---|---|---|---|"]
+    for row in rows:
+        counts = " | ".join(f"{int(row[it]):,}" for it in ("won", "lost", "drawn"))
+        depths = f"{row['deepest win']} | {row['deepest loss']}"
+        made.append(f"| {row['pair']} | {depths} | {counts} | `{row['sha256']}` |")
+    return made
+
+
 MAKERS = {
     "definitions": definitions,
     "source": source,
     "edits": edits,
     "edit-counts": edit_counts,
     "options": options,
+    "pairs": pairs,
 }
 
 
