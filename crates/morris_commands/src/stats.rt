@@ -1,5 +1,5 @@
 //! The command `stats`.
-ghost use Rattle.std.specs.Prelude.{◌≡◌, ◌≢◌, ◌-◌, ◌^◌, ◌<◌, None, Some, IfErr, IfOk, OnOk};
+ghost use Rattle.std.specs.Prelude.{◌≡◌, ◌≢◌, ◌-◌, ◌^◌, ◌<◌, None, Some, true, IfErr, IfOk, OnOk};
 ghost use Rattle.morris_index.specs.Pairs.{Counts, EndsIn, below_of};
 ghost use Rattle.morris_pairs.specs.Counting.{coded_entries};
 ghost use Rattle.morris_pairs.specs.Known.{IsBeyondCodes};
@@ -132,7 +132,7 @@ fn print_deepest<B: Geometry, S: Sink>(
 ) -> Result<(), Fault>
     requires failures { S.failures output.old < 2 ^ 64 - 1 }
     requires exact { IsTable B.shape table.now }
-    requires same { entries.old ≡ coded_entries table.now.layout table.now.pair (Some table.now.codes) }
+    requires same { entries.old ≡ coded_entries table.now.layout table.now.pair (Some table.now.codes) true }
     ensures answer { AnswersCounts B.shape table.now.pair Form.Deepest (S.contents output.old) (S.contents output.new) result }
     ensures counted { CountsWrites (S.failures output.old) (S.failures output.new) result }
 {

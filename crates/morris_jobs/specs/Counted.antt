@@ -1,6 +1,6 @@
 -- How many positions of a pair have each value, as it is printed: as lines of text, or as lines of
 -- fields with commas between them.
-use Rattle.std.specs.Prelude.{◌≡◌, ◌⊎◌, ℕ, ◌%◌, ◌<◌, Bool, true, false, List, [], ◌∷◌, ◌++◌, nat_eq, length, drop, slice_index, codes, Option, None, Result, Err, IfSome, if◌then◌else◌}
+use Rattle.std.specs.Prelude.{◌≡◌, ◌⊎◌, ℕ, ◌%◌, ◌<◌, Bool, true, false, List, [], ◌∷◌, ◌++◌, nat_eq, length, drop, slice_index, codes, Option, Result, Err, IfSome, if◌then◌else◌}
 use Rattle.std.specs.List.{flat_map, range_with_len}
 use Rattle.std.specs.Fmt.{decimal}
 use Rattle.std.specs.Io.KnownBytes.{Keeps}
@@ -104,9 +104,9 @@ PrintsStated board entries csv old new result =
     PrintsSome board entries.pair csv old new result
     × IfSome entries.stated (λ known. PrintsTallies board entries.pair csv (HasStated board (table_of entries known)) old new result)
 
--- What is answered of them: want of memory, or codes that can't be read and so aren't known, with
+-- What is answered of them: want of memory, or a code that can't be read, where that may be, with
 -- nothing printed; otherwise their counts are printed.
 abbrev pub AnswersStated : {T : Type 0} → Shape → CodedEntries → Bool → Option (List ℕ) → Option (List ℕ) → Result T Fault → Type 0
 AnswersStated board entries csv old new result =
     ((result ≡ Err fault.Memory) × Keeps old new)
-    ⊎ (((result ≡ Err fault.Read) × (entries.stated ≡ None) × Keeps old new) ⊎ PrintsStated board entries csv old new result)
+    ⊎ (((result ≡ Err fault.Read) × (entries.unfailing ≡ false) × Keeps old new) ⊎ PrintsStated board entries csv old new result)

@@ -1,6 +1,6 @@
 //! How many positions of a pair have each value, as it is counted from the codes of entries and
 //! printed.
-ghost use Rattle.std.specs.Prelude.{◌≡◌, ◌≢◌, ◌-◌, ◌^◌, ◌<◌, ◌≤◌, Err, true, false, length, IfOk, IfSome, IsSome};
+ghost use Rattle.std.specs.Prelude.{◌≡◌, ◌≢◌, ◌-◌, ◌^◌, ◌<◌, ◌≤◌, Err, true, false, length, IfOk, IfSome};
 ghost use Rattle.morris_pairs.specs.Counting.{AreTallies, HasStated, table_of, with_own};
 ghost use Rattle.morris_pairs.specs.declared.counting.CountFault.TheVariants as fault;
 ghost use Rattle.morris_jobs.specs.Counted.{AnswersStated};
@@ -47,7 +47,7 @@ impl<B: Geometry> Tallied<B> {
         ensures pair { IfOk result (λ tallied. tallied.pair ≡ entries.old.pair) }
         ensures few { IfOk result (λ tallied. length tallied.tallies.items ≤ 2 ^ 16) }
         ensures counted { IfOk result (λ tallied. IfSome entries.old.stated (λ known. AreTallies (HasStated B.shape (table_of entries.old known)) tallied.tallies.items)) }
-        ensures sure { IsSome entries.old.stated → result ≢ Err fault.Read }
+        ensures sure { entries.old.unfailing ≡ true → result ≢ Err fault.Read }
     {
         let (pair, count) = (entries.pair(), entries.count());
         let tallies = entries.tally(alloc, true, 0, count)?;
@@ -80,7 +80,7 @@ impl<B: Geometry> Halves<B> {
             → AreTallies (with_own entries.old.pair.lesser (HasStated B.shape (table_of entries.old known))) halves.lesser.items)) }
         ensures greater { IfOk result (λ halves. IfSome entries.old.stated (λ known.
             AreTallies (with_own entries.old.pair.greater (HasStated B.shape (table_of entries.old known))) halves.greater.items)) }
-        ensures sure { IsSome entries.old.stated → result ≢ Err fault.Read }
+        ensures sure { entries.old.unfailing ≡ true → result ≢ Err fault.Read }
     {
         let (pair, first, count) = (entries.pair(), entries.first_half(), entries.count());
         let greater = entries.tally(alloc, true, 0, first)?;

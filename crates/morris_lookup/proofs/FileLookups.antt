@@ -20,7 +20,7 @@ use Rattle.morris_pairs.proofs.ReadingLaws.{ok_same}
 use Rattle.morris_lookup.specs.Storage.{bytes_at, LiesWithin, ReadsAt}
 use Rattle.morris_lookup.specs.Opening.{OpenFile, framed_in, IsOpen}
 use Rattle.morris_lookup.specs.Lookups.{code_at, code_for, IsExactFile}
-use Rattle.morris_lookup.proofs.OpeningLaws.{framed_file, size_of_framed}
+use Rattle.morris_lookup.proofs.OpeningLaws.{framed_file, known_framed, size_of_framed}
 
 between : (front part rest : List ℕ) (place : ℕ) → length front ≡ place → length part ≡ 2 → bytes_at (front ++ (part ++ rest)) place 2 ≡ part
 between front part rest place at two = ap (take 2) (drop_at front (part ++ rest) place at) ∙ take_at part rest 2 two
@@ -91,7 +91,7 @@ module _ (board : Shape) (n : ℕ) (points : board.points ≡ n) (low : board.po
     pub exact_code : (code : ℕ) → IfSome file.bytes (λ b. code ≡ code_for board file b s) → IsExactFile board file
         → entry_index board n file.layout file.pair s < entry_count board n file.layout file.pair → IsCodeOf board s code
     exact_code code is exact inside =
-        let framed = known file.bytes (file_of board exact.0) exact.2 right.framed in
+        let framed = known file.bytes (file_of board exact.0) exact.2 (known_framed board file right) in
         let here : entry < entry_count board board.points file.layout file.pair =
         subst (λ m. entry_index board m file.layout file.pair s < entry_count board m file.layout file.pair) (sym points) inside in
         subst (IsCodeOf board s) (sym (stated file.bytes (file_of board exact.0) code exact.2 is))

@@ -24,8 +24,8 @@ use Rattle.morris_pairs.specs.declared.file_faults.ReadFault.TheVariants as faul
 use Rattle.morris_pairs.proofs.FileLaws.{header_in-short, file_in-file_of, length-file_of}
 use Rattle.morris_pairs.proofs.ReadingLaws.{ok_same, room_refused}
 use Rattle.morris_lookup.specs.declared.fault.OpenFault.TheVariants as opening
-use Rattle.morris_lookup.specs.Storage.{bytes_at, ReadsAt, CountsBytes}
-use Rattle.morris_lookup.specs.Opening.{file_size, measured_in, framed_in, borne_out, BeginsWith, IsFramingRefusal, IsOpeningRefusal, Opens}
+use Rattle.morris_lookup.specs.Storage.{bytes_at, CountsBytes}
+use Rattle.morris_lookup.specs.Opening.{file_size, measured_in, framed_in, borne_out, BeginsWith, IsFramingRefusal, IsOpen, IsOpeningRefusal, OpenFile, Opens}
 
 -- ---- the last steps
 
@@ -134,6 +134,14 @@ not_borne stated n count refusal e = elim (cases_Bool (nat_eq stated count)) [
 
 -- ---- the same where the bytes may be known
 
+-- what holds of bytes that are known though reads may fail holds of those of which none fails
+pub held_known : (o held : Option (List ℕ)) (P : List ℕ → Type 0) → IfSome o (λ bytes. held ≡ Some bytes) → IfSome held P → IfSome o P
+held_known None held P same h = tt
+held_known (Some bytes) held P same h = subst (λ o. IfSome o P) same h
+
+pub known_framed : (board : Shape) (file : OpenFile) → IsOpen board file → IfSome file.bytes (λ bytes. framed_in board bytes ≡ Ok (file.layout, file.pair))
+known_framed board file right = held_known file.bytes file.held (λ bytes. framed_in board bytes ≡ Ok (file.layout, file.pair)) right.kept right.framed
+
 module _ (board : Shape) (o : Option (List ℕ)) where
   abbrev IsRefusedBy : ReadFault → Type 0
   IsRefusedBy refusal = IfSome o (λ bytes. IsFramingRefusal board bytes refusal)
@@ -182,12 +190,12 @@ other_pair board wanted None kind framed other = tt
 other_pair board wanted (Some bytes) kind framed other = (kind, framed, other)
 
 -- what a reader found that counted the bytes and read the first of them
-module _ (E T F : Type 0) (n : ℕ) (front : List ℕ) (done : T) (sized : length front ≡ 16) (enough : 16 ≤ n) (header : Header) (is : header ≡ header_at front) where
-  pub begins_with : (o : Option (List ℕ)) → CountsBytes {E = E} o (Ok n) → ReadsAt {T = T} {E = F} o 0 front (Ok done) → IfSome o (BeginsWith header n)
+module _ (n : ℕ) (front : List ℕ) (sized : length front ≡ 16) (enough : 16 ≤ n) (header : Header) (is : header ≡ header_at front) where
+  pub begins_with : (o : Option (List ℕ)) → IfSome o (λ bytes. n ≡ length bytes) → IfSome o (λ bytes. front ≡ bytes_at bytes 0 (length front))
+      → IfSome o (BeginsWith header n)
   begins_with None counted read = tt
   begins_with (Some bytes) counted read =
-      let long : n ≡ length bytes = ok_number E n (length bytes) counted in
-      (omega (arith, enough, long), is ∙ ap header_at (read ∙ ap (λ k. bytes_at bytes 0 k) sized), long)
+      (omega (arith, enough, counted), is ∙ ap header_at (read ∙ ap (λ k. bytes_at bytes 0 k) sized), counted)
 
 pub too_short : (E : Type 0) (o : Option (List ℕ)) (n : ℕ) → CountsBytes {E = E} o (Ok n) → n < 16 → (refusal : ReadFault) → refusal ≡ fault.Short
     → IfSome o (λ bytes. (length bytes < 16) × (refusal ≡ fault.Short))

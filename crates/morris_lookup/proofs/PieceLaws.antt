@@ -1,5 +1,5 @@
 -- The codes of an open file, piece by piece.
-use Rattle.std.proofs.Common.{◌≡◌, ℕ, ◌+◌, ◌-◌, ◌*◌, ◌<◌, ◌≤◌, false, true, List, [], ◌∷◌, ◌++◌, length, take, drop, get_or, map, Option, None, Some, Result, Ok, Err, option_map, refl, sym, ap, ap₂, subst, ◌∙◌, zero-add, arith}
+use Rattle.std.proofs.Common.{◌≡◌, ℕ, ◌+◌, ◌-◌, ◌*◌, ◌<◌, ◌≤◌, false, true, List, [], ◌∷◌, ◌++◌, length, take, drop, get_or, map, Option, None, Some, Ok, Err, option_map, refl, sym, ap, ap₂, subst, ◌∙◌, zero-add, arith}
 use Rattle.std.specs.Prelude.{IfSome, IsSome}
 use Rattle.std.specs.Int.{w16, from_be_bytes}
 use Rattle.std.specs.List.{range_with_len}
@@ -20,7 +20,7 @@ use Rattle.morris_lookup.specs.Lookups.{code_at}
 use Rattle.morris_lookup.specs.Opening.{IsOpen, OpenFile, framed_in}
 use Rattle.morris_lookup.specs.Storage.{LiesWithin, ReadsAt, bytes_at}
 use Rattle.morris_lookup.proofs.FileLookups.{code_at-file}
-use Rattle.morris_lookup.proofs.OpeningLaws.{framed_file, size_of_framed}
+use Rattle.morris_lookup.proofs.OpeningLaws.{framed_file, known_framed, size_of_framed}
 
 -- two bytes that stand within the first ones
 within_first : (xs : List ℕ) (place n : ℕ) → place + 2 ≤ n → bytes_at (take n xs) place 2 ≡ bytes_at xs place 2
@@ -46,10 +46,10 @@ module _ (bytes out : List ℕ) (first many : ℕ) (read : take (2 * many) out �
       ap (from_be_bytes w16) (in_piece (entry - first) (omega (arith, low, less)) ∙ ap (λ i. bytes_at bytes (16 + 2 * i) 2) place)
 
 -- where a read filled the first bytes of a piece with theirs
-pub piece_of : (E : Type 0) (o : Option (List ℕ)) (place first many : ℕ) (new rest : List ℕ) → place ≡ 16 + 2 * first → length new ≡ 2 * many
-    → ReadsAt {T = Unit {0}} {E = E} o place new (Ok tt) → IfSome o (λ bytes. IsPiece bytes first (first + many) (new ++ rest))
-piece_of E None place first many new rest at size read = tt
-piece_of E (Some bytes) place first many new rest at size read =
+pub piece_of : (o : Option (List ℕ)) (place first many : ℕ) (new rest : List ℕ) → place ≡ 16 + 2 * first → length new ≡ 2 * many
+    → IfSome o (λ bytes. new ≡ bytes_at bytes place (length new)) → IfSome o (λ bytes. IsPiece bytes first (first + many) (new ++ rest))
+piece_of None place first many new rest at size read = tt
+piece_of (Some bytes) place first many new rest at size read =
     let front : take (2 * many) (new ++ rest) ≡ new = ap (λ n. take n (new ++ rest)) (sym size) ∙ take-append_seam new rest in
     piece_read bytes (new ++ rest) first many (front ∙ (read ∙ ap₂ (bytes_at bytes) at size))
 
@@ -99,19 +99,11 @@ two_at bytes place within =
     ap (take 2) (drop_more bytes place 0 (omega (arith, within)) ∙ ap (λ rest. get_or bytes place 0 ∷ rest) (drop_more bytes (place + 1) 0 within))
 
 -- the code is the one that is known, where the bytes are
-pub piece_known : (E : Type 0) (o : Option (List ℕ)) (piece : List ℕ) (first end n entry code : ℕ) → IfSome o (λ bytes. IsPiece bytes first end piece)
+pub piece_known : (o : Option (List ℕ)) (piece : List ℕ) (first end n entry code : ℕ) → IfSome o (λ bytes. IsPiece bytes first end piece)
     → first ≤ entry → entry < end → end ≤ n → code ≡ from_be_bytes w16 (bytes_at piece (2 * (entry - first)) 2)
-    → IfSome (option_map (stated_codes n) o) (λ known. ◌≡◌ {A = Result ℕ E} (Ok code) (Ok (get_or known entry 0)))
-piece_known E None piece first end n entry code there low less within is = tt
-piece_known E (Some bytes) piece first end n entry code there low less within is =
-    ap (λ k. Ok k) (piece_code bytes piece first end n entry code there low less within is)
-
--- codes that can't be read aren't known
-pub piece_unread : (o : Option (List ℕ)) (n : ℕ) (Q : List ℕ → Type 0) → (IsSome o → false ≡ true) → IfSome (option_map (stated_codes n) o) Q
-piece_unread None n Q sure = tt
-piece_unread (Some bytes) n Q sure =
-    let bad : false ≡ true = sure refl in
-    cc
+    → IfSome (option_map (stated_codes n) o) (λ known. code ≡ get_or known entry 0)
+piece_known None piece first end n entry code there low less within is = tt
+piece_known (Some bytes) piece first end n entry code there low less within is = piece_code bytes piece first end n entry code there low less within is
 
 -- an open file that is the file of a table is of its layout and pair, and states its codes
 module _ (board : Shape) (low : board.points ≤ 24) (y : HasSymmetries board) (file : OpenFile) (right : IsOpen board file) (t : Table) (exact : IsTable board t)
@@ -120,7 +112,7 @@ module _ (board : Shape) (low : board.points ≤ 24) (y : HasSymmetries board) (
   same_kind =
       let found : framed_in board (file_of board t) ≡ Ok (t.layout, t.pair) = framed_file board low y t (IsRaw-from_exact board t exact) in
       let framed : framed_in board (file_of board t) ≡ Ok (file.layout, file.pair) =
-      subst (λ o. IfSome o (λ bytes. framed_in board bytes ≡ Ok (file.layout, file.pair))) is right.framed in
+      subst (λ o. IfSome o (λ bytes. framed_in board bytes ≡ Ok (file.layout, file.pair))) is (known_framed board file right) in
       ok_same {A = Layout × Counts} (framed_in board (file_of board t)) (file.layout, file.pair) (t.layout, t.pair) framed found
 
   pub layout_of_table : file.layout ≡ t.layout
@@ -133,5 +125,6 @@ module _ (board : Shape) (low : board.points ≤ 24) (y : HasSymmetries board) (
   codes_of_table =
       let counts : entry_count board board.points file.layout file.pair ≡ length t.codes =
       ap₂ (entry_count board board.points) layout_of_table pair_of_table ∙ sym exact.counted in
-      ap (option_map (stated_codes (entry_count board board.points file.layout file.pair))) is
+      let held : file.held ≡ Some (file_of board t) = subst (λ o. IfSome o (λ bytes. file.held ≡ Some bytes)) is right.kept in
+      ap (option_map (stated_codes (entry_count board board.points file.layout file.pair))) held
       ∙ ap (λ codes. Some codes) (ap (λ n. stated_codes n (file_of board t)) counts ∙ stated_codes-file board t exact.small)

@@ -14,7 +14,7 @@ stated_codes n bytes = map (code_at bytes) (range_with_len 0 n)
 
 -- those that an open file states, where its bytes are known
 abbrev pub codes_in_file : Shape → OpenFile → Option (List ℕ)
-codes_in_file board file = option_map (stated_codes (entry_count board board.points file.layout file.pair)) file.bytes
+codes_in_file board file = option_map (stated_codes (entry_count board board.points file.layout file.pair)) file.held
 
 -- a piece begins with the codes that bytes state from one entry on and below another
 abbrev pub IsPiece : List ℕ → ℕ → ℕ → List ℕ → Type 0

@@ -37,19 +37,22 @@ abbrev pub IsOpeningRefusal : Shape → Counts → List ℕ → OpenFault → Ty
 IsOpeningRefusal board wanted bytes (fault.File refusal) = IsFramingRefusal board bytes refusal
 IsOpeningRefusal board wanted bytes fault.Pair = (kind : Layout × Counts) × (framed_in board bytes ≡ Ok kind) × (kind.1 ≢ wanted)
 
--- a file that is open: what its header says, and the bytes where they are known
+-- a file that is open: what its header says; the bytes, where they are known and no read of them
+-- fails; and the bytes where they are known, though reads may fail
 pub record OpenFile : Type 0 where
   pub layout : Layout
   pub pair : Counts
   pub bytes : Option (List ℕ)
+  pub held : Option (List ℕ)
 
-abbrev pub open_file : Layout → Counts → Option (List ℕ) → OpenFile
-open_file layout pair bytes = record { layout = layout; pair = pair; bytes = bytes }
+abbrev pub open_file : Layout → Counts → Option (List ℕ) → Option (List ℕ) → OpenFile
+open_file layout pair bytes held = record { layout = layout; pair = pair; bytes = bytes; held = held }
 
 -- the bytes are those of a file by their header and number, and it is of this layout and pair
 pub record IsOpen (board : Shape) (file : OpenFile) : Type 0 where
   pub lawful : IsPair board.points file.pair
-  pub framed : IfSome file.bytes (λ bytes. framed_in board bytes ≡ Ok (file.layout, file.pair))
+  pub framed : IfSome file.held (λ bytes. framed_in board bytes ≡ Ok (file.layout, file.pair))
+  pub kept : IfSome file.bytes (λ bytes. file.held ≡ Some bytes)
 
 -- what may be the answer where the bytes are the file of a table: it is opened in the table's
 -- layout, but that room for the classes may be missing

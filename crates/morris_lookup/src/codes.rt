@@ -37,7 +37,7 @@ impl<'a, B: Geometry, S: Storage> Model for Codes<'a, B, S> {
 
     ghost invariant = { λ codes. (vec_len codes.piece ≡ 2 ^ 16) × (codes.first ≤ codes.end) × (codes.end ≤ codes.first + 2 ^ 15)
         × (codes.end ≤ entry_count B.shape B.POINTS codes.file.now.layout codes.file.now.pair)
-        × IfSome codes.file.now.bytes (λ bytes. IsPiece bytes codes.first codes.end codes.piece.items) };
+        × IfSome codes.file.now.held (λ bytes. IsPiece bytes codes.first codes.end codes.piece.items) };
 }
 
 impl<'a, B: Geometry, S: Storage> Codes<'a, B, S> {
@@ -59,10 +59,13 @@ impl<'a, B: Geometry, S: Storage> Codes<'a, B, S> {
 }
 
 impl<B: Geometry, S: Storage> Coded for Codes<'_, B, S> {
+    ghost use Rattle.std.specs.Prelude.{is_some};
     ghost use Rattle.morris_pairs.specs.Entries.{entry_count};
     ghost use Rattle.morris_lookup.specs.FileCodes.{codes_in_file};
 
     ghost stated = { λ file. codes_in_file B.shape file };
+
+    ghost unfailing = { λ file. is_some file.bytes };
 
     ghost many = { λ file. entry_count B.shape B.POINTS file.layout file.pair };
 

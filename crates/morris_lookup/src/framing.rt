@@ -12,7 +12,7 @@ use morris_pairs::reading::DIGEST;
 /// # Errors
 /// `Short` where there are fewer bytes than a header has, and `Read` where they can't be read.
 pub(crate) fn header_of<S: Storage>(storage: &S) -> Result<(Header, u64), ReadFault>
-    ensures found { IfOk result (λ read. IfSome (S.contents storage.now) (BeginsWith read.0 read.1)) }
+    ensures found { IfOk result (λ read. IfSome (S.held storage.now) (BeginsWith read.0 read.1)) }
     ensures refused { IfErr result (λ fault. IfSome (S.contents storage.now) (λ bytes. (length bytes < 16) × (fault ≡ ReadFault.Short))) }
 {
     let length = storage.len()?;

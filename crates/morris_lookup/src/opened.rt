@@ -49,9 +49,9 @@ impl<B: Geometry, S: Storage> Model for Opened<B, S> {
 
     ghost Value = { OpenFile };
 
-    ghost view = { λ file. open_file file.layout file.pair (S.contents file.storage) };
+    ghost view = { λ file. open_file file.layout file.pair (S.contents file.storage) (S.held file.storage) };
 
-    ghost invariant = { λ file. IsOpen B.shape (open_file file.layout file.pair (S.contents file.storage))
+    ghost invariant = { λ file. IsOpen B.shape (open_file file.layout file.pair (S.contents file.storage) (S.held file.storage))
         × Serve B.shape file.layout file.pair file.greater.items file.lesser.items
         × Lead B.shape file.layout file.pair file.greater_leads.items file.lesser_leads.items };
 }
@@ -93,7 +93,7 @@ impl<B: Geometry, S: Storage> Opened<B, S> {
         ensures more { IfOk result (λ end. first < end) }
         ensures fits { IfOk result (λ end. 2 * (end - first) ≤ length out.old) }
         ensures within { IfOk result (λ end. end ≤ entry_count B.shape B.POINTS self.now.layout self.now.pair) }
-        ensures read { IfSome self.now.bytes (λ bytes. IfOk result (λ end. IsPiece bytes first end out.new)) }
+        ensures read { IfSome self.now.held (λ bytes. IfOk result (λ end. IsPiece bytes first end out.new)) }
         ensures sure { IsSome self.now.bytes → IsOk result }
     {
         let many = (self.count() - first).min((out.len() / 2) as u64);
@@ -177,6 +177,7 @@ impl<B: Geometry, S: Storage + Drop> Opened<B, S> {
     pub fn open(alloc: Global, storage: S, pair: Pair<B>) -> Result<Opened<B, S>, OpenFault>
         ensures pair { IfOk result (λ file. file.pair ≡ pair) }
         ensures bytes { IfOk result (λ file. file.bytes ≡ S.contents storage) }
+        ensures held { IfOk result (λ file. file.held ≡ S.held storage) }
         ensures right { IfOk result (IsOpen B.shape) }
         ensures refused { IfErr result (λ fault. IfSome (S.contents storage) (λ bytes. IsOpeningRefusal B.shape pair bytes fault)) }
         // The file of any table of the pair is opened, in either layout.
@@ -206,6 +207,7 @@ fn frame<B: Geometry, S: Storage + Drop>(
     storage: S,
 ) -> Result<Opened<B, S>, ReadFault>
     ensures bytes { IfOk result (λ file. file.bytes ≡ S.contents storage) }
+    ensures held { IfOk result (λ file. file.held ≡ S.held storage) }
     ensures right { IfOk result (IsOpen B.shape) }
     ensures refused { IfErr result (λ fault. IfSome (S.contents storage) (λ bytes. IsFramingRefusal B.shape bytes fault)) }
 {

@@ -1,6 +1,6 @@
 //! Where the bytes of a table file lie.
-ghost use Rattle.std.specs.Prelude.{◌≡◌, ℕ, List, Option, Some, None, length};
-ghost use Rattle.morris_lookup.specs.Storage.{LiesWithin, ReadsAt, CountsBytes};
+ghost use Rattle.std.specs.Prelude.{◌≡◌, ℕ, List, Option, Some, None, length, IfOk, IfSome, OnOk};
+ghost use Rattle.morris_lookup.specs.Storage.{LiesWithin, ReadsAt, CountsBytes, bytes_at};
 
 use morris_board::streams::Failed;
 use std::fs::File;
@@ -11,12 +11,16 @@ pub trait Storage {
     /// The bytes, where they are known. Then no call fails.
     ghost contents: { Self → Option (List ℕ) };
 
+    /// The bytes, where they are known, whether or not calls may fail. Those of `contents` are.
+    ghost held: { Self → Option (List ℕ) };
+
     /// How many bytes there are.
     ///
     /// # Errors
     /// [`Failed`] where that can't be asked for.
     fn len(&self) -> Result<u64, Failed>
-        ensures { CountsBytes (contents self.now) result };
+        ensures counted { CountsBytes (contents self.now) result }
+        ensures right { IfSome (held self.now) (λ bytes. IfOk result (λ count. count ≡ length bytes)) };
 
     /// Fills `out` with the bytes from `place` on. All of them have to be there.
     ///
@@ -25,12 +29,21 @@ pub trait Storage {
     fn read_at(&self, place: u64, out: &mut [u8]) -> Result<(), Failed>
         requires { LiesWithin (contents self.now) place (length out.old) }
         ensures size { length out.new ≡ length out.old }
-        ensures bytes { ReadsAt (contents self.now) place out.new result };
+        ensures bytes { ReadsAt (contents self.now) place out.new result }
+        ensures right { IfSome (held self.now) (λ bytes. OnOk result (out.new ≡ bytes_at bytes place (length out.new))) };
+
+    ghost contents_held: { (storage : Self) → IfSome (contents storage) (λ bytes. held storage ≡ Some bytes) };
 }
 
 /// Bytes in memory, which somebody else keeps.
 impl Storage for &[u8] {
+    ghost use Rattle.std.specs.Prelude.{refl};
+
     ghost contents = { λ s. Some s.now };
+
+    ghost held = { λ s. Some s.now };
+
+    ghost contents_held = { λ _. refl };
 
     fn len(&self) -> Result<u64, Failed> {
         let bytes: &[u8] = *self;
@@ -49,6 +62,10 @@ impl Storage for &[u8] {
 /// no call moves the place at which others read.
 impl Storage for File {
     ghost contents = { λ _. None };
+
+    ghost held = { λ _. None };
+
+    ghost contents_held = { λ _. tt };
 
     fn len(&self) -> Result<u64, Failed> {
         match self.metadata() {

@@ -1,6 +1,6 @@
 -- Positions that are counted by the codes of the entries of a table.
 use Rattle.std.proofs.Common.{◌≡◌, ◌≢◌, ◌⊎◌, ℕ, ◌+◌, ◌-◌, ◌*◌, ◌<◌, ◌≤◌, Bool, true, false, List, [], ◌∷◌, ◌++◌, Option, None, Some, Result, Ok, Err, length, get_or, set, take, drop, replicate, refl, sym, ap, ◌∙◌, subst, inl, inr, arith, append-nil, drop_of_length-le, get_or-set_other, get_or-set_same}
-use Rattle.std.specs.Prelude.{IfSome, IsSome, OnOk}
+use Rattle.std.specs.Prelude.{IfSome, OnOk}
 use Rattle.std.specs.List.{AllPairs, Contains}
 use Rattle.std.proofs.lemmas.Bool.{cases_eq, cases_lt}
 use Rattle.std.proofs.lemmas.List.{get_or-append_right, get_or-replicate, get_or_append_left, get_or_past, length-append, length-replicate, take_all}
@@ -330,22 +330,9 @@ module _ (board : Shape) (few : board.points ≤ 24) (y : HasSymmetries board) w
         (h code)
 
 -- a code that was read, where the codes are known
-pub read_known : (E : Type 0) (stated : Option (List ℕ)) (known : List ℕ) (entry code : ℕ)
-    → IfSome stated (λ codes. ◌≡◌ {A = Result ℕ E} (Ok code) (Ok (get_or codes entry 0))) → stated ≡ Some known → code ≡ get_or known entry 0
-read_known E stated known entry code h is =
-    let read : ◌≡◌ {A = Result ℕ E} (Ok code) (Ok (get_or known entry 0)) =
-    subst (λ o. IfSome o (λ codes. ◌≡◌ {A = Result ℕ E} (Ok code) (Ok (get_or codes entry 0)))) is h in
-    cc
-
--- it can't fail then
-pub never_fails : {T E : Type 0} (stated : Option (List ℕ)) (entry : ℕ) (failed : E) → IfSome stated (λ codes. ◌≡◌ {A = Result ℕ E} (Err failed) (Ok (get_or codes entry 0)))
-    → IsSome stated → T
-never_fails None entry failed h some =
-    let bad : false ≡ true = some in
-    cc
-never_fails {T} {E} (Some known) entry failed h some =
-    let bad : ◌≡◌ {A = Result ℕ E} (Err failed) (Ok (get_or known entry 0)) = h in
-    cc
+pub read_known : (stated : Option (List ℕ)) (known : List ℕ) (entry code : ℕ) → IfSome stated (λ codes. code ≡ get_or codes entry 0) → stated ≡ Some known
+    → code ≡ get_or known entry 0
+read_known stated known entry code h is = subst (λ o. IfSome o (λ codes. code ≡ get_or codes entry 0)) is h
 
 -- ---- the codes of an exact table say the game's values
 

@@ -77,14 +77,16 @@ abbrev pub first_half_of : Shape → ℕ → Layout → Counts → ℕ
 first_half_of board n Full c = half_size n c.greater c.lesser
 first_half_of board n Classes c = class_half_size board n c.greater c.lesser
 
--- the entries of a pair in a layout, and their codes where they are known
+-- the entries of a pair in a layout, their codes where they are known, and whether none of these
+-- fails to be read
 pub record CodedEntries : Type 0 where
   pub layout : Layout
   pub pair : Counts
   pub stated : Option (List ℕ)
+  pub unfailing : Bool
 
-abbrev pub coded_entries : Layout → Counts → Option (List ℕ) → CodedEntries
-coded_entries layout pair stated = record { layout = layout; pair = pair; stated = stated }
+abbrev pub coded_entries : Layout → Counts → Option (List ℕ) → Bool → CodedEntries
+coded_entries layout pair stated unfailing = record { layout = layout; pair = pair; stated = stated; unfailing = unfailing }
 
 -- the table of these codes
 abbrev pub table_of : CodedEntries → List ℕ → Table

@@ -1,6 +1,6 @@
 //! The entries of a pair with codes that are read one after the other, and how many positions have
 //! each code.
-ghost use Rattle.std.specs.Prelude.{◌≡◌, ◌≢◌, ℕ, ◌*◌, ◌^◌, ◌<◌, ◌≤◌, Bool, List, Option, Some, Ok, Err, None, true, false, length, slice_index, IfOk, IfSome, IsOk, IsSome, MatchOption, OnOk, vec_len};
+ghost use Rattle.std.specs.Prelude.{◌≡◌, ◌≢◌, ℕ, ◌*◌, ◌^◌, ◌<◌, ◌≤◌, Bool, List, Option, Some, Err, None, true, false, length, slice_index, IfOk, IfSome, IsOk, MatchOption, OnOk, vec_len};
 ghost use Rattle.morris_board.specs.Boards.{Shape};
 ghost use Rattle.morris_board.specs.Positions.{IsPosition};
 ghost use Rattle.morris_index.specs.ClassPairs.{class_size_of};
@@ -27,8 +27,10 @@ const CODES: usize = 1 << 16;
 
 /// Codes of entries, which are read one after the other.
 pub trait Coded {
-    // The codes, where they are known. Then no call fails.
+    // The codes, where they are known. A call may fail all the same.
     ghost stated: { Self → Option (List ℕ) };
+    // Whether no call fails.
+    ghost unfailing: { Self → Bool };
     // How many there are.
     ghost many: { Self → ℕ };
 
@@ -39,13 +41,17 @@ pub trait Coded {
     fn read_code(&mut self, entry: u64) -> Result<u16, Failed>
         requires { entry < many self.old }
         ensures stays { stated self.new ≡ stated self.old }
+        ensures as_sure { unfailing self.new ≡ unfailing self.old }
         ensures as_many { many self.new ≡ many self.old }
-        ensures read { IfSome (stated self.old) (λ known. result ≡ Ok (slice_index known entry)) };
+        ensures read { IfSome (stated self.old) (λ known. IfOk result (λ code. code ≡ slice_index known entry)) }
+        ensures sure { unfailing self.old ≡ true → IsOk result };
 }
 
 /// The codes of a table.
 impl<B: Geometry> Coded for &Exact<B> {
     ghost stated = { λ table. Some table.now.codes };
+
+    ghost unfailing = { λ _. true };
 
     ghost many = { λ table. length table.now.codes };
 
@@ -103,7 +109,7 @@ impl<B: Geometry, C: Coded> Model for Entries<B, C> {
 
     ghost Value = { CodedEntries };
 
-    ghost view = { λ entries. coded_entries (layout_of entries.numbering) (pair_of entries.numbering) (C.stated entries.codes) };
+    ghost view = { λ entries. coded_entries (layout_of entries.numbering) (pair_of entries.numbering) (C.stated entries.codes) (C.unfailing entries.codes) };
 
     ghost invariant = { λ entries. entry_count B.shape B.POINTS (layout_of entries.numbering) (pair_of entries.numbering) ≤ C.many entries.codes };
 }
@@ -120,7 +126,7 @@ impl<B: Geometry, C: Coded + Drop> Entries<B, C> {
         codes: C,
     ) -> Result<Entries<B, C>, AllocError>
         requires { entry_count B.shape B.POINTS layout pair ≤ C.many codes }
-        ensures { IfOk result (λ entries. entries ≡ coded_entries layout pair (C.stated codes)) }
+        ensures { IfOk result (λ entries. entries ≡ coded_entries layout pair (C.stated codes) (C.unfailing codes)) }
     {
         let numbering = Numbering::make(alloc, pair, layout)?;
         Ok(Entries { numbering, codes })
@@ -188,7 +194,8 @@ impl<B: Geometry, C: Coded> Entries<B, C> {
     pub fn read_code(&mut self, entry: u64) -> Result<u16, Failed>
         requires { entry < entry_count B.shape B.POINTS self.old.layout self.old.pair }
         ensures stays { self.new ≡ self.old }
-        ensures read { IfSome self.old.stated (λ known. result ≡ Ok (slice_index known entry)) }
+        ensures read { IfSome self.old.stated (λ known. IfOk result (λ code. code ≡ slice_index known entry)) }
+        ensures sure { self.old.unfailing ≡ true → IsOk result }
     {
         self.codes.read_code(entry)
     }
@@ -212,7 +219,7 @@ impl<B: Geometry, C: Coded> Entries<B, C> {
         ensures room { IfOk result (λ tallies. length tallies.items ≡ 2 ^ 16) }
         ensures small { IfOk result (λ tallies. (code : ℕ) → slice_index tallies.items code ≤ 2 ^ 44) }
         ensures counted { IfOk result (λ tallies. IfSome self.old.stated (λ known. AreTalliesOf B.shape (table_of self.old known) all first end tallies.items)) }
-        ensures sure { IsSome self.old.stated → result ≢ Err CountFault.Read }
+        ensures sure { self.old.unfailing ≡ true → result ≢ Err CountFault.Read }
     {
         let mut tallies = no_tallies(alloc, CODES)?;
         self.count_into(all, first, end, tallies.as_mut_slice())?;
@@ -237,7 +244,7 @@ impl<B: Geometry, C: Coded> Entries<B, C> {
         ensures stays { self.new ≡ self.old }
         ensures small { OnOk result ((code : ℕ) → slice_index tallies.new code ≤ 2 ^ 44) }
         ensures counted { OnOk result (IfSome self.old.stated (λ known. AreTalliesOf B.shape (table_of self.old known) all first end tallies.new)) }
-        ensures sure { IsSome self.old.stated → IsOk result }
+        ensures sure { self.old.unfailing ≡ true → IsOk result }
     {
         // The proof learns here how many entries there may be, and the pair's rules.
         let _ = (self.numbering.count(), self.numbering.pair());
@@ -278,12 +285,12 @@ fn count_stretch<C: Coded>(
     requires weight { weight ≤ 16 }
     requires room { length tallies.old ≡ 2 ^ 16 }
     requires small { (code : ℕ) → slice_index tallies.old code ≤ 16 * first }
-    ensures stays { (C.stated codes.new ≡ C.stated codes.old) × (C.many codes.new ≡ C.many codes.old) }
+    ensures stays { (C.stated codes.new ≡ C.stated codes.old) × (C.unfailing codes.new ≡ C.unfailing codes.old) × (C.many codes.new ≡ C.many codes.old) }
     ensures small { OnOk result ((code : ℕ) → slice_index tallies.new code ≤ 16 * end) }
     ensures counted { OnOk result ((board : Shape) (t : Table) (all : Bool) (start : ℕ) → start ≤ first → C.stated codes.old ≡ Some t.codes
         → ((entry : ℕ) → first ≤ entry → entry < end → AreSoMany (IsOfEntry board t.layout t.pair all entry) weight)
         → AreTalliesOf board t all start first tallies.old → AreTalliesOf board t all start end tallies.new) }
-    ensures sure { IsSome (C.stated codes.old) → IsOk result }
+    ensures sure { C.unfailing codes.old ≡ true → IsOk result }
 {
     for entry in first..end {
         let code = codes.read_code(entry)?;
@@ -309,11 +316,11 @@ fn count_rows<B: Geometry, C: Coded>(
     requires within { end ≤ class_size_of B.shape B.POINTS classes.now }
     requires room { length tallies.old ≡ 2 ^ 16 }
     requires none { (code : ℕ) → slice_index tallies.old code ≡ 0 }
-    ensures stays { (C.stated codes.new ≡ C.stated codes.old) × (C.many codes.new ≡ C.many codes.old) }
+    ensures stays { (C.stated codes.new ≡ C.stated codes.old) × (C.unfailing codes.new ≡ C.unfailing codes.old) × (C.many codes.new ≡ C.many codes.old) }
     ensures small { OnOk result ((code : ℕ) → slice_index tallies.new code ≤ 16 * end) }
     ensures counted { OnOk result ((t : Table) → t.layout ≡ Layout.Classes → t.pair ≡ classes.now → C.stated codes.old ≡ Some t.codes
         → AreTalliesOf B.shape t true first end tallies.new) }
-    ensures sure { IsSome (C.stated codes.old) → IsOk result }
+    ensures sure { C.unfailing codes.old ≡ true → IsOk result }
 {
     // The proof learns here how many entries there may be, and the pair's rules.
     let _ = (classes.size(), classes.pair());

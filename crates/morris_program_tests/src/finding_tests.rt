@@ -83,6 +83,10 @@ impl Storage for Cut<'_> {
 
     ghost contents = { λ _. None };
 
+    ghost held = { λ _. None };
+
+    ghost contents_held = { λ _. tt };
+
     fn len(&self) -> Result<u64, Failed> {
         Ok(self.size)
     }

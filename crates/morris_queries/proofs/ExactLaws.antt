@@ -122,11 +122,11 @@ module _ (board : Shape) (few : board.points ≤ 24) (y : HasSymmetries board) (
     from_table bytes right value e =
         let t : Table = right.0 in
         let framed : framed_in board bytes ≡ Ok (t.layout, t.pair) = ap (framed_in board) right.3 ∙ framed_file board few y t (IsRaw-from_exact board t right.1) in
-        let file : OpenFile = open_file t.layout t.pair (Some bytes) in
+        let file : OpenFile = open_file t.layout t.pair (Some bytes) (Some bytes) in
         let opened : opened_as board c (Some bytes) ≡ Ok file = framed_found board c t.layout t.pair bytes right.2 framed in
         let is : Ok (stated_in board s file) ≡ Ok value = sym (ap (λ r. followed r (λ f. Ok (stated_in board s f))) opened) ∙ e in
         let here : is_of t.pair s ≡ true = subst (λ d. is_of d s ≡ true) (sym right.2) of in
-        let lawful : IsOpen board file = record { lawful = right.1.lawful; framed = framed } in
+        let lawful : IsOpen board file = record { lawful = right.1.lawful; framed = framed; kept = refl } in
         let code = exact_code board board.points refl few y file lawful s position here (code_for board file bytes s) refl (t, right.1, ap (λ b. Some b) right.3)
         ((laid board few y t.layout t.pair right.1.lawful).below s position here) in
         subst (IsValue board s) (ok_value (stated_in board s file) value is) code
@@ -245,7 +245,7 @@ module _ (board : Shape) (name : List ℕ) (files : Files) where
           → followed (framed_as c bytes r) (λ file. Ok (stated_in board s file)) ≡ Err fault.Disagree → ⊥
       framed c bytes (Err refusal) e = let is : read_fault refusal ≡ fault.Disagree = cc in read_never refusal is
       framed c bytes (Ok kind) e = elim (cases_Bool (same_counts kind.1 c)) [
-        | inl same ↦ let no : ◌≡◌ {A = Result Value Fault} (Ok (stated_in board s (open_file kind.0 c (Some bytes)))) (Err fault.Disagree) = rw same at e in cc
+        | inl same ↦ let no : ◌≡◌ {A = Result Value Fault} (Ok (stated_in board s (open_file kind.0 c (Some bytes) (Some bytes)))) (Err fault.Disagree) = rw same at e in cc
         | inr other ↦ let no : ◌≡◌ {A = Result Value Fault} (Err (needs_fault c)) (Err fault.Disagree) = rw other at e in cc
       ]
 

@@ -1,8 +1,8 @@
 -- What looking for positions answers, by what became of its steps.
 use Rattle.std.proofs.Common.{◌≡◌, ℕ, ◌+◌, ◌≤◌, Bool, true, false, List, [], Option, Some, None, Result, Ok, Err, refl, inl, inr, arith}
-use Rattle.std.specs.Prelude.{IfSome, IsOk, IsSome}
-use Rattle.std.specs.Io.KnownBytes.{Appends}
-use Rattle.std.proofs.KnownBytes.{Appends-nil, Keeps-refl}
+use Rattle.std.specs.Prelude.{IfSome, IsOk}
+use Rattle.std.proofs.KnownBytes.{Keeps-refl}
+use Rattle.std.proofs.lemmas.Bool.{false_from_ne_true}
 use Rattle.morris_board.specs.Boards.{Shape}
 use Rattle.morris_board.specs.Buffered.{held_of, sent_of, sink_of}
 use Rattle.morris_board.specs.Positions.{Sides}
@@ -25,7 +25,7 @@ use Rattle.morris_queries.specs.declared.find.Stop.TheVariants as stop
 use Rattle.morris_queries.specs.declared.wanted.Kind.{Kind}
 use Rattle.morris_queries.specs.declared.wanted.Wanted.{Wanted}
 use Rattle.morris_queries.specs.declared.wanted.Wanted.TheVariants.{Deepest, Every}
-use Rattle.morris_queries.specs.Found.{AnswersFind, AreKinds, PutsKinds, found_text, has_shown, kind_sum}
+use Rattle.morris_queries.specs.Found.{AnswersFind, AreKinds, PrintsBefore, PutsKinds, found_text, has_shown, kind_sum}
 use Rattle.morris_queries.specs.Wanted.{AreKindsBy}
 use Rattle.morris_queries.proofs.FoundLaws.{many_both, tallied_shown}
 
@@ -34,25 +34,17 @@ not_ok T E P failed ok =
     let bad : false ≡ true = ok in
     cc
 
--- codes of which nothing can be so aren't known
-unknown : (o : Option (List ℕ)) → IfSome o (λ known. ⊥) → o ≡ None
-unknown None h = refl
-unknown (Some known) h = absurd h
-
-unknown_read : {A : Type 0} (o : Option (List ℕ)) → (IsSome o → ◌≡◌ {A = Result A CountFault} (Err count.Read) (Err count.Read) → ⊥) → o ≡ None
-unknown_read None sure = refl
-unknown_read (Some known) sure = absurd (sure refl refl)
-
--- why positions aren't counted: want of memory, or codes that can't be read and so aren't known
+-- why positions aren't counted: want of memory, or a code that can't be read
 pub refused_find : {T A : Type 0} (board : Shape) (entries : CodedEntries) (all : Bool) (wanted : Wanted) (shown : Shown) (output : Option (List ℕ)) (r : Result T Fault)
-    (refused : CountFault) → r ≡ Err (count_fault refused) → (IsSome entries.stated → ◌≡◌ {A = Result A CountFault} (Err refused) (Err count.Read) → ⊥)
+    (refused : CountFault) → r ≡ Err (count_fault refused) → (entries.unfailing ≡ true → ◌≡◌ {A = Result A CountFault} (Err refused) (Err count.Read) → ⊥)
     → AnswersFind board entries all wanted shown output output r
-unfolding found_text
 refused_find board entries all wanted shown output r count.Memory is sure = inl (is, Keeps-refl output)
-refused_find board entries all wanted shown output r count.Read is sure = inr (inl (is, unknown_read entries.stated sure, ([], nothing)))
+refused_find board entries all wanted shown output r count.Read is sure =
+    inr (inl (is, false_from_ne_true entries.unfailing (λ unfailing. sure unfailing refl), nothing shown))
   where
-    nothing : Appends output output (found_text board [])
-    nothing = Appends-nil output
+    nothing : (s : Shown) → PrintsBefore board entries all wanted s output output
+    nothing Count = Keeps-refl output
+    nothing (Texts most) = inl (Keeps-refl output)
 
 are_kinds : (says : Sides → ℕ → Type 0) (wanted : Wanted) (tallies : List ℕ) (kinds : Option Kind × Option Kind) → AreTallies says tallies → AreKindsBy wanted tallies kinds
     → AreKinds says wanted kinds
@@ -92,10 +84,18 @@ module _ {S : Type 0} (contents : S → Option (List ℕ)) (failures : S → ℕ
       inr (inr ((h.0, out), both_some entries.stated _ _ _ (λ known of both. (kinds, most, h.0, of, omega arith, (λ ok. refl), both, out)) are h.2))
 
   -- those went out that were found before a code that can't be read
-  pub read_answered : {T : Type 0} → held_of b ≡ [] → PutsKinds contents failures board {T = T} entries all kinds most a b (Err stop.Read)
+  pub read_answered : {T : Type 0} → held_of b ≡ [] → (entries.unfailing ≡ true → ⊥) → PutsKinds contents failures board {T = T} entries all kinds most a b (Err stop.Read)
       → AnswersFind {T = T} board entries all wanted (Texts most) (contents (sink_of a)) (contents (sink_of b)) (Err fault.Read)
-  read_answered empty h =
-      inr (inl (refl, unknown entries.stated h.2, (h.0, all_out contents failures a b (found_text board h.0) none empty h.1)))
+  read_answered empty sure h =
+      inr (inl (
+        refl,
+        false_from_ne_true entries.unfailing sure,
+        inr (
+          h.0,
+          all_out contents failures a b (found_text board h.0) none empty h.1,
+          both_some entries.stated _ _ _ (λ known of part. (kinds, part.0, of, part.1, part.2)) are h.2,
+        ),
+      ))
 
   -- the first bytes of what is found went out
   pub write_answered : {T : Type 0} → sent_of a ≡ 0 → PutsKinds contents failures board {T = T} entries all kinds most a b (Err stop.Write)

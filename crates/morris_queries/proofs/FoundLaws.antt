@@ -248,18 +248,6 @@ no_texts board most = nothing (take most []) (omega (arith, length-take {A = Sid
 pub falls_enough : (board : Shape) (most : ℕ) (ys rest : List Sides) → most ≤ length ys → found_text board (take most (ys ++ rest)) ≡ found_text board (take most ys)
 falls_enough board most ys rest full = ap (found_text board) (take-append-le most ys rest full)
 
--- a code that can't be read isn't known
-pub unread : {E : Type 0} (stated : Option (List ℕ)) (entry : ℕ) (failed : E) (Q : List ℕ → Type 0)
-    → IfSome stated (λ codes. ◌≡◌ {A = Result ℕ E} (Err failed) (Ok (get_or codes entry 0))) → IfSome stated Q
-unread None entry failed Q h = tt
-unread {E} (Some known) entry failed Q h =
-    let bad : ◌≡◌ {A = Result ℕ E} (Err failed) (Ok (get_or known entry 0)) = h in
-    cc
-
--- one that was read is the one that is known
-pub read_here : {E : Type 0} (known : List ℕ) (entry code : ℕ) → ◌≡◌ {A = Result ℕ E} (Ok code) (Ok (get_or known entry 0)) → code ≡ get_or known entry 0
-read_here known entry code h = cc
-
 -- the position that has an entry for its own is the only one that is shown, where no other is asked
 -- for or each has an entry of its own
 module _ (board : Shape) (few : board.points ≤ 24) (y : HasSymmetries board) (l : Layout) (c : Counts) (pair : IsPair board.points c) (all : Bool)
@@ -520,7 +508,11 @@ module _ {S : Type 0} (contents : S → Option (List ℕ)) (failures : S → ℕ
   -- the first kind came to a stop
   pub puts_first : (T : Type 0) (old new : Buffered S) (why : Stop) → PutsKind contents failures board entries all kinds.0 most old new (Err why)
       → PutsKinds contents failures board {T = T} entries all kinds most old new (Err why)
-  puts_first T old new stop.Read h = (h.0, h.1, some_map entries.stated _ _ (λ known bad. absurd bad) h.2)
+  puts_first T old new stop.Read h = (
+    h.0,
+    h.1,
+    some_map entries.stated _ _ (λ known part. both_first (asked_in known) place_in kinds most part.0 h.0 part.1 part.2) h.2,
+  )
   puts_first T old new stop.Write h = (
     h.0,
     h.1,
@@ -535,7 +527,9 @@ module _ {S : Type 0} (contents : S → Option (List ℕ)) (failures : S → ℕ
       first.0 ++ second.0,
       subst (AllPassed contents failures old new) (sym (found_text-append board first.0 second.0))
           (AllPassed-append contents failures old middle new (found_text board first.0) (found_text board second.0) first.1 second.1),
-      some_map entries.stated _ _ (λ known bad. absurd bad) second.2,
+      both_some entries.stated _ _ _
+          (λ known whole part.
+          both_part (asked_in known) place_in kinds most part.0 first.0 second.0 whole.0 (omega (arith, part.1, whole.1)) part.2) first.2 second.2,
     )
     puts_second T stop.Write second = (
       first.0 ++ second.0,
@@ -591,6 +585,6 @@ module _ {S : Type 0} (contents : S → Option (List ℕ)) (failures : S → ℕ
     h.0,
     subst (PartPassed contents failures old new) (append-nil (found_text board h.0))
         (PartPassed-append contents failures old middle new (found_text board h.0) [] h.1 last),
-    some_map entries.stated _ _ (λ known bad. absurd bad) h.2,
+    h.2,
   )
   puts_cut old middle new (Err stop.Write) unsent h last = absurd (unsent refl)

@@ -1,5 +1,5 @@
 -- What is answered from the file of an exact table is the game's.
-use Rattle.std.proofs.Common.{◌≡◌, ◌⊎◌, ◌≤◌, ℕ, Bool, true, List, Option, None, Some, Result, Err, ◌∙◌, sym, ap, subst, inl, inr, slice_index}
+use Rattle.std.proofs.Common.{◌≡◌, ◌⊎◌, ◌≤◌, ℕ, Bool, true, false, List, Option, None, Some, is_some, Result, Err, ◌∙◌, sym, ap, ap₂, subst, inl, inr, slice_index}
 use Rattle.std.specs.Prelude.{IfSome}
 use Rattle.std.specs.Io.KnownBytes.{Keeps}
 use Rattle.morris_board.specs.Boards.{Shape}
@@ -114,7 +114,7 @@ module _ (board : Shape) (t : Table) (exact : IsTable board t) (all : Bool) wher
         ap (is_of_kind kind) (one_value board s _ h.value (exact.exact s h.lawful h.of) h.valued) ∙ h.asked;
   }
 
-  finds_game : {T : Type 0} (entries : CodedEntries) (same : entries ≡ coded_entries t.layout t.pair (Some t.codes)) (wanted : Wanted) (shown : Shown)
+  finds_game : {T : Type 0} (entries : CodedEntries) (same : entries ≡ coded_entries t.layout t.pair (Some t.codes) true) (wanted : Wanted) (shown : Shown)
       (old new : Option (List ℕ)) (r : Result T Fault) → AnswersFind board entries all wanted shown old new r
       → ((r ≡ Err fault.Memory) × Keeps old new) ⊎ PrintsFound board (λ s code. HasCode board t.pair s code × (is_shown board t.layout all s ≡ true))
       (λ kind s. IsInGame board t.layout t.pair all kind s) (entry_index board board.points t.layout t.pair) wanted shown old new r
@@ -122,7 +122,7 @@ module _ (board : Shape) (t : Table) (exact : IsTable board t) (all : Bool) wher
       elim (subst (λ (e : CodedEntries). AnswersFind board e all wanted shown old new r) same h) [
         | inl memory ↦ inl memory
         | inr (inl unread) ↦
-            let bad : Some t.codes ≡ None = unread.1 in
+            let bad : true ≡ false = unread.1 in
             cc
         | inr (inr found) ↦ inr (prints_same (λ kind s. IsStated board t all kind s) (λ kind s. IsInGame board t.layout t.pair all kind s)
             (entry_index board board.points t.layout t.pair) kind_there kind_back (has_shown board t all)
@@ -139,11 +139,11 @@ module _ (board : Shape) (low : board.points ≤ 24) (y : HasSymmetries board) (
     pairs : file.pair ≡ t.pair
     pairs = pair_of_table board low y file right t exact is
 
-    same_entries : entries_in board file ≡ coded_entries t.layout t.pair (Some t.codes)
+    same_entries : entries_in board file ≡ coded_entries t.layout t.pair (Some t.codes) true
     same_entries =
-        ap (λ (l : Layout). coded_entries l file.pair (codes_in_file board file)) layouts
-        ∙ (ap (λ (c : Counts). coded_entries t.layout c (codes_in_file board file)) pairs ∙ ap (λ stated. coded_entries t.layout t.pair stated)
-        (codes_of_table board low y file right t exact is))
+        ap (λ (l : Layout). coded_entries l file.pair (codes_in_file board file) (is_some file.bytes)) layouts
+        ∙ (ap (λ (c : Counts). coded_entries t.layout c (codes_in_file board file) (is_some file.bytes)) pairs
+        ∙ ap₂ (coded_entries t.layout t.pair) (codes_of_table board low y file right t exact is) (ap is_some is))
 
     game_answer : {T : Type 0} (question : Question) (old new : Option (List ℕ)) (r : Result T Fault) → AnswersFile board file question old new r
         → IsGameAnswer board file question old new r

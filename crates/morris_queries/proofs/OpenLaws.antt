@@ -13,7 +13,7 @@ use Rattle.morris_pairs.specs.declared.value.Value.TheVariants.{Lost}
 use Rattle.morris_pairs.specs.Codes.{value_in}
 use Rattle.morris_lookup.specs.FileSets.{Files as OpenFiles, file_for, said_of, said_at, said_by, said_in, missing_file, without_file}
 use Rattle.morris_lookup.specs.Lookups.{code_for}
-use Rattle.morris_lookup.specs.Opening.{OpenFile, open_file, framed_in, IsFramingRefusal}
+use Rattle.morris_lookup.specs.Opening.{OpenFile, open_file, framed_in, IsFramingRefusal, IsOpen}
 use Rattle.morris_files.specs.Files.{Files}
 use Rattle.morris_files.specs.Names.{name_of}
 use Rattle.morris_jobs.specs.declared.fault.Fault.{Fault}
@@ -40,24 +40,24 @@ counts_apart c d ne = elim (cases_Bool (same_counts c d)) [
 
 module _ (board : Shape) (c : Counts) where
   pub framed_found : (layout : Layout) (pair : Counts) (bytes : List ℕ) → pair ≡ c → framed_in board bytes ≡ Ok (layout, pair)
-      → opened_as board c (Some bytes) ≡ Ok (open_file layout pair (Some bytes))
+      → opened_as board c (Some bytes) ≡ Ok (open_file layout pair (Some bytes) (Some bytes))
   framed_found layout pair bytes is framed =
-      rw (framed, counts_alike pair c is) (ap (λ p. Ok (open_file layout p (Some bytes))) (sym is))
+      rw (framed, counts_alike pair c is) (ap (λ p. Ok (open_file layout p (Some bytes) (Some bytes))) (sym is))
 
-  known_framed : (o : Option (List ℕ)) (file : OpenFile) (bytes : List ℕ) → o ≡ Some bytes → IfSome o (λ b. framed_in board b ≡ Ok (file.layout, file.pair))
+  framed_at : (o : Option (List ℕ)) (file : OpenFile) (bytes : List ℕ) → o ≡ Some bytes → IfSome o (λ b. framed_in board b ≡ Ok (file.layout, file.pair))
       → framed_in board bytes ≡ Ok (file.layout, file.pair)
-  known_framed None file bytes e h = cc
-  known_framed (Some b) file bytes e h = let same : b ≡ bytes = cc in subst (λ x. framed_in board x ≡ Ok (file.layout, file.pair)) same h
+  framed_at None file bytes e h = cc
+  framed_at (Some b) file bytes e h = let same : b ≡ bytes = cc in subst (λ x. framed_in board x ≡ Ok (file.layout, file.pair)) same h
 
   -- a file that was opened is the one that is to be opened
   pub found_agrees : {F : Type 0} (contents : F → Option (List ℕ)) (stored : Option (List ℕ)) (found : F) (file : OpenFile) → file.pair ≡ c
-      → file.bytes ≡ contents found → IfSome file.bytes (λ b. framed_in board b ≡ Ok (file.layout, file.pair)) → IsFound contents stored (Some found)
-      → opened_as board c stored ≡ Ok file
-  found_agrees contents stored found file pair known framed there =
+      → file.bytes ≡ contents found → IsOpen board file → IsFound contents stored (Some found) → opened_as board c stored ≡ Ok file
+  found_agrees contents stored found file pair known right_file there =
       let bytes : List ℕ = there.0 in
       let have : file.bytes ≡ Some bytes = known ∙ there.2 in
-      let right : framed_in board bytes ≡ Ok (file.layout, file.pair) = known_framed file.bytes file bytes have framed in
-      ap (opened_as board c) there.1 ∙ framed_found file.layout file.pair bytes pair right ∙ ap (λ b. Ok (open_file file.layout file.pair b)) (sym have)
+      let held : file.held ≡ Some bytes = subst (λ o. IfSome o (λ b. file.held ≡ Some b)) have right_file.kept in
+      let right : framed_in board bytes ≡ Ok (file.layout, file.pair) = framed_at file.held file bytes held right_file.framed in
+      ap (opened_as board c) there.1 ∙ framed_found file.layout file.pair bytes pair right ∙ ap₂ (λ b h. Ok (open_file file.layout file.pair b h)) (sym have) (sym held)
 
   -- nothing was found
   pub none_agrees : {F : Type 0} (contents : F → Option (List ℕ)) (stored : Option (List ℕ)) → IsFound contents stored None → opened_as board c stored ≡ Err (needs_fault c)
@@ -144,8 +144,8 @@ module _ (board : Shape) (name : List ℕ) where
   bytes_there c None file e = cc
   bytes_there c (Some bytes) file e = framed_there (framed_in board bytes) e
     where
-      made_there : (b : Bool) (kind : Layout × Counts) → (if b then Ok (open_file kind.0 c (Some bytes)) else Err (needs_fault c)) ≡ Ok file → (bs : List ℕ) × (file.bytes ≡ Some bs)
-      made_there true kind e = let same : open_file kind.0 c (Some bytes) ≡ file = cc in (bytes, ap (λ (f : OpenFile). f.bytes) (sym same))
+      made_there : (b : Bool) (kind : Layout × Counts) → (if b then Ok (open_file kind.0 c (Some bytes) (Some bytes)) else Err (needs_fault c)) ≡ Ok file → (bs : List ℕ) × (file.bytes ≡ Some bs)
+      made_there true kind e = let same : open_file kind.0 c (Some bytes) (Some bytes) ≡ file = cc in (bytes, ap (λ (f : OpenFile). f.bytes) (sym same))
       made_there false kind e = cc
 
       framed_there : (framed : Result (Layout × Counts) ReadFault) → framed_as c bytes framed ≡ Ok file → (bs : List ℕ) × (file.bytes ≡ Some bs)

@@ -1,5 +1,5 @@
 -- What is answered from the file of a pair in a folder, whatever is asked of it.
-use Rattle.std.specs.Prelude.{◌≡◌, ◌⊎◌, ℕ, Bool, true, List, Option, Some, None, Result, Ok, Err}
+use Rattle.std.specs.Prelude.{◌≡◌, ◌⊎◌, ℕ, Bool, true, List, Option, Some, None, is_some, Result, Ok, Err}
 use Rattle.std.specs.Io.KnownBytes.{Keeps}
 use Rattle.morris_board.specs.Boards.{Shape}
 use Rattle.morris_index.specs.Pairs.{Counts}
@@ -22,9 +22,10 @@ use Rattle.morris_queries.specs.Found.{AnswersFind, IsInGame, PrintsFound}
 use Rattle.morris_queries.specs.Telling.{table_in}
 use Rattle.morris_queries.specs.Wanted.{ReadsWanted}
 
--- the entries of an open file, and their codes where its bytes are known
+-- the entries of an open file, and their codes where its bytes are known; where these are known to be
+-- read, no read fails
 abbrev pub entries_in : Shape → OpenFile → CodedEntries
-entries_in board file = coded_entries file.layout file.pair (codes_in_file board file)
+entries_in board file = coded_entries file.layout file.pair (codes_in_file board file) (is_some file.bytes)
 
 -- What is answered of an open file: to a question for counts, how many positions have each code that
 -- the file states; to one for positions, those that have the value.

@@ -1,6 +1,6 @@
 -- The positions of a pair that have a value, by what the entries of a file state, and how they are
 -- printed.
-use Rattle.std.specs.Prelude.{◌≡◌, ◌≢◌, ◌↔◌, ◌⊎◌, ℕ, ◌+◌, ◌-◌, ◌≤◌, Bool, true, List, [], ◌++◌, length, take, slice_index, Option, Some, None, Result, Ok, Err, IfOk, IfSome, IsOk, if◌then◌else◌}
+use Rattle.std.specs.Prelude.{◌≡◌, ◌≢◌, ◌↔◌, ◌⊎◌, ℕ, ◌+◌, ◌-◌, ◌≤◌, Bool, true, false, List, [], ◌++◌, length, take, slice_index, Option, Some, None, Result, Ok, Err, IfOk, IfSome, IsOk, if◌then◌else◌}
 use Rattle.std.specs.List.{AllPairs, Contains, flat_map, range_with_len, sum_by}
 use Rattle.std.specs.Io.KnownBytes.{Appends, Keeps}
 use Rattle.morris_board.specs.Boards.{Shape}
@@ -114,12 +114,27 @@ FindsStated board entries known all wanted shown old new result =
     PrintsFound board (has_shown board (table_of entries known) all) (IsStated board (table_of entries known) all)
     (entry_index board board.points entries.layout entries.pair) wanted shown old new result
 
--- What is answered: want of memory, with nothing printed; codes that can't be read and so aren't
--- known, with what was found before them; otherwise what is found is printed.
+-- these are the first of what is found, so many of them at most
+abbrev pub AreFirstFound : (Sides → ℕ → Type 0) → (Kind → Sides → Type 0) → (Sides → ℕ) → Wanted → ℕ → List Sides → Type 0
+AreFirstFound says asked entry wanted most positions =
+    (kinds : Option Kind × Option Kind) × (n : ℕ) × AreKinds says wanted kinds × (n ≤ most) × AreOfBoth asked entry n kinds positions
+
+-- What was printed before a code that can't be read: nothing, or texts, and where the codes are known
+-- those of the first that are found.
+abbrev pub PrintsBefore : Shape → CodedEntries → Bool → Wanted → Shown → Option (List ℕ) → Option (List ℕ) → Type 0
+PrintsBefore board entries all wanted Count old new = Keeps old new
+PrintsBefore board entries all wanted (Texts most) old new =
+    Keeps old new
+    ⊎ ((positions : List Sides) × Appends old new (found_text board positions)
+    × IfSome entries.stated (λ known. AreFirstFound (has_shown board (table_of entries known) all) (IsStated board (table_of entries known) all)
+    (entry_index board board.points entries.layout entries.pair) wanted most positions))
+
+-- What is answered: want of memory, with nothing printed; a code that can't be read, where that may
+-- be, with what was printed before it; otherwise what is found is printed.
 abbrev pub AnswersFind : {T : Type 0} → Shape → CodedEntries → Bool → Wanted → Shown → Option (List ℕ) → Option (List ℕ) → Result T Fault → Type 0
 AnswersFind board entries all wanted shown old new result =
     ((result ≡ Err fault.Memory) × Keeps old new)
-    ⊎ (((result ≡ Err fault.Read) × (entries.stated ≡ None) × ((before : List Sides) × Appends old new (found_text board before)))
+    ⊎ (((result ≡ Err fault.Read) × (entries.unfailing ≡ false) × PrintsBefore board entries all wanted shown old new)
     ⊎ (PrintsAny board shown old new result × IfSome entries.stated (λ known. FindsStated board entries known all wanted shown old new result)))
 
 -- ---- parts of a call
@@ -145,11 +160,10 @@ module _ {S : Type 0} (contents : S → Option (List ℕ)) (failures : S → ℕ
       × Passes contents failures old new (found_text board (take most positions)) result × IfOk result (λ left. left ≡ most - length positions)
 
   -- These positions are what is found of a kind: as many as there may be, and the answer is how many
-  -- more; or, where a write failed, the first of them.
+  -- more; or, where a read or a write failed, the first of them.
   abbrev pub IsFoundOf : (Option Kind → ℕ → List Sides → Type 0) → Option Kind → ℕ → List Sides → Result ℕ Stop → Type 0
   IsFoundOf are kind most positions (Ok left) = are kind most positions × (left ≡ most - length positions)
-  IsFoundOf are kind most positions (Err stop.Write) = (n : ℕ) × (n ≤ most) × are kind n positions
-  IsFoundOf are kind most positions (Err stop.Read) = ⊥
+  IsFoundOf are kind most positions (Err why) = (n : ℕ) × (n ≤ most) × are kind n positions
 
   -- the texts of some positions went in, of the ones that are found where the codes are known
   abbrev pub PutsKind : CodedEntries → Bool → Option Kind → ℕ → Buffered S → Buffered S → Result ℕ Stop → Type 0
@@ -161,8 +175,7 @@ module _ {S : Type 0} (contents : S → Option (List ℕ)) (failures : S → ℕ
   -- the same of both kinds, one after the other
   abbrev pub AreKindsFound : {T : Type 0} → (ℕ → List Sides → Type 0) → ℕ → List Sides → Result T Stop → Type 0
   AreKindsFound are most positions (Ok done) = are most positions
-  AreKindsFound are most positions (Err stop.Write) = (n : ℕ) × (n ≤ most) × are n positions
-  AreKindsFound are most positions (Err stop.Read) = ⊥
+  AreKindsFound are most positions (Err why) = (n : ℕ) × (n ≤ most) × are n positions
 
   abbrev pub PutsKinds : {T : Type 0} → CodedEntries → Bool → Option Kind × Option Kind → ℕ → Buffered S → Buffered S → Result T Stop → Type 0
   PutsKinds entries all kinds most old new result =

@@ -52,7 +52,7 @@ same_counts c d = nat_eq c.greater d.greater && nat_eq c.lesser d.lesser
 -- what bytes are as the file of a pair: that of another pair isn't the one that is needed
 abbrev pub framed_as : Counts → List ℕ → Result (Layout × Counts) ReadFault → Result OpenFile Fault
 framed_as c bytes (Err refusal) = Err (read_fault refusal)
-framed_as c bytes (Ok kind) = if same_counts kind.1 c then Ok (open_file kind.0 c (Some bytes)) else Err (needs_fault c)
+framed_as c bytes (Ok kind) = if same_counts kind.1 c then Ok (open_file kind.0 c (Some bytes) (Some bytes)) else Err (needs_fault c)
 
 -- what stands under the name of a pair's file: nothing, or bytes that are that file or aren't
 abbrev pub opened_as : Shape → Counts → Option (List ℕ) → Result OpenFile Fault

@@ -1,5 +1,5 @@
 //! The positions of a pair that have a value, as the entries of a file state it.
-ghost use Rattle.std.specs.Prelude.{◌≡◌, ◌≢◌, ◌⊎◌, ℕ, ◌+◌, ◌-◌, ◌^◌, ◌<◌, ◌≤◌, [], Err, length, slice_index, take, IfOk, IfSome, IsSome, OnOk};
+ghost use Rattle.std.specs.Prelude.{◌≡◌, ◌≢◌, ◌⊎◌, ℕ, ◌+◌, ◌-◌, ◌^◌, ◌<◌, ◌≤◌, [], Err, length, slice_index, take, true, IfOk, IfSome, OnOk};
 ghost use Rattle.morris_board.specs.Buffered.{Passes, held_of, sink_of, taken_of};
 ghost use Rattle.morris_board.specs.Positions.{text_of};
 ghost use Rattle.morris_pairs.specs.Counting.{table_of};
@@ -171,7 +171,7 @@ fn kinds_of<B: Geometry, C: Coded>(
 ) -> Result<Kinds, CountFault>
     ensures stays { entries.new ≡ entries.old }
     ensures kinds { IfOk result (λ kinds. IfSome entries.old.stated (λ known. AreKinds (has_shown B.shape (table_of entries.old known) search.all) search.wanted kinds)) }
-    ensures sure { IsSome entries.old.stated → result ≢ Err CountFault.Read }
+    ensures sure { entries.old.unfailing ≡ true → result ≢ Err CountFault.Read }
 {
     match search.wanted {
         Wanted::Every(kind) => Ok((Some(kind), None)),
@@ -195,6 +195,7 @@ fn put_all<B: Geometry, C: Coded, S: Sink>(
     requires failures { S.failures (sink_of out.old) < 2 ^ 64 - 1 }
     requires new { taken_of out.old ≡ 0 }
     ensures put { PutsKinds S.contents S.failures B.shape entries.old all kinds most out.old out.new result }
+    ensures sure { entries.old.unfailing ≡ true → result ≢ Err Stop.Read }
     ensures empty { (result ≡ Err Stop.Write) ⊎ (held_of out.new ≡ []) }
 {
     match put_kinds(entries, kinds, all, most, out) {
@@ -218,6 +219,7 @@ fn put_kinds<B: Geometry, C: Coded, S: Sink>(
     requires failures { S.failures (sink_of out.old) < 2 ^ 64 - 1 }
     requires new { taken_of out.old ≡ 0 }
     ensures put { PutsKinds S.contents S.failures B.shape entries.old all kinds most out.old out.new result }
+    ensures sure { entries.old.unfailing ≡ true → result ≢ Err Stop.Read }
     ensures few { (result ≡ Err Stop.Write) ⊎ (taken_of out.new < 2 ^ 60) }
 {
     let left = put_kind(entries, kinds.0, all, most, out)?;
@@ -238,6 +240,7 @@ fn put_kind<B: Geometry, C: Coded, S: Sink>(
     requires room { taken_of out.old < 2 ^ 52 }
     ensures stays { entries.new ≡ entries.old }
     ensures put { PutsKind S.contents S.failures B.shape entries.old all kind most out.old out.new result }
+    ensures sure { entries.old.unfailing ≡ true → result ≢ Err Stop.Read }
     ensures few { (result ≡ Err Stop.Write) ⊎ (taken_of out.new ≤ taken_of out.old + 2 ^ 50) }
 {
     let Some(kind) = kind else {

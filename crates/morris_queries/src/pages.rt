@@ -56,6 +56,10 @@ impl PagedFile {
 impl Storage for PagedFile {
     ghost contents = { λ _. None };
 
+    ghost held = { λ _. None };
+
+    ghost contents_held = { λ _. tt };
+
     fn len(&self) -> Result<u64, Failed> {
         self.file.len()
     }

@@ -4,7 +4,7 @@ use Rattle.std.proofs.lemmas.Result.{err_from_is_err_and}
 use Rattle.morris_index.specs.Pairs.{IsPair}
 use Rattle.morris_lookup.specs.Numberings.{Serve}
 use Rattle.morris_lookup.proofs.EntryLaws.{serve_few}
-use Rattle.morris_lookup.proofs.OpeningLaws.{frame_short, frame_refused, frame_roomless, frame_not_borne, frame_found}
+use Rattle.morris_lookup.proofs.OpeningLaws.{frame_short, frame_refused, frame_roomless, frame_not_borne, frame_found, held_known}
 use Rattle.morris_lookup.proofs.opened.frame.Goals as goal
 
 pub returns-in_err-header-clause-refused : goal.returns-in_err-header-clause-refused
@@ -16,7 +16,8 @@ pub returns-in_err-layout-clause-refused : goal.returns-in_err-layout-clause-ref
 returns-in_err-layout-clause-refused g c =
     let failed = err_from_is_err_and c.from_residual-in_err-layout.result c.from_residual-in_err-layout.ensures.1 in
     rw (failed.1, failed.2)
-    (frame_refused g.B.Geometry.shape c.in_ok-header.header c.in_ok-header.length (g.S.Storage.contents c.args.storage) c.in_ok-header.ensures.found c.in_err-layout.field-0.0
+    (frame_refused g.B.Geometry.shape c.in_ok-header.header c.in_ok-header.length (g.S.Storage.contents c.args.storage)
+    (held_known (g.S.Storage.contents c.args.storage) (g.S.Storage.held c.args.storage) _ (g.met.S.Storage.contents_held c.args.storage) c.in_ok-header.ensures.found) c.in_err-layout.field-0.0
     c.in_err-layout.ensures.value c.in_err-layout.ensures.refused)
 
 pub returns-in_err-greater-clause-refused : goal.returns-in_err-greater-clause-refused
@@ -24,7 +25,7 @@ returns-in_err-greater-clause-refused g c =
     let failed = err_from_is_err_and c.from_residual-in_err-greater.result c.from_residual-in_err-greater.ensures.1 in
     rw (failed.1, failed.2)
     (frame_roomless g.B.Geometry.shape c.in_ok-header.header c.in_ok-header.length c.in_ok-layout.layout c.in_ok-layout.pair c.in_ok-layout.ensures.value (g.S.Storage.contents c.args.storage)
-    c.in_ok-header.ensures.found (λ full. false≢true (c.in_err-greater.ensures.full full)))
+    (held_known (g.S.Storage.contents c.args.storage) (g.S.Storage.held c.args.storage) _ (g.met.S.Storage.contents_held c.args.storage) c.in_ok-header.ensures.found) (λ full. false≢true (c.in_err-greater.ensures.full full)))
 
 pub leads_of-requires : goal.leads_of-requires
 leads_of-requires g c = rw (c.as_slice.ensures.value, c.as_slice-2.ensures.value) c.in_ok-greater.ensures.serve
@@ -34,7 +35,7 @@ returns-in_err-greater_leads-clause-refused g c =
     let failed = err_from_is_err_and c.from_residual-in_err-greater_leads.result c.from_residual-in_err-greater_leads.ensures.1 in
     rw (failed.1, failed.2)
     (frame_roomless g.B.Geometry.shape c.in_ok-header.header c.in_ok-header.length c.in_ok-layout.layout c.in_ok-layout.pair c.in_ok-layout.ensures.value (g.S.Storage.contents c.args.storage)
-    c.in_ok-header.ensures.found (λ full. false≢true (c.in_err-greater_leads.ensures.full full)))
+    (held_known (g.S.Storage.contents c.args.storage) (g.S.Storage.held c.args.storage) _ (g.met.S.Storage.contents_held c.args.storage) c.in_ok-header.ensures.found) (λ full. false≢true (c.in_err-greater_leads.ensures.full full)))
 
 pub count-requires : goal.count-requires
 count-requires g c =
@@ -49,7 +50,8 @@ returns-in_err-bear_out-clause-refused g c =
     let failed = err_from_is_err_and c.from_residual-in_err-bear_out.result c.from_residual-in_err-bear_out.ensures.1 in
     rw (failed.1, failed.2)
     (frame_not_borne g.B.Geometry.shape c.in_ok-header.header c.in_ok-header.length (c.in_ok-layout.layout, c.in_ok-layout.pair) c.in_ok-layout.ensures.value g.B.Geometry.POINTS
-    g.met.B.Geometry.point_count c.count.result (c.count.ensures.value serve) (g.S.Storage.contents c.args.storage) c.in_ok-header.ensures.found c.in_err-bear_out.field-0.0
+    g.met.B.Geometry.point_count c.count.result (c.count.ensures.value serve) (g.S.Storage.contents c.args.storage)
+    (held_known (g.S.Storage.contents c.args.storage) (g.S.Storage.held c.args.storage) _ (g.met.S.Storage.contents_held c.args.storage) c.in_ok-header.ensures.found) c.in_err-bear_out.field-0.0
     c.in_err-bear_out.ensures)
 
 pub invariant_of-result : goal.invariant_of-result
@@ -59,8 +61,9 @@ invariant_of-result g c =
       record {
         lawful = subst (λ n. IsPair n c.in_ok-layout.pair) (sym g.met.B.Geometry.point_count) c.greater.ensures.lawful;
         framed = frame_found g.B.Geometry.shape c.in_ok-header.header c.in_ok-header.length (c.in_ok-layout.layout, c.in_ok-layout.pair) c.in_ok-layout.ensures.value g.B.Geometry.POINTS
-            g.met.B.Geometry.point_count c.count.result (c.count.ensures.value serve) (g.S.Storage.contents c.args.storage) c.in_ok-header.ensures.found c.in_ok-bear_out.field-0
+            g.met.B.Geometry.point_count c.count.result (c.count.ensures.value serve) (g.S.Storage.held c.args.storage) c.in_ok-header.ensures.found c.in_ok-bear_out.field-0
             c.in_ok-bear_out.ensures;
+        kept = g.met.S.Storage.contents_held c.args.storage;
       },
       c.in_ok-greater.ensures.serve,
       c.in_ok-greater_leads.ensures.lead,

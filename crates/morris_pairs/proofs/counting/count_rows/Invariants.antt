@@ -10,6 +10,7 @@ invariant-loop-entry g l = record {
   from : l.first ≤ l.entry;
   to : l.entry ≤ l.end;
   stated : g.C.Coded.stated l.codes ≡ g.C.Coded.stated l.initial.codes;
+  unfailing : g.C.Coded.unfailing l.codes ≡ g.C.Coded.unfailing l.initial.codes;
   many : g.C.Coded.many l.codes ≡ g.C.Coded.many l.initial.codes;
   small : (k : ℕ) → get_or l.tallies k 0 ≤ 16 * l.entry;
   counted : (t : Table) → t.layout ≡ Classes → t.pair ≡ l.classes → g.C.Coded.stated l.initial.codes ≡ Some t.codes

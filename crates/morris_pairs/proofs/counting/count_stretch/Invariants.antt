@@ -8,6 +8,7 @@ use Rattle.morris_pairs.proofs.counting.count_stretch.Given as goal
 abbrev pub invariant-loop-entry : goal.invariant-loop-entry
 invariant-loop-entry g l = record {
   stated : g.C.Coded.stated l.codes ≡ g.C.Coded.stated l.initial.codes;
+  unfailing : g.C.Coded.unfailing l.codes ≡ g.C.Coded.unfailing l.initial.codes;
   many : g.C.Coded.many l.codes ≡ g.C.Coded.many l.initial.codes;
   small : (k : ℕ) → get_or l.tallies k 0 ≤ 16 * l.entry;
   counted : (board : Shape) (t : Table) (all : Bool) (start : ℕ) → start ≤ l.first → g.C.Coded.stated l.initial.codes ≡ Some t.codes

@@ -39,7 +39,8 @@ returns-in-Err-Read-clause-answer g c =
     let there : c.output-in-Err-Read-1.given.0 ≡ sink_of c.put_all.new.out = c.output-in-Err-Read-1.given.1 (sym (put.1.same ∙ c.new-out.ensures.lent)) in
     rw (there, ← c.new-out.ensures.sink)
     (read_answered g.S.Sink.contents g.S.Sink.failures g.B.Geometry.shape c.args.entries.now c.args.search.all c.args.search.wanted c.in_ok-kinds.kinds c.args.most
-    c.new-out.result c.put_all.new.out c.new-out.ensures.empty c.in_ok-kinds.ensures.kinds empty put)
+    c.new-out.result c.put_all.new.out c.new-out.ensures.empty c.in_ok-kinds.ensures.kinds empty
+    (λ unfailing. c.in-Err-Read.ensures.sure (ap (λ (e : CodedEntries). e.unfailing) c.in_ok-kinds.ensures.stays ∙ unfailing) (ap Err c.in-Err-Read.field-0-is)) put)
 
 pub returns-in-Err-Write-clause-answer : goal.returns-in-Err-Write-clause-answer
 returns-in-Err-Write-clause-answer g c =

@@ -1,4 +1,4 @@
-use Rattle.std.proofs.Common.{◌≡◌, ℕ, ◌+◌, ◌<◌, ◌≤◌, ◌∙◌, List, [], ◌++◌, Err, length, take, inl, inr, refl, sym, ap, subst, arith, length-append}
+use Rattle.std.proofs.Common.{◌≡◌, ℕ, ◌+◌, ◌<◌, ◌≤◌, ◌∙◌, false, true, List, [], ◌++◌, Err, length, take, inl, inr, refl, sym, ap, subst, arith, length-append}
 use Rattle.std.proofs.lemmas.List.{length-take}
 use Rattle.std.proofs.lemmas.Result.{err_from_is_err_and}
 use Rattle.morris_board.specs.Boards.{Shape}
@@ -11,7 +11,7 @@ use Rattle.morris_pairs.specs.Entries.{entry_count, entry_index}
 use Rattle.morris_pairs.proofs.CountLaws.{for_some}
 use Rattle.morris_jobs.proofs.CountedLaws.{both_some, some_map}
 use Rattle.morris_queries.specs.Found.{AreFound, IsStated, found_text}
-use Rattle.morris_queries.proofs.FoundLaws.{asked_below, found_all, found_enough, found_first, found_more, found_none, found_same, found_text-append, none_stated, read_here, stated_inside, stated_of, unread}
+use Rattle.morris_queries.proofs.FoundLaws.{asked_below, found_all, found_enough, found_first, found_more, found_none, found_same, found_text-append, none_stated, stated_inside, stated_of}
 use Rattle.morris_queries.proofs.find.put_kind.Goals as goal
 
 -- nothing is looked for
@@ -55,7 +55,7 @@ loop-entry-preserved g c =
             subst (λ n. AreFound (asked_below (IsStated board (table_of entries known) c.args.all c.in-Some.kind) at c.args.most (e + 1)) at c.args.most (found.0 ++ take n puts.0)) (sym found.2)
             (found_more (IsStated board (table_of entries known) c.args.all c.in-Some.kind) at c.args.most e found.0 puts.0 here
             (stated_of board (table_of entries known) c.args.all c.in-Some.kind e
-            (rw (← read_here known e c.in-Ok.code code, ← c.value_of_code.ensures, ← c.has.ensures) c.if-not-has.false) puts.0 puts.1) puts.2)) found.3 read,
+            (rw (← code, ← c.value_of_code.ensures, ← c.has.ensures) c.if-not-has.false) puts.0 puts.1) puts.2)) found.3 read,
       );
     }
 
@@ -78,7 +78,7 @@ loop-entry-preserved-then-not-has g c =
         both_some entries.stated _ _ _ (λ known here code.
             found_same (IsStated board (table_of entries known) c.args.all c.in-Some.kind) at c.args.most e found.0
             (none_stated board (table_of entries known) c.args.all c.in-Some.kind e
-            (rw (← read_here known e c.in-Ok.code code, ← c.value_of_code.ensures, ← c.has.ensures) c.if-not-has.true)) here) found.3 read,
+            (rw (← code, ← c.value_of_code.ensures, ← c.has.ensures) c.if-not-has.true)) here) found.3 read,
       );
     }
 
@@ -99,14 +99,28 @@ returns-then-left-eq0-clause-put g c =
           )) found.3,
     )
 
--- a code can't be read, so the codes aren't known
+-- those before a code that can't be read
 pub returns-in-Err-clause-put : goal.returns-in-Err-clause-put
 returns-in-Err-clause-put g c =
+    let board : Shape = g.B.Geometry.shape in
+    let entries : CodedEntries = c.args.entries.now in
+    let at : Sides → ℕ = entry_index board board.points entries.layout entries.pair in
     let found = c.loop-entry.invariant.found in (
       found.0,
       found.1,
-      unread c.args.entries.now.stated c.loop-entry.entry c.in-Err.field-0 _ (rw c.loop-entry.invariant.stays at c.in-Err.ensures.read),
+      some_map entries.stated _ _
+          (λ known here. rw c.in-Some.is (
+            length found.0,
+            here.few,
+            found_first (IsStated board (table_of entries known) c.args.all c.in-Some.kind) at c.args.most c.loop-entry.entry found.0 here,
+          )) found.3,
     )
+
+-- where no call fails, each code is read
+pub returns-in-Err-clause-sure : goal.returns-in-Err-clause-sure
+returns-in-Err-clause-sure g c = λ unfailing bad.
+    let none : false ≡ true = c.in-Err.ensures.sure (ap (λ (e : CodedEntries). e.unfailing) c.loop-entry.invariant.stays ∙ unfailing) in
+    cc
 
 -- a write failed after a part of what is found
 pub returns-in_err-left-clause-put : goal.returns-in_err-left-clause-put
@@ -130,7 +144,7 @@ returns-in_err-left-clause-put g c =
           subst (λ n. AreFound (asked_below (IsStated board (table_of entries known) c.args.all c.in-Some.kind) at c.args.most (e + 1)) at c.args.most (found.0 ++ take n puts.0)) (sym found.2)
           (found_more (IsStated board (table_of entries known) c.args.all c.in-Some.kind) at c.args.most e found.0 puts.0 here
           (stated_of board (table_of entries known) c.args.all c.in-Some.kind e
-          (rw (← read_here known e c.in-Ok.code code, ← c.value_of_code.ensures, ← c.has.ensures) c.if-not-has.false) puts.0 puts.1) puts.2) in
+          (rw (← code, ← c.value_of_code.ensures, ← c.has.ensures) c.if-not-has.false) puts.0 puts.1) puts.2) in
           rw c.in-Some.is (length (found.0 ++ more), grown.few, found_first (IsStated board (table_of entries known) c.args.all c.in-Some.kind) at c.args.most (e + 1) (found.0 ++ more) grown)) found.3
           (rw c.loop-entry.invariant.stays at c.in-Ok.ensures.read),
     )

@@ -15,7 +15,7 @@ returns-then-entry-self-clause-read g c =
     let within : codes.end ≤ entry_count board board.points file.layout file.pair =
     subst (λ n. codes.end ≤ entry_count board n file.layout file.pair) (sym g.met.B.Geometry.point_count) c.self.invariant.3 in
     rw (← c.self.view_is)
-    (piece_known _ file.bytes codes.piece.items codes.first codes.end (entry_count board board.points file.layout file.pair) c.args.entry c.code_in.result
+    (piece_known file.held codes.piece.items codes.first codes.end (entry_count board board.points file.layout file.pair) c.args.entry c.code_in.result
     c.self.invariant.4 c.if-self-entry.true c.if-entry-self.true within (rw c.as_slice.ensures.value at c.code_in.ensures))
 
 -- it is the first one that was read
@@ -32,6 +32,6 @@ returns-clause-read g c =
     written_back codes.piece.items piece codes.piece.len codes.piece.ok.0 (c.read_codes.auto.out ∙ ap length c.as_mut_slice.ensures.value) in
     let first : 0 ≡ 2 * (c.args.entry - c.args.entry) = omega arith in
     rw (← c.self.view_is)
-    (piece_known _ file.bytes piece c.args.entry end (entry_count board board.points file.layout file.pair) c.args.entry c.code_in-2.result
+    (piece_known file.held piece c.args.entry end (entry_count board board.points file.layout file.pair) c.args.entry c.code_in-2.result
     c.in_ok-self-inside.ensures.read (omega arith) c.in_ok-self-inside.ensures.more within
     (rw (c.as_slice-2.ensures.value, back) at c.code_in-2.ensures ∙ ap (λ p. from_be_bytes w16 (bytes_at piece p 2)) first))

@@ -2,16 +2,17 @@ use Rattle.std.proofs.Common.{◌+◌, ◌*◌, ◌≤◌, ◌<◌, ap, subst, a
 use Rattle.morris_pairs.specs.Entries.{entry_count}
 use Rattle.morris_lookup.specs.Opening.{OpenFile, open_file}
 use Rattle.morris_lookup.proofs.FileLookups.{lies_there, read_stated, read_answer, exact_code}
+use Rattle.morris_lookup.proofs.OpeningLaws.{known_framed}
 use Rattle.morris_lookup.proofs.opened.Opened.code.Goals as goal
 
 pub read_at-requires : goal.read_at-requires
 read_at-requires g c =
-    lies_there g.B.Geometry.shape g.B.Geometry.POINTS g.met.B.Geometry.point_count (g.S.Storage.contents c.self.inside.storage) _ _ c.self.invariant.0.framed c.entry.result
+    lies_there g.B.Geometry.shape g.B.Geometry.POINTS g.met.B.Geometry.point_count (g.S.Storage.contents c.self.inside.storage) _ _ (known_framed _ _ c.self.invariant.0) c.entry.result
     (rw (← c.self.view_is) at c.entry.ensures.below)
 
 pub returns-clause-stated : goal.returns-clause-stated
 returns-clause-stated g c =
-    let file : OpenFile = open_file c.self.inside.layout c.self.inside.pair (g.S.Storage.contents c.self.inside.storage) in
+    let file : OpenFile = open_file c.self.inside.layout c.self.inside.pair (g.S.Storage.contents c.self.inside.storage) (g.S.Storage.held c.self.inside.storage) in
     rw (← c.self.view_is)
     (read_answer _ g.B.Geometry.shape file c.args.position.now (g.S.Storage.contents c.self.inside.storage) c.from_be_bytes.result
     (read_stated _ _ g.B.Geometry.shape g.B.Geometry.POINTS g.met.B.Geometry.point_count file c.args.position.now (g.S.Storage.contents c.self.inside.storage)
@@ -20,7 +21,7 @@ returns-clause-stated g c =
 
 pub returns-clause-exact : goal.returns-clause-exact
 returns-clause-exact g c =
-    let file : OpenFile = open_file c.self.inside.layout c.self.inside.pair (g.S.Storage.contents c.self.inside.storage) in
+    let file : OpenFile = open_file c.self.inside.layout c.self.inside.pair (g.S.Storage.contents c.self.inside.storage) (g.S.Storage.held c.self.inside.storage) in
     let few : g.B.Geometry.shape.points ≤ 24 = omega (arith, g.met.B.Geometry.point_count, g.met.B.Geometry.few) in
     rw (← c.self.view_is)
     (λ exact. exact_code g.B.Geometry.shape g.B.Geometry.POINTS g.met.B.Geometry.point_count few g.met.B.Geometry.has_symmetries

@@ -5,15 +5,15 @@ use Rattle.morris_pairs.proofs.counting.Entries.tally.Goals as goal
 
 -- want of memory isn't a code that can't be read
 pub returns-in_err-tallies-clause-sure : goal.returns-in_err-tallies-clause-sure
-returns-in_err-tallies-clause-sure g c = λ some bad.
+returns-in_err-tallies-clause-sure g c = λ unfailing bad.
     let failed = err_from_is_err_and c.from_residual.result c.from_residual.ensures.1 in
     let wrong = sym (failed.1 ∙ ap Err failed.2) ∙ bad in
     cc
 
--- codes that are known can be read
+-- where no call fails, each code is read
 pub returns-in_err-count_into-clause-sure : goal.returns-in_err-count_into-clause-sure
-returns-in_err-count_into-clause-sure g c = λ some bad.
-    let wrong : false ≡ true = c.in_err-count_into.ensures.sure some in
+returns-in_err-count_into-clause-sure g c = λ unfailing bad.
+    let wrong : false ≡ true = c.in_err-count_into.ensures.sure unfailing in
     cc
 
 pub count_into-requires-clause-none : goal.count_into-requires-clause-none
