@@ -18,6 +18,10 @@ use morris_workers::SolveFault;
 use std::alloc::AllocError;
 use std::fmt;
 
+/// The texts of faults that say what to write instead.
+const NO_VALUE: &str = "not a value: draw, won, lost, won in D, lost in D or deepest";
+const NO_TERMINAL: &str = "a table isn't for a terminal: add --into FOLDER or > FILE";
+
 /// Why a command refused. Each fault has a number, which stays the same from version to version,
 /// and a text.
 #[derive(Clone, Copy, Debug, PartialEq, Eq)]
@@ -144,10 +148,7 @@ impl Fault {
             Fault::Write(sent) => (23, Words::Number("writing failed after ", sent, " bytes")),
             Fault::Board => (25, Words::Plain("no such board")),
             Fault::PairText => (26, Words::Plain("not a pair")),
-            Fault::ValueText => (
-                39,
-                Words::Plain("not a value: draw, won, lost, won in D, lost in D or deepest"),
-            ),
+            Fault::ValueText => (39, Words::Plain(NO_VALUE)),
             Fault::TooMany => (27, Words::Plain("more than 64 tables")),
             Fault::Folder => (28, Words::Plain("folder can't be made")),
             Fault::Unwritten(a, b) => (29, Words::Pair("file of ", a, b, " can't be written")),
@@ -167,10 +168,7 @@ impl Fault {
                 Words::Plain("the files of this position and its moves disagree"),
             ),
             Fault::Unlocked => (38, Words::Plain("folder can't be locked")),
-            Fault::Terminal => (
-                40,
-                Words::Plain("a table isn't for a terminal: add --into FOLDER or > FILE"),
-            ),
+            Fault::Terminal => (40, Words::Plain(NO_TERMINAL)),
             Fault::InFile(_, _, flaw) => flaw.told(),
             _ => unreachable!(),
         }

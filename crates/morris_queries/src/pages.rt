@@ -1,5 +1,5 @@
 //! Files of the system of which the pages that were read last are kept.
-ghost use Rattle.std.specs.Prelude.{◌≡◌, ◌/◌, ◌%◌, ◌<◌, ◌^◌, length, take, drop, None, IsTrue};
+ghost use Rattle.std.specs.Prelude.{◌≡◌, ◌/◌, ◌%◌, ◌<◌, ◌^◌, length, take, drop, None, IfOk, IsTrue};
 
 use morris_board::streams::Failed;
 use morris_lookup::storage::Storage;
@@ -36,7 +36,9 @@ impl PagedFile {
     ///
     /// # Errors
     /// [`AllocError`] where memory runs out. No other call takes memory.
-    pub fn new(alloc: Global, file: File) -> Result<PagedFile, AllocError> {
+    pub fn new(alloc: Global, file: File) -> Result<PagedFile, AllocError>
+        ensures { IfOk result (λ paged. paged.file ≡ file) }
+    {
         let mut pages = Vec::with_capacity(alloc, KEPT as usize)?;
         for _ in 0..KEPT {
             pages.push(Page {
