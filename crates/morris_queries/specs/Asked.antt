@@ -22,8 +22,8 @@ use Rattle.morris_queries.specs.Found.{AnswersFind, IsInGame, PrintsFound}
 use Rattle.morris_queries.specs.Telling.{table_in}
 use Rattle.morris_queries.specs.Wanted.{ReadsWanted}
 
--- the entries of an open file, and their codes where its bytes are known; where these are known to be
--- read, no read fails
+-- the entries of an open file: their codes, where its bytes are known, and whether no read of them
+-- fails
 abbrev pub entries_in : Shape → OpenFile → CodedEntries
 entries_in board file = coded_entries file.layout file.pair (codes_in_file board file) (is_some file.bytes)
 
