@@ -12,9 +12,14 @@ use Rattle.morris_jobs.specs.declared.fault.Fault.TheVariants as fault
 use Rattle.morris_jobs.specs.Faults.{Prints}
 use Rattle.morris_jobs.specs.Progress.{TellsInOrder}
 use Rattle.morris_words.specs.Words.{AsksFor, faults_of, named_by}
-use Rattle.morris_words.specs.declared.words.Request.{Request}
-use Rattle.morris_words.specs.declared.words.Task.{Task}
-use Rattle.morris_words.specs.declared.words.Task.TheVariants.{Look, Stats, Build, Verify, Probe, Lookup, Find}
+use Rattle.morris_words.specs.declared.request.Build.{Build}
+use Rattle.morris_words.specs.declared.request.Find.{Find}
+use Rattle.morris_words.specs.declared.request.Lookup.{Lookup}
+use Rattle.morris_words.specs.declared.request.Request.{Request}
+use Rattle.morris_words.specs.declared.request.Stats.{Stats}
+use Rattle.morris_words.specs.declared.request.Task.{Task}
+use Rattle.morris_words.specs.declared.request.Task.TheVariants as task
+use Rattle.morris_words.specs.declared.request.Verify.{Verify}
 use Rattle.morris_jobs.specs.BoardNames.{board_of}
 use Rattle.morris_commands.specs.Look.{Looks}
 use Rattle.morris_commands.specs.Stats.{AnswersStats}
@@ -38,8 +43,8 @@ use Rattle.morris_queries.specs.Refusals.{query_fault}
 use Rattle.morris_queries.specs.declared.fault.QueryFault.{QueryFault}
 use Rattle.morris_queries.specs.declared.show.Show.{Show}
 use Rattle.morris_queries.specs.declared.show.Show.TheVariants as show
-use Rattle.morris_words.specs.declared.words.Show as words
-use Rattle.morris_words.specs.declared.words.Show.TheVariants as asked
+use Rattle.morris_words.specs.declared.request.Show as words
+use Rattle.morris_words.specs.declared.request.Show.TheVariants as wanted
 
 -- the words have a mistake, and not a request for help or for the version alone
 abbrev pub HasMistake : Kinds → Type 0
@@ -51,23 +56,24 @@ AsksToShow kinds = IsAmong kind.DisplayHelp kinds ⊎ IsAmong kind.DisplayVersio
 
 -- what `lookup` shows, as its words say it
 abbrev pub shown_of : words.Show → Show
-shown_of asked.Best = show.Best
-shown_of asked.Moves = show.Moves
-shown_of asked.Line = show.Line
-shown_of asked.Csv = show.Csv
+shown_of wanted.Best = show.Best
+shown_of wanted.Moves = show.Moves
+shown_of wanted.Line = show.Line
+shown_of wanted.Csv = show.Csv
 
 -- how `lookup` ends: texts that have no answer are a fault, which says how many they are
 abbrev pub end_of : Result ℕ QueryFault → Result (Unit {0}) Fault
 end_of (Ok unanswered) = if unanswered == 0 then Ok tt else Err (fault.Unanswered unanswered)
 end_of (Err refused) = Err (query_fault refused)
 
--- What `lookup` answers on the board of a name: to texts, or, where there are none, to the lines of
--- its input.
-abbrev pub AnswersQueries : List ℕ → words.Show → List (List ℕ) → Input → Input → Option (List ℕ) → Option (List ℕ) → Result (Unit {0}) Fault → Type 0
-AnswersQueries name show [] before after old new result =
-    (ended : Result ℕ QueryFault) × AnswersInput (board_of name) name None (shown_of show) before.bytes after.bytes old new ended × (result ≡ end_of ended)
-AnswersQueries name show (text ∷ texts) before after old new result =
-    (ended : Result ℕ QueryFault) × AnswersLookup (board_of name) name None (shown_of show) (text ∷ texts) old new ended × (result ≡ end_of ended)
+-- What `lookup` answers: to texts, or, where there are none, to the lines of its input.
+abbrev pub AnswersQueries : List (List ℕ) → Lookup → Input → Input → Option (List ℕ) → Option (List ℕ) → Result (Unit {0}) Fault → Type 0
+AnswersQueries [] asked before after old new result =
+    (ended : Result ℕ QueryFault) × AnswersInput (board_of asked.board.now) asked.board.now None (shown_of asked.show) before.bytes after.bytes old new ended
+    × (result ≡ end_of ended)
+AnswersQueries (text ∷ texts) asked before after old new result =
+    (ended : Result ℕ QueryFault) × AnswersLookup (board_of asked.board.now) asked.board.now None (shown_of asked.show) (text ∷ texts) old new ended
+    × (result ≡ end_of ended)
 
 -- the form in which `stats` prints, as its words say it
 abbrev pub form_of : Bool → Bool → Form
@@ -75,18 +81,14 @@ form_of deepest true = form.Csv
 form_of true false = form.Deepest
 form_of false false = form.Text
 
--- whether it is that of lines of fields
-abbrev pub is_csv : Form → Bool
-is_csv form.Csv = true
-is_csv _ = false
-
--- What `stats` answers on the board of a name, in this form: by the file of the pair in a folder, where
--- there is a folder, whose bytes no contract knows; else with `--classes` from tables by classes, which
--- so many workers build over so many blocks; without it the workers and blocks count for nothing.
-abbrev pub AnswersCount : {A : Type 0} → Bool → List ℕ → List ℕ → ℕ → ℕ → Form → Option A → Option (List ℕ) → Option (List ℕ) → Result (Unit {0}) Fault → Type 0
-AnswersCount classes name text workers blocks form (Some folder) old new result = AnswersCountsFrom (board_of name) name None text (is_csv form) old new result
-AnswersCount false name text workers blocks form None old new result = AnswersStats (board_of name) text form old new result
-AnswersCount true name text workers blocks form None old new result = AnswersByClasses (board_of name) text workers blocks form old new result
+-- What `stats` answers: by the file of the pair in a folder, where there is a folder, whose bytes no
+-- contract knows; else with `--classes` from tables by classes, which so many workers build over so
+-- many blocks; without it the workers and blocks count for nothing.
+abbrev pub AnswersCount : {A : Type 0} → Option A → Bool → Stats → Option (List ℕ) → Option (List ℕ) → Result (Unit {0}) Fault → Type 0
+AnswersCount (Some folder) classes asked old new result = AnswersCountsFrom (board_of asked.board.now) asked.board.now None asked.pair.now asked.csv old new result
+AnswersCount None false asked old new result = AnswersStats (board_of asked.board.now) asked.pair.now (form_of asked.deepest asked.csv) old new result
+AnswersCount None true asked old new result =
+    AnswersByClasses (board_of asked.board.now) asked.pair.now asked.workers asked.blocks (form_of asked.deepest asked.csv) old new result
 
 -- what `find` prints, as its words say it: how many positions there are; or their texts, as many as
 -- there may be, and else as many as 64 bits count
@@ -95,36 +97,44 @@ shown_as limit true = found.Count
 shown_as None false = found.Texts (2 ^ 64 - 1)
 shown_as (Some most) false = found.Texts most
 
--- What `build` answers on the board of a name: of the files that are printed, or of those that are
--- written into a folder, whose bytes no contract knows.
-abbrev pub AnswersTables : {A : Type 0} → List ℕ → List ℕ → ℕ → ℕ → Bool → Option A → Bool → Option (List ℕ) → Option (List ℕ) → Result (Unit {0}) Fault → Type 0
-AnswersTables name text workers blocks all None classes old new result = AnswersBuild (board_of name) text workers blocks all classes old new result
-AnswersTables name text workers blocks all (Some folder) classes old new result =
-    AnswersInto (board_of name) (layout_asked classes) name text workers blocks (place_of None old) (place_of None new) result
+-- what `find` answers, by the file of the pair in a folder, whose bytes no contract knows
+abbrev pub AnswersFind : Find → Option (List ℕ) → Option (List ℕ) → Result (Unit {0}) Fault → Type 0
+AnswersFind asked old new result =
+    AnswersFindFrom (board_of asked.board.now) asked.board.now None asked.pair.now asked.value.now asked.all (shown_as asked.limit asked.count) old new result
+
+-- What `build` answers: of the files that are printed, or of those that are written into a folder,
+-- whose bytes no contract knows.
+abbrev pub AnswersTables : {A : Type 0} → Option A → Build → Option (List ℕ) → Option (List ℕ) → Result (Unit {0}) Fault → Type 0
+AnswersTables None asked old new result = AnswersBuild (board_of asked.board.now) asked.pair.now asked.workers asked.blocks asked.all asked.classes old new result
+AnswersTables (Some folder) asked old new result =
+    AnswersInto (board_of asked.board.now) (layout_asked asked.classes) asked.board.now asked.pair.now asked.workers asked.blocks (place_of None old)
+    (place_of None new) result
 
 -- into how many blocks the entries of each pair are cut that `verify` builds
 abbrev pub verified_blocks : ℕ
 verified_blocks = 64
 
+-- What `verify` answers: of the files of a folder, where there is a folder, whose bytes no contract
+-- knows; else with `--all` of the files on its input, and without it of the one there.
+abbrev pub AnswersFiles : {A : Type 0} → Option A → Bool → Verify → Input → Input → Option (List ℕ) → Option (List ℕ) → Result (Unit {0}) Fault → Type 0
+AnswersFiles (Some folder) all asked before after old new result = AnswersFrom (board_of asked.board.now) None asked.board.now old new result
+AnswersFiles None true asked before after old new result = AnswersBundle (board_of asked.board.now) before after old new result
+AnswersFiles None false asked before after old new result = AnswersVerify (board_of asked.board.now) verified_blocks before after old new result
+
 -- What the command of a task answers, of its input before and after it, and of what was printed. No
 -- contract knows what the system keeps in a folder: nothing is said of the bytes of its files.
 abbrev pub Answers : Input → Input → Option (List ℕ) → Option (List ℕ) → Task → Result (Unit {0}) Fault → Type 0
-Answers before after old new (Look board text depth) result = Looks (board_of board.now) text.now depth old new result
-Answers before after old new (Stats board pair classes workers blocks deepest from csv) result =
-    AnswersCount classes board.now pair.now workers blocks (form_of deepest csv) from old new result
-Answers before after old new (Build board pair workers blocks all into classes) result =
-    AnswersTables board.now pair.now workers blocks all into classes old new result
-Answers before after old new (Verify board false None workers) result = AnswersVerify (board_of board.now) verified_blocks before after old new result
-Answers before after old new (Verify board true None workers) result = AnswersBundle (board_of board.now) before after old new result
-Answers before after old new (Verify board all (Some folder) workers) result = AnswersFrom (board_of board.now) None board.now old new result
-Answers before after old new (Probe board text) result = AnswersProbe (board_of board.now) text.now before after old new result
-Answers before after old new (Find board pair value from all limit count) result =
-    AnswersFindFrom (board_of board.now) board.now None pair.now value.now all (shown_as limit count) old new result
-Answers before after old new (Lookup board from show texts) result = AnswersQueries board.now show (map (λ t. t.now) texts.items) before after old new result
+Answers before after old new (task.Look asked) result = Looks (board_of asked.board.now) asked.text.now asked.depth old new result
+Answers before after old new (task.Stats asked) result = AnswersCount asked.from asked.classes asked old new result
+Answers before after old new (task.Build asked) result = AnswersTables asked.into asked old new result
+Answers before after old new (task.Verify asked) result = AnswersFiles asked.from asked.all asked before after old new result
+Answers before after old new (task.Probe asked) result = AnswersProbe (board_of asked.board.now) asked.text.now before after old new result
+Answers before after old new (task.Find asked) result = AnswersFind asked old new result
+Answers before after old new (task.Lookup asked) result = AnswersQueries (map (λ t. t.now) asked.texts.items) asked before after old new result
 
 -- whether the command of a task prints tables
 abbrev pub prints_tables : Task → Bool
-prints_tables (Build board pair workers blocks all into classes) = is_none into
+prints_tables (task.Build asked) = is_none asked.into
 prints_tables _ = false
 
 -- The same where the output may be a terminal. A command that prints tables is refused there, with
@@ -135,18 +145,18 @@ AnswersAt false before after old new task result = Answers before after old new 
 
 -- the path of the folder that a task works in, where it names one
 abbrev pub folder_of : Task → Option (List ℕ)
-folder_of (Build board pair workers blocks all into classes) = option_map (λ path. path.now) into
-folder_of (Verify board all from workers) = option_map (λ path. path.now) from
-folder_of (Stats board pair classes workers blocks deepest from csv) = option_map (λ path. path.now) from
-folder_of (Lookup board from show texts) = Some from.now
-folder_of (Find board pair value from all limit count) = Some from.now
+folder_of (task.Build asked) = option_map (λ path. path.now) asked.into
+folder_of (task.Verify asked) = option_map (λ path. path.now) asked.from
+folder_of (task.Stats asked) = option_map (λ path. path.now) asked.from
+folder_of (task.Lookup asked) = Some asked.from.now
+folder_of (task.Find asked) = Some asked.from.now
 folder_of _ = None
 
 -- whether the command of a task reads its input
 abbrev pub takes_input : Task → Bool
-takes_input (Verify board all None workers) = true
-takes_input (Probe board text) = true
-takes_input (Lookup board from show texts) = length texts.items == 0
+takes_input (task.Verify asked) = is_none asked.from
+takes_input (task.Probe asked) = true
+takes_input (task.Lookup asked) = length asked.texts.items == 0
 takes_input _ = false
 
 -- what was told of how far the command is: nothing; or, where the words ask for it, some lines, of

@@ -3,14 +3,12 @@ ghost use Rattle.std.specs.Prelude.{◌≡◌, ◌≢◌, ◌&&◌, is_none, ◌
 ghost use Rattle.morris_jobs.specs.Faults.{ReportsFault, ReportsText};
 ghost use Rattle.morris_jobs.specs.declared.fault.Fault.TheVariants as fault;
 ghost use Rattle.morris_words.specs.Words.{IsInRange, faults_of, named_by};
-ghost use Rattle.morris_words.specs.declared.words.Task.TheVariants as task;
+ghost use Rattle.morris_words.specs.declared.request.Task.TheVariants as task;
 ghost use Rattle.morris_jobs.specs.Inputs.{Input, MayFail, input_of};
 ghost use Rattle.morris.specs.Reporting.{ReportsAt};
 ghost use Rattle.std.specs.Option.{option_map};
 ghost use Rattle.std.specs.Prelude.{Option, None, List, ℕ};
-ghost use Rattle.morris_jobs.specs.BoardNames.{board_of};
-ghost use Rattle.morris_queries.specs.Asked.{AnswersFindFrom};
-ghost use Rattle.morris.specs.Command.{NamesFolder, folder_of, Answers, AnswersAt, AnswersCount, AnswersQueries, AsksToRead, Ends, HasMistake, TellsProgress, end_of, form_of, not_text, prints_tables, shown_as, shown_of, status_of, takes_input};
+ghost use Rattle.morris.specs.Command.{NamesFolder, folder_of, AnswersAt, AnswersCount, AnswersFiles, AnswersFind, AnswersQueries, AsksToRead, Ends, HasMistake, TellsProgress, end_of, form_of, not_text, prints_tables, shown_as, shown_of, status_of, takes_input};
 
 use crate::report::{Place, report};
 use morris_board::streams::{Sink, Source};
@@ -38,8 +36,9 @@ use morris_queries::find::Shown;
 use morris_queries::lookup::{lookup_lines, lookup_texts};
 use morris_queries::show::Show;
 use morris_queries::system::SystemLibrary;
-use morris_words::words;
-use morris_words::words::{Refusal, Task, read_words};
+use morris_words::request;
+use morris_words::request::{Build, Find, Lookup, Stats, Task, Verify};
+use morris_words::words::{Refusal, read_words};
 use std::alloc::Global;
 use std::convert::AsStr;
 use std::fs::File;
@@ -192,11 +191,12 @@ fn folder_of<'a>(task: &Task<'a>) -> Option<&'a str>
     ensures { option_map (λ path. path.now) result ≡ folder_of task.now }
 {
     match task {
-        Task::Build { into, .. } => *into,
-        Task::Verify { from, .. } => *from,
-        Task::Stats { from, .. } => *from,
-        Task::Lookup { from, .. } | Task::Find { from, .. } => Some(*from),
-        Task::Look { .. } | Task::Probe { .. } => None,
+        Task::Build(asked) => asked.into,
+        Task::Verify(asked) => asked.from,
+        Task::Stats(asked) => asked.from,
+        Task::Lookup(asked) => Some(asked.from),
+        Task::Find(asked) => Some(asked.from),
+        Task::Look(_) | Task::Probe(_) => None,
     }
 }
 
@@ -220,71 +220,13 @@ fn run<R: Threads + Wait + Sync + Files<File = File> + AllocGlobal, I: Source, O
     ensures told { T.becomes teller.old teller.new }
 {
     match task {
-        Task::Look { board, text, depth } => look(board, text, depth, output),
-        Task::Stats {
-            board,
-            pair,
-            classes,
-            workers,
-            blocks,
-            deepest,
-            from,
-            csv,
-        } => {
-            let order = order_of(board, pair, workers, blocks);
-            let form = form_of(deepest, csv);
-            count(rt, alloc, order, classes, form, from, why, output, teller)
-        }
-        Task::Build {
-            board,
-            pair,
-            workers,
-            blocks,
-            all,
-            into,
-            classes,
-        } => {
-            let order = order_of(board, pair, workers, blocks);
-            build(
-                rt,
-                alloc,
-                order,
-                all,
-                into,
-                classes,
-                on_terminal,
-                why,
-                output,
-                teller,
-            )
-        }
-        Task::Verify {
-            board,
-            all,
-            from,
-            workers,
-        } => verify(
-            rt, alloc, board, all, from, workers, why, input, output, teller,
-        ),
-        Task::Probe { board, text } => probe_with(alloc, board, text, input, output, teller),
-        Task::Lookup {
-            board,
-            from,
-            show,
-            texts,
-        } => look_up(rt, alloc, board, from, show, texts, why, input, output),
-        Task::Find {
-            board,
-            pair,
-            value,
-            from,
-            all,
-            limit,
-            count,
-        } => {
-            let shown = shown_as(limit, count);
-            find(rt, alloc, board, pair, value, from, all, shown, why, output)
-        }
+        Task::Look(asked) => look(asked.board, asked.text, asked.depth, output),
+        Task::Stats(asked) => count(rt, alloc, asked, why, output, teller),
+        Task::Build(asked) => build(rt, alloc, asked, on_terminal, why, output, teller),
+        Task::Verify(asked) => verify(rt, alloc, asked, why, input, output, teller),
+        Task::Probe(asked) => probe_with(alloc, asked.board, asked.text, input, output, teller),
+        Task::Lookup(asked) => look_up(rt, alloc, asked, why, input, output),
+        Task::Find(asked) => find(rt, alloc, asked, why, output),
     }
 }
 
@@ -322,29 +264,29 @@ fn form_of(deepest: bool, csv: bool) -> Form
 fn count<R: Threads + Wait + Sync + Files<File = File> + AllocGlobal, O: Sink, T: Teller>(
     rt: &R,
     alloc: Global,
-    order: Order<'_>,
-    classes: bool,
-    form: Form,
-    from: Option<&str>,
+    asked: Stats<'_>,
     why: &mut Option<Reason>,
     output: &mut O,
     teller: &mut T,
 ) -> Result<(), Fault>
     requires output { O.failures output.old < 2 ^ 64 - 1 }
-    ensures answer { AnswersCount classes order.entry.board.now order.entry.pair.now order.entry.workers order.entry.blocks form from.entry
-        (O.contents output.old) (O.contents output.new) result }
+    ensures answer { AnswersCount asked.entry.from asked.entry.classes asked.entry (O.contents output.old) (O.contents output.new) result }
     ensures told { T.becomes teller.old teller.new }
 {
-    match from {
+    let Stats { board, pair, .. } = asked;
+    let form = form_of(asked.deepest, asked.csv);
+    match asked.from {
         Some(path) => {
             let library = &mut SystemLibrary::new(rt, path);
-            let csv = form == Form::Csv;
-            let done = stats_from(alloc, order.board, order.pair, csv, library, output);
+            let done = stats_from(alloc, board, pair, asked.csv, library, output);
             *why = library.why();
             done
         }
-        None if classes => stats_by_classes(rt, alloc, order, form, output, teller),
-        None => stats_with(alloc, order.board, order.pair, form, output, teller),
+        None if asked.classes => {
+            let order = order_of(board, pair, asked.workers, asked.blocks);
+            stats_by_classes(rt, alloc, order, form, output, teller)
+        }
+        None => stats_with(alloc, board, pair, form, output, teller),
     }
 }
 
@@ -366,19 +308,22 @@ fn shown_as(limit: Option<u32>, count: bool) -> Shown
 fn find<R: Files<File = File> + AllocGlobal, O: Sink>(
     rt: &R,
     alloc: Global,
-    board: &str,
-    pair: &str,
-    value: &str,
-    from: &str,
-    all: bool,
-    shown: Shown,
+    asked: Find<'_>,
     why: &mut Option<Reason>,
     output: &mut O,
 ) -> Result<(), Fault>
     requires output { O.failures output.old < 2 ^ 64 - 1 }
-    ensures answer { AnswersFindFrom (board_of board.now) board.now None pair.now value.now all shown (O.contents output.old) (O.contents output.new) result }
+    ensures answer { AnswersFind asked.entry (O.contents output.old) (O.contents output.new) result }
 {
-    let library = &mut SystemLibrary::new(rt, from);
+    let Find {
+        board,
+        pair,
+        value,
+        all,
+        ..
+    } = asked;
+    let shown = shown_as(asked.limit, asked.count);
+    let library = &mut SystemLibrary::new(rt, asked.from);
     let done = find_from(alloc, board, pair, value, all, shown, library, output);
     *why = library.why();
     done
@@ -389,28 +334,34 @@ fn find<R: Files<File = File> + AllocGlobal, O: Sink>(
 fn build<R: Threads + Wait + Sync + Files<File = File> + AllocGlobal, O: Sink, T: Teller>(
     rt: &R,
     alloc: Global,
-    order: Order<'_>,
-    all: bool,
-    into: Option<&str>,
-    classes: bool,
+    asked: Build<'_>,
     on_terminal: bool,
     why: &mut Option<Reason>,
     output: &mut O,
     teller: &mut T,
 ) -> Result<(), Fault>
     requires output { O.failures output.old < 2 ^ 64 - 1 }
-    ensures answer { (input : Input) → AnswersAt (is_none into.entry && on_terminal) input input (O.contents output.old) (O.contents output.new)
-        (task.Build order.entry.board order.entry.pair order.entry.workers order.entry.blocks all into.entry classes) result }
+    ensures answer { (input : Input) → AnswersAt (is_none asked.entry.into && on_terminal) input input (O.contents output.old) (O.contents output.new)
+        (task.Build asked.entry) result }
     ensures told { T.becomes teller.old teller.new }
 {
+    let Build {
+        board,
+        pair,
+        workers,
+        blocks,
+        all,
+        into,
+        classes,
+    } = asked;
+    let order = order_of(board, pair, workers, blocks);
     match into {
         Some(path) => {
             let folder = &mut SystemFolder::new(rt, path);
             let Order {
-                board,
-                pair,
                 workers,
                 blocks,
+                ..
             } = order;
             let done = build_into(
                 rt, alloc, board, pair, workers, blocks, classes, folder, output, teller,
@@ -422,7 +373,7 @@ fn build<R: Threads + Wait + Sync + Files<File = File> + AllocGlobal, O: Sink, T
         None => {
             let layout = layout_of(classes);
             on_board!(
-                order.board,
+                board,
                 build_on::<R, O, T>(rt, alloc, order, all, layout, output, teller)
             )
         }
@@ -439,22 +390,25 @@ fn verify<
 >(
     rt: &R,
     alloc: Global,
-    board: &str,
-    all: bool,
-    from: Option<&str>,
-    workers: u8,
+    asked: Verify<'_>,
     why: &mut Option<Reason>,
     input: &mut I,
     output: &mut O,
     teller: &mut T,
 ) -> Result<(), Fault>
-    requires workers { (1 ≤ workers) × (workers ≤ 64) }
+    requires workers { (1 ≤ asked.workers) × (asked.workers ≤ 64) }
     requires streams { MayFail (I.failures input.old) (O.failures output.old) }
-    ensures answer { Answers (input_of (I.remaining input.old) (I.failures input.old)) (input_of (I.remaining input.new) (I.failures input.new))
-        (O.contents output.old) (O.contents output.new) (task.Verify board.entry all from.entry workers) result }
-    ensures unread { takes_input (task.Verify board.entry all from.entry workers) ≡ false → input.new ≡ input.old }
+    ensures answer { AnswersFiles asked.entry.from asked.entry.all asked.entry (input_of (I.remaining input.old) (I.failures input.old))
+        (input_of (I.remaining input.new) (I.failures input.new)) (O.contents output.old) (O.contents output.new) result }
+    ensures unread { is_none asked.entry.from ≡ false → input.new ≡ input.old }
     ensures told { T.becomes teller.old teller.new }
 {
+    let Verify {
+        board,
+        all,
+        from,
+        workers,
+    } = asked;
     let Ok(team) = Team::new(usize::from(workers), VERIFIED_BLOCKS) else {
         unreachable!()
     };
@@ -478,19 +432,22 @@ fn verify<
 fn look_up<R: Files<File = File> + AllocGlobal, I: Source, O: Sink>(
     rt: &R,
     alloc: Global,
-    board: &str,
-    from: &str,
-    show: words::Show,
-    texts: Vec<&str>,
+    asked: Lookup<'_>,
     why: &mut Option<Reason>,
     input: &mut I,
     output: &mut O,
 ) -> Result<(), Fault>
     requires streams { MayFail (I.failures input.old) (O.failures output.old) }
-    ensures answer { AnswersQueries board.now show (map (λ t. t.now) texts.entry.items) (input_of (I.remaining input.old) (I.failures input.old))
+    ensures answer { AnswersQueries (map (λ t. t.now) asked.entry.texts.items) asked.entry (input_of (I.remaining input.old) (I.failures input.old))
         (input_of (I.remaining input.new) (I.failures input.new)) (O.contents output.old) (O.contents output.new) result }
-    ensures unread { (length texts.entry.items == 0) ≡ false → input.new ≡ input.old }
+    ensures unread { (length asked.entry.texts.items == 0) ≡ false → input.new ≡ input.old }
 {
+    let Lookup {
+        board,
+        from,
+        show,
+        texts,
+    } = asked;
     let library = &mut SystemLibrary::new(rt, from);
     let show = shown(show);
     let answered = if texts.is_empty() {
@@ -514,14 +471,14 @@ fn end(answered: Result<u64, QueryFault>) -> Result<(), Fault>
 }
 
 /// What is shown of a position, as the words say it.
-fn shown(show: words::Show) -> Show
+fn shown(show: request::Show) -> Show
     ensures { result ≡ shown_of show }
 {
     match show {
-        words::Show::Best => Show::Best,
-        words::Show::Moves => Show::Moves,
-        words::Show::Line => Show::Line,
-        words::Show::Csv => Show::Csv,
+        request::Show::Best => Show::Best,
+        request::Show::Moves => Show::Moves,
+        request::Show::Line => Show::Line,
+        request::Show::Csv => Show::Csv,
     }
 }
 

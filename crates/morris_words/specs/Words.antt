@@ -19,11 +19,11 @@ use Rattle.clap.specs.declared.builder.command.Command.TheViews.{out-Command}
 use Rattle.clap.specs.declared.builder.value_parser.ValueParser.TheVariants as parser
 use Rattle.clap.specs.declared.error.kind.ErrorKind.{ErrorKind}
 use Rattle.clap.specs.declared.error.kind.ErrorKind.TheVariants as kind
-use Rattle.morris_words.specs.declared.words.Request.{Request}
-use Rattle.morris_words.specs.declared.words.Show.{Show}
-use Rattle.morris_words.specs.declared.words.Show.TheVariants.{Best, Moves, Line, Csv}
-use Rattle.morris_words.specs.declared.words.Task.{Task}
-use Rattle.morris_words.specs.declared.words.Task.TheVariants.{Look, Stats, Build, Verify, Probe, Lookup, Find}
+use Rattle.morris_words.specs.declared.request.Request.{Request}
+use Rattle.morris_words.specs.declared.request.Show.{Show}
+use Rattle.morris_words.specs.declared.request.Show.TheVariants.{Best, Moves, Line, Csv}
+use Rattle.morris_words.specs.declared.request.Task.{Task}
+use Rattle.morris_words.specs.declared.request.Task.TheVariants.{Look, Stats, Build, Verify, Probe, Lookup, Find}
 use Rattle.morris_words.specs.declared.words.Refusal.{Refusal}
 use Rattle.morris_words.specs.declared.words.Refusal.TheVariants.{Memory, Help, Version, Wrong}
 
@@ -231,45 +231,45 @@ IsLimit rows (Some n) = (is_given (codes "limit") rows ≡ true) × (option_map 
 -- the task is that of the command that was named, with the values of its arguments; the value of a
 -- flag says whether it was given
 abbrev pub AsksForTask : Text → List Row → Task → Type 0
-AsksForTask name rows (Look board text depth) =
-    (name ≡ codes "look") × (first_of (codes "BOARD") rows ≡ Some board.now)
-    × (first_of (codes "TEXT") rows ≡ Some text.now)
-    × (option_map number_of (one_of (codes "depth") rows) ≡ Some depth)
-AsksForTask name rows (Stats board pair classes workers blocks deepest from csv) =
-    (name ≡ codes "stats") × (first_of (codes "BOARD") rows ≡ Some board.now) × (first_of (codes "PAIR") rows ≡ Some pair.now)
-    × (one_of (codes "classes") rows ≡ Some (bool_text classes))
-    × (option_map number_of (one_of (codes "workers") rows) ≡ Some workers)
-    × (option_map number_of (one_of (codes "blocks") rows) ≡ Some blocks)
-    × (one_of (codes "deepest") rows ≡ Some (bool_text deepest))
-    × IsOption (codes "from") rows from
-    × (one_of (codes "csv") rows ≡ Some (bool_text csv))
-AsksForTask name rows (Build board pair workers blocks all into classes) =
-    (name ≡ codes "build") × (first_of (codes "BOARD") rows ≡ Some board.now) × (first_of (codes "PAIR") rows ≡ Some pair.now)
-    × (option_map number_of (one_of (codes "workers") rows) ≡ Some workers)
-    × (option_map number_of (one_of (codes "blocks") rows) ≡ Some blocks)
-    × (one_of (codes "all") rows ≡ Some (bool_text all))
-    × IsOption (codes "into") rows into
-    × (one_of (codes "classes") rows ≡ Some (bool_text classes))
-AsksForTask name rows (Verify board all from workers) =
-    (name ≡ codes "verify") × (first_of (codes "BOARD") rows ≡ Some board.now)
-    × (one_of (codes "all") rows ≡ Some (bool_text all))
-    × IsOption (codes "from") rows from
-    × (option_map number_of (one_of (codes "workers") rows) ≡ Some workers)
-AsksForTask name rows (Probe board text) =
-    (name ≡ codes "probe") × (first_of (codes "BOARD") rows ≡ Some board.now) × (first_of (codes "TEXT") rows ≡ Some text.now)
-AsksForTask name rows (Lookup board from show texts) =
-    (name ≡ codes "lookup") × (first_of (codes "BOARD") rows ≡ Some board.now) × (first_of (codes "from") rows ≡ Some from.now)
-    × IsShown rows show × (unwrap_or (all_of (codes "TEXT") rows) [] ≡ map (λ t. t.now) texts.items)
-AsksForTask name rows (Find board pair value from all limit count) =
-    (name ≡ codes "find") × (first_of (codes "BOARD") rows ≡ Some board.now) × (first_of (codes "PAIR") rows ≡ Some pair.now)
-    × (first_of (codes "VALUE") rows ≡ Some value.now) × (first_of (codes "from") rows ≡ Some from.now)
-    × (one_of (codes "all") rows ≡ Some (bool_text all)) × IsLimit rows limit × (one_of (codes "count") rows ≡ Some (bool_text count))
+AsksForTask name rows (Look asked) =
+    (name ≡ codes "look") × (first_of (codes "BOARD") rows ≡ Some asked.board.now)
+    × (first_of (codes "TEXT") rows ≡ Some asked.text.now)
+    × (option_map number_of (one_of (codes "depth") rows) ≡ Some asked.depth)
+AsksForTask name rows (Stats asked) =
+    (name ≡ codes "stats") × (first_of (codes "BOARD") rows ≡ Some asked.board.now) × (first_of (codes "PAIR") rows ≡ Some asked.pair.now)
+    × (one_of (codes "classes") rows ≡ Some (bool_text asked.classes))
+    × (option_map number_of (one_of (codes "workers") rows) ≡ Some asked.workers)
+    × (option_map number_of (one_of (codes "blocks") rows) ≡ Some asked.blocks)
+    × (one_of (codes "deepest") rows ≡ Some (bool_text asked.deepest))
+    × IsOption (codes "from") rows asked.from
+    × (one_of (codes "csv") rows ≡ Some (bool_text asked.csv))
+AsksForTask name rows (Build asked) =
+    (name ≡ codes "build") × (first_of (codes "BOARD") rows ≡ Some asked.board.now) × (first_of (codes "PAIR") rows ≡ Some asked.pair.now)
+    × (option_map number_of (one_of (codes "workers") rows) ≡ Some asked.workers)
+    × (option_map number_of (one_of (codes "blocks") rows) ≡ Some asked.blocks)
+    × (one_of (codes "all") rows ≡ Some (bool_text asked.all))
+    × IsOption (codes "into") rows asked.into
+    × (one_of (codes "classes") rows ≡ Some (bool_text asked.classes))
+AsksForTask name rows (Verify asked) =
+    (name ≡ codes "verify") × (first_of (codes "BOARD") rows ≡ Some asked.board.now)
+    × (one_of (codes "all") rows ≡ Some (bool_text asked.all))
+    × IsOption (codes "from") rows asked.from
+    × (option_map number_of (one_of (codes "workers") rows) ≡ Some asked.workers)
+AsksForTask name rows (Probe asked) =
+    (name ≡ codes "probe") × (first_of (codes "BOARD") rows ≡ Some asked.board.now) × (first_of (codes "TEXT") rows ≡ Some asked.text.now)
+AsksForTask name rows (Lookup asked) =
+    (name ≡ codes "lookup") × (first_of (codes "BOARD") rows ≡ Some asked.board.now) × (first_of (codes "from") rows ≡ Some asked.from.now)
+    × IsShown rows asked.show × (unwrap_or (all_of (codes "TEXT") rows) [] ≡ map (λ t. t.now) asked.texts.items)
+AsksForTask name rows (Find asked) =
+    (name ≡ codes "find") × (first_of (codes "BOARD") rows ≡ Some asked.board.now) × (first_of (codes "PAIR") rows ≡ Some asked.pair.now)
+    × (first_of (codes "VALUE") rows ≡ Some asked.value.now) × (first_of (codes "from") rows ≡ Some asked.from.now)
+    × (one_of (codes "all") rows ≡ Some (bool_text asked.all)) × IsLimit rows asked.limit × (one_of (codes "count") rows ≡ Some (bool_text asked.count))
 
 -- progress is to be told where `--progress` was given, which `look`, `lookup` and `find` don't take
 abbrev pub AsksToTell : Task → List Row → Bool → Type 0
-AsksToTell (Look board text depth) rows progress = progress ≡ false
-AsksToTell (Lookup board from show texts) rows progress = progress ≡ false
-AsksToTell (Find board pair value from all limit count) rows progress = progress ≡ false
+AsksToTell (Look asked) rows progress = progress ≡ false
+AsksToTell (Lookup asked) rows progress = progress ≡ false
+AsksToTell (Find asked) rows progress = progress ≡ false
 AsksToTell _ rows progress = one_of (codes "progress") rows ≡ Some (bool_text progress)
 
 -- the request is for the command that was named, with the values of its arguments
@@ -279,10 +279,10 @@ AsksFor (Some (name, rows)) r = AsksForTask name rows r.task × AsksToTell r.tas
 
 -- a depth to look ahead is at most 6 plies; workers are 1 to 64, and blocks 1 to 1,024
 abbrev pub IsInRange : Task → Type 0
-IsInRange (Look board text depth) = depth ≤ 6
-IsInRange (Stats board pair classes workers blocks deepest from csv) = ((1 ≤ workers) × (workers ≤ 64)) × ((1 ≤ blocks) × (blocks ≤ 1024))
-IsInRange (Build board pair workers blocks all into classes) = ((1 ≤ workers) × (workers ≤ 64)) × ((1 ≤ blocks) × (blocks ≤ 1024))
-IsInRange (Verify board all from workers) = (1 ≤ workers) × (workers ≤ 64)
+IsInRange (Look asked) = asked.depth ≤ 6
+IsInRange (Stats asked) = ((1 ≤ asked.workers) × (asked.workers ≤ 64)) × ((1 ≤ asked.blocks) × (asked.blocks ≤ 1024))
+IsInRange (Build asked) = ((1 ≤ asked.workers) × (asked.workers ≤ 64)) × ((1 ≤ asked.blocks) × (asked.blocks ≤ 1024))
+IsInRange (Verify asked) = (1 ≤ asked.workers) × (asked.workers ≤ 64)
 IsInRange _ = ⊤
 
 -- the request is what the named command asks for: no two of its arguments exclude each other, and

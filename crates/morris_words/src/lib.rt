@@ -3,4 +3,5 @@
 #![tactic(auto)]
 
 mod help;
+pub mod request;
 pub mod words;

@@ -11,114 +11,12 @@ ghost use Rattle.morris_words.specs.Words.{lookup_app, morris_app, named_by, num
 ghost use Rattle.morris_words.specs.Words.{several_rule, stats_app, verify_app, with_rules, workers_rule};
 
 use crate::help;
+use crate::request::{Build, Find, Look, Lookup, Probe, Request, Show, Stats, Task, Verify};
 use clap::error::ErrorKind;
 use clap::parser::ValueSource;
 use clap::{Arg, ArgAction, ArgMatches, Command, Error, value_parser};
 use std::alloc::{AllocError, Global};
 use std::convert::AsStr;
-
-/// What the words ask the program for.
-#[derive(Drop)]
-pub struct Request<'a> {
-    /// What it is to do.
-    pub task: Task<'a>,
-    /// Whether it is to tell on standard error how far it is, which `look`, `lookup` and `find`
-    /// never are.
-    pub progress: bool,
-}
-
-/// What the words ask the program to do.
-#[derive(Drop)]
-pub enum Task<'a> {
-    /// Show the position that `text` writes on the board named `board`: its legal moves, and its
-    /// value as far as `depth` plies tell, 0 to 6 of them.
-    Look {
-        board: &'a str,
-        text: &'a str,
-        depth: u8,
-    },
-    /// Count the values of the positions of the pair that `pair` names on the board named `board`,
-    /// with 1 to 64 `workers` and 1 to 1,024 `blocks`. Where `classes` is true the tables have an
-    /// entry for each class of positions, and where `deepest` is true the deepest positions are
-    /// shown as well. Where there is a folder `from`, the values are those that the file of the
-    /// pair in it states; `classes` and `deepest` are then false. Where `csv` is true the counts
-    /// are shown as fields with commas between them; `deepest` is then false.
-    Stats {
-        board: &'a str,
-        pair: &'a str,
-        classes: bool,
-        workers: u8,
-        blocks: u16,
-        deepest: bool,
-        from: Option<&'a str>,
-        csv: bool,
-    },
-    /// Build the table of the pair that `pair` names on the board named `board`, and of each pair
-    /// below it, with 1 to 64 `workers` and 1 to 1,024 `blocks`. Write the table file of the pair
-    /// to the output, or where `all` is true those of all these pairs; or, where there is a folder
-    /// `into`, write the file of each of these pairs into it, in which case `all` is false. Where
-    /// `classes` is true the tables have an entry for each class of positions, and otherwise one
-    /// for each position.
-    Build {
-        board: &'a str,
-        pair: &'a str,
-        workers: u8,
-        blocks: u16,
-        all: bool,
-        into: Option<&'a str>,
-        classes: bool,
-    },
-    /// Verify the table file on the input, of the board named `board`, or where `all` is true each
-    /// of those on it; or, where there is a folder `from`, each table file of that board in it, in
-    /// which case `all` is false. 1 to 64 `workers` do it.
-    Verify {
-        board: &'a str,
-        all: bool,
-        from: Option<&'a str>,
-        workers: u8,
-    },
-    /// Report the position that `text` writes on the board named `board`, by the tables on the
-    /// input.
-    Probe {
-        board: &'a str,
-        text: &'a str,
-    },
-    /// Look up positions on the board named `board` in the table files of the folder `from`, and
-    /// show of each what `show` says: the positions that `texts` write, or, where there are none,
-    /// those that the lines of the input write.
-    Lookup {
-        board: &'a str,
-        from: &'a str,
-        show: Show,
-        texts: Vec<&'a str>,
-    },
-    /// Show the positions of the pair that `pair` names on the board named `board` that have the
-    /// value of the text `value`, by the file of the pair in the folder `from`: at most so many as
-    /// `limit` says, where it is there; or, where `count` is true, how many there are, in which
-    /// case there is no `limit`. Where `all` is true, each position that shares an entry is shown.
-    Find {
-        board: &'a str,
-        pair: &'a str,
-        value: &'a str,
-        from: &'a str,
-        all: bool,
-        limit: Option<u32>,
-        count: bool,
-    },
-}
-
-/// What `lookup` shows of a position.
-#[derive(Clone, Copy)]
-pub enum Show {
-    /// Its value and its best moves.
-    Best,
-    /// Its value, and each of its moves with the value after it.
-    Moves,
-    /// Its value, and a line of best moves to the game's end.
-    Line,
-    /// Each of its moves with the value after it, as fields with commas between them.
-    Csv,
-}
 
 /// Why the words make no request.
 #[derive(Drop)]
@@ -469,11 +367,11 @@ fn look_request<'a>(found: &ArgMatches<'a>) -> Request<'a>
     ensures { IsRequestOf (Some (codes "look", rows_of (found_of found.now))) result }
 {
     Request {
-        task: Task::Look {
+        task: Task::Look(Look {
             board: given(found, "BOARD"),
             text: given(found, "TEXT"),
             depth: number(found, "depth") as u8,
-        },
+        }),
         progress: false,
     }
 }
@@ -488,7 +386,7 @@ fn stats_request<'a>(alloc: Global, found: &ArgMatches<'a>) -> Result<Request<'a
     }
     let classes = flag(found, "classes");
     Ok(Request {
-        task: Task::Stats {
+        task: Task::Stats(Stats {
             board: given(found, "BOARD"),
             pair: given(found, "PAIR"),
             classes,
@@ -497,7 +395,7 @@ fn stats_request<'a>(alloc: Global, found: &ArgMatches<'a>) -> Result<Request<'a
             deepest: flag(found, "deepest"),
             from: optional(found, "from"),
             csv: flag(found, "csv"),
-        },
+        }),
         progress: flag(found, "progress"),
     })
 }
@@ -540,7 +438,7 @@ fn build_request<'a>(alloc: Global, found: &ArgMatches<'a>) -> Result<Request<'a
         return Err(clash(alloc, "--all", "with '--into <FOLDER>'"));
     }
     Ok(Request {
-        task: Task::Build {
+        task: Task::Build(Build {
             board: given(found, "BOARD"),
             pair: given(found, "PAIR"),
             workers: number(found, "workers") as u8,
@@ -548,7 +446,7 @@ fn build_request<'a>(alloc: Global, found: &ArgMatches<'a>) -> Result<Request<'a
             all,
             into,
             classes: flag(found, "classes"),
-        },
+        }),
         progress: flag(found, "progress"),
     })
 }
@@ -563,12 +461,12 @@ fn verify_request<'a>(alloc: Global, found: &ArgMatches<'a>) -> Result<Request<'
         return Err(clash(alloc, "--all", "with '--from <FOLDER>'"));
     }
     Ok(Request {
-        task: Task::Verify {
+        task: Task::Verify(Verify {
             board: given(found, "BOARD"),
             all,
             from,
             workers: number(found, "workers") as u8,
-        },
+        }),
         progress: flag(found, "progress"),
     })
 }
@@ -578,10 +476,10 @@ fn probe_request<'a>(found: &ArgMatches<'a>) -> Request<'a>
     ensures { IsRequestOf (Some (codes "probe", rows_of (found_of found.now))) result }
 {
     Request {
-        task: Task::Probe {
+        task: Task::Probe(Probe {
             board: given(found, "BOARD"),
             text: given(found, "TEXT"),
-        },
+        }),
         progress: flag(found, "progress"),
     }
 }
@@ -599,12 +497,12 @@ fn lookup_request<'a>(alloc: Global, found: &ArgMatches<'a>) -> Result<Request<'
         return Err(Refusal::Memory);
     };
     Ok(Request {
-        task: Task::Lookup {
+        task: Task::Lookup(Lookup {
             board: given(found, "BOARD"),
             from: given(found, "from"),
             show,
             texts,
-        },
+        }),
         progress: false,
     })
 }
@@ -619,7 +517,7 @@ fn find_request<'a>(alloc: Global, found: &ArgMatches<'a>) -> Result<Request<'a>
         return Err(clash(alloc, "--limit <N>", "with '--count'"));
     }
     Ok(Request {
-        task: Task::Find {
+        task: Task::Find(Find {
             board: given(found, "BOARD"),
             pair: given(found, "PAIR"),
             value: given(found, "VALUE"),
@@ -627,7 +525,7 @@ fn find_request<'a>(alloc: Global, found: &ArgMatches<'a>) -> Result<Request<'a>
             all: flag(found, "all"),
             limit,
             count,
-        },
+        }),
         progress: false,
     })
 }
