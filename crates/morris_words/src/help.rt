@@ -162,7 +162,7 @@ pub(crate) const BUILD: &str = page!(
     "\
 It builds the tables of the pairs that the pair rests on, then that of the pair,\n\
 and writes nothing before the last of them is built. The bytes are the same for\n\
-every number of workers and blocks.\n\
+every number of workers and blocks. It writes no table to a terminal.\n\
 \n\
 With --into it writes each of these tables into a folder as soon as it is built,\n\
 in a file with a name like nine-4-3.nmmt, whole or not at all. The folder is\n\

@@ -635,17 +635,10 @@ fn clash(alloc: Global, one: &str, other: &str) -> Refusal
 fn refusal_of(alloc: Global, error: &Error) -> Refusal
     ensures { IsAnswerTo (kind_of error.now) result }
 {
-    if error.kind() == ErrorKind::OutOfMemory {
-        return Refusal::Memory;
-    }
-    let Ok(text) = error.to_string(alloc) else {
-        return Refusal::Memory;
-    };
-    if error.kind() == ErrorKind::DisplayHelp {
-        Refusal::Help(text)
-    } else if error.kind() == ErrorKind::DisplayVersion {
-        Refusal::Version(text)
-    } else {
-        Refusal::Wrong(text)
+    match (error.kind(), error.to_string(alloc)) {
+        (ErrorKind::OutOfMemory, _) | (_, Err(AllocError)) => Refusal::Memory,
+        (ErrorKind::DisplayHelp, Ok(text)) => Refusal::Help(text),
+        (ErrorKind::DisplayVersion, Ok(text)) => Refusal::Version(text),
+        (_, Ok(text)) => Refusal::Wrong(text),
     }
 }
