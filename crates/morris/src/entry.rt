@@ -85,13 +85,8 @@ pub fn answer_words<
 }
 
 /// All the words, in order.
-#[tactic(auto, using(std::proofs::Common::append_assoc))]
 fn list_of(alloc: Global, words: Args) -> Result<Vec<String>, AllocError>
     ensures { IfOk result (λ list. list.items ≡ into_iter_items words) }
 {
-    let mut list = Vec::new(alloc);
-    for word in words {
-        list.push(word)?;
-    }
-    Ok(list)
+    words.collect(alloc)
 }
