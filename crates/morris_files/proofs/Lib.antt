@@ -1,4 +1,3 @@
-pub mod MemoryLaws
 pub mod WholeLaws
 pub mod KeptLaws
 pub mod HeaderLaws

@@ -8,7 +8,6 @@ pub mod folder;
 pub mod header;
 pub mod kept;
 mod list_line;
-pub mod memory;
 pub mod names;
 pub mod noting;
 pub mod old_list;

@@ -1,9 +1,9 @@
 // The file of a table in a folder in memory.
+use crate::memory::MemoryFolder;
 use morris_board::grid::Grid;
 use morris_files::digests::write_list;
 use morris_files::folder::Folder;
 use morris_files::kept::{KeptFault, read_table_file};
-use morris_files::memory::MemoryFolder;
 use morris_files::old_list::kept_lines;
 use morris_files::table_file::{Written, write_table_file};
 use morris_index::pair::Pair;

@@ -1,5 +1,7 @@
-//! The tests of folders, of files of tables in them, and of look-ups in such files, apart so that the
-//! libraries are proved once. They are no part of the product.
+//! A folder in memory for tests, and the tests of folders, of files of tables in them, and of
+//! look-ups in such files, apart so that the libraries are proved once.
+//!
+//! No part of the product: nothing that is built for use stands on this crate.
 #![tactic(auto)]
 
 #[cfg(test)]
@@ -10,11 +12,12 @@ mod lists;
 mod looking;
 #[cfg(test)]
 mod making;
-#[cfg(test)]
-mod memory;
+pub mod memory;
 #[cfg(test)]
 mod opening;
 #[cfg(test)]
 mod system;
 #[cfg(test)]
 mod text;
+#[cfg(test)]
+mod writing;

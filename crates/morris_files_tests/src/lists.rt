@@ -1,8 +1,8 @@
 // The list of digests in a folder in memory: what is kept of an old one, and what is written.
+use crate::memory::MemoryFolder;
 use morris_board::grid::Grid;
 use morris_files::digests::write_list;
 use morris_files::folder::Folder;
-use morris_files::memory::MemoryFolder;
 use morris_files::old_list::{ListFault, kept_lines};
 use morris_files::whole::Step;
 use morris_index::pair::Pair;

@@ -1,97 +1,340 @@
-// Files in memory, written while calls fail.
-use crate::text::Two;
-use morris_board::streams::Failed;
+//! A folder in memory, for tests: each of its calls can be told to fail.
+ghost use Rattle.std.specs.Prelude.{◌≡◌, ◌≢◌, ℕ, ◌+◌, ◌-◌, ◌^◌, ◌<◌, false, List, Some, None, OnOk, OnErr};
+ghost use Rattle.std.specs.Option.{option_map};
+ghost use Rattle.morris_files.specs.Files.{AreSame, AreSameBut};
+ghost use Rattle.morris_files_tests.specs.Memory.{count_of, files_of, failures_of, lock_of, locked_of, taken_of};
+
+use morris_board::streams::{Failed, FromRead, Sink};
 use morris_files::folder::Folder;
-use morris_files::memory::MemoryFolder;
-use morris_files::whole::{NotWhole, Step, write_whole};
-use std::alloc::Global;
-use std::process::Abort;
+use std::alloc::{AllocError, Global};
+use std::collections::{BTreeMap, VecDeque};
+use std::marker::Model;
 
-/// What stands under the name, and how many files there are, once a file was written over another
-/// one while these calls and writes failed.
-fn writes(alloc: Global, calls: u64, failing: u64) -> Option<(Result<(), NotWhole>, bool, usize)> {
-    let mut folder = MemoryFolder::new(alloc, calls, failing);
-    folder.put("kept", b"old").ok()?;
-    let answer = write_whole(alloc, &mut folder, "kept", &Two(b"new", b"er"));
-    let wanted = if answer.is_ok() {
-        b"newer".as_slice()
-    } else {
-        b"old".as_slice()
-    };
-    Some((answer, folder.get("kept") == Some(wanted), folder.count()))
+/// Which of the first 64 calls of something fail: that with the number n, counted from 0, where the
+/// bit of 2 to the n is set.
+#[derive(Clone, Copy, Debug, Drop)]
+struct Failing {
+    bits: u64,
+    calls: u64,
 }
 
-/// Whether a file that is written while these fail is refused at the step, with the old one as it
-/// was and no other file but a part that is told.
-fn is_refused(alloc: Global, calls: u64, failing: u64, step: Step, left: bool) -> bool {
-    let files = if left { 2 } else { 1 };
-    writes(alloc, calls, failing) == Some((Err(NotWhole { step, left }), true, files))
+impl Failing {
+    /// Whether the next call fails, which is counted.
+    fn next_fails(&mut self) -> bool {
+        let number = self.calls;
+        self.calls = number.saturating_add(1);
+        number < 64 && (self.bits >> number) & 1 == 1
+    }
 }
 
-#[test]
-fn a_file_is_whole_or_as_it_was_whichever_calls_fail(rt: HostRuntime) {
-    let alloc = rt.alloc();
-    assert!(rt; writes(alloc, 0, 0) == Some((Ok(()), true, 1)));
-    assert!(rt; is_refused(alloc, 0b1, 0, Step::Create, false));
-    assert!(rt; is_refused(alloc, 0b10, 0, Step::Create, false));
-    assert!(rt; is_refused(alloc, 0, 0b1, Step::Write, false));
-    assert!(rt; is_refused(alloc, 0, 0b10, Step::Write, false));
-    assert!(rt; is_refused(alloc, 0b100, 0b10, Step::Write, true));
-    assert!(rt; is_refused(alloc, 0b100, 0, Step::Sync, false));
-    assert!(rt; is_refused(alloc, 0b1100, 0, Step::Sync, true));
-    assert!(rt; is_refused(alloc, 0b1000, 0, Step::Rename, false));
-    assert!(rt; is_refused(alloc, 0b11000, 0, Step::Rename, true));
+/// Who holds the lock of a folder: itself, another, or neither.
+#[derive(Clone, Copy, Debug, Drop)]
+struct Lock {
+    held: bool,
+    taken: bool,
 }
 
-#[test]
-fn a_file_is_whole_where_its_name_may_not_last(rt: HostRuntime) {
-    let mut folder = MemoryFolder::new(rt.alloc(), 0b10000, 0);
-    let answer = write_whole(rt.alloc(), &mut folder, "kept", &Two(b"new", b"er"));
-    let refused = NotWhole {
-        step: Step::Settle,
-        left: false,
-    };
-    assert!(rt; answer == Err(refused));
-    assert!(rt; folder.get("kept") == Some(b"newer".as_slice()));
-    assert!(rt; folder.count() == 1);
+/// A folder in memory. A call that is refused memory fails as one that was told to.
+#[derive(Drop)]
+pub struct MemoryFolder {
+    alloc: Global,
+    files: BTreeMap<String, Vec<u8>>,
+    failing: Failing,
+    failing_writes: u64,
+    failed: u64,
+    lock: Lock,
 }
 
-#[test]
-fn a_part_that_was_left_is_replaced(rt: HostRuntime) {
-    let mut folder = MemoryFolder::new(rt.alloc(), 0, 0);
-    assert!(rt; folder.put("kept.part", b"left").is_ok());
-    assert!(rt; folder.create("kept.part").is_err());
-    assert!(rt; folder.get("kept.part") == Some(b"left".as_slice()));
-    assert!(rt; write_whole(rt.alloc(), &mut folder, "kept", &Two(b"new", b"er")) == Ok(()));
-    assert!(rt; folder.get("kept") == Some(b"newer".as_slice()));
-    assert!(rt; folder.count() == 1);
+impl MemoryFolder {
+    /// A folder without files, of which no one holds the lock. Of its calls those fail whose bits
+    /// are set in `calls`, of the writes of each of its writers those whose bits are set in
+    /// `writes`: bit n is that of the call before which there were n.
+    pub fn new(alloc: Global, calls: u64, writes: u64) -> MemoryFolder
+        ensures none { (name : List ℕ) → files_of result name ≡ None }
+        ensures failures { failures_of result ≡ 0 }
+        ensures unlocked { locked_of result ≡ false }
+        ensures free { taken_of result ≡ false }
+    {
+        MemoryFolder {
+            alloc,
+            files: BTreeMap::new(alloc),
+            failing: Failing {
+                bits: calls,
+                calls: 0,
+            },
+            failing_writes: writes,
+            failed: 0,
+            lock: Lock {
+                held: false,
+                taken: false,
+            },
+        }
+    }
+
+    /// Says whether another holds the lock from now on. It isn't a call that can be told to fail.
+    pub fn set_taken(&mut self, taken: bool)
+        ensures taken { taken_of self.new ≡ taken }
+        ensures held { locked_of self.new ≡ locked_of self.old }
+        ensures files { AreSame (files_of self.old) (files_of self.new) }
+        ensures failures { failures_of self.new ≡ failures_of self.old }
+    {
+        self.lock.taken = taken;
+    }
+
+    /// Puts a file with these bytes under a name, in the place of one that is there. It isn't a
+    /// call that can be told to fail.
+    ///
+    /// # Errors
+    /// [`AllocError`] where memory is refused. Then no file is changed.
+    pub fn put(&mut self, name: &str, bytes: &[u8]) -> Result<(), AllocError>
+        ensures this { OnOk result (files_of self.new name.now ≡ Some bytes.now) }
+        ensures others { OnOk result (AreSameBut name.now (files_of self.old) (files_of self.new)) }
+        ensures unchanged { OnErr result (AreSame (files_of self.old) (files_of self.new)) }
+        ensures failures { failures_of self.new ≡ failures_of self.old }
+        ensures lock { lock_of self.new ≡ lock_of self.old }
+    {
+        let copy = Vec::from_slice(self.alloc, bytes)?;
+        self.keep(name, copy)
+    }
+
+    /// The bytes of the file of this name, where there is one.
+    pub fn get(&self, name: &str) -> Option<&[u8]>
+        ensures { option_map (λ bytes. bytes.now) result ≡ files_of self.now name.now }
+    {
+        match self.files.get(name) {
+            Some(bytes) => Some(bytes.as_slice()),
+            None => None,
+        }
+    }
+
+    /// How many files there are.
+    pub fn count(&self) -> usize
+        ensures { result ≡ count_of self.now }
+    {
+        self.files.len()
+    }
+
+    /// Puts a file under a name.
+    fn keep(&mut self, name: &str, bytes: Vec<u8>) -> Result<(), AllocError>
+        ensures this { OnOk result (files_of self.new name.now ≡ Some bytes.items) }
+        ensures others { OnOk result (AreSameBut name.now (files_of self.old) (files_of self.new)) }
+        ensures unchanged { OnErr result (AreSame (files_of self.old) (files_of self.new)) }
+        ensures failures { failures_of self.new ≡ failures_of self.old }
+        ensures lock { lock_of self.new ≡ lock_of self.old }
+    {
+        let name = String::from_str(self.alloc, name)?;
+        match self.files.insert(name, bytes) {
+            Ok(_) => Ok(()),
+            Err(_) => Err(AllocError),
+        }
+    }
+
+    /// Puts an empty file under a name, unless there is a file.
+    fn keep_some(&mut self, name: &str) -> Result<(), AllocError>
+        ensures others { AreSameBut name.now (files_of self.old) (files_of self.new) }
+        ensures failures { failures_of self.new ≡ failures_of self.old }
+        ensures lock { lock_of self.new ≡ lock_of self.old }
+    {
+        if self.files.contains_key(name) {
+            return Ok(());
+        }
+        self.keep(name, Vec::new(self.alloc))
+    }
+
+    /// Puts an empty file under a name, where there is no file.
+    fn keep_new(&mut self, name: &str) -> Result<(), AllocError>
+        ensures new { OnOk result (files_of self.old name.now ≡ None) }
+        ensures others { OnOk result (AreSameBut name.now (files_of self.old) (files_of self.new)) }
+        ensures unchanged { OnErr result (AreSame (files_of self.old) (files_of self.new)) }
+        ensures failures { failures_of self.new ≡ failures_of self.old }
+        ensures lock { lock_of self.new ≡ lock_of self.old }
+    {
+        if self.files.contains_key(name) {
+            return Err(AllocError);
+        }
+        self.keep(name, Vec::new(self.alloc))
+    }
+
+    /// Puts the bytes of the file of one name under the other as well.
+    fn copy(&mut self, from: &str, to: &str) -> Result<(), AllocError>
+        ensures this { OnOk result (files_of self.new to.now ≡ files_of self.old from.now) }
+        ensures others { OnOk result (AreSameBut to.now (files_of self.old) (files_of self.new)) }
+        ensures unchanged { OnErr result (AreSame (files_of self.old) (files_of self.new)) }
+        ensures failures { failures_of self.new ≡ failures_of self.old }
+        ensures lock { lock_of self.new ≡ lock_of self.old }
+    {
+        let Some(bytes) = self.files.get(from) else {
+            return Err(AllocError);
+        };
+        let copy = Vec::from_slice(self.alloc, bytes.as_slice())?;
+        self.keep(to, copy)
+    }
+
+    /// Removes the file of one name, unless it is that of the other.
+    fn remove_unless(&mut self, name: &str, kept: &str)
+        ensures kept { files_of self.new kept.now ≡ files_of self.old kept.now }
+        ensures gone { name.now ≢ kept.now → files_of self.new name.now ≡ None }
+        ensures others { AreSameBut name.now (files_of self.old) (files_of self.new) }
+        ensures failures { failures_of self.new ≡ failures_of self.old }
+        ensures lock { lock_of self.new ≡ lock_of self.old }
+    {
+        if name != kept {
+            self.take_away(name);
+        }
+    }
+
+    /// Removes the file of this name, if there is one.
+    fn take_away(&mut self, name: &str)
+        ensures gone { files_of self.new name.now ≡ None }
+        ensures others { AreSameBut name.now (files_of self.old) (files_of self.new) }
+        ensures failures { failures_of self.new ≡ failures_of self.old }
+        ensures lock { lock_of self.new ≡ lock_of self.old }
+    {
+        let _ = self.files.remove(name);
+    }
+
+    /// Counts a call that failed.
+    fn fail(&mut self) -> Failed
+        requires { failures_of self.old < 2 ^ 64 - 1 }
+        ensures files { AreSame (files_of self.old) (files_of self.new) }
+        ensures counted { failures_of self.new ≡ failures_of self.old + 1 }
+        ensures lock { lock_of self.new ≡ lock_of self.old }
+    {
+        self.failed += 1;
+        Failed
+    }
 }
 
-#[test]
-fn a_folder_in_memory_is_made_unless_it_is_told_to_fail(rt: HostRuntime) {
-    let mut folder = MemoryFolder::new(rt.alloc(), 0b10101, 0);
-    assert!(rt; folder.make() == Err(Failed));
-    assert!(rt; folder.make() == Ok(()));
-    assert!(rt; folder.find() == Err(Failed));
-    assert!(rt; folder.find() == Ok(()));
-    assert!(rt; folder.settle() == Err(Failed));
-    assert!(rt; folder.settle() == Ok(()));
-    assert!(rt; folder.failures() == 3);
-    assert!(rt; folder.count() == 0);
+/// A file in memory that is written.
+#[derive(Drop)]
+pub struct MemoryWriter {
+    bytes: Vec<u8>,
+    failing: Failing,
+    failed: u64,
 }
 
-#[test]
-fn a_folder_in_memory_is_locked_unless_another_has_the_lock(rt: HostRuntime) {
-    let mut folder = MemoryFolder::new(rt.alloc(), 0b1, 0);
-    assert!(rt; folder.put("lock", b"ed").is_ok());
-    assert!(rt; folder.lock("lock") == Err(Failed));
-    folder.set_taken(true);
-    assert!(rt; folder.lock("lock") == Ok(false));
-    folder.set_taken(false);
-    assert!(rt; folder.lock("lock") == Ok(true));
-    folder.set_taken(true);
-    assert!(rt; folder.lock("lock") == Ok(true));
-    assert!(rt; folder.get("lock") == Some(b"ed".as_slice()));
-    assert!(rt; folder.lock("other") == Ok(true));
-    assert!(rt; folder.get("other") == Some(b"".as_slice()));
+impl Model for MemoryWriter {
+    ghost use Rattle.std.specs.Prelude.{ℕ, List};
+    ghost use Rattle.morris_board.specs.Streams.{Counted};
+
+    ghost Value = { Counted (List ℕ) };
+
+    ghost view = { λ s. record { inner = s.bytes.items; failures = s.failed } };
+}
+
+impl Sink for MemoryWriter {
+    ghost contents = { λ s. Some s.inner };
+
+    ghost failures = { λ s. s.failures };
+
+    fn write(&mut self, bytes: &[u8]) -> Result<usize, Failed> {
+        if self.failing.next_fails() || self.bytes.extend_from_slice(bytes).is_err() {
+            self.failed += 1;
+            return Err(Failed);
+        }
+        Ok(bytes.len())
+    }
+
+    fn failures(&self) -> u64 {
+        self.failed
+    }
+}
+
+impl Folder for MemoryFolder {
+    type Reader = FromRead<VecDeque<u8>>;
+
+    type Writer = MemoryWriter;
+
+    ghost files = { λ s. Some (files_of s) };
+
+    ghost failures = { failures_of };
+
+    ghost locked = { locked_of };
+
+    ghost taken = { λ s. Some (taken_of s) };
+
+    fn make(&mut self) -> Result<(), Failed> {
+        if self.failing.next_fails() {
+            return Err(self.fail());
+        }
+        Ok(())
+    }
+
+    fn find(&mut self) -> Result<(), Failed> {
+        if self.failing.next_fails() {
+            return Err(self.fail());
+        }
+        Ok(())
+    }
+
+    fn lock(&mut self, name: &str) -> Result<bool, Failed> {
+        if self.failing.next_fails() || self.keep_some(name).is_err() {
+            return Err(self.fail());
+        }
+        self.lock.held = self.lock.held || !self.lock.taken;
+        Ok(self.lock.held)
+    }
+
+    fn open(&mut self, name: &str) -> Result<Option<FromRead<VecDeque<u8>>>, Failed> {
+        if self.failing.next_fails() {
+            return Err(self.fail());
+        }
+        let Some(bytes) = self.files.get(name) else {
+            return Ok(None);
+        };
+        match Vec::from_slice(self.alloc, bytes.as_slice()) {
+            Ok(bytes) => Ok(Some(FromRead::new(VecDeque::from(bytes)))),
+            Err(_) => Err(self.fail()),
+        }
+    }
+
+    fn create(&mut self, name: &str) -> Result<MemoryWriter, Failed> {
+        if self.failing.next_fails() || self.keep_new(name).is_err() {
+            return Err(self.fail());
+        }
+        Ok(MemoryWriter {
+            bytes: Vec::new(self.alloc),
+            failing: Failing {
+                bits: self.failing_writes,
+                calls: 0,
+            },
+            failed: 0,
+        })
+    }
+
+    fn sync(&mut self, name: &str, writer: MemoryWriter) -> Result<(), Failed> {
+        if self.failing.next_fails() || self.keep(name, writer.bytes).is_err() {
+            return Err(self.fail());
+        }
+        Ok(())
+    }
+
+    fn abandon(&mut self, _writer: MemoryWriter) {}
+
+    fn rename(&mut self, from: &str, to: &str) -> Result<(), Failed> {
+        if self.failing.next_fails() || self.copy(from, to).is_err() {
+            return Err(self.fail());
+        }
+        self.remove_unless(from, to);
+        Ok(())
+    }
+
+    fn remove(&mut self, name: &str) -> Result<(), Failed> {
+        if self.failing.next_fails() {
+            return Err(self.fail());
+        }
+        self.take_away(name);
+        Ok(())
+    }
+
+    fn settle(&mut self) -> Result<(), Failed> {
+        if self.failing.next_fails() {
+            return Err(self.fail());
+        }
+        Ok(())
+    }
+
+    fn failures(&self) -> u64 {
+        self.failed
+    }
 }

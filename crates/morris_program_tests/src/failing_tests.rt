@@ -2,7 +2,7 @@
 use crate::making::file_of;
 use morris_board::grid::Grid;
 use morris_files::folder::Folder;
-use morris_files::memory::MemoryFolder;
+use morris_files_tests::memory::MemoryFolder;
 use morris_pairs::layout::Layout;
 use morris_queries::fault::QueryFault;
 use morris_queries::memory::Held;

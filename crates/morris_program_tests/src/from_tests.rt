@@ -3,7 +3,7 @@ use crate::making::{file_of, sealed};
 use morris_board::board::Geometry;
 use morris_board::streams::IntoWrite;
 use morris_files::folder::Folder;
-use morris_files::memory::MemoryFolder;
+use morris_files_tests::memory::MemoryFolder;
 use morris_folder_commands::from::verify_from;
 use morris_index::pair::Pair;
 use morris_jobs::fault::Fault;

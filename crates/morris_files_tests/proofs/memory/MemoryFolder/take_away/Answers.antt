@@ -1,7 +1,7 @@
 use Rattle.std.proofs.Common.{ap}
 use Rattle.std.specs.Option.{option_map}
-use Rattle.morris_files.proofs.MemoryLaws.{others_kept, this_put}
-use Rattle.morris_files.proofs.memory.MemoryFolder.take_away.Goals as goal
+use Rattle.morris_files_tests.proofs.MemoryLaws.{others_kept, this_put}
+use Rattle.morris_files_tests.proofs.memory.MemoryFolder.take_away.Goals as goal
 
 pub returns-clause-gone : goal.returns-clause-gone
 returns-clause-gone c = ap (option_map (λ bytes. bytes.items)) (this_put _ c.args.self.now.files c.remove.new.self _ c.remove.ensures.updates)

@@ -2,8 +2,8 @@
 use Rattle.std.specs.Prelude.{ℕ, Bool}
 use Rattle.std.specs.Option.{option_map}
 use Rattle.std.specs.BTreeMap.{btree_map_len, get_by_text}
-use Rattle.morris_files.specs.declared.memory.MemoryFolder.{MemoryFolder}
-use Rattle.morris_files.specs.declared.memory.Lock.{Lock}
+use Rattle.morris_files_tests.specs.declared.memory.MemoryFolder.{MemoryFolder}
+use Rattle.morris_files_tests.specs.declared.memory.Lock.{Lock}
 use Rattle.morris_files.specs.Files.{Files}
 
 -- its files
