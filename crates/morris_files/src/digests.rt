@@ -11,7 +11,7 @@ use crate::table_file::Written;
 use crate::whole::{Contents, NotWhole, Step, write_whole};
 use morris_board::board::Geometry;
 use morris_board::streams::{Failed, Sink, put};
-use morris_wave::Watch;
+use morris_wave::{Unwatched, Watch};
 use sha2::{Digest, Sha256};
 use std::alloc::{AllocError, Global};
 
@@ -72,7 +72,11 @@ pub fn write_list<B: Geometry, F: Folder>(
         });
     };
     let lines = text.as_str();
-    write_whole(alloc, folder, name.as_str(), &ListBytes { kept, lines })
+    let list = ListBytes { kept, lines };
+    match write_whole(alloc, folder, name.as_str(), &list, &mut Unwatched) {
+        Ok(_) => Ok(()),
+        Err(fault) => Err(fault),
+    }
 }
 
 /// The lines of the digests of these files.

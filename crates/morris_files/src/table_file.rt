@@ -9,12 +9,12 @@ ghost use Rattle.morris_files.specs.Kept.{AnswersTableFile};
 use crate::digest::write_digested;
 use crate::folder::Folder;
 use crate::names::file_name;
-use crate::whole::{Contents, NotWhole, Step, write_whole_watched};
+use crate::whole::{Contents, NotWhole, Step, write_whole};
 use morris_board::board::Geometry;
 use morris_board::streams::{Failed, Sink};
 use morris_index::pair::Pair;
 use morris_pairs::exact::Exact;
-use morris_wave::{Unwatched, Watch};
+use morris_wave::Watch;
 use std::alloc::Global;
 
 impl<B: Geometry> Contents for Exact<B> {
@@ -39,7 +39,8 @@ pub struct Written<B: Geometry> {
 }
 
 /// Writes the file of a table into a folder, whole or not at all, under the name that the file of
-/// its pair has on the board of this name.
+/// its pair has on the board of this name. After each piece `watch` is told that no entry more is
+/// done, so that it hears of the work.
 ///
 /// Fewer than `u64::MAX - 1` calls of the folder may have failed before. No byte of the file is
 /// held beside the pieces of several KiB in which it goes out, and none is read again.
@@ -48,31 +49,7 @@ pub struct Written<B: Geometry> {
 /// [`NotWhole`] with the first step that failed. What stood under the name before stands there
 /// then, or the whole file does where the step is `Rename`; where it is `Settle` the whole file
 /// does.
-pub fn write_table_file<B: Geometry, F: Folder>(
-    alloc: Global,
-    folder: &mut F,
-    board: &str,
-    table: &Exact<B>,
-) -> Result<Written<B>, NotWhole>
-    requires { F.failures folder.old < 2 ^ 64 - 2 }
-    ensures answer { AnswersTableFile B.shape board.now table.now (F.files folder.old) (F.files folder.new) result }
-    ensures counted { MatchResult result (λ _. F.failures folder.new ≡ F.failures folder.old) (λ fault. F.failures folder.new ≡ F.failures folder.old + failed_in fault) }
-    ensures unwritten { IfErr result (λ fault. fault.step ≡ Step.Write → HasFailed F.Writer.failures) }
-    ensures held { F.locked folder.new ≡ F.locked folder.old }
-    ensures pair { IfOk result (λ written. written.pair ≡ table.now.pair) }
-    ensures entries { IfOk result (λ written. written.entries ≡ length table.now.codes) }
-    ensures bytes { IfOk result (λ written. written.bytes ≡ length (file_of B.shape table.now)) }
-    ensures digest { IfOk result (λ written. written.digest ≡ sha256 (file_of B.shape table.now)) }
-{
-    write_file_watched(alloc, folder, board, table, &mut Unwatched)
-}
-
-/// [`write_table_file`], which tells `watch` after each piece that no entry more is done, so that it
-/// hears of the work.
-///
-/// # Errors
-/// Those of [`write_table_file`].
-pub fn write_file_watched<B: Geometry, F: Folder, W: Watch>(
+pub fn write_table_file<B: Geometry, F: Folder, W: Watch>(
     alloc: Global,
     folder: &mut F,
     board: &str,
@@ -88,7 +65,6 @@ pub fn write_file_watched<B: Geometry, F: Folder, W: Watch>(
     ensures entries { IfOk result (λ written. written.entries ≡ length table.now.codes) }
     ensures bytes { IfOk result (λ written. written.bytes ≡ length (file_of B.shape table.now)) }
     ensures digest { IfOk result (λ written. written.digest ≡ sha256 (file_of B.shape table.now)) }
-    // The watch is as it may be after it was told, whatever the answer.
     ensures watched { W.becomes watch.old watch.new }
 {
     let pair = table.pair();
@@ -99,7 +75,7 @@ pub fn write_file_watched<B: Geometry, F: Folder, W: Watch>(
             left: false,
         });
     };
-    let digest = write_whole_watched(alloc, folder, name.as_str(), table, watch)?;
+    let digest = write_whole(alloc, folder, name.as_str(), table, watch)?;
     Ok(Written {
         pair,
         entries,

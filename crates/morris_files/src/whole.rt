@@ -8,7 +8,7 @@ ghost use Rattle.morris_files.specs.Whole.{AnswersPart, AnswersWhole, AreGivenUp
 
 use crate::folder::Folder;
 use morris_board::streams::{Failed, Sink};
-use morris_wave::{Unwatched, Watch};
+use morris_wave::Watch;
 use std::alloc::{AllocError, Global};
 use thiserror::Error;
 
@@ -83,36 +83,15 @@ pub struct NotWhole {
 /// for a part of the bytes, whatever ends the program: the bytes go to a part, a file of the name
 /// with `.part` at its end, which gets the name once all of them are there and are to last. At the
 /// end the names of the folder are to last as well. What stood under the name of the part before
-/// is removed, and isn't written to.
+/// is removed, and isn't written to. The answer is the SHA-256 of the bytes.
 ///
-/// Fewer than `u64::MAX - 1` calls of the folder may have failed before.
+/// Fewer than `u64::MAX - 1` calls of the folder may have failed before. Where there are many bytes
+/// `watch` is told now and then that no entry more is done, so that it hears of the work (see
+/// [`Contents`]).
 ///
 /// # Errors
 /// [`NotWhole`] with the first step that failed. Then the part is removed, if it was made.
-pub fn write_whole<F: Folder, C: Contents>(
-    alloc: Global,
-    folder: &mut F,
-    name: &str,
-    contents: &C,
-) -> Result<(), NotWhole>
-    requires { F.failures folder.old < 2 ^ 64 - 2 }
-    ensures answer { AnswersWhole name.now (C.bytes contents.now) (F.files folder.old) (F.files folder.new) result }
-    ensures counted { MatchResult result (λ _. F.failures folder.new ≡ F.failures folder.old) (λ fault. F.failures folder.new ≡ F.failures folder.old + failed_in fault) }
-    ensures unwritten { IfErr result (λ fault. fault.step ≡ Step.Write → HasFailed F.Writer.failures) }
-    ensures held { F.locked folder.new ≡ F.locked folder.old }
-{
-    match write_whole_watched(alloc, folder, name, contents, &mut Unwatched) {
-        Ok(_) => Ok(()),
-        Err(fault) => Err(fault),
-    }
-}
-
-/// [`write_whole`], which answers the SHA-256 of the bytes, and tells `watch` now and then that no
-/// entry more is done, so that it hears of the work (see [`Contents`]).
-///
-/// # Errors
-/// Those of [`write_whole`].
-pub fn write_whole_watched<F: Folder, C: Contents, W: Watch>(
+pub fn write_whole<F: Folder, C: Contents, W: Watch>(
     alloc: Global,
     folder: &mut F,
     name: &str,
@@ -125,6 +104,7 @@ pub fn write_whole_watched<F: Folder, C: Contents, W: Watch>(
     ensures unwritten { IfErr result (λ fault. fault.step ≡ Step.Write → HasFailed F.Writer.failures) }
     ensures held { F.locked folder.new ≡ F.locked folder.old }
     ensures digest { IfOk result (λ digest. digest ≡ sha256 (C.bytes contents.now)) }
+    // The watch is as it may be after it was told, whatever the answer.
     ensures watched { W.becomes watch.old watch.new }
 {
     let Ok(part) = part_name(alloc, name) else {

@@ -11,6 +11,7 @@ use morris_pairs::exact::Exact;
 use morris_pairs::file_faults::ReadFault;
 use morris_pairs::shelf::Shelf;
 use morris_pairs::sweeping::sweep_pair;
+use morris_workers::Unwatched;
 use std::alloc::Global;
 use std::process::Abort;
 
@@ -59,7 +60,7 @@ fn has_file(folder: &MemoryFolder) -> bool {
 fn the_file_of_a_table_has_the_name_of_its_pair(rt: HostRuntime) {
     let table = three_three(rt.alloc()).expect(&rt, "the table of 3-3");
     let mut folder = MemoryFolder::new(rt.alloc(), 0, 0);
-    let written = write_table_file(rt.alloc(), &mut folder, "grid", &table).ok();
+    let written = write_table_file(rt.alloc(), &mut folder, "grid", &table, &mut Unwatched).ok();
     let written = written.expect(&rt, "the file of 3-3");
     assert!(rt; written.entries == 1680 && written.bytes == 3408 && written.digest == WHOLE);
     assert!(rt; has_file(&folder));
@@ -68,7 +69,14 @@ fn the_file_of_a_table_has_the_name_of_its_pair(rt: HostRuntime) {
 /// The folder with the file of 3-3, and what is told of the file.
 fn kept(alloc: Global, calls: u64) -> Option<(MemoryFolder, Written<Grid>)> {
     let mut folder = MemoryFolder::new(alloc, calls, 0);
-    let written = write_table_file(alloc, &mut folder, "grid", &three_three(alloc)?).ok()?;
+    let written = write_table_file(
+        alloc,
+        &mut folder,
+        "grid",
+        &three_three(alloc)?,
+        &mut Unwatched,
+    )
+    .ok()?;
     Some((folder, written))
 }
 

@@ -5,6 +5,7 @@ use morris_files::folder::Folder;
 use morris_files::reason::Reason;
 use morris_files::system::SystemFolder;
 use morris_files::whole::{NotWhole, Step, write_whole};
+use morris_workers::Unwatched;
 use std::fs::File;
 use std::io::ErrorKind;
 use std::os::unix::fs::symlink;
@@ -33,7 +34,14 @@ fn lacks<R: Files<File = File> + AllocGlobal>(rt: &R, path: &str, name: &str) ->
 /// Whether a file is written whole.
 fn writes<R: Files<File = File> + AllocGlobal>(rt: &R, path: &str, first: &[u8]) -> bool {
     let mut folder = SystemFolder::new(rt, path);
-    write_whole(rt.alloc(), &mut folder, "kept", &Two(first, b"er")).is_ok()
+    write_whole(
+        rt.alloc(),
+        &mut folder,
+        "kept",
+        &Two(first, b"er"),
+        &mut Unwatched,
+    )
+    .is_ok()
 }
 
 /// Whether a file is written whole twice, and then read, in a folder that is made.
@@ -59,7 +67,13 @@ fn a_folder_of_the_system_keeps_what_is_written(rt: HostRuntime) {
 #[test]
 fn a_folder_that_is_not_there_is_refused(rt: HostRuntime) {
     let mut folder = SystemFolder::new(&rt, "nowhere/at/all");
-    let answer = write_whole(rt.alloc(), &mut folder, "kept", &Two(b"new", b"er"));
+    let answer = write_whole(
+        rt.alloc(),
+        &mut folder,
+        "kept",
+        &Two(b"new", b"er"),
+        &mut Unwatched,
+    );
     let refused = NotWhole {
         step: Step::Create,
         left: false,
@@ -163,7 +177,13 @@ fn a_folder_under_the_name_of_a_part_is_refused(rt: HostRuntime) {
     let mut folder = SystemFolder::new(&rt, path);
     assert!(rt; folder.make() == Ok(()));
     let _ = fs::create_dir(&rt, "parted_by_a_test/kept.part");
-    let answer = write_whole(rt.alloc(), &mut folder, "kept", &Two(b"new", b"er"));
+    let answer = write_whole(
+        rt.alloc(),
+        &mut folder,
+        "kept",
+        &Two(b"new", b"er"),
+        &mut Unwatched,
+    );
     let refused = NotWhole {
         step: Step::Create,
         left: false,

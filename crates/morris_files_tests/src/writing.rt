@@ -4,6 +4,7 @@ use crate::text::Two;
 use morris_board::streams::Failed;
 use morris_files::folder::Folder;
 use morris_files::whole::{NotWhole, Step, write_whole};
+use morris_workers::Unwatched;
 use std::alloc::Global;
 use std::process::Abort;
 
@@ -12,7 +13,14 @@ use std::process::Abort;
 fn writes(alloc: Global, calls: u64, failing: u64) -> Option<(Result<(), NotWhole>, bool, usize)> {
     let mut folder = MemoryFolder::new(alloc, calls, failing);
     folder.put("kept", b"old").ok()?;
-    let answer = write_whole(alloc, &mut folder, "kept", &Two(b"new", b"er"));
+    let answer = write_whole(
+        alloc,
+        &mut folder,
+        "kept",
+        &Two(b"new", b"er"),
+        &mut Unwatched,
+    );
+    let answer = answer.map(|_| ());
     let wanted = if answer.is_ok() {
         b"newer".as_slice()
     } else {
@@ -46,7 +54,13 @@ fn a_file_is_whole_or_as_it_was_whichever_calls_fail(rt: HostRuntime) {
 #[test]
 fn a_file_is_whole_where_its_name_may_not_last(rt: HostRuntime) {
     let mut folder = MemoryFolder::new(rt.alloc(), 0b10000, 0);
-    let answer = write_whole(rt.alloc(), &mut folder, "kept", &Two(b"new", b"er"));
+    let answer = write_whole(
+        rt.alloc(),
+        &mut folder,
+        "kept",
+        &Two(b"new", b"er"),
+        &mut Unwatched,
+    );
     let refused = NotWhole {
         step: Step::Settle,
         left: false,
@@ -62,7 +76,14 @@ fn a_part_that_was_left_is_replaced(rt: HostRuntime) {
     assert!(rt; folder.put("kept.part", b"left").is_ok());
     assert!(rt; folder.create("kept.part").is_err());
     assert!(rt; folder.get("kept.part") == Some(b"left".as_slice()));
-    assert!(rt; write_whole(rt.alloc(), &mut folder, "kept", &Two(b"new", b"er")) == Ok(()));
+    let answer = write_whole(
+        rt.alloc(),
+        &mut folder,
+        "kept",
+        &Two(b"new", b"er"),
+        &mut Unwatched,
+    );
+    assert!(rt; answer.is_ok());
     assert!(rt; folder.get("kept") == Some(b"newer".as_slice()));
     assert!(rt; folder.count() == 1);
 }

@@ -15,7 +15,7 @@ use morris_board::board::{Board, Geometry};
 use morris_board::streams::Sink;
 use morris_files::digests::write_list;
 use morris_files::folder::Folder;
-use morris_files::table_file::{Written, write_file_watched};
+use morris_files::table_file::{Written, write_table_file};
 use morris_index::below::PAIR_COUNT;
 use morris_index::pair::Pair;
 use morris_jobs::fault::Fault;
@@ -255,7 +255,7 @@ fn keep_table<B: Geometry, F: Folder, W: Watch>(
     // The proof learns here that the numbers of stones are those of a pair, and how many entries
     // there may be.
     let _ = (pair.greater(), table.len());
-    match write_file_watched(alloc, folder, board, table, watch) {
+    match write_table_file(alloc, folder, board, table, watch) {
         Ok(written) => Ok(written),
         Err(fault) => {
             let unwritten = Fault::Unwritten(pair.greater(), pair.lesser());

@@ -25,7 +25,7 @@ returns-in-Ok-clause-short g c =
 pub returns-in-Err-clause-caused : goal.returns-in-Err-clause-caused
 returns-in-Err-clause-caused g c =
     let old = g.F.Folder.failures c.args.folder.now in
-    let new = g.F.Folder.failures c.write_file_watched.new.folder in
+    let new = g.F.Folder.failures c.write_table_file.new.folder in
     rw (c.step_fault.ensures, c.greater-in-Err.ensures.value, c.lesser.ensures.value)
     (unwritten_caused g.F.Reader.Source.failures g.F.Writer.Sink.failures (Some false) ⊥ old new c.args.pair c.in-Err.fault c.in-Err.ensures.counted
     c.in-Err.ensures.unwritten)
