@@ -1,17 +1,15 @@
 -- The lines of a list: which are those of files, and which are kept.
-use Rattle.std.proofs.Common.{◌≡◌, ℕ, ◌+◌, ◌-◌, ◌<◌, ◌≤◌, refl, Bool, true, false, not, ◌&&◌, ◌||◌, List, [], ◌∷◌, ◌++◌, length, take, drop, get_or, codes, Some, None, cond, nat_lt, sym, ap, ◌∙◌, arith, append-nil, append_assoc, length-drop}
-use Rattle.std.specs.List.{flat_map, list_all, list_any, position, position_or_len, slice_get, slice_split}
+use Rattle.std.proofs.Common.{◌≡◌, ℕ, ◌+◌, ◌-◌, ◌<◌, ◌≤◌, refl, Bool, true, false, not, ◌&&◌, ◌||◌, List, ◌++◌, length, take, drop, get_or, codes, Some, sym, ap, ◌∙◌, arith, length-drop}
+use Rattle.std.specs.List.{list_all, list_any, slice_get}
 use Rattle.std.specs.Str.{bytes_eq}
 use Rattle.std.proofs.Math.Bool.{and-false}
-use Rattle.std.proofs.lemmas.Bool.{and_left, ltb-false, ltb-true}
+use Rattle.std.proofs.lemmas.Bool.{and_left}
 use Rattle.std.proofs.lemmas.List.{at_drop_all, take_all}
 use Rattle.std.proofs.lemmas.List.Folds.{list_any_at, list_any_more}
-use Rattle.std.proofs.lemmas.List.Splits.{slice_split_first, slice_split_none}
-use Rattle.std.proofs.lemmas.List.Sums.{fails_before_first}
 use Rattle.std.proofs.lemmas.Option.{slice_get_within, get_or_from_slice_get}
 use Rattle.morris_index.specs.Pairs.{Counts, all_pairs, is_below}
 use Rattle.morris_files.specs.Names.{name_of}
-use Rattle.morris_files.specs.Digests.{is_digit, is_kept, is_kept_of, is_line_of, kept_line, kept_of, lines_of}
+use Rattle.morris_files.specs.Digests.{is_digit, is_kept, is_kept_of, is_line_of}
 
 module _ (board line : List ℕ) where
   module _ (c : Counts) where
@@ -69,54 +67,3 @@ module _ (board line : List ℕ) where
     pub is_kept-none : (place : ℕ) → 28 ≤ place → list_any (is_kept_of board replaced line) (take place all_pairs) ≡ false → false ≡ is_kept board replaced line
     unfolding is_kept
     is_kept-none place all none = sym (ap (list_any (is_kept_of board replaced line)) (sym (take_all place all_pairs (omega (arith, length-all_pairs)))) ∙ none)
-
--- ---- the lines of a list
-
-found : (n i : ℕ) (is : Bool) → cond is (Some n) None ≡ Some i → (is ≡ true) × (n ≡ i)
-found n i true e = (refl, cc)
-found n i false e = cc
-
-unfound : (n : ℕ) (is : Bool) → cond is (Some n) None ≡ None → is ≡ false
-unfound n true e = cc
-unfound n false e = refl
-
-module _ {X : Type 0} (p : X → Bool) (xs : List X) where
-  -- a list is cut at the first place where a test passes
-  pub split-found : (i : ℕ) (d : X) → Some i ≡ position p xs → (i < length xs) × (slice_split p xs ≡ take i xs ∷ slice_split p (drop (i + 1) xs))
-  split-found i d e =
-      let at = found (position_or_len p xs) i (nat_lt (position_or_len p xs) (length xs)) (sym e) in
-      let low : position_or_len p xs < length xs = ltb-true _ _ at.0 in (
-        omega (arith, low, at.1),
-        slice_split_first p xs d low ∙ ap (λ n. take n xs ∷ slice_split p (drop (n + 1) xs)) at.1,
-      )
-
-  -- and not at all where it passes nowhere
-  pub split-none : None ≡ position p xs → slice_split p xs ≡ xs ∷ []
-  split-none e =
-      let high : length xs ≤ position_or_len p xs = ltb-false _ _ (unfound (position_or_len p xs) _ (sym e)) in
-      slice_split_none p xs (λ k d low. fails_before_first p xs k d (omega arith))
-
-module _ (board : List ℕ) (replaced : Counts) where
-  -- the first line is looked at, and then the lines after it
-  kept_of-more : (list line after : List ℕ) → lines_of list ≡ line ∷ lines_of after
-      → kept_of board replaced list ≡ kept_line board replaced line ++ kept_of board replaced after
-  unfolding kept_of
-  kept_of-more list line after e = ap (flat_map (kept_line board replaced)) e
-
-  kept_of-last : (list : List ℕ) → lines_of list ≡ list ∷ [] → kept_of board replaced list ≡ kept_line board replaced list
-  unfolding kept_of
-  kept_of-last list e = ap (flat_map (kept_line board replaced)) e ∙ append-nil (kept_line board replaced list)
-
-  module _ (kept new list rest : List ℕ) (before : kept ++ kept_of board replaced rest ≡ kept_of board replaced list) where
-    -- what is kept so far, and what is kept of the rest, with one line more
-    pub keeps-more : (line after : List ℕ) → lines_of rest ≡ line ∷ lines_of after → new ≡ kept ++ kept_line board replaced line
-        → new ++ kept_of board replaced after ≡ kept_of board replaced list
-    keeps-more line after e now =
-        ap (λ bytes. bytes ++ kept_of board replaced after) now
-        ∙ append_assoc kept (kept_line board replaced line) (kept_of board replaced after)
-        ∙ ap (λ bytes. kept ++ bytes) (sym (kept_of-more rest line after e))
-        ∙ before
-
-    -- and with the last one
-    pub keeps-last : lines_of rest ≡ rest ∷ [] → new ≡ kept ++ kept_line board replaced rest → new ≡ kept_of board replaced list
-    keeps-last e now = now ∙ ap (λ bytes. kept ++ bytes) (sym (kept_of-last rest e)) ∙ before

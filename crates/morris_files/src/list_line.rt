@@ -1,46 +1,25 @@
 //! A line of a list of digests, and whether it is kept.
-ghost use Rattle.std.specs.Prelude.{◌≡◌, ◌<◌, ◌==◌, [], ◌∷◌, length, position, IfOk, IfSome, MatchOption};
+ghost use Rattle.std.specs.Prelude.{◌≡◌, IfOk};
 ghost use Rattle.std.specs.List.{list_all};
 ghost use Rattle.morris_index.specs.Pairs.{counts, is_below};
-ghost use Rattle.morris_files.specs.Digests.{is_digit, is_kept, is_line_of, lines_of};
+ghost use Rattle.morris_files.specs.Digests.{is_digit, is_kept, is_line_of};
 
 use crate::names::pair_name;
-use morris_board::board::Geometry;
 use morris_index::below::{PAIR_COUNT, pair_at};
-use morris_index::pair::Pair;
 use std::alloc::{AllocError, Global};
 
 /// How many hexadecimal digits a digest has.
 const DIGITS: usize = 64;
 
-/// The first line of a list and what follows its line feed; `None` where there is no line feed, so
-/// that the list is one line.
-pub(crate) fn split_line(list: &[u8]) -> Option<(&[u8], &[u8])>
-    ensures lines { MatchOption result (lines_of list.now ≡ list.now ∷ []) (λ parts. lines_of list.now ≡ parts.0.now ∷ lines_of parts.1.now) }
-    ensures less { IfSome result (λ parts. length parts.1.now < length list.now) }
-{
-    let Some(at) = line_feed_in(list) else {
-        return None;
-    };
-    Some((&list[..at], &list[at + 1..]))
-}
-
-/// Where the first line feed stands.
-fn line_feed_in(list: &[u8]) -> Option<usize>
-    ensures { result ≡ position (λ byte. byte == 10) list.now }
-{
-    list.iter().position(|byte| *byte == b'\n')
-}
-
-/// Whether a line is kept where the files of all pairs below a pair are replaced: it is that of the
-/// file of another pair, on the board of this name.
-pub(crate) fn is_kept<B: Geometry>(
+/// Whether a line is kept where the files of all pairs below the one with these numbers of stones are
+/// replaced: it is that of the file of another pair, on the board of this name.
+pub(crate) fn is_kept(
     alloc: Global,
     board: &str,
-    replaced: Pair<B>,
+    replaced: (u8, u8),
     line: &[u8],
 ) -> Result<bool, AllocError>
-    ensures { IfOk result (λ kept. kept ≡ is_kept board.now replaced line.now) }
+    ensures { IfOk result (λ kept. kept ≡ is_kept board.now (counts replaced.0 replaced.1) line.now) }
 {
     for place in 0..PAIR_COUNT {
         let (greater, lesser) = pair_at(place);
@@ -55,10 +34,10 @@ pub(crate) fn is_kept<B: Geometry>(
 }
 
 /// Whether two numbers of stones are at most those of a pair.
-fn is_below<B: Geometry>(pair: Pair<B>, greater: u8, lesser: u8) -> bool
-    ensures { result ≡ is_below pair (counts greater lesser) }
+fn is_below(pair: (u8, u8), greater: u8, lesser: u8) -> bool
+    ensures { result ≡ is_below (counts pair.0 pair.1) (counts greater lesser) }
 {
-    greater <= pair.greater() && lesser <= pair.lesser()
+    greater <= pair.0 && lesser <= pair.1
 }
 
 /// Whether a line is that of the file of the pair with these numbers of stones, whatever the digest.
@@ -78,21 +57,15 @@ fn is_line_of(
         return Ok(false);
     }
     let name = pair_name(alloc, board, greater, lesser)?;
-    let mut end = String::from_str(alloc, "  ")?;
-    end.push_str(name.as_str())?;
+    let end = ["  ", name.as_str()].concat(alloc)?;
     Ok(&line[DIGITS..] == end.as_bytes())
 }
 
-/// Whether all bytes are digits of a digest.
+/// Whether all bytes are digits of a digest, as this program and `sha256sum` write it.
 fn are_digits(bytes: &[u8]) -> bool
     ensures { result ≡ list_all is_digit bytes.now }
 {
-    bytes.iter().all(|byte| is_digit(*byte))
-}
-
-/// Whether a byte is a digit of a digest, as this program and `sha256sum` write it.
-fn is_digit(byte: u8) -> bool
-    ensures { result ≡ is_digit byte }
-{
-    matches!(byte, b'0'..=b'9' | b'a'..=b'f')
+    bytes
+        .iter()
+        .all(|byte| matches!(byte, b'0'..=b'9' | b'a'..=b'f'))
 }

@@ -34,8 +34,7 @@ pub(crate) fn pair_name(
     let (mut first, mut second) = (Buffer::new(), Buffer::new());
     let greater = first.format(greater);
     let lesser = second.format(lesser);
-    let name = [board, "-", greater, "-", lesser, ".nmmt"].concat(alloc)?;
-    Ok(name)
+    [board, "-", greater, "-", lesser, ".nmmt"].concat(alloc)
 }
 
 /// The name of the file of the digests of the files of tables on the board of this name, as
@@ -46,6 +45,5 @@ pub(crate) fn pair_name(
 pub fn digests_name(alloc: Global, board: &str) -> Result<String, AllocError>
     ensures { IfOk result (λ name. string_bytes name ≡ digests_name_of board.now) }
 {
-    let name = [board, ".sha256"].concat(alloc)?;
-    Ok(name)
+    [board, ".sha256"].concat(alloc)
 }

@@ -1,11 +1,12 @@
 //! The list of digests that a folder has, and its lines that are kept.
 ghost use Rattle.std.specs.Prelude.{◌≡◌, ℕ, ◌+◌, ◌-◌, ◌^◌, ◌<◌, ◌++◌, length, Err, IfOk, MatchResult, OnOk};
+ghost use Rattle.morris_index.specs.Pairs.{counts};
 ghost use Rattle.morris_files.specs.Files.{HasFailed, Keeps};
 ghost use Rattle.morris_files.specs.Digests.{kept_line, kept_of};
 ghost use Rattle.morris_files.specs.Lists.{AreAll, AreKeptLines, IsList, IsUnlisted, IsUnread, failed_listing};
 
 use crate::folder::Folder;
-use crate::list_line::{is_kept, split_line};
+use crate::list_line::is_kept;
 use crate::names::digests_name;
 use morris_board::board::Geometry;
 use morris_board::streams::{Failed, Source};
@@ -61,6 +62,7 @@ pub fn kept_lines<B: Geometry, F: Folder>(
     ensures held { F.locked folder.new ≡ F.locked folder.old }
 {
     let list = list_of(alloc, folder, board)?;
+    let replaced = (replaced.greater(), replaced.lesser());
     match keep_lines(alloc, board, replaced, list.as_slice()) {
         Ok(kept) => Ok(kept),
         Err(AllocError) => Err(ListFault::Memory),
@@ -109,38 +111,34 @@ fn read_all<S: Source>(alloc: Global, source: &mut S) -> Result<Vec<u8>, ListFau
 fn zeros(alloc: Global) -> Result<Vec<u8>, AllocError>
     ensures { IfOk result (λ bytes. length bytes.items ≡ 65537) }
 {
-    let bytes = vec![in alloc; 0u8; LIST + 1]?;
-    Ok(bytes)
+    vec![in alloc; 0; LIST + 1]
 }
 
 /// The lines of a list that are kept.
-fn keep_lines<B: Geometry>(
+fn keep_lines(
     alloc: Global,
     board: &str,
-    replaced: Pair<B>,
+    replaced: (u8, u8),
     list: &[u8],
 ) -> Result<Vec<u8>, AllocError>
-    ensures { IfOk result (λ kept. kept.items ≡ kept_of board.now replaced list.now) }
+    ensures { IfOk result (λ kept. kept.items ≡ kept_of board.now (counts replaced.0 replaced.1) list.now) }
 {
     let mut kept = Vec::new(alloc);
-    let mut rest = list;
-    while let Some((line, after)) = split_line(rest) {
+    for line in list.split(|byte| *byte == b'\n') {
         keep_line(alloc, board, replaced, line, &mut kept)?;
-        rest = after;
     }
-    keep_line(alloc, board, replaced, rest, &mut kept)?;
     Ok(kept)
 }
 
 /// Adds a line, with its line feed, if it is kept.
-fn keep_line<B: Geometry>(
+fn keep_line(
     alloc: Global,
     board: &str,
-    replaced: Pair<B>,
+    replaced: (u8, u8),
     line: &[u8],
     kept: &mut Vec<u8>,
 ) -> Result<(), AllocError>
-    ensures { OnOk result (kept.new.items ≡ kept.old.items ++ kept_line board.now replaced line.now) }
+    ensures { OnOk result (kept.new.items ≡ kept.old.items ++ kept_line board.now (counts replaced.0 replaced.1) line.now) }
 {
     if is_kept(alloc, board, replaced, line)? {
         kept.extend_from_slice(line)?;

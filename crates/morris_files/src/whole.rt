@@ -1,5 +1,5 @@
 //! Files that are written whole or not at all.
-ghost use Rattle.std.specs.Prelude.{◌≡◌, ℕ, ◌+◌, ◌-◌, ◌^◌, ◌<◌, List, IfErr, IfOk, MatchResult, OnOk, string_bytes, Err};
+ghost use Rattle.std.specs.Prelude.{◌≡◌, ℕ, ◌+◌, ◌-◌, ◌^◌, ◌<◌, List, IfErr, IfOk, MatchResult, OnOk, Err};
 ghost use Rattle.std.specs.Io.KnownBytes.{Appends};
 ghost use Rattle.sha2.specs.Sha256.{sha256};
 ghost use Rattle.morris_board.specs.Streams.{CountsFailure};
@@ -9,7 +9,7 @@ ghost use Rattle.morris_files.specs.Whole.{AnswersPart, AnswersWhole, AreGivenUp
 use crate::folder::Folder;
 use morris_board::streams::{Failed, Sink};
 use morris_wave::Watch;
-use std::alloc::{AllocError, Global};
+use std::alloc::Global;
 use thiserror::Error;
 
 /// What writes the bytes of a file, in pieces.
@@ -107,7 +107,7 @@ pub fn write_whole<F: Folder, C: Contents, W: Watch>(
     // The watch is as it may be after it was told, whatever the answer.
     ensures watched { W.becomes watch.old watch.new }
 {
-    let Ok(part) = part_name(alloc, name) else {
+    let Ok(part) = [name, ".part"].concat(alloc) else {
         return Err(NotWhole {
             step: Step::Memory,
             left: false,
@@ -148,14 +148,6 @@ fn write_by_part<F: Folder, C: Contents, W: Watch>(
             left: false,
         }),
     }
-}
-
-/// The name of the part of the file of this name.
-fn part_name(alloc: Global, name: &str) -> Result<String, AllocError>
-    ensures { IfOk result (λ part. string_bytes part ≡ part_of name.now) }
-{
-    let part = [name, ".part"].concat(alloc)?;
-    Ok(part)
 }
 
 /// Writes a file under the name of a part.

@@ -1,8 +1,7 @@
 -- A line that is too short, or has another byte in front, is that of no file.
-use Rattle.std.proofs.Common.{◌≡◌, ◌-◌, ◌++◌, length, take, drop, codes, sym, ap, ◌∙◌, arith}
+use Rattle.std.proofs.Common.{◌≡◌, ◌-◌, ◌++◌, length, take, drop, codes, sym, ap, ◌∙◌, arith, rules}
 use Rattle.std.specs.Prelude.{string_bytes}
 use Rattle.std.specs.Str.{bytes_eq}
-use Rattle.std.proofs.Math.Path.{ap₂}
 use Rattle.morris_index.specs.Pairs.{counts}
 use Rattle.morris_files.specs.Names.{name_of}
 use Rattle.morris_files.proofs.LineLaws.{is_line_of-end, is_line_of-other, is_line_of-short}
@@ -17,8 +16,7 @@ returns-then-not-are_digits c = is_line_of-other _ c.args.line.now _ (sym c.if-n
 pub returns : goal.returns
 returns c =
     let line = c.args.line.now in
-    let end : string_bytes c.push_str.new.self ≡ codes "  " ++ name_of c.args.board.now (counts c.args.greater c.args.lesser) =
-    c.in_ok-push_str.ensures.bytes ∙ ap₂ (λ a b. a ++ b) c.in_ok-end.ensures.ok (c.as_str.ensures.value ∙ c.in_ok-name.ensures) in
+    let end : string_bytes c.in_ok-end.end ≡ codes "  " ++ name_of c.args.board.now (counts c.args.greater c.args.lesser) = search rules in
     c.eq.ensures
     ∙ ap (bytes_eq (take (length line - 64) (drop 64 line))) (c.as_bytes.ensures.value ∙ end)
     ∙ is_line_of-end _ line _ (sym c.are_digits.ensures ∙ c.if-not-are_digits.false)

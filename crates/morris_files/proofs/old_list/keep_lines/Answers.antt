@@ -1,13 +1,20 @@
--- One line after the other is kept, or isn't.
-use Rattle.morris_files.proofs.LineLaws.{keeps-last, keeps-more}
+-- The lines are those that the list is cut into at its line feeds.
+use Rattle.std.proofs.Common.{◌==◌, sym, ap, ◌∙◌, rules, tests}
+use Rattle.std.specs.List.{flat_map}
+use Rattle.std.proofs.lemmas.Iterator.Consumers.{YieldsList-at, YieldsList-end}
+use Rattle.std.proofs.lemmas.Iterator.Splits.{YieldsList-from_slice_split}
+use Rattle.std.proofs.lemmas.List.Folds.{flat_map-map}
+use Rattle.morris_index.specs.Pairs.{counts}
+use Rattle.morris_files.specs.Digests.{kept_line, kept_of}
 use Rattle.morris_files.proofs.old_list.keep_lines.Goals as goal
 
-pub loop-line-preserved : goal.loop-line-preserved
-loop-line-preserved g c =
-    keeps-more c.args.board.now c.args.replaced c.loop-line.kept.items c.keep_line.new.kept.items c.args.list.now c.loop-line.rest.now
-    c.loop-line.invariant c.in-Some.line.now c.in-Some.after.now c.in-Some.ensures.lines c.in_ok-keep_line.ensures
-
 pub returns : goal.returns
-returns g c =
-    keeps-last c.args.board.now c.args.replaced c.loop-line.kept.items c.keep_line-2.new.kept.items c.args.list.now c.loop-line.rest.now
-    c.loop-line.invariant c.in_default.ensures.lines c.in_ok-keep_line-2.ensures
+unfolding kept_of
+returns c =
+    let keep = kept_line c.args.board.now (counts c.args.replaced.0 c.args.replaced.1) in
+    let cut = c.split-line-items.ensures in
+    let all =
+    YieldsList-end (YieldsList-at c.into_iter-line-iterator.ensures.into_iter_gives
+    (YieldsList-from_slice_split _ (λ byte. byte == 10) c.args.list.now cut.rest cut.done cut.closure (λ x r q k. search (rules, tests))))
+    c.loop-line.yielded _ c.loop-line.yielded_by _ _ c.in-None.is c.next.ensures.steps in
+    c.loop-line.invariant ∙ sym (flat_map-map keep (λ line. line.now) c.loop-line.yielded) ∙ ap (flat_map keep) all.0

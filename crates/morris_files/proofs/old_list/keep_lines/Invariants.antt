@@ -1,10 +1,9 @@
--- What is kept so far and what is kept of the rest are what is kept of the list.
-use Rattle.std.proofs.Common.{◌≡◌, ◌++◌, length}
-use Rattle.morris_files.specs.Digests.{kept_of}
+-- So far the lines that were gone through have been kept, or weren't to be.
+use Rattle.std.proofs.Common.{◌≡◌}
+use Rattle.std.specs.List.{flat_map}
+use Rattle.morris_index.specs.Pairs.{counts}
+use Rattle.morris_files.specs.Digests.{kept_line}
 use Rattle.morris_files.proofs.old_list.keep_lines.Given as goal
 
 abbrev pub invariant-loop-line : goal.invariant-loop-line
-invariant-loop-line g l = l.kept.items ++ kept_of l.board l.replaced l.rest ≡ kept_of l.board l.replaced l.list
-
-abbrev pub decreases-loop-line : goal.decreases-loop-line
-decreases-loop-line g l = length l.rest
+invariant-loop-line l = l.kept.items ≡ flat_map (λ line. kept_line l.board (counts l.replaced.0 l.replaced.1) line.now) l.yielded
