@@ -11,8 +11,8 @@ use std::alloc::{AllocError, Global};
 /// How many hexadecimal digits a digest has.
 const DIGITS: usize = 64;
 
-/// Whether a line is kept where the files of all pairs below the one with these numbers of stones are
-/// replaced: it is that of the file of another pair, on the board of this name.
+/// Whether a line is kept where the files of all pairs below the one with these numbers of stones
+/// are replaced: it is that of the file of another pair, on the board of this name.
 pub(crate) fn is_kept(
     alloc: Global,
     board: &str,
@@ -40,7 +40,8 @@ fn is_below(pair: (u8, u8), greater: u8, lesser: u8) -> bool
     greater <= pair.0 && lesser <= pair.1
 }
 
-/// Whether a line is that of the file of the pair with these numbers of stones, whatever the digest.
+/// Whether a line is that of the file of the pair with these numbers of stones, whatever the
+/// digest.
 fn is_line_of(
     alloc: Global,
     board: &str,

@@ -33,7 +33,7 @@ use Rattle.morris_folder_commands.specs.Entering.{IsBegun, IsEntered, IsShut, Is
 -- has, and the file's SHA-256 in hexadecimal digits
 unfoldable pub filed_text : Counts → ℕ → ℕ → List ℕ → List ℕ
 filed_text pair entries bytes digest =
-    pair_text pair ++ (codes " " ++ decimal entries) ++ (codes " entries " ++ decimal bytes) ++ codes " bytes " ++ encode_lower digest ++ (10 ∷ [])
+    pair_text pair ++ (codes " " ++ decimal entries) ++ (codes " entries " ++ decimal bytes) ++ (codes " bytes " ++ encode_lower digest ++ (10 ∷ []))
 
 -- the line of the file of a table
 abbrev pub filed_line : Shape → Table → List ℕ

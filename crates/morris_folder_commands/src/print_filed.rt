@@ -1,5 +1,5 @@
 //! What `build` prints of a file in a folder.
-ghost use Rattle.std.specs.Prelude.{◌≡◌, ◌+◌, ◌-◌, ◌^◌, ◌<◌, ◌≤◌, OnOk};
+ghost use Rattle.std.specs.Prelude.{◌≡◌, ◌+◌, ◌-◌, ◌^◌, ◌<◌, ◌≤◌, [], ◌∷◌, ◌++◌, codes, OnOk};
 ghost use Rattle.hex.specs.Hex.{encode_lower};
 ghost use Rattle.morris_board.specs.Buffered.{Passes, sink_of, taken_of};
 
@@ -29,21 +29,21 @@ impl<'a, B: Geometry> Printed for Filed<'a, B> {
         put_pair(out, self.file.pair)?;
         put_count(out, " ", self.file.entries)?;
         put_count(out, " entries ", self.file.bytes)?;
-        out.put(b" bytes ")?;
-        put_digest(out, &self.file.digest)?;
-        out.put_byte(b'\n')
+        put_digest(out, &self.file.digest)
     }
 }
 
-/// The digest of a file.
+/// The end of the line: the digest of the file.
 #[tactic(auto, using(morris_board::proofs::BufferedLaws::passed_laws))]
 fn put_digest<S: Sink>(out: &mut Buffered<'_, S>, digest: &[u8; 32]) -> Result<(), Failed>
     requires failures { S.failures (sink_of out.old) < 2 ^ 64 - 1 }
     requires room { taken_of out.old < 2 ^ 32 }
-    ensures passed { Passes S.contents S.failures out.old out.new (encode_lower digest.now) result }
+    ensures passed { Passes S.contents S.failures out.old out.new (codes " bytes " ++ encode_lower digest.now ++ (10 ∷ [])) result }
     ensures few { OnOk result (taken_of out.new ≤ taken_of out.old + 100) }
 {
     let mut digits = [0; 64];
     let _ = encode_to_slice(digest, &mut digits);
-    out.put(&digits)
+    out.put(b" bytes ")?;
+    out.put(&digits)?;
+    out.put_byte(b'\n')
 }
