@@ -20,6 +20,7 @@ use std::fmt;
 
 /// The texts of faults that say what to write instead.
 const NO_VALUE: &str = "not a value: draw, won, lost, won in D, lost in D or deepest";
+
 const NO_TERMINAL: &str = "a table isn't for a terminal: add --into FOLDER or > FILE";
 
 /// Why a command refused. Each fault has a number, which stays the same from version to version,
