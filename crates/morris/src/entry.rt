@@ -85,8 +85,13 @@ pub fn answer_words<
 }
 
 /// All the words, in order.
+#[tactic(auto, using(std::proofs::Common::append_assoc))]
 fn list_of(alloc: Global, words: Args) -> Result<Vec<String>, AllocError>
     ensures { IfOk result (λ list. list.items ≡ into_iter_items words) }
 {
-    words.collect(alloc)
+    let mut list = Vec::new(alloc);
+    for word in words {
+        list.push(word)?;
+    }
+    Ok(list)
 }
