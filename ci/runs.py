@@ -1,6 +1,7 @@
 """What scripts of this folder share: how they run the program that `rt ci` proved and built, and
 what they compare its answers with."""
 
+import fcntl
 import os
 import re
 import resource
@@ -33,6 +34,9 @@ NOT_TEXT = b"error: a word of the command line is not text\n"
 MOST_SECONDS = 120
 # How many runs a process of the pool is handed at a time.
 AT_ONCE = 16
+# The file descriptor of the first file that a run opens whose streams are held up: the lowest that
+# is free. What counts the calls gets one from the second number on, so that it stands above.
+OPENED, TOLD_TO = 3, 64
 
 
 class Begins(bytes):
@@ -114,7 +118,7 @@ def answer(run):
     that was held up."""
     counted, told = tempfile.TemporaryFile() if run.stream else None, None
     if counted:
-        told = counted.fileno()
+        told = fcntl.fcntl(counted, fcntl.F_DUPFD, TOLD_TO)
     how = start(run, told)
     done = subprocess.run([run.name, *run.words], **how)
     if run.of_folder:
@@ -128,6 +132,7 @@ def answer(run):
         said.append(text)
     calls = os.fstat(told).st_size if counted else None
     if counted:
+        os.close(told)
         counted.close()
     return (done.returncode, *said), calls
 

@@ -84,7 +84,8 @@ pub fn answer_words<
     }
 }
 
-/// All the words, in order.
+/// All the words, in order. Pushed one by one: `collect` asks for less memory where its first
+/// request is refused, and goes on.
 #[tactic(auto, using(std::proofs::Common::append_assoc))]
 fn list_of(alloc: Global, words: Args) -> Result<Vec<String>, AllocError>
     ensures { IfOk result (λ list. list.items ≡ into_iter_items words) }
