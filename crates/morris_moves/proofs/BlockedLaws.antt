@@ -3,7 +3,6 @@ use Rattle.std.proofs.Common.{◌≡◌, ◌≢◌, ℕ, ◌^◌, ◌<◌, ◌�
 use Rattle.std.proofs.Math.Pow.{pow-lt}
 use Rattle.std.proofs.lemmas.Bool.{cases_Bool, eqb-true, eq-eqb, both_ways, false_from_ne_true, and_parts}
 use Rattle.std.proofs.lemmas.List.Elements.{Contains-append_right}
-use Rattle.std.proofs.lemmas.List.Folds.{list_all-append}
 use Rattle.std.specs.List.{Contains, list_all, flat_map}
 use Rattle.morris_board.specs.Sets.{has, members, count_of}
 use Rattle.morris_board.specs.Boards.{Shape}
@@ -45,10 +44,6 @@ module _ (b : Shape) (s : Sides) where
   pub stuck_is_lost : AreStuck b s (members s.own) → is_lost 0 b s ≡ true
   unfolding is_lost moves_of
   stuck_is_lost stuck = ap (list_all (λ (m : Move). false)) (no_moves (members s.own) stuck)
-
-  pub stuck_more : (us : List ℕ) (u : ℕ) → AreStuck b s us → reach b s u ≡ 0 → AreStuck b s (us ++ u ∷ [])
-  stuck_more us u stuck none =
-      list_all-append (λ v. eqb (reach b s v) 0) us (u ∷ []) ∙ (rw (stuck, none) refl)
 
   module _ (small : b.points ≤ 24) (h : IsPosition b s) where
     some_taken : (p : ℕ) × (p < 32) × (has (takable b s.other) p ≡ true)

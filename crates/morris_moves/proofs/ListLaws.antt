@@ -1,8 +1,9 @@
 -- Laws of lists that are joined end to end: what they contain, their order, and how long they are.
-use Rattle.std.proofs.Common.{◌≡◌, ℕ, ◌*◌, ◌≤◌, Bool, true, false, List, [], ◌∷◌, ◌++◌, length, map, refl, sym, ap, subst, ◌∙◌, inl, inr, ◌⊎◌, arith}
-use Rattle.std.proofs.lemmas.List.Elements.{All-weaker, All-contains_itself, Contains-append_left, Contains-append_right, Contains-append_cases, Contains-push, Contains-push_cases}
+use Rattle.std.proofs.Common.{◌≡◌, ℕ, ◌*◌, ◌≤◌, Bool, true, false, List, [], ◌∷◌, ◌++◌, length, map, refl, sym, ap, subst, ◌∙◌, inl, inr, ◌⊎◌, arith, length-append}
+use Rattle.std.proofs.lemmas.List.Elements.{All-weaker, All-contains, All-contains_itself, Contains-append_left, Contains-append_right, Contains-append_cases, Contains-push, Contains-push_cases}
+use Rattle.std.proofs.lemmas.List.Folds.{Any-from_list_any, list_any-from_Any}
+use Rattle.std.proofs.lemmas.List.Sums.{AllPass-from_list_all}
 use Rattle.std.proofs.lemmas.List.Kept.{AllPairs-cons}
-use Rattle.std.proofs.Common.{length-append}
 use Rattle.std.proofs.lemmas.List.{append-nil}
 use Rattle.std.specs.List.{AllPairs, Contains, flat_map, list_all, list_any}
 use Rattle.std.specs.Bool.{⊤}
@@ -57,35 +58,17 @@ Contains-flat_map_cases f (x ∷ xs) y c = elim (Contains-append_cases (f x) (fl
 -- ---- tests of each and of some
 
 pub all_contained : {X : Type 0} (p : X → Bool) (xs : List X) → list_all p xs ≡ true → (x : X) → Contains xs x → p x ≡ true
-all_contained p [] h x c = absurd (Contains-none x c)
-all_contained p (y ∷ xs) h x c = elim (cases_Bool (p y)) [
-  | inl holds ↦ elim (Contains-cons_cases y xs x c) [
-    | inl e ↦ rw (← e) holds
-    | inr later ↦ all_contained p xs (rw holds at h) x later
-  ]
-  | inr fails ↦ absurd (both_ways false refl (rw fails at h))
-]
+all_contained p xs h x c = All-contains (λ y. p y ≡ true) xs x (AllPass-from_list_all p xs h) c
 
 pub contained_all : {X : Type 0} (p : X → Bool) (xs : List X) → ((x : X) → Contains xs x → p x ≡ true) → list_all p xs ≡ true
 contained_all p [] each = refl
 contained_all p (x ∷ xs) each = rw (each x (Contains-head x xs)) (contained_all p xs (λ y c. each y (Contains-tail x xs y c)))
 
 pub any_contained : {X : Type 0} (p : X → Bool) (xs : List X) → list_any p xs ≡ true → (x : X) × Contains xs x × (p x ≡ true)
-any_contained p [] h = absurd (both_ways false refl h)
-any_contained p (x ∷ xs) h = elim (cases_Bool (p x)) [
-  | inl holds ↦ (x, Contains-head x xs, holds)
-  | inr fails ↦ let r = any_contained p xs (rw fails at h) in (r.0, Contains-tail x xs r.0 r.1, r.2)
-]
+any_contained p xs h = let r = Any-from_list_any p xs h in (r.1, (r.0, r.2, r.3), r.4)
 
 pub contained_any : {X : Type 0} (p : X → Bool) (xs : List X) (x : X) → Contains xs x → p x ≡ true → list_any p xs ≡ true
-contained_any p [] x c holds = absurd (Contains-none x c)
-contained_any p (y ∷ xs) x c holds = elim (cases_Bool (p y)) [
-  | inl here ↦ rw here refl
-  | inr fails ↦ elim (Contains-cons_cases y xs x c) [
-    | inl e ↦ absurd (both_ways (p y) fails (rw e holds))
-    | inr later ↦ rw fails (contained_any p xs x later holds)
-  ]
-]
+contained_any p xs x c holds = list_any-from_Any p xs (c.0, x, c.1, c.2, holds)
 
 pub all_same : {X : Type 0} (p q : X → Bool) (xs : List X) → ((x : X) → p x ≡ q x) → list_all p xs ≡ list_all q xs
 all_same p q [] each = refl

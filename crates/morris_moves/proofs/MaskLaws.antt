@@ -1,8 +1,7 @@
 -- What the code computes on masks: where a stone may go, whether it stands in a mill, and which
 -- stones stand in none.
 use Rattle.std.proofs.Common.{◌≡◌, ℕ, ◌+◌, ◌^◌, ◌<◌, Bool, true, false, not, ◌&&◌, ◌||◌, eqb, ltb, List, [], ◌∷◌, length, take, get_or, filter, refl, sym, ap, ◌∙◌, inl, inr}
-use Rattle.std.proofs.lemmas.Bool.{cases_Bool, cases_lt, lt-ltb, both_ways}
-use Rattle.std.proofs.lemmas.List.Folds.{list_any_more}
+use Rattle.std.proofs.lemmas.Bool.{cases_Bool, cases_lt, lt-ltb, and_right, both_ways}
 use Rattle.std.specs.List.{list_any}
 use Rattle.morris_board.specs.Sets.{has, count_of, is_within}
 use Rattle.morris_board.specs.Boards.{Shape, is_adjacent, adjacent, mills_of, mills_through}
@@ -56,11 +55,7 @@ steps-jump b n u near few three each p = each p ∙ rw (few, three) (plain (ltb 
 
 -- with fewer than three stones
 pub steps-none : (b : Shape) (n u : ℕ) → ltb 3 n ≡ false → eqb n 3 ≡ false → IsSteps b n u 0
-steps-none b n u few two p = has-none p ∙ rw (few, two) (nowhere (ltb p b.points))
-  where
-    nowhere : (x : Bool) → false ≡ (x && false)
-    nowhere true = refl
-    nowhere false = refl
+steps-none b n u few two p = has-none p ∙ rw (few, two) (sym (and_right (ltb p b.points) false refl))
 
 pub reach-steps : (b : Shape) (s : Sides) (u near free r : ℕ) → IsSteps b (count_of s.own) u near → IsVacancy b s free
     → ((p : ℕ) → has r p ≡ (has near p && has free p)) → r ≡ reach b s u
@@ -97,37 +92,6 @@ reach-lt b n e s u r f = rw (f, ← e) (set_where-lt b.points (may_go b s u))
 
 abbrev pub IsFree : List ℕ → ℕ → ℕ → Type 0
 IsFree mills other free = (p : ℕ) → has free p ≡ (has other p && not (list_any (λ m. has m p && is_within m other) mills))
-
-pub free-none : (other : ℕ) → IsFree [] other other
-free-none other p = plain (has other p)
-  where
-    plain : (x : Bool) → x ≡ (x && true)
-    plain true = refl
-    plain false = refl
-
-any_more : (f : ℕ → Bool) (xs : List ℕ) (n : ℕ) → n < length xs → list_any f (take (n + 1) xs) ≡ (list_any f (take n xs) || f (get_or xs n 0))
-any_more f xs n low = list_any_more f xs n 0 low
-
-module _ (b : Shape) (other free n mill : ℕ) (e : mill ≡ get_or (mills_of b) n 0) (low : n < length (mills_of b)) (so_far : IsFree (take n (mills_of b)) other free) where
-  pub free-more : is_within mill other ≡ true → (new : ℕ) → ((p : ℕ) → has new p ≡ (has free p && not (has mill p))) → IsFree (take (n + 1) (mills_of b)) other new
-  free-more whole new each p =
-      each p ∙ (rw (so_far p, any_more (λ m. has m p && is_within m other) (mills_of b) n low, ← e, whole) (parts (has other p) _ (has mill p)))
-    where
-      parts : (x y z : Bool) → ((x && not y) && not z) ≡ (x && not (y || (z && true)))
-      parts false y z = refl
-      parts true true z = refl
-      parts true false true = refl
-      parts true false false = refl
-
-  pub free-same : is_within mill other ≡ false → IsFree (take (n + 1) (mills_of b)) other free
-  free-same part p =
-      so_far p ∙ rw (any_more (λ m. has m p && is_within m other) (mills_of b) n low, ← e, part) (parts (has other p) _ (has mill p))
-    where
-      parts : (x y z : Bool) → (x && not y) ≡ (x && not (y || (z && false)))
-      parts false y z = refl
-      parts true true z = refl
-      parts true false true = refl
-      parts true false false = refl
 
 pub free-all : (b : Shape) (other free : ℕ) → other < 2 ^ b.points → IsFree (mills_of b) other free → free ≡ free_stones b other
 unfolding free_stones in_mill

@@ -1,10 +1,11 @@
 -- What a legal move leads to: a position again, and how many stones each side then has.
 use Rattle.std.proofs.Common.{◌≡◌, ℕ, suc, ◌<◌, ◌≤◌, Bool, true, false, not, ◌&&◌, ◌||◌, cond, eqb, leb, refl, sym, ap, subst, ◌∙◌, inl, inr, ◌⊎◌, arith, Option, Some, None, Ok, Err}
-use Rattle.std.proofs.lemmas.Bool.{eqb-true, leb-true, le-leb, and_parts, and_from, or_cases, both_ways, false_from_ne_true}
+use Rattle.std.proofs.lemmas.Bool.{eqb-true, and_parts, and_right, or_cases, both_ways, false_from_ne_true}
 use Rattle.morris_board.specs.Sets.{has, count_of, without_point}
 use Rattle.morris_board.specs.Boards.{Shape}
 use Rattle.morris_board.specs.Positions.{Sides, sides, IsApart, IsPosition, is_sized, is_between, made}
 use Rattle.morris_board.proofs.PointsLaws.{has-with, has-without, count_of-with, count_of-without}
+use Rattle.morris_board.proofs.PositionLaws.{own_count, other_count, sized_from}
 use Rattle.morris_moves.specs.declared.step.Move.{Move}
 use Rattle.morris_moves.specs.Rules.{moved, left_of, result_of}
 use Rattle.morris_moves.proofs.SetLaws.{point_lt, lt_from_points}
@@ -25,12 +26,8 @@ moved_cases own u v p h = elim (or_cases _ _ (sym (has-moved own u v p) ∙ h)) 
 pub count_of-moved : (own u v : ℕ) → u < 32 → v < 32 → has own u ≡ true → has own v ≡ false → count_of (moved own u v) ≡ count_of own
 unfolding moved
 count_of-moved own u v low high here none =
-    let gone : has (without_point own u) v ≡ false = has-without own u v ∙ ap (λ x. not (eqb v u) && x) none ∙ and_none (not (eqb v u)) in
+    let gone : has (without_point own u) v ≡ false = has-without own u v ∙ ap (λ x. not (eqb v u) && x) none ∙ and_right (not (eqb v u)) false refl in
     count_of-with (without_point own u) v high gone ∙ sym (count_of-without own u low here)
-  where
-    and_none : (x : Bool) → (x && false) ≡ false
-    and_none true = refl
-    and_none false = refl
 
 pub left_is_other : (other p : ℕ) (t : Option ℕ) → has (left_of other t) p ≡ true → has other p ≡ true
 left_is_other other p None h = h
@@ -80,20 +77,12 @@ module _ (b : Shape) (s : Sides) (small : b.points ≤ 24) (h : IsPosition b s) 
   pub is_sized-result : is_sized (result_of s m) ≡ true
   unfolding result_of
   is_sized-result =
-      let parts = and_parts (is_between 2 (count_of s.own) 9) (is_between 3 (count_of s.other) 9) h.sized in
-      let own = and_parts (leb 2 (count_of s.own)) (leb (count_of s.own) 9) parts.0 in
-      let other = and_parts (leb 3 (count_of s.other)) (leb (count_of s.other) 9) parts.1 in
-      let own_high : count_of s.own ≤ 9 = leb-true _ _ own.1 in
-      let other_low : 3 ≤ count_of s.other = leb-true _ _ other.0 in
-      let other_high : count_of s.other ≤ 9 = leb-true _ _ other.1 in
+      let own : count_of s.own ≤ 9 = (own_count s h.sized).1 in
+      let other = other_count s h.sized in
       let enough : 3 ≤ count_of s.own = l.enough in
-      let mover : count_of (moved s.own m.from m.to) ≡ count_of s.own =
-      count_of-moved s.own m.from m.to (omega (arith, l.from_within)) (omega (arith, l.to_within)) l.from_own l.to_not_own in
-      let left_low : 2 ≤ count_of (left_of s.other m.taken) = elim (count_of-left m.taken refl) [ inl e ↦ omega arith | inr e ↦ omega arith ] in
-      let left_high : count_of (left_of s.other m.taken) ≤ 9 = elim (count_of-left m.taken refl) [ inl e ↦ omega arith | inr e ↦ omega arith ] in
-      let mover_low : 3 ≤ count_of (moved s.own m.from m.to) = omega arith in
-      let mover_high : count_of (moved s.own m.from m.to) ≤ 9 = omega arith in
-      and_from _ _ (and_from _ _ (le-leb _ _ left_low) (le-leb _ _ left_high)) (and_from _ _ (le-leb _ _ mover_low) (le-leb _ _ mover_high))
+      let left : (2 ≤ count_of (left_of s.other m.taken)) × (count_of (left_of s.other m.taken) ≤ 9) =
+      elim (count_of-left m.taken refl) [ inl e ↦ (omega (arith, e, other.0), omega (arith, e, other.1)) | inr e ↦ (omega (arith, e, other.0), omega (arith, e, other.1)) ] in
+      sized_from (result_of s m) left.0 left.1 (omega (arith, count_of-mover, enough)) (omega (arith, count_of-mover, own))
 
   -- a legal move leads from a position to a position
   pub IsPosition-result : IsPosition b (result_of s m)

@@ -37,10 +37,6 @@ pub has-member : (s p : ℕ) → Contains (members s) p → has s p ≡ true
 unfolding members
 has-member s p c = All-contains (λ q. has s q ≡ true) (filter (has s) (range_with_len 0 32)) p (filter_passes (has s) (range_with_len 0 32)) c
 
-pub member-lt : (s p : ℕ) → Contains (members s) p → p < 32
-unfolding members
-member-lt s p c = let r = in_range (has s) 0 32 p c in omega arith
-
 pub member-has : (s p : ℕ) → p < 32 → has s p ≡ true → Contains (members s) p
 unfolding members
 member-has s p low h = from_range (has s) 0 32 p (omega arith) (omega arith) h

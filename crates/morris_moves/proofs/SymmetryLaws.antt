@@ -16,7 +16,7 @@ use Rattle.morris_moves.specs.declared.search.Within.{Within}
 use Rattle.morris_moves.specs.declared.search.Within.TheVariants.{Lost, Won, Unknown}
 use Rattle.morris_moves.specs.Rules.{in_mill, moved, closes, may_go, reach, free_stones, takable, move, takes_rightly, is_legal, moves_of, left_of, result_of}
 use Rattle.morris_moves.specs.Images.{IsImage, HaveOneValue}
-use Rattle.morris_moves.specs.Values.{is_lost, is_won, IsOpen, IsLostIn, IsWonIn, IsDraw, AnswersWithin}
+use Rattle.morris_moves.specs.Values.{is_lost, is_won, IsOpen, IsLostIn, IsWonIn, AnswersWithin}
 use Rattle.morris_moves.proofs.ListLaws.{all_contained, contained_all, any_contained, contained_any}
 use Rattle.morris_moves.proofs.LegalLaws.{listed_is_legal, legal_is_listed, IsLegalMove, legal_move}
 use Rattle.morris_moves.proofs.ResultLaws.{IsPosition-result}
@@ -277,9 +277,6 @@ module _ (b : Shape) (s t : Sides) (v : HaveOneValue b s t) where
 
   pub IsWonIn-same : (d : ℕ) → IsWonIn b s d → IsWonIn b t d
   IsWonIn-same d w = record { won = sym (v.won d) ∙ w.won; least = λ n low. IsOpen-same n (w.least n low) }
-
-  pub IsDraw-same : IsDraw b s → IsDraw b t
-  IsDraw-same d = record { never = λ n. IsOpen-same n (d.never n) }
 
   pub AnswersWithin-same : (n : ℕ) (r : Within) → AnswersWithin b s n r → AnswersWithin b t n r
   AnswersWithin-same n (Lost d) a = (a.0, IsLostIn-same d a.1)

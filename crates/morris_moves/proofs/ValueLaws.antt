@@ -199,8 +199,3 @@ module _ (b : Shape) where
   answer_won s n (Lost e) a d low p = absurd (lost_not_won s e d a.1 p)
   answer_won s n (Won e) a d low p = ap Won (won_once s e d a.1 p)
   answer_won s n Unknown a d low p = absurd (both_ways _ (a d low).not_won p.won)
-
-  pub answer_unknown : (s : Sides) (n : ℕ) (r : Within) → AnswersWithin b s n r → ((k : ℕ) → k ≤ n → IsOpen b s k) → r ≡ Unknown
-  answer_unknown s n (Lost e) a each = absurd (both_ways _ (each e a.0).not_lost a.1.lost)
-  answer_unknown s n (Won e) a each = absurd (both_ways _ (each e a.0).not_won a.1.won)
-  answer_unknown s n Unknown a each = refl

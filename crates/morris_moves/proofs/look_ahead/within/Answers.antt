@@ -4,8 +4,12 @@ use borrow.Author.Count.{below_more}
 use Rattle.morris_moves.specs.declared.search.Within.TheVariants.{Lost, Won, Unknown}
 use Rattle.morris_moves.proofs.ValueLaws.{open_even, open_odd, answer_lost, answer_won}
 use Rattle.morris_moves.proofs.SymmetryLaws.{IsImage-value, IsImage-answer}
+use Rattle.morris_moves.proofs.look_ahead.within.Given as given
 use Rattle.morris_moves.proofs.look_ahead.within.Goals as goal
 use Rattle.morris_moves.proofs.look_ahead.within.Goals.{then-depth-eq0+else-is_lost, else-depth-eq0+else-is_won}
+
+small : (g : given.Over) → g.B.Geometry.shape.points ≤ 24
+small g = omega (arith, g.met.B.Geometry.few, g.met.B.Geometry.point_count)
 
 pub returns-then-is_lost-clause-answer : goal.returns-then-is_lost-clause-answer
 returns-then-is_lost-clause-answer g c = (
@@ -62,33 +66,27 @@ returns-after-depth-eq0-clause-won g c =
 
 pub returns-then-is_lost-clause-one_value : goal.returns-then-is_lost-clause-one_value
 returns-then-is_lost-clause-one_value g c =
-    let small : g.B.Geometry.shape.points ≤ 24 = omega (arith, g.met.B.Geometry.few, g.met.B.Geometry.point_count) in
-    λ s. IsImage-value g.B.Geometry.shape small s c.args.position.now
+    λ s. IsImage-value g.B.Geometry.shape (small g) s c.args.position.now
 
 pub returns-then-is_lost-clause-images : goal.returns-then-is_lost-clause-images
 returns-then-is_lost-clause-images g c =
-    let small : g.B.Geometry.shape.points ≤ 24 = omega (arith, g.met.B.Geometry.few, g.met.B.Geometry.point_count) in
-    λ s h i. IsImage-answer g.B.Geometry.shape small s c.args.position.now h i c.args.plies (Lost c.loop-depth.depth)
+    λ s h i. IsImage-answer g.B.Geometry.shape (small g) s c.args.position.now h i c.args.plies (Lost c.loop-depth.depth)
     (returns-then-is_lost-clause-answer g c)
 
 pub returns-then-is_won-clause-one_value : goal.returns-then-is_won-clause-one_value
 returns-then-is_won-clause-one_value g c =
-    let small : g.B.Geometry.shape.points ≤ 24 = omega (arith, g.met.B.Geometry.few, g.met.B.Geometry.point_count) in
-    λ s. IsImage-value g.B.Geometry.shape small s c.args.position.now
+    λ s. IsImage-value g.B.Geometry.shape (small g) s c.args.position.now
 
 pub returns-then-is_won-clause-images : goal.returns-then-is_won-clause-images
 returns-then-is_won-clause-images g c =
-    let small : g.B.Geometry.shape.points ≤ 24 = omega (arith, g.met.B.Geometry.few, g.met.B.Geometry.point_count) in
-    λ s h i. IsImage-answer g.B.Geometry.shape small s c.args.position.now h i c.args.plies (Won c.loop-depth.depth)
+    λ s h i. IsImage-answer g.B.Geometry.shape (small g) s c.args.position.now h i c.args.plies (Won c.loop-depth.depth)
     (returns-then-is_won-clause-answer g c)
 
 pub returns-after-depth-eq0-clause-one_value : goal.returns-after-depth-eq0-clause-one_value
 returns-after-depth-eq0-clause-one_value g c =
-    let small : g.B.Geometry.shape.points ≤ 24 = omega (arith, g.met.B.Geometry.few, g.met.B.Geometry.point_count) in
-    λ s. IsImage-value g.B.Geometry.shape small s c.args.position.now
+    λ s. IsImage-value g.B.Geometry.shape (small g) s c.args.position.now
 
 pub returns-after-depth-eq0-clause-images : goal.returns-after-depth-eq0-clause-images
 returns-after-depth-eq0-clause-images g c =
-    let small : g.B.Geometry.shape.points ≤ 24 = omega (arith, g.met.B.Geometry.few, g.met.B.Geometry.point_count) in
-    λ s h i. IsImage-answer g.B.Geometry.shape small s c.args.position.now h i c.args.plies Unknown
+    λ s h i. IsImage-answer g.B.Geometry.shape (small g) s c.args.position.now h i c.args.plies Unknown
     (returns-after-depth-eq0-clause-answer g c)

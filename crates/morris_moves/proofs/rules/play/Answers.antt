@@ -1,51 +1,46 @@
-use Rattle.std.proofs.Common.{◌≤◌, sym, ap, ◌∙◌, arith}
-use Rattle.morris_board.specs.Positions.{made}
-use Rattle.morris_moves.proofs.LegalLaws.{listed_move, taken_low}
+-- The move is legal, so its result is a position.
+use Rattle.std.proofs.Common.{◌≡◌, ◌≤◌, Ok, sym, ap, ◌∙◌, arith}
+use Rattle.morris_board.specs.Positions.{sides, made}
+use Rattle.morris_moves.specs.Rules.{result_of}
+use Rattle.morris_moves.proofs.LegalLaws.{IsLegalMove, listed_move, taken_low}
 use Rattle.morris_moves.proofs.ResultLaws.{IsApart-result, made-result, are_result}
+use Rattle.morris_moves.proofs.rules.play.Given as given
 use Rattle.morris_moves.proofs.rules.play.Goals as goal
+use Rattle.morris_moves.proofs.rules.play.Goals.{After-own, After-left_of-other}
 
-pub moved-own-requires-clause-start : goal.moved-own-requires-clause-start
-moved-own-requires-clause-start g c =
-    let small : g.B.Geometry.shape.points ≤ 24 = omega (arith, g.met.B.Geometry.few, g.met.B.Geometry.point_count) in
-    let move = listed_move g.B.Geometry.shape c.args.position.now small c.own.ensures.lawful.stones c.args.m c.requires in
-    omega (arith, move.from_within)
+small : (g : given.Over) → g.B.Geometry.shape.points ≤ 24
+small g = omega (arith, g.met.B.Geometry.few, g.met.B.Geometry.point_count)
 
-pub moved-own-requires-clause-end : goal.moved-own-requires-clause-end
-moved-own-requires-clause-end g c =
-    let small : g.B.Geometry.shape.points ≤ 24 = omega (arith, g.met.B.Geometry.few, g.met.B.Geometry.point_count) in
-    let move = listed_move g.B.Geometry.shape c.args.position.now small c.own.ensures.lawful.stones c.args.m c.requires in
-    omega (arith, move.to_within)
+move : (g : given.Over) (c : After-own g) → IsLegalMove g.B.Geometry.shape c.args.position.now c.args.m
+move g c = listed_move g.B.Geometry.shape c.args.position.now (small g) c.own.ensures.lawful.stones c.args.m c.requires
+
+same : (g : given.Over) (c : After-left_of-other g) → sides c.left_of-other.result c.moved-own.result ≡ result_of c.args.position.now c.args.m
+same g c =
+    are_result c.args.position.now c.args.m c.own.result c.other.result c.moved-own.result c.left_of-other.result
+    c.own.ensures.points c.other.ensures.points c.moved-own.ensures c.left_of-other.ensures
+
+pub moved-own-requires : goal.moved-own-requires
+moved-own-requires g c =
+    let is = move g (goal.at.moved-own-requires g c).After-own in
+    record { start = omega (arith, is.from_within, small g); end = omega (arith, is.to_within, small g) }
 
 pub left_of-other-requires : goal.left_of-other-requires
 left_of-other-requires g c =
-    let small : g.B.Geometry.shape.points ≤ 24 = omega (arith, g.met.B.Geometry.few, g.met.B.Geometry.point_count) in
-    let move = listed_move g.B.Geometry.shape c.args.position.now small c.own.ensures.lawful.stones c.args.m c.requires in
-    taken_low g.B.Geometry.shape c.args.position.now small c.own.ensures.lawful.stones c.args.m move
+    taken_low g.B.Geometry.shape c.args.position.now (small g) c.own.ensures.lawful.stones c.args.m (move g (goal.at.left_of-other-requires g c).After-own)
 
 pub new-requires : goal.new-requires
 new-requires g c =
-    let small : g.B.Geometry.shape.points ≤ 24 = omega (arith, g.met.B.Geometry.few, g.met.B.Geometry.point_count) in
-    let move = listed_move g.B.Geometry.shape c.args.position.now small c.own.ensures.lawful.stones c.args.m c.requires in
-    let same = are_result c.args.position.now c.args.m c.own.result c.other.result c.moved-own.result c.left_of-other.result
-    c.own.ensures.points c.other.ensures.points c.moved-own.ensures c.left_of-other.ensures in
-    rw same (IsApart-result g.B.Geometry.shape c.args.position.now small c.own.ensures.lawful c.args.m move)
+    rw (same g (goal.at.new-requires g c).After-left_of-other)
+    (IsApart-result g.B.Geometry.shape c.args.position.now (small g) c.own.ensures.lawful c.args.m (move g (goal.at.new-requires g c).After-own))
 
 pub unreachable-requires : goal.unreachable-requires
 unreachable-requires g c =
-    let small : g.B.Geometry.shape.points ≤ 24 = omega (arith, g.met.B.Geometry.few, g.met.B.Geometry.point_count) in
-    let move = listed_move g.B.Geometry.shape c.args.position.now small c.own.ensures.lawful.stones c.args.m c.requires in
-    let same = are_result c.args.position.now c.args.m c.own.result c.other.result c.moved-own.result c.left_of-other.result
-    c.own.ensures.points c.other.ensures.points c.moved-own.ensures c.left_of-other.ensures in
-    let good = made-result g.B.Geometry.shape c.args.position.now small c.own.ensures.lawful c.args.m move in
-    let is = sym c.in-Err.is ∙ c.new.ensures ∙ ap made same ∙ good in
+    let good = made-result g.B.Geometry.shape c.args.position.now (small g) c.own.ensures.lawful c.args.m (move g (goal.at.unreachable-requires g c).After-own) in
+    let is = sym c.in-Err.is ∙ c.new.ensures ∙ ap made (same g (goal.at.unreachable-requires g c).After-left_of-other) ∙ good in
     cc
 
 pub returns : goal.returns
 returns g c =
-    let small : g.B.Geometry.shape.points ≤ 24 = omega (arith, g.met.B.Geometry.few, g.met.B.Geometry.point_count) in
-    let move = listed_move g.B.Geometry.shape c.args.position.now small c.own.ensures.lawful.stones c.args.m c.requires in
-    let same = are_result c.args.position.now c.args.m c.own.result c.other.result c.moved-own.result c.left_of-other.result
-    c.own.ensures.points c.other.ensures.points c.moved-own.ensures c.left_of-other.ensures in
-    let good = made-result g.B.Geometry.shape c.args.position.now small c.own.ensures.lawful c.args.m move in
-    let is = sym c.in-Ok.is ∙ c.new.ensures ∙ ap made same ∙ good in
+    let good = made-result g.B.Geometry.shape c.args.position.now (small g) c.own.ensures.lawful c.args.m (move g (goal.at.returns g c).After-own) in
+    let is = sym c.in-Ok.is ∙ c.new.ensures ∙ ap made (same g (goal.at.returns g c).After-left_of-other) ∙ good in
     cc
