@@ -6,7 +6,7 @@ use Rattle.std.proofs.lemmas.Bool.{cases_Bool, cases_eq, both_ways, eqb-true, le
 use Rattle.std.proofs.lemmas.List.{append-nil, drop_more, take_more, take_all, take-append-drop}
 use Rattle.std.proofs.lemmas.List.Folds.{list_all_at}
 use Rattle.std.proofs.lemmas.List.Elements.{Contains-append_left}
-use Rattle.std.proofs.lemmas.List.Sums.{length-filter, count_by-le-length}
+use Rattle.std.proofs.lemmas.List.Sums.{length-filter, count_by-le-length, AllPass-from_list_all}
 use Rattle.std.proofs.lemmas.Map.Views.{Contains-from_any}
 use Rattle.std.proofs.lemmas.Option.{slice_get_within, get_or_from_slice_get, slice_get-map, slice_get-get_or}
 use Rattle.std.proofs.Math.Path.{ap₂}
@@ -37,12 +37,6 @@ table_at place d low =
     ∙ slice_get-map pair_at table.PAIRS place
     ∙ ap (option_map pair_at) (slice_get-get_or table.PAIRS place d (omega arith))
 
-at : {X : Type 0} (test : X → Bool) (xs : List X) (i : ℕ) (d : X) → i < length xs → list_all test xs ≡ true → test (get_or xs i d) ≡ true
-at test xs i d low all = elim (cases_Bool (test (get_or xs i d))) [
-  | inl h ↦ h
-  | inr h ↦ absurd (both_ways (list_all test xs) (list_all_at test xs i d low h) all)
-]
-
 module _ (place : ℕ) (d : Counts) (is : slice_get all_pairs place ≡ Some d) where
   within : place < length all_pairs
   within = slice_get_within all_pairs place d is
@@ -53,7 +47,7 @@ module _ (place : ℕ) (d : Counts) (is : slice_get all_pairs place ≡ Some d) 
   pub entry_lawful : (3 ≤ d.lesser) × (d.lesser ≤ d.greater)
   entry_lawful =
       let both : (leb 3 d.lesser && leb d.lesser d.greater) ≡ true =
-      ap (λ e. leb 3 e.lesser && leb e.lesser e.greater) (sym here) ∙ at (λ e. leb 3 e.lesser && leb e.lesser e.greater) all_pairs place d within all_lawful in
+      ap (λ e. leb 3 e.lesser && leb e.lesser e.greater) (sym here) ∙ AllPass-from_list_all (λ e. leb 3 e.lesser && leb e.lesser e.greater) all_pairs all_lawful place d within in
       let parts = and_parts (leb 3 d.lesser) (leb d.lesser d.greater) both in
       (leb-true _ _ parts.0, leb-true _ _ parts.1)
 
@@ -165,7 +159,7 @@ needs_found front cs [] after c need test e h =
     rw (append-nil front) (Contains-from_any {eq = same} same_is need front found)
   where
     member : (p : Counts → Bool) (ds : List Counts) (d : Counts) → list_all p ds ≡ true → Contains ds d → p d ≡ true
-    member p ds d all m = ap p (sym (m.2)) ∙ at p ds (m.0) d (m.1) all
+    member p ds d all m = ap p (sym (m.2)) ∙ AllPass-from_list_all p ds all (m.0) d (m.1)
 needs_found front cs (d ∷ before) after c need test e h =
     let parts = and_parts (list_all (λ d. list_any (same d) front) (needed d)) (needs_test (front ++ d ∷ []) (before ++ c ∷ after)) (ap (needs_test front) (sym e) ∙ test) in
     subst (λ ds. Contains ds need) (append_assoc front (d ∷ []) before)

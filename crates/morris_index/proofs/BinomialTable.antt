@@ -1,12 +1,11 @@
 -- The table of binomials is `choose`, by one computation over the whole table.
 use Rattle.std.proofs.Common.{◌≡◌, ℕ, zero, suc, ◌+◌, ◌<◌, ◌≤◌, Bool, true, List, [], ◌∷◌, map, length, take, get_or, sym, ◌∙◌, ap, refl, zero-add, arith, inl, inr, nat_le}
-use Rattle.std.specs.List.{list_all}
+use Rattle.std.specs.List.{list_all, range_with_len}
 use Rattle.std.proofs.lemmas.Bool.{cases_Bool, both_ways, leb-true}
 use Rattle.std.proofs.lemmas.List.Folds.{list_all_at}
 use Rattle.std.proofs.lemmas.List.{get_or-map, get_or-take, length-take-le}
-use Rattle.std.proofs.lemmas.List.FromFn.{length-map-range_with_len}
-use Rattle.std.specs.List.{range_with_len}
-use Rattle.std.proofs.lemmas.List.FromFn.{get_or-map-range_with_len}
+use Rattle.std.proofs.lemmas.List.FromFn.{length-map-range_with_len, get_or-map-range_with_len}
+use Rattle.std.proofs.lemmas.List.Sums.{AllPass-from_list_all}
 use Rattle.morris_index.specs.Binomials.{choose}
 use Rattle.morris_index.specs.declared.binomials.TheConstants as table
 
@@ -67,12 +66,6 @@ all_small = refl
 most_small : all_at_most 22 10 293930 ≡ true
 most_small = refl
 
-at : {X : Type 0} (test : X → Bool) (xs : List X) (i : ℕ) (d : X) → i < length xs → list_all test xs ≡ true → test (get_or xs i d) ≡ true
-at test xs i d low all = elim (cases_Bool (test (get_or xs i d))) [
-  | inl h ↦ h
-  | inr h ↦ absurd (both_ways (list_all test xs) (list_all_at test xs i d low h) all)
-]
-
 small : (rows columns most : ℕ) → rows ≤ length (take rows table.BINOMIALS) → columns ≤ 11 → all_at_most rows columns most ≡ true → (n k : ℕ) → n < rows
     → n < 25 → k < columns → choose n k ≤ most
 unfolding choices
@@ -89,13 +82,13 @@ small rows columns most few narrow all n k h within l = leb-true _ _ (ap (λ x. 
 
     row_small : list_all (λ x. nat_le x most) (take columns (choices n)) ≡ true
     row_small = ap (λ r. list_all (λ x. nat_le x most) (take columns r)) (sym same_row)
-        ∙ at (λ r. list_all (λ x. nat_le x most) (take columns r)) (take rows table.BINOMIALS) n [] in_rows all
+        ∙ AllPass-from_list_all (λ r. list_all (λ x. nat_le x most) (take columns r)) (take rows table.BINOMIALS) all n [] in_rows
 
     entry : get_or (take columns (choices n)) k 0 ≡ choose n k
     entry = get_or-take columns (choices n) k 0 l ∙ get_or-map-range_with_len (choose n) 0 11 k k 0 (omega arith) (zero-add k)
 
     here : nat_le (get_or (take columns (choices n)) k 0) most ≡ true
-    here = at (λ x. nat_le x most) (take columns (choices n)) k 0 in_row row_small
+    here = AllPass-from_list_all (λ x. nat_le x most) (take columns (choices n)) row_small k 0 in_row
 
 pub choose_few : (n k : ℕ) → n < 25 → k < 11 → choose n k ≤ 1961256
 choose_few n k h l = small 25 11 1961256 (omega arith) (omega arith) all_few n k h h l

@@ -1,7 +1,7 @@
 -- The moves that a move is carried to: the entries from which they lead, symmetry by symmetry.
 use Rattle.std.proofs.Common.{◌≡◌, ◌≢◌, ℕ, zero, suc, ◌+◌, ◌-◌, ◌^◌, ◌<◌, ◌≤◌, Bool, true, false, not, ◌&&◌, ◌||◌, eqb, ltb, List, [], ◌∷◌, ◌++◌, map, filter, slice_index, refl, sym, ◌∙◌, ap, ap₂, subst, inl, inr, arith, append_assoc}
 use Rattle.std.specs.List.{range_with_len, list_all}
-use Rattle.std.proofs.lemmas.Bool.{cases_Bool, cases_eq, cases_lt, eq-eqb, ne_eqb, lt-ltb, le-ltb, ltb-true, and_parts, and_from, and_right}
+use Rattle.std.proofs.lemmas.Bool.{cases_Bool, cases_eq, cases_lt, ne_eqb, lt-ltb, le-ltb, ltb-true, and_parts, and_from, and_right}
 use Rattle.std.proofs.lemmas.List.{map-append}
 use Rattle.std.proofs.lemmas.List.Folds.{list_all-append}
 use Rattle.morris_board.specs.Boards.{Shape}
@@ -14,24 +14,20 @@ use Rattle.morris_index.specs.Numbering.{rank_of, number_outside}
 use Rattle.morris_index.specs.Classes.{is_leading, symmetry_of, representative_of, class_of, AreLeading}
 use Rattle.morris_index.specs.ClassPairs.{led, class_index_of}
 use Rattle.morris_index.specs.ClassMoves.{class_start_of}
-use Rattle.morris_index.specs.Pairs.{Counts, is_of}
+use Rattle.morris_index.specs.Pairs.{Counts}
 use Rattle.morris_index.specs.Moves.{InPair, taken_back}
-use Rattle.morris_index.specs.Carried.{carries, IsCarriedBack}
+use Rattle.morris_index.specs.Carried.{carries, AreReturning, IsCarriedBack}
 use Rattle.morris_index.specs.declared.returning.Returning.{Returning}
-use Rattle.morris_index.proofs.BinomialTable.{choose_small}
-use Rattle.morris_index.proofs.RankLaws.{passing, passing-yes, passing-no, passing-above}
-use Rattle.morris_index.proofs.IndexLaws.{IsPlaced, placed, within_24, other_apart, other_rank-lt, halves_of, is_of-first, is_of-second}
-use Rattle.morris_index.proofs.PairLaws.{own_count, other_count}
+use Rattle.morris_index.proofs.RankLaws.{passing, passing-above}
+use Rattle.morris_index.proofs.SetLaws.{or_false}
+use Rattle.morris_index.proofs.Following.{passing-same}
+use Rattle.morris_index.proofs.IndexLaws.{IsPlaced, placed, within_24, other_apart}
+use Rattle.morris_board.proofs.PositionLaws.{own_count, other_count}
 use Rattle.morris_index.proofs.MoveLaws.{vacant_own, vacant_other, before_count, before_placed}
 use Rattle.morris_index.proofs.ClassLaws.{more_new, led_least, representative_twice, class_of-representative}
-use Rattle.morris_index.proofs.ClassPairLaws.{led_itself}
-use Rattle.morris_index.proofs.ClassMoveLaws.{entry-parts}
+use Rattle.morris_index.proofs.ClassPairLaws.{led_itself, entry-parts}
 
 -- ---- a set of the numbers that pass a test, number by number
-
-or_false : (b : Bool) → (b || false) ≡ b
-or_false true = refl
-or_false false = refl
 
 pub none_pass : (test : ℕ → Bool) (s : ℕ) → has 0 s ≡ (ltb s 0 && test s)
 none_pass test s = has-none s ∙ sym (rw (le-ltb s 0 (omega arith)) refl)
@@ -55,15 +51,6 @@ module _ (test : ℕ → Bool) (k x : ℕ) (before : (s : ℕ) → has x s ≡ (
         before s ∙ and_right (ltb s k) (test s) (ap test e ∙ h) ∙ sym (and_right (ltb s (k + 1)) (test s) (ap test e ∙ h))
     | inr d ↦ before s ∙ ap (λ b. b && test s) (sym (as_before s d))
   ]
-
-passing-same : (f g : ℕ → Bool) (n : ℕ) → ((k : ℕ) → k < n → f k ≡ g k) → passing f n ≡ passing g n
-passing-same f g zero same = refl
-passing-same f g (suc n) same = elim (cases_Bool (g n)) [
-  | inl h ↦
-      passing-yes f n (same n (omega arith) ∙ h) ∙ ap (λ t. t ++ n ∷ []) (passing-same f g n (λ k low. same k (omega arith))) ∙ sym (passing-yes g n h)
-  | inr h ↦
-      passing-no f n (same n (omega arith) ∙ h) ∙ passing-same f g n (λ k low. same k (omega arith)) ∙ sym (passing-no g n h)
-]
 
 -- its members are the numbers that pass
 pub members-listed : (test : ℕ → Bool) (x n : ℕ) → n ≤ 32 → ((s : ℕ) → has x s ≡ (ltb s n && test s)) → members x ≡ filter test (range_with_len 0 n)
@@ -92,11 +79,45 @@ pushed f old yielded out s x e is =
     ∙ append_assoc old (map f yielded) (f s ∷ [])
     ∙ ap (λ t. old ++ t) (sym (map-append f yielded (s ∷ [])))
 
-pub both_and : (a b c : Bool) → ((a && b) && (a && c)) ≡ (a && (b && c))
+both_and : (a b c : Bool) → ((a && b) && (a && c)) ≡ (a && (b && c))
 both_and true b c = refl
 both_and false b c = refl
 
+-- ---- the symmetries that carry a position
+
+-- those that lead the stones `mover` and return from the images of the stones of p's player
+module _ (board : Shape) (p : Sides) (mover leading returning carrying : ℕ) (leads : AreLeading board mover leading) (returns : AreReturning board p.own returning)
+    (common : (t : ℕ) → has carrying t ≡ (has leading t && has returning t)) where
+  pub both_carry : (t : ℕ) → has carrying t ≡ (ltb t board.symmetries && carries board p mover t)
+  both_carry t =
+      common t
+      ∙ ap₂ (λ a b. a && b) (leads t) (returns t)
+      ∙ both_and (ltb t board.symmetries) (is_leading board mover t) (eqb (symmetry_of board (image_of (board.image t) p.own)) (inverse_of t))
+
+module _ (board : Shape) (p : Sides) (mover carrying : ℕ) (carry : (t : ℕ) → has carrying t ≡ (ltb t board.symmetries && carries board p mover t)) where
+  pub carrying_members : board.symmetries ≤ 32 → members carrying ≡ filter (carries board p mover) (range_with_len 0 board.symmetries)
+  carrying_members most = members-listed (carries board p mover) carrying board.symmetries most carry
+
+  pub one_carries : (t : ℕ) → has carrying t ≡ true → (t < board.symmetries) × (carries board p mover t ≡ true)
+  one_carries t inside =
+      let both = and_parts (ltb t board.symmetries) (carries board p mover t) (sym (carry t) ∙ inside) in
+      (ltb-true t board.symmetries both.0, both.1)
+
 -- ---- the image of a position under a symmetry that leads the player to move
+
+-- the rank of the other player's stones in it
+abbrev pub carried_rank : Shape → Sides → ℕ → ℕ
+carried_rank board q t = rank_of (map (number_outside (representative_of board q.own)) (members (image_of (board.image t) q.other)))
+
+-- from what its entry is found: the images of these stones, outside the representative, on which the
+-- player to move stands
+pub record IsCarried (board : Shape) (n : ℕ) (q : Sides) (t : ℕ) : Type 0 where
+  pub own : image_of (board.image t) q.own ≡ representative_of board q.own
+  pub within : image_of (board.image t) q.other < 2 ^ 24
+  pub counted : count_of (image_of (board.image t) q.other) ≡ count_of q.other
+  pub most : count_of (image_of (board.image t) q.other) ≤ 9
+  pub apart : (p : ℕ) → has (image_of (board.image t) q.other) p ≡ true → has (representative_of board q.own) p ≡ false
+  pub entry : (c : Counts) → class_start_of board n c q.own (count_of q.other) + carried_rank board q t ≡ class_index_of board n c (image_sides (board.image t) q)
 
 module _ (board : Shape) (n : ℕ) (few : n ≤ 24) (points : board.points ≡ n) (y : HasSymmetries board) where
   low : board.points ≤ 24
@@ -108,65 +129,59 @@ module _ (board : Shape) (n : ℕ) (few : n ≤ 24) (points : board.points ≡ n
   off_board : (set : ℕ) → set < 2 ^ board.points → set < 2 ^ n
   off_board set h = subst (λ k. set < 2 ^ k) points h
 
-  module _ (q : Sides) (h : IsPlaced n q) (t : ℕ) (t_low : t < board.symmetries) (leads : is_leading board q.own t ≡ true) where
+  module _ (q : Sides) (h : IsPlaced n q) (most : count_of q.other ≤ 9) (t : ℕ) (t_low : t < board.symmetries) (leads : is_leading board q.own t ≡ true) where
     abbrev carried : Sides
     carried = image_sides (board.image t) q
 
     one : IsOneToOne board.points (board.image t) (board.image (inverse_of t))
     one = one_to_one board _ _ (y.symmetry t t_low)
 
-    apart : IsApart board q
-    apart = record { own_within = on_board q.own h.own_within; other_within = on_board q.other h.other_within; apart = h.apart }
-
     carried_apart : IsApart board carried
-    carried_apart = IsApart-image board low _ _ one q apart
+    carried_apart =
+        IsApart-image board low _ _ one q
+        (record { own_within = on_board q.own h.own_within; other_within = on_board q.other h.other_within; apart = h.apart })
 
-    pub carried_placed : IsPlaced n carried
+    carried_placed : IsPlaced n carried
     carried_placed = record {
       own_within = off_board carried.own carried_apart.own_within;
       other_within = off_board carried.other carried_apart.other_within;
       apart = carried_apart.apart;
     }
 
-    pub carried_own : carried.own ≡ representative_of board q.own
+    carried_own : carried.own ≡ representative_of board q.own
     carried_own = led_least board q.own t t_low leads
 
-    pub own_same : count_of carried.own ≡ count_of q.own
-    own_same = count_of-image board.points low _ _ one q.own apart.own_within
+    own_same : count_of carried.own ≡ count_of q.own
+    own_same = count_of-image board.points low _ _ one q.own (on_board q.own h.own_within)
 
-    pub other_same : count_of carried.other ≡ count_of q.other
-    other_same = count_of-image board.points low _ _ one q.other apart.other_within
+    other_same : count_of carried.other ≡ count_of q.other
+    other_same = count_of-image board.points low _ _ one q.other (on_board q.other h.other_within)
 
     itself : led board carried ≡ carried
     itself =
         led_itself board n few points y carried.own carried.other carried_placed.own_within carried_placed.other_within
-        (ap (representative_of board) carried_own ∙ representative_twice board low y q.own apart.own_within ∙ sym carried_own)
+        (ap (representative_of board) carried_own ∙ representative_twice board low y q.own (on_board q.own h.own_within) ∙ sym carried_own)
 
     same_class : class_of board carried.own ≡ class_of board q.own
-    same_class = ap (class_of board) carried_own ∙ class_of-representative board low y q.own apart.own_within
+    same_class = ap (class_of board) carried_own ∙ class_of-representative board low y q.own (on_board q.own h.own_within)
 
     same_start : (c : Counts) → class_start_of board n c carried.own (count_of carried.other) ≡ class_start_of board n c q.own (count_of q.other)
     same_start c = rw (own_same, other_same, same_class) refl
 
-    abbrev carried_rank : ℕ
-    carried_rank = rank_of (map (number_outside (representative_of board q.own)) (members carried.other))
-
-    rank_same : rank_of (map (number_outside (led board carried).own) (members (led board carried).other)) ≡ carried_rank
+    rank_same : rank_of (map (number_outside (led board carried).own) (members (led board carried).other)) ≡ carried_rank board q t
     rank_same =
         ap (λ (s : Sides). rank_of (map (number_outside s.own) (members s.other))) itself
         ∙ ap (λ o. rank_of (map (number_outside o) (members carried.other))) carried_own
 
-    pub carried_entry : (c : Counts) → class_start_of board n c q.own (count_of q.other) + carried_rank ≡ class_index_of board n c carried
-    carried_entry c = sym (entry-parts board n few points y c carried ∙ ap₂ (λ a b. a + b) (same_start c) rank_same)
-
-    pub carried_few : count_of q.other ≤ 9 → carried_rank ≤ 1307504
-    carried_few most =
-        omega (
-          arith,
-          ap (λ o. rank_of (map (number_outside o) (members carried.other))) carried_own,
-          other_rank-lt n (omega arith) carried carried_placed,
-          choose_small (n - count_of carried.own) (count_of carried.other) (omega arith) (omega (arith, other_same)),
-        )
+    pub is_carried : IsCarried board n q t
+    is_carried = record {
+      own = carried_own;
+      within = within_24 carried.other n carried_placed.other_within few;
+      counted = other_same;
+      most = omega (arith, other_same);
+      apart = λ p here. ap (λ o. has o p) (sym carried_own) ∙ other_apart n (omega arith) carried carried_placed p here;
+      entry = λ c. sym (entry-parts board n few points y c carried ∙ ap₂ (λ a b. a + b) (same_start c) rank_same);
+    }
 
   -- ---- the position before a quiet move
 
@@ -192,57 +207,17 @@ module _ (board : Shape) (n : ℕ) (few : n ≤ 24) (points : board.points ≡ n
     mover_count =
         before_count n few q.pair s (placed board n s points k.lawful) own_most other_most u v u_in (vacant_own _ _ vacant) (vacant_other _ _ vacant) here
 
-    pub before_of : is_of q.pair before ≡ true
-    before_of = elim (halves_of q.pair s k.counts) [
-      | inl a ↦
-          is_of-second q.pair before (and_from _ _ (eq-eqb (count_of before.own) q.pair.lesser (mover_count ∙ a.1)) (eq-eqb (count_of before.other) q.pair.greater a.0))
-      | inr a ↦
-          is_of-first q.pair before (and_from _ _ (eq-eqb (count_of before.own) q.pair.greater (mover_count ∙ a.2)) (eq-eqb (count_of before.other) q.pair.lesser a.1))
-    ]
-
     module _ (leading carrying : ℕ) (leads : AreLeading board before.own leading) (common : (t : ℕ) → has carrying t ≡ (has leading t && has returning.symmetries t)) where
       carrying_is : (t : ℕ) → has carrying t ≡ (ltb t board.symmetries && carries board s before.own t)
-      carrying_is t =
-          common t
-          ∙ ap₂ (λ a b. a && b) (leads t) (k.returns.symmetries t)
-          ∙ both_and (ltb t board.symmetries) (is_leading board before.own t) (eqb (symmetry_of board (image_of (board.image t) s.own)) (inverse_of t))
+      carrying_is = both_carry board s before.own leading returning.symmetries carrying leads k.returns.symmetries common
 
       -- the symmetries that carry the move
       pub members_are : board.symmetries ≤ 32 → members carrying ≡ filter (carries board s before.own) (range_with_len 0 board.symmetries)
-      members_are most = members-listed (carries board s before.own) carrying board.symmetries most carrying_is
+      members_are = carrying_members board s before.own carrying carrying_is
 
-      module _ (t : ℕ) (inside : has carrying t ≡ true) where
-        both : (ltb t board.symmetries ≡ true) × (carries board s before.own t ≡ true)
-        both = and_parts _ _ (sym (carrying_is t) ∙ inside)
-
-        pub carrying_low : t < board.symmetries
-        carrying_low = ltb-true t board.symmetries both.0
-
-        pub image_kept : slice_index returning.images t ≡ image_of (board.image t) s.own
-        image_kept = k.returns.images t carrying_low
-
-        leading_too : is_leading board before.own t ≡ true
-        leading_too = (and_parts _ _ both.1).0
-
-        pub image_24 : image_of (board.image t) s.own < 2 ^ 24
-        image_24 = within_24 _ n (carried_placed before before_here t carrying_low leading_too).other_within few
-
-        pub image_apart : (p : ℕ) → has (image_of (board.image t) s.own) p ≡ true → has (representative_of board before.own) p ≡ false
-        image_apart p y =
-            ap (λ o. has o p) (sym (carried_own before before_here t carrying_low leading_too))
-            ∙ other_apart n (omega arith) _ (carried_placed before before_here t carrying_low leading_too) p y
-
-        pub image_count : count_of (image_of (board.image t) s.own) ≡ count_of s.own
-        image_count = other_same before before_here t carrying_low leading_too
-
-        pub image_few : count_of (image_of (board.image t) s.own) ≤ 9
-        image_few = omega (arith, other_same before before_here t carrying_low leading_too, own_most)
-
-        abbrev pub entry_rank : ℕ
-        entry_rank = rank_of (map (number_outside (representative_of board before.own)) (members (image_of (board.image t) s.own)))
-
-        pub entry_few : entry_rank ≤ 1307504
-        entry_few = carried_few before before_here t carrying_low leading_too own_most
-
-        pub entry_is : class_start_of board n q.pair before.own (count_of s.own) + entry_rank ≡ class_index_of board n q.pair (image_sides (board.image t) before)
-        entry_is = carried_entry before before_here t carrying_low leading_too q.pair
+      -- one of them, the image that is kept for it, and what it makes of the position before
+      pub carried_before : (t : ℕ) → has carrying t ≡ true
+          → (t < board.symmetries) × (slice_index returning.images t ≡ image_of (board.image t) s.own) × IsCarried board n before t
+      carried_before t inside =
+          let both = one_carries board s before.own carrying carrying_is t inside in
+          (both.0, k.returns.images t both.0, is_carried before before_here own_most t both.0 (and_parts _ _ both.1).0)

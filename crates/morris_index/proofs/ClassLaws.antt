@@ -98,6 +98,9 @@ module _ (board : Shape) (set : ℕ) where
       let is = subst (λ n. IsFirst board n set found.0) e found.1 in
       subst (IsFirst board board.symmetries set) (sym (first_is found.0 is)) is
 
+  pub symmetry_leads : 0 < board.symmetries → is_leading board set (symmetry_of board set) ≡ true
+  symmetry_leads some = leading (symmetry_of board set) (symmetry_first some)
+
 -- ---- all symmetries that lead to the least image
 
 -- x has the symmetries below `count` that lead to the same image as s, and no other numbers
@@ -185,9 +188,8 @@ module _ (board : Shape) (set : ℕ) where
 
   pub has_first : (x : ℕ) → 0 < board.symmetries → AreLeading board set x → has x (symmetry_of board set) ≡ true
   has_first x some leads =
-      let first = symmetry_first board set some in
       leads (symmetry_of board set)
-      ∙ and_from _ _ (lt-ltb (symmetry_of board set) board.symmetries first.within) (same_leads (symmetry_of board set) (symmetry_of board set) first refl)
+      ∙ and_from _ _ (lt-ltb (symmetry_of board set) board.symmetries (symmetry_first board set some).within) (symmetry_leads board set some)
 
   -- the least of them is the one that the definition says
   pub first_leading : (x p : ℕ) → 0 < board.symmetries → AreLeading board set x → has x p ≡ true → ((k : ℕ) → k < p → has x k ≡ false) → p ≡ symmetry_of board set

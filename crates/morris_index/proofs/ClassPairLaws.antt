@@ -1,7 +1,7 @@
 -- Laws of the numbering by classes: the entry of a position is below the number of entries, the
 -- position of an entry has it, and positions with the same entry are led to the same position.
-use Rattle.std.proofs.Common.{◌≡◌, ℕ, ◌+◌, ◌-◌, ◌*◌, ◌/◌, ◌%◌, ◌^◌, ◌<◌, ◌≤◌, true, false, map, refl, sym, ◌∙◌, ap, inl, inr, subst, arith}
-use Rattle.std.proofs.lemmas.Bool.{cases_eq}
+use Rattle.std.proofs.Common.{◌≡◌, ℕ, ◌+◌, ◌-◌, ◌*◌, ◌/◌, ◌%◌, ◌^◌, ◌<◌, ◌≤◌, true, false, map, refl, sym, ◌∙◌, ap, inl, inr, subst, arith, ◌≢◌}
+use Rattle.std.proofs.lemmas.Bool.{cases_eq, eq-eqb, ne_eqb}
 use Rattle.std.proofs.Math.Nat.{mul-le-mul_left, div-lt_iff_lt-mul, mod-lt}
 use Rattle.std.proofs.lemmas.Nat.{div-add-mod'}
 use Rattle.morris_board.specs.Boards.{Shape}
@@ -10,20 +10,15 @@ use Rattle.morris_board.specs.Positions.{Sides, sides, IsPosition}
 use Rattle.morris_board.specs.Symmetries.{image_sides, HasSymmetries}
 use Rattle.morris_board.proofs.ImageLaws.{one_to_one, IsPosition-image, count_of-image}
 use Rattle.morris_index.specs.Binomials.{choose}
-use Rattle.morris_index.specs.Numbering.{rank_of, number_outside}
+use Rattle.morris_index.specs.Numbering.{rank_of, number_outside, half_size, half_index}
 use Rattle.morris_index.specs.Classes.{symmetry_of, representative_of, is_representative, classes_below, class_of, class_count}
-use Rattle.morris_index.specs.ClassPairs.{led, class_half_size, class_half_index}
-use Rattle.morris_index.proofs.IndexLaws.{IsPlaced, placed, other_apart, other_rank-lt, rank_outside-same, parts_lt, parts_same, number_outside-count, half_size-few}
+use Rattle.morris_index.specs.ClassPairs.{led, class_half_size, class_half_index, class_size_of, class_index_of}
+use Rattle.morris_index.specs.ClassMoves.{class_half_start, class_start_of}
+use Rattle.morris_index.proofs.IndexLaws.{IsPlaced, placed, other_apart, other_rank-lt, rank_outside-same, parts_lt, parts_same, number_outside-count, half_size-few, halves_of}
 use Rattle.morris_index.proofs.ClassLaws.{symmetry_within, image_none, representative_within, representative_count, representative_twice, representative_symmetry, test_from, class_alone, class_lt}
-use Rattle.morris_index.specs.Numbering.{half_size, half_index}
-use Rattle.morris_index.specs.Pairs.{IsHalf}
+use Rattle.morris_index.specs.Pairs.{IsHalf, Counts, is_of}
 use Rattle.std.proofs.Math.Path.{ap₂}
-use Rattle.morris_index.proofs.PairLaws.{other_count}
-use Rattle.morris_index.specs.Pairs.{Counts, is_of}
-use Rattle.morris_index.specs.ClassPairs.{class_size_of, class_index_of}
-use Rattle.morris_index.proofs.IndexLaws.{halves_of}
-use Rattle.std.proofs.lemmas.Bool.{eq-eqb, ne_eqb}
-use Rattle.std.proofs.Common.{◌≢◌}
+use Rattle.morris_board.proofs.PositionLaws.{other_count}
 
 module _ (board : Shape) (n : ℕ) (few : n ≤ 24) (points : board.points ≡ n) (y : HasSymmetries board) where
   low : board.points ≤ 24
@@ -191,6 +186,18 @@ module _ (board : Shape) (n : ℕ) (few : n ≤ 24) (points : board.points ≡ n
     pub index-second : (s : Sides) → count_of s.own ≢ c.greater → class_index_of board n c s ≡ first_size + class_half_index board n s
     unfolding class_index_of
     index-second s d = rw (ne_eqb (count_of s.own) c.greater d) refl
+
+    -- an entry by its parts: where those with its class begin, and the rank of the opponent's stones
+    pub entry-parts : (s : Sides) → class_index_of board n c s
+        ≡ class_start_of board n c s.own (count_of s.other) + rank_of (map (number_outside (led board s).own) (members (led board s).other))
+    unfolding class_half_index
+    entry-parts s =
+        let half : class_half_index board n s
+        ≡ class_half_start board n s.own (count_of s.other) + rank_of (map (number_outside (led board s).own) (members (led board s).other)) = refl in
+        elim (cases_eq (count_of s.own) c.greater) [
+          | inl e ↦ index-first s e ∙ half ∙ rw (eq-eqb (count_of s.own) c.greater e) (omega arith)
+          | inr d ↦ index-second s d ∙ rw (ne_eqb (count_of s.own) c.greater d) (omega (arith, half))
+        ]
 
     -- an index past the first half is one of the second, which there is
     pub second_half : (index : ℕ) → index < class_size_of board n c → first_size ≤ index

@@ -1,12 +1,12 @@
 -- Rows of entries: what is kept of one are the numbers of the opponent's stones in its entries.
-use Rattle.std.proofs.Common.{◌≡◌, ◌≢◌, ℕ, ◌+◌, ◌-◌, ◌*◌, ◌/◌, ◌%◌, ◌^◌, ◌<◌, ◌≤◌, nat_eq, true, false, List, map, length, slice_index, Ok, refl, sym, ◌∙◌, ap, subst, inl, inr, arith}
+use Rattle.std.proofs.Common.{◌≡◌, ◌≢◌, ℕ, ◌+◌, ◌-◌, ◌*◌, ◌/◌, ◌%◌, ◌^◌, ◌<◌, ◌≤◌, nat_eq, true, false, List, map, length, slice_index, refl, sym, ◌∙◌, ap, subst, inl, inr, arith}
 use Rattle.std.proofs.lemmas.Bool.{cases_Bool, both_ways, eq-eqb, ne_eqb}
 use Rattle.std.proofs.lemmas.Bool.Decides.{nat_tests}
 use Rattle.std.proofs.lemmas.Nat.{div-add-mod'}
 use Rattle.std.proofs.Math.Nat.{mod-lt}
 use Rattle.morris_board.specs.Boards.{Shape}
 use Rattle.morris_board.specs.Sets.{has, members, count_of}
-use Rattle.morris_board.specs.Positions.{Sides, sides, is_sized, made, IsApart, IsPosition}
+use Rattle.morris_board.specs.Positions.{Sides, sides, is_sized, IsApart, IsPosition}
 use Rattle.morris_board.specs.Symmetries.{HasSymmetries}
 use Rattle.morris_index.specs.Binomials.{choose}
 use Rattle.morris_index.specs.Numbering.{rank_of, number_outside, IsRanked}
@@ -15,13 +15,12 @@ use Rattle.morris_index.specs.Parts.{squeezed_below}
 use Rattle.morris_index.specs.Classes.{representative_of, class_of}
 use Rattle.morris_index.specs.ClassPairs.{led, class_half_size, class_size_of, class_index_of}
 use Rattle.morris_index.specs.ClassMoves.{class_half_start, class_start_of}
-use Rattle.morris_index.specs.EntryRows.{InRow, in_row, IsInRow, opposed, IsHalfRow, IsEntryRow}
+use Rattle.morris_index.specs.EntryRows.{InRow, in_row, IsInRow, StandsIn, opposed, IsHalfRow, IsEntryRow}
 use Rattle.morris_index.specs.Standings.{are_of}
-use Rattle.morris_index.proofs.ClassMoveLaws.{entry-parts}
-use Rattle.morris_index.proofs.ClassPairLaws.{led_itself, led_alone, index-lt}
+use Rattle.morris_index.proofs.ClassPairLaws.{led_itself, led_alone, index-lt, entry-parts}
 use Rattle.morris_index.proofs.IndexLaws.{number_outside-count}
 use Rattle.morris_index.proofs.NumberLaws.{numbers_end}
-use Rattle.morris_index.proofs.PairLaws.{from_between}
+use Rattle.morris_board.proofs.PositionLaws.{from_between}
 use Rattle.morris_index.proofs.Spreading.{spread-ranked, listed-fits, spread_exists}
 
 -- ---- the entries from an index on, by the parts of the index
@@ -134,7 +133,7 @@ module _ (board : Shape) (n : ℕ) (few : n ≤ 24) (points : board.points ≡ n
         | inr none ↦ none
       ]
 
-      pub row_apart : IsApart board (sides row.own other)
+      row_apart : IsApart board (sides row.own other)
       row_apart = record {
         own_within = subst (λ m. row.own < 2 ^ m) (sym points) half.within;
         other_within = subst (λ m. other < 2 ^ m) (sym points) other_ranked.within;
@@ -150,9 +149,6 @@ module _ (board : Shape) (n : ℕ) (few : n ≤ 24) (points : board.points ≡ n
           let other_high : count_of other ≤ 9 = omega (arith, other_is, other_most n row.pair (count_of row.own) other_count k.pair k.counts) in
           rw (from_between 2 (count_of row.own) 9 (omega (arith, least)) most, from_between 3 (count_of other) 9 other_low other_high) refl
 
-      pub row_made : made (sides row.own other) ≡ Ok (sides row.own other)
-      row_made = rw row_sized refl
-
       row_entry : class_index_of board n row.pair (sides row.own other) ≡ row.first + place
       row_entry =
           let itself : led board (sides row.own other) ≡ sides row.own other =
@@ -163,7 +159,7 @@ module _ (board : Shape) (n : ℕ) (few : n ≤ 24) (points : board.points ≡ n
           ap (class_start_of board n row.pair row.own) other_ranked.counted in
           omega (arith, entry-parts board n few points y row.pair (sides row.own other), ranks, starts, half.start, k.first.1)
 
-      pub row_position : IsInRow board n row place (sides row.own other)
+      row_position : IsInRow board n row place (sides row.own other)
       row_position = record {
         lawful = record { stones = row_apart; sized = row_sized };
         counts = subst (λ b. are_of row.pair (count_of row.own) b ≡ true) (sym other_ranked.counted) k.counts;
@@ -171,18 +167,8 @@ module _ (board : Shape) (n : ℕ) (few : n ≤ 24) (points : board.points ≡ n
         entry = row_entry;
       }
 
-    -- the free points with these numbers
-    abbrev stones : (set : ℕ) × (set < 2 ^ 24) × ((p : ℕ) → has set p ≡ true → has row.own p ≡ false) × (squeezed_below row.own set 24 ≡ slice_index numbers place)
-    stones = spread_exists row.own (slice_index numbers place) numbers_fit
-
-    here : IsInRow board n row place (sides row.own stones.0)
-    here = row_position stones.0 stones.1 stones.2 stones.3
-
-    pub row_stands : (s : Sides) × IsInRow board n row place s
-    row_stands = (sides row.own stones.0, here)
-
     -- all positions with the entry are led to the one of the row
-    pub row_led : (t s : Sides) → IsInRow board n row place t → IsPosition board s → is_of row.pair s ≡ true
+    row_led : (t s : Sides) → IsInRow board n row place t → IsPosition board s → is_of row.pair s ≡ true
         → class_index_of board n row.pair s ≡ row.first + place → t ≡ led board s
     row_led t s at lawful of entry =
         let own_in : t.own < 2 ^ n = subst (λ m. t.own < 2 ^ m) points at.lawful.stones.own_within in
@@ -191,10 +177,23 @@ module _ (board : Shape) (n : ℕ) (few : n ≤ 24) (points : board.points ≡ n
         sym (led_itself board n few points y t.own t.other own_in other_in least)
         ∙ led_alone board n few points y row.pair t s at.lawful lawful at.counts of (at.entry ∙ sym entry)
 
+    pub row_spread : (other : ℕ) → other < 2 ^ 24 → ((p : ℕ) → has other p ≡ true → has row.own p ≡ false) → squeezed_below row.own other 24 ≡ slice_index numbers place
+        → StandsIn board n row place (sides row.own other)
+    row_spread other within apart is =
+        let at = row_position other within apart is in
+        record { inside = at; led = λ s lawful of entry. row_led (sides row.own other) s at lawful of entry }
+
+    -- the free points with these numbers
+    abbrev stones : (set : ℕ) × (set < 2 ^ 24) × ((p : ℕ) → has set p ≡ true → has row.own p ≡ false) × (squeezed_below row.own set 24 ≡ slice_index numbers place)
+    stones = spread_exists row.own (slice_index numbers place) numbers_fit
+
+    pub row_stands : (s : Sides) × StandsIn board n row place s
+    row_stands = (sides row.own stones.0, row_spread stones.0 stones.1 stones.2 stones.3)
+
     pub row_numbers : (s : Sides) → IsInRow board n row place s → slice_index numbers place ≡ squeezed_below row.own s.other n
     row_numbers s at =
         let same : s ≡ sides row.own stones.0 =
-        row_led s s at at.lawful at.counts at.entry ∙ sym (row_led (sides row.own stones.0) s here at.lawful at.counts at.entry) in
+        row_led s s at at.lawful at.counts at.entry ∙ sym ((row_spread stones.0 stones.1 stones.2 stones.3).led s at.lawful at.counts at.entry) in
         let other_in : s.other < 2 ^ n = subst (λ m. s.other < 2 ^ m) points at.lawful.stones.other_within in
         let whole : (24 - n) + n ≡ 24 = omega arith in
         sym stones.3
@@ -205,4 +204,4 @@ module _ (board : Shape) (n : ℕ) (few : n ≤ 24) (points : board.points ≡ n
   pub row_inside : row.first + row.len ≤ class_size_of board n row.pair
   row_inside =
       let last = row_stands (row.len - 1) (omega (arith, row_some)) in
-      omega (arith, row_some, last.1.entry, index-lt board n few points y row.pair last.0 last.1.lawful last.1.counts)
+      omega (arith, row_some, last.1.inside.entry, index-lt board n few points y row.pair last.0 last.1.inside.lawful last.1.inside.counts)

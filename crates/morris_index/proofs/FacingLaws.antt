@@ -1,36 +1,33 @@
 -- The positions that face a set: what their entries are, how the results of their moves are led,
 -- and that each position with an entry of its own is one of them.
-use Rattle.std.proofs.Common.{◌≡◌, ℕ, ◌+◌, ◌^◌, ◌<◌, ◌≤◌, true, false, eqb, ltb, ◌&&◌, List, [], ◌++◌, map, filter, refl, sym, ◌∙◌, ap, ap₂, subst, inl, inr, arith}
+use Rattle.std.proofs.Common.{◌≡◌, ℕ, ◌+◌, ◌^◌, ◌<◌, ◌≤◌, true, eqb, List, ◌++◌, map, filter, refl, sym, ◌∙◌, ap, ap₂, subst, inl, inr, arith}
 use Rattle.std.specs.List.{range_with_len, All, Contains}
-use Rattle.std.proofs.lemmas.Bool.{cases_lt, ltb-true, eq-eqb, eqb-true, and_parts, and_from}
+use Rattle.std.proofs.lemmas.Bool.{cases_lt, eq-eqb, eqb-true, and_parts, and_from}
 use Rattle.std.proofs.lemmas.List.Elements.{All-append, All-contains_itself, All-weaker, Contains-append_left, Contains-append_right}
 use Rattle.morris_board.specs.Boards.{Shape}
-use Rattle.morris_board.specs.Sets.{has, members, count_of}
+use Rattle.morris_board.specs.Sets.{count_of}
 use Rattle.morris_board.specs.Positions.{Sides, sides, IsPosition}
 use Rattle.morris_board.specs.Symmetries.{image_of, image_sides, inverse_of, HasSymmetries}
 use Rattle.morris_board.proofs.ImageLaws.{IsOneToOne, one_to_one, IsPosition-image, count_of-image, image_of-undone, image_sides-undone}
-use Rattle.morris_index.specs.Numbering.{rank_of, number_outside}
-use Rattle.morris_index.specs.Classes.{is_leading, symmetry_of, representative_of, classes_below, class_of, AreLeading}
+use Rattle.morris_index.specs.Classes.{is_leading, symmetry_of, representative_of, classes_below, class_of}
 use Rattle.morris_index.specs.ClassMoves.{class_start_of, IsLedOn}
 use Rattle.morris_index.specs.ClassPairs.{led, class_index_of, class_size_of}
 use Rattle.morris_index.specs.Moves.{InPair, in_pair}
 use Rattle.morris_index.specs.Pairs.{Counts, IsPair, is_of}
-use Rattle.morris_index.specs.Carried.{carries, AreReturning}
+use Rattle.morris_index.specs.Carried.{carries}
 use Rattle.morris_index.specs.Facing.{turned, facing, IsFaced, AreFaces}
-use Rattle.morris_index.proofs.IndexLaws.{IsPlaced, placed, other_apart, within_24, halves_of, is_of-first, is_of-second}
-use Rattle.morris_index.proofs.PairLaws.{from_between, own_count, other_count}
+use Rattle.morris_index.proofs.IndexLaws.{IsPlaced, placed, other_apart, halves_of}
+use Rattle.morris_board.proofs.PositionLaws.{from_between, own_count, other_count}
+use Rattle.morris_index.proofs.ResultLaws.{is_of-quiet}
 use Rattle.morris_index.proofs.ClassLaws.{representative_twice, symmetry_within}
 use Rattle.morris_index.proofs.ClassPairLaws.{led_position, led_own, led_own_count, led_other_count, led_itself, led_alone, index-lt}
-use Rattle.morris_index.proofs.CarriedLaws.{both_and, members-listed, carried_placed, carried_own, carried_entry, carried_few}
+use Rattle.morris_index.proofs.CarriedLaws.{IsCarried, is_carried}
 use Rattle.morris_index.proofs.StepLaws.{leads_from}
 use Rattle.morris_index.proofs.FallLaws.{kept-from, kept-has}
 
 -- the other player has as many stones as the pair allows
 pub turned_of : (c : Counts) (p : Sides) → is_of c p ≡ true → is_of c (turned p) ≡ true
-turned_of c p of = elim (halves_of c p of) [
-  | inl a ↦ is_of-second c (turned p) (and_from _ _ (eq-eqb (count_of p.other) c.lesser a.1) (eq-eqb (count_of p.own) c.greater a.0))
-  | inr a ↦ is_of-first c (turned p) (and_from _ _ (eq-eqb (count_of p.other) c.greater a.2) (eq-eqb (count_of p.own) c.lesser a.1))
-]
+turned_of c p of = is_of-quiet c p (turned p) of refl refl
 
 -- positions of a pair with the same stones of the player to move have as many of the other's
 pub same_others : (c : Counts) (s t : Sides) → is_of c s ≡ true → is_of c t ≡ true → s.own ≡ t.own → count_of s.other ≡ count_of t.other
@@ -44,24 +41,6 @@ same_others c s t s_of t_of own = elim (halves_of c s s_of) [
     | inr b ↦ a.2 ∙ sym b.2
   ]
 ]
-
--- the symmetries that lead the player to move and return from the images of the other
-module _ (board : Shape) (p : Sides) (leading returning carrying : ℕ) (leads : AreLeading board p.other leading) (returns : AreReturning board p.own returning)
-    (common : (t : ℕ) → has carrying t ≡ (has leading t && has returning t)) where
-  pub both_carry : (t : ℕ) → has carrying t ≡ (ltb t board.symmetries && carries board p p.other t)
-  both_carry t =
-      common t
-      ∙ ap₂ (λ a b. a && b) (leads t) (returns t)
-      ∙ both_and (ltb t board.symmetries) (is_leading board p.other t) (eqb (symmetry_of board (image_of (board.image t) p.own)) (inverse_of t))
-
-module _ (board : Shape) (p : Sides) (carrying : ℕ) (carry : (t : ℕ) → has carrying t ≡ (ltb t board.symmetries && carries board p p.other t)) where
-  pub carrying_members : board.symmetries ≤ 32 → members carrying ≡ filter (carries board p p.other) (range_with_len 0 board.symmetries)
-  carrying_members most = members-listed (carries board p p.other) carrying board.symmetries most carry
-
-  pub one_carries : (t : ℕ) → has carrying t ≡ true → (t < board.symmetries) × (carries board p p.other t ≡ true)
-  one_carries t inside =
-      let both = and_parts (ltb t board.symmetries) (carries board p p.other t) (sym (carry t) ∙ inside) in
-      (ltb-true t board.symmetries both.0, both.1)
 
 module _ (board : Shape) (n : ℕ) (few : n ≤ 24) (points : board.points ≡ n) (y : HasSymmetries board) (c : Counts) (pair : IsPair n c) where
   low : board.points ≤ 24
@@ -117,32 +96,11 @@ module _ (board : Shape) (n : ℕ) (few : n ≤ 24) (points : board.points ≡ n
         count_of-image board.points low _ _ (one s s_in) p.own h.stones.own_within,
       ) (turned_of c p of)
 
-      pub faced_own : faced.own ≡ representative_of board p.other
-      faced_own = carried_own board n few points y (turned p) turned_placed s s_in parts.0
+      pub faced_carried : IsCarried board n (turned p) s
+      faced_carried = is_carried board n few points y (turned p) turned_placed own_most s s_in parts.0
 
       faced_least : representative_of board faced.own ≡ faced.own
-      faced_least = ap (representative_of board) faced_own ∙ representative_twice board low y p.other h.stones.other_within ∙ sym faced_own
-
-      -- the numbers of the first entry and of the rank after it
-      abbrev pub faced_rank : ℕ
-      faced_rank = rank_of (map (number_outside faced.own) (members faced.other))
-
-      rank_same : faced_rank ≡ rank_of (map (number_outside (representative_of board p.other)) (members faced.other))
-      rank_same = ap (λ o. rank_of (map (number_outside o) (members faced.other))) faced_own
-
-      pub faced_entry : class_start_of board n c p.other (count_of p.own) + faced_rank ≡ class_index_of board n c faced
-      faced_entry =
-          ap (λ r. class_start_of board n c p.other (count_of p.own) + r) rank_same
-          ∙ carried_entry board n few points y (turned p) turned_placed s s_in parts.0 c
-
-      pub faced_few : faced_rank ≤ 1307504
-      faced_few = omega (arith, rank_same, carried_few board n few points y (turned p) turned_placed s s_in parts.0 own_most)
-
-      pub faced_24 : faced.other < 2 ^ 24
-      faced_24 = within_24 _ n (carried_placed board n few points y (turned p) turned_placed s s_in parts.0).other_within few
-
-      pub faced_apart : (q : ℕ) → has faced.other q ≡ true → has faced.own q ≡ false
-      faced_apart = other_apart n (omega arith) _ (carried_placed board n few points y (turned p) turned_placed s s_in parts.0)
+      faced_least = ap (representative_of board) faced_carried.own ∙ representative_twice board low y p.other h.stones.other_within ∙ sym faced_carried.own
 
       pub is_faced : (entry : ℕ) → entry ≡ class_index_of board n c faced → IsFaced board n (in_pair c faced) entry
       is_faced entry e = record {

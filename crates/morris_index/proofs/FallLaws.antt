@@ -18,8 +18,7 @@ use Rattle.morris_index.specs.Pairs.{Counts, is_of}
 use Rattle.morris_index.specs.Falls.{HasEntry, taken_from, is_led_by, falls_from}
 use Rattle.morris_index.proofs.ClassLaws.{symmetry_within}
 use Rattle.morris_index.specs.ClassMoves.{class_start_of}
-use Rattle.morris_index.proofs.ClassPairLaws.{led_own}
-use Rattle.morris_index.proofs.ClassMoveLaws.{entry-parts}
+use Rattle.morris_index.proofs.ClassPairLaws.{led_own, entry-parts}
 
 -- ---- the results of a function at those numbers of a range that pass a test
 

@@ -1,8 +1,9 @@
 -- The next set of as many points in the order of ranks.
 use Rattle.std.proofs.Common.{◌≡◌, ℕ, zero, suc, ◌+◌, ◌-◌, ◌^◌, ◌<◌, ◌≤◌, Bool, true, false, not, ◌&&◌, ◌||◌, ltb, eqb, List, [], ◌∷◌, ◌++◌, map, length, filter, get_or, refl, sym, ◌∙◌, ap, subst, inl, inr, ◌⊎◌, arith, zero-add}
-use Rattle.std.proofs.lemmas.Bool.{cases_Bool, cases_eq, cases_lt, both_ways, eq-eqb, ne_eqb, lt-ltb, le-ltb, eqb-true, ltb-true, and_parts}
+use Rattle.std.proofs.lemmas.Bool.{cases_Bool, cases_eq, cases_lt, both_ways, eq-eqb, ne_eqb, lt-ltb, le-ltb, eqb-true, ltb-true, and_parts, and_right}
 use Rattle.std.specs.List.{range_with_len, list_all}
 use Rattle.morris_board.specs.Sets.{has, members, count_of, with_point, set_where}
+use Rattle.morris_board.proofs.SetLaws.{point_lt, lt_from_points}
 use Rattle.morris_board.proofs.PointsLaws.{members_all, has-none, has-with, has-above, same_points, has-set_where, set_where-lt}
 use Rattle.morris_index.specs.Binomials.{choose}
 use Rattle.morris_board.specs.Positions.{Sides, sides}
@@ -12,7 +13,7 @@ use Rattle.morris_index.proofs.IndexLaws.{index-first, index-second}
 use Rattle.morris_index.proofs.ChooseLaws.{choose-none, choose-zero, choose-suc}
 use Rattle.morris_index.proofs.RankLaws.{passing, passing-yes, passing-no, passing-above, members-passing, count_below, count-none, count-yes, count-no, number-zero, number-outside, number-inside, rank_below, rank-yes, rank-no}
 use Rattle.morris_index.proofs.Moving.{rank-zero}
-use Rattle.morris_index.proofs.SetLaws.{count_of-below}
+use Rattle.morris_index.proofs.SetLaws.{or_false, count_of-below}
 
 -- no set has more points than there are
 pub choose-over : (n k : ℕ) → n < k → choose n k ≡ 0
@@ -69,18 +70,6 @@ module _ (outside : ℕ) (f g : ℕ → Bool) (a : ℕ) (same : (p : ℕ) → a 
 
 -- ---- from tests to sets
 
-pub lt_from : (s n : ℕ) → ((p : ℕ) → has s p ≡ true → p < n) → s < 2 ^ n
-lt_from s n below = subst (λ t. t < 2 ^ n) (sym (same_points s (set_where n (has s)) each)) (set_where-lt n (has s))
-  where
-    each : (p : ℕ) → has s p ≡ has (set_where n (has s)) p
-    each p = elim (cases_lt p n) [
-      | inl l ↦ sym (has-set_where n (has s) p ∙ ap (λ b. b && has s p) (lt-ltb p n l))
-      | inr g ↦ elim (cases_Bool (has s p)) [
-        | inl y ↦ absurd (omega (arith, below p y))
-        | inr y ↦ y ∙ sym (has-set_where n (has s) p ∙ ap (λ b. b && has s p) (le-ltb p n g))
-      ]
-    ]
-
 module _ (n outside : ℕ) (low : n ≤ 32) where
   pub rank_set : (s : ℕ) → s < 2 ^ n → rank_of (map (number_outside outside) (members s)) ≡ rank_below outside (has s) n
   unfolding rank_below
@@ -89,7 +78,7 @@ module _ (n outside : ℕ) (low : n ≤ 32) where
   pub ranked_from : (count rank s : ℕ) → ((p : ℕ) → has s p ≡ true → p < n) → ((p : ℕ) → has s p ≡ true → has outside p ≡ false)
       → count_below (has s) n ≡ count → rank_below outside (has s) n ≡ rank → IsRanked n outside count rank s
   ranked_from count rank s below apart counted ranked =
-      let within : s < 2 ^ n = lt_from s n below in
+      let within : s < 2 ^ n = lt_from_points s n below in
       record {
         within = within;
         apart = apart;
@@ -135,10 +124,6 @@ module _ (outside : ℕ) where
       | inl y ↦ inl y
       | inr y ↦ inr (eqb-true q k (sym (has-with set k q ∙ ap (λ b. b || eqb q k) y) ∙ h))
     ]
-
-    or_false : (b : Bool) → (b || false) ≡ b
-    or_false true = refl
-    or_false false = refl
 
     old : (p : ℕ) → p < k → has (with_point set k) p ≡ has set p
     old p h = has-with set k p ∙ (ap (λ b. has set p || b) (ne_eqb p k (omega arith)) ∙ or_false (has set p))
@@ -230,28 +215,18 @@ module _ (outside set : ℕ) where
         split false true c h = inr (inl refl)
         split false false c h = inr (inr h)
 
-        first : (a b : Bool) → (a && b) ≡ true → a ≡ true
-        first true b h = refl
-        first false b h = h
-
         new_parts : (p : ℕ) → has new p ≡ true → (has set p ≡ true) ⊎ ((p ≡ k) ⊎ (has least p ≡ true))
         new_parts p h = elim (split (has set p && not (ltb p k)) (eqb p k) (has least p) (sym (is p) ∙ h)) [
-          | inl y ↦ inl (first (has set p) (not (ltb p k)) y)
+          | inl y ↦ inl (and_parts (has set p) (not (ltb p k)) y).0
           | inr (inl y) ↦ inr (inl (eqb-true p k y))
           | inr (inr y) ↦ inr (inr y)
         ]
 
         set_below : (p : ℕ) → has set p ≡ true → p < n
-        set_below p y = elim (cases_lt p n) [
-          | inl h ↦ h
-          | inr g ↦ absurd (both_ways (has set p) (has-above set n p within g) y)
-        ]
+        set_below p y = point_lt set n p within y
 
         least_below : (p : ℕ) → has least p ≡ true → p < k
-        least_below p y = elim (cases_lt p k) [
-          | inl h ↦ h
-          | inr g ↦ absurd (both_ways (has least p) (has-above least k p l.within g) y)
-        ]
+        least_below p y = point_lt least k p l.within y
 
         new_below : (p : ℕ) → has new p ≡ true → p < n
         new_below p h = elim (new_parts p h) [
@@ -267,10 +242,6 @@ module _ (outside set : ℕ) where
           | inr (inr y) ↦ l.apart p y
         ]
 
-        and_false : (b : Bool) → (b && false) ≡ false
-        and_false true = refl
-        and_false false = refl
-
         and_true : (b : Bool) → (b && true) ≡ b
         and_true true = refl
         and_true false = refl
@@ -284,7 +255,7 @@ module _ (outside set : ℕ) where
         or_none false = refl
 
         under : (p : ℕ) → p < k → has new p ≡ has least p
-        under p h = is p ∙ rw (lt-ltb p k h, ne_eqb p k (omega arith), and_false (has set p)) refl
+        under p h = is p ∙ rw (lt-ltb p k h, ne_eqb p k (omega arith), and_right (has set p) false refl) refl
 
         here : has new k ≡ true
         here = is k ∙ rw (eq-eqb k k refl) (or_true (has set k && not (ltb k k)) (has least k))

@@ -48,6 +48,13 @@ module _ (n count : ℕ) (low : n ≤ 24) where
 
 -- ---- one set more
 
+-- the representative of the class with this number
+pub record IsFound (board : Shape) (n count class found : ℕ) : Type 0 where
+  pub own : representative_of board found ≡ found
+  pub counted : count_of found ≡ count
+  pub within : found < 2 ^ n
+  pub class_is : class_of board found ≡ class
+
 module _ (board : Shape) (n count : ℕ) (low : n ≤ 24) (points : board.points ≡ n) (y : HasSymmetries board) where
   few : board.points ≤ 24
   few = omega arith
@@ -222,18 +229,11 @@ module _ (board : Shape) (n count : ℕ) (low : n ≤ 24) (points : board.points
       is_listed : (is_representative board count found ≡ true) × (found < 2 ^ n) × (classes_below board count found ≡ class)
       is_listed = all.kept.listed class (omega (arith, class_count-is))
 
-      pub found_own : representative_of board found ≡ found
-      found_own = (test_parts board count found is_listed.0).0
-
-      pub found_count : count_of found ≡ count
-      found_count = (test_parts board count found is_listed.0).1
-
-      pub found_within : found < 2 ^ n
-      found_within = is_listed.1
-
-      pub found_class : class_of board found ≡ class
+      pub found_is : IsFound board n count class found
       unfolding class_of
-      found_class = rw (found_own, found_count) is_listed.2
+      found_is =
+          let parts = test_parts board count found is_listed.0 in
+          record { own = parts.0; counted = parts.1; within = is_listed.1; class_is = rw (parts.0, parts.1) is_listed.2 }
 
   -- ---- what is kept of one set
 

@@ -1,22 +1,21 @@
 -- The index of a position that differs from a given one by a moved stone.
 use Rattle.std.proofs.Common.{◌≡◌, ℕ, ◌+◌, ◌-◌, ◌*◌, ◌^◌, ◌<◌, ◌≤◌, Bool, true, false, not, ◌&&◌, ◌||◌, eqb, ltb, map, refl, sym, ◌∙◌, ap, ap₂, inl, inr, ◌⊎◌, arith}
-use Rattle.std.proofs.lemmas.Bool.{cases_Bool, cases_eq, cases_lt, both_ways, eq-eqb, ne_eqb, ltb-true, ltb-false}
+use Rattle.std.proofs.lemmas.Bool.{cases_Bool, cases_eq, cases_lt, both_ways, eq-eqb, ne_eqb, ltb-true, ltb-false, and_right}
 use Rattle.morris_board.specs.Boards.{Shape}
 use Rattle.morris_board.specs.Sets.{has, members, count_of, with_point, without_point}
 use Rattle.morris_board.specs.Positions.{Sides, sides, IsPosition}
+use Rattle.morris_board.proofs.SetLaws.{point_lt, with_point-lt, without_point-lt}
 use Rattle.morris_board.proofs.PointsLaws.{has-without, has-above, count_of-with, count_of-without}
 use Rattle.morris_index.specs.Binomials.{choose}
 use Rattle.morris_index.specs.Numbering.{rank_of, number_outside, half_index}
 use Rattle.morris_index.specs.Pairs.{Counts, IsPair, IsHalf, index_of}
-use Rattle.morris_index.specs.Sums.{IsMoved, IsRenumbered, moved_end, renumbered_end}
+use Rattle.morris_index.specs.Sums.{AreKept, moved_end, renumbered_end}
 use Rattle.morris_index.specs.Moves.{taken_back, moved_on, start_of, end_taken_back}
-use Rattle.morris_index.specs.declared.sums.MovedSums.{MovedSums}
-use Rattle.morris_index.specs.declared.sums.RenumberedSums.{RenumberedSums}
+use Rattle.morris_index.specs.declared.sums.KeptSums.{KeptSums}
 use Rattle.std.proofs.Math.Nat.{add-mul, pow-le-pow_right}
 use Rattle.morris_index.proofs.ChooseLaws.{choose-le}
-use Rattle.morris_index.proofs.SetLaws.{with_point-lt}
 use Rattle.morris_index.proofs.IndexLaws.{IsPlaced, placed, both_le, within_24, counts_fit, half_size-few, index-first, index-second, map_number-none, half_index-few}
-use Rattle.morris_index.proofs.SumLaws.{without_point-lt, rest, differ, rank_is, rank_is', rank_down, rank_up, renumbered_down, renumbered_up}
+use Rattle.morris_index.proofs.SumLaws.{rest, differ, rank_is, rank_down, rank_up, renumbered_down, renumbered_up}
 
 -- ---- a vacant point
 
@@ -31,27 +30,17 @@ vacant_other false false h = refl
 
 -- ---- a stone of a set that has gone from v to u
 
-pub point-lt : (s n p : ℕ) → s < 2 ^ n → has s p ≡ true → p < n
-point-lt s n p within y = elim (cases_lt p n) [
-  | inl l ↦ l
-  | inr g ↦ absurd (both_ways (has s p) (has-above s n p within g) y)
-]
-
 module _ (s u v n : ℕ) (within : s < 2 ^ n) (low : n ≤ 32) (free : has s u ≡ false) (here : has s v ≡ true) (u_in : u < n) where
   abbrev moved : ℕ
   moved = with_point (without_point s v) u
 
   pub moved-lt : moved < 2 ^ n
-  moved-lt = with_point-lt (without_point s v) u n (without_point-lt s n v within) u_in
+  moved-lt = with_point-lt (without_point s v) n u (without_point-lt s n v within) u_in
 
   pub count_of-moved : count_of moved ≡ count_of s
   count_of-moved =
-      let none : has (without_point s v) u ≡ false = has-without s v u ∙ rw free (and_false (not (eqb u v))) in
-      count_of-with (without_point s v) u (omega arith) none ∙ sym (count_of-without s v (omega (arith, point-lt s n v within here)) here)
-    where
-      and_false : (b : Bool) → (b && false) ≡ false
-      and_false true = refl
-      and_false false = refl
+      let none : has (without_point s v) u ≡ false = has-without s v u ∙ rw free (and_right (not (eqb u v)) false refl) in
+      count_of-with (without_point s v) u (omega arith) none ∙ sym (count_of-without s v (omega (arith, point_lt s n v within here)) here)
 
   -- the point is one of the others, or the one that it went to
   pub moved-cases : (p : ℕ) → has moved p ≡ true → (p ≡ u) ⊎ (has s p ≡ true)
@@ -76,10 +65,10 @@ module _ (b : Shape) (n : ℕ) (points : b.points ≡ n) (low : n ≤ 24) (s : S
   other_fits = omega (arith, counts_fit n (omega arith) s (placed b n s points lawful))
 
   pub own_lt : (p : ℕ) → has s.own p ≡ true → p < n
-  own_lt p y = point-lt s.own n p (placed b n s points lawful).own_within y
+  own_lt p y = point_lt s.own n p (placed b n s points lawful).own_within y
 
   pub other_lt : (p : ℕ) → has s.other p ≡ true → p < n
-  other_lt p y = point-lt s.other n p (placed b n s points lawful).other_within y
+  other_lt p y = point_lt s.other n p (placed b n s points lawful).other_within y
 
 -- ---- the index by its three parts
 
@@ -152,11 +141,11 @@ module _ (n : ℕ) (low : n ≤ 24) (s : Sides) (placed : IsPlaced n s) (own_few
     ];
   }
 
-  pub turned_rank : (mover : MovedSums) → IsMoved 0 s.other mover → mover.rank ≡ rank_of (members s.other)
-  turned_rank mover moved = rank_is 0 s.other mover moved (within_24 s.other n placed.other_within low) ∙ ap rank_of (map_number-none (members s.other))
+  pub turned_rank : (mover : KeptSums) → AreKept 1 0 s.other mover → mover.rank ≡ rank_of (members s.other)
+  turned_rank mover moved = rank_is 1 0 s.other mover moved (within_24 s.other n placed.other_within low) ∙ ap rank_of (map_number-none (members s.other))
 
-  pub turned_within : (waiting : RenumberedSums) → IsRenumbered s.other s.own waiting → waiting.rank ≡ rank_of (map (number_outside s.other) (members s.own))
-  turned_within waiting renumbered = rank_is' s.other s.own waiting renumbered (within_24 s.own n placed.own_within low)
+  pub turned_within : (waiting : KeptSums) → AreKept 0 s.other s.own waiting → waiting.rank ≡ rank_of (map (number_outside s.other) (members s.own))
+  turned_within waiting renumbered = rank_is 0 s.other s.own waiting renumbered (within_24 s.own n placed.own_within low)
 
   pub turned_few : turned_sum < 1307504 * 1307504
   unfolding half_index
@@ -184,9 +173,9 @@ both_grow k r r' x x' w w' y y' e f = omega (arith, add-mul r' x' k, add-mul r x
 
 module _ (n : ℕ) (low : n ≤ 24) (c : Counts) (s : Sides) (placed : IsPlaced n s) (own_few : count_of s.own ≤ 9) (other_few : count_of s.other ≤ 9) (u v : ℕ)
     (u_in : u < n) (free_own : has s.own u ≡ false) (free_other : has s.other u ≡ false) (here : has s.other v ≡ true)
-    (mover : MovedSums) (moved : IsMoved 0 s.other mover) (waiting : RenumberedSums) (renumbered : IsRenumbered s.other s.own waiting) where
+    (mover : KeptSums) (moved : AreKept 1 0 s.other mover) (waiting : KeptSums) (renumbered : AreKept 0 s.other s.own waiting) where
   v_in : v < n
-  v_in = point-lt s.other n v placed.other_within here
+  v_in = point_lt s.other n v placed.other_within here
 
   -- the parts of an index that are found for a stone that is taken back to u
   grown : (x x' y y' : ℕ) → rank_of (map (number_outside 0) (members (taken_back s u v).own)) + x' ≡ mover.rank + x

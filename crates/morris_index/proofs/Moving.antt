@@ -140,49 +140,21 @@ module _ (f g : ℕ → Bool) (u v : ℕ) (free : f u ≡ false) (here : f v ≡
           total-suc (term g number 1) v,
         )
 
-  -- upwards: the stones between stand a place earlier
+-- upwards: the stones between stand a place earlier, as if that stone came back downwards
+module _ (f g : ℕ → Bool) (u v : ℕ) (free : f u ≡ false) (here : f v ≡ true) (there : g u ≡ true) (gone : g v ≡ false)
+    (rest : (p : ℕ) → p ≢ u → p ≢ v → g p ≡ f p) where
+  back : (p : ℕ) → p ≢ v → p ≢ u → f p ≡ g p
+  back p d e = sym (rest p e d)
+
   module _ (up : v < u) where
     pub count_low' : (n : ℕ) → n ≤ v → count_below g n ≡ count_below f n
-    count_low' n h = omega (
-      arith,
-      counted g n,
-      counted f n,
-      total-zero (one f),
-      total-zero (one g),
-      alike (one g) (one f) 0 n (omega arith) (λ p l k. one_rest p (omega arith) (omega arith)),
-    )
+    count_low' n h = sym (count_low g f v u gone there here free back up n h)
 
     pub count_between' : (n : ℕ) → v < n → n ≤ u → suc (count_below g n) ≡ count_below f n
-    count_between' n l h =
-        let gv : one g v ≡ 0 = rw gone refl in
-        let fv : one f v ≡ 1 = rw here refl in
-        omega (
-          arith,
-          counted g n,
-          counted f n,
-          counted g v,
-          counted f v,
-          count_low' v (omega arith),
-          total-suc (one f) v,
-          total-suc (one g) v,
-          alike (one g) (one f) (suc v) n (omega arith) (λ p a k. one_rest p (omega arith) (omega arith)),
-        )
+    count_between' n l h = sym (count_between g f v u gone there here free back up n l h)
 
     pub count_high' : (n : ℕ) → u < n → count_below g n ≡ count_below f n
-    count_high' n l =
-        let gu : one g u ≡ 1 = rw there refl in
-        let fu : one f u ≡ 0 = rw free refl in
-        omega (
-          arith,
-          counted g n,
-          counted f n,
-          counted g u,
-          counted f u,
-          count_between' u up (omega arith),
-          total-suc (one f) u,
-          total-suc (one g) u,
-          alike (one g) (one f) (suc u) n (omega arith) (λ p a k. one_rest p (omega arith) (omega arith)),
-        )
+    count_high' n l = sym (count_high g f v u gone there here free back up n l)
 
     pub moved_up : (number : ℕ → ℕ) (n : ℕ) → u < n
         → total (term g number 1) n + (total (term f number 0) (suc v) + total (term f number 1) u)

@@ -4,13 +4,8 @@ use Rattle.std.proofs.lemmas.Bool.{cases_eq, ne_eqb, and_parts, leb-true, le-leb
 use Rattle.std.specs.Result.{result_ok}
 use Rattle.morris_board.specs.Sets.{count_of}
 use Rattle.morris_board.specs.Positions.{Sides, is_between, is_sized}
+use Rattle.morris_board.proofs.PositionLaws.{from_between, own_count}
 use Rattle.morris_index.specs.Pairs.{Counts, IsPair, is_pair, pair_made, pair_of}
-
-pub between : (low n high : ℕ) → is_between low n high ≡ true → (low ≤ n) × (n ≤ high)
-between low n high h = let parts = and_parts (leb low n) (leb n high) h in (leb-true _ _ parts.0, leb-true _ _ parts.1)
-
-pub from_between : (low n high : ℕ) → low ≤ n → n ≤ high → is_between low n high ≡ true
-from_between low n high h k = rw (le-leb low n h, le-leb n high k) refl
 
 -- a position's numbers of stones make a pair, but for two own stones
 pub ok-pair_made : (n : ℕ) (s : Sides) → is_sized s ≡ true → count_of s.own + count_of s.other ≤ n
@@ -25,14 +20,7 @@ ok-pair_made n s sized fits = elim (cases_eq (count_of s.own) 2) [
     parts = and_parts (is_between 2 (count_of s.own) 9) (is_between 3 (count_of s.other) 9) sized
 
     own : (2 ≤ count_of s.own) × (count_of s.own ≤ 9)
-    own = between 2 (count_of s.own) 9 (parts.0)
-
--- how many stones the players of a position may have
-pub own_count : (s : Sides) → is_sized s ≡ true → (2 ≤ count_of s.own) × (count_of s.own ≤ 9)
-own_count s h = between 2 (count_of s.own) 9 ((and_parts (is_between 2 (count_of s.own) 9) (is_between 3 (count_of s.other) 9) h).0)
-
-pub other_count : (s : Sides) → is_sized s ≡ true → (3 ≤ count_of s.other) × (count_of s.other ≤ 9)
-other_count s h = between 3 (count_of s.other) 9 ((and_parts (is_between 2 (count_of s.own) 9) (is_between 3 (count_of s.other) 9) h).1)
+    own = own_count s sized
 
 -- the test of a pair
 pub pair_passes : (n : ℕ) (c : Counts) → IsPair n c → is_pair n c ≡ true

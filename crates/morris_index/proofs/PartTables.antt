@@ -4,7 +4,7 @@ use Rattle.std.specs.List.{range_with_len, list_all}
 use Rattle.std.proofs.lemmas.Bool.{cases_Bool, cases_lt, eqb-true, lt-ltb, le-leb, ltb-true, and_parts, both_ways}
 use Rattle.std.proofs.Math.Nat.{pow-le-pow_right}
 use Rattle.morris_board.specs.Sets.{has}
-use Rattle.morris_board.proofs.PointsLaws.{has-above}
+use Rattle.morris_board.proofs.SetLaws.{point_lt}
 use Rattle.morris_board.specs.SymmetryLaws.{below}
 use Rattle.morris_index.specs.Binomials.{choose}
 use Rattle.morris_index.specs.Numbering.{number_outside}
@@ -78,6 +78,10 @@ sum_by_looks part place s (suc i) low end few = elim (cases_Bool (has s i)) [
         ≡ total (term (has s) (at_part part) (place + 1)) (suc i)
     total-less n rest = rw (total-suc, n) (omega (arith, rest))
 
+chosen : (a b : Bool) → a ≡ true → (not a || b) ≡ true → b ≡ true
+chosen true b h e = e
+chosen false b h e = absurd (both_ways false refl h)
+
 pub ranked_at : (part place s : ℕ) → part < 4 → s < 64 → place + count_below (has s) 6 ≤ 9
     → get_or (get_or (get_or table.RANKS part []) place []) s 0 ≡ part_rank (6 * part) 6 place s
 unfolding part_rank
@@ -90,10 +94,6 @@ ranked_at part place s part_low s_low few =
         below (is_ranked part place) 64
         (below (λ k. list_all (is_ranked part k) (range_with_len 0 64)) 10
         (below (λ m. list_all (λ k. list_all (is_ranked m k) (range_with_len 0 64)) (range_with_len 0 10)) 4 ranks_right part part_low) place (omega (arith, few))) s s_low
-
-    chosen : (a b : Bool) → a ≡ true → (not a || b) ≡ true → b ≡ true
-    chosen true b h e = e
-    chosen false b h e = absurd (both_ways false refl h)
 
 -- ---- how large the numbers are
 
@@ -144,10 +144,6 @@ spread_at o x o_low x_low = record { squeezed = eqb-true _ _ parts.0; small = sm
     tested : is_spread o x ≡ true
     tested = below (is_spread o) 64 (below (λ k. list_all (is_spread k) (range_with_len 0 64)) 64 spread_right o o_low) x x_few
 
-    chosen : (a b : Bool) → a ≡ true → (not a || b) ≡ true → b ≡ true
-    chosen true b h e = e
-    chosen false b h e = absurd (both_ways false refl h)
-
     either : (a b : Bool) → (not a || not b) ≡ true → a ≡ true → b ≡ false
     either true true h e = absurd (both_ways false refl h)
     either true false h e = refl
@@ -164,7 +160,4 @@ spread_at o x o_low x_low = record { squeezed = eqb-true _ _ parts.0; small = sm
     small_ = ltb-true _ _ rest.0
 
     apart_ : (p : ℕ) → has (spread_to o x) p ≡ true → has o p ≡ false
-    apart_ p h = elim (cases_lt p 6) [
-      | inl l ↦ either (has (spread_to o x) p) (has o p) (below (is_apart o (spread_to o x)) 6 rest.1 p l) h
-      | inr g ↦ absurd (both_ways (has (spread_to o x) p) (has-above (spread_to o x) 6 p small_ g) h)
-    ]
+    apart_ p h = either (has (spread_to o x) p) (has o p) (below (is_apart o (spread_to o x)) 6 rest.1 p (point_lt (spread_to o x) 6 p small_ h)) h

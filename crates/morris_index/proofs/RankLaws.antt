@@ -162,3 +162,13 @@ module _ (outside : ℕ) where
       apart_top f g apart n a b counts ranks =
           let same : suc (count_below f n) ≡ count_below g n = omega (arith, count-yes f n a, count-no g n b) in
           omega (arith, rank-yes f n a, rank-no g n b, rank-lt g apart n, ap (choose (number_outside outside n)) same)
+
+-- the numbers that pass below a number are among those below a greater one
+pub count_more : (f : ℕ → Bool) (m k : ℕ) → count_below f m ≤ count_below f (k + m)
+count_more f m zero = let e : 0 + m ≡ m = zero-add m in rw e (omega arith)
+count_more f m (suc k) =
+    let e : suc k + m ≡ suc (k + m) = omega arith in
+    rw e (elim (cases_Bool (f (k + m))) [
+      | inl y ↦ omega (arith, count_more f m k, count-yes f (k + m) y)
+      | inr y ↦ omega (arith, count_more f m k, count-no f (k + m) y)
+    ])

@@ -4,11 +4,14 @@ use Rattle.std.proofs.Common.{◌≡◌, ℕ, zero, suc, ◌+◌, ◌-◌, ◌^�
 use Rattle.std.specs.List.{range_with_len, list_all}
 use Rattle.std.proofs.lemmas.Bool.{cases_Bool, cases_eq, cases_lt, both_ways, eq-eqb, ne_eqb, lt-ltb, le-ltb, ltb-true, and_parts, and_right}
 use Rattle.std.proofs.lemmas.List.Folds.{list_all-append}
-use Rattle.std.proofs.Math.Pow.{pow-lt}
-use lib.Bits.{or_lt}
 use Rattle.morris_board.specs.Sets.{has, members, count_of, with_point, without_point}
-use Rattle.morris_board.proofs.PointsLaws.{has-above, has-with, has-without, same_points, members-first, all_members}
+use Rattle.morris_board.proofs.SetLaws.{point_lt}
+use Rattle.morris_board.proofs.PointsLaws.{has-with, has-without, same_points, members-first, all_members}
 use Rattle.morris_index.proofs.RankLaws.{passing, count_below, passing-yes, passing-no, passing-above, members-passing}
+
+pub or_false : (b : Bool) → (b || false) ≡ b
+or_false true = refl
+or_false false = refl
 
 -- ---- counting
 
@@ -50,22 +53,7 @@ pub count_below_members : (s p : ℕ) → p ≤ 32 → length (filter (λ k. ltb
 unfolding members count_below
 count_below_members s p low = ap length (passing_less (has s) p 32 low)
 
--- ---- a set of points below n
-
-pub with_point-lt : (s p n : ℕ) → s < 2 ^ n → p < n → with_point s p < 2 ^ n
-unfolding with_point
-with_point-lt s p n within low = or_lt n s (2 ^ p) within (pow-lt low)
-
-pub member_lt : (s n p : ℕ) (before after : List ℕ) → s < 2 ^ n → before ++ p ∷ after ≡ members s → p < n
-member_lt s n p before after within e =
-    ltb-true _ _ (and_parts (ltb p n) (list_all (λ k. ltb k n) after) (and_parts (list_all (λ k. ltb k n) before) (list_all (λ k. ltb k n) (p ∷ after))
-    (sym (list_all-append (λ k. ltb k n) before (p ∷ after)) ∙ ap (list_all (λ k. ltb k n)) e ∙ all_members s (λ k. ltb k n) below)).1).0
-  where
-    below : (k : ℕ) → has s k ≡ true → ltb k n ≡ true
-    below k h = elim (cases_lt k n) [
-      | inl l ↦ lt-ltb k n l
-      | inr g ↦ absurd (both_ways (has s k) (has-above s n k within g) h)
-    ]
+-- ---- a new point
 
 -- a new point below all others is the first
 pub members-with : (s p : ℕ) → p < 32 → ((k : ℕ) → has s k ≡ true → p < k) → members (with_point s p) ≡ p ∷ members s
@@ -89,7 +77,3 @@ members-with s p low above =
       | inl e ↦ rw e (has-without (with_point s p) p p ∙ rw (eq-eqb p p refl, not_below p (omega arith)) refl)
       | inr d ↦ has-without (with_point s p) p k ∙ rw (ne_eqb k p d, has-with s p k, ne_eqb k p d) (or_false (has s k))
     ]
-      where
-        or_false : (b : Bool) → (b || false) ≡ b
-        or_false true = refl
-        or_false false = refl

@@ -1,6 +1,6 @@
 -- The points of a set below a point, and the rest of its points.
 use Rattle.std.proofs.Common.{◌≡◌, ℕ, zero, suc, ◌≤◌, Bool, true, false, not, ◌&&◌, ltb, List, [], ◌∷◌, ◌++◌, refl, sym, ◌∙◌, ap, ap₂, inl, inr, arith, append_assoc}
-use Rattle.std.proofs.lemmas.Bool.{cases_Bool, cases_lt, lt-ltb, le-ltb}
+use Rattle.std.proofs.lemmas.Bool.{cases_Bool, cases_lt, lt-ltb, le-ltb, and_right}
 use Rattle.std.proofs.lemmas.List.{append-nil}
 use Rattle.morris_board.specs.Sets.{has, members}
 use Rattle.morris_index.proofs.RankLaws.{passing, passing-yes, passing-no}
@@ -9,11 +9,7 @@ module _ (f below rest : ℕ → Bool) (k : ℕ) (is_below : (p : ℕ) → below
   none_below : (n : ℕ) → n ≤ k → passing rest n ≡ []
   none_below zero low = refl
   none_below (suc n) low =
-      passing-no rest n (is_rest n ∙ (ap (λ b. f n && not b) (lt-ltb n k (omega arith)) ∙ and_false (f n))) ∙ none_below n (omega arith)
-    where
-      and_false : (b : Bool) → (b && false) ≡ false
-      and_false true = refl
-      and_false false = refl
+      passing-no rest n (is_rest n ∙ (ap (λ b. f n && not b) (lt-ltb n k (omega arith)) ∙ and_right (f n) false refl)) ∙ none_below n (omega arith)
 
   passing-split : (n : ℕ) → passing below n ++ passing rest n ≡ passing f n
   passing-split zero = refl

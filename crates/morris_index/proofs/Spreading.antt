@@ -6,16 +6,17 @@ use Rattle.std.proofs.lemmas.Nat.Bits.{bit_at_cat_low, bit_at_cat_high}
 use Rattle.std.proofs.Math.Nat.{add-mul, mul_assoc, mul_comm, mod-lt, pow-le-pow_right}
 use Rattle.std.specs.Int.{bit_at}
 use Rattle.morris_board.specs.Sets.{has, members, count_of}
+use Rattle.morris_board.proofs.SetLaws.{point_lt, lt_from_points}
 use Rattle.morris_board.proofs.PointsLaws.{has-above, has-none}
 use Rattle.morris_index.specs.Numbering.{rank_of, number_outside, IsRanked}
 use Rattle.morris_index.specs.Sums.{total}
 use Rattle.morris_index.specs.Parts.{weight, squeezed_below}
+use Rattle.morris_index.proofs.ChooseLaws.{pow-pos}
 use Rattle.morris_index.proofs.RankLaws.{count_below, number-zero, number-outside, number-inside, number-count}
 use Rattle.morris_index.proofs.Moving.{total-zero, total-suc, alike}
 use Rattle.morris_index.proofs.SetLaws.{count_of-below}
-use Rattle.morris_index.proofs.Following.{lt_from}
 use Rattle.morris_index.proofs.PartTables.{IsSpread, spread_at}
-use Rattle.morris_index.proofs.Squeezing.{power_some, has-part, number-next, squeezed-part, mask-none, squeezed-is, squeezed-rank}
+use Rattle.morris_index.proofs.Squeezing.{has-part, number-next, squeezed-part, mask-none, squeezed-is, squeezed-rank}
 
 -- what stands so far: the points of the parts below, and the numbers that are left
 pub record IsSpreading (outside numbers part spread left : ℕ) : Type 0 where
@@ -73,10 +74,7 @@ module _ (outside numbers part spread left piece : ℕ) (s : IsSpreading outside
     | inr g ↦
         let at : n + (p - n) ≡ p = omega (arith, g) in
         let here : has piece (p - n) ≡ true = same_high (p - n) ∙ ap (has new) at ∙ h in
-        elim (cases_lt (p - n) 6) [
-          | inl l ↦ ap (has outside) (sym at) ∙ sym (has-part outside n 6 (p - n) l) ∙ is.apart (p - n) here
-          | inr far ↦ absurd (both_ways (has piece (p - n)) (has-above piece 6 (p - n) is.small far) here)
-        ]
+        ap (has outside) (sym at) ∙ sym (has-part outside n 6 (p - n) (point_lt piece 6 (p - n) is.small here)) ∙ is.apart (p - n) here
   ]
 
   lower : squeezed_below outside new n ≡ squeezed_below outside spread n
@@ -148,7 +146,7 @@ spread_on outside numbers part spread left s =
     let size : number_outside (outside / 2 ^ (6 * part) % 64) 6 ≡ 6 - count_below (has (outside / 2 ^ (6 * part) % 64)) 6 =
     omega (arith, number-count (outside / 2 ^ (6 * part) % 64) 6) in
     let fits : left % 2 ^ (6 - count_below (has (outside / 2 ^ (6 * part) % 64)) 6) < 2 ^ number_outside (outside / 2 ^ (6 * part) % 64) 6 =
-    rw size (mod-lt left (power_some (6 - count_below (has (outside / 2 ^ (6 * part) % 64)) 6))) in
+    rw size (mod-lt left (pow-pos (6 - count_below (has (outside / 2 ^ (6 * part) % 64)) 6))) in
     spread_by outside numbers part spread left _ s
     (spread_at (outside / 2 ^ (6 * part) % 64) (left % 2 ^ (6 - count_below (has (outside / 2 ^ (6 * part) % 64)) 6)) (mod-lt (outside / 2 ^ (6 * part)) (lit< tt)) fits)
 
@@ -187,29 +185,27 @@ module _ (n outside count rank numbers set : ℕ) (few : n ≤ 24) (ranked : IsR
   unfolding squeezed_below
   all_below p h = elim (cases_lt p n) [
     | inl l ↦ l
-    | inr g ↦ elim (cases_lt p 24) [
-      | inr far ↦ absurd (both_ways (has set p) (has-above set 24 p within far) h)
-      | inl l ↦
-          let here : weight outside set p ≡ 2 ^ number_outside outside p = rw (h, apart p h) refl in
-          let up : (p - n) + n ≡ p = omega (arith, g) in
-          let rest : (24 - suc p) + suc p ≡ 24 = omega arith in
-          let numbered : number_outside outside n ≤ number_outside outside p = omega (arith, number-le outside n (p - n), ap (number_outside outside) up) in
-          absurd (omega (
-            arith,
-            ranked.within,
-            is,
-            here,
-            total-suc (weight outside set) p,
-            total-le (weight outside set) (suc p) (24 - suc p),
-            ap (total (weight outside set)) rest,
-            pow-le-pow_right {n = 2} (omega arith) {i = number_outside outside n} {j = number_outside outside p} numbered,
-          ))
-    ]
+    | inr g ↦
+        let l : p < 24 = point_lt set 24 p within h in
+        let here : weight outside set p ≡ 2 ^ number_outside outside p = rw (h, apart p h) refl in
+        let up : (p - n) + n ≡ p = omega (arith, g) in
+        let rest : (24 - suc p) + suc p ≡ 24 = omega arith in
+        let numbered : number_outside outside n ≤ number_outside outside p = omega (arith, number-le outside n (p - n), ap (number_outside outside) up) in
+        absurd (omega (
+          arith,
+          ranked.within,
+          is,
+          here,
+          total-suc (weight outside set) p,
+          total-le (weight outside set) (suc p) (24 - suc p),
+          ap (total (weight outside set)) rest,
+          pow-le-pow_right {n = 2} (omega arith) {i = number_outside outside n} {j = number_outside outside p} numbered,
+        ))
   ]
 
   pub spread-ranked : IsRanked n outside count rank set
   spread-ranked = record {
-    within = lt_from set n all_below;
+    within = lt_from_points set n all_below;
     apart = apart;
     counted =
         omega (

@@ -12,15 +12,12 @@ use Rattle.morris_index.specs.Binomials.{choose}
 use Rattle.morris_index.specs.Numbering.{rank_of, number_outside}
 use Rattle.morris_index.specs.Sums.{total, term}
 use Rattle.morris_index.specs.Parts.{weight, squeezed_below, part_rank}
-use Rattle.morris_index.proofs.RankLaws.{count_below, count-none, count-yes, count-no, number-zero, number-outside, number-inside, number-count, rank_below, rank-yes, rank-no}
+use Rattle.morris_index.proofs.ChooseLaws.{pow-pos}
+use Rattle.morris_index.proofs.RankLaws.{count_below, count-none, count-yes, count-no, number-zero, number-outside, number-inside, number-count, rank_below, rank-yes, rank-no, count_more}
 use Rattle.morris_index.proofs.Moving.{total-zero, total-suc, rank-zero}
 use Rattle.morris_index.proofs.SetLaws.{count_of-below}
 use Rattle.morris_index.proofs.IndexLaws.{number_outside-none}
 use Rattle.morris_index.proofs.Following.{count-same, rank-same_below, rank_set}
-
-pub power_some : (k : ℕ) → 0 < 2 ^ k
-power_some zero = lit< tt
-power_some (suc k) = omega (arith, power_some k, pow-suc 2 k)
 
 -- ---- the points of a part
 
@@ -30,7 +27,7 @@ unfolding has
 has-from m n i =
     let back : (n + i) - n ≡ i = omega arith in
     ap (λ k. eqb k 1) (sym (ap (λ k. bit_at k (n + i)) (sym (div-add-mod' m (2 ^ n)))
-    ∙ bit_at_cat_high (m / 2 ^ n) n (m % 2 ^ n) (n + i) (mod-lt m (power_some n)) (omega arith)
+    ∙ bit_at_cat_high (m / 2 ^ n) n (m % 2 ^ n) (n + i) (mod-lt m (pow-pos n)) (omega arith)
     ∙ ap (bit_at (m / 2 ^ n)) back))
 
 -- the lowest bits
@@ -283,15 +280,6 @@ few_so_far set part within few low =
       count_of-below set 24 within (omega arith),
       few,
     )
-  where
-    count_more : (f : ℕ → Bool) (m k : ℕ) → count_below f m ≤ count_below f (k + m)
-    count_more f m zero = let e : 0 + m ≡ m = zero-add m in rw e (omega arith)
-    count_more f m (suc k) =
-        let e : suc k + m ≡ suc (k + m) = omega arith in
-        rw e (elim (cases_Bool (f (k + m))) [
-          | inl y ↦ omega (arith, count_more f m k, count-yes f (k + m) y)
-          | inr y ↦ omega (arith, count_more f m k, count-no f (k + m) y)
-        ])
 
 -- a part of the squeezed set, moved to the numbers that come next, fits a mask
 pub record IsMovedUp (outside set part : ℕ) : Type 0 where

@@ -3,25 +3,24 @@ use Rattle.std.proofs.Common.{◌≡◌, ℕ, ◌+◌, ◌-◌, ◌*◌, ◌^◌
 use Rattle.std.proofs.Math.Nat.{mul-le-mul_left}
 use Rattle.std.proofs.lemmas.Bool.Decides.{nat_tests}
 use Rattle.morris_board.specs.Boards.{Shape}
-use Rattle.morris_board.specs.Sets.{has, members, count_of}
+use Rattle.morris_board.specs.Sets.{members, count_of}
 use Rattle.morris_board.specs.Positions.{Sides, sides, IsPosition}
-use Rattle.morris_board.specs.Symmetries.{image_of, HasSymmetries}
+use Rattle.morris_board.specs.Symmetries.{HasSymmetries}
 use Rattle.morris_index.specs.Binomials.{choose}
 use Rattle.morris_index.specs.Numbering.{rank_of, number_outside, half_index}
-use Rattle.morris_index.specs.Classes.{representative_of}
-use Rattle.morris_index.specs.ClassPairs.{led, class_size_of, class_index_of}
+use Rattle.morris_index.specs.ClassPairs.{class_size_of, class_index_of}
 use Rattle.morris_index.specs.Moves.{start_of}
 use Rattle.morris_index.specs.Pairs.{Counts, IsPair, size_of, index_of}
 use Rattle.morris_index.specs.Standings.{are_of, IsStanding, IsLedStanding}
 use Rattle.morris_index.specs.declared.standing.Standing.{Standing}
 use Rattle.morris_index.proofs.BinomialTable.{choose_small}
-use Rattle.morris_index.proofs.ClassLaws.{symmetry_within}
-use Rattle.morris_index.proofs.ClassMoveLaws.{entry-parts}
-use Rattle.morris_index.proofs.ClassPairLaws.{led_position, led_rank-lt, index-lt}
+use Rattle.morris_index.proofs.ClassLaws.{symmetry_leads, symmetry_within}
+use Rattle.morris_index.proofs.ClassPairLaws.{index-lt}
+use Rattle.morris_index.proofs.CarriedLaws.{IsCarried, is_carried, carried_rank}
+use Rattle.morris_index.proofs.ClassMoveLaws.{led_entry}
 use Rattle.morris_index.proofs.MoveLaws.{start-few, index-parts, regrouped}
-use Rattle.morris_index.proofs.PairLaws.{own_count, other_count}
-use Rattle.morris_index.proofs.IndexLaws.{placed, within_24, other_apart, number_outside-none, rank_outside-lt, half_index-few}
-use Rattle.morris_index.proofs.IndexLaws.{index-lt as position-lt}
+use Rattle.morris_board.proofs.PositionLaws.{own_count, other_count}
+use Rattle.morris_index.proofs.IndexLaws.{placed, number_outside-none, rank_outside-lt, half_index-few, index-lt as position-lt}
 use Rattle.morris_board.proofs.PointsLaws.{has-none}
 
 -- ---- the indices of all positions
@@ -76,44 +75,14 @@ module _ (board : Shape) (n : ℕ) (few : n ≤ 24) (points : board.points ≡ n
   pub leading_within : standing.symmetry < board.symmetries
   leading_within = rw k.symmetry (symmetry_within board (omega arith) y standing.own h.stones.own_within)
 
-  abbrev image : ℕ
-  image = image_of (board.image standing.symmetry) other
-
-  -- the position is led to the one with these images
-  led_is : led board led_from ≡ sides standing.place image
-  unfolding led representative_of
-  led_is = ap₂ sides (sym k.place) (ap (λ t. image_of (board.image t) other) (sym k.symmetry))
-
-  led_lawful : IsPosition board (sides standing.place image)
-  led_lawful = rw led_is at (led_position board n few points y led_from h)
-
-  pub image_24 : image < 2 ^ 24
-  image_24 = within_24 image n (placed board n (sides standing.place image) points led_lawful).other_within few
-
-  pub image_few : count_of image ≤ 9
-  image_few = (other_count (sides standing.place image) led_lawful.sized).1
-
-  pub image_apart : (p : ℕ) → has image p ≡ true → has standing.place p ≡ false
-  image_apart = other_apart n (omega arith) (sides standing.place image) (placed board n (sides standing.place image) points led_lawful)
+  pub led_there : IsCarried board n led_from standing.symmetry
+  led_there =
+      is_carried board n few points y led_from (placed board n led_from points h) (other_count led_from h.sized).1 standing.symmetry leading_within
+      (rw k.symmetry (symmetry_leads board standing.own y.some))
 
   -- what the code adds up
-  abbrev image_rank : ℕ
-  image_rank = rank_of (map (number_outside standing.place) (members image))
+  pub entry-is : standing.start + carried_rank board led_from standing.symmetry ≡ class_index_of board n c led_from
+  entry-is = ap₂ (λ a b. a + b) k.start (ap (carried_rank board led_from) k.symmetry) ∙ led_entry board n few points y c led_from
 
-  image_ranks : rank_of (map (number_outside (led board led_from).own) (members (led board led_from).other)) ≡ image_rank
-  image_ranks = ap (λ (t : Sides). rank_of (map (number_outside t.own) (members t.other))) led_is
-
-  pub entry-is : standing.start + image_rank ≡ class_index_of board n c led_from
-  entry-is = sym (entry-parts board n few points y c led_from ∙ ap₂ (λ a b. a + b) (sym k.start) image_ranks)
-
-  pub entry_below : standing.start + image_rank < class_size_of board n c
+  pub entry_below : standing.start + carried_rank board led_from standing.symmetry < class_size_of board n c
   entry_below = rw entry-is (index-lt board n few points y c led_from h k.counts)
-
-  pub entry_few : standing.start + image_rank < 2 ^ 60
-  entry_few = omega (
-    arith,
-    k.few,
-    image_ranks,
-    led_rank-lt board n few points y led_from h,
-    choose_small (n - count_of standing.own) (count_of other) (omega arith) (omega (arith, (other_count led_from h.sized).1)),
-  )

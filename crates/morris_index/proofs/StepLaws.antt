@@ -16,9 +16,8 @@ use Rattle.morris_index.specs.Moves.{taken_back, moved_on}
 use Rattle.morris_index.specs.Pairs.{Counts, IsPair, is_of}
 use Rattle.morris_index.specs.Carried.{Step, step, end_of, ComesDownTo, AddsEntries, carries, entries_before}
 use Rattle.morris_index.proofs.IndexLaws.{IsPlaced, placed, halves_of, is_of-first, is_of-second}
-use Rattle.morris_index.proofs.PairLaws.{from_between, own_count, other_count}
-use Rattle.morris_index.proofs.SetLaws.{with_point-lt}
-use Rattle.morris_index.proofs.SumLaws.{without_point-lt}
+use Rattle.morris_board.proofs.PositionLaws.{from_between, own_count, other_count}
+use Rattle.morris_board.proofs.SetLaws.{with_point-lt, without_point-lt}
 use Rattle.morris_index.proofs.MoveLaws.{vacant_own, vacant_other, own_lt, other_lt, before_count, before_placed}
 use Rattle.morris_index.proofs.ClassLaws.{all_range, image_twice, led_least, representative_twice, symmetry_first, symmetry_within}
 use Rattle.morris_index.proofs.FallLaws.{kept-from, kept-has, kept-once}
@@ -225,7 +224,7 @@ module _ (board : Shape) (n : ℕ) (few : n ≤ 24) (points : board.points ≡ n
 
       t_other : t.other < 2 ^ board.points
       t_other =
-          with_point-lt (without_point x.start.own x.from) x.to board.points
+          with_point-lt (without_point x.start.own x.from) board.points x.to
           (without_point-lt x.start.own board.points x.from k.lawful.stones.own_within) to_low
 
       g_in : g < board.symmetries

@@ -1,21 +1,22 @@
 -- The sums from which the rank of a set is found where a stone has moved.
-use Rattle.std.proofs.Common.{◌≡◌, ◌≢◌, ℕ, zero, suc, ◌+◌, ◌-◌, ◌*◌, ◌^◌, ◌<◌, ◌≤◌, Bool, true, false, not, ◌&&◌, ◌||◌, eqb, List, [], ◌∷◌, ◌++◌, length, map, slice_index, slice_set, refl, sym, ◌∙◌, ap, ap₂, inl, inr, ◌⊎◌, arith, zero-add, length-append, append_assoc}
-use Rattle.std.proofs.lemmas.Bool.{cases_Bool, cases_eq, cases_lt, both_ways, eq-eqb, ne_eqb}
+use Rattle.std.proofs.Common.{◌≡◌, ◌≢◌, ℕ, zero, suc, ◌+◌, ◌-◌, ◌*◌, ◌^◌, ◌<◌, ◌≤◌, Bool, true, false, not, ◌&&◌, ◌||◌, eqb, ltb, cond, List, [], ◌∷◌, ◌++◌, length, filter, map, slice_index, slice_set, refl, sym, ◌∙◌, ap, ap₂, inl, inr, ◌⊎◌, arith, zero-add, length-append, append_assoc}
+use Rattle.std.proofs.lemmas.Bool.{cases_Bool, cases_eq, cases_lt, both_ways, eq-eqb, ne_eqb, or_right}
 use Rattle.std.proofs.lemmas.List.{get_or-set_other, same_from_push}
 use Rattle.std.proofs.lemmas.Grind.{get_or-set_at}
 use Rattle.morris_board.specs.Sets.{has, members, count_of, with_point, without_point}
+use Rattle.morris_board.proofs.ImageTables.{member_lt}
+use Rattle.morris_board.proofs.SetLaws.{with_point-lt, without_point-lt}
 use Rattle.morris_board.proofs.PointsLaws.{has-with, has-without, has-above}
 use Rattle.morris_index.specs.Binomials.{choose}
 use Rattle.morris_index.specs.Numbering.{rank_of, number_outside}
-use Rattle.morris_index.specs.Sums.{total, term, sum_below, bias, IsMoved, IsRenumbered, moved_end, renumbered_end}
-use Rattle.morris_index.specs.declared.sums.MovedSums.{MovedSums}
-use Rattle.morris_index.specs.declared.sums.RenumberedSums.{RenumberedSums}
+use Rattle.morris_index.specs.Sums.{total, term, sum_below, bias, AreKept, moved_end, renumbered_end}
+use Rattle.morris_index.specs.declared.sums.KeptSums.{KeptSums}
 use Rattle.std.proofs.Math.Nat.{pow-le-pow_right}
 use Rattle.morris_index.proofs.ChooseLaws.{choose-le}
-use Rattle.morris_index.proofs.RankLaws.{passing, passing-yes, passing-no, members-passing, count_below, count-none, count-yes, count-no, number-count}
-use Rattle.morris_index.proofs.SetLaws.{with_point-lt, count_of-below, member_lt}
-use Rattle.morris_index.proofs.Following.{rank_set, lt_from}
-use Rattle.morris_index.proofs.Moving.{total-zero, total-suc, rank-total, moved_down, moved_up, renumbered, count_low, count_between, count_high, count_low', count_between', count_high'}
+use Rattle.morris_index.proofs.RankLaws.{passing, passing-yes, passing-no, members-passing, count_below, count-none, count-yes, count-no, number-count, count_more}
+use Rattle.morris_index.proofs.SetLaws.{or_false, count_of-below, count_below_members}
+use Rattle.morris_index.proofs.Following.{rank_set}
+use Rattle.morris_index.proofs.Moving.{total-zero, total-suc, alike, rank-total, moved_down, moved_up, renumbered, count_low, count_between, count_high, count_low', count_between', count_high'}
 
 -- ---- where a point of a set stands in it
 
@@ -46,15 +47,6 @@ pub point_at : (s n p : ℕ) (before after : List ℕ) → s < 2 ^ n → n ≤ 3
 point_at s n p before after within low e = passed_at (has s) n p before after (e ∙ members-passing s n within low)
 
 -- ---- what stands at the points below n depends on how many stones there are
-
-count_more : (f : ℕ → Bool) (m k : ℕ) → count_below f m ≤ count_below f (k + m)
-count_more f m zero = let e : 0 + m ≡ m = zero-add m in rw e (omega arith)
-count_more f m (suc k) =
-    let e : suc k + m ≡ suc (k + m) = omega arith in
-    rw e (elim (cases_Bool (f (k + m))) [
-      | inl y ↦ omega (arith, count_more f m k, count-yes f (k + m) y)
-      | inr y ↦ omega (arith, count_more f m k, count-no f (k + m) y)
-    ])
 
 module _ (f : ℕ → Bool) (number : ℕ → ℕ) (first : ℕ) where
   total-no : (n : ℕ) → f n ≡ false → total (term f number first) (suc n) ≡ total (term f number first) n
@@ -139,6 +131,51 @@ kept-start set plus minus kept first plus_is minus_is n low =
     let at : slice_index kept (count_below (has set) n) ≡ slice_index kept 0 = ap (slice_index kept) none in
     omega (arith, at, first, plus_is n none, minus_is n none)
 
+-- ---- what is kept, by way
+
+-- the same sum, where the numbers are told in other words
+same_sum : (set : ℕ) (f g : ℕ → ℕ) (first n : ℕ) → ((p : ℕ) → f p ≡ g p) → sum_below set f first n ≡ sum_below set g first n
+same_sum set f g first n same =
+    omega (
+      arith,
+      alike (term (has set) f first) (term (has set) g first) 0 n (omega arith)
+          (λ p from to. ap (λ m. cond (has set p) (choose m (count_below (has set) p + first)) 0) (same p)),
+      total-zero (term (has set) f first),
+      total-zero (term (has set) g first),
+    )
+
+-- a point of the set moves: the numbers stay, and the places change
+module _ (outside s : ℕ) (sums : KeptSums) (is : AreKept 1 outside s sums) where
+  moved_lower : (n : ℕ) → n ≤ 24
+      → slice_index sums.lower (count_below (has s) n) + sum_below s (number_outside outside) 2 n ≡ bias + sum_below s (number_outside outside) 1 n
+  moved_lower n low = omega (arith, is.lower n low, same_sum s (λ p. number_outside outside p - (1 - 1)) (number_outside outside) (1 + 1) n (λ p. omega arith))
+
+  moved_higher : (n : ℕ) → n ≤ 24
+      → slice_index sums.higher (count_below (has s) n) + sum_below s (number_outside outside) 1 n ≡ bias + sum_below s (number_outside outside) 0 n
+  moved_higher n low = omega (arith, is.higher n low, same_sum s (λ p. number_outside outside p + (1 - 1)) (number_outside outside) (1 - 1) n (λ p. omega arith))
+
+  pub lower_is : (n : ℕ) → n ≤ 24 → slice_index sums.lower (count_below (has s) n) + choose (number_outside outside n) (count_below (has s) n + 1) ≡ moved_end true outside s n
+  lower_is n low = omega (arith, moved_lower n low)
+
+  pub higher_is : (n : ℕ) → n ≤ 24 → slice_index sums.higher (count_below (has s) n) + choose (number_outside outside n) (count_below (has s) n) ≡ moved_end false outside s n
+  higher_is n low = omega (arith, moved_higher n low)
+
+-- a point moves outside which the set is numbered: the places stay
+module _ (outside s : ℕ) (sums : KeptSums) (is : AreKept 0 outside s sums) where
+  renumbered_lower : (n : ℕ) → n ≤ 24
+      → slice_index sums.lower (count_below (has s) n) + sum_below s (λ p. number_outside outside p - 1) 1 n ≡ bias + sum_below s (number_outside outside) 1 n
+  renumbered_lower n low = is.lower n low
+
+  renumbered_higher : (n : ℕ) → n ≤ 24
+      → slice_index sums.higher (count_below (has s) n) + sum_below s (number_outside outside) 1 n ≡ bias + sum_below s (λ p. number_outside outside p + 1) 1 n
+  renumbered_higher n low = is.higher n low
+
+  pub before_is : (n : ℕ) → n ≤ 24 → slice_index sums.lower (count_below (has s) n) ≡ renumbered_end true outside s n
+  before_is n low = omega (arith, renumbered_lower n low)
+
+  pub after_is : (n : ℕ) → n ≤ 24 → slice_index sums.higher (count_below (has s) n) ≡ renumbered_end false outside s n
+  after_is n low = omega (arith, renumbered_higher n low)
+
 -- ---- a set of which a stone has gone from v to u
 
 module _ (s u v : ℕ) (free : has s u ≡ false) (here : has s v ≡ true) where
@@ -148,16 +185,8 @@ module _ (s u v : ℕ) (free : has s u ≡ false) (here : has s v ≡ true) wher
   pub apart : v ≢ u
   apart = λ e. both_ways (has s u) free (ap (has s) (sym e) ∙ here)
 
-  or_true : (b : Bool) → (b || true) ≡ true
-  or_true true = refl
-  or_true false = refl
-
-  or_false : (b : Bool) → (b || false) ≡ b
-  or_false true = refl
-  or_false false = refl
-
   pub there : has after u ≡ true
-  there = has-with (without_point s v) u u ∙ (ap (λ b. has (without_point s v) u || b) (eq-eqb u u refl) ∙ or_true (has (without_point s v) u))
+  there = has-with (without_point s v) u u ∙ (ap (λ b. has (without_point s v) u || b) (eq-eqb u u refl) ∙ or_right (has (without_point s v) u) true refl)
 
   pub gone : has after v ≡ false
   gone = has-with (without_point s v) u v ∙ rw (has-without s v v, eq-eqb v v refl, ne_eqb v u apart) refl
@@ -165,37 +194,24 @@ module _ (s u v : ℕ) (free : has s u ≡ false) (here : has s v ≡ true) wher
   pub rest : (p : ℕ) → p ≢ u → p ≢ v → has after p ≡ has s p
   rest p d e = has-with (without_point s v) u p ∙ rw (has-without s v p, ne_eqb p u d, ne_eqb p v e) (or_false (has s p))
 
-pub without_point-lt : (s n p : ℕ) → s < 2 ^ n → without_point s p < 2 ^ n
-without_point-lt s n p within = lt_from (without_point s p) n (λ q y. below q (and_right (not (eqb q p)) (has s q) (sym (has-without s p q) ∙ y)))
-  where
-    and_right : (a b : Bool) → (a && b) ≡ true → b ≡ true
-    and_right true b y = y
-    and_right false b y = absurd (both_ways false refl y)
-
-    below : (q : ℕ) → has s q ≡ true → q < n
-    below q y = elim (cases_lt q n) [
-      | inl l ↦ l
-      | inr g ↦ absurd (both_ways (has s q) (has-above s n q within g) y)
-    ]
-
 -- the rank of the set after it
 module _ (outside s u v : ℕ) (within : s < 2 ^ 24) (free : has s u ≡ false) (here : has s v ≡ true) (u_in : u < 24) (v_in : v < 24) where
   abbrev number : ℕ → ℕ
   number = number_outside outside
 
   after_rank : rank_of (map number (members (after s u v free here))) ≡ total (term (has (after s u v free here)) number 1) 24
-  after_rank = rank_set 24 outside (omega arith) (after s u v free here) (with_point-lt (without_point s v) u 24 (without_point-lt s 24 v within) u_in)
+  after_rank = rank_set 24 outside (omega arith) (after s u v free here) (with_point-lt (without_point s v) 24 u (without_point-lt s 24 v within) u_in)
       ∙ rank-total outside (has (after s u v free here)) 24
 
-  module _ (sums : MovedSums) (is : IsMoved outside s sums) where
+  module _ (sums : KeptSums) (is : AreKept 1 outside s sums) where
     pub rank_down : u < v
         → rank_of (map number (members (after s u v free here))) + moved_end true outside s v ≡ sums.rank + moved_end true outside s u
     rank_down down = omega (
       arith,
       after_rank,
       is.rank,
-      is.later u (omega arith),
-      is.later v (omega arith),
+      moved_lower outside s sums is u (omega arith),
+      moved_lower outside s sums is v (omega arith),
       total-yes (has s) number 1 v here,
       moved_down (has s) (has (after s u v free here)) u v free here (there s u v free here) (gone s u v free here) (rest s u v free here) down number 24 v_in,
     )
@@ -208,8 +224,8 @@ module _ (outside s u v : ℕ) (within : s < 2 ^ 24) (free : has s u ≡ false) 
           arith,
           after_rank,
           is.rank,
-          is.earlier u (omega arith),
-          is.earlier v (omega arith),
+          moved_higher outside s sums is u (omega arith),
+          moved_higher outside s sums is v (omega arith),
           total-yes (has s) number 0 v here,
           ap (choose (number v)) e,
           moved_up (has s) (has (after s u v free here)) u v free here (there s u v free here) (gone s u v free here) (rest s u v free here) up number 24 u_in,
@@ -230,15 +246,15 @@ module _ (outside s u v : ℕ) (within : s < 2 ^ 24) (apart : (p : ℕ) → has 
   not_v : (p : ℕ) → has s p ≡ true → p ≢ v
   not_v p y = λ e. both_ways (has outside v) (ap (has outside) (sym e) ∙ apart p y) here
 
-  module _ (sums : RenumberedSums) (is : IsRenumbered outside s sums) where
+  module _ (sums : KeptSums) (is : AreKept 0 outside s sums) where
     pub renumbered_down : u < v
         → rank_of (map (number_outside new) (members s)) + renumbered_end true outside s v ≡ sums.rank + renumbered_end true outside s u
     renumbered_down down = omega (
       arith,
       new_rank,
       is.rank,
-      is.before u (omega arith),
-      is.before v (omega arith),
+      renumbered_lower outside s sums is u (omega arith),
+      renumbered_lower outside s sums is v (omega arith),
       renumbered (has s) (number_outside outside) (λ p. number_outside outside p - 1) (number_outside new) u v 24 (omega arith) (omega arith)
           (λ p y h. omega (
             arith,
@@ -267,8 +283,8 @@ module _ (outside s u v : ℕ) (within : s < 2 ^ 24) (apart : (p : ℕ) → has 
       arith,
       new_rank,
       is.rank,
-      is.after u (omega arith),
-      is.after v (omega arith),
+      renumbered_higher outside s sums is u (omega arith),
+      renumbered_higher outside s sums is v (omega arith),
       renumbered (has s) (number_outside outside) (λ p. number_outside outside p + 1) (number_outside new) v u 24 (omega arith) (omega arith)
           (λ p y h. omega (
             arith,
@@ -292,15 +308,14 @@ module _ (outside s u v : ℕ) (within : s < 2 ^ 24) (apart : (p : ℕ) → has 
 
 -- ---- the loops over the stones
 
--- a stone p of s, where `before` are the stones before it and `after` those after it
-pub record IsNext (s p : ℕ) (before after : List ℕ) : Type 0 where
+-- a stone p of s, where `before` are the stones before it
+pub record IsNext (s p : ℕ) (before : List ℕ) : Type 0 where
   pub low : p < 24
   pub few : length before + 1 ≤ 9
   pub here : has s p ≡ true
   pub at : count_below (has s) p ≡ length before
-  pub split : (before ++ p ∷ []) ++ after ≡ members s
 
-pub next_point : (s p : ℕ) (before after left : List ℕ) → s < 2 ^ 24 → count_of s ≤ 9 → before ++ left ≡ members s → left ≡ p ∷ after → IsNext s p before after
+pub next_point : (s p : ℕ) (before after left : List ℕ) → s < 2 ^ 24 → count_of s ≤ 9 → before ++ left ≡ members s → left ≡ p ∷ after → IsNext s p before
 unfolding count_of
 next_point s p before after left within few split step =
     let cut : before ++ p ∷ after ≡ members s = ap (λ t. before ++ t) (sym step) ∙ split in
@@ -310,7 +325,6 @@ next_point s p before after left within few split step =
       few = omega (arith, few, ap length cut, length-append before (p ∷ after));
       here = stands.0;
       at = stands.1;
-      split = append_assoc before (p ∷ []) after ∙ cut;
     }
 
 -- where no stone is left, all are passed
@@ -342,18 +356,17 @@ sum-few set number first n low near =
 number-near : (outside p : ℕ) → number_outside outside p ≤ p + 1
 number-near outside p = omega (arith, number-count outside p)
 
-module _ (outside s : ℕ) (sums : MovedSums) (is : IsMoved outside s sums) where
-  pub later_is : (n : ℕ) → n ≤ 24 → slice_index sums.later (count_below (has s) n) + choose (number_outside outside n) (count_below (has s) n + 1) ≡ moved_end true outside s n
-  later_is n low = omega (arith, is.later n low)
+pub rank-small : (outside s : ℕ) → s < 2 ^ 24 → rank_of (map (number_outside outside) (members s)) ≤ 1000000000
+rank-small outside s within =
+    omega (arith, rank_set 24 outside (omega arith) s within ∙ rank-total outside (has s) 24, sum-few s (number_outside outside) 1 24 (omega arith) (number-near outside))
 
-  pub earlier_is : (n : ℕ) → n ≤ 24 → slice_index sums.earlier (count_below (has s) n) + choose (number_outside outside n) (count_below (has s) n) ≡ moved_end false outside s n
-  earlier_is n low = omega (arith, is.earlier n low)
+module _ (moved outside s : ℕ) (sums : KeptSums) (is : AreKept moved outside s sums) where
+  pub lower-few : (n : ℕ) → n ≤ 24 → slice_index sums.lower (count_below (has s) n) ≤ 1100000000
+  lower-few n low = omega (arith, is.lower n low, sum-few s (number_outside outside) 1 n low (number-near outside))
 
-  pub later-few : (n : ℕ) → n ≤ 24 → slice_index sums.later (count_below (has s) n) ≤ 1100000000
-  later-few n low = omega (arith, is.later n low, sum-few s (number_outside outside) 1 n low (number-near outside))
-
-  pub earlier-few : (n : ℕ) → n ≤ 24 → slice_index sums.earlier (count_below (has s) n) ≤ 1100000000
-  earlier-few n low = omega (arith, is.earlier n low, sum-few s (number_outside outside) 0 n low (number-near outside))
+  pub higher-few : (n : ℕ) → n ≤ 24 → slice_index sums.higher (count_below (has s) n) ≤ 1100000000
+  higher-few n low =
+      omega (arith, is.higher n low, sum-few s (λ p. number_outside outside p + (1 - moved)) (1 - moved) n low (λ p. omega (arith, number-count outside p)))
 
   pub rank-few : sums.rank ≤ 1000000000
   rank-few = omega (arith, is.rank, sum-few s (number_outside outside) 1 24 (omega arith) (number-near outside))
@@ -361,27 +374,18 @@ module _ (outside s : ℕ) (sums : MovedSums) (is : IsMoved outside s sums) wher
   pub rank_is : s < 2 ^ 24 → sums.rank ≡ rank_of (map (number_outside outside) (members s))
   rank_is within = is.rank ∙ sym (rank_set 24 outside (omega arith) s within ∙ rank-total outside (has s) 24)
 
-module _ (outside s : ℕ) (sums : RenumberedSums) (is : IsRenumbered outside s sums) where
-  pub before_is : (n : ℕ) → n ≤ 24 → slice_index sums.before (count_below (has s) n) ≡ renumbered_end true outside s n
-  before_is n low = omega (arith, is.before n low)
-
-  pub after_is : (n : ℕ) → n ≤ 24 → slice_index sums.after (count_below (has s) n) ≡ renumbered_end false outside s n
-  after_is n low = omega (arith, is.after n low)
-
-  pub before-few : (n : ℕ) → n ≤ 24 → slice_index sums.before (count_below (has s) n) ≤ 1100000000
-  before-few n low = omega (arith, is.before n low, sum-few s (number_outside outside) 1 n low (number-near outside))
-
-  pub after-few : (n : ℕ) → n ≤ 24 → slice_index sums.after (count_below (has s) n) ≤ 1100000000
-  after-few n low = omega (arith, is.after n low, sum-few s (λ p. number_outside outside p + 1) 1 n low (λ p. omega (arith, number-count outside p)))
-
-  pub rank_is' : s < 2 ^ 24 → sums.rank ≡ rank_of (map (number_outside outside) (members s))
-  rank_is' within = is.rank ∙ sym (rank_set 24 outside (omega arith) s within ∙ rank-total outside (has s) 24)
-
 -- no more stones stand below a point than there are
-pub few_passed : (s p : ℕ) → s < 2 ^ 24 → count_of s ≤ 9 → p ≤ 24 → count_below (has s) p ≤ 9
+few_passed : (s p : ℕ) → s < 2 ^ 24 → count_of s ≤ 9 → p ≤ 24 → count_below (has s) p ≤ 9
 few_passed s p within few low =
     let e : (24 - p) + p ≡ 24 = omega arith in
     omega (arith, few, count_of-below s 24 within (omega arith), count_more (has s) p (24 - p), ap (count_below (has s)) e)
+
+-- how many points of a set stand below p, as the code counts them
+pub standing : (s p place : ℕ) → s < 2 ^ 24 → count_of s ≤ 9 → p < 24 → place ≡ length (filter (λ k. ltb k p) (members s))
+    → (place ≡ count_below (has s) p) × (place ≤ 9)
+standing s p place within few low is =
+    let same : place ≡ count_below (has s) p = is ∙ count_below_members s p (omega arith) in
+    (same, omega (arith, same, few_passed s p within few (omega arith)))
 
 -- a point of a set and one that isn't in it differ
 pub differ : (s u v : ℕ) → has s u ≡ false → has s v ≡ true → v ≤ u → v < u

@@ -7,7 +7,8 @@ use Rattle.morris_index.specs.Binomials.{choose}
 use Rattle.morris_index.specs.Numbering.{rank_from, rank_of, IsRanked}
 use Rattle.morris_index.proofs.ChooseLaws.{choose-none, choose-one, choose-suc, choose-le_more, pow-pos}
 use Rattle.morris_index.proofs.IndexLaws.{map_number-none}
-use Rattle.morris_index.proofs.SetLaws.{with_point-lt, members-with}
+use Rattle.morris_board.proofs.SetLaws.{with_point-lt}
+use Rattle.morris_index.proofs.SetLaws.{members-with}
 
 -- The points in `found` are the last of the set, `left` are still to come, of rank `rest`: fewer
 -- than there are sets of as many points below n, or below any of `found`.
@@ -75,7 +76,7 @@ module _ (n count rank : ℕ) where
 
     unranking-next : IsUnranking n count rank left (rest - choose p (suc left)) (with_point found p)
     unranking-next = record {
-      within = with_point-lt found p n s.within low;
+      within = with_point-lt found n p s.within low;
       counted = omega (arith, count_of-with found p (omega (arith, low)) not_yet, s.counted);
       ranked = rw members_now (omega (arith, s.ranked));
       small = next_below n (omega (arith, low));

@@ -7,9 +7,8 @@ use Rattle.morris_board.specs.Positions.{Sides, sides, IsPosition}
 use Rattle.morris_index.specs.Binomials.{choose}
 use Rattle.morris_index.specs.Numbering.{rank_of, half_size}
 use Rattle.morris_index.specs.Pairs.{Counts, IsPair, is_of, index_of}
-use Rattle.morris_index.specs.Sums.{IsMoved, IsRenumbered, moved_end, renumbered_end}
-use Rattle.morris_index.specs.declared.sums.MovedSums.{MovedSums}
-use Rattle.morris_index.specs.declared.sums.RenumberedSums.{RenumberedSums}
+use Rattle.morris_index.specs.Sums.{AreKept, moved_end, renumbered_end}
+use Rattle.morris_index.specs.declared.sums.KeptSums.{KeptSums}
 
 -- a position, and the pair that it is one of
 pub record InPair : Type 0 where
@@ -36,12 +35,12 @@ abbrev pub end_taken_back : Bool → ℕ → Sides → ℕ → ℕ
 end_taken_back lower n s p = moved_end lower 0 s.other p * choose (n - count_of s.other) (count_of s.own) + renumbered_end lower s.other s.own p
 
 -- what is kept of a position, on n points, for the indices of those before it
-pub record IsTakenBack (board : Shape) (n : ℕ) (q : InPair) (mover : MovedSums) (waiting : RenumberedSums) (index sets : ℕ) : Type 0 where
+pub record IsTakenBack (board : Shape) (n : ℕ) (q : InPair) (mover waiting : KeptSums) (index sets : ℕ) : Type 0 where
   pub counts : is_of q.pair q.position ≡ true
   pub lawful : IsPosition board q.position
   pub pair : IsPair n q.pair
-  pub moved : IsMoved 0 q.position.other mover
-  pub renumbered : IsRenumbered q.position.other q.position.own waiting
+  pub moved : AreKept 1 0 q.position.other mover
+  pub renumbered : AreKept 0 q.position.other q.position.own waiting
   pub turned : index ≡ index_of n q.pair (sides q.position.other q.position.own)
   pub choices : sets ≡ choose (n - count_of q.position.other) (count_of q.position.own)
 
@@ -50,10 +49,10 @@ abbrev pub moved_on : Sides → ℕ → ℕ → Sides
 moved_on s u v = sides s.other (with_point (without_point s.own u) v)
 
 -- what is kept of a position, on n points, for the indices of those after it
-pub record IsMovedOn (board : Shape) (n : ℕ) (q : InPair) (mover : MovedSums) (first : ℕ) : Type 0 where
+pub record IsMovedOn (board : Shape) (n : ℕ) (q : InPair) (mover : KeptSums) (first : ℕ) : Type 0 where
   pub counts : is_of q.pair q.position ≡ true
   pub lawful : IsPosition board q.position
   pub pair : IsPair n q.pair
-  pub moved : IsMoved q.position.other q.position.own mover
+  pub moved : AreKept 1 q.position.other q.position.own mover
   pub start : first ≡ start_of n q.pair (count_of q.position.other)
       + rank_of (members q.position.other) * choose (n - count_of q.position.other) (count_of q.position.own)

@@ -4,8 +4,7 @@ use Rattle.std.specs.Prelude.{◌≡◌, ℕ, zero, suc, ◌+◌, ◌-◌, ◌�
 use Rattle.morris_board.specs.Sets.{has}
 use Rattle.morris_index.specs.Binomials.{choose}
 use Rattle.morris_index.specs.Numbering.{number_outside, count_below}
-use Rattle.morris_index.specs.declared.sums.MovedSums.{MovedSums}
-use Rattle.morris_index.specs.declared.sums.RenumberedSums.{RenumberedSums}
+use Rattle.morris_index.specs.declared.sums.KeptSums.{KeptSums}
 
 -- what stands at the points below n, added up
 unfoldable pub total : (ℕ → ℕ) → ℕ → ℕ
@@ -26,30 +25,20 @@ sum_below set number first n = total (term (has set) number first) n
 abbrev pub bias : ℕ
 bias = 33554432
 
--- The kept sums of a set whose points are numbered outside another. What is kept for k points is
--- that of all n that have k points of the set below them.
-pub record IsMoved (outside set : ℕ) (sums : MovedSums) : Type 0 where
-  pub later_len : length sums.later ≡ 10
-  pub earlier_len : length sums.earlier ≡ 10
-  pub later : (n : ℕ) → n ≤ 24
-      → slice_index sums.later (count_below (has set) n) + sum_below set (number_outside outside) 2 n
+-- The kept sums of a set whose points are numbered outside another, for a point that moves: one of
+-- the set's own where `moved` is 1, one of the others where it is 0. The points between its ends stand
+-- a place later, or get the number before theirs, where it goes to a lesser point; and a place earlier,
+-- or the number after, where it goes to a greater one. What is kept for k points is that of all n that
+-- have k points of the set below them.
+pub record AreKept (moved outside set : ℕ) (sums : KeptSums) : Type 0 where
+  pub lower_len : length sums.lower ≡ 10
+  pub higher_len : length sums.higher ≡ 10
+  pub lower : (n : ℕ) → n ≤ 24
+      → slice_index sums.lower (count_below (has set) n) + sum_below set (λ p. number_outside outside p - (1 - moved)) (1 + moved) n
       ≡ bias + sum_below set (number_outside outside) 1 n
-  pub earlier : (n : ℕ) → n ≤ 24
-      → slice_index sums.earlier (count_below (has set) n) + sum_below set (number_outside outside) 1 n
-      ≡ bias + sum_below set (number_outside outside) 0 n
-  pub rank : sums.rank ≡ sum_below set (number_outside outside) 1 24
-
--- The same where not a point of the set moves but one of those outside which it is numbered: the
--- points between get the number before or after their own.
-pub record IsRenumbered (outside set : ℕ) (sums : RenumberedSums) : Type 0 where
-  pub before_len : length sums.before ≡ 10
-  pub after_len : length sums.after ≡ 10
-  pub before : (n : ℕ) → n ≤ 24
-      → slice_index sums.before (count_below (has set) n) + sum_below set (λ p. number_outside outside p - 1) 1 n
-      ≡ bias + sum_below set (number_outside outside) 1 n
-  pub after : (n : ℕ) → n ≤ 24
-      → slice_index sums.after (count_below (has set) n) + sum_below set (number_outside outside) 1 n
-      ≡ bias + sum_below set (λ p. number_outside outside p + 1) 1 n
+  pub higher : (n : ℕ) → n ≤ 24
+      → slice_index sums.higher (count_below (has set) n) + sum_below set (number_outside outside) 1 n
+      ≡ bias + sum_below set (λ p. number_outside outside p + (1 - moved)) (1 - moved) n
   pub rank : sums.rank ≡ sum_below set (number_outside outside) 1 24
 
 -- What a point p and the points of a set below it come to, where p is an end of the way of a point

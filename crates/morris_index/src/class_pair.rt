@@ -205,16 +205,17 @@ impl<B: Geometry> ClassPair<B> {
         Half::of(self.pair, own, other, classes, &self.ranks, first, choices)
     }
 
-    /// The rank of `set` among the sets of as many points, which are `count`, that have none in
-    /// common with `outside`.
-    pub(crate) fn rank_outside(&self, set: Points, count: u8, outside: Outside) -> u64
+    /// The entry that comes as many after `start` as the rank of `set` is among the sets of as many
+    /// points, which are `count`, that have none in common with `outside`.
+    pub(crate) fn entry_outside(&self, start: u64, set: Points, count: u8, outside: Outside) -> u64
+        requires start { start ≤ 2 ^ 54 }
         requires board { set < 2 ^ 24 }
         requires counted { count ≡ count_of set }
         requires few { count_of set ≤ 9 }
         requires apart { (p : ℕ) → has set p ≡ true → has outside p ≡ false }
-        ensures { result ≡ rank_of (map (number_outside outside) (members set)) }
+        ensures { result ≡ start + rank_of (map (number_outside outside) (members set)) }
     {
-        self.ranks.rank_outside(set, count, outside)
+        start + self.ranks.rank_outside(set, count, outside)
     }
 
     /// The images of `own`, and the symmetries whose inverse is the one that leads the image.

@@ -198,8 +198,7 @@ impl<'a, B: Geometry> Facing<'a, B> {
         let _ = position.own();
         let faced = from.image(symmetry);
         let other = faced.other();
-        let rank = self.pair.rank_outside(other, other.count(), representative);
-        let entry = start + rank;
+        let entry = self.pair.entry_outside(start, other, other.count(), representative);
         Faced {
             after: SuccessorEntries::led_by(
                 self.pair,

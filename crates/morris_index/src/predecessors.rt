@@ -6,7 +6,7 @@ ghost use Rattle.morris_index.specs.Moves.{in_pair, taken_back, end_taken_back};
 
 use crate::binomials::binomial;
 use crate::pair::Pair;
-use crate::sums::{MovedSums, RenumberedSums};
+use crate::sums::KeptSums;
 use morris_board::board::Geometry;
 use morris_board::points::Points;
 use morris_board::position::Position;
@@ -22,9 +22,9 @@ pub struct PredecessorIndices<B: Geometry> {
     /// The position.
     position: Position<B>,
     /// The sums of the stones of the opponent, of which one is taken back.
-    moved: MovedSums,
+    moved: KeptSums,
     /// The sums of the stones of the player to move, which stay.
-    renumbered: RenumberedSums,
+    renumbered: KeptSums,
     /// The index of the position with the same stones in which the opponent is to move.
     turned: u64,
     /// How many sets of as many stones as the player to move has here there are outside the stones
@@ -52,8 +52,8 @@ impl<B: Geometry> PredecessorIndices<B> {
     {
         let own = position.own();
         let other = position.other();
-        let moved = MovedSums::of(other, Points::EMPTY);
-        let renumbered = RenumberedSums::of(own, other);
+        let moved = KeptSums::of(other, Points::EMPTY, 1);
+        let renumbered = KeptSums::of(own, other, 0);
         let choices = binomial(B::POINTS - other.count(), own.count());
         PredecessorIndices {
             pair: *pair,
@@ -76,8 +76,8 @@ impl<B: Geometry> PredecessorIndices<B> {
     {
         let own = self.position.own();
         let other = self.position.other();
-        self.moved.end(Points::EMPTY, other, point, lower) * self.choices
-            + self.renumbered.end(other, own, point, lower)
+        self.moved.moved_end(Points::EMPTY, other, point, lower) * self.choices
+            + self.renumbered.renumbered_end(other, own, point, lower)
     }
 
     /// The index of the position before a quiet move from `from` to `to` led to the position: a

@@ -100,6 +100,6 @@ impl<B: Geometry> ClassPair<B> {
             second: standing.second,
             third: standing.third,
         };
-        standing.start + self.rank_outside(image, image.count(), place)
+        self.entry_outside(standing.start, image, image.count(), place)
     }
 }

@@ -7,7 +7,7 @@ ghost use Rattle.morris_index.specs.Moves.{in_pair, moved_on};
 use crate::binomials::binomial;
 use crate::pair::Pair;
 use crate::ranks::rank;
-use crate::sums::MovedSums;
+use crate::sums::KeptSums;
 use morris_board::board::Geometry;
 use morris_board::position::Position;
 use std::marker::Model;
@@ -21,7 +21,7 @@ pub struct SuccessorIndices<B: Geometry> {
     /// The position.
     position: Position<B>,
     /// The sums of the stones of the player to move, of which one moves.
-    moved: MovedSums,
+    moved: KeptSums,
     /// The index of the first position in which the player to move has the stones that the opponent
     /// has here.
     start: u64,
@@ -49,7 +49,7 @@ impl<B: Geometry> SuccessorIndices<B> {
         SuccessorIndices {
             pair: *pair,
             position: *position,
-            moved: MovedSums::of(own, other),
+            moved: KeptSums::of(own, other, 1),
             start: pair.start_of(other.count()) + rank(other) * choices,
         }
     }

@@ -19,7 +19,7 @@ use Rattle.morris_moves.proofs.ResultLaws.{IsPosition-result, count_of-mover, co
 use Rattle.morris_moves.proofs.OrderLaws.{moves_in_order}
 use Rattle.morris_index.specs.Pairs.{Counts, IsPair, is_of, size_of, index_of}
 use Rattle.morris_index.proofs.IndexLaws.{IsPlaced, halves_of, index-lt, index-same}
-use Rattle.morris_index.proofs.PairLaws.{from_between, other_count}
+use Rattle.morris_board.proofs.PositionLaws.{from_between, other_count}
 use Rattle.morris_index.proofs.ResultLaws.{is_of-quiet}
 use Rattle.morris_wave.specs.Nets.{times}
 use Rattle.morris_pairs.specs.declared.layout.Layout.TheVariants.{Full}

@@ -13,7 +13,7 @@ use Rattle.morris_moves.proofs.ListLaws.{any_contained, contained_any, Contains-
 use Rattle.morris_moves.proofs.LegalLaws.{reached, takable_is_other, listed_is_legal, legal_is_listed, listed_move}
 use Rattle.morris_moves.proofs.ResultLaws.{count_of-capture}
 use Rattle.morris_moves.proofs.SetLaws.{point_lt, lt_from_points, has-member, member-has}
-use Rattle.morris_index.proofs.PairLaws.{other_count}
+use Rattle.morris_board.proofs.PositionLaws.{other_count}
 use Rattle.morris_wave.specs.declared.network.Exits.{Exits}
 use Rattle.morris_wave.specs.Exits.{exits_of, no_exits, least, greatest, depths, is_odd, is_won_code}
 use Rattle.morris_pairs.specs.declared.rows.Row.{Row}

@@ -13,7 +13,7 @@ use Rattle.morris_moves.proofs.SetLaws.{point_lt}
 use Rattle.morris_index.specs.Pairs.{is_of, ordered}
 use Rattle.morris_index.specs.Standings.{are_of}
 use Rattle.morris_index.specs.declared.standing.Standing.{Standing}
-use Rattle.morris_index.proofs.SumLaws.{without_point-lt}
+use Rattle.morris_board.proofs.SetLaws.{without_point-lt}
 use Rattle.morris_pairs.specs.Captured.{IsStandingIn, captured_pair, IsLeft, IsClosing}
 use Rattle.morris_pairs.specs.Codes.{IsCodeOf}
 use Rattle.morris_pairs.specs.Entries.{entry_index}

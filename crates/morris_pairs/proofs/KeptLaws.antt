@@ -13,7 +13,7 @@ use Rattle.morris_moves.specs.Rules.{moved, move, takable, result_of}
 use Rattle.morris_moves.proofs.LegalLaws.{takable_is_other}
 use Rattle.morris_moves.proofs.ListLaws.{Contains-head, Contains-tail}
 use Rattle.morris_moves.proofs.SetLaws.{point_lt, has-member}
-use Rattle.morris_index.proofs.PairLaws.{other_count}
+use Rattle.morris_board.proofs.PositionLaws.{other_count}
 use Rattle.morris_wave.specs.declared.network.Exits.{Exits}
 use Rattle.morris_wave.specs.Exits.{exits_of}
 use Rattle.morris_pairs.specs.declared.rows.Row.{Row}

@@ -8,7 +8,8 @@ use Rattle.morris_index.specs.Binomials.{choose}
 use Rattle.morris_index.specs.Numbering.{rank_from, rank_of, number_outside, IsRanked}
 use Rattle.morris_index.proofs.ChooseLaws.{choose-none, choose-zero, choose-suc, pow-pos}
 use Rattle.morris_index.proofs.RankLaws.{number-outside, number-inside}
-use Rattle.morris_index.proofs.SetLaws.{with_point-lt, members-with}
+use Rattle.morris_board.proofs.SetLaws.{with_point-lt}
+use Rattle.morris_index.proofs.SetLaws.{members-with}
 
 -- The points from `point` on have been looked at: those in `taken` are the last of the set, `left`
 -- are still to come, of rank `rest`.
@@ -93,7 +94,7 @@ module _ (n outside count rank : ℕ) where
 
     pub unranking-take : IsUnranking n outside count rank p left (rest - choose (number_outside outside p) (suc left)) (with_point taken p)
     unranking-take = record {
-      within = with_point-lt taken p n s.within low;
+      within = with_point-lt taken n p s.within low;
       above = λ q h. elim (new q h) [ inl y ↦ omega (arith, s.above q y) | inr e ↦ omega (arith, e) ];
       apart = λ q h. elim (new q h) [ inl y ↦ s.apart q y | inr e ↦ rw e free ];
       counted = omega (arith, count_of-with taken p (omega arith) not_yet, s.counted);

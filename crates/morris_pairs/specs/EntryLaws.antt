@@ -13,7 +13,7 @@ use Rattle.morris_index.specs.Numbering.{rank_of, number_outside, half_size}
 use Rattle.morris_index.specs.Pairs.{Counts, IsPair, IsHalf, is_of, size_of}
 use Rattle.morris_index.specs.Classes.{symmetry_of, representative_of, class_of}
 use Rattle.morris_index.specs.ClassPairs.{led, class_half_size, class_half_index, class_size_of, class_index_of}
-use Rattle.morris_index.proofs.PairLaws.{from_between}
+use Rattle.morris_board.proofs.PositionLaws.{from_between}
 use Rattle.morris_index.proofs.IndexLaws.{IsPlaced, placed, halves_of, index-same, index-lt, size-one, size-two, half_size-few}
 use Rattle.morris_index.proofs.ClassLaws.{symmetry_within, representative_twice, class_of-representative}
 use Rattle.morris_index.proofs.ClassPairLaws.{led_position, led_own, led_own_count, led_other_count, led_itself, led_alone, class_size-few}

@@ -4,8 +4,7 @@ use Rattle.morris_index.specs.Classes.{classes_in, leading_in, AreLeading, repre
 use Rattle.morris_index.proofs.BinomialTable.{choose_small}
 use Rattle.morris_index.proofs.IndexLaws.{within_24}
 use Rattle.morris_index.proofs.OrderLaws.{rank_at}
-use Rattle.morris_index.proofs.KeepLaws.{kept-new, kept-other, other_rank, other_within, other_ranked, rank_lt}
-use Rattle.morris_index.proofs.KeepLaws.{class_in}
+use Rattle.morris_index.proofs.KeepLaws.{kept-new, kept-other, other_rank, other_within, other_ranked, rank_lt, class_in}
 use Rattle.std.proofs.lemmas.List.{map-append, length-map}
 use Rattle.morris_index.specs.declared.classes.Lead.{Lead}
 use Rattle.morris_index.proofs.classes.keep.Goals as goal

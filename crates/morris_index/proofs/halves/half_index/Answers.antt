@@ -1,12 +1,14 @@
-use Rattle.std.proofs.Common.{◌≡◌, ℕ, ◌+◌, ◌*◌, ◌-◌, ◌<◌, ◌≤◌, ◌^◌, refl, arith, map}
+use Rattle.std.proofs.Common.{◌≡◌, ℕ, ◌+◌, ◌*◌, ◌-◌, ◌<◌, ◌≤◌, ◌^◌, ◌∙◌, refl, arith, map}
 use Rattle.morris_board.specs.Sets.{members, count_of}
 use Rattle.morris_board.specs.Positions.{Sides, IsPosition}
 use Rattle.morris_board.specs.Boards.{Shape}
 use Rattle.morris_index.specs.Binomials.{choose}
 use Rattle.morris_index.specs.Numbering.{rank_of, number_outside, half_size, half_index}
 use Rattle.morris_index.proofs.IndexLaws.{IsPlaced, placed, counts_fit, half_index-lt, half_index-few, map_number-none, within_24, other_apart}
-use Rattle.morris_index.proofs.PairLaws.{own_count, other_count}
+use Rattle.morris_board.proofs.PositionLaws.{own_count, other_count}
+use Rattle.morris_index.proofs.halves.half_index.Given as given
 use Rattle.morris_index.proofs.halves.half_index.Goals as goal
+use Rattle.morris_index.proofs.halves.half_index.Goals.{After-rank_outside}
 
 -- a position of the board, with the number of points that the code reads
 module _ (b : Shape) (n : ℕ) (few : n ≤ 24) (points : b.points ≡ n) (s : Sides) (lawful : IsPosition b s) where
@@ -71,8 +73,11 @@ overflow_mul-result g c =
     )
     (omega (arith, fits g.B.Geometry.shape g.B.Geometry.POINTS (omega (arith, g.met.B.Geometry.few)) g.met.B.Geometry.point_count c.args.position.now c.own-own.ensures.lawful))
 
-pub overflow_add-result : goal.overflow_add-result
-overflow_add-result g c =
+-- what the code adds up
+sum : (g : given.Over) (c : After-rank_outside g) → c.rank.result * c.binomial-choices.result + c.rank_outside.result
+    ≡ rank_of (map (number_outside 0) (members c.args.position.now.own)) * choose (g.B.Geometry.POINTS - count_of c.args.position.now.own) (count_of c.args.position.now.other)
+    + rank_of (map (number_outside c.args.position.now.own) (members c.args.position.now.other))
+sum g c =
     rw (
       c.rank.ensures,
       c.rank_outside.ensures,
@@ -82,22 +87,20 @@ overflow_add-result g c =
       c.count-2.ensures.value,
       c.own-own.ensures.points,
       c.other-other.ensures.points,
+    ) refl
+
+pub overflow_add-result : goal.overflow_add-result
+overflow_add-result g c =
+    omega (
+      arith,
+      sum g (goal.at.overflow_add-result g c).After-rank_outside,
+      fits g.B.Geometry.shape g.B.Geometry.POINTS (omega (arith, g.met.B.Geometry.few)) g.met.B.Geometry.point_count c.args.position.now c.own-own.ensures.lawful,
     )
-    (omega (arith, fits g.B.Geometry.shape g.B.Geometry.POINTS (omega (arith, g.met.B.Geometry.few)) g.met.B.Geometry.point_count c.args.position.now c.own-own.ensures.lawful))
 
 pub returns-clause-value : goal.returns-clause-value
 returns-clause-value g c =
-    rw (
-      c.rank.ensures,
-      c.rank_outside.ensures,
-      c.binomial-choices.ensures.value,
-      c.POINTS.ensures,
-      c.count.ensures.value,
-      c.count-2.ensures.value,
-      c.own-own.ensures.points,
-      c.other-other.ensures.points,
-    )
-    (is_index g.B.Geometry.shape g.B.Geometry.POINTS (omega (arith, g.met.B.Geometry.few)) g.met.B.Geometry.point_count c.args.position.now c.own-own.ensures.lawful)
+    sum g (goal.at.returns-clause-value g c).After-rank_outside
+    ∙ is_index g.B.Geometry.shape g.B.Geometry.POINTS (omega (arith, g.met.B.Geometry.few)) g.met.B.Geometry.point_count c.args.position.now c.own-own.ensures.lawful
 
 pub returns-clause-below : goal.returns-clause-below
 returns-clause-below g c =

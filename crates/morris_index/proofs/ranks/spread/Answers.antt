@@ -6,7 +6,7 @@ use Rattle.morris_board.specs.Sets.{has}
 use Rattle.morris_index.specs.Numbering.{number_outside}
 use Rattle.morris_index.specs.Parts.{squeezed_below}
 use Rattle.morris_index.proofs.RankLaws.{count_below, number-count}
-use Rattle.morris_index.proofs.Squeezing.{power_some}
+use Rattle.morris_index.proofs.ChooseLaws.{pow-pos}
 use Rattle.morris_index.proofs.PartTables.{IsSpread}
 use Rattle.morris_index.proofs.Spreading.{IsSpreading, spreading-start, spreading-next, spread-end}
 use Rattle.morris_index.proofs.ranks.spread.Goals as goal
@@ -24,11 +24,11 @@ module _ (outside part size : ℕ) (low : part < 4) (is : size ≡ count_below (
   pub fits : (left : ℕ) → left % (1 * 2 ^ (6 - size) % 4294967296) < 2 ^ number_outside o 6
   fits left =
       let free : number_outside o 6 ≡ 6 - count_below (has o) 6 = omega (arith, number-count o 6) in
-      rw (divisor, free) (mod-lt left (power_some (6 - count_below (has o) 6)))
+      rw (divisor, free) (mod-lt left (pow-pos (6 - count_below (has o) 6)))
 
   pub shifted : (piece : ℕ) → piece < 64 → piece * 2 ^ (6 * part) % 4294967296 ≡ piece * 2 ^ (6 * part)
   shifted piece small =
-      let some : 0 < 2 ^ (6 * part) = power_some (6 * part) in
+      let some : 0 < 2 ^ (6 * part) = pow-pos (6 * part) in
       mod-eq_of_lt (omega (
         arith,
         mul-add-lt piece (2 ^ (6 * part)) 0 64 small some,

@@ -1,4 +1,4 @@
-use Rattle.std.proofs.Common.{◌≡◌, ◌∷◌, [], map, refl, ap, ◌∙◌, arith, length-append, length}
+use Rattle.std.proofs.Common.{◌≡◌, ◌∷◌, [], map, refl, ap, ◌∙◌, arith, length-append, length, ◌++◌, sym, append_assoc}
 use Rattle.morris_board.specs.Sets.{members, count_of}
 use Rattle.morris_index.specs.Numbering.{rank_of, number_outside}
 use Rattle.morris_index.proofs.SumLaws.{next_point}
@@ -30,15 +30,13 @@ binomial-rank-requires-clause-chosen c =
     omega (arith, next.few, c.loop-point.invariant.placed)
 
 pub loop-point-preserved : goal.loop-point-preserved
-loop-point-preserved c =
-    let next = next_point c.args.set c.in-Some.point c.loop-point.yielded _ _ c.requires.board c.requires.few c.loop-point.invariant.split c.in-Some.ensures.steps in
-    record {
-      split = next.split;
-      placed = omega (arith, c.loop-point.invariant.placed, length-append c.loop-point.yielded (c.in-Some.point ∷ []));
-      rank = rank_more (number_outside c.args.outside) c.loop-point.yielded c.in-Some.point c.number_outside.result c.loop-point.place c.loop-point.rank c.binomial-rank.result
-          c.loop-point.invariant.rank c.loop-point.invariant.placed c.number_outside.ensures.value c.binomial-rank.ensures.value;
-      small = omega (arith, c.loop-point.invariant.small, c.binomial-rank.ensures.few);
-    }
+loop-point-preserved c = record {
+  split = append_assoc c.loop-point.yielded (c.in-Some.point ∷ []) _ ∙ (ap (λ t. c.loop-point.yielded ++ t) (sym c.in-Some.ensures.steps) ∙ c.loop-point.invariant.split);
+  placed = omega (arith, c.loop-point.invariant.placed, length-append c.loop-point.yielded (c.in-Some.point ∷ []));
+  rank = rank_more (number_outside c.args.outside) c.loop-point.yielded c.in-Some.point c.number_outside.result c.loop-point.place c.loop-point.rank c.binomial-rank.result
+      c.loop-point.invariant.rank c.loop-point.invariant.placed c.number_outside.ensures.value c.binomial-rank.ensures.value;
+  small = omega (arith, c.loop-point.invariant.small, c.binomial-rank.ensures.few);
+}
 
 pub returns-clause-value : goal.returns-clause-value
 returns-clause-value c =

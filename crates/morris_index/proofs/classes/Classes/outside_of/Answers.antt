@@ -1,6 +1,6 @@
 use Rattle.std.proofs.Common.{◌≡◌, ◌<◌, ◌∙◌, length, get_or, arith}
 use Rattle.morris_index.specs.Classes.{classes_in, leading_in, class_count}
-use Rattle.morris_index.proofs.KeepLaws.{class_count-is, found_own, found_count, found_within, found_class}
+use Rattle.morris_index.proofs.KeepLaws.{class_count-is, found_is}
 use Rattle.std.proofs.lemmas.Grind.{get_or_default_zero}
 use Rattle.morris_index.proofs.classes.Classes.outside_of.Goals as goal
 
@@ -13,8 +13,8 @@ index-requires g c =
           (classes_in c.self.inside.kept.leads.items) (leading_in c.self.inside.kept.leads.items) c.self.inside.kept.representatives.items c.self.invariant,
     )
 
-pub returns-clause-least : goal.returns-clause-least
-returns-clause-least g c =
+pub returns : goal.returns
+returns g c =
     let low : c.args.class < class_count g.B.Geometry.shape c.self.inside.count = rw c.self.view_is c.requires in
     let under : c.args.class < length c.self.inside.kept.representatives.items = omega (
       arith,
@@ -23,44 +23,6 @@ returns-clause-least g c =
     ) in
     let is : c.index.result.now ≡ get_or c.self.inside.kept.representatives.items c.args.class 0 =
     c.index.ensures ∙ get_or_default_zero c.self.inside.kept.representatives.items c.args.class _ under in
-    rw is (found_own g.B.Geometry.shape g.B.Geometry.POINTS c.self.inside.count (omega (arith, g.met.B.Geometry.few)) g.met.B.Geometry.point_count g.met.B.Geometry.has_symmetries
-    (classes_in c.self.inside.kept.leads.items) (leading_in c.self.inside.kept.leads.items) c.self.inside.kept.representatives.items c.self.invariant c.args.class low)
-
-pub returns-clause-count : goal.returns-clause-count
-returns-clause-count g c =
-    let low : c.args.class < class_count g.B.Geometry.shape c.self.inside.count = rw c.self.view_is c.requires in
-    let under : c.args.class < length c.self.inside.kept.representatives.items = omega (
-      arith,
-      class_count-is g.B.Geometry.shape g.B.Geometry.POINTS c.self.inside.count (omega (arith, g.met.B.Geometry.few)) g.met.B.Geometry.point_count g.met.B.Geometry.has_symmetries
-          (classes_in c.self.inside.kept.leads.items) (leading_in c.self.inside.kept.leads.items) c.self.inside.kept.representatives.items c.self.invariant,
-    ) in
-    let is : c.index.result.now ≡ get_or c.self.inside.kept.representatives.items c.args.class 0 =
-    c.index.ensures ∙ get_or_default_zero c.self.inside.kept.representatives.items c.args.class _ under in
-    rw is (found_count g.B.Geometry.shape g.B.Geometry.POINTS c.self.inside.count (omega (arith, g.met.B.Geometry.few)) g.met.B.Geometry.point_count g.met.B.Geometry.has_symmetries
-    (classes_in c.self.inside.kept.leads.items) (leading_in c.self.inside.kept.leads.items) c.self.inside.kept.representatives.items c.self.invariant c.args.class low ∙ c.self.view_is)
-
-pub returns-clause-class : goal.returns-clause-class
-returns-clause-class g c =
-    let low : c.args.class < class_count g.B.Geometry.shape c.self.inside.count = rw c.self.view_is c.requires in
-    let under : c.args.class < length c.self.inside.kept.representatives.items = omega (
-      arith,
-      class_count-is g.B.Geometry.shape g.B.Geometry.POINTS c.self.inside.count (omega (arith, g.met.B.Geometry.few)) g.met.B.Geometry.point_count g.met.B.Geometry.has_symmetries
-          (classes_in c.self.inside.kept.leads.items) (leading_in c.self.inside.kept.leads.items) c.self.inside.kept.representatives.items c.self.invariant,
-    ) in
-    let is : c.index.result.now ≡ get_or c.self.inside.kept.representatives.items c.args.class 0 =
-    c.index.ensures ∙ get_or_default_zero c.self.inside.kept.representatives.items c.args.class _ under in
-    rw is (found_class g.B.Geometry.shape g.B.Geometry.POINTS c.self.inside.count (omega (arith, g.met.B.Geometry.few)) g.met.B.Geometry.point_count g.met.B.Geometry.has_symmetries
-    (classes_in c.self.inside.kept.leads.items) (leading_in c.self.inside.kept.leads.items) c.self.inside.kept.representatives.items c.self.invariant c.args.class low)
-
-pub returns-clause-within : goal.returns-clause-within
-returns-clause-within g c =
-    let low : c.args.class < class_count g.B.Geometry.shape c.self.inside.count = rw c.self.view_is c.requires in
-    let under : c.args.class < length c.self.inside.kept.representatives.items = omega (
-      arith,
-      class_count-is g.B.Geometry.shape g.B.Geometry.POINTS c.self.inside.count (omega (arith, g.met.B.Geometry.few)) g.met.B.Geometry.point_count g.met.B.Geometry.has_symmetries
-          (classes_in c.self.inside.kept.leads.items) (leading_in c.self.inside.kept.leads.items) c.self.inside.kept.representatives.items c.self.invariant,
-    ) in
-    let is : c.index.result.now ≡ get_or c.self.inside.kept.representatives.items c.args.class 0 =
-    c.index.ensures ∙ get_or_default_zero c.self.inside.kept.representatives.items c.args.class _ under in
-    rw is (found_within g.B.Geometry.shape g.B.Geometry.POINTS c.self.inside.count (omega (arith, g.met.B.Geometry.few)) g.met.B.Geometry.point_count g.met.B.Geometry.has_symmetries
-    (classes_in c.self.inside.kept.leads.items) (leading_in c.self.inside.kept.leads.items) c.self.inside.kept.representatives.items c.self.invariant c.args.class low)
+    let found = found_is g.B.Geometry.shape g.B.Geometry.POINTS c.self.inside.count (omega (arith, g.met.B.Geometry.few)) g.met.B.Geometry.point_count g.met.B.Geometry.has_symmetries
+    (classes_in c.self.inside.kept.leads.items) (leading_in c.self.inside.kept.leads.items) c.self.inside.kept.representatives.items c.self.invariant c.args.class low in
+    rw is (record { least = found.own; count = found.counted ∙ c.self.view_is; class = found.class_is; within = found.within })

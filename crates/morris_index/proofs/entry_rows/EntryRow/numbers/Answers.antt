@@ -6,9 +6,10 @@ use Rattle.morris_index.proofs.entry_rows.EntryRow.numbers.Goals as goal
 pub returns-clause-stands : goal.returns-clause-stands
 returns-clause-stands g c =
     let low : c.args.place < length c.self.inside.numbers.now = rw (← c.self.view_is) at c.requires in
-    rw (← c.self.view_is)
-    (row_stands g.B.Geometry.shape g.B.Geometry.POINTS (omega (arith, g.met.B.Geometry.few)) g.met.B.Geometry.point_count g.met.B.Geometry.has_symmetries
-    (in_row c.self.inside.pair c.self.inside.first c.self.inside.own (length c.self.inside.numbers.now)) c.self.inside.numbers.now c.self.invariant c.args.place low)
+    let found =
+    row_stands g.B.Geometry.shape g.B.Geometry.POINTS (omega (arith, g.met.B.Geometry.few)) g.met.B.Geometry.point_count g.met.B.Geometry.has_symmetries
+    (in_row c.self.inside.pair c.self.inside.first c.self.inside.own (length c.self.inside.numbers.now)) c.self.inside.numbers.now c.self.invariant c.args.place low in
+    rw (← c.self.view_is) (found.0, found.1.inside)
 
 pub returns-clause-value : goal.returns-clause-value
 returns-clause-value g c =

@@ -6,8 +6,7 @@ use Rattle.morris_board.specs.Symmetries.{image_sides}
 use Rattle.morris_index.specs.Carried.{carries}
 use Rattle.morris_index.specs.Facing.{turned, facing}
 use Rattle.morris_index.specs.Moves.{in_pair}
-use Rattle.morris_index.proofs.CarriedLaws.{member_has, split_after, pushed}
-use Rattle.morris_index.proofs.FacingLaws.{carrying_members, one_carries}
+use Rattle.morris_index.proofs.CarriedLaws.{member_has, split_after, pushed, carrying_members, one_carries}
 use Rattle.morris_index.proofs.facing.Facing.add.Goals as goal
 
 pub loop-symmetry-init : goal.loop-symmetry-init
@@ -20,7 +19,7 @@ faced-requires-clause-symmetry g c =
     member_has c.carrying-start.result.2 c.in-Some.symmetry c.loop-symmetry.yielded _ _ (c.loop-symmetry.invariant.split ∙ ap members items) c.in-Some.ensures.steps in
     let carry : (t : ℕ) → has c.carrying-start.result.2 t ≡ (ltb t g.B.Geometry.shape.symmetries && carries g.B.Geometry.shape c.args.position.now c.args.position.now.other t) =
     subst (λ n. (t : ℕ) → has c.carrying-start.result.2 t ≡ (ltb t n && carries g.B.Geometry.shape c.args.position.now c.args.position.now.other t)) (sym g.met.B.Geometry.symmetry_count) c.carrying-start.ensures.carrying in
-    omega (arith, (one_carries g.B.Geometry.shape c.args.position.now c.carrying-start.result.2 carry c.in-Some.symmetry inside).0, g.met.B.Geometry.symmetry_count)
+    omega (arith, (one_carries g.B.Geometry.shape c.args.position.now c.args.position.now.other c.carrying-start.result.2 carry c.in-Some.symmetry inside).0, g.met.B.Geometry.symmetry_count)
 
 pub faced-requires-clause-carries : goal.faced-requires-clause-carries
 faced-requires-clause-carries g c =
@@ -29,7 +28,7 @@ faced-requires-clause-carries g c =
     member_has c.carrying-start.result.2 c.in-Some.symmetry c.loop-symmetry.yielded _ _ (c.loop-symmetry.invariant.split ∙ ap members items) c.in-Some.ensures.steps in
     let carry : (t : ℕ) → has c.carrying-start.result.2 t ≡ (ltb t g.B.Geometry.shape.symmetries && carries g.B.Geometry.shape c.args.position.now c.args.position.now.other t) =
     subst (λ n. (t : ℕ) → has c.carrying-start.result.2 t ≡ (ltb t n && carries g.B.Geometry.shape c.args.position.now c.args.position.now.other t)) (sym g.met.B.Geometry.symmetry_count) c.carrying-start.ensures.carrying in
-    (one_carries g.B.Geometry.shape c.args.position.now c.carrying-start.result.2 carry c.in-Some.symmetry inside).1
+    (one_carries g.B.Geometry.shape c.args.position.now c.args.position.now.other c.carrying-start.result.2 carry c.in-Some.symmetry inside).1
 
 pub loop-symmetry-preserved : goal.loop-symmetry-preserved
 loop-symmetry-preserved g c = record {
@@ -47,4 +46,4 @@ returns g c =
     subst (λ n. (t : ℕ) → has c.carrying-start.result.2 t ≡ (ltb t n && carries g.B.Geometry.shape c.args.position.now c.args.position.now.other t)) (sym g.met.B.Geometry.symmetry_count) c.carrying-start.ensures.carrying in
     c.loop-symmetry.invariant.added
     ∙ ap (λ ts. c.args.out.now.items ++ map (λ s. in_pair c.args.self.now.pair (image_sides (g.B.Geometry.shape.image s) (turned c.args.position.now))) ts)
-    (all ∙ carrying_members g.B.Geometry.shape c.args.position.now c.carrying-start.result.2 carry (omega (arith, g.met.B.Geometry.symmetry_count, g.met.B.Geometry.few_symmetries)))
+    (all ∙ carrying_members g.B.Geometry.shape c.args.position.now c.args.position.now.other c.carrying-start.result.2 carry (omega (arith, g.met.B.Geometry.symmetry_count, g.met.B.Geometry.few_symmetries)))

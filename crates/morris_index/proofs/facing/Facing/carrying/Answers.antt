@@ -9,7 +9,8 @@ use Rattle.morris_index.specs.Halves.{HalfOf}
 use Rattle.morris_index.specs.Moves.{InPair}
 use Rattle.morris_index.specs.Pairs.{is_of}
 use Rattle.morris_index.proofs.IndexLaws.{placed}
-use Rattle.morris_index.proofs.FacingLaws.{turned_of, both_carry}
+use Rattle.morris_index.proofs.CarriedLaws.{both_carry}
+use Rattle.morris_index.proofs.FacingLaws.{turned_of}
 use Rattle.morris_index.proofs.facing.Facing.carrying.Goals as goal
 
 pub leads_of-start-requires-clause-within : goal.leads_of-start-requires-clause-within
@@ -37,7 +38,7 @@ returns-clause-carrying g c =
     let same : c.self.inside.position.own ≡ c.args.position.now.own = ap (λ (q : InPair). q.position.own) c.self.view_is ∙ sym c.requires.same in
     let returns : AreReturning g.B.Geometry.shape c.args.position.now.own c.self.inside.returning =
     subst (λ x. AreReturning g.B.Geometry.shape x c.self.inside.returning) same c.self.invariant.0.returns in
-    λ t. both_carry g.B.Geometry.shape c.args.position.now c.leads_of-start.result.2 c.self.inside.returning c.common.result leads returns c.common.ensures t
+    λ t. both_carry g.B.Geometry.shape c.args.position.now c.args.position.now.other c.leads_of-start.result.2 c.self.inside.returning c.common.result leads returns c.common.ensures t
     ∙ ap (λ n. ltb t n && carries g.B.Geometry.shape c.args.position.now c.args.position.now.other t) g.met.B.Geometry.symmetry_count
 
 pub returns-clause-class : goal.returns-clause-class

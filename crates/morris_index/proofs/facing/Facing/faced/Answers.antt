@@ -1,7 +1,6 @@
 -- What the symmetry makes of the turned position is one that faces it.
 use Rattle.std.proofs.Common.{◌≡◌, ◌+◌, ◌<◌, ◌≤◌, true, sym, ap, ap₂, subst, ◌∙◌, arith}
 use Rattle.morris_board.specs.Sets.{count_of}
-use Rattle.morris_board.specs.Positions.{Sides}
 use Rattle.morris_board.specs.Symmetries.{image_sides}
 use Rattle.morris_index.specs.Classes.{class_of, representative_of}
 use Rattle.morris_index.specs.ClassMoves.{class_start_of}
@@ -9,82 +8,60 @@ use Rattle.morris_index.specs.ClassPairs.{class_index_of}
 use Rattle.morris_index.specs.Facing.{turned, IsFaced}
 use Rattle.morris_index.specs.Moves.{InPair, in_pair}
 use Rattle.morris_index.specs.Pairs.{is_of}
+use Rattle.morris_index.proofs.CarriedLaws.{IsCarried}
 use Rattle.morris_index.proofs.ClassLaws.{class_of-representative}
-use Rattle.morris_index.proofs.FacingLaws.{same_others, faced_own, faced_apart, faced_24, faced_few, faced_entry, faced_led, is_faced}
+use Rattle.morris_index.proofs.FacingLaws.{same_others, faced_carried, faced_led, is_faced}
+use Rattle.morris_index.proofs.facing.Facing.faced.Given as given
 use Rattle.morris_index.proofs.facing.Facing.faced.Goals as goal
+use Rattle.morris_index.proofs.facing.Facing.faced.Goals.{After-count}
 
-pub rank_outside-rank-requires-clause-board : goal.rank_outside-rank-requires-clause-board
-rank_outside-rank-requires-clause-board g c =
-    let board = g.B.Geometry.shape in
-    let few : g.B.Geometry.POINTS ≤ 24 = g.met.B.Geometry.few in
-    let p : Sides = c.args.position.now in
-    let of : is_of c.self.inside.pair.now p ≡ true = subst (λ (q : InPair). is_of q.pair p ≡ true) (sym c.self.view_is) c.requires.counts in
-    let s_in : c.args.symmetry < board.symmetries = omega (arith, c.requires.symmetry, g.met.B.Geometry.symmetry_count) in
-    let faced_is : c.image-faced.result ≡ image_sides (board.image c.args.symmetry) (turned p) =
-    c.image-faced.ensures.image ∙ ap (image_sides (board.image c.args.symmetry)) c.requires.from in
-    rw (c.other-other.ensures.points, faced_is) (faced_24 board g.B.Geometry.POINTS few g.met.B.Geometry.point_count g.met.B.Geometry.has_symmetries c.self.inside.pair.now c.self.invariant.0.pair p c.own.ensures.lawful of c.requires.own c.args.symmetry s_in c.requires.carries)
+-- the position that is read, that it is one of the pair, and what the symmetry makes of the turned one
+facing_it : (g : given.Over) (c : After-count g) → (c.image-faced.result ≡ image_sides (g.B.Geometry.shape.image c.args.symmetry) (turned c.args.position.now))
+    × (is_of c.self.inside.pair.now c.args.position.now ≡ true) × (c.args.symmetry < g.B.Geometry.shape.symmetries)
+    × IsCarried g.B.Geometry.shape g.B.Geometry.POINTS (turned c.args.position.now) c.args.symmetry
+facing_it g c =
+    let of : is_of c.self.inside.pair.now c.args.position.now ≡ true = subst (λ (q : InPair). is_of q.pair c.args.position.now ≡ true) (sym c.self.view_is) c.requires.counts in
+    let s_in : c.args.symmetry < g.B.Geometry.shape.symmetries = omega (arith, c.requires.symmetry, g.met.B.Geometry.symmetry_count) in (
+      c.image-faced.ensures.image ∙ ap (image_sides (g.B.Geometry.shape.image c.args.symmetry)) c.requires.from,
+      of,
+      s_in,
+      faced_carried g.B.Geometry.shape g.B.Geometry.POINTS g.met.B.Geometry.few g.met.B.Geometry.point_count g.met.B.Geometry.has_symmetries c.self.inside.pair.now c.self.invariant.0.pair c.args.position.now c.own.ensures.lawful of c.requires.own c.args.symmetry s_in c.requires.carries,
+    )
 
-pub rank_outside-rank-requires-clause-apart : goal.rank_outside-rank-requires-clause-apart
-rank_outside-rank-requires-clause-apart g c =
-    let board = g.B.Geometry.shape in
-    let few : g.B.Geometry.POINTS ≤ 24 = g.met.B.Geometry.few in
-    let p : Sides = c.args.position.now in
-    let of : is_of c.self.inside.pair.now p ≡ true = subst (λ (q : InPair). is_of q.pair p ≡ true) (sym c.self.view_is) c.requires.counts in
-    let s_in : c.args.symmetry < board.symmetries = omega (arith, c.requires.symmetry, g.met.B.Geometry.symmetry_count) in
-    let faced_is : c.image-faced.result ≡ image_sides (board.image c.args.symmetry) (turned p) =
-    c.image-faced.ensures.image ∙ ap (image_sides (board.image c.args.symmetry)) c.requires.from in
-    rw (c.other-other.ensures.points, c.requires.representative, faced_is, ← faced_own board g.B.Geometry.POINTS few g.met.B.Geometry.point_count g.met.B.Geometry.has_symmetries c.self.inside.pair.now c.self.invariant.0.pair p c.own.ensures.lawful of c.requires.own c.args.symmetry s_in c.requires.carries) (faced_apart board g.B.Geometry.POINTS few g.met.B.Geometry.point_count g.met.B.Geometry.has_symmetries c.self.inside.pair.now c.self.invariant.0.pair p c.own.ensures.lawful of c.requires.own c.args.symmetry s_in c.requires.carries)
+pub entry_outside-entry-requires-clause-board : goal.entry_outside-entry-requires-clause-board
+entry_outside-entry-requires-clause-board g c =
+    let is = facing_it g (goal.at.entry_outside-entry-requires-clause-board g c).After-count in
+    rw (c.other-other.ensures.points, is.0) is.3.within
 
-pub overflow_add-entry : goal.overflow_add-entry
-overflow_add-entry g c =
-    let board = g.B.Geometry.shape in
-    let few : g.B.Geometry.POINTS ≤ 24 = g.met.B.Geometry.few in
-    let p : Sides = c.args.position.now in
-    let of : is_of c.self.inside.pair.now p ≡ true = subst (λ (q : InPair). is_of q.pair p ≡ true) (sym c.self.view_is) c.requires.counts in
-    let s_in : c.args.symmetry < board.symmetries = omega (arith, c.requires.symmetry, g.met.B.Geometry.symmetry_count) in
-    let faced_is : c.image-faced.result ≡ image_sides (board.image c.args.symmetry) (turned p) =
-    c.image-faced.ensures.image ∙ ap (image_sides (board.image c.args.symmetry)) c.requires.from in
-    rw (c.rank_outside-rank.ensures, c.other-other.ensures.points, c.requires.representative, faced_is, ← faced_own board g.B.Geometry.POINTS few g.met.B.Geometry.point_count g.met.B.Geometry.has_symmetries c.self.inside.pair.now c.self.invariant.0.pair p c.own.ensures.lawful of c.requires.own c.args.symmetry s_in c.requires.carries)
-    (omega (arith, c.requires.few, faced_few board g.B.Geometry.POINTS few g.met.B.Geometry.point_count g.met.B.Geometry.has_symmetries c.self.inside.pair.now c.self.invariant.0.pair p c.own.ensures.lawful of c.requires.own c.args.symmetry s_in c.requires.carries))
+pub entry_outside-entry-requires-clause-apart : goal.entry_outside-entry-requires-clause-apart
+entry_outside-entry-requires-clause-apart g c =
+    let is = facing_it g (goal.at.entry_outside-entry-requires-clause-apart g c).After-count in
+    rw (c.other-other.ensures.points, c.requires.representative, is.0) is.3.apart
 
 pub led_by-requires : goal.led_by-requires
 led_by-requires g c =
-    let board = g.B.Geometry.shape in
-    let few : g.B.Geometry.POINTS ≤ 24 = g.met.B.Geometry.few in
-    let p : Sides = c.args.position.now in
-    let of : is_of c.self.inside.pair.now p ≡ true = subst (λ (q : InPair). is_of q.pair p ≡ true) (sym c.self.view_is) c.requires.counts in
-    let s_in : c.args.symmetry < board.symmetries = omega (arith, c.requires.symmetry, g.met.B.Geometry.symmetry_count) in
-    let faced_is : c.image-faced.result ≡ image_sides (board.image c.args.symmetry) (turned p) =
-    c.image-faced.ensures.image ∙ ap (image_sides (board.image c.args.symmetry)) c.requires.from in
-    let same : p.own ≡ c.self.inside.position.own = c.requires.same ∙ ap (λ (q : InPair). q.position.own) (sym c.self.view_is) in
-    let others : count_of p.other ≡ count_of c.self.inside.position.other =
-    same_others c.self.inside.pair.now p c.self.inside.position of c.self.invariant.0.counts same in
-    let start : c.self.inside.start ≡ class_start_of board g.B.Geometry.POINTS c.self.inside.pair.now p.own (count_of p.other) =
-    c.self.invariant.0.start ∙ ap₂ (class_start_of board g.B.Geometry.POINTS c.self.inside.pair.now) (sym same) (sym others) in
+    let is = facing_it g (goal.at.led_by-requires g c).After-count in
+    let same : c.args.position.now.own ≡ c.self.inside.position.own = c.requires.same ∙ ap (λ (q : InPair). q.position.own) (sym c.self.view_is) in
+    let others : count_of c.args.position.now.other ≡ count_of c.self.inside.position.other =
+    same_others c.self.inside.pair.now c.args.position.now c.self.inside.position is.1 c.self.invariant.0.counts same in
+    let start : c.self.inside.start ≡ class_start_of g.B.Geometry.shape g.B.Geometry.POINTS c.self.inside.pair.now c.args.position.now.own (count_of c.args.position.now.other) =
+    c.self.invariant.0.start ∙ ap₂ (class_start_of g.B.Geometry.shape g.B.Geometry.POINTS c.self.inside.pair.now) (sym same) (sym others) in
     record {
-      led = rw (faced_is, c.inverse.ensures, c.requires.from) (faced_led board g.B.Geometry.POINTS few g.met.B.Geometry.point_count g.met.B.Geometry.has_symmetries c.self.inside.pair.now c.self.invariant.0.pair p c.own.ensures.lawful of c.requires.own c.args.symmetry s_in c.requires.carries c.self.inside.start start c.self.invariant.0.few);
+      led = rw (is.0, c.inverse.ensures, c.requires.from) (faced_led g.B.Geometry.shape g.B.Geometry.POINTS g.met.B.Geometry.few g.met.B.Geometry.point_count g.met.B.Geometry.has_symmetries c.self.inside.pair.now c.self.invariant.0.pair c.args.position.now c.own.ensures.lawful is.1 c.requires.own c.args.symmetry is.2 c.requires.carries c.self.inside.start start c.self.invariant.0.few);
       place = rw c.requires.from (c.self.invariant.1 ∙ sym same);
     }
 
 pub invariant_of-result : goal.invariant_of-result
 invariant_of-result g c =
-    let board = g.B.Geometry.shape in
-    let few : g.B.Geometry.POINTS ≤ 24 = g.met.B.Geometry.few in
-    let p : Sides = c.args.position.now in
-    let of : is_of c.self.inside.pair.now p ≡ true = subst (λ (q : InPair). is_of q.pair p ≡ true) (sym c.self.view_is) c.requires.counts in
-    let s_in : c.args.symmetry < board.symmetries = omega (arith, c.requires.symmetry, g.met.B.Geometry.symmetry_count) in
-    let faced_is : c.image-faced.result ≡ image_sides (board.image c.args.symmetry) (turned p) =
-    c.image-faced.ensures.image ∙ ap (image_sides (board.image c.args.symmetry)) c.requires.from in
-    let start : c.args.start ≡ class_start_of board g.B.Geometry.POINTS c.self.inside.pair.now p.other (count_of p.own) =
-    subst (λ (q : InPair). c.args.start ≡ class_start_of board g.B.Geometry.POINTS q.pair p.other (count_of p.own)) (sym c.self.view_is) c.requires.start in
-    let entry : c.args.start + c.rank_outside-rank.result ≡ class_index_of board g.B.Geometry.POINTS c.self.inside.pair.now (image_sides (board.image c.args.symmetry) (turned p)) =
-    rw (c.rank_outside-rank.ensures, c.other-other.ensures.points, c.requires.representative, faced_is, ← faced_own board g.B.Geometry.POINTS few g.met.B.Geometry.point_count g.met.B.Geometry.has_symmetries c.self.inside.pair.now c.self.invariant.0.pair p c.own.ensures.lawful of c.requires.own c.args.symmetry s_in c.requires.carries, start) (faced_entry board g.B.Geometry.POINTS few g.met.B.Geometry.point_count g.met.B.Geometry.has_symmetries c.self.inside.pair.now c.self.invariant.0.pair p c.own.ensures.lawful of c.requires.own c.args.symmetry s_in c.requires.carries) in
-    let low : board.points ≤ 24 = omega (arith, few, g.met.B.Geometry.point_count) in
-    let own : c.led_by.result.position.own ≡ representative_of board p.other =
-    ap (λ (q : InPair). q.position.own) (c.led_by.ensures ∙ ap (in_pair c.self.inside.pair.now) faced_is)
-    ∙ faced_own board g.B.Geometry.POINTS few g.met.B.Geometry.point_count g.met.B.Geometry.has_symmetries c.self.inside.pair.now c.self.invariant.0.pair p c.own.ensures.lawful of c.requires.own c.args.symmetry s_in c.requires.carries in (
-      subst (λ q. IsFaced board g.B.Geometry.POINTS q (c.args.start + c.rank_outside-rank.result))
-          (sym (c.led_by.ensures ∙ ap (in_pair c.self.inside.pair.now) faced_is))
-          (is_faced board g.B.Geometry.POINTS few g.met.B.Geometry.point_count g.met.B.Geometry.has_symmetries c.self.inside.pair.now c.self.invariant.0.pair p c.own.ensures.lawful of c.requires.own c.args.symmetry s_in c.requires.carries (c.args.start + c.rank_outside-rank.result) entry),
-      c.requires.class ∙ sym (ap (class_of board) own ∙ class_of-representative board low g.met.B.Geometry.has_symmetries p.other c.own.ensures.lawful.stones.other_within),
+    let is = facing_it g (goal.at.invariant_of-result g c).After-count in
+    let start : c.args.start ≡ class_start_of g.B.Geometry.shape g.B.Geometry.POINTS c.self.inside.pair.now c.args.position.now.other (count_of c.args.position.now.own) =
+    subst (λ (q : InPair). c.args.start ≡ class_start_of g.B.Geometry.shape g.B.Geometry.POINTS q.pair c.args.position.now.other (count_of c.args.position.now.own)) (sym c.self.view_is) c.requires.start in
+    let entry : c.entry_outside-entry.result ≡ class_index_of g.B.Geometry.shape g.B.Geometry.POINTS c.self.inside.pair.now (image_sides (g.B.Geometry.shape.image c.args.symmetry) (turned c.args.position.now)) =
+    rw (c.entry_outside-entry.ensures, c.other-other.ensures.points, c.requires.representative, is.0, start) (is.3.entry c.self.inside.pair.now) in
+    let led : c.led_by.result ≡ in_pair c.self.inside.pair.now (image_sides (g.B.Geometry.shape.image c.args.symmetry) (turned c.args.position.now)) =
+    c.led_by.ensures ∙ ap (in_pair c.self.inside.pair.now) is.0 in
+    let own : c.led_by.result.position.own ≡ representative_of g.B.Geometry.shape c.args.position.now.other = ap (λ (q : InPair). q.position.own) led ∙ is.3.own in (
+      subst (λ q. IsFaced g.B.Geometry.shape g.B.Geometry.POINTS q c.entry_outside-entry.result) (sym led)
+          (is_faced g.B.Geometry.shape g.B.Geometry.POINTS g.met.B.Geometry.few g.met.B.Geometry.point_count g.met.B.Geometry.has_symmetries c.self.inside.pair.now c.self.invariant.0.pair c.args.position.now c.own.ensures.lawful is.1 c.requires.own c.args.symmetry is.2 c.requires.carries c.entry_outside-entry.result entry),
+      c.requires.class ∙ sym (ap (class_of g.B.Geometry.shape) own ∙ class_of-representative g.B.Geometry.shape (omega (arith, g.met.B.Geometry.few, g.met.B.Geometry.point_count)) g.met.B.Geometry.has_symmetries c.args.position.now.other c.own.ensures.lawful.stones.other_within),
     )

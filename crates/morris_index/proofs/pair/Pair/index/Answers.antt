@@ -1,7 +1,7 @@
 use Rattle.std.proofs.Common.{◌≡◌, ◌≢◌, ◌∙◌, sym, arith}
 use Rattle.morris_board.specs.Sets.{count_of}
 use Rattle.morris_index.proofs.IndexLaws.{placed, index-first, index-second, index-lt, index-same, half_index-few}
-use Rattle.morris_index.proofs.PairLaws.{own_count, other_count}
+use Rattle.morris_board.proofs.PositionLaws.{own_count, other_count}
 use Rattle.morris_index.proofs.pair.Pair.index.Goals as goal
 
 pub overflow_add-result : goal.overflow_add-result

@@ -1,5 +1,5 @@
 -- Each symmetry that carries the move gives one entry.
-use Rattle.std.proofs.Common.{◌≡◌, ◌||◌, ◌+◌, ◌++◌, not, true, map, refl, sym, ap, subst, ◌∙◌, arith}
+use Rattle.std.proofs.Common.{◌≡◌, ◌||◌, ◌+◌, ◌<◌, ◌++◌, not, true, map, slice_index, refl, sym, ap, subst, ◌∙◌, arith}
 use Rattle.std.proofs.lemmas.List.{append-nil}
 use Rattle.morris_board.specs.Sets.{has, members, with_point, without_point}
 use Rattle.morris_board.specs.Symmetries.{image_of, image_sides}
@@ -12,146 +12,72 @@ use Rattle.morris_index.specs.Pairs.{IsPair, is_of}
 use Rattle.morris_board.specs.Positions.{IsPosition}
 use Rattle.morris_index.proofs.StepLaws.{adds_entries}
 use Rattle.morris_index.proofs.MoveLaws.{other_lt}
-use Rattle.morris_index.proofs.CarriedLaws.{mover_count, member_has, split_after, pushed, before_here, members_are, carrying_low, image_kept, image_24, image_count, image_few, image_apart, entry_few, entry_is}
+use Rattle.morris_index.proofs.CarriedLaws.{IsCarried, mover_count, member_has, split_after, pushed, before_here, members_are, carried_before}
+use Rattle.morris_index.proofs.predecessor_entries.PredecessorEntries.add.Given as given
 use Rattle.morris_index.proofs.predecessor_entries.PredecessorEntries.add.Goals as goal
+use Rattle.morris_index.proofs.predecessor_entries.PredecessorEntries.add.Goals.{In-Some}
+
+-- the symmetry at hand carries the move: what is kept for it, and what it makes of the position before
+carried : (g : given.Over) (c : In-Some g) → (c.in-Some.symmetry < g.B.Geometry.shape.symmetries)
+    × (slice_index c.self.inside.returning.images c.in-Some.symmetry ≡ image_of (g.B.Geometry.shape.image c.in-Some.symmetry) c.self.inside.position.own)
+    × (c.with-mover.result ≡ (taken_back c.self.inside.position c.args.from c.args.to).own)
+    × IsCarried g.B.Geometry.shape g.B.Geometry.POINTS (taken_back c.self.inside.position c.args.from c.args.to) c.in-Some.symmetry
+carried g c =
+    let end : has c.self.inside.position.other c.args.to ≡ true = ap (λ (q : InPair). has q.position.other c.args.to) c.self.view_is ∙ c.requires.end in
+    let vacant : not (has c.self.inside.position.own c.args.from || has c.self.inside.position.other c.args.from) ≡ true =
+    ap (λ (q : InPair). not (has q.position.own c.args.from || has q.position.other c.args.from)) c.self.view_is ∙ c.requires.vacant in
+    let mover : c.with-mover.result ≡ (taken_back c.self.inside.position c.args.from c.args.to).own =
+    c.with-mover.ensures ∙ ap (λ x. with_point x c.args.from) (c.without.ensures ∙ ap (λ x. without_point x c.args.to) c.other.ensures.points) in
+    let leads : AreLeading g.B.Geometry.shape (taken_back c.self.inside.position c.args.from c.args.to).own c.leads_of-start.result.2 = rw mover at c.leads_of-start.ensures.symmetries in
+    let items : c.into_iter-symmetry-iterator.result ≡ c.common-carrying.result = c.into_iter-symmetry-iterator.ensures.into_iter_gives ∙ c.iter-symmetry-items.ensures.points in
+    let inside : has c.common-carrying.result c.in-Some.symmetry ≡ true =
+    member_has c.common-carrying.result c.in-Some.symmetry c.loop-symmetry.yielded _ _ (c.loop-symmetry.invariant.split ∙ ap members items) c.in-Some.ensures.steps in
+    let found =
+    carried_before g.B.Geometry.shape g.B.Geometry.POINTS (omega (arith, g.met.B.Geometry.few)) g.met.B.Geometry.point_count g.met.B.Geometry.has_symmetries (in_pair c.self.inside.pair.now c.self.inside.position) c.self.inside.returning c.self.invariant.0 c.args.from c.args.to c.requires.start vacant end c.leads_of-start.result.2 c.common-carrying.result leads c.common-carrying.ensures c.in-Some.symmetry inside in
+    (found.0, found.1, mover, found.2)
 
 pub without-requires : goal.without-requires
 without-requires g c =
     let end : has c.self.inside.position.other c.args.to ≡ true = ap (λ (q : InPair). has q.position.other c.args.to) c.self.view_is ∙ c.requires.end in
     omega (arith, g.met.B.Geometry.few, other_lt g.B.Geometry.shape g.B.Geometry.POINTS g.met.B.Geometry.point_count (omega (arith, g.met.B.Geometry.few)) c.self.inside.position c.self.invariant.0.lawful c.args.to end)
 
-pub leads_of-start-requires-clause-within : goal.leads_of-start-requires-clause-within
-leads_of-start-requires-clause-within g c =
+pub leads_of-start-requires : goal.leads_of-start-requires
+leads_of-start-requires g c =
     let end : has c.self.inside.position.other c.args.to ≡ true = ap (λ (q : InPair). has q.position.other c.args.to) c.self.view_is ∙ c.requires.end in
     let vacant : not (has c.self.inside.position.own c.args.from || has c.self.inside.position.other c.args.from) ≡ true =
     ap (λ (q : InPair). not (has q.position.own c.args.from || has q.position.other c.args.from)) c.self.view_is ∙ c.requires.vacant in
     let mover : c.with-mover.result ≡ (taken_back c.self.inside.position c.args.from c.args.to).own =
     c.with-mover.ensures ∙ ap (λ x. with_point x c.args.from) (c.without.ensures ∙ ap (λ x. without_point x c.args.to) c.other.ensures.points) in
-    rw mover (before_here g.B.Geometry.shape g.B.Geometry.POINTS (omega (arith, g.met.B.Geometry.few)) g.met.B.Geometry.point_count g.met.B.Geometry.has_symmetries (in_pair c.self.inside.pair.now c.self.inside.position) c.self.inside.returning c.self.invariant.0 c.args.from c.args.to c.requires.start vacant end).own_within
-
-pub leads_of-start-requires-clause-count : goal.leads_of-start-requires-clause-count
-leads_of-start-requires-clause-count g c =
-    let end : has c.self.inside.position.other c.args.to ≡ true = ap (λ (q : InPair). has q.position.other c.args.to) c.self.view_is ∙ c.requires.end in
-    let vacant : not (has c.self.inside.position.own c.args.from || has c.self.inside.position.other c.args.from) ≡ true =
-    ap (λ (q : InPair). not (has q.position.own c.args.from || has q.position.other c.args.from)) c.self.view_is ∙ c.requires.vacant in
-    let mover : c.with-mover.result ≡ (taken_back c.self.inside.position c.args.from c.args.to).own =
-    c.with-mover.ensures ∙ ap (λ x. with_point x c.args.from) (c.without.ensures ∙ ap (λ x. without_point x c.args.to) c.other.ensures.points) in
-    rw (mover, c.self.invariant.2) (mover_count g.B.Geometry.shape g.B.Geometry.POINTS (omega (arith, g.met.B.Geometry.few)) g.met.B.Geometry.point_count g.met.B.Geometry.has_symmetries (in_pair c.self.inside.pair.now c.self.inside.position) c.self.inside.returning c.self.invariant.0 c.args.from c.args.to c.requires.start vacant end)
+    record {
+      within = rw mover (before_here g.B.Geometry.shape g.B.Geometry.POINTS (omega (arith, g.met.B.Geometry.few)) g.met.B.Geometry.point_count g.met.B.Geometry.has_symmetries (in_pair c.self.inside.pair.now c.self.inside.position) c.self.inside.returning c.self.invariant.0 c.args.from c.args.to c.requires.start vacant end).own_within;
+      count = rw (mover, c.self.invariant.2) (mover_count g.B.Geometry.shape g.B.Geometry.POINTS (omega (arith, g.met.B.Geometry.few)) g.met.B.Geometry.point_count g.met.B.Geometry.has_symmetries (in_pair c.self.inside.pair.now c.self.inside.position) c.self.inside.returning c.self.invariant.0 c.args.from c.args.to c.requires.start vacant end);
+    }
 
 pub loop-symmetry-init : goal.loop-symmetry-init
 loop-symmetry-init g c = record { split = refl; added = sym (append-nil _) }
 
 pub image-image-requires : goal.image-image-requires
 image-image-requires g c =
-    let end : has c.self.inside.position.other c.args.to ≡ true = ap (λ (q : InPair). has q.position.other c.args.to) c.self.view_is ∙ c.requires.end in
-    let vacant : not (has c.self.inside.position.own c.args.from || has c.self.inside.position.other c.args.from) ≡ true =
-    ap (λ (q : InPair). not (has q.position.own c.args.from || has q.position.other c.args.from)) c.self.view_is ∙ c.requires.vacant in
-    let mover : c.with-mover.result ≡ (taken_back c.self.inside.position c.args.from c.args.to).own =
-    c.with-mover.ensures ∙ ap (λ x. with_point x c.args.from) (c.without.ensures ∙ ap (λ x. without_point x c.args.to) c.other.ensures.points) in
-    let leads : AreLeading g.B.Geometry.shape (taken_back c.self.inside.position c.args.from c.args.to).own c.leads_of-start.result.2 = rw mover at c.leads_of-start.ensures.symmetries in
-    let items : c.into_iter-symmetry-iterator.result ≡ c.common-carrying.result = c.into_iter-symmetry-iterator.ensures.into_iter_gives ∙ c.iter-symmetry-items.ensures.points in
-    let inside : has c.common-carrying.result c.in-Some.symmetry ≡ true =
-    member_has c.common-carrying.result c.in-Some.symmetry c.loop-symmetry.yielded _ _ (c.loop-symmetry.invariant.split ∙ ap members items) c.in-Some.ensures.steps in
-    omega (arith, carrying_low g.B.Geometry.shape g.B.Geometry.POINTS (omega (arith, g.met.B.Geometry.few)) g.met.B.Geometry.point_count g.met.B.Geometry.has_symmetries (in_pair c.self.inside.pair.now c.self.inside.position) c.self.inside.returning c.self.invariant.0 c.args.from c.args.to c.requires.start vacant end c.leads_of-start.result.2 c.common-carrying.result leads c.common-carrying.ensures c.in-Some.symmetry inside, g.met.B.Geometry.symmetry_count, g.met.B.Geometry.few_symmetries, c.self.invariant.0.returns.len)
+    omega (arith, (carried g (goal.at.image-image-requires g c).In-Some).0, g.met.B.Geometry.symmetry_count, g.met.B.Geometry.few_symmetries, c.self.invariant.0.returns.len)
 
-pub rank_outside-requires-clause-board : goal.rank_outside-requires-clause-board
-rank_outside-requires-clause-board g c =
-    let end : has c.self.inside.position.other c.args.to ≡ true = ap (λ (q : InPair). has q.position.other c.args.to) c.self.view_is ∙ c.requires.end in
-    let vacant : not (has c.self.inside.position.own c.args.from || has c.self.inside.position.other c.args.from) ≡ true =
-    ap (λ (q : InPair). not (has q.position.own c.args.from || has q.position.other c.args.from)) c.self.view_is ∙ c.requires.vacant in
-    let mover : c.with-mover.result ≡ (taken_back c.self.inside.position c.args.from c.args.to).own =
-    c.with-mover.ensures ∙ ap (λ x. with_point x c.args.from) (c.without.ensures ∙ ap (λ x. without_point x c.args.to) c.other.ensures.points) in
-    let leads : AreLeading g.B.Geometry.shape (taken_back c.self.inside.position c.args.from c.args.to).own c.leads_of-start.result.2 = rw mover at c.leads_of-start.ensures.symmetries in
-    let items : c.into_iter-symmetry-iterator.result ≡ c.common-carrying.result = c.into_iter-symmetry-iterator.ensures.into_iter_gives ∙ c.iter-symmetry-items.ensures.points in
-    let inside : has c.common-carrying.result c.in-Some.symmetry ≡ true =
-    member_has c.common-carrying.result c.in-Some.symmetry c.loop-symmetry.yielded _ _ (c.loop-symmetry.invariant.split ∙ ap members items) c.in-Some.ensures.steps in
-    let at : c.image-image.result ≡ image_of (g.B.Geometry.shape.image c.in-Some.symmetry) c.self.inside.position.own =
-    c.image-image.ensures
-    ∙ image_kept g.B.Geometry.shape g.B.Geometry.POINTS (omega (arith, g.met.B.Geometry.few)) g.met.B.Geometry.point_count g.met.B.Geometry.has_symmetries (in_pair c.self.inside.pair.now c.self.inside.position) c.self.inside.returning c.self.invariant.0 c.args.from c.args.to c.requires.start vacant end c.leads_of-start.result.2 c.common-carrying.result leads c.common-carrying.ensures c.in-Some.symmetry inside in
-    rw at (image_24 g.B.Geometry.shape g.B.Geometry.POINTS (omega (arith, g.met.B.Geometry.few)) g.met.B.Geometry.point_count g.met.B.Geometry.has_symmetries (in_pair c.self.inside.pair.now c.self.inside.position) c.self.inside.returning c.self.invariant.0 c.args.from c.args.to c.requires.start vacant end c.leads_of-start.result.2 c.common-carrying.result leads c.common-carrying.ensures c.in-Some.symmetry inside)
-
-pub rank_outside-requires-clause-few : goal.rank_outside-requires-clause-few
-rank_outside-requires-clause-few g c =
-    let end : has c.self.inside.position.other c.args.to ≡ true = ap (λ (q : InPair). has q.position.other c.args.to) c.self.view_is ∙ c.requires.end in
-    let vacant : not (has c.self.inside.position.own c.args.from || has c.self.inside.position.other c.args.from) ≡ true =
-    ap (λ (q : InPair). not (has q.position.own c.args.from || has q.position.other c.args.from)) c.self.view_is ∙ c.requires.vacant in
-    let mover : c.with-mover.result ≡ (taken_back c.self.inside.position c.args.from c.args.to).own =
-    c.with-mover.ensures ∙ ap (λ x. with_point x c.args.from) (c.without.ensures ∙ ap (λ x. without_point x c.args.to) c.other.ensures.points) in
-    let leads : AreLeading g.B.Geometry.shape (taken_back c.self.inside.position c.args.from c.args.to).own c.leads_of-start.result.2 = rw mover at c.leads_of-start.ensures.symmetries in
-    let items : c.into_iter-symmetry-iterator.result ≡ c.common-carrying.result = c.into_iter-symmetry-iterator.ensures.into_iter_gives ∙ c.iter-symmetry-items.ensures.points in
-    let inside : has c.common-carrying.result c.in-Some.symmetry ≡ true =
-    member_has c.common-carrying.result c.in-Some.symmetry c.loop-symmetry.yielded _ _ (c.loop-symmetry.invariant.split ∙ ap members items) c.in-Some.ensures.steps in
-    let at : c.image-image.result ≡ image_of (g.B.Geometry.shape.image c.in-Some.symmetry) c.self.inside.position.own =
-    c.image-image.ensures
-    ∙ image_kept g.B.Geometry.shape g.B.Geometry.POINTS (omega (arith, g.met.B.Geometry.few)) g.met.B.Geometry.point_count g.met.B.Geometry.has_symmetries (in_pair c.self.inside.pair.now c.self.inside.position) c.self.inside.returning c.self.invariant.0 c.args.from c.args.to c.requires.start vacant end c.leads_of-start.result.2 c.common-carrying.result leads c.common-carrying.ensures c.in-Some.symmetry inside in
-    rw at (image_few g.B.Geometry.shape g.B.Geometry.POINTS (omega (arith, g.met.B.Geometry.few)) g.met.B.Geometry.point_count g.met.B.Geometry.has_symmetries (in_pair c.self.inside.pair.now c.self.inside.position) c.self.inside.returning c.self.invariant.0 c.args.from c.args.to c.requires.start vacant end c.leads_of-start.result.2 c.common-carrying.result leads c.common-carrying.ensures c.in-Some.symmetry inside)
-
-pub rank_outside-requires-clause-counted : goal.rank_outside-requires-clause-counted
-rank_outside-requires-clause-counted g c =
-    let end : has c.self.inside.position.other c.args.to ≡ true = ap (λ (q : InPair). has q.position.other c.args.to) c.self.view_is ∙ c.requires.end in
-    let vacant : not (has c.self.inside.position.own c.args.from || has c.self.inside.position.other c.args.from) ≡ true =
-    ap (λ (q : InPair). not (has q.position.own c.args.from || has q.position.other c.args.from)) c.self.view_is ∙ c.requires.vacant in
-    let mover : c.with-mover.result ≡ (taken_back c.self.inside.position c.args.from c.args.to).own =
-    c.with-mover.ensures ∙ ap (λ x. with_point x c.args.from) (c.without.ensures ∙ ap (λ x. without_point x c.args.to) c.other.ensures.points) in
-    let leads : AreLeading g.B.Geometry.shape (taken_back c.self.inside.position c.args.from c.args.to).own c.leads_of-start.result.2 = rw mover at c.leads_of-start.ensures.symmetries in
-    let items : c.into_iter-symmetry-iterator.result ≡ c.common-carrying.result = c.into_iter-symmetry-iterator.ensures.into_iter_gives ∙ c.iter-symmetry-items.ensures.points in
-    let inside : has c.common-carrying.result c.in-Some.symmetry ≡ true =
-    member_has c.common-carrying.result c.in-Some.symmetry c.loop-symmetry.yielded _ _ (c.loop-symmetry.invariant.split ∙ ap members items) c.in-Some.ensures.steps in
-    let at : c.image-image.result ≡ image_of (g.B.Geometry.shape.image c.in-Some.symmetry) c.self.inside.position.own =
-    c.image-image.ensures
-    ∙ image_kept g.B.Geometry.shape g.B.Geometry.POINTS (omega (arith, g.met.B.Geometry.few)) g.met.B.Geometry.point_count g.met.B.Geometry.has_symmetries (in_pair c.self.inside.pair.now c.self.inside.position) c.self.inside.returning c.self.invariant.0 c.args.from c.args.to c.requires.start vacant end c.leads_of-start.result.2 c.common-carrying.result leads c.common-carrying.ensures c.in-Some.symmetry inside in
-    rw at (c.self.invariant.1 ∙ sym (image_count g.B.Geometry.shape g.B.Geometry.POINTS (omega (arith, g.met.B.Geometry.few)) g.met.B.Geometry.point_count g.met.B.Geometry.has_symmetries (in_pair c.self.inside.pair.now c.self.inside.position) c.self.inside.returning c.self.invariant.0 c.args.from c.args.to c.requires.start vacant end c.leads_of-start.result.2 c.common-carrying.result leads c.common-carrying.ensures c.in-Some.symmetry inside))
-
-pub rank_outside-requires-clause-apart : goal.rank_outside-requires-clause-apart
-rank_outside-requires-clause-apart g c =
-    let end : has c.self.inside.position.other c.args.to ≡ true = ap (λ (q : InPair). has q.position.other c.args.to) c.self.view_is ∙ c.requires.end in
-    let vacant : not (has c.self.inside.position.own c.args.from || has c.self.inside.position.other c.args.from) ≡ true =
-    ap (λ (q : InPair). not (has q.position.own c.args.from || has q.position.other c.args.from)) c.self.view_is ∙ c.requires.vacant in
-    let mover : c.with-mover.result ≡ (taken_back c.self.inside.position c.args.from c.args.to).own =
-    c.with-mover.ensures ∙ ap (λ x. with_point x c.args.from) (c.without.ensures ∙ ap (λ x. without_point x c.args.to) c.other.ensures.points) in
-    let leads : AreLeading g.B.Geometry.shape (taken_back c.self.inside.position c.args.from c.args.to).own c.leads_of-start.result.2 = rw mover at c.leads_of-start.ensures.symmetries in
-    let items : c.into_iter-symmetry-iterator.result ≡ c.common-carrying.result = c.into_iter-symmetry-iterator.ensures.into_iter_gives ∙ c.iter-symmetry-items.ensures.points in
-    let inside : has c.common-carrying.result c.in-Some.symmetry ≡ true =
-    member_has c.common-carrying.result c.in-Some.symmetry c.loop-symmetry.yielded _ _ (c.loop-symmetry.invariant.split ∙ ap members items) c.in-Some.ensures.steps in
-    let at : c.image-image.result ≡ image_of (g.B.Geometry.shape.image c.in-Some.symmetry) c.self.inside.position.own =
-    c.image-image.ensures
-    ∙ image_kept g.B.Geometry.shape g.B.Geometry.POINTS (omega (arith, g.met.B.Geometry.few)) g.met.B.Geometry.point_count g.met.B.Geometry.has_symmetries (in_pair c.self.inside.pair.now c.self.inside.position) c.self.inside.returning c.self.invariant.0 c.args.from c.args.to c.requires.start vacant end c.leads_of-start.result.2 c.common-carrying.result leads c.common-carrying.ensures c.in-Some.symmetry inside in
-    rw (at, c.leads_of-start.ensures.representative, mover) (image_apart g.B.Geometry.shape g.B.Geometry.POINTS (omega (arith, g.met.B.Geometry.few)) g.met.B.Geometry.point_count g.met.B.Geometry.has_symmetries (in_pair c.self.inside.pair.now c.self.inside.position) c.self.inside.returning c.self.invariant.0 c.args.from c.args.to c.requires.start vacant end c.leads_of-start.result.2 c.common-carrying.result leads c.common-carrying.ensures c.in-Some.symmetry inside)
-
-pub overflow_add-start : goal.overflow_add-start
-overflow_add-start g c =
-    let end : has c.self.inside.position.other c.args.to ≡ true = ap (λ (q : InPair). has q.position.other c.args.to) c.self.view_is ∙ c.requires.end in
-    let vacant : not (has c.self.inside.position.own c.args.from || has c.self.inside.position.other c.args.from) ≡ true =
-    ap (λ (q : InPair). not (has q.position.own c.args.from || has q.position.other c.args.from)) c.self.view_is ∙ c.requires.vacant in
-    let mover : c.with-mover.result ≡ (taken_back c.self.inside.position c.args.from c.args.to).own =
-    c.with-mover.ensures ∙ ap (λ x. with_point x c.args.from) (c.without.ensures ∙ ap (λ x. without_point x c.args.to) c.other.ensures.points) in
-    let leads : AreLeading g.B.Geometry.shape (taken_back c.self.inside.position c.args.from c.args.to).own c.leads_of-start.result.2 = rw mover at c.leads_of-start.ensures.symmetries in
-    let items : c.into_iter-symmetry-iterator.result ≡ c.common-carrying.result = c.into_iter-symmetry-iterator.ensures.into_iter_gives ∙ c.iter-symmetry-items.ensures.points in
-    let inside : has c.common-carrying.result c.in-Some.symmetry ≡ true =
-    member_has c.common-carrying.result c.in-Some.symmetry c.loop-symmetry.yielded _ _ (c.loop-symmetry.invariant.split ∙ ap members items) c.in-Some.ensures.steps in
-    let at : c.image-image.result ≡ image_of (g.B.Geometry.shape.image c.in-Some.symmetry) c.self.inside.position.own =
-    c.image-image.ensures
-    ∙ image_kept g.B.Geometry.shape g.B.Geometry.POINTS (omega (arith, g.met.B.Geometry.few)) g.met.B.Geometry.point_count g.met.B.Geometry.has_symmetries (in_pair c.self.inside.pair.now c.self.inside.position) c.self.inside.returning c.self.invariant.0 c.args.from c.args.to c.requires.start vacant end c.leads_of-start.result.2 c.common-carrying.result leads c.common-carrying.ensures c.in-Some.symmetry inside in
-    rw (c.rank_outside.ensures, at, c.leads_of-start.ensures.representative, mover)
-    (omega (arith, c.leads_of-start.ensures.few, entry_few g.B.Geometry.shape g.B.Geometry.POINTS (omega (arith, g.met.B.Geometry.few)) g.met.B.Geometry.point_count g.met.B.Geometry.has_symmetries (in_pair c.self.inside.pair.now c.self.inside.position) c.self.inside.returning c.self.invariant.0 c.args.from c.args.to c.requires.start vacant end c.leads_of-start.result.2 c.common-carrying.result leads c.common-carrying.ensures c.in-Some.symmetry inside))
+pub entry_outside-requires : goal.entry_outside-requires
+entry_outside-requires g c =
+    let is = carried g (goal.at.entry_outside-requires g c).In-Some in
+    let at : c.image-image.result ≡ image_of (g.B.Geometry.shape.image c.in-Some.symmetry) c.self.inside.position.own = c.image-image.ensures ∙ is.1 in
+    record {
+      start = c.leads_of-start.ensures.few;
+      board = rw at is.3.within;
+      counted = rw at (c.self.invariant.1 ∙ sym is.3.counted);
+      few = rw at is.3.most;
+      apart = rw (at, c.leads_of-start.ensures.representative, is.2) is.3.apart;
+    }
 
 pub loop-symmetry-preserved : goal.loop-symmetry-preserved
 loop-symmetry-preserved g c =
-    let end : has c.self.inside.position.other c.args.to ≡ true = ap (λ (q : InPair). has q.position.other c.args.to) c.self.view_is ∙ c.requires.end in
-    let vacant : not (has c.self.inside.position.own c.args.from || has c.self.inside.position.other c.args.from) ≡ true =
-    ap (λ (q : InPair). not (has q.position.own c.args.from || has q.position.other c.args.from)) c.self.view_is ∙ c.requires.vacant in
-    let mover : c.with-mover.result ≡ (taken_back c.self.inside.position c.args.from c.args.to).own =
-    c.with-mover.ensures ∙ ap (λ x. with_point x c.args.from) (c.without.ensures ∙ ap (λ x. without_point x c.args.to) c.other.ensures.points) in
-    let leads : AreLeading g.B.Geometry.shape (taken_back c.self.inside.position c.args.from c.args.to).own c.leads_of-start.result.2 = rw mover at c.leads_of-start.ensures.symmetries in
-    let items : c.into_iter-symmetry-iterator.result ≡ c.common-carrying.result = c.into_iter-symmetry-iterator.ensures.into_iter_gives ∙ c.iter-symmetry-items.ensures.points in
-    let inside : has c.common-carrying.result c.in-Some.symmetry ≡ true =
-    member_has c.common-carrying.result c.in-Some.symmetry c.loop-symmetry.yielded _ _ (c.loop-symmetry.invariant.split ∙ ap members items) c.in-Some.ensures.steps in
-    let at : c.image-image.result ≡ image_of (g.B.Geometry.shape.image c.in-Some.symmetry) c.self.inside.position.own =
-    c.image-image.ensures
-    ∙ image_kept g.B.Geometry.shape g.B.Geometry.POINTS (omega (arith, g.met.B.Geometry.few)) g.met.B.Geometry.point_count g.met.B.Geometry.has_symmetries (in_pair c.self.inside.pair.now c.self.inside.position) c.self.inside.returning c.self.invariant.0 c.args.from c.args.to c.requires.start vacant end c.leads_of-start.result.2 c.common-carrying.result leads c.common-carrying.ensures c.in-Some.symmetry inside in
-    let entry : c.leads_of-start.result.0 + c.rank_outside.result ≡ class_index_of g.B.Geometry.shape g.B.Geometry.POINTS c.self.inside.pair.now (image_sides (g.B.Geometry.shape.image c.in-Some.symmetry) (taken_back c.self.inside.position c.args.from c.args.to)) =
-    rw (c.rank_outside.ensures, at, c.leads_of-start.ensures.start, c.leads_of-start.ensures.representative, c.self.invariant.2, mover)
-    (entry_is g.B.Geometry.shape g.B.Geometry.POINTS (omega (arith, g.met.B.Geometry.few)) g.met.B.Geometry.point_count g.met.B.Geometry.has_symmetries (in_pair c.self.inside.pair.now c.self.inside.position) c.self.inside.returning c.self.invariant.0 c.args.from c.args.to c.requires.start vacant end c.leads_of-start.result.2 c.common-carrying.result leads c.common-carrying.ensures c.in-Some.symmetry inside) in
+    let is = carried g (goal.at.loop-symmetry-preserved g c).In-Some in
+    let at : c.image-image.result ≡ image_of (g.B.Geometry.shape.image c.in-Some.symmetry) c.self.inside.position.own = c.image-image.ensures ∙ is.1 in
+    let entry : c.entry_outside.result ≡ class_index_of g.B.Geometry.shape g.B.Geometry.POINTS c.self.inside.pair.now (image_sides (g.B.Geometry.shape.image c.in-Some.symmetry) (taken_back c.self.inside.position c.args.from c.args.to)) =
+    rw (c.entry_outside.ensures, at, c.leads_of-start.ensures.start, c.leads_of-start.ensures.representative, c.self.invariant.2, is.2) (is.3.entry c.self.inside.pair.now) in
     record {
       split = split_after c.loop-symmetry.yielded _ c.in-Some.symmetry _ _ c.in-Some.ensures.steps c.loop-symmetry.invariant.split;
       added = c.in_ok-push.ensures.items ∙ pushed _ c.args.out.now.items c.loop-symmetry.yielded c.loop-symmetry.out.items c.in-Some.symmetry _ c.loop-symmetry.invariant.added

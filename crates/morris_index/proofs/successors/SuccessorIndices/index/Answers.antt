@@ -2,7 +2,7 @@ use Rattle.std.proofs.Common.{◌≡◌, ◌||◌, not, true, ap, ◌∙◌, ari
 use Rattle.morris_board.specs.Sets.{has, count_of}
 use Rattle.morris_index.specs.Moves.{InPair}
 use Rattle.morris_index.proofs.IndexLaws.{placed}
-use Rattle.morris_index.proofs.PairLaws.{own_count, other_count}
+use Rattle.morris_board.proofs.PositionLaws.{own_count, other_count}
 use Rattle.morris_index.proofs.MoveLaws.{own_24, own_lt, vacant_own, vacant_other, start-few, after_few, after_index, regrouped}
 use Rattle.morris_index.proofs.successors.SuccessorIndices.index.Goals as goal
 
