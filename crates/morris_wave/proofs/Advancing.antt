@@ -10,15 +10,12 @@ use Rattle.morris_wave.specs.Waves.{known_lost, known_won, is_decided_at, entry_
 use Rattle.morris_wave.specs.Solving.{every, none}
 use Rattle.morris_wave.proofs.Tests.{any_same, all_same, count_all}
 use Rattle.morris_wave.proofs.Depths.{lost_more, won_more, code_is, code_kept, code_new, code_open, none_decided}
+use Rattle.morris_wave.proofs.ExitTests.{or_false}
 use Rattle.morris_wave.proofs.Known.{marked_code, decided_parts, open_same, decided_at_most, decided_at_least}
 
 later : (p q : Bool) → (p ≡ true → q ≡ true) → (p || (true && q)) ≡ q
 later true q h = sym (h refl)
 later false q h = refl
-
-or_none : (p q : Bool) → (p || (false && q)) ≡ p
-or_none true q = refl
-or_none false q = refl
 
 pub known_lost_all : (g : Net) (n j : ℕ) → known_lost g n every j ≡ is_lost g n j
 unfolding known_lost is_lost
@@ -32,11 +29,11 @@ known_won_all g (suc n) j = later (is_won g n j) (is_won g (suc n) j) (won_more 
 
 known_lost_next : (g : Net) (n j : ℕ) → known_lost g (suc n) none j ≡ is_lost g n j
 unfolding known_lost
-known_lost_next g n j = or_none (is_lost g n j) (is_lost g (suc n) j)
+known_lost_next g n j = sym (or_false (is_lost g n j))
 
 known_won_next : (g : Net) (n j : ℕ) → known_won g (suc n) none j ≡ is_won g n j
 unfolding known_won
-known_won_next g n j = or_none (is_won g n j) (is_won g (suc n) j)
+known_won_next g n j = sym (or_false (is_won g n j))
 
 -- at a complete wave n the decided nodes are those of a depth of at most n
 pub decided_all : (g : Net) (n i : ℕ) → is_decided_at g n every i ≡ is_decided g (suc n) i

@@ -1,7 +1,7 @@
 -- What changes when one more part of the fresh nodes is applied.
 use Rattle.std.proofs.Common.{◌≡◌, ℕ, zero, suc, ◌+◌, Bool, true, false, not, ◌&&◌, ◌||◌, cond, eqb, ltb, refl, sym, ap, ap₂, ◌∙◌, ⊎_elim, arith}
 use Rattle.std.specs.List.{list_any, count_by}
-use Rattle.std.proofs.lemmas.Bool.{false≢true, true≢false, and_from, or_left, or_right, both_ways, eq-eqb, ne_eqb, cases_eq, true_from_ne_false, lt-ltb}
+use Rattle.std.proofs.lemmas.Bool.{false≢true, true≢false, and_from, or_left, or_right, both_ways, eq-eqb, ne_eqb, cases_eq, true_from_ne_false, lt-ltb, and_right}
 use Rattle.morris_wave.specs.Nets.{Net}
 use Rattle.morris_wave.specs.Exits.{is_odd, exits_of, exits_lost, exits_won}
 use Rattle.morris_wave.specs.Values.{is_lost, is_won}
@@ -136,12 +136,8 @@ counter_falls before after taken e =
     (λ t. eq-eqb after 0 z ∙ sym (or_left (eqb before 0) (ltb 0 taken && eqb after 0) (eq-eqb before 0 (omega arith))))
     (λ t. eq-eqb after 0 z ∙ sym (or_right (eqb before 0) (ltb 0 taken && eqb after 0) (and_from (ltb 0 taken) (eqb after 0) (lt-ltb 0 taken (omega arith)) (eq-eqb after 0 z))))
     (cases_eq taken 0))
-    (λ z. ne_eqb after 0 z ∙ sym (ap₂ (λ p q. p || q) (ne_eqb before 0 (λ b. z (omega arith))) (ap (λ p. ltb 0 taken && p) (ne_eqb after 0 z) ∙ nothing (ltb 0 taken))))
+    (λ z. ne_eqb after 0 z ∙ sym (ap₂ (λ p q. p || q) (ne_eqb before 0 (λ b. z (omega arith))) (ap (λ p. ltb 0 taken && p) (ne_eqb after 0 z) ∙ and_right (ltb 0 taken) false refl)))
     (cases_eq after 0)
-  where
-    nothing : (t : Bool) → (t && false) ≡ false
-    nothing true = refl
-    nothing false = refl
 
 -- The fresh nodes of `x` are applied beside `a`; node i has `taken` places with them among its
 -- quiet results.

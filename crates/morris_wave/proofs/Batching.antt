@@ -11,6 +11,7 @@ use Rattle.morris_wave.specs.Batches.{is_from_to, FreshState, FreshHolds, BatchS
 use Rattle.morris_wave.specs.Lists.{contents, list_at}
 use Rattle.morris_wave.specs.Scattering.{AreSorted, Deals, LeadTo, batch_of, IsBatchOf}
 use Rattle.morris_wave.proofs.Tests.{count-cons}
+use Rattle.morris_wave.proofs.Ranks.{times_none}
 use Rattle.morris_wave.proofs.Blocking.{first_of-le}
 use Rattle.morris_wave.proofs.Cutting.{block_is, is_in_block}
 
@@ -49,14 +50,7 @@ both_sides [] ys = sym (zeros ys)
 both_sides (x ∷ xs) ys = omega (arith, sum_by-cons (λ z. times z ys) x xs, one_more x xs ys, both_sides xs ys)
 
 pub not_there : (j : ℕ) (xs : List ℕ) → All (λ x. x ≡ j → ⊥) xs → times j xs ≡ 0
-not_there j [] h = refl
-not_there j (x ∷ xs) h =
-    omega (
-      arith,
-      count-cons (λ z. eqb z j) x xs,
-      cond-false {A = ℕ} (eqb x j) 1 0 (ne_eqb x j (h 0 0 (omega arith))),
-      not_there j xs (λ k d l. h (suc k) d (omega arith)),
-    )
+not_there j xs h = times_none j xs (λ p l. h p 0 l)
 
 -- one piece more, whose predecessors were dealt
 pub lead_append : (g : Net) (c : Parts) (done piece : List ℕ) (old new : List (List ℕ)) (before : List ℕ)

@@ -14,12 +14,8 @@ use Rattle.morris_wave.specs.Keeping.{StretchHolds, Takes, left_of}
 use Rattle.morris_wave.specs.Counts.{AreFew}
 use Rattle.morris_wave.specs.Blocks.{Parts, IsCut, first_of, block_of, IsIn, BlockState, BlockHolds, is_complete, in_applied, count_of, first_wave, next_wave_of}
 use Rattle.morris_wave.specs.Batches.{is_from_to, BatchState, BatchHolds}
-use Rattle.morris_wave.proofs.Parts.{known_won_cong, known_lost_cong}
-use Rattle.morris_wave.proofs.Stretches.{take_enough, take_few, due_enough, due_few, take_holds, next_holds, holds_same, first_holds}
-
-or_false : (t : Bool) → t ≡ (t || false)
-or_false true = refl
-or_false false = refl
+use Rattle.morris_wave.proofs.ExitTests.{or_false}
+use Rattle.morris_wave.proofs.Stretches.{take_enough, take_few, due_enough, due_few, take_holds, next_holds, holds_alike, first_holds}
 
 -- A node is from the end of a piece on or in the piece, exactly where it is from its beginning on.
 one_piece : (j low high : ℕ) → low ≤ high → (not (ltb j high) || is_from_to low high j) ≡ (eqb low 0 || not (ltb j low))
@@ -51,10 +47,10 @@ first_of-le c law k l =
     omega (arith, below)
 
 -- before the first wave
-pub make_holds : (g : Net) (law : IsNet g) (level number first : ℕ) (cut : Parts) (codes counters : List ℕ) (due : List (List ℕ)) (last_due most : ℕ) → IsCut cut → g.size ≡ cut.size → number < cut.blocks
+pub make_holds : {g : Net} (law : IsNet g) (level number : ℕ) (cut : Parts) {first : ℕ} {codes counters : List ℕ} {due : List (List ℕ)} {last_due most : ℕ} → IsCut cut → g.size ≡ cut.size → number < cut.blocks
     → first ≡ first_of cut number → length codes ≡ count_of (first_wave level cut number) → StretchHolds g 0 every first codes counters due last_due → AreFew g first (length codes) most
     → BlockHolds g (first_wave level cut number) first codes counters due last_due most
-make_holds g law level number first cut codes counters due last_due most is_cut size inside first_is count_is kept few = record {
+make_holds law level number cut is_cut size inside first_is count_is kept few = record {
   cut = is_cut;
   size = size;
   number = inside;
@@ -63,11 +59,11 @@ make_holds g law level number first cut codes counters due last_due most is_cut 
   wave = omega arith;
   first_is = first_is;
   count_is = count_is;
-  kept = first_holds g law every (in_applied (first_wave level cut number)) first codes counters due last_due kept;
+  kept = first_holds law (in_applied (first_wave level cut number)) kept;
   few = few;
 }
 
-module _ (g : Net) (law : IsNet g) (s : BlockState) (first : ℕ) (codes counters : List ℕ) (due : List (List ℕ)) (last_due : ℕ) {most : ℕ} (h : BlockHolds g s first codes counters due last_due most) where
+module _ {g : Net} (law : IsNet g) {s : BlockState} {first : ℕ} {codes counters : List ℕ} {due : List (List ℕ)} {last_due most : ℕ} (h : BlockHolds g s first codes counters due last_due most) where
   -- the nodes of the block are those of the stretch
   pub inside_low : (i : ℕ) → IsIn s.cut s.number i → first ≤ i
   inside_low i inside = omega (arith, inside.0, h.first_is)
@@ -79,7 +75,7 @@ module _ (g : Net) (law : IsNet g) (s : BlockState) (first : ℕ) (codes counter
   node_inside i low high = (omega (arith, low, h.first_is), omega (arith, low, high, h.first_is, h.count_is))
 
   -- a batch that goes on with a source that isn't applied yet
-  module _ (b : BatchState) (hb : BatchHolds g b) (cut : b.cut ≡ s.cut) (wave : b.wave ≡ s.wave) (target : b.target ≡ s.number) (fresh : get_or s.applied b.source false ≡ false)
+  module _ {b : BatchState} (hb : BatchHolds g b) (cut : b.cut ≡ s.cut) (wave : b.wave ≡ s.wave) (target : b.target ≡ s.number) (fresh : get_or s.applied b.source false ≡ false)
       (turn : b.high ≡ get_or s.taken_from b.source 0) where
     abbrev sent : ℕ → Bool
     sent j = eqb (block_of s.cut j) b.source && is_from_to b.low b.high j
@@ -106,10 +102,10 @@ module _ (g : Net) (law : IsNet g) (s : BlockState) (first : ℕ) (codes counter
         (omega (arith, at.0, ap₂ first_of cut target, h.first_is), omega (arith, at.0, at.1, ap₂ first_of cut target, ap₂ (λ c t. first_of c (t + 1)) cut target, h.first_is, h.count_is))
 
     pub apply_enough : is_odd s.wave ≡ false → (k : ℕ) → k < length codes → times (first + k) b.nodes ≤ left_of (get_or counters k 0)
-    apply_enough even k l = take_enough g law s.wave (in_applied s) first codes counters due last_due h.kept sent b.nodes taken apart even k l
+    apply_enough even k l = take_enough law h.kept sent b.nodes taken apart even k l
 
     pub apply_few : is_odd s.wave ≡ false → (k : ℕ) → k < length codes → most ≤ 255 → times (first + k) b.nodes ≤ get_or counters k 0
-    apply_few even k l le = take_few g law s.wave (in_applied s) first codes counters due last_due h.kept sent b.nodes taken apart even k l (omega (arith, h.few k l, le))
+    apply_few even k l le = take_few law h.kept sent b.nodes taken apart even k l (omega (arith, h.few k l, le))
 
     source_in : b.source < length s.applied
     source_in = omega (arith, hb.source, h.sources, ap (λ c. c.blocks) cut)
@@ -151,11 +147,7 @@ module _ (g : Net) (law : IsNet g) (s : BlockState) (first : ℕ) (codes counter
       wave = h.wave;
       first_is = h.first_is;
       count_is = codes_len ∙ h.count_is;
-      kept = holds_same g law s.wave (λ j. in_applied s j || sent j) first codes' counters' due last_due
-          (take_holds g law s.wave (in_applied s) first codes counters due last_due h.kept sent b.nodes taken apart codes' counters' codes_len counters_len small takes)
-          (in_applied after)
-          (λ j l. known_won_cong g s.wave (λ i. in_applied s i || sent i) (in_applied after) j (joins j))
-          (λ j l. known_lost_cong g s.wave (λ i. in_applied s i || sent i) (in_applied after) j (joins j));
+      kept = holds_alike law (take_holds law h.kept sent b.nodes taken apart codes' counters' codes_len counters_len small takes) (in_applied after) (λ j l. joins j);
       few = λ k l. h.few k (omega (arith, codes_len, l));
     }
 
@@ -167,15 +159,13 @@ module _ (g : Net) (law : IsNet g) (s : BlockState) (first : ℕ) (codes counter
         (AllPass-from_list_all (λ b. b) s.applied complete (block_of s.cut j) false (omega (arith, block_of-lt s.cut h.cut j (omega (arith, h.size, l)), h.sources)))
 
     pub complete_holds : StretchHolds g s.wave every first codes counters due last_due
-    complete_holds =
-        holds_same g law s.wave (in_applied s) first codes counters due last_due h.kept every
-        (λ j l. known_won_cong g s.wave (in_applied s) every j (all_applied j l)) (λ j l. known_lost_cong g s.wave (in_applied s) every j (all_applied j l))
+    complete_holds = holds_alike law h.kept every all_applied
 
     pub advance_enough : s.wave < 65534 → (k : ℕ) → k < length codes → times (first + k) (list_at due (s.wave + 1)) ≤ left_of (get_or counters k 0)
-    advance_enough last k l = due_enough g law s.wave first codes counters due last_due complete_holds last k l
+    advance_enough last k l = due_enough law complete_holds last k l
 
     pub advance_few : s.wave < 65534 → is_odd (s.wave + 1) ≡ false → (k : ℕ) → k < length codes → most ≤ 255 → times (first + k) (list_at due (s.wave + 1)) ≤ get_or counters k 0
-    advance_few last even k l le = due_few g law s.wave first codes counters due last_due complete_holds last even k l (omega (arith, h.few k l, le))
+    advance_few last even k l le = due_few law complete_holds last even k l (omega (arith, h.few k l, le))
 
     none_applied : (j : ℕ) → j < s.cut.size → none j ≡ in_applied (next_wave_of s) j
     none_applied j l =
@@ -196,11 +186,8 @@ module _ (g : Net) (law : IsNet g) (s : BlockState) (first : ℕ) (codes counter
       wave = omega (arith, last);
       first_is = h.first_is;
       count_is = codes_len ∙ h.count_is;
-      kept = holds_same g law (s.wave + 1) none first codes' counters' (set due (s.wave + 1) []) last_due
-          (next_holds g law s.wave first codes counters due last_due complete_holds last codes' counters' codes_len counters_len small comes)
-          (in_applied (next_wave_of s))
-          (λ j l. known_won_cong g (s.wave + 1) none (in_applied (next_wave_of s)) j (none_applied j (omega (arith, h.size, l))))
-          (λ j l. known_lost_cong g (s.wave + 1) none (in_applied (next_wave_of s)) j (none_applied j (omega (arith, h.size, l))));
+      kept = holds_alike law (next_holds law complete_holds last codes' counters' codes_len counters_len small comes) (in_applied (next_wave_of s))
+          (λ j l. none_applied j (omega (arith, h.size, l)));
       few = λ k l. h.few k (omega (arith, codes_len, l));
     }
 

@@ -11,7 +11,8 @@ use Rattle.morris_wave.specs.Lists.{contents, list_at}
 use Rattle.morris_wave.specs.Scattering.{AreSorted, Deals}
 use Rattle.morris_wave.proofs.Marking.{times_more}
 
-times_push : (i node : ℕ) (xs : List ℕ) → times i (xs ++ node ∷ []) ≡ times i xs + cond {A = ℕ} (eqb node i) 1 0
+-- a number more at the end of a list
+pub times_push : (i node : ℕ) (xs : List ℕ) → times i (xs ++ node ∷ []) ≡ times i xs + cond {A = ℕ} (eqb node i) 1 0
 times_push i node xs = sum_by_push (λ x. cond {A = ℕ} (eqb x i) 1 0) xs node
 
 -- one node more is put at the end of its block's list

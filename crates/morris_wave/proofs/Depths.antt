@@ -121,7 +121,7 @@ lost_exit_new n c h k =
     subst (λ x. is_odd x ≡ true) (due_code n c w.1 l) w.0
 
 -- no exit is lost in fewer than 0 plies
-no_lost_exit : (cs : List ℕ) → list_any (is_lost_exit 0) cs ≡ true → ⊥
+pub no_lost_exit : (cs : List ℕ) → list_any (is_lost_exit 0) cs ≡ true → ⊥
 no_lost_exit [] h = false≢true h
 no_lost_exit (c ∷ cs) h =
     ⊎_elim
@@ -130,6 +130,10 @@ no_lost_exit (c ∷ cs) h =
     false≢true (subst (λ x. is_odd x ≡ true) z w.0))
     (no_lost_exit cs)
     (or_cases (is_lost_exit 0 c) (list_any (is_lost_exit 0) cs) h)
+
+pub nothing_lost : (js : List ℕ) → list_any (λ (j : ℕ). false) js ≡ true → ⊥
+nothing_lost [] e = false≢true e
+nothing_lost (j ∷ js) e = nothing_lost js e
 
 -- lost codes are odd and won codes are even
 mutual
@@ -152,10 +156,6 @@ mutual
       (λ a. absurd (nothing_lost (g.quiet i) a))
       (λ a. absurd (no_lost_exit (g.exits i) a))
       (or_cases (list_any (is_lost g zero) (g.quiet i)) (list_any (is_lost_exit 0) (g.exits i)) h)
-    where
-      nothing_lost : (js : List ℕ) → list_any (λ (j : ℕ). false) js ≡ true → ⊥
-      nothing_lost [] e = false≢true e
-      nothing_lost (j ∷ js) e = nothing_lost js e
   won_parity g (suc n) i h k =
       let w = or_parts (list_any (is_lost g n) (g.quiet i)) (list_any (is_lost_exit n) (g.exits i)) k in
       ⊎_elim

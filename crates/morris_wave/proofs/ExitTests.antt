@@ -1,5 +1,5 @@
 -- What the summary of a node's exits says of them.
-use Rattle.std.proofs.Common.{◌≡◌, ℕ, zero, suc, ◌-◌, ◌<◌, ◌≤◌, min, max, Bool, true, false, not, ◌&&◌, ◌||◌, cond, eqb, ltb, leb, List, [], ◌∷◌, Option, Some, None, is_none, map, refl, sym, ap, ap₂, ◌∙◌, ⊎_elim, ◌⊎◌, arith}
+use Rattle.std.proofs.Common.{inl, inr, ◌≡◌, ℕ, zero, suc, ◌-◌, ◌<◌, ◌≤◌, min, max, Bool, true, false, not, ◌&&◌, ◌||◌, cond, eqb, ltb, leb, List, [], ◌∷◌, Option, Some, None, is_none, map, refl, sym, ap, ap₂, ◌∙◌, ⊎_elim, ◌⊎◌, arith}
 use Rattle.std.specs.List.{list_all, list_any, filter}
 use Rattle.std.proofs.lemmas.Bool.{false≢true, and_parts, and_from, or_left, or_right, or_from, cases_Bool, and_cases, both_ways, and_left, and_right, le-leb, lt-leb, eq-eqb, ne_eqb, cases_lt, lt-ltb, le-ltb, ltb-true, ltb-false, not-true, not-false}
 use Rattle.morris_wave.specs.Exits.{is_odd, is_won_code, least, greatest, depths, exits_of, some_below, none_from, exits_lost, exits_won}
@@ -28,26 +28,26 @@ ltb-max n x y =
     (λ a. le-ltb (max x y) n (omega arith) ∙ sym (and_left (ltb x n) (ltb y n) (le-ltb x n a)))
     (cases_lt x n)
 
-or-false : (b : Bool) → b ≡ (b || false)
-or-false true = refl
-or-false false = refl
+pub or_false : (b : Bool) → b ≡ (b || false)
+or_false true = refl
+or_false false = refl
 
-and-true : (b : Bool) → b ≡ (b && true)
-and-true true = refl
-and-true false = refl
+pub and_true : (b : Bool) → b ≡ (b && true)
+and_true true = refl
+and_true false = refl
 
 some_below-least : (n x : ℕ) (xs : List ℕ) → some_below n (least (x ∷ xs)) ≡ (ltb x n || some_below n (least xs))
 some_below-least n x xs = at (least xs)
   where
     at : (o : Option ℕ) → ltb (elim o [ None ↦ x | Some y ↦ min x y ]) n ≡ (ltb x n || some_below n o)
-    at None = or-false (ltb x n)
+    at None = or_false (ltb x n)
     at (Some y) = ltb-min n x y
 
 none_from-greatest : (n x : ℕ) (xs : List ℕ) → none_from n (greatest (x ∷ xs)) ≡ (ltb x n && none_from n (greatest xs))
 none_from-greatest n x xs = at (greatest xs)
   where
     at : (o : Option ℕ) → ltb (elim o [ None ↦ x | Some y ↦ max x y ]) n ≡ (ltb x n && none_from n o)
-    at None = and-true (ltb x n)
+    at None = and_true (ltb x n)
     at (Some y) = ltb-max n x y
 
 pub depths_yes : (p : ℕ → Bool) (c : ℕ) (cs : List ℕ) → p c ≡ true → depths p (c ∷ cs) ≡ (c - 1) ∷ depths p cs
@@ -64,29 +64,16 @@ leb-pred c n pos =
     (λ a. lt-leb c n (omega arith) ∙ sym (le-ltb (c - 1) n a))
     (cases_lt (c - 1) n)
 
-odd_above : (c : ℕ) → is_odd c ≡ true → 0 < c
+pub odd_above : (c : ℕ) → is_odd c ≡ true → 0 < c
 odd_above zero e = absurd (false≢true e)
 odd_above (suc c) e = omega arith
 
 pub some_exit_lost : (n : ℕ) (cs : List ℕ) → list_any (is_lost_exit n) cs ≡ exits_lost n (exits_of cs)
 some_exit_lost n [] = refl
-some_exit_lost n (c ∷ cs) =
-    ⊎_elim
-    (λ e. let this : is_lost_exit n c ≡ ltb (c - 1) n = ap (λ b. b && leb c n) e ∙ leb-pred c n (odd_above c e) in
-    ap₂ (λ a b. a || b) this (some_exit_lost n cs)
-    ∙ (sym (some_below-least n (c - 1) (depths is_odd cs)) ∙ ap (λ ds. some_below n (least ds)) (sym (depths_yes is_odd c cs e))))
-    (λ e. let this : is_lost_exit n c ≡ false = ap (λ b. b && leb c n) e in
-    ap₂ (λ a b. a || b) this (some_exit_lost n cs)
-    ∙ ap (λ ds. some_below n (least ds)) (sym (depths_no is_odd c cs e)))
-    (cases_Bool (is_odd c))
-
--- a code that isn't won is lost or drawn
-not_won : (c : ℕ) → is_won_code c ≡ false → is_odd c ≡ false → eqb c 0 ≡ true
-not_won c h k =
-    ⊎_elim
-    (λ e. absurd (both_ways (is_odd c) k (not-false (is_odd c) e)))
-    (λ e. eq-eqb c 0 (omega (arith, ltb-false 0 c e)))
-    (and_cases (not (is_odd c)) (ltb 0 c) h)
+some_exit_lost n (c ∷ cs) = elim (cases_Bool (is_odd c)) [
+  | inl odd ↦ rw (odd, leb-pred c n (odd_above c odd), some_exit_lost n cs) (sym (some_below-least n (c - 1) (depths is_odd cs)))
+  | inr even ↦ rw even (some_exit_lost n cs)
+]
 
 shuffle : (a n d w : Bool) → (a && (n && (d && w))) ≡ (n && (d && (a && w)))
 shuffle true n d w = refl
@@ -96,31 +83,12 @@ shuffle false false d w = refl
 
 pub each_exit_won : (n : ℕ) (cs : List ℕ) → list_all (is_won_exit n) cs ≡ exits_won n (exits_of cs)
 each_exit_won n [] = refl
-each_exit_won n (c ∷ cs) =
-    ⊎_elim
-    (λ e. let v = and_parts (not (is_odd c)) (ltb 0 c) e in
-    let even : is_odd c ≡ false = not-true (is_odd c) v.0 in
-    let above : 0 < c = ltb-true 0 c v.1 in
-    let this : is_won_exit n c ≡ ltb (c - 1) n = ap (λ b. b && leb c n) e ∙ leb-pred c n above in
-    let apart : eqb c 0 ≡ false = ne_eqb c 0 (λ z. omega arith) in
-    ap₂ (λ a b. a && b) this (each_exit_won n cs)
-    ∙ (shuffle (ltb (c - 1) n) (is_none (least (depths is_odd cs))) (not (list_any (λ x. eqb x 0) cs)) (none_from n (greatest (depths is_won_code cs)))
-    ∙ (ap (λ w. is_none (least (depths is_odd cs)) && (not (list_any (λ x. eqb x 0) cs) && w)) (sym (none_from-greatest n (c - 1) (depths is_won_code cs)))
-    ∙ (ap (λ ds. is_none (least (depths is_odd cs)) && (not (list_any (λ x. eqb x 0) cs) && none_from n (greatest ds))) (sym (depths_yes is_won_code c cs e))
-    ∙ (ap (λ z. is_none (least (depths is_odd cs)) && (not (z || list_any (λ x. eqb x 0) cs) && none_from n (greatest (depths is_won_code (c ∷ cs))))) (sym apart)
-    ∙ ap (λ ds. is_none (least ds) && (not (eqb c 0 || list_any (λ x. eqb x 0) cs) && none_from n (greatest (depths is_won_code (c ∷ cs))))) (sym (depths_no is_odd c cs even)))))))
-    (λ e. let this : is_won_exit n c ≡ false = ap (λ b. b && leb c n) e in
-    ap (λ a. a && list_all (is_won_exit n) cs) this ∙ sym (lost_or_drawn e))
-    (cases_Bool (is_won_code c))
-  where
-    rest : Bool
-    rest = none_from n (greatest (depths is_won_code (c ∷ cs)))
-
-    lost_or_drawn : is_won_code c ≡ false → exits_won n (exits_of (c ∷ cs)) ≡ false
-    lost_or_drawn e =
-        ⊎_elim
-        (λ odd. ap (λ ds. is_none (least ds) && (not (list_any (λ x. eqb x 0) (c ∷ cs)) && none_from n (greatest (depths is_won_code (c ∷ cs))))) (depths_yes is_odd c cs odd))
-        (λ even. let zero_code = not_won c e even in
-        ap (λ z. is_none (least (depths is_odd (c ∷ cs))) && (not (z || list_any (λ x. eqb x 0) cs) && none_from n (greatest (depths is_won_code (c ∷ cs))))) zero_code
-        ∙ and_right (is_none (least (depths is_odd (c ∷ cs)))) false refl)
-        (cases_Bool (is_odd c))
+each_exit_won n (c ∷ cs) = elim (cases_Bool (is_odd c)) [
+  | inl odd ↦ rw odd refl
+  | inr even ↦ elim (cases_lt 0 c) [
+    | inl above ↦
+        rw (even, lt-ltb 0 c above, ne_eqb c 0 (omega arith), leb-pred c n above, each_exit_won n cs, none_from-greatest n (c - 1) (depths is_won_code cs))
+        (shuffle (ltb (c - 1) n) (is_none (least (depths is_odd cs))) (not (list_any (λ x. eqb x 0) cs)) (none_from n (greatest (depths is_won_code cs))))
+    | inr zero_code ↦ rw (even, le-ltb 0 c zero_code, eq-eqb c 0 (omega arith)) (sym (and_right (is_none (least (depths is_odd cs))) false refl))
+  ]
+]

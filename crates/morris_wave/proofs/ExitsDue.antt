@@ -1,13 +1,13 @@
 -- What comes due of the exits of a node at a wave.
 use Rattle.std.proofs.Common.{◌≡◌, ℕ, zero, suc, ◌+◌, ◌-◌, ◌<◌, min, max, Bool, true, false, not, ◌&&◌, ◌||◌, cond, eqb, ltb, List, [], ◌∷◌, Option, Some, None, is_none, refl, sym, ap, ap₂, ◌∙◌, subst, ⊎_elim, arith}
 use Rattle.std.specs.List.{list_all}
-use Rattle.std.proofs.lemmas.Bool.{false≢true, true≢false, and_parts, and_from, or_left, or_right, cases_Bool, eq-eqb, eqb-true, ne_eqb, cases_eq, cases_lt, lt-ltb, le-ltb, ltb-true, not-true, and_left}
+use Rattle.std.proofs.lemmas.Bool.{false≢true, true≢false, and_parts, and_from, or_left, or_right, cases_Bool, eq-eqb, eqb-true, ne_eqb, cases_eq, cases_lt, lt-ltb, le-ltb, ltb-true, not-true, not-false, and_left, and_right}
 use Rattle.morris_wave.specs.declared.network.Exits.{Exits}
 use Rattle.morris_wave.specs.Nets.{Net}
 use Rattle.morris_wave.specs.Exits.{is_odd, is_won_code, least, greatest, depths, exits_of, exits_lost, exits_won, some_below, none_from, due_of}
 use Rattle.morris_wave.specs.Waves.{open_at}
 use Rattle.morris_wave.specs.Keeping.{due_wave, pending_at}
-use Rattle.morris_wave.proofs.ExitTests.{depths_yes, depths_no}
+use Rattle.morris_wave.proofs.ExitTests.{or_false, odd_above, depths_yes, depths_no}
 
 -- the wave at which exits come due, and whether one of them is lost, by parts
 ltb-suc : (d n : ℕ) → ltb d (suc n) ≡ (ltb d n || eqb (d + 1) (suc n))
@@ -19,10 +19,6 @@ ltb-suc d n =
     (λ e. le-ltb d (suc n) (omega arith) ∙ sym (ap₂ (λ a b. a || b) (le-ltb d n h) (ne_eqb (d + 1) (suc n) (λ z. e (omega arith)))))
     (cases_eq d n))
     (cases_lt d n)
-
-or_false : (t : Bool) → t ≡ (t || false)
-or_false true = refl
-or_false false = refl
 
 lost_at : (n : ℕ) (o w : Option ℕ) (d : Bool)
     → some_below (suc n) o ≡ (some_below n o || (not (is_none o) && eqb (elim o [ None ↦ cond d 0 (due_of w) | Some depth ↦ depth + 1 ]) (suc n)))
@@ -55,11 +51,11 @@ pub exits_won_before : (n : ℕ) (e : Exits) → is_none e.least_lost ≡ true �
 exits_won_before n e none due = won_before n e.least_lost e.greatest_won e.drawn none due
 
 -- the least and the greatest of a list pass a test that each of them passes
-abbrev pick : (p : ℕ → Bool) → Option ℕ → Bool
+abbrev pub pick : (p : ℕ → Bool) → Option ℕ → Bool
 pick p None = true
 pick p (Some d) = p d
 
-all_least : (p : ℕ → Bool) (xs : List ℕ) → list_all p xs ≡ true → pick p (least xs) ≡ true
+pub all_least : (p : ℕ → Bool) (xs : List ℕ) → list_all p xs ≡ true → pick p (least xs) ≡ true
 all_least p [] h = refl
 all_least p (x ∷ xs) h = let w = and_parts (p x) (list_all p xs) h in at (least xs) w.0 (all_least p xs w.1)
   where
@@ -71,7 +67,7 @@ all_least p (x ∷ xs) h = let w = and_parts (p x) (list_all p xs) h in at (leas
         (λ l. let e : y ≡ min x y = omega arith in subst (λ z. p z ≡ true) e b)
         (cases_lt x y)
 
-all_greatest : (p : ℕ → Bool) (xs : List ℕ) → list_all p xs ≡ true → pick p (greatest xs) ≡ true
+pub all_greatest : (p : ℕ → Bool) (xs : List ℕ) → list_all p xs ≡ true → pick p (greatest xs) ≡ true
 all_greatest p [] h = refl
 all_greatest p (x ∷ xs) h = let w = and_parts (p x) (list_all p xs) h in at (greatest xs) w.0 (all_greatest p xs w.1)
   where
@@ -82,10 +78,6 @@ all_greatest p (x ∷ xs) h = let w = and_parts (p x) (list_all p xs) h in at (g
         (λ l. let e : y ≡ max x y = omega arith in subst (λ z. p z ≡ true) e b)
         (λ l. let e : x ≡ max x y = omega arith in subst (λ z. p z ≡ true) e a)
         (cases_lt x y)
-
-odd_above : (c : ℕ) → is_odd c ≡ true → 0 < c
-odd_above zero e = absurd (false≢true e)
-odd_above (suc c) e = omega arith
 
 lost_depths : (cs : List ℕ) → list_all (λ d. is_odd (d + 1)) (depths is_odd cs) ≡ true
 lost_depths [] = refl
@@ -128,24 +120,16 @@ module _ (n : ℕ) (cs : List ℕ) where
   kind b odd =
       ⊎_elim
       (λ e. ap (λ t. t && eqb (due_wave (exits_of cs)) (suc n)) (sym (due_parity n cs (eqb-true (due_wave (exits_of cs)) (suc n) e)) ∙ odd))
-      (λ e. ap (λ t. not (is_none (exits_of cs).least_lost) && t) e ∙ (nothing (not (is_none (exits_of cs).least_lost)) ∙ sym (ap (λ t. b && t) e ∙ nothing b)))
+      (λ e. ap (λ t. not (is_none (exits_of cs).least_lost) && t) e ∙ (and_right (not (is_none (exits_of cs).least_lost)) false refl ∙ sym (ap (λ t. b && t) e ∙ and_right b false refl)))
       (cases_Bool (eqb (due_wave (exits_of cs)) (suc n)))
-    where
-      nothing : (t : Bool) → (t && false) ≡ false
-      nothing true = refl
-      nothing false = refl
 
   other : (b : Bool) → is_odd (suc n) ≡ b → (is_none (exits_of cs).least_lost && eqb (due_wave (exits_of cs)) (suc n)) ≡ (not b && eqb (due_wave (exits_of cs)) (suc n))
   other b odd =
       ⊎_elim
       (λ e. ap (λ t. t && eqb (due_wave (exits_of cs)) (suc n)) (twice (is_none (exits_of cs).least_lost) ∙ ap not (sym (due_parity n cs (eqb-true (due_wave (exits_of cs)) (suc n) e)) ∙ odd)))
-      (λ e. ap (λ t. is_none (exits_of cs).least_lost && t) e ∙ (nothing (is_none (exits_of cs).least_lost) ∙ sym (ap (λ t. not b && t) e ∙ nothing (not b))))
+      (λ e. ap (λ t. is_none (exits_of cs).least_lost && t) e ∙ (and_right (is_none (exits_of cs).least_lost) false refl ∙ sym (ap (λ t. not b && t) e ∙ and_right (not b) false refl)))
       (cases_Bool (eqb (due_wave (exits_of cs)) (suc n)))
     where
-      nothing : (t : Bool) → (t && false) ≡ false
-      nothing true = refl
-      nothing false = refl
-
       twice : (t : Bool) → t ≡ not (not t)
       twice true = refl
       twice false = refl
@@ -163,11 +147,7 @@ module _ (n : ℕ) (cs : List ℕ) where
   even_won even = exits_won_due n (exits_of cs) ∙ ap (λ t. exits_won n (exits_of cs) || t) (other false even)
 
   pub even_won_before : is_odd (suc n) ≡ false → due_wave (exits_of cs) ≡ suc n → exits_won n (exits_of cs) ≡ false
-  even_won_before even due = exits_won_before n (exits_of cs) (none (is_none (exits_of cs).least_lost) (sym (due_parity n cs due) ∙ even)) due
-    where
-      none : (t : Bool) → not t ≡ false → t ≡ true
-      none true e = refl
-      none false e = absurd (true≢false e)
+  even_won_before even due = exits_won_before n (exits_of cs) (not-false (is_none (exits_of cs).least_lost) (sym (due_parity n cs due) ∙ even)) due
 
 -- a node that waits for nothing is one that is lost, and no other
 zero_parts : (c : ℕ) (w : Bool) → eqb (c + cond {A = ℕ} w 0 1) 0 ≡ (eqb c 0 && w)
@@ -176,11 +156,7 @@ zero_parts c true =
     (λ e. eq-eqb (c + 0) 0 (omega arith) ∙ sym (and_from (eqb c 0) true (eq-eqb c 0 e) refl))
     (λ e. ne_eqb (c + 0) 0 (λ z. e (omega arith)) ∙ sym (and_left (eqb c 0) true (ne_eqb c 0 e)))
     (cases_eq c 0)
-zero_parts c false = ne_eqb (c + 1) 0 (λ z. omega arith) ∙ nothing (eqb c 0)
-  where
-    nothing : (t : Bool) → false ≡ (t && false)
-    nothing true = refl
-    nothing false = refl
+zero_parts c false = ne_eqb (c + 1) 0 (λ z. omega arith) ∙ sym (and_right (eqb c 0) false refl)
 
 pub pending_zero : (g : Net) (n : ℕ) (a : ℕ → Bool) (i : ℕ) → eqb (pending_at g n a i) 0 ≡ (eqb (open_at g n a i) 0 && exits_won n (exits_of (g.exits i)))
 pending_zero g n a i = zero_parts (open_at g n a i) (exits_won n (exits_of (g.exits i)))

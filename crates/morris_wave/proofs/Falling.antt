@@ -5,6 +5,7 @@ use Rattle.std.proofs.lemmas.List.Sums.{sum_by-take-le}
 use Rattle.morris_wave.specs.Nets.{times}
 use Rattle.morris_wave.specs.Solving.{Marks, among}
 use Rattle.morris_wave.specs.Keeping.{LowersBy, left_of}
+use Rattle.morris_wave.proofs.ExitTests.{and_true}
 use Rattle.morris_wave.proofs.Tests.{some_counted}
 use Rattle.morris_wave.proofs.Marking.{marks_twice, among_more, times_more}
 
@@ -119,7 +120,3 @@ pub marked_more : (nodes : List ℕ) (i node : ℕ) → i < length nodes → nod
 marked_more nodes i node inside is first place at_place codes mid new code pos len a b =
     marks_twice codes mid new (λ k. among (take i nodes) (first + k)) (λ k. eqb place k && true) (λ k. among (take (i + 1) nodes) (first + k)) code pos len
     (λ k l. among_more nodes i node inside is (first + k) ∙ ap (λ t. among (take i nodes) (first + k) || t) (sym (at_place k) ∙ and_true (eqb place k))) a b
-  where
-    and_true : (t : Bool) → t ≡ (t && true)
-    and_true true = refl
-    and_true false = refl

@@ -17,6 +17,8 @@ use Rattle.morris_wave.specs.declared.gathering.GatherFault.{GatherFault}
 use Rattle.morris_wave.specs.declared.gathering.GatherFault.TheVariants.{Memory}
 use Rattle.morris_wave.specs.Gathering.{has_number, complaint, first_fault, first_complaint, HasAll, IsFaultAfter, IsGatherFault, ComesOnce, Fits, ArePlaces, AreKnown, IsGathered}
 use Rattle.morris_wave.proofs.Tests.{count_yes, count_no, some_counted}
+use Rattle.morris_wave.proofs.ExitTests.{or_false}
+use Rattle.morris_wave.proofs.Parts.{new_depth}
 use Rattle.morris_wave.proofs.Stretches.{codes_within}
 use Rattle.morris_wave.proofs.Blocking.{complete_holds, same_parts, block_of-lt}
 use Rattle.morris_wave.proofs.Cutting.{is_in_block}
@@ -146,10 +148,6 @@ place_more blocks k s places inside is small h = record {
     more : (m : ℕ) → has_number (take (k + 1) blocks) m ≡ (has_number (take k blocks) m || eqb s.number m)
     more m = list_any_more (λ t. eqb t.number m) blocks k s inside ∙ ap (λ t. has_number (take k blocks) m || eqb t.number m) (sym is)
 
-    or_none : (b : Bool) → b ≡ (b || false)
-    or_none true = refl
-    or_none false = refl
-
     written : (m : ℕ) → s.number ≡ m → get_or (set places s.number (Some k)) m None ≡ Some k
     written m e = subst (λ x. get_or (set places s.number (Some k)) x None ≡ Some k) e (get_or-set_same places s.number (Some k) None (omega (arith, h.len)))
 
@@ -160,7 +158,7 @@ place_more blocks k s places inside is small h = record {
     here m e = ap is_some (written m e) ∙ sym (more m ∙ or_right (has_number (take k blocks) m) (eqb s.number m) (eq-eqb s.number m e))
 
     other : (m : ℕ) → m < 1024 → (s.number ≡ m → ⊥) → is_some (get_or (set places s.number (Some k)) m None) ≡ has_number (take (k + 1) blocks) m
-    other m l e = ap is_some (kept m e) ∙ (h.came m l ∙ (or_none (has_number (take k blocks) m) ∙ sym (more m ∙ ap (λ t. has_number (take k blocks) m || t) (ne_eqb s.number m e))))
+    other m l e = ap is_some (kept m e) ∙ (h.came m l ∙ (or_false (has_number (take k blocks) m) ∙ sym (more m ∙ ap (λ t. has_number (take k blocks) m || t) (ne_eqb s.number m e))))
 
     same_some : (a b : ℕ) → Some a ≡ Some b → a ≡ b
     same_some a b q = cc
@@ -181,11 +179,11 @@ all_places blocks k places e h = record {
 }
 
 -- the entries of a complete block
-pub entries_are : (g : Net) (law : IsNet g) (s : BlockState) (first : ℕ) (codes counters : List ℕ) (due : List (List ℕ)) (last_due : ℕ) {most : ℕ} (h : BlockHolds g s first codes counters due last_due most) → is_complete s ≡ true
-    → (k : ℕ) → k < count_of s → get_or codes k 0 ≡ code_within g (s.wave + 1) (first_node s + k)
-entries_are g law s first codes counters due last_due h complete k l =
-    codes_within g law s.wave first codes counters due last_due (complete_holds g law s first codes counters due last_due h complete) k (omega (arith, h.count_is, l))
-    ∙ (ap (λ n. code_within g n (first + k)) (omega arith) ∙ ap (λ f. code_within g (s.wave + 1) (f + k)) h.first_is)
+module _ {g : Net} (law : IsNet g) {s : BlockState} {first : ℕ} {codes counters : List ℕ} {due : List (List ℕ)} {last_due most : ℕ} (h : BlockHolds g s first codes counters due last_due most) where
+  pub entries_are : is_complete s ≡ true → (k : ℕ) → k < count_of s → get_or codes k 0 ≡ code_within g (s.wave + 1) (first_node s + k)
+  entries_are complete k l =
+      codes_within law (complete_holds law h complete) k (omega (arith, h.count_is, l))
+      ∙ (ap (λ n. code_within g n (first + k)) (omega arith) ∙ ap (λ f. code_within g (s.wave + 1) (f + k)) h.first_is)
 
 -- the last block ends with the last node
 pub first_last : (c : Parts) → 1 ≤ c.blocks → first_of c c.blocks ≡ c.size
@@ -276,13 +274,9 @@ module _ (g : Net) (level wave : ℕ) (cut : Parts) (law : IsCut cut) where
       (λ e. one_of rest k e (All-tail (Fits level wave cut) s rest fit) (All-tail (IsSettled g) s rest settled))
       (or_cases (eqb s.number k) (has_number rest k) h)
 
-  new_depth : (i : ℕ) → is_fresh g (suc wave) i ≡ true → HasDepth g i wave
-  unfolding is_fresh
-  new_depth i e = let w = and_parts (not (is_decided g wave i)) (is_decided g (suc wave) i) e in record { reached = w.1; not_before = not-true (is_decided g wave i) w.0 }
-
   pub all_quiet : (blocks : List BlockState) → g.size ≡ cut.size → HasAll cut blocks → All (Fits level wave cut) blocks → All (IsSettled g) blocks → IsQuiet g wave
   all_quiet blocks size all fit settled = record {
-    no_new = λ i l. false_from_ne_true (is_fresh g (suc wave) i) (λ e. let w = of i l in w.1.1.quiet i (in_it i l w.0 w.1.0 w.1.2) (subst (λ n. HasDepth g i n) (sym w.1.0.wave_is) (new_depth i e)));
+    no_new = λ i l. false_from_ne_true (is_fresh g (suc wave) i) (λ e. let w = of i l in w.1.1.quiet i (in_it i l w.0 w.1.0 w.1.2) (subst (λ n. HasDepth g i n) (sym w.1.0.wave_is) (new_depth g wave i e)));
     due = λ i l. let w = of i l in omega (arith, w.1.1.due i (in_it i l w.0 w.1.0 w.1.2), w.1.0.wave_is);
   }
     where

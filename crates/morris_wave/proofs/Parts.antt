@@ -1,12 +1,17 @@
 -- What is known, and the entries, in other words for the parts that are applied.
 use Rattle.std.proofs.Common.{◌≡◌, ℕ, zero, suc, Bool, true, false, not, ◌&&◌, ◌||◌, eqb, ltb, refl, sym, ap, ap₂, ◌∙◌, ⊎_elim, arith}
-use Rattle.std.proofs.lemmas.Bool.{false≢true, and_right, cases_Bool, cond-true, cond-false, eq-eqb, ne_eqb, lt-ltb}
+use Rattle.std.proofs.lemmas.Bool.{false≢true, and_parts, and_right, not-true, cases_Bool, cond-true, cond-false, eq-eqb, ne_eqb, lt-ltb}
 use Rattle.morris_wave.specs.Nets.{Net}
-use Rattle.morris_wave.specs.Values.{is_lost, is_won, is_decided, code_within}
+use Rattle.morris_wave.specs.Values.{is_lost, is_won, is_decided, code_within, HasDepth}
 use Rattle.morris_wave.specs.Waves.{known_lost, known_won, is_decided_at, entry_at, is_fresh}
 use Rattle.morris_wave.specs.Solving.{every}
 use Rattle.morris_wave.proofs.Depths.{lost_more, won_more, apart, code_is, code_kept, code_new, code_open}
 use Rattle.morris_wave.proofs.Known.{decided_at_least, decided_at_most}
+
+-- a node that is fresh after a wave has the depth of the wave
+pub new_depth : (g : Net) (n i : ℕ) → is_fresh g (suc n) i ≡ true → HasDepth g i n
+unfolding is_fresh
+new_depth g n i e = let w = and_parts (not (is_decided g n i)) (is_decided g (suc n) i) e in record { reached = w.1; not_before = not-true (is_decided g n i) w.0 }
 
 -- what is known depends on the parts alone
 pub known_won_cong : (g : Net) (n : ℕ) (a b : ℕ → Bool) (j : ℕ) → a j ≡ b j → known_won g n a j ≡ known_won g n b j

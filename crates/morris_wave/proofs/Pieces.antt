@@ -10,12 +10,8 @@ use Rattle.morris_wave.specs.Nets.{Net, times}
 use Rattle.morris_wave.specs.Waves.{is_fresh}
 use Rattle.morris_wave.specs.Blocks.{IsIn}
 use Rattle.morris_wave.specs.Batches.{is_from_to, FreshState, FreshHolds, rest_of, piece_of}
-use Rattle.morris_wave.proofs.Tests.{count_yes}
+use Rattle.morris_wave.proofs.Tests.{at_most_one, count_yes}
 use Rattle.morris_wave.proofs.Batching.{not_there}
-
-at_most_one : (t : Bool) → cond {A = ℕ} t 1 0 ≤ 1
-at_most_one true = omega arith
-at_most_one false = omega arith
 
 module _ (g : Net) (f : FreshState) (h : FreshHolds g f) (place : ℕ) (some : 0 < place) (l : place < length f.nodes) where
   abbrev rest : List ℕ

@@ -1,15 +1,13 @@
 -- Lost and won in fewer than n + 1 plies is lost and won within n, as the rules of the game count.
-use Rattle.std.proofs.Common.{◌≡◌, ℕ, zero, suc, ◌-◌, ◌<◌, ◌%◌, Bool, true, false, not, ltb, leb, List, [], ◌∷◌, get_or, refl, sym, subst, ⊎_elim, inl, inr, ◌⊎◌, ◌↔◌, arith, add-one}
+use Rattle.std.proofs.Common.{◌≡◌, ℕ, zero, suc, ◌-◌, ◌<◌, ◌%◌, Bool, true, false, not, ltb, leb, List, [], ◌∷◌, get_or, refl, sym, subst, ⊎_elim, inl, inr, ◌⊎◌, ◌↔◌, arith, add-one, ◌∙◌, ap}
 use Rattle.std.specs.List.{list_all, list_any, Any}
-use Rattle.std.proofs.lemmas.Bool.{false≢true, and_parts, and_from, or_cases, or_left, or_right, leb-true, le-leb, eqb-true, eqb-false, eq-eqb, ne_eqb, ltb-true, lt-ltb, not-true, not_from_false}
+use Rattle.std.proofs.lemmas.Bool.{false≢true, and_parts, and_from, or_cases, or_left, or_right, leb-true, le-leb, eqb-true, eqb-false, eq-eqb, ne_eqb, ltb-true, lt-ltb, not-true, not_from_false, both_ways, or_parts}
 use Rattle.std.proofs.lemmas.List.Sums.{AllPass-from_list_all, list_all-from_AllPass}
 use Rattle.std.proofs.lemmas.List.Folds.{Any-from_list_any, list_any-from_Any}
 use Rattle.morris_wave.specs.Nets.{Net}
 use Rattle.morris_wave.specs.Exits.{is_odd, is_won_code}
 use Rattle.morris_wave.specs.Values.{is_lost, is_won, some_lost, all_won, is_lost_exit, is_won_exit, LostWithin, WonWithin, IsExitLost, IsExitWon, HasNoResult, EveryResultWon, SomeResultLost, PlyRules, is_decided, HasDepth, CodeRules}
-use Rattle.morris_wave.proofs.Depths.{lost_parity, won_parity, is_odd-suc, apart, decided_by_then}
-use Rattle.std.proofs.Common.{◌∙◌, ap}
-use Rattle.std.proofs.lemmas.Bool.{both_ways, or_parts}
+use Rattle.morris_wave.proofs.Depths.{no_lost_exit, nothing_lost, lost_parity, won_parity, is_odd-suc, apart, decided_by_then}
 
 exit_won : (m c : ℕ) → is_won_exit (suc m) c ≡ true → IsExitWon m c
 exit_won m c h =
@@ -92,20 +90,6 @@ no_exit (c ∷ cs) h =
     let u = and_parts (not (is_odd c)) (ltb 0 c) v.0 in
     absurd (omega (arith, ltb-true 0 c u.1, leb-true c 0 v.1))
 
-none_lost_exit : (cs : List ℕ) → list_any (is_lost_exit 0) cs ≡ true → ⊥
-none_lost_exit [] h = false≢true h
-none_lost_exit (c ∷ cs) h =
-    ⊎_elim
-    (λ e. let w = and_parts (is_odd c) (leb c 0) e in
-    let z : c ≡ 0 = omega (arith, leb-true c 0 w.1) in
-    false≢true (subst (λ x. is_odd x ≡ true) z w.0))
-    (none_lost_exit cs)
-    (or_cases (is_lost_exit 0 c) (list_any (is_lost_exit 0) cs) h)
-
-none_lost : (xs : List ℕ) → list_any (λ (j : ℕ). false) xs ≡ true → ⊥
-none_lost [] h = false≢true h
-none_lost (x ∷ xs) h = none_lost xs h
-
 nothing_left : (g : Net) (n i : ℕ) (p : ℕ → Bool) → HasNoResult g i → all_won g p n i ≡ true
 nothing_left g n i p h =
     and_from (list_all p (g.quiet i)) (list_all (is_won_exit n) (g.exits i)) (subst (λ xs. list_all p xs ≡ true) (sym h.0) refl) (subst (λ xs. list_all (is_won_exit n) xs ≡ true) (sym h.1) refl)
@@ -126,7 +110,7 @@ lost_rule g (suc m) i =
 won_rule : (g : Net) (n i : ℕ) → WonWithin g n i ↔ ((0 < n) × SomeResultLost g (n - 1) i)
 unfolding is_lost is_won
 won_rule g zero i = (
-  (λ h. absurd (⊎_elim (none_lost (g.quiet i)) (none_lost_exit (g.exits i)) (or_cases (list_any (λ j. false) (g.quiet i)) (list_any (is_lost_exit 0) (g.exits i)) (won_within_back g zero i h)))),
+  (λ h. absurd (⊎_elim (nothing_lost (g.quiet i)) (no_lost_exit (g.exits i)) (or_cases (list_any (λ j. false) (g.quiet i)) (list_any (is_lost_exit 0) (g.exits i)) (won_within_back g zero i h)))),
   (λ h. absurd (omega (arith, h.0))),
 )
 won_rule g (suc m) i =

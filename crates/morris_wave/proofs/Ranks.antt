@@ -3,8 +3,8 @@ use Rattle.std.proofs.Common.{◌≡◌, ◌≢◌, ℕ, zero, suc, ◌+◌, ◌
 use Rattle.std.specs.List.{All, count_by, list_any}
 use Rattle.std.proofs.lemmas.Bool.{cases_eq, cases_lt, cases_Bool, cond-true, cond-false, eq-eqb, ne_eqb, eqb-true, lt-ltb, le-ltb, false_from_ne_true, both_ways, and_parts, and_from, ltb-true, false≢true, or_cases}
 use Rattle.std.proofs.lemmas.List.{take_more, get_or_append_left, get_or_push, get_or_default, get_or-take, get_or-drop, drop-take, get_or-replicate, length-replicate}
-use Rattle.std.proofs.lemmas.List.Sums.{get_or-le-sum_by, sum_by-take-drop}
-use Rattle.std.proofs.lemmas.List.Folds.{list_any_at}
+use Rattle.std.proofs.lemmas.List.Sums.{get_or-le-sum_by, sum_by-append, sum_by-take-drop}
+use Rattle.std.proofs.lemmas.List.Folds.{Any-from_list_any, list_any_at}
 use Rattle.std.proofs.lemmas.List.Elements.{All-drop}
 use Rattle.std.proofs.lemmas.List.Sorted.{IsNonDecreasingBy-push, IsNonDecreasingBy-drop}
 use Rattle.morris_wave.specs.Nets.{times}
@@ -13,11 +13,7 @@ use Rattle.morris_wave.specs.Keeping.{Ranked, code_of}
 use Rattle.morris_wave.proofs.Tests.{count-cons}
 
 pub times-append : (i : ℕ) (xs ys : List ℕ) → times i (xs ++ ys) ≡ times i xs + times i ys
-times-append i [] ys = sym (zero-add (times i ys))
-times-append i (x ∷ xs) ys =
-    let a = count-cons (λ y. eqb y i) x (xs ++ ys) in
-    let b = count-cons (λ y. eqb y i) x xs in
-    omega (arith, a, b, times-append i xs ys)
+times-append i xs ys = sum_by-append (λ y. cond {A = ℕ} (eqb y i) 1 0) xs ys
 
 -- what stands nowhere in a list stands there 0 times
 pub times_none : (i : ℕ) (xs : List ℕ) → ((p : ℕ) → p < length xs → get_or xs p 0 ≢ i) → times i xs ≡ 0
@@ -33,6 +29,12 @@ times_some i xs p l e =
     let le = get_or-le-sum_by (λ x. cond {A = ℕ} (eqb x i) 1 0) xs p 0 l in
     let one : cond {A = ℕ} (eqb (get_or xs p 0) i) 1 0 ≡ 1 = cond-true {A = ℕ} (eqb (get_or xs p 0) i) 1 0 (eq-eqb (get_or xs p 0) i e) in
     omega (arith, le, one)
+
+-- a code of a list stands somewhere in it
+pub some_code : (cs : List ℕ) (n : ℕ) → list_any (λ c. eqb c n) cs ≡ true → (k : ℕ) × ((k < length cs) × (eqb (get_or cs k 0) n ≡ true))
+some_code cs n e =
+    let w = Any-from_list_any (λ c. eqb c n) cs e in
+    (w.0, (w.2, ap (λ c. eqb c n) (get_or_default cs w.0 0 w.1 w.2 ∙ w.3) ∙ w.4))
 
 module _ {all : Bool} (first wave before here : ℕ) (codes decided : List ℕ) (h : Ranked all first wave codes decided before here) where
   -- a decided node has a code
@@ -267,14 +269,6 @@ module _ {all : Bool} (first wave before here : ℕ) (codes decided : List ℕ) 
       ⊎_elim (λ a. omega (arith, h.early p a, c)) (λ a. omega (arith, h.last p a (omega (arith, l, ge)), c)) (cases_lt p before)) in
       omega (arith, one, nowhere))))
       (cases_lt here (length decided))
-    where
-      some_code : (cs : List ℕ) (n : ℕ) → list_any (λ c. eqb c n) cs ≡ true → (k : ℕ) × ((k < length cs) × (eqb (get_or cs k 0) n ≡ true))
-      some_code [] n e = absurd (false≢true e)
-      some_code (c ∷ cs) n e =
-          ⊎_elim
-          (λ q. (0, (omega arith, q)))
-          (λ q. let w = some_code cs n q in (suc w.0, (omega (arith, w.1.0), w.1.1)))
-          (or_cases (eqb c n) (list_any (λ x. eqb x n) cs) e)
 
 -- each decided node once where all are kept, by any test that says which codes aren't 0
 pub ranked_once : (first wave before here : ℕ) (codes decided : List ℕ) → Ranked true first wave codes decided before here → (k : ℕ) → k < length codes → (test : Bool)
@@ -298,6 +292,26 @@ ranked_none first count codes is all = record {
   this = λ p a l. absurd (omega (arith, l));
 }
 
+-- each code is won, lost or 0
+pub three_kinds : (cs : List ℕ) → count_by is_won_code cs + count_by is_odd cs + count_by (λ c. eqb c 0) cs ≡ length cs
+three_kinds [] = refl
+three_kinds (c ∷ cs) =
+    let e = count-cons is_won_code c cs in
+    let f = count-cons is_odd c cs in
+    let h = count-cons (λ x. eqb x 0) c cs in
+    omega (arith, e, f, h, three_kinds cs, one_kind c)
+  where
+    one_kind : (x : ℕ) → cond {A = ℕ} (is_won_code x) 1 0 + cond {A = ℕ} (is_odd x) 1 0 + cond {A = ℕ} (eqb x 0) 1 0 ≡ 1
+    one_kind zero = refl
+    one_kind (suc x) =
+        ap₂ (λ a z. cond {A = ℕ} (not (is_odd (suc x)) && a) 1 0 + cond {A = ℕ} (is_odd (suc x)) 1 0 + cond {A = ℕ} z 1 0)
+        (lt-ltb 0 (suc x) (omega arith)) (ne_eqb (suc x) 0 (λ z. omega arith))
+        ∙ at (is_odd (suc x))
+      where
+        at : (t : Bool) → cond {A = ℕ} (not t && true) 1 0 + cond {A = ℕ} t 1 0 + 0 ≡ 1
+        at true = refl
+        at false = refl
+
 -- while an entry is open not all nodes are listed
 pub room_left : (codes : List ℕ) (place : ℕ) → place < length codes → get_or codes place 0 ≡ 0 → count_by is_won_code codes + count_by is_odd codes < length codes
 room_left codes place inside open_yet =
@@ -305,25 +319,6 @@ room_left codes place inside open_yet =
     let le = get_or-le-sum_by (λ x. cond {A = ℕ} (eqb x 0) 1 0) codes place 0 inside in
     let one : cond {A = ℕ} (eqb (get_or codes place 0) 0) 1 0 ≡ 1 = cond-true {A = ℕ} (eqb (get_or codes place 0) 0) 1 0 (eq-eqb (get_or codes place 0) 0 open_yet) in
     omega (arith, all, le, one)
-  where
-    three_kinds : (cs : List ℕ) → count_by is_won_code cs + count_by is_odd cs + count_by (λ c. eqb c 0) cs ≡ length cs
-    three_kinds [] = refl
-    three_kinds (c ∷ cs) =
-        let e = count-cons is_won_code c cs in
-        let f = count-cons is_odd c cs in
-        let h = count-cons (λ x. eqb x 0) c cs in
-        omega (arith, e, f, h, three_kinds cs, one_kind c)
-      where
-        one_kind : (x : ℕ) → cond {A = ℕ} (is_won_code x) 1 0 + cond {A = ℕ} (is_odd x) 1 0 + cond {A = ℕ} (eqb x 0) 1 0 ≡ 1
-        one_kind zero = refl
-        one_kind (suc x) =
-            ap₂ (λ a z. cond {A = ℕ} (not (is_odd (suc x)) && a) 1 0 + cond {A = ℕ} (is_odd (suc x)) 1 0 + cond {A = ℕ} z 1 0)
-            (lt-ltb 0 (suc x) (omega arith)) (ne_eqb (suc x) 0 (λ z. omega arith))
-            ∙ at (is_odd (suc x))
-          where
-            at : (t : Bool) → cond {A = ℕ} (not t && true) 1 0 + cond {A = ℕ} t 1 0 + 0 ≡ 1
-            at true = refl
-            at false = refl
 
 -- the stretch of a wave, node after node
 pub stretch_none : (before : ℕ) (decided : List ℕ) → [] ≡ take (before - before) (drop before decided)

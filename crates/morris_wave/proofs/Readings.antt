@@ -8,6 +8,7 @@ use Rattle.morris_wave.specs.Exits.{exits_of, exits_won, some_below, last_due_of
 use Rattle.morris_wave.specs.Waves.{entry_at, marked, settles}
 use Rattle.morris_wave.specs.Solving.{Marks, every}
 use Rattle.morris_wave.specs.Keeping.{HasRead, ListsDue, StretchHolds, due_wave, due_within, pending_at, waits}
+use Rattle.morris_wave.proofs.Tests.{at_most_one}
 use Rattle.morris_wave.proofs.Advancing.{entry_first}
 use Rattle.morris_wave.proofs.Steps.{pending_first}
 use Rattle.morris_wave.proofs.Marking.{marked_none}
@@ -20,7 +21,7 @@ none_below (Some x) = le-ltb x 0 (omega arith)
 settles_first : (c : ℕ) (e : Exits) → settles 0 c e ≡ (eqb c 0 && exits_won 0 e)
 settles_first c e = ap (λ t. t || (eqb c 0 && exits_won 0 e)) (none_below e.least_lost)
 
-module _ (g : Net) (most first place : ℕ) (codes counters waves : List ℕ) (last : ℕ) (h : HasRead g most first place codes counters waves last)
+module _ {g : Net} {most first place : ℕ} {codes counters waves : List ℕ} {last : ℕ} (h : HasRead g most first place codes counters waves last)
     (codes' : List ℕ) (quiet : ℕ) (e : Exits) (inside : place < length codes) (len : length codes' ≡ length codes) (counters_len : length counters ≡ length codes) (waves_len : length waves ≡ length codes)
     (few : quiet < most) (counted : quiet ≡ length (g.quiet (first + place))) (is : e ≡ exits_of (g.exits (first + place)))
     (marks : Marks codes codes' (λ k. eqb place k && (eqb quiet 0 && exits_won 0 e)) 1) where
@@ -91,24 +92,20 @@ lists_alike f h first count due same l = record {
 }
 
 -- what was read of every node
-pub read_all : (g : Net) (most first : ℕ) (codes counters waves : List ℕ) (due : List (List ℕ)) (last : ℕ) → HasRead g most first (length codes) codes counters waves last
-    → first + length codes ≤ g.size → length counters ≡ length codes → length waves ≡ length codes → ListsDue (λ k. get_or waves k 0) 0 first (length waves) due
-    → StretchHolds g 0 every first codes counters due last
-read_all g most first codes counters waves due last h in_graph counters_len waves_len listed = record {
-  in_graph = in_graph;
-  counters_len = counters_len;
-  codes_are = h.codes_are;
-  counters_are = h.counters_are;
-  due_are = lists_alike (λ k. get_or waves k 0) (λ k. due_within (due_wave (exits_of (g.exits (first + k))))) first (length codes) due h.waves_are
-      (subst (λ n. ListsDue (λ k. get_or waves k 0) 0 first n due) waves_len listed);
-  bound = h.bound;
-  reached = h.reached;
-}
+module _ {g : Net} {most first : ℕ} {codes counters waves : List ℕ} {last : ℕ} (h : HasRead g most first (length codes) codes counters waves last) (due : List (List ℕ)) where
+  pub read_all : first + length codes ≤ g.size → length counters ≡ length codes → length waves ≡ length codes → ListsDue (λ k. get_or waves k 0) 0 first (length waves) due
+      → StretchHolds g 0 every first codes counters due last
+  read_all in_graph counters_len waves_len listed = record {
+    in_graph = in_graph;
+    counters_len = counters_len;
+    codes_are = h.codes_are;
+    counters_are = h.counters_are;
+    due_are = lists_alike (λ k. get_or waves k 0) (λ k. due_within (due_wave (exits_of (g.exits (first + k))))) first (length codes) due h.waves_are
+        (subst (λ n. ListsDue (λ k. get_or waves k 0) 0 first n due) waves_len listed);
+    bound = h.bound;
+    reached = h.reached;
+  }
 
 -- a node comes due once at most
 pub due_once : (f : ℕ → ℕ) (first count : ℕ) (due : List (List ℕ)) → ListsDue f 0 first count due → (n k : ℕ) → k < count → times (first + k) (list_at due n) ≤ 1
-due_once f first count due h n k l = omega (arith, h.once n k (omega arith) l, at_most (ltb 0 n && eqb (f k) n))
-  where
-    at_most : (t : Bool) → cond {A = ℕ} t 1 0 ≤ 1
-    at_most true = omega arith
-    at_most false = omega arith
+due_once f first count due h n k l = omega (arith, h.once n k (omega arith) l, at_most_one (ltb 0 n && eqb (f k) n))

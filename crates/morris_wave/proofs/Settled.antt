@@ -13,37 +13,17 @@ use Rattle.morris_wave.specs.Waves.{entry_at, is_decided_at, is_fresh}
 use Rattle.morris_wave.specs.Keeping.{Ranked}
 use Rattle.morris_wave.specs.Blocks.{IsIn, BlockState, BlockHolds, is_complete, in_applied, first_node, count_of, entries_of, IsLastDue, IsSettled}
 use Rattle.morris_wave.specs.Batches.{is_from_to}
-use Rattle.morris_wave.proofs.Tests.{count-cons}
+pub use Rattle.morris_wave.proofs.Ranks.{three_kinds}
 use Rattle.morris_wave.proofs.Known.{entry_code, entry_open}
-use Rattle.morris_wave.proofs.Stretches.{entry_is, decided_once, decided_order, fresh_once, new_node, no_depth, last_deep}
+use Rattle.morris_wave.proofs.Stretches.{entry_is, decided_once, decided_order, fresh_once, new_node, no_depth, due_by, last_deep}
 use Rattle.morris_wave.proofs.Blocking.{first_of-le, inside_low, inside_high, node_inside, complete_holds}
-
--- each code is won, lost or 0
-pub three_kinds : (cs : List ℕ) → count_by is_won_code cs + count_by is_odd cs + count_by (λ c. eqb c 0) cs ≡ length cs
-three_kinds [] = refl
-three_kinds (c ∷ cs) =
-    let e = count-cons is_won_code c cs in
-    let f = count-cons is_odd c cs in
-    let h = count-cons (λ x. eqb x 0) c cs in
-    omega (arith, e, f, h, three_kinds cs, one_kind c)
-  where
-    one_kind : (x : ℕ) → cond {A = ℕ} (is_won_code x) 1 0 + cond {A = ℕ} (is_odd x) 1 0 + cond {A = ℕ} (eqb x 0) 1 0 ≡ 1
-    one_kind zero = refl
-    one_kind (suc x) =
-        ap₂ (λ a z. cond {A = ℕ} (not (is_odd (suc x)) && a) 1 0 + cond {A = ℕ} (is_odd (suc x)) 1 0 + cond {A = ℕ} z 1 0)
-        (lt-ltb 0 (suc x) (omega arith)) (ne_eqb (suc x) 0 (λ z. omega arith))
-        ∙ at (is_odd (suc x))
-      where
-        at : (t : Bool) → cond {A = ℕ} (not t && true) 1 0 + cond {A = ℕ} t 1 0 + 0 ≡ 1
-        at true = refl
-        at false = refl
 
 module _ {g : Net} (law : IsNet g) {s : BlockState} {first : ℕ} {codes counters : List ℕ} {due : List (List ℕ)} {last_due most : ℕ} (h : BlockHolds g s first codes counters due last_due most) where
   low : (i : ℕ) → IsIn s.cut s.number i → first ≤ i
-  low i inside = inside_low g law s first codes counters due last_due h i inside
+  low i inside = inside_low law h i inside
 
   high : (i : ℕ) → IsIn s.cut s.number i → i < first + length codes
-  high i inside = inside_high g law s first codes counters due last_due h i inside
+  high i inside = inside_high law h i inside
 
   pub codes_entries : codes ≡ entries_of g s
   codes_entries =
@@ -56,7 +36,7 @@ module _ {g : Net} (law : IsNet g) {s : BlockState} {first : ℕ} {codes counter
 
   module _ (i : ℕ) (inside : IsIn s.cut s.number i) (code : ℕ) (at : code ≡ get_or codes (i - first) 0) where
     entry_read : code ≡ entry_at g s.wave (in_applied s) i
-    entry_read = at ∙ entry_is g law s.wave (in_applied s) first codes counters due last_due h.kept i (low i inside) (high i inside)
+    entry_read = at ∙ entry_is law h.kept i (low i inside) (high i inside)
 
     pub code_value : code ≡ entry_at g s.wave (in_applied s) i
     code_value = entry_read
@@ -72,20 +52,20 @@ module _ {g : Net} (law : IsNet g) {s : BlockState} {first : ℕ} {codes counter
   -- the list of the decided nodes
   module _ {wave before here : ℕ} {decided nodes : List ℕ} (same : nodes ≡ decided) (r : Ranked true first wave codes decided before here) where
     pub list_inside : All (IsIn s.cut s.number) nodes
-    list_inside = subst (λ xs. All (IsIn s.cut s.number) xs) (sym same) (λ p d l. let w = r.inside p d l in node_inside g law s first codes counters due last_due h (get_or decided p d) w.0 w.1)
+    list_inside = subst (λ xs. All (IsIn s.cut s.number) xs) (sym same) (λ p d l. let w = r.inside p d l in node_inside law h (get_or decided p d) w.0 w.1)
 
     pub list_once : (i : ℕ) → IsIn s.cut s.number i → times i nodes ≡ cond {A = ℕ} (is_decided_at g s.wave (in_applied s) i) 1 0
-    list_once i inside = ap (times i) same ∙ decided_once g law s.wave (in_applied s) first codes counters due last_due h.kept wave before here decided r i (low i inside) (high i inside)
+    list_once i inside = ap (times i) same ∙ decided_once law h.kept wave before here decided r i (low i inside) (high i inside)
 
     pub list_order : IsNonDecreasingBy (entry_at g s.wave (in_applied s)) nodes
-    list_order = subst (λ xs. IsNonDecreasingBy (entry_at g s.wave (in_applied s)) xs) (sym same) (decided_order g law s.wave (in_applied s) first codes counters due last_due h.kept wave before here decided r)
+    list_order = subst (λ xs. IsNonDecreasingBy (entry_at g s.wave (in_applied s)) xs) (sym same) (decided_order law h.kept wave before here decided r)
 
   -- the fresh nodes, as they are found and in ascending order
   module _ {found nodes : List ℕ} (same : IsPermutation found nodes) where
     pub fresh_inside : All (λ i. (first ≤ i) × (i < first + length codes)) found → All (IsIn s.cut s.number) nodes
     fresh_inside all =
         All-permutation (IsIn s.cut s.number) found nodes same
-        (λ p d l. let w = all p d l in node_inside g law s first codes counters due last_due h (get_or found p d) w.0 w.1)
+        (λ p d l. let w = all p d l in node_inside law h (get_or found p d) w.0 w.1)
 
     pub fresh_between : All (λ i. (first ≤ i) × (i < first + length codes)) found → All (λ i. (0 ≤ i) × (i < s.cut.size)) nodes
     fresh_between all p d l = let w = fresh_inside all p d l in (omega arith, omega (arith, w.1, first_of-le s.cut h.cut (s.number + 1) (omega (arith, h.number))))
@@ -94,7 +74,7 @@ module _ {g : Net} (law : IsNet g) {s : BlockState} {first : ℕ} {codes counter
         → (i : ℕ) → IsIn s.cut s.number i → times i nodes ≡ cond {A = ℕ} (is_fresh g s.wave i) 1 0
     fresh_nodes once i inside =
         sum_by-IsPermutation (λ x. cond {A = ℕ} (eqb x i) 1 0) found nodes same
-        ∙ fresh_once g law s.wave (in_applied s) first codes counters due last_due h.kept found once i (low i inside) (high i inside)
+        ∙ fresh_once law h.kept found once i (low i inside) (high i inside)
 
     pub fresh_from_to : ((k : ℕ) → k < length codes → times (first + k) found ≡ cond {A = ℕ} (ltb 0 s.wave && eqb (get_or codes k 0) s.wave) 1 0)
         → (i : ℕ) → IsIn s.cut s.number i → times i nodes ≡ cond {A = ℕ} (is_from_to 0 s.cut.size i && is_fresh g s.wave i) 1 0
@@ -107,11 +87,9 @@ module _ {g : Net} (law : IsNet g) {s : BlockState} {first : ℕ} {codes counter
   -- the last exit that comes due
   pub last_due_is : IsLastDue g s last_due
   last_due_is = record {
-    bound = λ i inside.
-        let here : first + (i - first) ≡ i = omega (arith, low i inside) in
-        subst (λ x. last_due_of (exits_of (g.exits x)) ≤ last_due) here (h.kept.bound (i - first) (omega (arith, low i inside, high i inside)));
+    bound = λ i inside. due_by law h.kept i (low i inside) (high i inside);
     reached = λ some. let w = h.kept.reached some in
-        (first + w.0, (node_inside g law s first codes counters due last_due h (first + w.0) (omega arith) (omega (arith, w.1.0)), w.1.1));
+        (first + w.0, (node_inside law h (first + w.0) (omega arith) (omega (arith, w.1.0)), w.1.1));
   }
 
   module _ (complete : is_complete s ≡ true) where
@@ -121,14 +99,14 @@ module _ {g : Net} (law : IsNet g) {s : BlockState} {first : ℕ} {codes counter
       (λ e. record {
         complete = complete;
         due = λ i inside. omega (arith, last_due_is.bound i inside, le);
-        quiet = λ i inside. no_depth g law s.wave first codes counters due last_due (complete_holds g law s first codes counters due last_due h complete)
+        quiet = λ i inside. no_depth law (complete_holds law h complete)
             (sym is ∙ not-true found e) i (low i inside) (high i inside);
       }),
       (λ t. not_from_false found (false_from_ne_true found (λ f.
-          let w = new_node g law s.wave first codes counters due last_due (complete_holds g law s first codes counters due last_due h complete) (sym is ∙ f) in
-          t.quiet (first + w.0) (node_inside g law s first codes counters due last_due h (first + w.0) (omega arith) (omega (arith, w.1.0))) w.1.1))),
+          let w = new_node law (complete_holds law h complete) (sym is ∙ f) in
+          t.quiet (first + w.0) (node_inside law h (first + w.0) (omega arith) (omega (arith, w.1.0))) w.1.1))),
     )
 
     -- at the last wave an unsettled block shows that the graph is too deep
     pub unsettled_deep : s.wave ≡ 65534 → (s.wave < last_due) ⊎ (list_any (λ c. eqb c (s.wave + 1)) codes ≡ true) → IsTooDeep g
-    unsettled_deep is why = last_deep g law s.wave first codes counters due last_due (complete_holds g law s first codes counters due last_due h complete) is why
+    unsettled_deep is why = last_deep law (complete_holds law h complete) is why

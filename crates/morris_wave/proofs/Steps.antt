@@ -9,6 +9,7 @@ use Rattle.morris_wave.specs.Solving.{every, none}
 use Rattle.morris_wave.specs.Keeping.{due_wave, waits, pending_at}
 use Rattle.morris_wave.proofs.Applying.{odd_open, even_open, even_entry}
 use Rattle.morris_wave.proofs.Advancing.{open_next, entry_next, open_first}
+use Rattle.morris_wave.proofs.ExitTests.{or_false}
 use Rattle.morris_wave.proofs.ExitsDue.{odd_lost, odd_won, even_lost, even_won, even_won_before, pending_zero}
 
 -- a counter is at most one more than the quiet results
@@ -67,10 +68,6 @@ module _ (g : Net) (n i : ℕ) where
       let none_due : cond {A = ℕ} (eqb (due_wave (exits_of (g.exits i))) (suc n)) 1 0 ≡ 0 = cond-false {A = ℕ} (eqb (due_wave (exits_of (g.exits i))) (suc n)) 1 0 e in
       omega (arith, same, none_due, open_next g n i))
       (cases_Bool (eqb (due_wave (exits_of (g.exits i))) (suc n)))
-    where
-      or_false : (t : Bool) → t ≡ (t || false)
-      or_false true = refl
-      or_false false = refl
 
   pub even_entry_next : is_odd (suc n) ≡ false
       → entry_at g (suc n) none i ≡ marked (entry_at g n every i) (eqb (due_wave (exits_of (g.exits i))) (suc n) && eqb (pending_at g (suc n) none i) 0) (suc (suc n))

@@ -12,15 +12,15 @@ use Rattle.morris_wave.specs.Values.{is_decided, code_within, HasDepth, IsTooDee
 use Rattle.morris_wave.specs.Waves.{known_won, known_lost, is_decided_at, entry_at, is_fresh, marked}
 use Rattle.morris_wave.specs.Solving.{among, every, none}
 use Rattle.morris_wave.specs.Keeping.{StretchHolds, Ranked, code_of, Takes, ListsDue, due_wave, due_within, pending_at, waits, left_of}
-use Rattle.morris_wave.proofs.Tests.{some_counted}
+use Rattle.morris_wave.proofs.Tests.{at_most_one, some_counted}
 use Rattle.morris_wave.proofs.DueLists.{due_gone}
 use Rattle.morris_wave.proofs.Known.{entry_open, entry_same, open_same}
 use Rattle.morris_wave.proofs.Applying.{odd_entry}
 use Rattle.morris_wave.proofs.Advancing.{entry_all}
-use Rattle.morris_wave.proofs.Parts.{fresh_entry, fresh_code}
+use Rattle.morris_wave.proofs.Parts.{known_won_cong, known_lost_cong, new_depth, fresh_entry, fresh_code}
 use Rattle.morris_wave.proofs.LateExits.{due_deep}
 use Rattle.morris_wave.proofs.Steps.{waits-le, odd_pending, even_pending, even_closed, odd_pending_next, odd_entry_next, even_pending_next, even_entry_next}
-use Rattle.morris_wave.proofs.Ranks.{ranked_once}
+use Rattle.morris_wave.proofs.Ranks.{ranked_once, some_code}
 
 plus_one : (m : ℕ) → m + 1 ≡ suc m
 plus_one m = omega arith
@@ -42,7 +42,18 @@ due_same wave n le pos =
     ∙ (ne_eqb 0 n (λ z. omega (arith, z, pos)) ∙ sym (ne_eqb wave n (λ z. omega (arith, z, l, le)))))
     (cases_lt wave 65535)
 
-module _ (g : Net) (law : IsNet g) (n : ℕ) (a : ℕ → Bool) (first : ℕ) (codes counters : List ℕ) (due : List (List ℕ)) (last_due : ℕ) (h : StretchHolds g n a first codes counters due last_due) where
+module _ {g : Net} (law : IsNet g) {n : ℕ} {a : ℕ → Bool} {first : ℕ} {codes counters : List ℕ} {due : List (List ℕ)} {last_due : ℕ} (h : StretchHolds g n a first codes counters due last_due) where
+  pub due_by : (i : ℕ) → first ≤ i → i < first + length codes → last_due_of (exits_of (g.exits i)) ≤ last_due
+  due_by i low high =
+      let here : first + (i - first) ≡ i = omega (arith, low) in
+      subst (λ x. last_due_of (exits_of (g.exits x)) ≤ last_due) here (h.bound (i - first) (omega (arith, low, high)))
+
+  -- an exit that comes due after the last wave shows that the graph is too deep
+  pub late_deep : 65534 < last_due → IsTooDeep g
+  late_deep late =
+      let w = h.reached (omega (arith, late)) in
+      due_deep g law (first + w.0) (omega (arith, w.1.0, h.in_graph)) (omega (arith, w.1.1, late))
+
   pub node_in : (k : ℕ) → k < length codes → first + k < g.size
   node_in k l = omega (arith, h.in_graph, l)
 
@@ -94,6 +105,10 @@ module _ (g : Net) (law : IsNet g) (n : ℕ) (a : ℕ → Bool) (first : ℕ) (c
     bound = h.bound;
     reached = h.reached;
   }
+
+  -- the parts alone count
+  pub holds_alike : (b : ℕ → Bool) → ((j : ℕ) → j < g.size → a j ≡ b j) → StretchHolds g n b first codes counters due last_due
+  holds_alike b same = holds_same b (λ j l. known_won_cong g n a b j (same j l)) (λ j l. known_lost_cong g n a b j (same j l))
 
   -- the fresh nodes of `x` are applied too, to which these nodes lead
   module _ (x : ℕ → Bool) (nodes : List ℕ) (taken : (k : ℕ) → k < length codes → times (first + k) nodes ≡ count_by (λ j. x j && is_fresh g n j) (g.quiet (first + k)))
@@ -170,7 +185,7 @@ module _ (g : Net) (law : IsNet g) (n : ℕ) (a : ℕ → Bool) (first : ℕ) (c
           ListsDueOf xs count = ListsDue (λ k. due_within (due_wave (exits_of (g.exits (first + k))))) (n + 1) first count xs
 
 -- from a complete wave to the next
-module _ (g : Net) (law : IsNet g) (n first : ℕ) (codes counters : List ℕ) (due : List (List ℕ)) (last_due : ℕ) (h : StretchHolds g n every first codes counters due last_due)
+module _ {g : Net} (law : IsNet g) {n first : ℕ} {codes counters : List ℕ} {due : List (List ℕ)} {last_due : ℕ} (h : StretchHolds g n every first codes counters due last_due)
     (last : n < 65534) where
   often_due : (k : ℕ) → k < length codes → times (first + k) (list_at due (n + 1)) ≡ cond {A = ℕ} (eqb (due_wave (exits_of (g.exits (first + k)))) (suc n)) 1 0
   often_due k l =
@@ -191,11 +206,7 @@ module _ (g : Net) (law : IsNet g) (n first : ℕ) (codes counters : List ℕ) (
 
   -- no counter falls more often than it may as exits come due
   due_once : (k : ℕ) → k < length codes → times (first + k) (list_at due (n + 1)) ≤ 1
-  due_once k l = omega (arith, often_due k l, at_most (eqb (due_wave (exits_of (g.exits (first + k)))) (suc n)))
-    where
-      at_most : (t : Bool) → cond {A = ℕ} t 1 0 ≤ 1
-      at_most true = omega arith
-      at_most false = omega arith
+  due_once k l = omega (arith, often_due k l, at_most_one (eqb (due_wave (exits_of (g.exits (first + k)))) (suc n)))
 
   pub due_enough : (k : ℕ) → k < length codes → times (first + k) (list_at due (n + 1)) ≤ left_of (get_or counters k 0)
   due_enough k l = omega (arith, due_once k l)
@@ -285,18 +296,15 @@ none_lost : (g : Net) (a b : ℕ → Bool) (j : ℕ) → known_lost g 0 a j ≡ 
 unfolding known_lost
 none_lost g a b j = refl
 
-pub first_holds : (g : Net) (law : IsNet g) (a b : ℕ → Bool) (first : ℕ) (codes counters : List ℕ) (due : List (List ℕ)) (last_due : ℕ) → StretchHolds g 0 a first codes counters due last_due → StretchHolds g 0 b first codes counters due last_due
-first_holds g law a b first codes counters due last_due h = holds_same g law 0 a first codes counters due last_due h b (λ j l. none_won g a b j) (λ j l. none_lost g a b j)
+module _ {g : Net} (law : IsNet g) {a : ℕ → Bool} (b : ℕ → Bool) {first : ℕ} {codes counters : List ℕ} {due : List (List ℕ)} {last_due : ℕ} (h : StretchHolds g 0 a first codes counters due last_due) where
+  pub first_holds : StretchHolds g 0 b first codes counters due last_due
+  first_holds = holds_same law h b (λ j l. none_won g a b j) (λ j l. none_lost g a b j)
 
 -- what a complete wave found
-module _ (g : Net) (law : IsNet g) (n first : ℕ) (codes counters : List ℕ) (due : List (List ℕ)) (last_due : ℕ) (h : StretchHolds g n every first codes counters due last_due) where
+module _ {g : Net} (law : IsNet g) {n first : ℕ} {codes counters : List ℕ} {due : List (List ℕ)} {last_due : ℕ} (h : StretchHolds g n every first codes counters due last_due) where
   depth_new : (i : ℕ) → HasDepth g i n → is_fresh g (suc n) i ≡ true
   unfolding is_fresh
   depth_new i d = and_from (not (is_decided g n i)) (is_decided g (suc n) i) (not_from_false (is_decided g n i) d.not_before) d.reached
-
-  pub new_depth : (i : ℕ) → is_fresh g (suc n) i ≡ true → HasDepth g i n
-  unfolding is_fresh
-  new_depth i e = let w = and_parts (not (is_decided g n i)) (is_decided g (suc n) i) e in record { reached = w.1; not_before = not-true (is_decided g n i) w.0 }
 
   pub codes_within : (k : ℕ) → k < length codes → get_or codes k 0 ≡ code_within g (suc n) (first + k)
   codes_within k l = h.codes_are k l ∙ entry_all g n (first + k)
@@ -309,15 +317,7 @@ module _ (g : Net) (law : IsNet g) (n first : ℕ) (codes counters : List ℕ) (
   pub new_node : list_any (λ c. eqb c (n + 1)) codes ≡ true → (k : ℕ) × ((k < length codes) × HasDepth g (first + k) n)
   new_node e =
       let w = some_code codes (n + 1) e in
-      (w.0, (w.1.0, new_depth (first + w.0) (sym (code_new w.0 w.1.0) ∙ w.1.1)))
-    where
-      some_code : (cs : List ℕ) (m : ℕ) → list_any (λ c. eqb c m) cs ≡ true → (k : ℕ) × ((k < length cs) × (eqb (get_or cs k 0) m ≡ true))
-      some_code [] m e = absurd (false≢true e)
-      some_code (c ∷ cs) m e =
-          ⊎_elim
-          (λ q. (0, (omega arith, q)))
-          (λ q. let w = some_code cs m q in (suc w.0, (omega (arith, w.1.0), w.1.1)))
-          (or_cases (eqb c m) (list_any (λ x. eqb x m) cs) e)
+      (w.0, (w.1.0, new_depth g n (first + w.0) (sym (code_new w.0 w.1.0) ∙ w.1.1)))
 
   -- where there is none, no node has the depth of the wave
   pub no_depth : list_any (λ c. eqb c (n + 1)) codes ≡ false → (i : ℕ) → first ≤ i → i < first + length codes → HasDepth g i n → ⊥
@@ -328,17 +328,11 @@ module _ (g : Net) (law : IsNet g) (n first : ℕ) (codes counters : List ℕ) (
       (list_any_at (λ c. eqb c (n + 1)) codes (i - first) 0 place
       (code_new (i - first) place ∙ (ap (is_fresh g (suc n)) here ∙ depth_new i d)))
 
-  pub due_by : (i : ℕ) → first ≤ i → i < first + length codes → last_due_of (exits_of (g.exits i)) ≤ last_due
-  due_by i low high =
-      let here : first + (i - first) ≡ i = omega (arith, low) in
-      subst (λ x. last_due_of (exits_of (g.exits x)) ≤ last_due) here (h.bound (i - first) (omega (arith, low, high)))
-
   -- at the last wave an exit that isn't due, or a node that got its code, shows that the graph is
   -- too deep
   pub last_deep : n ≡ 65534 → (n < last_due) ⊎ (list_any (λ c. eqb c (n + 1)) codes ≡ true) → IsTooDeep g
   last_deep is why =
       ⊎_elim
-      (λ late. let w = h.reached (omega (arith, late)) in
-      due_deep g law (first + w.0) (omega (arith, w.1.0, h.in_graph)) (omega (arith, w.1.1, late, is)))
+      (λ late. late_deep law h (omega (arith, late, is)))
       (λ e. let w = new_node e in (first + w.0, omega (arith, w.1.0, h.in_graph), inl (n, omega (arith, is), w.1.1)))
       why

@@ -10,37 +10,40 @@ use Rattle.morris_wave.specs.Values.{code_within, HasCode, IsTooDeep}
 use Rattle.morris_wave.specs.Waves.{is_fresh}
 use Rattle.morris_wave.specs.Solving.{ListsFresh, among, every, none}
 use Rattle.morris_wave.specs.Keeping.{StretchHolds, Ranked, Takes, left_of}
-use Rattle.morris_wave.proofs.Tests.{count_same, some_counted}
+use Rattle.morris_wave.proofs.Tests.{at_most_one, count_same, some_counted}
 use Rattle.morris_wave.proofs.Marking.{among_more, times_more}
-use Rattle.morris_wave.proofs.Parts.{known_won_cong, known_lost_cong, known_won_covered, known_lost_covered}
+use Rattle.morris_wave.proofs.Parts.{new_depth, known_won_covered, known_lost_covered}
 use Rattle.morris_wave.proofs.Ranks.{stretch_inside, stretch_once}
 use Rattle.morris_wave.proofs.Settling.{IsQuiet, quiet_codes, not_too_deep}
-use Rattle.morris_wave.proofs.Stretches.{take_enough, take_few, take_holds, holds_same, fresh_once, codes_within, no_depth, new_depth, due_by}
+use Rattle.morris_wave.proofs.Stretches.{take_enough, take_few, take_holds, holds_same, holds_alike, fresh_once, codes_within, no_depth, due_by}
 
 -- the nodes of the wave's stretch of the list are the fresh ones
-pub fresh_listed : (g : Net) (law : IsNet g) (n : ℕ) (a : ℕ → Bool) (codes counters : List ℕ) (due : List (List ℕ)) (last_due : ℕ) → StretchHolds g n a 0 codes counters due last_due → length codes ≡ g.size
-    → {all : Bool} → (decided : List ℕ) (before here : ℕ) → Ranked all 0 n codes decided before here → ListsFresh g n (take (here - before) (drop before decided))
-fresh_listed g law n a codes counters due last_due h len decided before here r = record {
-  inside = λ p d l. let w = stretch_inside 0 n before here codes decided r p d l in omega (arith, w.1, len);
-  once = λ k l. fresh_once g law n a 0 codes counters due last_due h (take (here - before) (drop before decided)) (stretch_once 0 n before here codes decided r) k (omega arith) (omega (arith, l, len));
-}
-
--- a node of that stretch, whatever was put behind it meanwhile
-pub fresh_at : (old new : List ℕ) (before here place : ℕ) → take here new ≡ take here old → before ≤ place → place < here
-    → get_or new place 0 ≡ get_or (take (here - before) (drop before old)) (place - before) 0
-fresh_at old new before here place same low high =
-    let back : before + (place - before) ≡ place = omega (arith, low) in
-    sym (get_or-take here new place 0 high)
-    ∙ (ap (λ xs. get_or xs place 0) same
-    ∙ (get_or-take here old place 0 high
-    ∙ sym (get_or-take (here - before) (drop before old) (place - before) 0 (omega (arith, low, high))
-    ∙ (get_or-drop before old (place - before) 0 ∙ ap (λ p. get_or old p 0) back))))
+module _ {g : Net} (law : IsNet g) {n : ℕ} {a : ℕ → Bool} {codes counters : List ℕ} {due : List (List ℕ)} {last_due : ℕ} (h : StretchHolds g n a 0 codes counters due last_due)
+    (len : length codes ≡ g.size) where
+  pub fresh_listed : {all : Bool} → (decided : List ℕ) (before here : ℕ) → Ranked all 0 n codes decided before here → ListsFresh g n (take (here - before) (drop before decided))
+  fresh_listed decided before here r = record {
+    inside = λ p d l. let w = stretch_inside 0 n before here codes decided r p d l in omega (arith, w.1, len);
+    once = λ k l. fresh_once law h (take (here - before) (drop before decided)) (stretch_once 0 n before here codes decided r) k (omega arith) (omega (arith, l, len));
+  }
 
 pub fresh_length : (old : List ℕ) (before here : ℕ) → here ≤ length old → length (take (here - before) (drop before old)) ≡ here - before
 fresh_length old before here le = omega (arith, le, length-take (here - before) (drop before old), length-drop before old)
 
+-- a node of that stretch, whatever was put behind it meanwhile
+pub fresh_at : (old new : List ℕ) (before here place : ℕ) → here ≤ length old → take here new ≡ take here old → before ≤ place → place < here
+    → (place - before < length (take (here - before) (drop before old))) × (get_or new place 0 ≡ get_or (take (here - before) (drop before old)) (place - before) 0)
+fresh_at old new before here place le same low high =
+    let back : before + (place - before) ≡ place = omega (arith, low) in (
+      omega (arith, fresh_length old before here le, low, high),
+      sym (get_or-take here new place 0 high)
+      ∙ (ap (λ xs. get_or xs place 0) same
+      ∙ (get_or-take here old place 0 high
+      ∙ sym (get_or-take (here - before) (drop before old) (place - before) 0 (omega (arith, low, high))
+      ∙ (get_or-drop before old (place - before) 0 ∙ ap (λ p. get_or old p 0) back)))),
+    )
+
 -- One fresh node more, whose predecessors are `nodes`.
-module _ (g : Net) (n : ℕ) (fresh : List ℕ) (listed : ListsFresh g n fresh) (i node : ℕ) (inside : i < length fresh) (is : node ≡ get_or fresh i 0) where
+module _ {g : Net} {n : ℕ} {fresh : List ℕ} (listed : ListsFresh g n fresh) (i node : ℕ) (inside : i < length fresh) (is : node ≡ get_or fresh i 0) where
   pub node_in : node < g.size
   node_in = subst (λ x. x < g.size) (sym is) (listed.inside i 0 inside)
 
@@ -53,11 +56,7 @@ module _ (g : Net) (n : ℕ) (fresh : List ℕ) (listed : ListsFresh g n fresh) 
       let more = times_more fresh i node inside is node in
       let le : times node (take (i + 1) fresh) ≤ times node fresh = sum_by-take-le (λ x. cond {A = ℕ} (eqb x node) 1 0) fresh (i + 1) in
       let once = listed.once node node_in in
-      sym (some_counted (λ x. eqb x node) (take i fresh)) ∙ le-ltb 0 (times node (take i fresh)) (omega (arith, more, at_node, le, once, at_most (is_fresh g n node)))
-    where
-      at_most : (b : Bool) → cond {A = ℕ} b 1 0 ≤ 1
-      at_most true = omega arith
-      at_most false = omega arith
+      sym (some_counted (λ x. eqb x node) (take i fresh)) ∙ le-ltb 0 (times node (take i fresh)) (omega (arith, more, at_node, le, once, at_most_one (is_fresh g n node)))
 
   is_new : is_fresh g n node ≡ true
   is_new =
@@ -80,26 +79,23 @@ module _ (g : Net) (n : ℕ) (fresh : List ℕ) (listed : ListsFresh g n fresh) 
             (λ e. ne_eqb y node (λ z. e (sym z)) ∙ sym (and_left (eqb node y) (is_fresh g n y) (ne_eqb node y e)))
             (cases_eq node y)
 
-    module _ (law : IsNet g) (first : ℕ) (codes counters : List ℕ) (due : List (List ℕ)) (last_due : ℕ) (h : StretchHolds g n (among (take i fresh)) first codes counters due last_due) where
+    module _ (law : IsNet g) {first : ℕ} {codes counters : List ℕ} {due : List (List ℕ)} {last_due : ℕ} (h : StretchHolds g n (among (take i fresh)) first codes counters due last_due) where
       taken : (k : ℕ) → k < length codes → times (first + k) nodes ≡ count_by (λ j. eqb node j && is_fresh g n j) (g.quiet (first + k))
       taken k l = counted (first + k) (omega (arith, l, h.in_graph))
 
       pub spread_enough : is_odd n ≡ false → (k : ℕ) → k < length codes → times (first + k) nodes ≤ left_of (get_or counters k 0)
-      spread_enough even k l = take_enough g law n (among (take i fresh)) first codes counters due last_due h (λ j. eqb node j) nodes taken apart_from even k l
+      spread_enough even k l = take_enough law h (λ j. eqb node j) nodes taken apart_from even k l
 
       pub spread_few : is_odd n ≡ false → (k : ℕ) → k < length codes → length (g.quiet (first + k)) < 255 → times (first + k) nodes ≤ get_or counters k 0
-      spread_few even k l few = take_few g law n (among (take i fresh)) first codes counters due last_due h (λ j. eqb node j) nodes taken apart_from even k l few
+      spread_few even k l few = take_few law h (λ j. eqb node j) nodes taken apart_from even k l few
 
       pub spread_more : (codes' counters' : List ℕ) → length codes' ≡ length codes → length counters' ≡ length counters → ((k : ℕ) → k < length counters' → get_or counters' k 0 < 65536)
           → Takes n first nodes codes codes' counters counters' → StretchHolds g n (among (take (i + 1) fresh)) first codes' counters' due last_due
       spread_more codes' counters' codes_len counters_len small takes =
-          holds_same g law n (λ j. among (take i fresh) j || eqb node j) first codes' counters' due last_due
-          (take_holds g law n (among (take i fresh)) first codes counters due last_due h (λ j. eqb node j) nodes taken apart_from codes' counters' codes_len counters_len small takes)
-          (among (take (i + 1) fresh))
-          (λ j l. known_won_cong g n (λ x. among (take i fresh) x || eqb node x) (among (take (i + 1) fresh)) j (sym (among_more fresh i node inside is j)))
-          (λ j l. known_lost_cong g n (λ x. among (take i fresh) x || eqb node x) (among (take (i + 1) fresh)) j (sym (among_more fresh i node inside is j)))
+          holds_alike law (take_holds law h (λ j. eqb node j) nodes taken apart_from codes' counters' codes_len counters_len small takes) (among (take (i + 1) fresh))
+          (λ j l. sym (among_more fresh i node inside is j))
 
-module _ (g : Net) (law : IsNet g) (n first : ℕ) (codes counters : List ℕ) (due : List (List ℕ)) (last_due : ℕ) where
+module _ {g : Net} (law : IsNet g) {n first : ℕ} {codes counters : List ℕ} {due : List (List ℕ)} {last_due : ℕ} where
   -- before the first of them
   pub spread_none : (fresh : List ℕ) (i : ℕ) → i ≡ 0 → StretchHolds g n none first codes counters due last_due → StretchHolds g n (among (take i fresh)) first codes counters due last_due
   spread_none fresh i is h = subst (λ x. StretchHolds g n (among (take x fresh)) first codes counters due last_due) (sym is) h
@@ -107,25 +103,25 @@ module _ (g : Net) (law : IsNet g) (n first : ℕ) (codes counters : List ℕ) (
   -- when all fresh nodes are done, the wave is complete
   pub spread_all : (fresh : List ℕ) → ListsFresh g n fresh → StretchHolds g n (among fresh) first codes counters due last_due → StretchHolds g n every first codes counters due last_due
   spread_all fresh listed h =
-      holds_same g law n (among fresh) first codes counters due last_due h every
+      holds_same law h every
       (λ j l. known_won_covered g n (among fresh) j (has j l)) (λ j l. known_lost_covered g n (among fresh) j (has j l))
     where
       has : (j : ℕ) → j < g.size → is_fresh g n j ≡ true → among fresh j ≡ true
       has j l e = sym (some_counted (λ x. eqb x j) fresh) ∙ lt-ltb 0 (times j fresh) (omega (arith, listed.once j l, cond-true {A = ℕ} (is_fresh g n j) 1 0 e))
 
 -- a complete wave that found nothing more, when all exits are due: its entries are the codes
-module _ (g : Net) (law : IsNet g) (n : ℕ) (codes counters : List ℕ) (due : List (List ℕ)) (last_due : ℕ) (h : StretchHolds g n every 0 codes counters due last_due) (len : length codes ≡ g.size)
+module _ {g : Net} (law : IsNet g) {n : ℕ} {codes counters : List ℕ} {due : List (List ℕ)} {last_due : ℕ} (h : StretchHolds g n every 0 codes counters due last_due) (len : length codes ≡ g.size)
     (le : last_due ≤ n) (nothing : list_any (λ c. eqb c (n + 1)) codes ≡ false) where
   quiet : IsQuiet g n
   quiet = record {
     no_new = λ i l. false_from_ne_true (is_fresh g (suc n) i) (λ e.
-        no_depth g law n 0 codes counters due last_due h nothing i (omega arith) (omega (arith, l, len)) (new_depth g law n 0 codes counters due last_due h i e));
-    due = λ i l. omega (arith, due_by g law n 0 codes counters due last_due h i (omega arith) (omega (arith, l, len)), le);
+        no_depth law h nothing i (omega arith) (omega (arith, l, len)) (new_depth g n i e));
+    due = λ i l. omega (arith, due_by law h i (omega arith) (omega (arith, l, len)), le);
   }
 
   pub finished : (i : ℕ) → i < g.size → HasCode g i (get_or codes i 0)
   finished i l =
-      subst (HasCode g i) (sym (codes_within g law n 0 codes counters due last_due h i (omega (arith, l, len)) ∙ ap (code_within g (suc n)) (zero-add i))) (quiet_codes g law n quiet i l)
+      subst (HasCode g i) (sym (codes_within law h i (omega (arith, l, len)) ∙ ap (code_within g (suc n)) (zero-add i))) (quiet_codes g law n quiet i l)
 
   pub finished_shallow : n ≤ 65534 → IsTooDeep g → ⊥
   finished_shallow small = not_too_deep g law n quiet small

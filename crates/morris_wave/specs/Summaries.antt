@@ -12,6 +12,15 @@ abbrev pub greatest_with : Option ℕ → ℕ → ℕ
 greatest_with None depth = depth
 greatest_with (Some known) depth = max known depth
 
+-- the same of two of which each may be known
+abbrev pub least_of : Option ℕ → Option ℕ → Option ℕ
+least_of known None = known
+least_of known (Some depth) = Some (least_with known depth)
+
+abbrev pub greatest_of : Option ℕ → Option ℕ → Option ℕ
+greatest_of known None = known
+greatest_of known (Some depth) = Some (greatest_with known depth)
+
 -- the summary with one more exit, of this code: an exit of an odd code is lost, one of an even code
 -- above 0 won, and one of code 0 a draw
 unfoldable pub added : Exits → ℕ → Exits

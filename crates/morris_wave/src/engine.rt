@@ -50,6 +50,7 @@ pub struct Tallies {
 }
 
 /// The nodes of a block that have the depth one less than its wave, or a piece of these.
+#[derive(Drop)]
 pub struct Fresh<N: Levels> {
     pub(crate) level: u64,
     pub(crate) cut: Cut,
@@ -73,22 +74,8 @@ impl<N: Levels> Model for Fresh<N> {
         (record { level = f.level; cut = f.cut; wave = f.wave; source = f.source; low = f.low; high = f.high; nodes = f.nodes.items }) };
 }
 
-impl<N: Levels> Drop for Fresh<N> {
-    fn drop(self) {
-        let Fresh {
-            level: _,
-            cut: _,
-            wave: _,
-            source: _,
-            low: _,
-            high: _,
-            nodes: _,
-            family: _,
-        } = self;
-    }
-}
-
 /// The nodes of one block, the target, that lead to fresh nodes of another, the source.
+#[derive(Drop)]
 pub struct Batch<N: Levels, L: NodeList = Vec<u64>> {
     pub(crate) level: u64,
     pub(crate) cut: Cut,
@@ -113,22 +100,6 @@ impl<N: Levels, L: NodeList> Model for Batch<N, L> {
         (record { level = b.level; cut = b.cut; wave = b.wave; source = b.source; low = b.low; high = b.high; target = b.target; nodes = L.items b.nodes }) };
 }
 
-impl<N: Levels, L: NodeList> Drop for Batch<N, L> {
-    fn drop(self) {
-        let Batch {
-            level: _,
-            cut: _,
-            wave: _,
-            source: _,
-            low: _,
-            high: _,
-            target: _,
-            nodes: _,
-            family: _,
-        } = self;
-    }
-}
-
 /// The entries of one block of a graph, which go from wave to wave.
 ///
 /// At wave `n` with some sources applied, a node is decided exactly where some exit is lost within
@@ -143,6 +114,7 @@ impl<N: Levels, L: NodeList> Drop for Batch<N, L> {
 /// graph are below 2^32. Where `L` is [`Recent`](crate::Recent), the nodes that were decided before
 /// the wave are let go. Room for all nodes and codes is taken in `make`; what isn't filled of it is
 /// never used. The nodes that come due at a wave are let go, with their room, as it begins.
+#[derive(Drop)]
 pub struct Block<N: Levels, L: NodeList = Vec<u64>> {
     level: u64,
     pub(crate) cut: Cut,
@@ -165,20 +137,6 @@ impl<N: Levels, L: NodeList> Model for Block<N, L> {
     ghost invariant = { λ b. BlockHolds (N.net b.level)
         (record { level = b.level; cut = b.cut; number = b.number; wave = b.kept.entries.wave; applied = b.applied.items; taken_from = b.taken_from.items })
         b.kept.entries.first b.kept.entries.entries.codes (counts_of b.kept.counters) b.kept.due b.kept.last_due (most_of b.kept.counters) };
-}
-
-impl<N: Levels, L: NodeList> Drop for Block<N, L> {
-    fn drop(self) {
-        let Block {
-            level: _,
-            cut: _,
-            number: _,
-            applied: _,
-            taken_from: _,
-            kept: _,
-            family: _,
-        } = self;
-    }
 }
 
 impl<N: Levels> Batch<N> {
@@ -403,7 +361,9 @@ impl<N: Levels, L: NodeList> Block<N, L> {
 
     /// The last wave at which an exit of a node of the block comes due, 0 if none does.
     pub fn last_due(&self) -> u32
-        ensures { IsLastDue (N.net self.now.level) self.now result }
+        ensures value { IsLastDue (N.net self.now.level) self.now result }
+        // An exit that comes due after the last wave shows that the graph is too deep.
+        ensures deep { 65534 < result → IsTooDeep (N.net self.now.level) }
     {
         self.kept.last_due
     }

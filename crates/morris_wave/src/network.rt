@@ -2,8 +2,8 @@
 ghost use Rattle.std.specs.Prelude.{◌≡◌, ℕ, ◌+◌, ◌<◌, ◌≤◌, ◌^◌, ◌==◌, ◌++◌, ◌∷◌, List, [], Option, length, slice_index, OnOk, OnErr, vec_len};
 ghost use Rattle.std.specs.List.{All, sum_by};
 ghost use Rattle.morris_wave.specs.Nets.{Net, IsNet, times};
-ghost use Rattle.morris_wave.specs.Exits.{least, greatest, due_of};
-ghost use Rattle.morris_wave.specs.Summaries.{least_with, greatest_with, added};
+ghost use Rattle.morris_wave.specs.Exits.{due_of};
+ghost use Rattle.morris_wave.specs.Summaries.{least_with, greatest_with, least_of, greatest_of, added};
 
 use std::alloc::{AllocError, Global};
 
@@ -99,6 +99,16 @@ fn least_with(known: Option<u16>, depth: u16) -> u16
     }
 }
 
+// The same of two of which each may be known.
+fn least_of_both(known: Option<u16>, other: Option<u16>) -> Option<u16>
+    ensures { result ≡ least_of known other }
+{
+    match other {
+        None => known,
+        Some(depth) => Some(least_with(known, depth)),
+    }
+}
+
 // The greater of a depth and one that is known already, if there is one.
 fn greatest_with(known: Option<u16>, depth: u16) -> u16
     ensures { result ≡ greatest_with known depth }
@@ -109,19 +119,9 @@ fn greatest_with(known: Option<u16>, depth: u16) -> u16
     }
 }
 
-// The least of two lists of depths together, from the least of each.
-fn least_of_both(known: Option<u16>, other: Option<u16>) -> Option<u16>
-    ensures { (before after : List ℕ) → known ≡ least before → other ≡ least after → result ≡ least (before ++ after) }
-{
-    match other {
-        None => known,
-        Some(depth) => Some(least_with(known, depth)),
-    }
-}
-
-// The greatest of two lists of depths together, from the greatest of each.
+// The same of two of which each may be known.
 fn greatest_of_both(known: Option<u16>, other: Option<u16>) -> Option<u16>
-    ensures { (before after : List ℕ) → known ≡ greatest before → other ≡ greatest after → result ≡ greatest (before ++ after) }
+    ensures { result ≡ greatest_of known other }
 {
     match other {
         None => known,

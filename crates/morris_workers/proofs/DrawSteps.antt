@@ -3,12 +3,12 @@ use Rattle.std.proofs.Common.{◌≡◌, ℕ, ◌+◌, ◌%◌, ◌<◌, ◌≤�
 use Rattle.std.specs.List.{sum_by}
 use Rattle.std.proofs.lemmas.Bool.{cases_lt, lt-ltb, le-ltb, cond-true, cond-false, false≢true}
 use Rattle.std.proofs.lemmas.Bool.Decides.{nat_tests}
-use Rattle.std.proofs.lemmas.List.Sums.{sum_by_push}
 use mathlib.Core.Option.{some}
 use lib.ListN.{get_elem?}
 use Rattle.atomic_table.specs.Table.{State, Me, Act, keeps, Valid, Allows, stepped, carried_after}
 use Rattle.atomic_table.proofs.Lists.{at_set}
 use Rattle.morris_wave.specs.Nets.{times}
+use Rattle.morris_wave.proofs.Dealing.{times_push}
 use Rattle.morris_workers.specs.declared.draws.Plan.{Plan}
 use Rattle.morris_workers.specs.declared.draws.View.{View}
 use Rattle.morris_workers.specs.Draws.{Kept, Drew, done, drawing, with_number, ended_view}
@@ -17,10 +17,6 @@ use Rattle.morris_workers.proofs.TicketSums.{sum_set, sum_part, sum_less}
 -- 1 for a number below another
 abbrev pub below : ℕ → ℕ → ℕ
 below x n = if nat_lt x n then 1 else 0
-
--- one number more at the end of a list
-pub times_more : (x n : ℕ) (xs : List ℕ) → times x (xs ++ n ∷ []) ≡ times x xs + cond {A = ℕ} (eqb n x) 1 0
-times_more x n xs = sum_by_push (λ y. cond {A = ℕ} (eqb y x) 1 0) xs n
 
 one_more : (x n limit : ℕ) → n < limit → below x (min n limit) + cond {A = ℕ} (eqb n x) 1 0 ≡ below x (min (n + 1) limit)
 one_more x n limit h = grind (arith, nat_tests)
@@ -88,7 +84,7 @@ module _ (p : Plan) (s : State (Unit {0}) View) (kept : Kept p s) where
     -- a seat that found a number has it at the end of its list
     took : word < p.limit → Kept p (after seat v (with_number v word) (word + 1) there)
     took under = changed seat v (with_number v word) (word + 1) there stands refl refl refl (omega arith)
-        (λ x. rearrange _ _ _ _ _ (times_more x word v.drawn) (one_more x word p.limit under))
+        (λ x. rearrange _ _ _ _ _ (times_push x word v.drawn) (one_more x word p.limit under))
         (omega (arith, length-append v.drawn (word ∷ [])))
         (λ e. absurd (false≢true (sym ready ∙ e)))
         (omega arith)

@@ -1,6 +1,5 @@
 -- Lemmas on the definitions of this crate.
 pub mod Exact
-pub mod Lateness
 pub mod Faults
 pub mod TicketSums
 pub mod DrawSteps

@@ -3,19 +3,16 @@ use Rattle.std.proofs.Common.{◌≡◌, ℕ, ◌+◌, ◌<◌, ◌≤◌, ◌==
 use Rattle.std.specs.List.{sum_by}
 use Rattle.std.proofs.lemmas.Bool.{false≢true, or_cases}
 use Rattle.std.proofs.lemmas.Bool.Decides.{nat_tests}
-use Rattle.std.proofs.lemmas.List.Sums.{sum_by-append}
 use mathlib.Core.Option.{some}
 use lib.ListN.{get_elem?}
 use Rattle.atomic_table.specs.Table.{Joins}
 use Rattle.atomic_table.proofs.Lists.{at_set, set_else}
 use Rattle.morris_wave.specs.Nets.{times}
+use Rattle.morris_wave.proofs.Ranks.{times-append}
 use Rattle.morris_workers.specs.declared.draws.Plan.{Plan}
 use Rattle.morris_workers.specs.declared.draws.View.{View}
 use Rattle.morris_workers.specs.Draws.{Kept, done, joined, spent_view}
 use Rattle.morris_workers.proofs.TicketSums.{sum_set}
-
-pub times-append : (x : ℕ) (xs ys : List ℕ) → times x (xs ++ ys) ≡ times x xs + times x ys
-times-append x xs ys = sum_by-append (λ y. cond {A = ℕ} (y == x) 1 0) xs ys
 
 -- two terms change, and what they add up to stays
 moved : {A : Type 0} (f : A → ℕ) (l : List A) (i j : ℕ) (v w a b : A) → get_elem? l i ≡ some v → get_elem? (set l i a) j ≡ some w

@@ -3,11 +3,13 @@ use Rattle.std.proofs.Common.{◌≡◌, ℕ, zero, suc, ◌+◌, ◌<◌, ◌�
 use Rattle.std.specs.List.{sum_by, All}
 use Rattle.std.proofs.lemmas.Bool.{cond-true}
 use Rattle.std.proofs.lemmas.Bool.Decides.{nat_tests}
+use Rattle.std.proofs.lemmas.List.{get_or_default}
 use Rattle.std.proofs.lemmas.List.Sums.{count_by-le-length, sum_by-cons}
 use mathlib.Core.Option.{some, some-injective, some-ne-none}
 use lib.ListN.{get_elem?}
 use Rattle.atomic_table.specs.Table.{State}
 use Rattle.morris_wave.specs.Nets.{times}
+use Rattle.morris_wave.proofs.Ranks.{times_some}
 use Rattle.morris_workers.specs.declared.draws.Plan.{Plan}
 use Rattle.morris_workers.specs.declared.draws.View.{View}
 use Rattle.morris_workers.specs.Draws.{Kept, Counted, spent_view}
@@ -69,12 +71,5 @@ counted_at p s kept seat v there word limit handed read same is =
     let e : min (slice_index s.words 0) p.limit ≡ handed = (λ i. min (head_is s.words word read i) (same i)) ∙ sym is in
     subst (λ n. Counted limit p.seats v n) e (subst (λ n. Counted n p.seats v (min (slice_index s.words 0) p.limit)) same (counts p s kept seat v there))
 
--- a number of a list stands in it
-stands_in : (xs : List ℕ) (k d : ℕ) → k < length xs → 0 < times (get_or xs k d) xs
-stands_in [] k d h = absurd (omega arith)
-stands_in (x ∷ xs) zero d h = let e : eqb x x ≡ true = eq-eqb x x refl in
-    omega (arith, sum_by-cons (λ y. cond {A = ℕ} (eqb y x) 1 0) x xs, cond-true {A = ℕ} (eqb x x) 1 0 e)
-stands_in (x ∷ xs) (suc k) d h = omega (arith, sum_by-cons (λ y. cond {A = ℕ} (eqb y (get_or xs k d)) 1 0) x xs, stands_in xs k d (omega arith))
-
 pub all_below : (xs : List ℕ) (n : ℕ) → ((x : ℕ) → 0 < times x xs → x < n) → All (λ x. x < n) xs
-all_below xs n h = λ k d t. h (get_or xs k d) (stands_in xs k d t)
+all_below xs n h = λ k d t. h (get_or xs k d) (times_some (get_or xs k d) xs k t (get_or_default xs k 0 d t))

@@ -53,8 +53,7 @@ fn cut_into(size: u64, parts: u64) -> Cut
 
 // The first block that isn't settled, or doesn't have the number of its place.
 fn first_unsettled<N: Levels, L: NodeList>(blocks: &[Block<N, L>]) -> Option<usize>
-    ensures none { IfNone result (All (λ s. IsSettled (N.net s.level) s) blocks.now) }
-    ensures numbers { IfNone result (All (λ s. s.number < length blocks.now) blocks.now) }
+    ensures none { IfNone result (All (λ s. IsSettled (N.net s.level) s × (s.number < length blocks.now)) blocks.now) }
     ensures found { IfSome result (λ place. place < length blocks.now) }
 {
     for (place, block) in blocks.iter().enumerate() {

@@ -28,15 +28,13 @@ loop-place-preserved g c =
     let counted : quiet ≡ length (net.quiet (first + place)) = c.read_nodes.ensures.counts c.loop-place.place here ∙ ap (λ n. length (net.quiet n)) there in
     let is : e ≡ exits_of (net.exits (first + place)) = c.read_nodes.ensures.exits c.loop-place.place (omega (arith, here, c.requires.room)) ∙ ap (λ n. exits_of (net.exits n)) there in
     let marks = subst (λ (w : ℕ). Marks codes codes' (λ k. eqb place k && (eqb quiet 0 && exits_won 0 e)) (w + 1)) (inv.frame.wave ∙ c.requires.wave) c.take.ensures.codes in
-    let more = read_more net most first place codes counters old.waves.items old.last_due inv.read codes' quiet e within
+    let more = read_more inv.read codes' quiet e within
     (omega (arith, c.take.ensures.frame.len)) (omega (arith, old.counted)) (omega (arith, old.waved, old.waves.ok.0)) few counted is marks in
     let after : place + 1 ≡ c.args.from + (c.loop-place.place + 1) = omega arith in
     record {
       frame = frame_joins c.args.reading.now.entries old.entries new.entries inv.frame c.take.ensures.frame;
       read = subst (λ (p : ℕ). HasRead net most first p codes' (g.C.CounterList.counts new.counters) new.waves.items new.last_due) after
-          (subst (λ (cs : List ℕ). HasRead net most first (place + 1) codes' cs new.waves.items new.last_due) (sym c.take.ensures.counters)
-          (subst (λ (ws : List ℕ). HasRead net most first (place + 1) codes' (set counters place ((quiet + waits 0 e) % 65536)) ws new.last_due) (sym c.take.ensures.waves)
-          (subst (λ (d : ℕ). HasRead net most first (place + 1) codes' (set counters place ((quiet + waits 0 e) % 65536)) (set old.waves.items place (due_within (due_wave e))) d) (sym c.take.ensures.last) more)));
+          (rw (c.take.ensures.counters, c.take.ensures.waves, c.take.ensures.last) more);
     }
 
 pub take-requires-clause-inside : goal.take-requires-clause-inside

@@ -5,36 +5,33 @@ use Rattle.morris_wave.specs.Values.{HasCode}
 use Rattle.morris_wave.specs.Counts.{counts_of}
 use Rattle.morris_wave.proofs.Stretches.{last_deep}
 use Rattle.morris_wave.proofs.Wholes.{finished, finished_shallow}
+use Rattle.morris_wave.proofs.sweeping.codes_of.Given as given
 use Rattle.morris_wave.proofs.sweeping.codes_of.Goals as goal
+use Rattle.morris_wave.proofs.sweeping.codes_of.Goals.{In_ok-codes}
+
+-- the waves ended, since no exit is due later and the last one found nothing
+ended : (g : given.Over) (c : In_ok-codes g) → (c.run.new.whole.last_due ≤ c.run.new.whole.entries.wave)
+    × (list_any (λ (x : ℕ). eqb x (c.run.new.whole.entries.wave + 1)) c.run.new.whole.entries.entries.codes ≡ false)
+ended g c =
+    let whole = c.run.new.whole in
+    let found = list_any (λ (x : ℕ). eqb x (whole.entries.wave + 1)) whole.entries.entries.codes in
+    let w = and_parts (leb whole.last_due whole.entries.wave) (not found) (sym c.in_ok-run.ensures.quiet ∙ c.if-branch.true) in
+    (leb-true whole.last_due whole.entries.wave w.0, not-true found w.1)
 
 pub returns-in_ok-codes-clause-codes : goal.returns-in_ok-codes-clause-codes
 returns-in_ok-codes-clause-codes g c =
     let net = g.G.Name.Levels.net (g.G.Graph.level c.args.graph.now) in
     let law = g.G.Name.Levels.lawful (g.G.Graph.level c.args.graph.now) in
     let whole = c.run.new.whole in
-    let codes = whole.entries.entries.codes in
-    let late = leb whole.last_due whole.entries.wave in
-    let found = list_any (λ (x : ℕ). eqb x (whole.entries.wave + 1)) codes in
-    let w = and_parts late (not found) (sym c.in_ok-run.ensures.quiet ∙ c.if-branch.true) in
-    let due : whole.last_due ≤ whole.entries.wave = leb-true whole.last_due whole.entries.wave w.0 in
-    let nothing : found ≡ false = not-true found w.1 in
-    let len : length codes ≡ net.size = c.in_ok-run.ensures.done.len in
+    let end = ended g (goal.at.returns-in_ok-codes-clause-codes g c).In_ok-codes in
     subst (λ (xs : List ℕ). (i : ℕ) → i < net.size → HasCode net i (get_or xs i 0)) (sym c.in_ok-codes.ensures)
-    (finished net law whole.entries.wave codes (counts_of whole.counters) whole.due whole.last_due c.in_ok-run.ensures.done.holds len due nothing)
+    (finished law c.in_ok-run.ensures.done.holds c.in_ok-run.ensures.done.len end.0 end.1)
 
 pub returns-in_ok-codes-clause-not_too_deep : goal.returns-in_ok-codes-clause-not_too_deep
 returns-in_ok-codes-clause-not_too_deep g c =
-    let net = g.G.Name.Levels.net (g.G.Graph.level c.args.graph.now) in
-    let law = g.G.Name.Levels.lawful (g.G.Graph.level c.args.graph.now) in
     let whole = c.run.new.whole in
-    let codes = whole.entries.entries.codes in
-    let late = leb whole.last_due whole.entries.wave in
-    let found = list_any (λ (x : ℕ). eqb x (whole.entries.wave + 1)) codes in
-    let w = and_parts late (not found) (sym c.in_ok-run.ensures.quiet ∙ c.if-branch.true) in
-    let due : whole.last_due ≤ whole.entries.wave = leb-true whole.last_due whole.entries.wave w.0 in
-    let nothing : found ≡ false = not-true found w.1 in
-    let len : length codes ≡ net.size = c.in_ok-run.ensures.done.len in
-    finished_shallow net law whole.entries.wave codes (counts_of whole.counters) whole.due whole.last_due c.in_ok-run.ensures.done.holds len due nothing whole.entries.last
+    let end = ended g (goal.at.returns-in_ok-codes-clause-not_too_deep g c).In_ok-codes in
+    finished_shallow (g.G.Name.Levels.lawful (g.G.Graph.level c.args.graph.now)) c.in_ok-run.ensures.done.holds c.in_ok-run.ensures.done.len end.0 end.1 whole.entries.last
 
 pub returns-else-branch-clause-too_deep : goal.returns-else-branch-clause-too_deep
 returns-else-branch-clause-too_deep g c = λ _.
@@ -45,7 +42,7 @@ returns-else-branch-clause-too_deep g c = λ _.
     let late = leb whole.last_due whole.entries.wave in
     let found = list_any (λ (x : ℕ). eqb x (whole.entries.wave + 1)) codes in
     let wave : whole.entries.wave ≡ 65534 = c.in_ok-run.ensures.last c.if-branch.false in
-    last_deep net law whole.entries.wave 0 codes (counts_of whole.counters) whole.due whole.last_due c.in_ok-run.ensures.done.holds wave
+    last_deep law c.in_ok-run.ensures.done.holds wave
     (⊎_elim
     (λ e. inl (leb-false whole.last_due whole.entries.wave e))
     (λ e. inr (not-false found e))

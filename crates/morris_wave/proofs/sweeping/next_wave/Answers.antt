@@ -17,7 +17,7 @@ spread-requires-clause-start g c = λ _ _.
     let made = c.next_wave.ensures in
     let new = c.next_wave.new.self in
     let codes' = new.entries.entries.codes in
-    let holds = next_holds net law old.entries.wave 0 codes (counts_of old.counters) old.due old.last_due c.requires.start.holds c.requires.wave
+    let holds = next_holds law c.requires.start.holds c.requires.wave
     codes' (counts_of new.counters)
     (omega (arith, made.len))
     (omega (arith, new.counted, old.counted, made.len)) new.small
@@ -26,10 +26,7 @@ spread-requires-clause-start g c = λ _ _.
       first = made.first ∙ c.requires.start.first;
       len = made.len ∙ c.requires.start.len;
       few = subst (λ (m : ℕ). AreFew net 0 net.size m) (sym made.most) c.requires.start.few;
-      holds =
-          subst (λ (w : ℕ). StretchHolds net w none 0 codes' (counts_of new.counters) new.due new.last_due) (sym made.wave)
-          (subst (λ (xs : List (List ℕ)). StretchHolds net (old.entries.wave + 1) none 0 codes' (counts_of new.counters) xs new.last_due) (sym made.due)
-          (subst (λ (d : ℕ). StretchHolds net (old.entries.wave + 1) none 0 codes' (counts_of new.counters) (set old.due (old.entries.wave + 1) []) d) (sym made.last_due) holds));
+      holds = rw (made.wave, made.due, made.last_due) holds;
     }
 
 pub next_wave-requires-clause-enough : goal.next_wave-requires-clause-enough
@@ -43,6 +40,6 @@ next_wave-requires-clause-enough g c =
     let size : length codes ≡ net.size = omega (arith, c.requires.start.len) in
     subst (λ (f : ℕ). times (f + k) (list_at old.due (old.entries.wave + 1)) ≤ left_at old.counters k) (sym c.requires.start.first)
     (left_enough old.counters k (times (0 + k) (list_at old.due (old.entries.wave + 1)))
-    (due_enough net law old.entries.wave 0 codes (counts_of old.counters) old.due old.last_due c.requires.start.holds c.requires.wave k place)
-    (λ le. due_few net law old.entries.wave 0 codes (counts_of old.counters) old.due old.last_due c.requires.start.holds c.requires.wave even k place
+    (due_enough law c.requires.start.holds c.requires.wave k place)
+    (λ le. due_few law c.requires.start.holds c.requires.wave even k place
     (omega (arith, c.requires.start.few k (omega (arith, place, size)), le))))

@@ -6,84 +6,81 @@ use Rattle.morris_wave.specs.Counts.{counts_of, most_of}
 use Rattle.morris_wave.specs.Nets.{times}
 use Rattle.morris_wave.proofs.Widths.{left_enough}
 use Rattle.morris_wave.proofs.Blocking.{same_parts, batch_inside, apply_enough, apply_few, apply_holds}
+use Rattle.morris_wave.proofs.engine.Block.apply.Given as given
 use Rattle.morris_wave.proofs.engine.Block.apply.Goals as goal
+use Rattle.morris_wave.proofs.engine.Block.apply.Goals.{After-take_in-arg-1}
+
+abbrev state : (g : given.Over) → After-take_in-arg-1 g → BlockState
+state g c = record {
+  level = c.self.inside.level;
+  cut = c.self.inside.cut;
+  number = c.self.inside.number;
+  wave = c.self.inside.kept.entries.wave;
+  applied = c.self.inside.applied.items;
+  taken_from = c.self.inside.taken_from.items;
+}
+
+abbrev sent : (g : given.Over) → After-take_in-arg-1 g → BatchState
+sent g c = record {
+  level = c.batch.inside.level;
+  cut = c.batch.inside.cut;
+  wave = c.batch.inside.wave;
+  source = c.batch.inside.source;
+  low = c.batch.inside.low;
+  high = c.batch.inside.high;
+  target = c.batch.inside.target;
+  nodes = g.B.NodeList.items c.batch.inside.nodes;
+}
+
+-- the batch is of the block's cut, and goes on with a source that isn't applied
+goes_on : (g : given.Over) (c : After-take_in-arg-1 g) → BatchHolds (g.N.Levels.net c.self.inside.level) (sent g c) × (c.batch.inside.cut ≡ c.self.inside.cut)
+    × (get_or c.self.inside.applied.items c.batch.inside.source false ≡ false) × (c.batch.inside.high ≡ get_or c.self.inside.taken_from.items c.batch.inside.source 0)
+goes_on g c =
+    let inside = c.self.inside in
+    let batch = c.batch.inside in
+    let hb : BatchHolds (g.N.Levels.net inside.level) (sent g c) = subst (λ (l : ℕ). BatchHolds (g.N.Levels.net l) (sent g c)) c.if-batch-self.false c.batch.invariant in
+    let cut : batch.cut ≡ inside.cut = same_parts batch.cut inside.cut (sym c.is_same.ensures ∙ c.if-not-is_same.false) in
+    let source : batch.source < length inside.applied.items = omega (arith, hb.source, c.self.invariant.sources, ap (λ p. p.blocks) cut) in
+    let start : batch.source < length inside.taken_from.items = omega (arith, hb.source, c.self.invariant.starts, ap (λ p. p.blocks) cut) in (
+      hb,
+      cut,
+      sym {A = Bool} (get_or_read inside.applied.items batch.source c.index.result.now source c.index.ensures false) ∙ c.if-index.false,
+      c.if-batch-index.false ∙ get_or_read inside.taken_from.items batch.source c.index-else-index.result.now start c.index-else-index.ensures 0,
+    )
 
 pub take_in-requires-clause-inside : goal.take_in-requires-clause-inside
 take_in-requires-clause-inside g c =
-    let inside = c.self.inside in
-    let kept = inside.kept in
-    let net = g.N.Levels.net inside.level in
-    let law = g.N.Levels.lawful inside.level in
-    let codes = kept.entries.entries.codes in
-    let s : BlockState = record { level = inside.level; cut = inside.cut; number = inside.number; wave = kept.entries.wave; applied = inside.applied.items; taken_from = inside.taken_from.items } in
-    let batch = c.batch.inside in
-    let b : BatchState = record { level = batch.level; cut = batch.cut; wave = batch.wave; source = batch.source; low = batch.low; high = batch.high; target = batch.target; nodes = g.B.NodeList.items batch.nodes } in
-    let hb : BatchHolds net b = subst (λ (l : ℕ). BatchHolds (g.N.Levels.net l) b) c.if-batch-self.false c.batch.invariant in
-    let cut : batch.cut ≡ inside.cut = same_parts batch.cut inside.cut (sym c.is_same.ensures ∙ c.if-not-is_same.false) in
-    let source : batch.source < length inside.applied.items = omega (arith, hb.source, c.self.invariant.sources, ap (λ p. p.blocks) cut) in
-    let open_source : get_or inside.applied.items batch.source false ≡ false =
-    sym {A = Bool} (get_or_read inside.applied.items batch.source c.index.result.now source c.index.ensures false) ∙ c.if-index.false in
-    let start : batch.source < length inside.taken_from.items = omega (arith, hb.source, c.self.invariant.starts, ap (λ p. p.blocks) cut) in
-    let turn : batch.high ≡ get_or inside.taken_from.items batch.source 0 =
-    c.if-batch-index.false ∙ get_or_read inside.taken_from.items batch.source c.index-else-index.result.now start c.index-else-index.ensures 0 in
+    let at = (goal.at.take_in-requires-clause-inside g c).After-take_in-arg-1 in
+    let r = goes_on g at in
+    let kept = c.self.inside.kept in
     λ p d l.
-    let at =
-    (batch_inside net law s kept.entries.first codes (counts_of kept.counters) kept.due kept.last_due c.self.invariant b hb cut c.if-batch-self-2.false c.if-batch-self-3.false open_source turn) p d l in
-    (at.0, omega (arith, at.1))
+    let here = batch_inside (g.N.Levels.lawful c.self.inside.level) c.self.invariant r.0 r.1 c.if-batch-self-2.false c.if-batch-self-3.false r.2 r.3 p d l in
+    (here.0, omega (arith, here.1))
 
 pub take_in-requires-clause-enough : goal.take_in-requires-clause-enough
 take_in-requires-clause-enough g c =
-    let inside = c.self.inside in
-    let kept = inside.kept in
-    let net = g.N.Levels.net inside.level in
-    let law = g.N.Levels.lawful inside.level in
+    let at = (goal.at.take_in-requires-clause-enough g c).After-take_in-arg-1 in
+    let r = goes_on g at in
+    let net = g.N.Levels.net c.self.inside.level in
+    let law = g.N.Levels.lawful c.self.inside.level in
+    let kept = c.self.inside.kept in
     let codes = kept.entries.entries.codes in
-    let s : BlockState = record { level = inside.level; cut = inside.cut; number = inside.number; wave = kept.entries.wave; applied = inside.applied.items; taken_from = inside.taken_from.items } in
-    let batch = c.batch.inside in
-    let b : BatchState = record { level = batch.level; cut = batch.cut; wave = batch.wave; source = batch.source; low = batch.low; high = batch.high; target = batch.target; nodes = g.B.NodeList.items batch.nodes } in
-    let hb : BatchHolds net b = subst (λ (l : ℕ). BatchHolds (g.N.Levels.net l) b) c.if-batch-self.false c.batch.invariant in
-    let cut : batch.cut ≡ inside.cut = same_parts batch.cut inside.cut (sym c.is_same.ensures ∙ c.if-not-is_same.false) in
-    let source : batch.source < length inside.applied.items = omega (arith, hb.source, c.self.invariant.sources, ap (λ p. p.blocks) cut) in
-    let open_source : get_or inside.applied.items batch.source false ≡ false =
-    sym {A = Bool} (get_or_read inside.applied.items batch.source c.index.result.now source c.index.ensures false) ∙ c.if-index.false in
-    let start : batch.source < length inside.taken_from.items = omega (arith, hb.source, c.self.invariant.starts, ap (λ p. p.blocks) cut) in
-    let turn : batch.high ≡ get_or inside.taken_from.items batch.source 0 =
-    c.if-batch-index.false ∙ get_or_read inside.taken_from.items batch.source c.index-else-index.result.now start c.index-else-index.ensures 0 in
     λ even k l.
     let place : k < length codes = omega (arith, l) in
-    left_enough kept.counters k (times (kept.entries.first + k) b.nodes)
-    (apply_enough net law s kept.entries.first codes (counts_of kept.counters) kept.due kept.last_due c.self.invariant b hb cut c.if-batch-self-2.false c.if-batch-self-3.false open_source turn even k place)
-    (apply_few net law s kept.entries.first codes (counts_of kept.counters) kept.due kept.last_due c.self.invariant b hb cut c.if-batch-self-2.false c.if-batch-self-3.false open_source turn even k place)
+    left_enough kept.counters k (times (kept.entries.first + k) (g.B.NodeList.items c.batch.inside.nodes))
+    (apply_enough law c.self.invariant r.0 r.1 c.if-batch-self-2.false c.if-batch-self-3.false r.2 r.3 even k place)
+    (apply_few law c.self.invariant r.0 r.1 c.if-batch-self-2.false c.if-batch-self-3.false r.2 r.3 even k place)
 
 pub invariant_of-self : goal.invariant_of-self
 invariant_of-self g c =
+    let at = (goal.at.invariant_of-self g c).After-take_in-arg-1 in
+    let r = goes_on g at in
     let inside = c.self.inside in
     let kept = inside.kept in
-    let net = g.N.Levels.net inside.level in
-    let law = g.N.Levels.lawful inside.level in
-    let codes = kept.entries.entries.codes in
-    let s : BlockState = record { level = inside.level; cut = inside.cut; number = inside.number; wave = kept.entries.wave; applied = inside.applied.items; taken_from = inside.taken_from.items } in
-    let batch = c.batch.inside in
-    let b : BatchState = record { level = batch.level; cut = batch.cut; wave = batch.wave; source = batch.source; low = batch.low; high = batch.high; target = batch.target; nodes = g.B.NodeList.items batch.nodes } in
-    let hb : BatchHolds net b = subst (λ (l : ℕ). BatchHolds (g.N.Levels.net l) b) c.if-batch-self.false c.batch.invariant in
-    let cut : batch.cut ≡ inside.cut = same_parts batch.cut inside.cut (sym c.is_same.ensures ∙ c.if-not-is_same.false) in
-    let source : batch.source < length inside.applied.items = omega (arith, hb.source, c.self.invariant.sources, ap (λ p. p.blocks) cut) in
-    let open_source : get_or inside.applied.items batch.source false ≡ false =
-    sym {A = Bool} (get_or_read inside.applied.items batch.source c.index.result.now source c.index.ensures false) ∙ c.if-index.false in
-    let start : batch.source < length inside.taken_from.items = omega (arith, hb.source, c.self.invariant.starts, ap (λ p. p.blocks) cut) in
-    let turn : batch.high ≡ get_or inside.taken_from.items batch.source 0 =
-    c.if-batch-index.false ∙ get_or_read inside.taken_from.items batch.source c.index-else-index.result.now start c.index-else-index.ensures 0 in
     let after = c.take_in.new.self in
     let made = c.take_in.ensures in
-    let new = after.entries.entries.codes in
-    let takes = made.taken in
-    let holds = apply_holds net law s kept.entries.first codes (counts_of kept.counters) kept.due kept.last_due c.self.invariant b hb cut c.if-batch-self-2.false c.if-batch-self-3.false open_source turn
-    new (counts_of after.counters)
+    rw (made.frame.wave, made.frame.first, made.due, made.last_due, made.most)
+    (apply_holds (g.N.Levels.lawful inside.level) c.self.invariant r.0 r.1 c.if-batch-self-2.false c.if-batch-self-3.false r.2 r.3
+    after.entries.entries.codes (counts_of after.counters)
     (omega (arith, made.frame.len))
-    (omega (arith, after.counted, kept.counted, made.frame.len)) after.small takes in
-    let now : ℕ → BlockState = λ w. record { level = inside.level; cut = inside.cut; number = inside.number; wave = w; applied = set inside.applied.items batch.source (eqb batch.low 0); taken_from = set inside.taken_from.items batch.source batch.low } in
-    subst (λ (w : ℕ). BlockHolds net (now w) after.entries.first new (counts_of after.counters) after.due after.last_due (most_of after.counters)) (sym made.frame.wave)
-    (subst (λ (f : ℕ). BlockHolds net (now kept.entries.wave) f new (counts_of after.counters) after.due after.last_due (most_of after.counters)) (sym made.frame.first)
-    (subst (λ (xs : List (List ℕ)). BlockHolds net (now kept.entries.wave) kept.entries.first new (counts_of after.counters) xs after.last_due (most_of after.counters)) (sym made.due)
-    (subst (λ (d : ℕ). BlockHolds net (now kept.entries.wave) kept.entries.first new (counts_of after.counters) kept.due d (most_of after.counters)) (sym made.last_due)
-    (subst (λ (m : ℕ). BlockHolds net (now kept.entries.wave) kept.entries.first new (counts_of after.counters) kept.due kept.last_due m) (sym made.most) holds))))
+    (omega (arith, after.counted, kept.counted, made.frame.len)) after.small made.taken)

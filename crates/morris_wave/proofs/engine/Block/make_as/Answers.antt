@@ -22,19 +22,12 @@ invariant_of-result g c =
     let start : c.range-range.result.start ≡ first_of cut c.args.number = c.range-range.ensures.start in
     let first : kept.entries.first ≡ first_of cut c.args.number = c.in_ok-kept.ensures.first ∙ start in
     let read : StretchHolds net 0 every kept.entries.first codes (counts_of kept.counters) kept.due kept.last_due =
-    subst (λ (f : ℕ). StretchHolds net 0 every f codes (counts_of kept.counters) kept.due kept.last_due) (sym c.in_ok-kept.ensures.first) c.in_ok-kept.ensures.holds in
+    rw c.in_ok-kept.ensures.first c.in_ok-kept.ensures.holds in
     let len : length codes ≡ c.range-range.result.end - c.range-range.result.start = omega (arith, c.in_ok-kept.ensures.len) in
     let few : AreFew net kept.entries.first (length codes) (most_of kept.counters) =
-    subst (λ (n : ℕ). AreFew net kept.entries.first n (most_of kept.counters)) (sym len)
-    (subst (λ (f : ℕ). AreFew net f (c.range-range.result.end - c.range-range.result.start) (most_of kept.counters)) (sym c.in_ok-kept.ensures.first) c.in_ok-kept.ensures.few) in
-    let holds = make_holds net law level c.args.number kept.entries.first cut codes (counts_of kept.counters) kept.due kept.last_due (most_of kept.counters) is_cut (sym c.requires.size) c.requires.number first
+    rw (len, c.in_ok-kept.ensures.first) c.in_ok-kept.ensures.few in
+    let holds = make_holds law level c.args.number cut is_cut (sym c.requires.size) c.requires.number first
     (omega (arith, c.in_ok-kept.ensures.len, start, c.range-range.ensures.end)) read few in
     let sources : c.in_ok-applied.applied.items ≡ replicate cut.blocks true = c.in_ok-applied.ensures.items_if_clones_equal (λ y e. e) ∙ ap (λ (n : ℕ). replicate n true) c.blocks-blocks.ensures.count in
     let starts : c.in_ok-taken_from.taken_from.items ≡ replicate cut.blocks 0 = c.in_ok-taken_from.ensures.items_if_clones_equal (λ y e. e) ∙ ap (λ (n : ℕ). replicate n 0) c.blocks-blocks.ensures.count in
-    let made : ℕ → ℕ → List Bool → List ℕ → BlockState = λ l w xs ys. record { level = l; cut = cut; number = c.args.number; wave = w; applied = xs; taken_from = ys } in
-    let applied : List Bool = c.in_ok-applied.applied.items in
-    let taken_from : List ℕ = c.in_ok-taken_from.taken_from.items in
-    subst (λ (l : ℕ). BlockHolds (g.N.Levels.net l) (made l kept.entries.wave applied taken_from) kept.entries.first codes (counts_of kept.counters) kept.due kept.last_due (most_of kept.counters)) (sym c.level.ensures)
-    (subst (λ (w : ℕ). BlockHolds net (made level w applied taken_from) kept.entries.first codes (counts_of kept.counters) kept.due kept.last_due (most_of kept.counters)) (sym c.in_ok-kept.ensures.wave)
-    (subst (λ (xs : List Bool). BlockHolds net (made level 0 xs taken_from) kept.entries.first codes (counts_of kept.counters) kept.due kept.last_due (most_of kept.counters)) (sym sources)
-    (subst (λ (ys : List ℕ). BlockHolds net (made level 0 (replicate cut.blocks true) ys) kept.entries.first codes (counts_of kept.counters) kept.due kept.last_due (most_of kept.counters)) (sym starts) holds)))
+    rw (c.level.ensures, c.in_ok-kept.ensures.wave, sources, starts) holds

@@ -20,10 +20,7 @@ take_in-requires-clause-enough g c = λ even k l.
     let s = c.args.self.now in
     let wave : c.next_wave.new.self.wave ≡ s.entries.wave + 1 = c.next_wave.ensures.wave in
     let place : k < length s.entries.entries.codes = omega (arith, l, s.counted) in
-    subst (λ (xs : List ℕ). times (c.next_wave.new.self.first + k) xs ≤ left_at s.counters k) (sym c.at-nodes.ensures)
-    (subst (λ (w : ℕ). times (c.next_wave.new.self.first + k) (list_at s.due w) ≤ left_at s.counters k) (sym wave)
-    (subst (λ (f : ℕ). times (f + k) (list_at s.due (s.entries.wave + 1)) ≤ left_at s.counters k) (sym c.next_wave.ensures.first)
-    (c.requires.enough (ap is_odd (sym wave) ∙ even) k place)))
+    rw (c.at-nodes.ensures, wave, c.next_wave.ensures.first) (c.requires.enough (ap is_odd (sym wave) ∙ even) k place)
 
 pub invariant_of-self : goal.invariant_of-self
 invariant_of-self g c =
