@@ -19,8 +19,8 @@ pub fn prepare_words<B: Geometry>(words: &mut [u32]) -> i32
     ensures { Prepares B.shape result words.old words.new }
 {
     match prepare::<B>(words) {
-        Ok(_) => DONE,
-        Err(_) => ROOM,
+        Some(_) => DONE,
+        None => ROOM,
     }
 }
 

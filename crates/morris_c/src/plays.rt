@@ -7,6 +7,7 @@ ghost use Rattle.morris_c.specs.Plays.{ListsLegalMoves, PlaysMove, bare_record, 
 use crate::statuses::{DONE, ILLEGAL, ROOM, mask_status};
 use morris_board::board::Geometry;
 use morris_board::position::Position;
+use morris_lookup::listing::move_count;
 use morris_lookup::masks::position_of;
 use morris_lookup::records::{MoveRecord, NONE, move_record};
 use morris_moves::rules::{is_legal, moves, play};
@@ -54,13 +55,6 @@ fn write_moves<B: Geometry>(position: &Position<B>, out: &mut [MoveRecord]) -> O
         done += 1;
     }
     Some(done)
-}
-
-/// How many legal moves a position has.
-fn move_count<B: Geometry>(position: &Position<B>) -> usize
-    ensures { result ≡ length (moves_of B.shape position.now) }
-{
-    moves(position).count()
 }
 
 /// Writes the position after a legal move, the player to move first.

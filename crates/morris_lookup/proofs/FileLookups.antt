@@ -20,7 +20,7 @@ use Rattle.morris_pairs.proofs.ReadingLaws.{ok_same}
 use Rattle.morris_lookup.specs.Storage.{bytes_at, LiesWithin, ReadsAt}
 use Rattle.morris_lookup.specs.Opening.{OpenFile, framed_in, IsOpen}
 use Rattle.morris_lookup.specs.Lookups.{code_at, code_for, IsExactFile}
-use Rattle.morris_lookup.proofs.OpeningLaws.{framed_file, known_framed, size_of_framed}
+use Rattle.morris_lookup.proofs.OpeningLaws.{at_bytes, framed_file, known_framed, size_of_framed}
 
 between : (front part rest : List ℕ) (place : ℕ) → length front ≡ place → length part ≡ 2 → bytes_at (front ++ (part ++ rest)) place 2 ≡ part
 between front part rest place at two = ap (take 2) (drop_at front (part ++ rest) place at) ∙ take_at part rest 2 two
@@ -77,24 +77,14 @@ module _ (board : Shape) (n : ℕ) (points : board.points ≡ n) (low : board.po
         ap (λ b. code_at b entry) is ∙ code_at-file board t entry exact.small (omega arith) ∙ ap (λ i. get_or t.codes i 0) entries in
         subst (IsCodeOf board s) (sym code) (exact.exact s position (subst (λ c. is_of c s ≡ true) pairs of))
 
-    known : (o : Option (List ℕ)) (bytes : List ℕ) → o ≡ Some bytes → IfSome o (λ b. framed_in board b ≡ Ok (file.layout, file.pair))
-        → framed_in board bytes ≡ Ok (file.layout, file.pair)
-    known None bytes e h = cc
-    known (Some b) bytes e h = let same : b ≡ bytes = cc in subst (λ x. framed_in board x ≡ Ok (file.layout, file.pair)) same h
-
-    stated : (o : Option (List ℕ)) (bytes : List ℕ) (code : ℕ) → o ≡ Some bytes → IfSome o (λ b. code ≡ code_for board file b s)
-        → code ≡ code_for board file bytes s
-    stated None bytes code e h = cc
-    stated (Some b) bytes code e h = let same : b ≡ bytes = cc in h ∙ ap (λ x. code_for board file x s) same
-
     -- the code that is read for a position is the position's
     pub exact_code : (code : ℕ) → IfSome file.bytes (λ b. code ≡ code_for board file b s) → IsExactFile board file
         → entry_index board n file.layout file.pair s < entry_count board n file.layout file.pair → IsCodeOf board s code
     exact_code code is exact inside =
-        let framed = known file.bytes (file_of board exact.0) exact.2 (known_framed board file right) in
+        let framed = at_bytes (λ bytes. framed_in board bytes ≡ Ok (file.layout, file.pair)) file.bytes (file_of board exact.0) exact.2 (known_framed board file right) in
         let here : entry < entry_count board board.points file.layout file.pair =
         subst (λ m. entry_index board m file.layout file.pair s < entry_count board m file.layout file.pair) (sym points) inside in
-        subst (IsCodeOf board s) (sym (stated file.bytes (file_of board exact.0) code exact.2 is))
+        subst (IsCodeOf board s) (sym (at_bytes (λ bytes. code ≡ code_for board file bytes s) file.bytes (file_of board exact.0) exact.2 is))
         (of_table (file_of board exact.0) exact.0 exact.1 refl framed here)
 
 -- ---- two bytes that are read

@@ -1,30 +1,16 @@
 -- Laws of sets of open files: the places of pairs, and what a set says of a position.
-use Rattle.std.proofs.Common.{◌≡◌, ◌≢◌, ℕ, zero, suc, ◌≤◌, true, false, leb, List, [], ◌∷◌, ◌++◌, length, get_or, set, Option, Some, None, Result, Ok, refl, sym, ap, ap₂, ◌∙◌, subst, inl, inr, arith, length-set, get_or-set_other, get_or-set_same}
+use Rattle.std.proofs.Common.{◌≡◌, ◌≢◌, ℕ, zero, suc, true, false, [], ◌∷◌, ◌++◌, length, get_or, set, Option, Some, None, refl, sym, ap, ap₂, ◌∙◌, subst, inl, inr, arith, length-set, get_or-set_other, get_or-set_same}
 use Rattle.std.specs.Prelude.{IfSome}
-use Rattle.std.proofs.lemmas.Bool.{cases_Bool, and_parts, leb-true}
+use Rattle.std.proofs.lemmas.Bool.{cases_Bool}
 use Rattle.std.proofs.lemmas.List.{get_or_default}
 use Rattle.morris_board.specs.Boards.{Shape}
-use Rattle.morris_board.specs.Positions.{Sides, is_between}
-use Rattle.morris_index.specs.Pairs.{Counts, counts, pair_of}
-use Rattle.morris_pairs.specs.declared.value.Value.{Value}
-use Rattle.morris_pairs.specs.Codes.{value_in}
+use Rattle.morris_index.specs.Pairs.{Counts, counts}
 use Rattle.morris_pairs.specs.Shelves.{has_place, place_of}
-use Rattle.morris_pairs.proofs.ShelfLaws.{place_of-lt, cases_pair}
+use Rattle.morris_pairs.proofs.ShelfLaws.{HasNumbers, numbers, place_of-lt, cases_pair}
 use Rattle.morris_lookup.specs.Opening.{OpenFile, IsOpen}
-use Rattle.morris_lookup.specs.Lookups.{code_for, IsExactFile}
-use Rattle.morris_lookup.specs.FileSets.{Files, file_for, AreFiles, IsExactAt, said_in, said_at, said_of, missing_file}
+use Rattle.morris_lookup.specs.FileSets.{Files, file_for, AreFiles}
 
 -- ---- the places
-
-abbrev HasNumbers : Counts → Type 0
-HasNumbers c = (3 ≤ c.greater) × (c.greater ≤ 9) × (3 ≤ c.lesser) × (c.lesser ≤ 9)
-
-numbers : (c : Counts) → has_place c ≡ true → HasNumbers c
-numbers c h =
-    let both = and_parts (is_between 3 c.greater 9) (is_between 3 c.lesser 9) h in
-    let greater = and_parts (leb 3 c.greater) (leb c.greater 9) (both.0) in
-    let lesser = and_parts (leb 3 c.lesser) (leb c.lesser 9) (both.1) in
-    (leb-true _ _ greater.0, leb-true _ _ greater.1, leb-true _ _ lesser.0, leb-true _ _ lesser.1)
 
 -- two pairs have two places
 same_place : (c d : Counts) → has_place c ≡ true → has_place d ≡ true → place_of c ≡ place_of d → c ≡ d
@@ -94,38 +80,3 @@ module _ (files : Files) (file : OpenFile) (len : length files ≡ 49) (h : has_
       | inr other ↦ rw (put-other c other) (lawful.right c)
     ];
   }
-
--- ---- what a set says
-
-module _ (board : Shape) (files : Files) (s : Sides) (c : Counts) (of : pair_of s ≡ Some c) where
-  pub nothing_missing : (file : OpenFile) → file_for files c ≡ Some file → missing_file files s ≡ None
-  nothing_missing file there = rw (of, there) refl
-
-  pub one_missing : file_for files c ≡ None → missing_file files s ≡ Some c
-  one_missing there = rw (of, there) refl
-
-  pub nothing_said : {X : Type 0} → file_for files c ≡ None → (value : Value) → said_of board files s ≡ Some value → X
-  nothing_said there value e = let none : None ≡ Some value = rw (of, there) at e in absurd (no value none)
-    where
-      no : (value : Value) → None ≡ Some value → ⊥
-      no value e = cc
-
-  pub said_there : {F : Type 0} → (file : OpenFile) (answer : Result Value F) → file_for files c ≡ Some file
-      → IfSome file.bytes (λ bytes. answer ≡ Ok (value_in (code_for board file bytes s)))
-      → (value : Value) → said_of board files s ≡ Some value → answer ≡ Ok value
-  said_there file answer there is value e = from file.bytes is (rw (of, there) at e)
-    where
-      from : (o : Option (List ℕ)) → IfSome o (λ bytes. answer ≡ Ok (value_in (code_for board file bytes s))) → said_in board file s o ≡ Some value → answer ≡ Ok value
-      from None is e = cc
-      from (Some bytes) is e = let same : value_in (code_for board file bytes s) ≡ value = cc in is ∙ ap (λ v. Ok v) same
-
-  pub exact_there : (file : OpenFile) → file_for files c ≡ Some file → IsExactAt board files s → IsExactFile board file
-  exact_there file there exact = rw (of, there) at exact
-
--- a position of no pair is said to be lost
-pub said_lost : {F : Type 0} → (board : Shape) (files : Files) (s : Sides) (answer : Result Value F) (lost : Value) → pair_of s ≡ None → said_at board files s None ≡ Some lost
-    → answer ≡ Ok lost → (value : Value) → said_of board files s ≡ Some value → answer ≡ Ok value
-said_lost board files s answer lost none is got value e =
-    let known : said_at board files s None ≡ Some value = rw none at e in
-    let same : lost ≡ value = cc in
-    got ∙ ap (λ v. Ok v) same

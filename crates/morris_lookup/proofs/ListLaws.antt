@@ -3,8 +3,9 @@
 use Rattle.std.proofs.Common.{◌≡◌, ℕ, zero, suc, ◌+◌, ◌-◌, ◌^◌, ◌<◌, ◌≤◌, Bool, true, false, cond, ltb, List, [], ◌∷◌, ◌++◌, length, filter, get_or, take, set, get_or-set_other, get_or-set_same, length-set, refl, sym, ap, ◌∙◌, inl, inr, subst, arith, length-append, zero-add}
 use Rattle.std.proofs.lemmas.Bool.{cases_Bool, cases_eq, cases_lt, lt-ltb, ltb-true, ltb-false}
 use Rattle.std.proofs.lemmas.List.{get_or_append_left, get_or_push, get_or-append-add, get_or-take, append-nil, ext_get_or, length-take-le}
-use Rattle.std.proofs.lemmas.List.Elements.{filter-append}
-use Rattle.std.specs.List.{range_with_len}
+use Rattle.std.proofs.lemmas.List.Elements.{All-filter, filter-append}
+use Rattle.std.proofs.lemmas.List.FromFn.{get_or-range_with_len, length-range_with_len}
+use Rattle.std.specs.List.{All, range_with_len}
 use Rattle.std.specs.List.Sorted.{IsPartitionedBy, IsPartitionPoint}
 use Rattle.morris_board.specs.Boards.{Shape}
 use Rattle.morris_board.specs.Sets.{count_of}
@@ -12,84 +13,7 @@ use Rattle.morris_board.specs.Symmetries.{HasSymmetries}
 use Rattle.morris_index.specs.Numbering.{count_below}
 use Rattle.morris_index.specs.Classes.{is_representative, representative_of, classes_below, class_of}
 use Rattle.morris_index.proofs.ClassLaws.{representative_within}
-use Rattle.morris_index.proofs.RankLaws.{passing, passing-yes, passing-no}
 use Rattle.morris_lookup.specs.Representatives.{representatives_of}
-
--- ---- the numbers below a limit that pass a test
-
-module _ (f : ℕ → Bool) where
-  passing-under : (n k d : ℕ) → k < length (passing f n) → get_or (passing f n) k d < n
-  passing-under zero k d h = absurd (omega arith)
-  passing-under (suc n) k d h = elim (cases_Bool (f n)) [
-    | inl y ↦
-        let e : passing f (suc n) ≡ passing f n ++ n ∷ [] = passing-yes f n y in
-        subst (λ xs. get_or xs k d < suc n) (sym e) (elim (cases_lt k (length (passing f n))) [
-          | inl low ↦ rw (get_or_append_left (passing f n) (n ∷ []) d k low) (omega (arith, passing-under n k d low))
-          | inr le ↦
-              let at : length (passing f n) ≡ k = omega (arith, ap length e, length-append (passing f n) (n ∷ [])) in
-              rw (get_or_push (passing f n) n d k at) (omega arith)
-        ])
-    | inr out ↦
-        let e : passing f (suc n) ≡ passing f n = passing-no f n out in
-        subst (λ xs. get_or xs k d < suc n) (sym e) (omega (arith, passing-under n k d (omega (arith, ap length e))))
-  ]
-
-  -- those below n come first among those below more than n, and the others are n and more
-  pub record Splits (n m : ℕ) : Type 0 where
-    pub few : length (passing f n) ≤ length (passing f m)
-    pub low : (k d : ℕ) → k < length (passing f n) → get_or (passing f m) k d ≡ get_or (passing f n) k d
-    pub high : (k d : ℕ) → length (passing f n) ≤ k → k < length (passing f m) → n ≤ get_or (passing f m) k d
-
-  splits-yes : (n m : ℕ) → n ≤ m → f m ≡ true → Splits n m → Splits n (suc m)
-  splits-yes n m le y before =
-      let e : passing f (suc m) ≡ passing f m ++ m ∷ [] = passing-yes f m y in
-      let len : length (passing f (suc m)) ≡ length (passing f m) + 1 = omega (arith, ap length e, length-append (passing f m) (m ∷ [])) in
-      record {
-        few = omega (arith, len, before.few);
-        low = λ k d h.
-            ap (λ xs. get_or xs k d) e ∙ get_or_append_left (passing f m) (m ∷ []) d k (omega (arith, h, before.few)) ∙ before.low k d h;
-        high = λ k d le_k h. elim (cases_lt k (length (passing f m))) [
-          | inl under ↦
-              let at : get_or (passing f (suc m)) k d ≡ get_or (passing f m) k d = ap (λ xs. get_or xs k d) e ∙ get_or_append_left (passing f m) (m ∷ []) d k under in
-              omega (arith, at, before.high k d le_k under)
-          | inr over ↦
-              let here : length (passing f m) ≡ k = omega (arith, len) in
-              let at : get_or (passing f (suc m)) k d ≡ m = ap (λ xs. get_or xs k d) e ∙ get_or_push (passing f m) m d k here in
-              omega (arith, at)
-        ];
-      }
-
-  splits-no : (n m : ℕ) → f m ≡ false → Splits n m → Splits n (suc m)
-  splits-no n m out before =
-      let e : passing f (suc m) ≡ passing f m = passing-no f m out in
-      record {
-        few = omega (arith, ap length e, before.few);
-        low = λ k d h. ap (λ xs. get_or xs k d) e ∙ before.low k d h;
-        high = λ k d le_k h. omega (arith, ap (λ xs. get_or xs k d) e, before.high k d le_k (omega (arith, ap length e)));
-      }
-
-  splits_more : (n more : ℕ) → Splits n (n + more)
-  splits_more n zero = subst (Splits n) (omega arith) (record {
-    few = omega arith;
-    low = λ k d h. refl;
-    high = λ k d le h. absurd (omega arith);
-  })
-  splits_more n (suc more) =
-      let e : suc (n + more) ≡ n + suc more = omega arith in
-      subst (Splits n) e (elim (cases_Bool (f (n + more))) [
-        | inl y ↦ splits-yes n (n + more) (omega arith) y (splits_more n more)
-        | inr out ↦ splits-no n (n + more) out (splits_more n more)
-      ])
-
-  pub splits : (n m : ℕ) → n ≤ m → Splits n m
-  splits n m le = subst (Splits n) (omega arith) (splits_more n (m - n))
-
-  pub passing-few : (n : ℕ) → length (passing f n) ≤ n
-  passing-few zero = omega arith
-  passing-few (suc n) = elim (cases_Bool (f n)) [
-    | inl y ↦ omega (arith, passing-few n, ap length (passing-yes f n y), length-append (passing f n) (n ∷ []))
-    | inr out ↦ omega (arith, passing-few n, ap length (passing-no f n out))
-  ]
 
 -- ---- the numbers from one on that pass a test
 
@@ -122,6 +46,15 @@ module _ (f : ℕ → Bool) where
   between-none a (suc n) none =
       let e : suc n ≡ n + 1 = omega arith in
       ap (between f a) e ∙ between-no a n (none n (omega arith)) ∙ between-none a n (λ i low. none i (omega arith))
+
+  -- each is one of these numbers
+  between-in : (a n : ℕ) → All (λ m. (a ≤ m) × (m < a + n)) (between f a n)
+  between-in a n =
+      All-filter f (λ m. (a ≤ m) × (m < a + n)) (range_with_len a n)
+      (λ k d h.
+      let low : k < n = omega (arith, h, length-range_with_len a n) in
+      let at : get_or (range_with_len a n) k d ≡ a + k = get_or-range_with_len a n k d low in
+      (omega (arith, at), omega (arith, at, low)))
 
   pub between-few : (a n : ℕ) → length (between f a n) ≤ n
   between-few a zero = omega arith
@@ -200,11 +133,8 @@ module _ (f : ℕ → Bool) (a mask : ℕ) (from : a ≤ mask) where
       let e : a + (mask - a) ≡ mask = omega arith in
       ap (between f a) (sym one_more) ∙ between-no f a (mask - a) (ap f e ∙ h)
 
-  pub counted-yes : f mask ≡ true → length (between f a (mask + 1 - a)) ≡ length (between f a (mask - a)) + 1
+  counted-yes : f mask ≡ true → length (between f a (mask + 1 - a)) ≡ length (between f a (mask - a)) + 1
   counted-yes h = ap length (between-yes_to h) ∙ length-append (between f a (mask - a)) (mask ∷ [])
-
-  pub counted-no : f mask ≡ false → length (between f a (mask + 1 - a)) ≡ length (between f a (mask - a))
-  counted-no h = ap length (between-no_to h)
 
   module _ (start end : ℕ) (words old : List ℕ) (here : AreListed (between f a (mask - a)) start end words old) where
     pub listed-yes : f mask ≡ true → end < length words → AreListed (between f a (mask + 1 - a)) start (end + 1) (set words end mask) old
@@ -267,7 +197,7 @@ listed_first list end words ends within listed =
 module _ (board : Shape) where
   pub representatives-few : (count : ℕ) → length (representatives_of board count) ≤ 2 ^ board.points
   unfolding representatives_of
-  representatives-few count = passing-few (is_representative board count) (2 ^ board.points)
+  representatives-few count = between-few (is_representative board count) 0 (2 ^ board.points)
 
 -- ---- the class of a set
 
@@ -276,25 +206,35 @@ module _ (board : Shape) (few : board.points ≤ 24) (y : HasSymmetries board) (
   abbrev own : ℕ → Bool
   own = is_representative board (count_of set)
 
-  parts : Splits own least (2 ^ board.points)
-  parts = splits own least (2 ^ board.points) (omega (arith, least_is, representative_within board few y set small))
+  abbrev below : List ℕ
+  below = between own 0 least
 
-  is_passing : list ≡ passing own (2 ^ board.points)
+  abbrev others : List ℕ
+  others = between own least (2 ^ board.points - least)
+
+  split : list ≡ below ++ others
   unfolding representatives_of
-  is_passing = is
+  split =
+      let rest : ℕ = 2 ^ board.points - least in
+      let all : least + rest ≡ 2 ^ board.points = omega (arith, least_is, representative_within board few y set small) in
+      is ∙ ap (between own 0) (sym all) ∙ join_at own least rest
 
-  length_is : length list ≡ length (passing own (2 ^ board.points))
-  length_is = ap length is_passing
+  length_is : length list ≡ length below + length others
+  length_is = ap length split ∙ length-append below others
 
-  lower : (k d : ℕ) → k < length (passing own least) → get_or list k d < least
-  lower k d h = rw (is_passing, parts.low k d h) (passing-under own least k d h)
+  lower : (k d : ℕ) → k < length below → get_or list k d < least
+  lower k d h = omega (arith, ap (λ xs. get_or xs k d) split, get_or_append_left below others d k h, (between-in own 0 least k d h).1)
 
-  upper : (k d : ℕ) → length (passing own least) ≤ k → k < length list → least ≤ get_or list k d
-  upper k d le h = rw is_passing (parts.high k d le (omega (arith, length_is)))
+  upper : (k d : ℕ) → length below ≤ k → k < length list → least ≤ get_or list k d
+  upper k d le h =
+      let j : ℕ = k - length below in
+      let place : length below + j ≡ k = omega arith in
+      let at : get_or list k d ≡ get_or others j d = ap (λ xs. get_or xs k d) split ∙ ap (λ i. get_or (below ++ others) i d) (sym place) ∙ get_or-append-add below others j d in
+      omega (arith, at, (between-in own least (2 ^ board.points - least) j d (omega (arith, h, length_is))).0)
 
   -- the representatives below a mask stand before the others
   pub partitioned : IsPartitionedBy (λ mask. ltb mask least) list
-  partitioned i j d le low h = elim (cases_lt j (length (passing own least))) [
+  partitioned i j d le low h = elim (cases_lt j (length below)) [
     | inl under ↦ lt-ltb (get_or list i d) least (lower i d (omega arith))
     | inr over ↦ absurd (omega (arith, ltb-true (get_or list j d) least h, upper j d over low))
   ]
@@ -302,14 +242,14 @@ module _ (board : Shape) (few : board.points ≤ 24) (y : HasSymmetries board) (
   -- so there are as many as where they end
   pub class_is : (i : ℕ) → i ≤ length list → IsPartitionPoint (λ mask. ltb mask least ≡ true) (λ mask. ltb mask least ≡ false) list i → i ≡ class_of board set
   unfolding class_of classes_below count_below
-  class_is i le point = subst (λ m. i ≡ length (passing own m)) least_is (elim (cases_lt i (length (passing own least))) [
+  class_is i le point = subst (λ m. i ≡ length (between own 0 m)) least_is (elim (cases_lt i (length below)) [
     | inl under ↦
-        let in_list : i < length list = omega (arith, length_is, parts.few) in
+        let in_list : i < length list = omega (arith, length_is) in
         absurd (omega (arith, lower i 0 under, ltb-false (get_or list i 0) least (point.1 i 0 (omega arith) in_list)))
-    | inr over ↦ elim (cases_eq i (length (passing own least))) [
+    | inr over ↦ elim (cases_eq i (length below)) [
       | inl e ↦ e
       | inr d ↦
-          let at : ℕ = length (passing own least) in
+          let at : ℕ = length below in
           absurd (omega (arith, upper at 0 (omega arith) (omega arith), ltb-true (get_or list at 0) least (point.0 at 0 (omega arith) (omega arith))))
     ]
   ])

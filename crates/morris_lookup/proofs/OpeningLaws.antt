@@ -1,19 +1,17 @@
 -- Laws of opening: what the steps find in bytes of which the header and the number are known, and
 -- that the file of each table is one.
-use Rattle.std.proofs.Common.{◌≡◌, ◌≢◌, ℕ, ◌+◌, ◌*◌, ◌^◌, ◌<◌, ◌≤◌, List, [], ◌++◌, length, take, drop, Option, Some, None, Result, Ok, Err, IsOk, refl, sym, ap, subst, ◌∙◌, inl, inr, arith, append-nil}
+use Rattle.std.proofs.Common.{◌≡◌, ◌≢◌, ℕ, ◌+◌, ◌*◌, ◌<◌, ◌≤◌, List, [], ◌++◌, length, take, drop, Option, Some, None, Result, Ok, Err, IsOk, refl, sym, ap, subst, ◌∙◌, inl, inr, arith, append-nil}
 use Rattle.std.specs.Prelude.{nat_eq, nat_le, IfSome}
 use Rattle.std.specs.Str.{bytes_eq}
-use Rattle.std.proofs.lemmas.Bool.{cases_eq, cases_Bool, le-leb, leb-true}
+use Rattle.std.proofs.lemmas.Bool.{cases_Bool, le-leb, leb-true}
 use Rattle.sha2.specs.Sha256.{sha256}
 use Rattle.morris_board.specs.Boards.{Shape}
 use Rattle.morris_board.specs.Symmetries.{HasSymmetries}
-use Rattle.morris_index.specs.Pairs.{Counts, IsPair, IsHalf}
-use Rattle.morris_index.proofs.IndexLaws.{half_size-few, size-one, size-two}
-use Rattle.morris_index.proofs.ClassCounts.{class_count-few}
-use Rattle.morris_index.proofs.ClassPairLaws.{class_size-few, size-one as class_size-one, size-two as class_size-two}
+use Rattle.morris_index.specs.Pairs.{Counts}
 use Rattle.morris_pairs.specs.declared.layout.Layout.{Layout}
-use Rattle.morris_pairs.specs.declared.layout.Layout.TheVariants.{Full, Classes}
+use Rattle.morris_pairs.specs.declared.layout.Layout.TheVariants.{Full}
 use Rattle.morris_pairs.specs.Entries.{entry_count}
+use Rattle.morris_pairs.specs.EntryLaws.{entries_few}
 use Rattle.morris_pairs.specs.Tables.{Table, table}
 use Rattle.morris_pairs.specs.Raws.{IsRaw}
 use Rattle.morris_pairs.specs.TableFiles.{file_of}
@@ -103,15 +101,7 @@ module _ (board : Shape) (bytes : List ℕ) where
 of_bytes : (board : Shape) (bytes : List ℕ) (refusal : ReadFault) → framed_in board bytes ≡ Err refusal → IsOfBytes refusal → IsFramingRefusal board bytes refusal
 of_bytes board bytes fault.Memory e r = absurd r
 of_bytes board bytes fault.Read e r = absurd r
-of_bytes board bytes fault.Short e r = e
-of_bytes board bytes fault.Magic e r = e
-of_bytes board bytes fault.Version e r = e
-of_bytes board bytes fault.BoardId e r = e
-of_bytes board bytes fault.Counts e r = e
-of_bytes board bytes fault.Crowded e r = e
-of_bytes board bytes fault.Count e r = e
-of_bytes board bytes fault.Digest e r = e
-of_bytes board bytes fault.Trailing e r = e
+of_bytes board bytes refusal e r = e
 
 not_borne : (stated n count : ℕ) (refusal : ReadFault) → Err refusal ≡ borne_out stated n count → IsOfBytes refusal
 unfolding borne_out
@@ -133,6 +123,9 @@ not_borne stated n count refusal e = elim (cases_Bool (nat_eq stated count)) [
     same other h = cc
 
 -- ---- the same where the bytes may be known
+
+pub at_bytes : (P : List ℕ → Type 0) (o : Option (List ℕ)) (bytes : List ℕ) → o ≡ Some bytes → IfSome o P → P bytes
+at_bytes P o bytes e h = subst (λ b. IfSome b P) e h
 
 -- what holds of bytes that are known though reads may fail holds of those of which none fails
 pub held_known : (o held : Option (List ℕ)) (P : List ℕ → Type 0) → IfSome o (λ bytes. held ≡ Some bytes) → IfSome held P → IfSome o P
@@ -175,14 +168,6 @@ module _ (board : Shape) (header : Header) (n : ℕ) where
       frame_found None begins done e = tt
       frame_found (Some bytes) begins done e = framed_found board bytes header n begins kind named m points count counted done e
 
-module _ (E : Type 0) where
-  abbrev number_of : Result ℕ E → ℕ
-  number_of (Ok a) = a
-  number_of (Err failed) = 0
-
-  ok_number : (a b : ℕ) → ◌≡◌ {A = Result ℕ E} (Ok a) (Ok b) → a ≡ b
-  ok_number a b e = ap number_of e
-
 -- the file of another pair is refused as such
 pub other_pair : (board : Shape) (wanted : Counts) (o : Option (List ℕ)) (kind : Layout × Counts) → IfSome o (λ bytes. framed_in board bytes ≡ Ok kind) → kind.1 ≢ wanted
     → IfSome o (λ bytes. IsOpeningRefusal board wanted bytes opening.Pair)
@@ -200,7 +185,7 @@ module _ (n : ℕ) (front : List ℕ) (sized : length front ≡ 16) (enough : 16
 pub too_short : (E : Type 0) (o : Option (List ℕ)) (n : ℕ) → CountsBytes {E = E} o (Ok n) → n < 16 → (refusal : ReadFault) → refusal ≡ fault.Short
     → IfSome o (λ bytes. (length bytes < 16) × (refusal ≡ fault.Short))
 too_short E None n counted short refusal is = tt
-too_short E (Some bytes) n counted short refusal is = (omega (arith, short, ok_number E n (length bytes) counted), is)
+too_short E (Some bytes) n counted short refusal is = let all : n ≡ length bytes = cc in (omega (arith, short, all), is)
 
 -- bytes that no step refuses are as many as the file of the table has
 pub size_of_framed : (board : Shape) (bytes : List ℕ) (kind : Layout × Counts) → framed_in board bytes ≡ Ok kind
@@ -257,48 +242,13 @@ header_read board bytes t left e = from (header_in board bytes) e
     from (Err refusal) e = cc
 
 module _ (board : Shape) (low : board.points ≤ 24) (y : HasSymmetries board) where
-  first_half : (c : Counts) → IsPair board.points c → IsHalf board.points c.greater c.lesser
-  first_half c h = record {
-    own_least = omega (arith, h.least, h.ordered);
-    own_most = h.most;
-    other_least = h.least;
-    other_most = omega (arith, h.most, h.ordered);
-    fits = h.fits;
-  }
-
-  second_half : (c : Counts) → IsPair board.points c → IsHalf board.points c.lesser c.greater
-  second_half c h = record {
-    own_least = h.least;
-    own_most = omega (arith, h.most, h.ordered);
-    other_least = omega (arith, h.least, h.ordered);
-    other_most = h.most;
-    fits = omega (arith, h.fits);
-  }
-
-  -- a header has room for the number of entries of each pair
-  entries_few : (l : Layout) (c : Counts) → IsPair board.points c → entry_count board board.points l c < 2 ^ 64
-  entries_few Full c h =
-      let one = half_size-few board.points c.greater c.lesser low (first_half c h) in
-      let two = half_size-few board.points c.lesser c.greater low (second_half c h) in
-      elim (cases_eq c.greater c.lesser) [
-        | inl e ↦ omega (arith, one, size-one board.points c e)
-        | inr d ↦ omega (arith, one, two, size-two board.points c d)
-      ]
-  entries_few Classes c h =
-      let one = class_size-few board board.points low refl y c.greater c.lesser (first_half c h) (class_count-few board board.points c.greater low refl) in
-      let two = class_size-few board board.points low refl y c.lesser c.greater (second_half c h) (class_count-few board board.points c.lesser low refl) in
-      elim (cases_eq c.greater c.lesser) [
-        | inl e ↦ omega (arith, one, class_size-one board board.points low refl y c e)
-        | inr d ↦ omega (arith, one, two, class_size-two board board.points low refl y c d)
-      ]
-
   -- the file of a table has the table's header and as many bytes as it says
   pub framed_file : (t : Table) → IsRaw board t → framed_in board (file_of board t) ≡ Ok (t.layout, t.pair)
   unfolding framed_in measured_in
   framed_file t raw =
       let read : file_in board (file_of board t) ≡ Ok (t, []) =
       ap (file_in board) (sym (append-nil (file_of board t)))
-      ∙ file_in-file_of board t [] raw (omega (arith, raw.counted, entries_few t.layout t.pair raw.lawful)) in
+      ∙ file_in-file_of board t [] raw (omega (arith, raw.counted, entries_few board low y t.pair raw.lawful t.layout)) in
       let size : length (file_of board t) ≡ 16 + 2 * entry_count board board.points t.layout t.pair + 32 =
       omega (arith, length-file_of board t, raw.counted) in
       rw (
@@ -312,22 +262,10 @@ module _ (board : Shape) (low : board.points ≤ 24) (y : HasSymmetries board) w
   no_refusal t raw refusal e = let l = framed_file t raw in cc
 
   module _ (t : Table) (raw : IsRaw board t) where
-    at_bytes : (P : List ℕ → Type 0) (o : Option (List ℕ)) (bytes : List ℕ) → o ≡ Some bytes → IfSome o P → P bytes
-    at_bytes P None bytes e h = cc
-    at_bytes P (Some b) bytes e h = let same : b ≡ bytes = cc in subst P same h
-
     opens_unless : (refusal : ReadFault) → IsFramingRefusal board (file_of board t) refusal → Opens t.layout (Err (opening.File refusal))
     opens_unless fault.Memory h = tt
     opens_unless fault.Read h = absurd h
-    opens_unless fault.Short h = absurd (no_refusal t raw fault.Short h)
-    opens_unless fault.Magic h = absurd (no_refusal t raw fault.Magic h)
-    opens_unless fault.Version h = absurd (no_refusal t raw fault.Version h)
-    opens_unless fault.BoardId h = absurd (no_refusal t raw fault.BoardId h)
-    opens_unless fault.Counts h = absurd (no_refusal t raw fault.Counts h)
-    opens_unless fault.Crowded h = absurd (no_refusal t raw fault.Crowded h)
-    opens_unless fault.Count h = absurd (no_refusal t raw fault.Count h)
-    opens_unless fault.Digest h = absurd (no_refusal t raw fault.Digest h)
-    opens_unless fault.Trailing h = absurd (no_refusal t raw fault.Trailing h)
+    opens_unless refusal h = absurd (no_refusal t raw refusal h)
 
     pub opens_refused : (o : Option (List ℕ)) → o ≡ Some (file_of board t) → (refusal : ReadFault)
         → IfSome o (λ bytes. IsFramingRefusal board bytes refusal) → Opens t.layout (Err (opening.File refusal))

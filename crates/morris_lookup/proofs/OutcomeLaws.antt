@@ -1,8 +1,12 @@
 -- Laws of outcomes: best moves are those that lead to the position's own value.
-use Rattle.std.proofs.Common.{◌≡◌, zero, suc, map, List, [], ◌∷◌, ◌++◌, Option, Some, None, Result, Ok, Err, refl, sym, ap, subst, ◌∙◌, inl, inr, append_assoc}
-use Rattle.std.specs.List.{Contains}
+use Rattle.std.proofs.Common.{◌≡◌, ◌≢◌, zero, suc, true, false, map, List, [], ◌∷◌, ◌++◌, Option, Some, None, Result, Ok, Err, refl, sym, ap, ap₂, subst, ◌∙◌, inl, inr, append_assoc, append-nil}
+use Rattle.std.specs.List.{AllPairs, Contains}
+use Rattle.std.proofs.lemmas.Bool.{both_ways, cases_Bool, eq-eqb, eqb-true}
 use Rattle.std.specs.Prelude.{slice_get}
-use Rattle.morris_moves.proofs.ListLaws.{Contains-cons_cases, Contains-head, Contains-tail}
+use Rattle.morris_moves.proofs.ListLaws.{Contains-cons_cases, Contains-head, Contains-map, Contains-map_cases, Contains-tail}
+use Rattle.morris_moves.proofs.OrderLaws.{moves_in_order}
+use Rattle.morris_moves.specs.Order.{Precedes}
+use Rattle.std.proofs.lemmas.List.{map-append}
 use Rattle.std.proofs.lemmas.List.Elements.{Contains-push_cases, Contains-push, Contains-append_left}
 use Rattle.morris_board.specs.Boards.{Shape}
 use Rattle.morris_board.specs.Positions.{Sides}
@@ -12,35 +16,47 @@ use Rattle.morris_pairs.specs.declared.value.Value.{Value}
 use Rattle.morris_pairs.specs.declared.value.Value.TheVariants.{Draw, Won, Lost}
 use Rattle.morris_pairs.specs.Codes.{IsValue}
 use Rattle.morris_probe.specs.Best.{after_best, LeadsOn, IsBest}
+use Rattle.morris_probe.proofs.BestLaws.{AreBestOf, best_more, best_none, best_same, leads_off}
+use Rattle.morris_probe.proofs.SomeBest.{HasValues}
 use Rattle.morris_lookup.specs.declared.outcomes.Outcome.{Outcome}
-use Rattle.morris_lookup.specs.FileSets.{Files, IsExactAt, missing_file, said_of, IsValueRefusal}
-use Rattle.morris_lookup.specs.Outcomes.{turned, ArePicked, IsOutcome, IsOutcomeRefusal, MayLead, MayNotLead}
+use Rattle.morris_lookup.specs.FileSets.{AreExactAfter, Files, IsExactAt, missing_file, said_of, IsValueRefusal}
+use Rattle.morris_lookup.specs.Outcomes.{best_among, same_value, turned, ArePicked, IsOutcome, IsOutcomeRefusal, MayLead, MayNotLead}
 use Rattle.morris_lookup.specs.declared.fault.LookFault.{LookFault}
 use Rattle.morris_lookup.specs.declared.fault.LookFault.TheVariants as fault
 use Rattle.morris_lookup.specs.Lines.{Falls}
 
-turned-best : (found next : Value) → turned next ≡ found → after_best found ≡ Some next
+pub turned-best : (found next : Value) → turned next ≡ found → after_best found ≡ Some next
 turned-best found Draw e = subst (λ v. after_best v ≡ Some Draw) e refl
 turned-best found (Won depth) e = subst (λ v. after_best v ≡ Some (Won depth)) e refl
 turned-best found (Lost depth) e = subst (λ v. after_best v ≡ Some (Lost depth)) e refl
 
-best-turned : (found next : Value) → after_best found ≡ Some next → turned next ≡ found
+pub best-turned : (found next : Value) → after_best found ≡ Some next → turned next ≡ found
 best-turned Draw next e = let is : next ≡ Draw = cc in ap turned is
 best-turned (Won zero) next e = cc
 best-turned (Won (suc depth)) next e = let is : next ≡ Lost depth = cc in ap turned is
 best-turned (Lost zero) next e = cc
 best-turned (Lost (suc depth)) next e = let is : next ≡ Won depth = cc in ap turned is
 
-module _ (board : Shape) (files : Files) (s : Sides) (found : Value) (outcome : Outcome) (h : IsOutcome board files s outcome) (m : Move) (of : outcome.step ≡ m)
-    (exact : IsExactAt board files (result_of s m)) where
-  pub next_value : IsValue board (result_of s m) h.next
-  next_value = subst (λ x. IsValue board (result_of s x) h.next) of (h.exact (subst (λ x. IsExactAt board files (result_of s x)) (sym of) exact))
+-- ---- values that are the same
 
-  pub same_leads : outcome.value ≡ found → LeadsOn board s found m
-  same_leads e = (h.next, turned-best found h.next (sym h.turned_round ∙ e), next_value)
+pub same_itself : (v : Value) → same_value v v ≡ true
+same_itself Draw = refl
+same_itself (Won a) = eq-eqb a a refl
+same_itself (Lost a) = eq-eqb a a refl
 
-  pub best_same_value : after_best found ≡ Some h.next → outcome.value ≡ found
-  best_same_value e = h.turned_round ∙ best-turned found h.next e
+same_true : (v w : Value) → same_value v w ≡ true → v ≡ w
+same_true Draw Draw e = refl
+same_true (Won a) (Won b) e = ap (λ n. Won n) (eqb-true a b e)
+same_true (Lost a) (Lost b) e = ap (λ n. Lost n) (eqb-true a b e)
+same_true _ _ e = cc
+
+apart_values : (v w : Value) → v ≡ w → same_value v w ≡ false → ⊥
+apart_values v w e apart = both_ways (same_value v w) apart (subst (λ u. same_value u w ≡ true) (sym e) (same_itself w))
+
+-- ---- outcomes
+
+abbrev pub steps : List Outcome → List Move
+steps os = map (λ (o : Outcome). o.step) os
 
 -- the outcome of a move whose result has a value
 module _ (F : Type 0) (board : Shape) (files : Files) (s p : Sides) (m : Move) (leads : p ≡ result_of s m) (next : Value) where
@@ -67,30 +83,16 @@ stops_there B board files s seen rest m all found fault.Read why = record { befo
 stops_there B board files s seen rest m all found fault.Memory why = tt
 
 -- one more of which something is so
-pub each_more : (P : Move → Type 0) (seen : List Move) (m : Move) → ((x : Move) → Contains seen x → P x) → P m → (x : Move) → Contains (seen ++ m ∷ []) x → P x
+pub each_more : {X : Type 0} (P : X → Type 0) (seen : List X) (m : X) → ((x : X) → Contains seen x → P x) → P m → (x : X) → Contains (seen ++ m ∷ []) x → P x
 each_more P seen m all here x c = elim (Contains-push_cases seen m x c) [ inl earlier ↦ all x earlier | inr is ↦ subst P is here ]
 
 -- the moves of one outcome more
 pub steps_more : (outcomes items : List Outcome) (outcome : Outcome) (seen : List Move) (m : Move) → items ≡ outcomes ++ outcome ∷ []
-    → map (λ (o : Outcome). o.step) outcomes ≡ seen → outcome.step ≡ m → map (λ (o : Outcome). o.step) items ≡ seen ++ m ∷ []
+    → steps outcomes ≡ seen → outcome.step ≡ m → steps items ≡ seen ++ m ∷ []
 steps_more outcomes items outcome seen m pushed so_far of =
-    ap (map (λ (o : Outcome). o.step)) pushed
-    ∙ pushed_steps outcomes
-    ∙ ap (λ ms. ms ++ outcome.step ∷ []) so_far
-    ∙ ap (λ x. seen ++ x ∷ []) of
-  where
-    pushed_steps : (os : List Outcome) → map (λ (o : Outcome). o.step) (os ++ outcome ∷ []) ≡ map (λ (o : Outcome). o.step) os ++ outcome.step ∷ []
-    pushed_steps [] = refl
-    pushed_steps (o ∷ os) = ap (λ ms. o.step ∷ ms) (pushed_steps os)
-
--- one outcome more
-pub told_more : (board : Shape) (files : Files) (s : Sides) (outcomes : List Outcome) (outcome : Outcome)
-    → ((o : Outcome) → Contains outcomes o → IsOutcome board files s o) → IsOutcome board files s outcome
-    → (o : Outcome) → Contains (outcomes ++ outcome ∷ []) o → IsOutcome board files s o
-told_more board files s outcomes outcome all here o c = elim (Contains-push_cases outcomes outcome o c) [
-  | inl earlier ↦ all o earlier
-  | inr is ↦ subst (IsOutcome board files s) is here
-]
+    ap steps pushed
+    ∙ map-append (λ (o : Outcome). o.step) outcomes (outcome ∷ [])
+    ∙ ap₂ (λ ms x. ms ++ x ∷ []) so_far of
 
 -- the next move is one of all
 pub move_there : (seen rest all : List Move) (m : Move) → seen ++ m ∷ rest ≡ all → Contains all m
@@ -115,43 +117,84 @@ module _ (board : Shape) (files : Files) (s : Sides) (value : Value) where
     ]
   ]
 
-  module _ (m : Move) where
-    -- one more
-    pub picked_more : (seen best : List Move) → MayLead value (said_of board files (result_of s m)) → ArePicked board files s value seen best
-        → ArePicked board files s value (seen ++ m ∷ []) (best ++ m ∷ [])
-    picked_more [] best may none = inr ([], ap (λ b. b ++ m ∷ []) none, may, refl)
-    picked_more (x ∷ seen) best may picked = elim picked [
-      | inl left ↦ inl (left.0, picked_more seen best may left.1)
-      | inr taken ↦ inr (taken.0 ++ m ∷ [], ap (λ b. b ++ m ∷ []) taken.1, taken.2, picked_more seen taken.0 may taken.3)
-    ]
-
-    -- one that is left out
-    pub picked_same : (seen best : List Move) → MayNotLead value (said_of board files (result_of s m)) → ArePicked board files s value seen best
-        → ArePicked board files s value (seen ++ m ∷ []) best
-    picked_same [] best other none = inl (other, none)
-    picked_same (x ∷ seen) best other picked = elim picked [
-      | inl left ↦ inl (left.0, picked_same seen best other left.1)
-      | inr taken ↦ inr (taken.0, taken.1, taken.2, picked_same seen taken.0 other taken.3)
-    ]
-
   -- an outcome of this value, or of another
-  module _ (outcome : Outcome) (h : IsOutcome board files s outcome) (m : Move) (of : outcome.step ≡ m) where
-    next_said : (next : Value) → said_of board files (result_of s m) ≡ Some next → outcome.value ≡ turned next
-    next_said next e = h.turned_round ∙ ap turned (h.said next (subst (λ x. said_of board files (result_of s x) ≡ Some next) (sym of) e))
+  module _ (o : Outcome) (h : IsOutcome board files s o) where
+    next_said : (next : Value) → said_of board files (result_of s o.step) ≡ Some next → o.value ≡ turned next
+    next_said next e = h.turned_round ∙ ap turned (h.said next e)
 
-    pub may_lead : outcome.value ≡ value → MayLead value (said_of board files (result_of s m))
-    may_lead is = by_said (said_of board files (result_of s m)) refl
-      where
-        by_said : (o : Option Value) → said_of board files (result_of s m) ≡ o → MayLead value o
-        by_said None e = tt
-        by_said (Some next) e = sym (next_said next e) ∙ is
+    may_lead : o.value ≡ value → (said : Option Value) → said_of board files (result_of s o.step) ≡ said → MayLead value said
+    may_lead is None e = tt
+    may_lead is (Some next) e = sym (next_said next e) ∙ is
 
-    pub may_not_lead : (outcome.value ≡ value → ⊥) → MayNotLead value (said_of board files (result_of s m))
-    may_not_lead other = by_said (said_of board files (result_of s m)) refl
-      where
-        by_said : (o : Option Value) → said_of board files (result_of s m) ≡ o → MayNotLead value o
-        by_said None e = tt
-        by_said (Some next) e = λ same. other (next_said next e ∙ same)
+    may_not_lead : o.value ≢ value → (said : Option Value) → said_of board files (result_of s o.step) ≡ said → MayNotLead value said
+    may_not_lead other None e = tt
+    may_not_lead other (Some next) e = λ same. other (next_said next e ∙ same)
+
+  -- those that are the best of some outcomes are picked of their moves
+  pub picked_among : (os : List Outcome) → ((o : Outcome) → Contains os o → IsOutcome board files s o) → ArePicked board files s value (steps os) (best_among value os)
+  picked_among [] told = refl
+  picked_among (o ∷ os) told =
+      let here = told o (Contains-head o os) in
+      let rest = picked_among os (λ p c. told p (Contains-tail o os p c)) in
+      let said = said_of board files (result_of s o.step) in
+      elim (cases_Bool (same_value o.value value)) [
+        | inl alike ↦ rw alike (inr (best_among value os, refl, may_lead o here (same_true o.value value alike) said refl, rest))
+        | inr apart ↦ rw apart (inl (may_not_lead o here (λ e. apart_values o.value value e apart) said refl, rest))
+      ]
+
+-- ---- the best moves of the game, by what each legal move leads to
+
+-- a move leads to this value: that of the position after it, turned round
+abbrev pub Leads : Shape → Sides → Outcome → Type 0
+Leads board s o = (next : Value) × IsValue board (result_of s o.step) next × (o.value ≡ turned next)
+
+pub values_among : (board : Shape) (s : Sides) (os : List Outcome) → ((o : Outcome) → Contains os o → Leads board s o) → HasValues board s (steps os)
+values_among board s os lead m c =
+    let from = Contains-map_cases (λ (o : Outcome). o.step) os m c in
+    let there = lead from.0 from.1 in
+    (there.0, subst (λ x. IsValue board (result_of s x) there.0) from.2 there.1)
+
+module _ (board : Shape) (s : Sides) (value : Value) where
+  best_from : (seen best : List Move) (os : List Outcome) → AreBestOf board s value seen best → AllPairs Precedes (seen ++ steps os)
+      → ((o : Outcome) → Contains os o → Leads board s o) → AreBestOf board s value (seen ++ steps os) (best ++ best_among value os)
+  best_from seen best [] so_far order lead = subst (λ b. AreBestOf board s value (seen ++ []) b) (sym (append-nil best)) (subst (λ m. AreBestOf board s value m best) (sym (append-nil seen)) so_far)
+  best_from seen best (o ∷ os) so_far order lead = elim (cases_Bool (same_value o.value value)) [
+    | inl alike ↦
+        let here = lead o (Contains-head o os) in
+        let on : LeadsOn board s value o.step = (here.0, turned-best value here.0 (sym here.2 ∙ same_true o.value value alike), here.1) in
+        let next : AreBestOf board s value ((seen ++ o.step ∷ []) ++ steps os) ((best ++ o.step ∷ []) ++ best_among value os) =
+        best_from (seen ++ o.step ∷ []) (best ++ o.step ∷ []) os (best_more board s value seen (steps os) best o.step so_far order on)
+        (subst (AllPairs Precedes) (sym (append_assoc seen (o.step ∷ []) (steps os))) order) (λ p c. lead p (Contains-tail o os p c)) in
+        rw alike (subst (AreBestOf board s value (seen ++ o.step ∷ steps os)) (append_assoc best (o.step ∷ []) (best_among value os))
+        (subst (λ m. AreBestOf board s value m ((best ++ o.step ∷ []) ++ best_among value os)) (append_assoc seen (o.step ∷ []) (steps os)) next))
+    | inr apart ↦
+        let here = lead o (Contains-head o os) in
+        let off : LeadsOn board s value o.step → ⊥ =
+        leads_off board s value o.step here.0 here.1 (λ e. apart_values o.value value (here.2 ∙ best-turned value here.0 e) apart) in
+        let next : AreBestOf board s value ((seen ++ o.step ∷ []) ++ steps os) (best ++ best_among value os) =
+        best_from (seen ++ o.step ∷ []) best os (best_same board s value seen (steps os) best o.step so_far off)
+        (subst (AllPairs Precedes) (sym (append_assoc seen (o.step ∷ []) (steps os))) order) (λ p c. lead p (Contains-tail o os p c)) in
+        rw apart (subst (λ m. AreBestOf board s value m (best ++ best_among value os)) (append_assoc seen (o.step ∷ []) (steps os)) next)
+  ]
+
+  pub best_right : (os : List Outcome) → steps os ≡ moves_of board s → ((o : Outcome) → Contains os o → Leads board s o) → IsValue board s value
+      → AreBestOf board s value (moves_of board s) (best_among value os)
+  best_right os listed lead here =
+      subst (λ ms. AreBestOf board s value ms (best_among value os)) listed
+      (best_from [] [] os (best_none board s value) (subst (AllPairs Precedes) (sym listed) (moves_in_order board s)) lead)
+
+module _ (board : Shape) (files : Files) (s : Sides) (os : List Outcome) (listed : steps os ≡ moves_of board s)
+    (told : (o : Outcome) → Contains os o → IsOutcome board files s o) (after : AreExactAfter board files s) where
+  leads_among : (o : Outcome) → Contains os o → Leads board s o
+  leads_among o c =
+      let h = told o c in
+      (h.next, h.exact (after o.step (subst (λ ms. Contains ms o.step) listed (Contains-map (λ (p : Outcome). p.step) os o c))), h.turned_round)
+
+  pub values_told : HasValues board s (moves_of board s)
+  values_told = subst (HasValues board s) listed (values_among board s os leads_among)
+
+  pub best_told : (value : Value) (best : List Move) → best ≡ best_among value os → IsValue board s value → AreBestOf board s value (moves_of board s) best
+  best_told value best is here = subst (AreBestOf board s value (moves_of board s)) (sym is) (best_right board s value os listed leads_among here)
 
 -- ---- the first of a list
 

@@ -1,5 +1,5 @@
 -- The codes of an open file, piece by piece.
-use Rattle.std.proofs.Common.{◌≡◌, ℕ, ◌+◌, ◌-◌, ◌*◌, ◌<◌, ◌≤◌, false, true, List, [], ◌∷◌, ◌++◌, length, take, drop, get_or, map, Option, None, Some, Ok, Err, option_map, refl, sym, ap, ap₂, subst, ◌∙◌, zero-add, arith}
+use Rattle.std.proofs.Common.{◌≡◌, ℕ, ◌+◌, ◌-◌, ◌*◌, ◌<◌, ◌≤◌, false, true, List, [], ◌∷◌, ◌++◌, length, take, drop, get_or, map, Option, None, Some, Ok, Err, option_map, sym, ap, ap₂, subst, ◌∙◌, zero-add, arith}
 use Rattle.std.specs.Prelude.{IfSome, IsSome}
 use Rattle.std.specs.Int.{w16, from_be_bytes}
 use Rattle.std.specs.List.{range_with_len}
@@ -20,7 +20,7 @@ use Rattle.morris_lookup.specs.Lookups.{code_at}
 use Rattle.morris_lookup.specs.Opening.{IsOpen, OpenFile, framed_in}
 use Rattle.morris_lookup.specs.Storage.{LiesWithin, ReadsAt, bytes_at}
 use Rattle.morris_lookup.proofs.FileLookups.{code_at-file}
-use Rattle.morris_lookup.proofs.OpeningLaws.{framed_file, known_framed, size_of_framed}
+use Rattle.morris_lookup.proofs.OpeningLaws.{at_bytes, framed_file, known_framed, size_of_framed}
 
 -- two bytes that stand within the first ones
 within_first : (xs : List ℕ) (place n : ℕ) → place + 2 ≤ n → bytes_at (take n xs) place 2 ≡ bytes_at xs place 2
@@ -112,7 +112,7 @@ module _ (board : Shape) (low : board.points ≤ 24) (y : HasSymmetries board) (
   same_kind =
       let found : framed_in board (file_of board t) ≡ Ok (t.layout, t.pair) = framed_file board low y t (IsRaw-from_exact board t exact) in
       let framed : framed_in board (file_of board t) ≡ Ok (file.layout, file.pair) =
-      subst (λ o. IfSome o (λ bytes. framed_in board bytes ≡ Ok (file.layout, file.pair))) is (known_framed board file right) in
+      at_bytes (λ bytes. framed_in board bytes ≡ Ok (file.layout, file.pair)) file.bytes (file_of board t) is (known_framed board file right) in
       ok_same {A = Layout × Counts} (framed_in board (file_of board t)) (file.layout, file.pair) (t.layout, t.pair) framed found
 
   pub layout_of_table : file.layout ≡ t.layout
@@ -125,6 +125,6 @@ module _ (board : Shape) (low : board.points ≤ 24) (y : HasSymmetries board) (
   codes_of_table =
       let counts : entry_count board board.points file.layout file.pair ≡ length t.codes =
       ap₂ (entry_count board board.points) layout_of_table pair_of_table ∙ sym exact.counted in
-      let held : file.held ≡ Some (file_of board t) = subst (λ o. IfSome o (λ bytes. file.held ≡ Some bytes)) is right.kept in
+      let held : file.held ≡ Some (file_of board t) = at_bytes (λ bytes. file.held ≡ Some bytes) file.bytes (file_of board t) is right.kept in
       ap (option_map (stated_codes (entry_count board board.points file.layout file.pair))) held
       ∙ ap (λ codes. Some codes) (ap (λ n. stated_codes n (file_of board t)) counts ∙ stated_codes-file board t exact.small)

@@ -1,5 +1,5 @@
 -- Laws of prepared words: where the sections stand in them.
-use Rattle.std.proofs.Common.{◌≡◌, ℕ, zero, suc, ◌+◌, ◌-◌, ◌^◌, ◌<◌, ◌≤◌, false, ltb, List, length, get_or, take, drop, set, get_or-set_other, get_or-set_same, length-set, refl, sym, ap, ◌∙◌, inl, inr, subst, arith}
+use Rattle.std.proofs.Common.{◌≡◌, ℕ, zero, suc, ◌+◌, ◌-◌, ◌^◌, ◌<◌, ◌≤◌, false, ltb, List, length, get_or, drop, set, get_or-set_other, get_or-set_same, length-set, refl, sym, ap, ◌∙◌, inl, inr, subst, zero-add, arith}
 use Rattle.std.proofs.lemmas.Bool.{cases_eq, lt-ltb, ltb-true, false_from_ne_true}
 use Rattle.std.proofs.lemmas.List.{ext_get_or, get_or-take, get_or-drop, length-take-le, length-drop}
 use Rattle.morris_board.specs.Boards.{Shape}
@@ -7,7 +7,7 @@ use Rattle.morris_board.specs.Sets.{members, count_of}
 use Rattle.morris_index.specs.Binomials.{choose}
 use Rattle.morris_index.specs.Numbering.{rank_of}
 use Rattle.morris_lookup.specs.Representatives.{representatives_of}
-use Rattle.morris_lookup.specs.Prepared.{section_size, start_of, first_word, lead_of, IsPrepared, IsPreparedTo, AreLed, StayBefore}
+use Rattle.morris_lookup.specs.Prepared.{section_at, section_size, start_of, first_word, lead_of, IsPrepared, IsPreparedTo, AreLed, LeadAll, StayBefore}
 use Rattle.morris_lookup.proofs.LeadLaws.{rank_inside}
 
 -- ---- the places of the sections
@@ -147,61 +147,44 @@ module _ (board : Shape) where
           ];
         })
 
-  pub prepared-all : (end : ℕ) (words : List ℕ) → IsPreparedTo board 11 end words → IsPrepared board words
-  prepared-all end words here = record {
-    first = here.first;
-    starts = λ k h. here.starts k (omega arith);
-    whole = omega (arith, here.within, here.ends);
-    listed = λ k i low. here.listed k i (omega arith) low;
-    led = λ k x low. here.led k x (omega arith);
-  }
+-- ---- what stands in the sections of prepared words
 
--- ---- the representatives in prepared words
+module _ (board : Shape) (words : List ℕ) (here : IsPrepared board words) (k : ℕ) (low : k < 11) where
+  starts_at : get_or words (k + 1) 0 ≡ start_of board k
+  starts_at = let e : 1 + k ≡ k + 1 = omega arith in ap (λ i. get_or words i 0) (sym e) ∙ here.starts k (omega arith)
 
-module _ (board : Shape) (words : List ℕ) (here : IsPrepared board words) (k : ℕ) (low : k < 7) where
-  pub ends_within : start_of board (suc k) ≤ length words
-  ends_within = omega (arith, here.whole, start-up board (suc k) 11 (omega arith))
+  ends_at : get_or words (k + 2) 0 ≡ start_of board k + section_size board k
+  ends_at = let e : 1 + suc k ≡ k + 2 = omega arith in ap (λ i. get_or words i 0) (sym e) ∙ here.starts (suc k) (omega arith) ∙ start-suc board k
 
-  -- they stand between the places that the words before them say
-  pub between_places : (start end : ℕ) → start ≡ get_or words (k + 1) 0 → end ≡ get_or words (k + 1 + 1) 0 → (start ≤ end) × (end ≤ length words)
-  between_places start end is ends =
-      let a : get_or words (k + 1) 0 ≡ start_of board k = let e : 1 + k ≡ k + 1 = omega arith in ap (λ i. get_or words i 0) (sym e) ∙ here.starts k (omega arith) in
-      let b : get_or words (k + 1 + 1) 0 ≡ start_of board (suc k) = let e : 1 + suc k ≡ k + 1 + 1 = omega arith in ap (λ i. get_or words i 0) (sym e) ∙ here.starts (suc k) (omega arith) in
-      (omega (arith, a, b, is, ends, start-suc board k, size-listed board k low), omega (arith, b, ends, ends_within))
+  -- it lies between the places that the words before it say
+  pub section_within : (get_or words (k + 1) 0 ≤ get_or words (k + 2) 0) × (get_or words (k + 2) 0 ≤ length words)
+  section_within = (omega (arith, starts_at, ends_at), omega (arith, ends_at, start-suc board k, start-up board (suc k) 11 (omega arith), here.whole))
 
-  pub listed_there : (start end : ℕ) → start ≡ get_or words (k + 1) 0 → end ≡ get_or words (k + 1 + 1) 0
-      → take (end - start) (drop start words) ≡ representatives_of board (3 + k)
-  listed_there start end is ends =
-      let a : start ≡ start_of board k = let e : 1 + k ≡ k + 1 = omega arith in is ∙ ap (λ i. get_or words i 0) (sym e) ∙ here.starts k (omega arith) in
-      let b : end ≡ start_of board (suc k) = let e : 1 + suc k ≡ k + 1 + 1 = omega arith in ends ∙ ap (λ i. get_or words i 0) (sym e) ∙ here.starts (suc k) (omega arith) in
-      let list : List ℕ = representatives_of board (3 + k) in
-      let size : end - start ≡ length list = omega (arith, a, b, start-suc board k, size-listed board k low) in
-      let len : length (take (end - start) (drop start words)) ≡ length list =
-      length-take-le (end - start) (drop start words) (omega (arith, length-drop start words, b, ends_within)) ∙ size in
-      ext_get_or 0 (take (end - start) (drop start words)) list len
-      (λ i h.
-      get_or-take (end - start) (drop start words) i 0 (omega (arith, h, len, size))
-      ∙ get_or-drop start words i 0
-      ∙ ap (λ s. get_or words (s + i) 0) a
-      ∙ here.listed k i low (omega (arith, h, len)))
+  length-section : length (section_at words k) ≡ section_size board k
+  length-section =
+      length-take-le (get_or words (k + 2) 0 - get_or words (k + 1) 0) (drop (get_or words (k + 1) 0) words)
+      (omega (arith, length-drop (get_or words (k + 1) 0) words, section_within.0, section_within.1))
+      ∙ omega (arith, starts_at, ends_at)
 
--- ---- where a set is led, in prepared words
+  get_or-section : (i : ℕ) → i < section_size board k → get_or (section_at words k) i 0 ≡ get_or words (start_of board k + i) 0
+  get_or-section i h =
+      get_or-take (get_or words (k + 2) 0 - get_or words (k + 1) 0) (drop (get_or words (k + 1) 0) words) i 0 (omega (arith, h, starts_at, ends_at))
+      ∙ get_or-drop (get_or words (k + 1) 0) words i 0
+      ∙ ap (λ s. get_or words (s + i) 0) starts_at
 
-module _ (board : Shape) (few : board.points ≤ 24) (words : List ℕ) (here : IsPrepared board words) (k : ℕ) (low : k < 4)
-    (set : ℕ) (small : set < 2 ^ board.points) (counted : count_of set ≡ 3 + k) (section place : ℕ) (is : section ≡ 7 + k) (ranked : place ≡ rank_of (members set)) where
-  led_start : get_or words (1 + section) 0 ≡ start_of board (7 + k)
-  led_start = ap (λ m. get_or words (1 + m) 0) is ∙ here.starts (7 + k) (omega arith)
+  pub section-listed : k < 7 → section_at words k ≡ representatives_of board (3 + k)
+  section-listed listed =
+      let size = size-listed board k listed in
+      ext_get_or 0 (section_at words k) (representatives_of board (3 + k)) (length-section ∙ size)
+      (λ i h. get_or-section i (omega (arith, h, length-section)) ∙ here.listed k i listed (omega (arith, h, length-section, size)))
 
-  pub led_inside : get_or words (1 + section) 0 + place < length words
-  led_inside =
-      omega (
-        arith,
-        led_start,
-        ranked,
-        rank_inside board.points (3 + k) set few small counted,
-        start-led board k 11 (omega arith),
-        here.whole,
+  pub section-leads : board.points ≤ 24 → (m : ℕ) → k ≡ 7 + m → LeadAll board (3 + m) (section_at words k)
+  section-leads few m at = λ some.
+      let size : section_size board k ≡ choose board.points (3 + m) = ap (section_size board) at ∙ size-led board m in (
+        omega (arith, length-section, size),
+        (λ set small counted.
+            ap (λ i. get_or (section_at words k) i 0) (zero-add (rank_of (members set)))
+            ∙ get_or-section (rank_of (members set)) (omega (arith, rank_inside board.points (3 + m) set few small counted, size))
+            ∙ ap (λ j. get_or words (start_of board j + rank_of (members set)) 0) at
+            ∙ here.led m set (omega (arith, at)) small counted),
       )
-
-  pub led_there : get_or words (get_or words (1 + section) 0 + place) 0 ≡ lead_of board set
-  led_there = ap (λ m. get_or words (m + place) 0) led_start ∙ ap (λ m. get_or words (start_of board (7 + k) + m) 0) ranked ∙ here.led k set low small counted

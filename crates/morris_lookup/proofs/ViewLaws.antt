@@ -1,16 +1,11 @@
 -- Laws of what files in memory say.
-use Rattle.std.proofs.Common.{◌≡◌, ℕ, suc, ◌+◌, ◌^◌, ◌<◌, ◌≤◌, Bool, true, false, List, [], ◌∷◌, length, take, drop, get_or, Some, None, Result, Ok, Err, refl, sym, ap, ap₂, ◌∙◌, inl, inr, arith}
-use Rattle.std.proofs.Math.Seq.{drop-cons}
+use Rattle.std.proofs.Common.{◌≡◌, ℕ, ◌+◌, Bool, true, false, List, length, take, get_or, Some, None, Result, Ok, Err, refl, sym, ap, ap₂, ◌∙◌, inl, inr, arith}
 use Rattle.std.specs.Prelude.{nat_eq, nat_le, IfOk}
 use Rattle.std.specs.Str.{bytes_eq}
-use Rattle.std.proofs.lemmas.Bool.{cases_Bool, cases_eq, eqb-true, and_parts, false≢true}
+use Rattle.std.proofs.lemmas.Bool.{cases_Bool, eqb-true, and_parts, false≢true}
 use Rattle.morris_board.specs.Boards.{Shape}
 use Rattle.morris_board.specs.Positions.{Sides}
-use Rattle.morris_index.specs.Pairs.{Counts, counts, pair_of, IsPair, IsHalf}
-use Rattle.morris_index.specs.ClassPairs.{class_size_of}
-use Rattle.morris_index.proofs.ClassCounts.{class_count-few}
-use Rattle.morris_index.proofs.ClassPairLaws.{class_size-few, size-one, size-two}
-use Rattle.morris_board.specs.Symmetries.{HasSymmetries}
+use Rattle.morris_index.specs.Pairs.{Counts, counts, pair_of}
 use Rattle.morris_lookup.specs.Checking.{header_by, header_said}
 use Rattle.morris_pairs.specs.declared.value.Value.TheVariants.{Lost}
 use Rattle.morris_pairs.specs.declared.layout.Layout.{Layout}
@@ -25,14 +20,6 @@ use Rattle.morris_lookup.specs.declared.fault.ViewFault.TheVariants as view
 use Rattle.morris_lookup.specs.Views.{is_by_classes, value_by_kind, value_of_bytes, value_said, needs_words, IsExactAt, IsExactFile}
 use Rattle.morris_lookup.specs.Views.{names_pair, file_of_pair}
 use Rattle.std.proofs.lemmas.List.{get_or-take}
-
--- two bytes that stand at a place
-pub two_at : (bytes : List ℕ) (place : ℕ) → place + 2 ≤ length bytes → take 2 (drop place bytes) ≡ get_or bytes place 0 ∷ get_or bytes (place + 1) 0 ∷ []
-two_at bytes place room =
-    let next : suc place ≡ place + 1 = omega arith in
-    let after : drop (suc place) bytes ≡ get_or bytes (suc place) 0 ∷ drop (suc (suc place)) bytes = drop-cons bytes (suc place) 0 (omega arith) in
-    ap (take 2) (drop-cons bytes place 0 (omega arith) ∙ ap (λ rest. get_or bytes place 0 ∷ rest) after)
-    ∙ ap (λ k. get_or bytes place 0 ∷ get_or bytes k 0 ∷ []) next
 
 -- ---- what the header of a named file says
 
@@ -129,17 +116,3 @@ pub header_by_kind : (board : Shape) (bytes : List ℕ) (found : Result (Layout 
     → header_by board found ≡ header_said board bytes
 unfolding header_said
 header_by_kind board bytes found e = ap (header_by board) (sym e)
-
--- a table has fewer entries than fill a number
-pub few_entries : (board : Shape) (n : ℕ) → n ≤ 24 → board.points ≡ n → HasSymmetries board → (c : Counts) → IsPair n c → class_size_of board n c < 2 ^ 56
-few_entries board n low points y c h =
-    let first : IsHalf n c.greater c.lesser =
-    record { own_least = omega (arith, h.least, h.ordered); own_most = h.most; other_least = h.least; other_most = omega (arith, h.most, h.ordered); fits = h.fits } in
-    let second : IsHalf n c.lesser c.greater =
-    record { own_least = h.least; own_most = omega (arith, h.most, h.ordered); other_least = omega (arith, h.least, h.ordered); other_most = h.most; fits = omega (arith, h.fits) } in
-    let one = class_size-few board n low points y c.greater c.lesser first (class_count-few board n c.greater low points) in
-    let two = class_size-few board n low points y c.lesser c.greater second (class_count-few board n c.lesser low points) in
-    elim (cases_eq c.greater c.lesser) [
-      | inl e ↦ omega (arith, one, size-one board n low points y c e)
-      | inr d ↦ omega (arith, one, two, size-two board n low points y c d)
-    ]

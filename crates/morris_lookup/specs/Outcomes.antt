@@ -1,5 +1,5 @@
 -- What each legal move leads to, for the player who makes it.
-use Rattle.std.specs.Prelude.{◌≡◌, ◌≢◌, ◌⊎◌, ⊤, suc, List, [], ◌∷◌, ◌++◌, Option, Some, None}
+use Rattle.std.specs.Prelude.{◌≡◌, ◌≢◌, ◌⊎◌, ⊤, suc, Bool, true, false, nat_eq, List, [], ◌∷◌, ◌++◌, map, filter, Option, Some, None}
 use Rattle.std.specs.List.{Contains}
 use Rattle.morris_board.specs.Boards.{Shape}
 use Rattle.morris_board.specs.Positions.{Sides}
@@ -50,6 +50,16 @@ abbrev pub IsBestRefusal : {B : Type 0} → Shape → Files → Sides → LookFa
 IsBestRefusal board files s refusal = IsValueRefusal board files s refusal ⊎ ((missing_file files s ≡ None) × IsOutcomeRefusal board files s refusal)
 
 -- ---- best moves by what the files say
+
+abbrev pub same_value : Value → Value → Bool
+same_value Draw Draw = true
+same_value (Won depth) (Won other) = nat_eq depth other
+same_value (Lost depth) (Lost other) = nat_eq depth other
+same_value _ _ = false
+
+-- of the legal moves with what they lead to, those that lead to the position's own value
+abbrev pub best_among : Value → List Outcome → List Move
+best_among value outcomes = map (λ o. o.step) (filter (λ o. same_value o.value value) outcomes)
 
 -- by what the files say of its result, where they say a value, a move leads to this value; or it
 -- doesn't

@@ -1,6 +1,6 @@
 -- Prepared words: the representatives of the classes of sets of 3 to 9 points, and where sets of 3
 -- to 6 points are led, as one list of numbers of 32 bits.
-use Rattle.std.specs.Prelude.{◌≡◌, ◌≢◌, ℕ, zero, suc, ◌+◌, ◌-◌, ◌*◌, ◌^◌, ◌<◌, ◌≤◌, Bool, ◌&&◌, nat_eq, nat_lt, nat_le, List, length, slice_index, if◌then◌else◌}
+use Rattle.std.specs.Prelude.{◌≡◌, ◌≢◌, ℕ, zero, suc, ◌+◌, ◌-◌, ◌*◌, ◌^◌, ◌<◌, ◌≤◌, Bool, ◌&&◌, nat_eq, nat_lt, nat_le, List, length, slice_index, take, drop, if◌then◌else◌}
 use Rattle.morris_board.specs.Boards.{Shape}
 use Rattle.morris_board.specs.Sets.{members, count_of}
 use Rattle.morris_index.specs.Binomials.{choose}
@@ -50,6 +50,10 @@ looks_prepared board words =
     nat_le 13 (length words) && (nat_eq (slice_index words 0) (first_word board) && nat_le (slice_index words 12) (length words))
 
 -- ---- parts of a call
+
+-- what stands in section k, by the words that say where it and the next one begin
+abbrev pub section_at : List ℕ → ℕ → List ℕ
+section_at words k = take (slice_index words (k + 2) - slice_index words (k + 1)) (drop (slice_index words (k + 1)) words)
 
 -- the sections before section k are filled, and it begins at `end`
 pub record IsPreparedTo (board : Shape) (k end : ℕ) (words : List ℕ) : Type 0 where

@@ -1,5 +1,5 @@
 //! The best moves of a position, and the line of best play.
-ghost use Rattle.std.specs.Prelude.{◌≡◌, ◌↔◌, ◌<◌, ◌≤◌, [], IsTrue, length, IfOk, IfErr, IfSome, IfNone};
+ghost use Rattle.std.specs.Prelude.{◌≡◌, ◌<◌, length, IfOk, IfErr, IfSome, IfNone};
 ghost use Rattle.std.specs.List.{Contains};
 ghost use Rattle.morris_moves.specs.declared.step.Move.{Move};
 ghost use Rattle.morris_moves.specs.Rules.{moves_of};
@@ -9,14 +9,13 @@ ghost use Rattle.morris_lookup.specs.Lines.{IsBestStep, Falls};
 ghost use Rattle.morris_lookup.specs.Outcomes.{AreSaidBest, IsBestRefusal};
 
 use crate::fault::LookFault;
-use crate::outcomes::outcome_of;
+use crate::outcomes::{best_of, outcomes};
 use crate::storage::Storage;
 use crate::tables::Tables;
 use morris_board::board::Geometry;
 use morris_board::position::Position;
-use morris_moves::rules::{moves, play};
+use morris_moves::rules::play;
 use morris_moves::step::Move;
-use morris_pairs::value::Value;
 use std::alloc::Global;
 
 /// The best moves of a position, in order of from, then to, then taken: those that lead to the
@@ -26,9 +25,8 @@ use std::alloc::Global;
 /// each legal move.
 ///
 /// # Errors
-/// Those of [`Tables::value`] for the position; then [`LookFault::Memory`] where there is no room
-/// for as many moves as are legal; then, at the first legal move for which it applies, those of
-/// [`Tables::value`] for the position after it.
+/// Those of [`Tables::value`] for the position; then those of [`outcomes`]; then
+/// [`LookFault::Memory`] where there is no room for the moves.
 pub fn best<B: Geometry, S: Storage>(
     alloc: Global,
     tables: &Tables<B, S>,
@@ -40,21 +38,9 @@ pub fn best<B: Geometry, S: Storage>(
     ensures refused { IfErr result (IsBestRefusal B.shape tables.now position.now) }
 {
     let found = tables.value(position)?;
-    let mut best = Vec::with_capacity(alloc, moves(position).count())?;
-    for m in moves(position) {
-        let outcome = outcome_of(tables, position, m)?;
-        if is_same(outcome.value, found) {
-            best.push(m).unwrap();
-        }
-    }
+    let outcomes = outcomes(alloc, tables, position)?;
+    let best = best_of(alloc, found, outcomes.as_slice())?;
     Ok(best)
-}
-
-/// Whether two values are the same.
-fn is_same(one: Value, other: Value) -> bool
-    ensures { IsTrue result ↔ (one ≡ other) }
-{
-    one == other
 }
 
 /// The next ply of best play: the first best move, and the position after it. The line of best play

@@ -1,14 +1,12 @@
 //! The entries of a pair by classes, by the lists of the representatives of the classes.
 ghost use Rattle.std.specs.Prelude.{◌≡◌, ◌<◌, ◌^◌, true, length};
 ghost use Rattle.morris_board.specs.Sets.{count_of};
-ghost use Rattle.morris_index.specs.Classes.{class_of, symmetry_of};
 ghost use Rattle.morris_index.specs.Pairs.{IsHalf, is_of};
 ghost use Rattle.morris_index.specs.ClassPairs.{class_half_size, class_half_index, class_size_of, class_index_of};
-ghost use Rattle.morris_lookup.specs.Prepared.{IsPrepared, LeadAll};
+ghost use Rattle.morris_lookup.specs.Prepared.{LeadAll};
 ghost use Rattle.morris_lookup.specs.Representatives.{representatives_of};
 
 use crate::classes::class_by;
-use crate::prepared::class_in;
 use crate::ranks::rank_outside;
 use morris_board::board::Geometry;
 use morris_board::position::Position;
@@ -58,31 +56,6 @@ pub fn class_index<B: Geometry>(
     }
 }
 
-/// The same entry, by prepared words and the same lists in them. By other words or lists it is any
-/// number.
-pub(crate) fn class_index_in<B: Geometry>(
-    words: &[u32],
-    pair: Pair<B>,
-    greater: &[u32],
-    lesser: &[u32],
-    position: &Position<B>,
-) -> u64
-    requires of { is_of pair position.now ≡ true }
-    requires greater { length greater.now < 2 ^ 32 }
-    requires lesser { length lesser.now < 2 ^ 32 }
-    ensures value { IsPrepared B.shape words.now → greater.now ≡ representatives_of B.shape pair.greater → lesser.now ≡ representatives_of B.shape pair.lesser → result ≡ class_index_of B.shape B.POINTS pair position.now }
-    ensures few { result < 2 ^ 55 }
-{
-    let (most, count) = (pair.greater(), position.own().count());
-    if count == most {
-        let (class, symmetry) = class_in::<B>(words, greater, count, position.own());
-        led_index(position, class, symmetry)
-    } else {
-        let (class, symmetry) = class_in::<B>(words, lesser, count, position.own());
-        class_half_size::<B>(greater, most, pair.lesser()) + led_index(position, class, symmetry)
-    }
-}
-
 /// How many entries there are for `own` stones of the player to move and `other` of the opponent.
 fn class_half_size<B: Geometry>(list: &[u32], own: u8, other: u8) -> u64
     requires half { IsHalf B.POINTS own other }
@@ -100,21 +73,8 @@ fn class_half_index<B: Geometry>(list: &[u32], leads: &[u32], position: &Positio
     ensures value { list.now ≡ representatives_of B.shape (count_of position.now.own) → LeadAll B.shape (count_of position.now.own) leads.now → result ≡ class_half_index B.shape B.POINTS position.now }
     ensures few { result < 2 ^ 54 }
 {
-    let (class, symmetry) = class_by::<B>(list, leads, position.own());
-    led_index(position, class, symmetry)
-}
-
-/// The same number, by the class of the stones of the player to move and the least symmetry that
-/// leads them.
-fn led_index<B: Geometry>(position: &Position<B>, class: usize, symmetry: u8) -> u64
-    requires few { class < 2 ^ 32 }
-    requires one { symmetry < B.SYMMETRIES }
-    ensures value { class ≡ class_of B.shape position.now.own → symmetry ≡ symmetry_of B.shape position.now.own → result ≡ class_half_index B.shape B.POINTS position.now }
-    ensures few { result < 2 ^ 54 }
-{
-    // The proof learns the rules of a position where its stones are read.
-    let _ = position.own();
     let (own, other) = position.counts();
+    let (class, symmetry) = class_by::<B>(list, leads, position.own());
     let choices = binomial(B::POINTS - own, other);
     let led = position.image(symmetry);
     class as u64 * choices + rank_outside(led.other(), led.own())

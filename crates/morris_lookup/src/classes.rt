@@ -26,6 +26,9 @@ pub(crate) fn class_by<B: Geometry>(
     ensures few { result.0 < 2 ^ 32 }
     ensures one { result.1 < B.SYMMETRIES }
 {
+    if leads.is_empty() {
+        return class_of::<B>(representatives, set);
+    }
     match lead_at(leads, rank(set)) {
         None => class_of::<B>(representatives, set),
         Some((class, symmetry)) => {

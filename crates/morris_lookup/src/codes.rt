@@ -82,7 +82,7 @@ impl<B: Geometry, S: Storage> Coded for Codes<'_, B, S> {
 }
 
 /// The code whose bytes stand at a place of a piece, in codes.
-fn code_in(piece: &[u8], place: usize) -> u16
+pub(crate) fn code_in(piece: &[u8], place: usize) -> u16
     requires { 2 * place + 1 < length piece.now }
     ensures { result ≡ from_be_bytes w16 (bytes_at piece.now (2 * place) 2) }
 {

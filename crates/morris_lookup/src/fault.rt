@@ -65,11 +65,6 @@ impl<B: Geometry> From<AllocError> for LookFault<B> {
     }
 }
 
-/// The memory that the caller handed in is too small for the answer.
-#[derive(Clone, Copy, Debug, PartialEq, Eq, Error)]
-#[error("too little room")]
-pub struct Room;
-
 /// Why two masks aren't a position.
 #[derive(Clone, Copy, Debug, PartialEq, Eq, Error)]
 pub enum MaskFault {

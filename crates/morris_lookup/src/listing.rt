@@ -54,7 +54,7 @@ pub fn outcomes<B: Geometry>(
 }
 
 /// How many legal moves a position has.
-fn move_count<B: Geometry>(position: &Position<B>) -> usize
+pub fn move_count<B: Geometry>(position: &Position<B>) -> usize
     ensures { result ≡ length (moves_of B.shape position.now) }
 {
     moves(position).count()

@@ -3,9 +3,8 @@ ghost use Rattle.std.specs.Prelude.{◌≡◌, ◌<◌, ◌≤◌, ◌^◌, true
 ghost use Rattle.morris_index.specs.Pairs.{IsPair, is_of};
 ghost use Rattle.morris_pairs.specs.Entries.{entry_count, entry_index};
 ghost use Rattle.morris_lookup.specs.Numberings.{Serve, ServeFor, Lead, LeadFor, Fits};
-ghost use Rattle.morris_lookup.specs.Prepared.{IsPrepared};
 
-use crate::class_entries::{class_index, class_index_in, class_size};
+use crate::class_entries::{class_index, class_size};
 use crate::leads::leads;
 use crate::representatives::representatives;
 use morris_board::board::Geometry;
@@ -63,27 +62,6 @@ impl<B: Geometry> Numbering<'_, B> {
                 self.lesser_leads,
                 position,
             ),
-        }
-    }
-
-    /// The same entry, by words that are prepared ones in layout `Classes`, where the lists stand in
-    /// them.
-    pub(crate) fn entry_in(&self, words: &[u32], position: &Position<B>) -> u64
-        requires fits { Fits self.now }
-        requires of { is_of self.now.pair position.now ≡ true }
-        ensures value { (self.now.layout ≡ Layout.Classes → IsPrepared B.shape words.now) → ServeFor B.shape self.now → result ≡ entry_index B.shape B.POINTS self.now.layout self.now.pair position.now }
-        ensures below { (self.now.layout ≡ Layout.Classes → IsPrepared B.shape words.now) → ServeFor B.shape self.now → result < entry_count B.shape B.POINTS self.now.layout self.now.pair }
-        ensures few { result < 2 ^ 55 }
-    {
-        // The proof learns the rules of a position where its stones are read, and how many entries
-        // there may be.
-        let _ = position.own();
-        let _ = self.pair.size();
-        match self.layout {
-            Layout::Full => self.pair.index(position),
-            Layout::Classes => {
-                class_index_in(words, self.pair, self.greater, self.lesser, position)
-            }
         }
     }
 }

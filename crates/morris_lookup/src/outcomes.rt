@@ -4,7 +4,7 @@ ghost use Rattle.std.specs.List.{Contains};
 ghost use Rattle.morris_moves.specs.Rules.{moves_of, result_of};
 ghost use Rattle.morris_lookup.specs.FileSets.{IsValueRefusal};
 ghost use Rattle.morris_lookup.specs.Lookups.{depth_of};
-ghost use Rattle.morris_lookup.specs.Outcomes.{turned, IsOutcome, IsOutcomeRefusal};
+ghost use Rattle.morris_lookup.specs.Outcomes.{best_among, same_value, turned, IsOutcome, IsOutcomeRefusal};
 
 use crate::fault::LookFault;
 use crate::storage::Storage;
@@ -14,7 +14,7 @@ use morris_board::position::Position;
 use morris_moves::rules::{moves, play};
 use morris_moves::step::Move;
 use morris_pairs::value::Value;
-use std::alloc::Global;
+use std::alloc::{AllocError, Global};
 
 /// A legal move and what it leads to.
 #[derive(Clone, Copy, Debug, PartialEq, Eq)]
@@ -55,7 +55,7 @@ pub fn outcomes<B: Geometry, S: Storage>(
 ///
 /// # Errors
 /// [`LookFault::Needs`] and [`LookFault::Read`], for the position after the move.
-pub(crate) fn outcome_of<B: Geometry, S: Storage>(
+fn outcome_of<B: Geometry, S: Storage>(
     tables: &Tables<B, S>,
     position: &Position<B>,
     m: Move,
@@ -82,4 +82,30 @@ pub fn turned(value: Value) -> Value
         Value::Won(depth) => Value::Lost(depth + 1),
         Value::Lost(depth) => Value::Won(depth + 1),
     }
+}
+
+/// Whether two values are the same.
+pub fn is_same(one: Value, other: Value) -> bool
+    ensures { result ≡ same_value one other }
+{
+    match (one, other) {
+        (Value::Draw, Value::Draw) => true,
+        (Value::Won(depth), Value::Won(other)) => depth == other,
+        (Value::Lost(depth), Value::Lost(other)) => depth == other,
+        _ => false,
+    }
+}
+
+/// Of the moves with what they lead to, those that lead to this value.
+///
+/// # Errors
+/// [`AllocError`] where memory runs out.
+pub fn best_of(alloc: Global, value: Value, outcomes: &[Outcome]) -> Result<Vec<Move>, AllocError>
+    ensures { IfOk result (λ best. best.items ≡ best_among value outcomes.now) }
+{
+    outcomes
+        .iter()
+        .filter(|outcome| is_same(outcome.value, value))
+        .map(|outcome| outcome.step)
+        .collect(alloc)
 }

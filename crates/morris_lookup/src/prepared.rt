@@ -1,19 +1,14 @@
 //! Prepared words: what the classes of sets of points need, in memory that the caller hands in.
-ghost use Rattle.std.specs.Prelude.{◌≡◌, ◌+◌, ◌/◌, ◌%◌, ◌<◌, ◌≤◌, ◌^◌, true, length, slice_index, IsOk, IfOk, IfErr, IfSome, IfNone, MatchResult};
-ghost use Rattle.morris_board.specs.Sets.{count_of};
+ghost use Rattle.std.specs.Prelude.{◌≡◌, ◌<◌, ◌≤◌, ◌^◌, true, length, IsOk, IfOk, IfSome, IfNone, MatchResult};
 ghost use Rattle.morris_index.specs.Binomials.{choose};
-ghost use Rattle.morris_index.specs.Classes.{class_of, symmetry_of};
-ghost use Rattle.morris_lookup.specs.Numberings.{Serve};
-ghost use Rattle.morris_lookup.specs.Prepared.{prepared_count, start_of, looks_prepared, IsPrepared, IsPreparedTo};
+ghost use Rattle.morris_lookup.specs.Numberings.{Lead, Serve};
+ghost use Rattle.morris_lookup.specs.Prepared.{prepared_count, section_at, start_of, looks_prepared, IsPrepared, IsPreparedTo, LeadAll};
 ghost use Rattle.morris_lookup.specs.Representatives.{representatives_of};
 
-use crate::classes::{class_of, lead_at};
-use crate::fault::{Room, ViewFault};
+use crate::fault::ViewFault;
 use crate::leads::lead_sets;
-use crate::ranks::rank;
 use crate::representatives::{list, representative_count};
 use morris_board::board::Geometry;
-use morris_board::points::Points;
 use morris_index::binomials::binomial;
 use morris_index::pair::Pair;
 use morris_pairs::layout::Layout;
@@ -65,28 +60,21 @@ fn set_count<B: Geometry>(count: u8) -> usize
     binomial(B::POINTS, count) as usize
 }
 
-/// Fills the first words with the prepared ones, and answers how many these are. It goes through
+/// Fills the first words with the prepared ones, and answers how many these are; `None` where there
+/// are fewer words than [`prepared_count`] says, of which some may have changed then. It goes through
 /// the sets of points as [`prepared_count`] does, and takes no memory.
-///
-/// # Errors
-/// [`Room`] where there are fewer words than [`prepared_count`] says. Then some may have changed.
-pub fn prepare<B: Geometry>(words: &mut [u32]) -> Result<usize, Room>
-    ensures prepared { IfOk result (λ _. IsPrepared B.shape words.new) }
-    ensures count { IfOk result (λ count. count ≡ prepared_count B.shape) }
-    ensures room { IfErr result (λ _. length words.old < prepared_count B.shape) }
+pub fn prepare<B: Geometry>(words: &mut [u32]) -> Option<usize>
+    ensures prepared { IfSome result (λ _. IsPrepared B.shape words.new) }
+    ensures count { IfSome result (λ count. count ≡ prepared_count B.shape) }
+    ensures room { IfNone result (length words.old < prepared_count B.shape) }
 {
     if words.len() < HEADING {
-        return Err(Room);
+        return None;
     }
     words[0] = FIRST + u32::from(B::ID);
     words[1] = HEADING as u32;
-    match list_all::<B>(words) {
-        None => Err(Room),
-        Some(listed) => match lead_all::<B>(words, listed) {
-            None => Err(Room),
-            Some(end) => Ok(end),
-        },
-    }
+    let listed = list_all::<B>(words)?;
+    lead_all::<B>(words, listed)
 }
 
 /// Fills the sections with representatives, and answers where they end; `None` where there is too
@@ -131,17 +119,16 @@ fn lead_all<B: Geometry>(words: &mut [u32], listed: usize) -> Option<usize>
     Some(end)
 }
 
-/// The list of the representatives of the classes of sets of `count` points, 3 to 9.
+/// The words of a section of those that may be prepared ones.
 ///
 /// # Errors
 /// [`ViewFault::Words`] where the words aren't prepared ones. That is known by what they begin with
-/// and by how many they are: the representatives aren't looked at.
-pub(crate) fn prepared_list<B: Geometry>(words: &[u32], count: u8) -> Result<&[u32], ViewFault>
-    requires least { 3 ≤ count }
-    requires most { count ≤ 9 }
-    ensures found { MatchResult result (λ list. IsPrepared B.shape words.now → list.now ≡ representatives_of B.shape count) (λ fault. (fault ≡ ViewFault.Words) × (IsPrepared B.shape words.now → ⊥)) }
+/// and by how many they are: what stands in the sections isn't looked at.
+fn section<B: Geometry>(words: &[u32], number: usize) -> Result<&[u32], ViewFault>
+    requires { number < 11 }
+    ensures found { MatchResult result (λ section. section.now ≡ section_at words.now number) (λ fault. (fault ≡ ViewFault.Words) × (IsPrepared B.shape words.now → ⊥)) }
     ensures tested { IfOk result (λ _. looks_prepared B.shape words.now ≡ true) }
-    ensures few { IfOk result (λ list. length list.now < 2 ^ 32) }
+    ensures few { IfOk result (λ section. length section.now < 2 ^ 32) }
 {
     if words.len() < HEADING || words[0] != FIRST + u32::from(B::ID) {
         return Err(ViewFault::Words);
@@ -149,8 +136,7 @@ pub(crate) fn prepared_list<B: Geometry>(words: &[u32], count: u8) -> Result<&[u
     if words.len() < words[HEADING - 1] as usize {
         return Err(ViewFault::Words);
     }
-    let place = usize::from(count - LEAST) + 1;
-    let (start, end) = (words[place] as usize, words[place + 1] as usize);
+    let (start, end) = (words[number + 1] as usize, words[number + 2] as usize);
     if start <= end && end <= words.len() {
         Ok(&words[start..end])
     } else {
@@ -158,7 +144,33 @@ pub(crate) fn prepared_list<B: Geometry>(words: &[u32], count: u8) -> Result<&[u
     }
 }
 
-/// The lists that the entries of a pair go by in a layout, in words that may be prepared ones.
+/// What stands in words that may be prepared ones for the sets of `count` points, 3 to 9: the list
+/// of the representatives of their classes; and a word for each of the sets, or, where the points
+/// are many, none.
+///
+/// # Errors
+/// Those of [`section`].
+fn lists_for<B: Geometry>(words: &[u32], count: u8) -> Result<(&[u32], &[u32]), ViewFault>
+    requires least { 3 ≤ count }
+    requires most { count ≤ 9 }
+    ensures list { IsPrepared B.shape words.now → IfOk result (λ lists. lists.0.now ≡ representatives_of B.shape count) }
+    ensures leads { IsPrepared B.shape words.now → IfOk result (λ lists. LeadAll B.shape count lists.1.now) }
+    ensures ready { IsPrepared B.shape words.now → IsOk result }
+    ensures tested { IfOk result (λ _. looks_prepared B.shape words.now ≡ true) }
+    ensures few { IfOk result (λ lists. length lists.0.now < 2 ^ 32) }
+{
+    let number = usize::from(count - LEAST);
+    let list = section::<B>(words, number)?;
+    if count >= LEAST + LED {
+        return Ok((list, &words[..0]));
+    }
+    let leads = section::<B>(words, number + usize::from(NUMBERS))?;
+    Ok((list, leads))
+}
+
+/// What the entries of a pair go by in a layout, in words that may be prepared ones: the lists of the
+/// representatives of the classes of sets of its greater and of its lesser number of points, each
+/// with the words that lead the sets.
 ///
 /// # Errors
 /// [`ViewFault::Words`] in layout `Classes` where the words aren't prepared ones, as far as that is
@@ -167,67 +179,20 @@ pub(crate) fn lists_in<B: Geometry>(
     words: &[u32],
     layout: Layout,
     pair: Pair<B>,
-) -> Result<(&[u32], &[u32]), ViewFault>
-    ensures serve { (layout ≡ Layout.Classes → IsPrepared B.shape words.now) → IfOk result (λ lists. Serve B.shape layout pair lists.0.now lists.1.now) }
+) -> Result<((&[u32], &[u32]), (&[u32], &[u32])), ViewFault>
+    ensures serve { (layout ≡ Layout.Classes → IsPrepared B.shape words.now) → IfOk result (λ lists. Serve B.shape layout pair lists.0.0.now lists.1.0.now) }
+    ensures lead { (layout ≡ Layout.Classes → IsPrepared B.shape words.now) → IfOk result (λ lists. Lead B.shape layout pair lists.0.1.now lists.1.1.now) }
     ensures ready { (layout ≡ Layout.Classes → IsPrepared B.shape words.now) → IsOk result }
     ensures tested { IfOk result (λ _. layout ≡ Layout.Classes → looks_prepared B.shape words.now ≡ true) }
-    ensures few { IfOk result (λ lists. (length lists.0.now < 2 ^ 32) × (length lists.1.now < 2 ^ 32)) }
+    ensures few { IfOk result (λ lists. (length lists.0.0.now < 2 ^ 32) × (length lists.1.0.now < 2 ^ 32)) }
 {
+    let none = &words[..0];
     match layout {
-        Layout::Full => Ok((&words[..0], &words[..0])),
+        Layout::Full => Ok(((none, none), (none, none))),
         Layout::Classes => {
-            let greater = prepared_list::<B>(words, pair.greater())?;
-            let lesser = prepared_list::<B>(words, pair.lesser())?;
+            let greater = lists_for::<B>(words, pair.greater())?;
+            let lesser = lists_for::<B>(words, pair.lesser())?;
             Ok((greater, lesser))
         }
     }
-}
-
-/// The class of a set of `count` points, 3 to 9, and the least symmetry that leads the set to the
-/// representative, by prepared words and by the list of the representatives in them. A set of few
-/// points has a word of its own; for the others the representative is looked for in the list. By
-/// other words or by another list they are any class, and any symmetry of the board.
-pub(crate) fn class_in<B: Geometry>(
-    words: &[u32],
-    representatives: &[u32],
-    count: u8,
-    set: Points,
-) -> (usize, u8)
-    requires within { set < 2 ^ B.POINTS }
-    requires counted { count ≡ count_of set }
-    requires least { 3 ≤ count }
-    requires most { count ≤ 9 }
-    requires few { length representatives.now < 2 ^ 32 }
-    ensures class { IsPrepared B.shape words.now → representatives.now ≡ representatives_of B.shape count → result.0 ≡ class_of B.shape set }
-    ensures symmetry { IsPrepared B.shape words.now → result.1 ≡ symmetry_of B.shape set }
-    ensures few { result.0 < 2 ^ 32 }
-    ensures one { result.1 < B.SYMMETRIES }
-{
-    if count >= LEAST + LED {
-        return class_of::<B>(representatives, set);
-    }
-    let section = usize::from(count - LEAST + NUMBERS);
-    match led_at(words, section, rank(set)) {
-        None => (0, 0),
-        Some((class, symmetry)) => {
-            if symmetry < B::SYMMETRIES {
-                (class, symmetry)
-            } else {
-                (0, 0)
-            }
-        }
-    }
-}
-
-/// The class and the symmetry that stand at a place of a section, where the words have it.
-fn led_at(words: &[u32], section: usize, place: u64) -> Option<(usize, u8)>
-    requires section { section < 11 }
-    requires place { place < 2 ^ 25 }
-    ensures class { IfSome result (λ led. led.0 ≡ slice_index words.now (slice_index words.now (1 + section) + place) / 16) }
-    ensures symmetry { IfSome result (λ led. led.1 ≡ slice_index words.now (slice_index words.now (1 + section) + place) % 16) }
-    ensures few { IfSome result (λ led. led.0 < 2 ^ 28) }
-    ensures outside { IfNone result (13 ≤ length words.now → length words.now ≤ slice_index words.now (1 + section) + place) }
-{
-    let start = words.get(1 + section)?;
-    lead_at(words, u64::from(*start) + place)
 }

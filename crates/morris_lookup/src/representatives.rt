@@ -10,6 +10,9 @@ use morris_index::binomials::binomial;
 use morris_index::class_sizes::is_representative;
 use std::alloc::{AllocError, Global};
 
+/// How many masks a stretch has at most.
+const MOST_MASKS: usize = 256;
+
 /// The representatives of the classes of sets of `count` points, in ascending order of their masks.
 ///
 /// # Errors
@@ -33,9 +36,14 @@ pub fn representative_count<B: Geometry>(count: u8) -> usize
     ensures value { result ≡ length (representatives_of B.shape count) }
     ensures few { result ≤ 2 ^ 24 }
 {
+    let mut room = [0; MOST_MASKS];
+    let words = &mut room[..stretch_size::<B>() as usize];
     let mut found = 0;
     for number in 0..stretch_count::<B>() {
-        found += count_stretch::<B>(count, number);
+        match list_stretch::<B>(count, number, words, 0) {
+            Some(end) => found += end,
+            None => unreachable!(),
+        }
     }
     found
 }
@@ -92,25 +100,6 @@ fn list_stretch<B: Geometry>(
         }
     }
     Some(end)
-}
-
-/// How many representatives are in a stretch.
-fn count_stretch<B: Geometry>(count: u8, number: u32) -> usize
-    requires { number < 2 ^ (B.POINTS - B.POINTS / 3) }
-    ensures value { result ≡ length (representatives_at B.shape B.POINTS count number) }
-    ensures few { result ≤ 2 ^ 8 }
-{
-    if has_none::<B>(count, number) {
-        return 0;
-    }
-    let first = stretch_start::<B>(number);
-    let mut found = 0;
-    for mask in first..first + stretch_size::<B>() {
-        if is_representative::<B>(count, Points::from_mask(mask)) {
-            found += 1;
-        }
-    }
-    found
 }
 
 /// Whether a stretch has no representative of sets of `count` points. That is seen at its first and

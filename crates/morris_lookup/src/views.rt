@@ -1,12 +1,13 @@
 //! Table files as they lie in memory, and the value of a position by them.
-ghost use Rattle.std.specs.Prelude.{◌≡◌, ◌+◌, ◌*◌, ◌<◌, ◌≤◌, ◌^◌, true, length, IfOk, MatchOption};
+ghost use Rattle.std.specs.Prelude.{◌≡◌, ◌≤◌, true, IfOk};
 ghost use Rattle.std.specs.Option.{option_copied};
 ghost use Rattle.morris_index.specs.Pairs.{is_of};
 ghost use Rattle.morris_pairs.specs.Codes.{IsValue};
-ghost use Rattle.morris_lookup.specs.Lookups.{code_at, depth_of};
+ghost use Rattle.morris_lookup.specs.Lookups.{depth_of};
 ghost use Rattle.morris_lookup.specs.Prepared.{looks_prepared};
 ghost use Rattle.morris_lookup.specs.Views.{contents, file_of_pair, names_pair, value_said, value_of_bytes, is_by_classes, needs_words, Serves, ServeAll, IsExactAt};
 
+use crate::codes::code_in;
 use crate::fault::ViewFault;
 use crate::framing::{bear_out, header_of};
 use crate::numbering::Numbering;
@@ -85,29 +86,18 @@ fn value_of_file<B: Geometry>(
     let numbering = Numbering {
         layout,
         pair,
-        greater,
-        lesser,
-        greater_leads: &words[..0],
-        lesser_leads: &words[..0],
+        greater: greater.0,
+        lesser: lesser.0,
+        greater_leads: greater.1,
+        lesser_leads: lesser.1,
     };
     bear_out(header.entries, length, numbering.count())?;
-    match code_at(bytes, numbering.entry_in(words, position)) {
+    let place = HEADER / 2 + numbering.entry(position) as usize;
+    if bytes.len() < 2 * place + 2 {
         // The entry lies in the file where the words are prepared ones.
-        None => Err(ViewFault::Words),
-        Some(code) => Ok(value_of_code(code)),
+        return Err(ViewFault::Words);
     }
-}
-
-/// The code at an entry of a file, where there is one: two bytes, the high one first.
-fn code_at(bytes: &[u8], entry: u64) -> Option<u16>
-    requires { entry < 2 ^ 55 }
-    ensures { MatchOption result (length bytes.now < 16 + 2 * entry + 2) (λ code. code ≡ code_at bytes.now entry) }
-{
-    let place = HEADER + 2 * entry as usize;
-    if bytes.len() < place + 2 {
-        return None;
-    }
-    Some(u16::from_be_bytes([bytes[place], bytes[place + 1]]))
+    Ok(value_of_code(code_in(bytes, place)))
 }
 
 /// The bytes of the first file that names this pair in its header.

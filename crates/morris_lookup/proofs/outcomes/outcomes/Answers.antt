@@ -3,8 +3,9 @@ use Rattle.std.specs.List.{Contains}
 use Rattle.std.proofs.lemmas.Result.{err_from_is_err_and}
 use Rattle.morris_moves.specs.Rules.{moves_of, result_of}
 use Rattle.morris_probe.proofs.Listed.{listed_next, listed_all}
-use Rattle.morris_lookup.proofs.OutcomeLaws.{each_more, steps_more, stops_there, told_more}
+use Rattle.morris_lookup.proofs.OutcomeLaws.{each_more, steps_more, stops_there}
 use Rattle.morris_lookup.specs.FileSets.{missing_file}
+use Rattle.morris_lookup.specs.Outcomes.{IsOutcome}
 use Rattle.morris_lookup.proofs.outcomes.outcomes.Goals as goal
 
 pub loop-m-preserved : goal.loop-m-preserved
@@ -13,7 +14,7 @@ loop-m-preserved g c =
     record {
       listed = listed_next _ _ _ _ _ c.loop-m.invariant.listed c.in-Some.ensures.steps;
       steps = steps_more c.loop-m.outcomes.items _ c.in_ok-outcome.outcome _ c.in-Some.m pushed c.loop-m.invariant.steps c.in_ok-outcome.ensures.step;
-      told = λ o h. told_more g.B.Geometry.shape c.args.tables.now c.args.position.now c.loop-m.outcomes.items c.in_ok-outcome.outcome c.loop-m.invariant.told
+      told = λ o h. each_more (IsOutcome g.B.Geometry.shape c.args.tables.now c.args.position.now) c.loop-m.outcomes.items c.in_ok-outcome.outcome c.loop-m.invariant.told
           c.in_ok-outcome.ensures.told o (subst (λ os. Contains os o) pushed h);
       found =
           each_more (λ m. missing_file c.args.tables.now (result_of c.args.position.now m) ≡ None) c.loop-m.yielded c.in-Some.m c.loop-m.invariant.found

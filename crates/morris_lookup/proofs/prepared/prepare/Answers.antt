@@ -16,5 +16,6 @@ list_all-requires g c =
     (get_or-set_other words 1 0 13 0 (omega arith) ∙ get_or-set_same c.args.words.now 0 (1297564416 + c.from.result) 0 (omega arith) ∙ word)
     (get_or-set_same words 1 13 0 (omega arith))
 
-pub returns-in-None-clause-room : goal.returns-in-None-clause-room
-returns-in-None-clause-room g c = omega (arith, c.in-None.ensures.room, start-up g.B.Geometry.shape 7 11 (omega arith), length-set {A = ℕ})
+pub returns-in_err-listed-clause-room : goal.returns-in_err-listed-clause-room
+returns-in_err-listed-clause-room g c =
+    rw c.from_residual.ensures (omega (arith, c.in_err-listed.ensures.room, start-up g.B.Geometry.shape 7 11 (omega arith), length-set {A = ℕ}))

@@ -1,7 +1,7 @@
 use Rattle.std.proofs.Common.{◌≡◌, ◌-◌, ◌*◌, ◌/◌, ◌^◌, length, ◌∙◌, sym, ap, arith}
 use Rattle.morris_index.specs.Classes.{is_representative}
 use Rattle.morris_lookup.specs.Representatives.{representatives_of, representatives_in, stretch_size}
-use Rattle.morris_lookup.proofs.ListLaws.{between, counted-stretch, representatives-few}
+use Rattle.morris_lookup.proofs.ListLaws.{between, between-few, counted-stretch, representatives-few}
 use Rattle.morris_lookup.proofs.StretchLaws.{whole, next_stretch, few_masks}
 use Rattle.morris_lookup.proofs.representatives.representative_count.Goals as goal
 
@@ -14,12 +14,21 @@ loop-number-preserved g c =
       counted = omega (
         arith,
         c.loop-number.invariant.counted,
-        c.count_stretch-found.ensures.value,
+        c.in-Some.ensures.end,
         counted-stretch f a (stretch_size g.B.Geometry.POINTS),
         ap (λ m. length (between f 0 m)) (next_stretch g.B.Geometry.POINTS c.loop-number.number),
       );
-      few = omega (arith, c.loop-number.invariant.few, c.count_stretch-found.ensures.few);
+      few = omega (arith, c.loop-number.invariant.few, c.in-Some.ensures.end, between-few f a (stretch_size g.B.Geometry.POINTS), c.stretch_size.ensures.value, c.stretch_size.ensures.few);
+      room = omega (arith, c.loop-number.invariant.room, c.list_stretch.auto.words);
     }
+
+-- a stretch has no more representatives than masks
+pub unreachable-requires : goal.unreachable-requires
+unfolding representatives_in
+unreachable-requires g c =
+    let f = is_representative g.B.Geometry.shape c.args.count in
+    let a = c.loop-number.number * stretch_size g.B.Geometry.POINTS in
+    omega (arith, c.in-None.ensures.room, c.loop-number.invariant.room, between-few f a (stretch_size g.B.Geometry.POINTS))
 
 pub returns-clause-value : goal.returns-clause-value
 unfolding representatives_of

@@ -9,4 +9,5 @@ abbrev pub invariant-loop-number : goal.invariant-loop-number
 invariant-loop-number g l = record {
   counted : l.found ≡ length (between (is_representative g.B.Geometry.shape l.count) 0 (l.number * stretch_size g.B.Geometry.POINTS));
   few : l.found ≤ l.number * 256;
+  room : length l.words ≡ stretch_size g.B.Geometry.POINTS;
 }

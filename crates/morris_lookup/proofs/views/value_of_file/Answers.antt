@@ -1,4 +1,5 @@
-use Rattle.std.proofs.Common.{◌≡◌, ◌<◌, Ok, sym, ap, ◌∙◌, arith}
+use Rattle.std.proofs.Common.{◌≡◌, ◌+◌, ◌*◌, ◌<◌, Ok, sym, ap, ◌∙◌, arith}
+use Rattle.std.specs.Int.{w16, from_be_bytes}
 use Rattle.std.proofs.lemmas.Bool.{false≢true}
 use Rattle.std.proofs.lemmas.Result.{err_from_is_err_and}
 use Rattle.morris_pairs.specs.Codes.{value_in}
@@ -6,6 +7,7 @@ use Rattle.morris_pairs.specs.declared.layout.Layout.TheVariants.{Classes}
 use Rattle.morris_pairs.specs.Entries.{entry_index}
 use Rattle.morris_lookup.specs.Lookups.{code_at}
 use Rattle.morris_lookup.specs.Prepared.{IsPrepared}
+use Rattle.morris_lookup.specs.Storage.{bytes_at}
 use Rattle.morris_lookup.proofs.OpeningLaws.{entry_inside, framed_short, framed_refused, framed_not_borne, framed_found}
 use Rattle.morris_lookup.proofs.ViewLaws.{said_by_kind, named_kind, read_by_classes, laid_by_classes}
 use Rattle.morris_lookup.proofs.views.value_of_file.Goals as goal
@@ -41,28 +43,30 @@ returns-in_err-bear_out-clause-said g c = λ serves.
     g.B.Geometry.POINTS g.met.B.Geometry.point_count c.count.result
     (c.count.ensures.value right) c.in_err-bear_out.field-0.0 c.in_err-bear_out.ensures))
 
-pub returns-in-None-clause-said : goal.returns-in-None-clause-said
-returns-in-None-clause-said g c = λ serves.
-    let right = c.in_ok-greater.ensures.serve (λ classes. serves (read_by_classes g.B.Geometry.shape c.args.bytes.now c.in_ok-header.header c.in_ok-header.ensures.found.1
-    c.in_ok-layout.layout c.in_ok-layout.field-0-1 c.in_ok-layout.ensures.value classes)) in
+pub returns-then-bytes-place-clause-said : goal.returns-then-bytes-place-clause-said
+returns-then-bytes-place-clause-said g c = λ serves.
     let prepared : c.in_ok-layout.layout ≡ Classes → IsPrepared g.B.Geometry.shape c.args.words.now = λ classes. serves (read_by_classes g.B.Geometry.shape c.args.bytes.now c.in_ok-header.header c.in_ok-header.ensures.found.1
     c.in_ok-layout.layout c.in_ok-layout.field-0-1 c.in_ok-layout.ensures.value classes) in
-    let below : c.entry_in.result < c.count.result = omega (arith, c.entry_in.ensures.below prepared right, c.count.ensures.value right) in
+    let right = c.in_ok-greater.ensures.serve prepared in
+    let below : c.entry.result < c.count.result = omega (arith, c.entry.ensures.below right (c.in_ok-greater.ensures.lead prepared), c.count.ensures.value right) in
     absurd (omega (
       arith,
-      c.in-None.ensures,
+      c.if-bytes-place.true,
       c.in_ok-header.ensures.found.2,
-      entry_inside c.in_ok-header.header.entries c.in_ok-header.length c.count.result c.entry_in.result c.in_ok-bear_out.field-0 c.in_ok-bear_out.ensures below,
+      entry_inside c.in_ok-header.header.entries c.in_ok-header.length c.count.result c.entry.result c.in_ok-bear_out.field-0 c.in_ok-bear_out.ensures below,
     ))
 
-pub returns-in-Some-clause-said : goal.returns-in-Some-clause-said
-returns-in-Some-clause-said g c = λ serves.
-    let right = c.in_ok-greater.ensures.serve (λ classes. serves (read_by_classes g.B.Geometry.shape c.args.bytes.now c.in_ok-header.header c.in_ok-header.ensures.found.1
-    c.in_ok-layout.layout c.in_ok-layout.field-0-1 c.in_ok-layout.ensures.value classes)) in
-    let entry : c.entry_in.result ≡ entry_index g.B.Geometry.shape g.B.Geometry.shape.points c.in_ok-layout.layout c.args.pair c.args.position.now =
-    c.entry_in.ensures.value (λ classes. serves (read_by_classes g.B.Geometry.shape c.args.bytes.now c.in_ok-header.header c.in_ok-header.ensures.found.1
-    c.in_ok-layout.layout c.in_ok-layout.field-0-1 c.in_ok-layout.ensures.value classes)) right ∙ ap (λ n. entry_index g.B.Geometry.shape n c.in_ok-layout.layout c.args.pair c.args.position.now) (sym g.met.B.Geometry.point_count) in
-    ap (λ v. Ok v) (c.value_of_code.ensures ∙ ap value_in (c.in-Some.ensures ∙ ap (code_at c.args.bytes.now) entry))
+pub returns-clause-said : goal.returns-clause-said
+unfolding code_at
+returns-clause-said g c = λ serves.
+    let prepared : c.in_ok-layout.layout ≡ Classes → IsPrepared g.B.Geometry.shape c.args.words.now = λ classes. serves (read_by_classes g.B.Geometry.shape c.args.bytes.now c.in_ok-header.header c.in_ok-header.ensures.found.1
+    c.in_ok-layout.layout c.in_ok-layout.field-0-1 c.in_ok-layout.ensures.value classes) in
+    let right = c.in_ok-greater.ensures.serve prepared in
+    let entry : c.entry.result ≡ entry_index g.B.Geometry.shape g.B.Geometry.shape.points c.in_ok-layout.layout c.args.pair c.args.position.now =
+    c.entry.ensures.value right (c.in_ok-greater.ensures.lead prepared) ∙ ap (λ n. entry_index g.B.Geometry.shape n c.in_ok-layout.layout c.args.pair c.args.position.now) (sym g.met.B.Geometry.point_count) in
+    let place : 2 * (8 + c.entry.result) ≡ 16 + 2 * c.entry.result = omega arith in
+    let code : c.code_in.result ≡ code_at c.args.bytes.now c.entry.result = c.code_in.ensures ∙ ap (λ p. from_be_bytes w16 (bytes_at c.args.bytes.now p 2)) place in
+    ap (λ v. Ok v) (c.value_of_code.ensures ∙ ap value_in (code ∙ ap (code_at c.args.bytes.now) entry))
     ∙ said_by_kind g.B.Geometry.shape c.args.position.now c.args.bytes.now _
     (framed_found g.B.Geometry.shape c.args.bytes.now c.in_ok-header.header c.in_ok-header.length c.in_ok-header.ensures.found (c.in_ok-layout.layout, c.args.pair)
     (named_kind g.B.Geometry.shape c.args.bytes.now c.in_ok-header.header c.in_ok-header.ensures.found.1 c.in_ok-layout.layout c.in_ok-layout.field-0-1 c.in_ok-layout.ensures.value c.args.pair
@@ -70,7 +74,7 @@ returns-in-Some-clause-said g c = λ serves.
     g.B.Geometry.POINTS g.met.B.Geometry.point_count c.count.result
     (c.count.ensures.value right) c.in_ok-bear_out.field-0 c.in_ok-bear_out.ensures)
 
-pub returns-in-Some-clause-unready : goal.returns-in-Some-clause-unready
-returns-in-Some-clause-unready g c = λ classes.
+pub returns-clause-unready : goal.returns-clause-unready
+returns-clause-unready g c = λ classes.
     c.in_ok-greater.ensures.tested (laid_by_classes g.B.Geometry.shape c.args.bytes.now c.in_ok-header.header c.in_ok-header.ensures.found.1 c.in_ok-layout.layout c.in_ok-layout.field-0-1
     c.in_ok-layout.ensures.value classes)
