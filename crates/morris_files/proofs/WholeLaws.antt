@@ -21,11 +21,9 @@ part-apart name e = omega (arith, ap length e, length-append name (codes ".part"
 -- a step of the writing of a part leaves the file as it was
 as-it-was : (step : Step) (name bytes : List ℕ) (old new : Files) → IsOfPart step → new name ≡ old name → IsAsItWas step name bytes old new
 as-it-was Memory name bytes old new of e = absurd of
-as-it-was Create name bytes old new of e = e
-as-it-was Write name bytes old new of e = e
-as-it-was Sync name bytes old new of e = e
 as-it-was Rename name bytes old new of e = absurd of
 as-it-was Settle name bytes old new of e = absurd of
+as-it-was _ name bytes old new of e = e
 
 -- whether a step is the one that is named
 abbrev is_memory : Step → Bool

@@ -27,10 +27,8 @@ AreKeptLines board replaced (Some files) kept = (kept ≡ kept_of board replaced
 -- why a folder's list isn't had: it may be longer than that, where the files are known
 abbrev pub IsUnlisted : List ℕ → Option Files → ListFault → Type 0
 IsUnlisted board None refused = ⊤
-IsUnlisted board (Some files) fault.Memory = ⊤
-IsUnlisted board (Some files) fault.Unopened = ⊤
-IsUnlisted board (Some files) fault.Unread = ⊤
 IsUnlisted board (Some files) fault.Long = 65536 < length (list_in files board)
+IsUnlisted board (Some files) _ = ⊤
 
 -- one call of the folder failed where the list can't be opened, and none elsewhere
 abbrev pub failed_listing : {T : Type 0} → Result T ListFault → ℕ

@@ -27,12 +27,9 @@ may_leave Settle = false
 -- The file of this name is as it was, or whole where its part was to be renamed and may have been,
 -- and whole where the part was renamed.
 abbrev pub IsAsItWas : Step → List ℕ → List ℕ → Files → Files → Type 0
-IsAsItWas Memory name bytes old new = new name ≡ old name
-IsAsItWas Create name bytes old new = new name ≡ old name
-IsAsItWas Write name bytes old new = new name ≡ old name
-IsAsItWas Sync name bytes old new = new name ≡ old name
 IsAsItWas Rename name bytes old new = (new name ≡ old name) ⊎ (new name ≡ Some bytes)
 IsAsItWas Settle name bytes old new = new name ≡ Some bytes
+IsAsItWas _ name bytes old new = new name ≡ old name
 
 -- What stands under the name of a part that can't be made: what stood there before, or nothing.
 abbrev pub MayBeGone : List ℕ → Files → Files → Type 0

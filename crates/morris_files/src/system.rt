@@ -14,7 +14,7 @@ use std::fs::File;
 use std::marker::Model;
 use std::rt::Files;
 
-mod calls;
+pub mod calls;
 mod tally;
 
 /// The folder of the system with this path. No call keeps a file open but through its reader or
