@@ -39,8 +39,6 @@ use Rattle.morris_queries.specs.Asked.{AnswersCountsFrom, AnswersFindFrom}
 use Rattle.morris_queries.specs.declared.find.Shown.{Shown}
 use Rattle.morris_queries.specs.declared.find.Shown.TheVariants as found
 use Rattle.morris_queries.specs.LineAnswers.{AnswersInput}
-use Rattle.morris_queries.specs.Refusals.{query_fault}
-use Rattle.morris_queries.specs.declared.fault.QueryFault.{QueryFault}
 use Rattle.morris_queries.specs.declared.show.Show.{Show}
 use Rattle.morris_queries.specs.declared.show.Show.TheVariants as show
 use Rattle.morris_words.specs.declared.request.Show as words
@@ -62,17 +60,17 @@ shown_of wanted.Line = show.Line
 shown_of wanted.Csv = show.Csv
 
 -- how `lookup` ends: texts that have no answer are a fault, which says how many they are
-abbrev pub end_of : Result ℕ QueryFault → Result (Unit {0}) Fault
+abbrev pub end_of : Result ℕ Fault → Result (Unit {0}) Fault
 end_of (Ok unanswered) = if unanswered == 0 then Ok tt else Err (fault.Unanswered unanswered)
-end_of (Err refused) = Err (query_fault refused)
+end_of (Err refused) = Err refused
 
 -- What `lookup` answers: to texts, or, where there are none, to the lines of its input.
 abbrev pub AnswersQueries : List (List ℕ) → Lookup → Input → Input → Option (List ℕ) → Option (List ℕ) → Result (Unit {0}) Fault → Type 0
 AnswersQueries [] asked before after old new result =
-    (ended : Result ℕ QueryFault) × AnswersInput (board_of asked.board.now) asked.board.now None (shown_of asked.show) before.bytes after.bytes old new ended
+    (ended : Result ℕ Fault) × AnswersInput (board_of asked.board.now) asked.board.now None (shown_of asked.show) before.bytes after.bytes old new ended
     × (result ≡ end_of ended)
 AnswersQueries (text ∷ texts) asked before after old new result =
-    (ended : Result ℕ QueryFault) × AnswersLookup (board_of asked.board.now) asked.board.now None (shown_of asked.show) (text ∷ texts) old new ended
+    (ended : Result ℕ Fault) × AnswersLookup (board_of asked.board.now) asked.board.now None (shown_of asked.show) (text ∷ texts) old new ended
     × (result ≡ end_of ended)
 
 -- the form in which `stats` prints, as its words say it

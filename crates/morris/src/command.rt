@@ -31,7 +31,6 @@ use morris_jobs::progress::Progress;
 use morris_jobs::team::{Crew, Team};
 use morris_jobs::teller::Teller;
 use morris_queries::ask::{find_from, stats_from};
-use morris_queries::fault::QueryFault;
 use morris_queries::find::Shown;
 use morris_queries::lookup::{lookup_lines, lookup_texts};
 use morris_queries::show::Show;
@@ -460,13 +459,13 @@ fn look_up<R: Files<File = File> + AllocGlobal, I: Source, O: Sink>(
 }
 
 /// How `lookup` ends: texts that have no answer are a fault.
-fn end(answered: Result<u64, QueryFault>) -> Result<(), Fault>
+fn end(answered: Result<u64, Fault>) -> Result<(), Fault>
     ensures { result ≡ end_of answered }
 {
     match answered {
         Ok(0) => Ok(()),
         Ok(unanswered) => Err(Fault::Unanswered(unanswered)),
-        Err(refused) => Err(Fault::from(refused)),
+        Err(refused) => Err(refused),
     }
 }
 

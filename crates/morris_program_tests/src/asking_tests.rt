@@ -1,13 +1,13 @@
 // What is answered to texts over the files of 3-3 and 4-3 on `grid`, in either version. The values
 // and moves follow from the rules.
+use crate::held::Held;
 use crate::making::file_of;
 use morris_board::streams::IntoWrite;
 use morris_files::reason::Reason;
+use morris_jobs::fault::Fault;
 use morris_pairs::layout::Layout;
-use morris_queries::fault::QueryFault;
 use morris_queries::library::Library;
 use morris_queries::lookup::lookup_texts;
-use morris_queries::memory::Held;
 use morris_queries::show::Show;
 use morris_queries::system::SystemLibrary;
 use std::alloc::Global;
@@ -204,7 +204,7 @@ fn a_folder_on_a_disk_answers(rt: HostRuntime) {
         Show::Best,
         &mut output,
     );
-    assert!(rt; answer == Err(QueryFault::Board) && output.into_inner().is_empty());
+    assert!(rt; answer == Err(Fault::Board) && output.into_inner().is_empty());
 }
 
 /// Whether there is no folder of this path, for this reason: nothing is answered, and nothing is
@@ -220,9 +220,7 @@ fn is_no_folder<R: Files<File = File> + AllocGlobal>(rt: &R, path: &str, why: Re
         Show::Best,
         &mut output,
     );
-    answer == Err(QueryFault::NoFolder)
-        && output.into_inner().is_empty()
-        && folder.why() == Some(why)
+    answer == Err(Fault::NoFolder) && output.into_inner().is_empty() && folder.why() == Some(why)
 }
 
 #[test]

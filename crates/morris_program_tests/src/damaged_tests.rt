@@ -1,9 +1,9 @@
 // Files by positions of 3-3 on `grid` of which entries were changed: where what the file states of a
 // position doesn't follow from what it states of the results of the legal moves, that is the answer.
 use crate::asking_tests::is_answered;
+use crate::held::Held;
 use crate::making::file_of;
 use morris_pairs::layout::Layout;
-use morris_queries::memory::Held;
 use morris_queries::show::Show;
 use std::alloc::Global;
 use std::process::Abort;

@@ -1,11 +1,11 @@
 // A write that fails ends the answers.
+use crate::held::Held;
 use crate::making::file_of;
 use morris_board::grid::Grid;
 use morris_files::folder::Folder;
 use morris_files_tests::memory::MemoryFolder;
+use morris_jobs::fault::Fault;
 use morris_pairs::layout::Layout;
-use morris_queries::fault::QueryFault;
-use morris_queries::memory::Held;
 use morris_queries::show::Show;
 use morris_queries::texts::answer_texts;
 use std::process::Abort;
@@ -28,6 +28,6 @@ fn a_write_that_fails_is_told(rt: HostRuntime) {
             show,
             &mut output,
         );
-        assert!(rt; answer == Err(QueryFault::Write(sent)));
+        assert!(rt; answer == Err(Fault::Write(sent)));
     }
 }

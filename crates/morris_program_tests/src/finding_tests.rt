@@ -1,16 +1,17 @@
 // `stats_from` and `find_from` over the file of 3-3 on `grid`: what is refused, and in which order,
 // and what a read or a write that fails leaves.
+use crate::held::Held;
 use crate::making::file_of;
 use morris_board::streams::{Failed, IntoWrite};
 use morris_files::folder::Folder;
+use morris_files::reason::Reason;
 use morris_files_tests::memory::MemoryFolder;
 use morris_jobs::fault::Fault;
 use morris_lookup::storage::Storage;
 use morris_pairs::layout::Layout;
 use morris_queries::ask::{find_from, stats_from};
 use morris_queries::find::Shown;
-use morris_queries::library::{Library, Unfound, Unopened};
-use morris_queries::memory::Held;
+use morris_queries::library::{Library, Unfound};
 use std::alloc::Global;
 use std::process::Abort;
 
@@ -115,7 +116,7 @@ impl<'a> Library for Cut<'a> {
         Ok(())
     }
 
-    fn open(&mut self, _name: &str) -> Result<Option<Cut<'a>>, Unopened> {
+    fn open(&mut self, _name: &str) -> Result<Option<Cut<'a>>, Reason> {
         Ok(Some(*self))
     }
 }

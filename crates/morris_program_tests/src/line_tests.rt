@@ -1,12 +1,12 @@
 // What is answered to the lines of an input, over the file of 3-3 on `grid`. The values and moves
 // follow from the rules.
+use crate::held::Held;
 use crate::making::file_of;
 use morris_board::streams::{FromRead, IntoWrite};
 use morris_engine_tests::drip::Drip;
+use morris_jobs::fault::Fault;
 use morris_pairs::layout::Layout;
-use morris_queries::fault::QueryFault;
 use morris_queries::lookup::lookup_lines;
-use morris_queries::memory::Held;
 use morris_queries::show::Show;
 use std::alloc::Global;
 use std::io::Read;
@@ -18,7 +18,7 @@ fn answered<R: Read>(
     board: &str,
     held: &mut Held<'_>,
     reader: R,
-) -> (Vec<u8>, Result<u64, QueryFault>)
+) -> (Vec<u8>, Result<u64, Fault>)
 where
     R: Drop,
 {
@@ -85,7 +85,7 @@ fn no_line_has_no_answer(rt: HostRuntime) {
         assert!(rt; text.is_empty() && refused == Ok(0));
     }
     let (text, refused) = answered(rt.alloc(), "none", &mut held, b"X\n".as_slice());
-    assert!(rt; text.is_empty() && refused == Err(QueryFault::Board));
+    assert!(rt; text.is_empty() && refused == Err(Fault::Board));
 }
 
 // The answer to the line before the failure is out, and the line that was begun has none.
@@ -101,5 +101,5 @@ fn a_read_that_fails_ends_the_answers(rt: HostRuntime) {
     };
     let (text, refused) = answered(rt.alloc(), "grid", &mut held, drip);
     assert!(rt; text.as_slice() == b"XXXOOO... draw: 0-6 1-7 2-8\n".as_slice());
-    assert!(rt; refused == Err(QueryFault::Read));
+    assert!(rt; refused == Err(Fault::Read));
 }

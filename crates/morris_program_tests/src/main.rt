@@ -19,6 +19,8 @@ mod finding_tests;
 #[cfg(test)]
 mod from_tests;
 #[cfg(test)]
+mod held;
+#[cfg(test)]
 mod into_tests;
 #[cfg(test)]
 mod line_tests;

@@ -1,8 +1,8 @@
 -- The value of a position in the game follows from the values of the results of its moves.
-use Rattle.std.proofs.Common.{◌≡◌, ◌⊎◌, ℕ, zero, suc, true, false, List, [], ◌∷◌, map, Some, refl, sym, ap, subst, ◌∙◌, inl, inr, arith}
+use Rattle.std.proofs.Common.{◌≡◌, ◌⊎◌, ℕ, zero, suc, true, false, List, [], ◌∷◌, map, refl, sym, ap, subst, ◌∙◌, inl, inr, arith}
 use Rattle.std.specs.Prelude.{fold}
 use Rattle.std.specs.List.{Contains}
-use Rattle.std.proofs.lemmas.Bool.{eq-eqb, both_ways, cases_lt}
+use Rattle.std.proofs.lemmas.Bool.{both_ways, cases_lt}
 use Rattle.morris_board.specs.Boards.{Shape}
 use Rattle.morris_board.specs.Positions.{Sides}
 use Rattle.morris_moves.specs.declared.step.Move.{Move}
@@ -13,27 +13,13 @@ use Rattle.morris_moves.proofs.ValueLaws.{never_both}
 use Rattle.morris_pairs.specs.declared.value.Value.{Value}
 use Rattle.morris_pairs.specs.declared.value.Value.TheVariants.{Draw, Won, Lost}
 use Rattle.morris_pairs.specs.Codes.{IsValue}
-use Rattle.morris_probe.specs.Best.{after_best}
 use Rattle.morris_probe.proofs.BestLaws.{one_value}
 use Rattle.morris_probe.proofs.SomeBest.{HasValues, some_best}
 use Rattle.morris_lookup.specs.declared.outcomes.Outcome.{Outcome}
 use Rattle.morris_lookup.specs.Outcomes.{turned}
+use Rattle.morris_lookup.proofs.OutcomeLaws.{best-turned}
 use Rattle.morris_queries.specs.Exactness.{LeadsTo}
-use Rattle.morris_queries.specs.Telling.{better, same_value, value_from}
-
--- ---- values
-
-pub same_itself : (v : Value) → same_value v v ≡ true
-same_itself Draw = refl
-same_itself (Won a) = eq-eqb a a refl
-same_itself (Lost a) = eq-eqb a a refl
-
-pub best-turned : (found next : Value) → after_best found ≡ Some next → turned next ≡ found
-best-turned Draw next e = let is : next ≡ Draw = cc in ap turned is
-best-turned (Won zero) next e = cc
-best-turned (Won (suc depth)) next e = let is : next ≡ Lost depth = cc in ap turned is
-best-turned (Lost zero) next e = cc
-best-turned (Lost (suc depth)) next e = let is : next ≡ Won depth = cc in ap turned is
+use Rattle.morris_queries.specs.Telling.{better, value_from}
 
 -- ---- the better of two values
 

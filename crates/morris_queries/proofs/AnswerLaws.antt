@@ -14,14 +14,14 @@ use Rattle.morris_board.specs.Positions.{Sides, read_of}
 use Rattle.morris_board.specs.Streams.{AllSent, PartSent, CountsFailure}
 use Rattle.morris_board.specs.declared.faults.TextFault.{TextFault}
 use Rattle.morris_files.specs.Files.{Files}
-use Rattle.morris_jobs.specs.Faults.{text_fault}
+use Rattle.morris_jobs.specs.Faults.{text_fault, CountsWrites}
 use Rattle.morris_queries.specs.declared.answer.Answered.{Answered}
 use Rattle.morris_queries.specs.declared.show.Show.{Show}
 use Rattle.morris_queries.specs.declared.show.Show.TheVariants as show
-use Rattle.morris_queries.specs.declared.fault.QueryFault.{QueryFault}
-use Rattle.morris_queries.specs.declared.fault.QueryFault.TheVariants as query
+use Rattle.morris_jobs.specs.declared.fault.Fault.{Fault}
+use Rattle.morris_jobs.specs.declared.fault.Fault.TheVariants as fault
 use Rattle.morris_queries.specs.declared.texts.Tally.{Tally}
-use Rattle.morris_queries.specs.Answers.{Answer, IsAnswer, IsExactAnswer, Given, AreGiven, AreOut, ArePartOut, AnswersText, AnswersTexts, Begins, CountsWrites, WentIn, IsTallied, counted_to, printed_of, refused_in}
+use Rattle.morris_queries.specs.Answers.{Answer, IsAnswer, IsExactAnswer, Given, AreGiven, AreOut, ArePartOut, AnswersText, AnswersTexts, Begins, WentIn, IsTallied, counted_to, printed_of, refused_in}
 use Rattle.morris_queries.specs.Printing.{answer_text, head_text}
 use Rattle.morris_queries.specs.Exactness.{AreExactIn}
 use Rattle.morris_queries.specs.Telling.{Agrees, IsListed, told_to, told_text, told_shown}
@@ -87,10 +87,8 @@ part_first old new t u a part low =
 
 -- what stands before all answers is short
 head_short : (kind : Show) → length (head_text kind) ≤ 32
-head_short show.Best = omega arith
-head_short show.Moves = omega arith
-head_short show.Line = omega arith
 head_short show.Csv = omega arith
+head_short _ = omega arith
 
 module _ (board : Shape) (name : List ℕ) (known : Option Files) (show : Show) where
   none_given : AreGiven board name known show [] []
@@ -107,7 +105,7 @@ module _ (board : Shape) (name : List ℕ) (known : Option Files) (show : Show) 
 
   -- a write of it failed
   pub begun_failed : (texts : List (List ℕ)) (old new : Option (List ℕ)) (sent : ℕ) → Begins show old new (Err sent)
-      → AnswersTexts board name known show texts old new (Err (query.Write sent))
+      → AnswersTexts board name known show texts old new (Err (fault.Write sent))
   begun_failed texts old new sent begun = (0, [], none_given, subst (λ whole. WentIn old new whole sent) (sym (append-nil (head_text show))) begun)
 
   given_more : (texts : List (List ℕ)) (text : List ℕ) (given : Given) (answer : Answer) → AreGiven board name known show texts given
@@ -140,7 +138,7 @@ module _ (board : Shape) (name : List ℕ) (known : Option Files) (show : Show) 
   counts : (was n one m now : ℕ) → was ≡ counted_to n → now ≡ counted_to (was + one) → m ≡ n + one → now ≡ counted_to m
   counts was n one m now was_is now_is m_is = omega (arith, was_is, now_is, m_is)
 
-  pub out_more : (texts : List (List ℕ)) (text : List ℕ) (old mid new : Option (List ℕ)) (before after : Tally) (done : Answered) (result : Result (Unit {0}) QueryFault)
+  pub out_more : (texts : List (List ℕ)) (text : List ℕ) (old mid new : Option (List ℕ)) (before after : Tally) (done : Answered) (result : Result (Unit {0}) Fault)
       → AreOut board name known show texts old mid before → AnswersText board name known show text mid new (Ok done) → IsTallied before after (Ok done) result
       → AreOut board name known show (texts ++ text ∷ []) old new after
   out_more texts text old mid new before after done result all next tallied =
@@ -179,13 +177,13 @@ module _ (board : Shape) (name : List ℕ) (known : Option Files) (show : Show) 
       )
 
   -- where the calls for the texts end at a write that failed
-  pub texts_stopped : (texts : List (List ℕ)) (i : ℕ) (text : List ℕ) (old mid new : Option (List ℕ)) (before after : Tally) (answered : Result Answered ℕ) (refusal : QueryFault)
+  pub texts_stopped : (texts : List (List ℕ)) (i : ℕ) (text : List ℕ) (old mid new : Option (List ℕ)) (before after : Tally) (answered : Result Answered ℕ) (refusal : Fault)
       → AreOut board name known show (take i texts) old mid before → AnswersText board name known show text mid new answered
       → IsTallied before after answered (Err refusal) → take (i + 1) texts ≡ take i texts ++ text ∷ []
       → AnswersTexts board name known show texts old new (Err refusal)
   texts_stopped texts i text old mid new before after (Ok done) refusal all next tallied step = let no : Err refusal ≡ Ok tt = tallied.0 in cc
   texts_stopped texts i text old mid new before after (Err sent) refusal all next tallied step =
-      let is : query.Write (counted_to (before.sent + sent)) ≡ refusal = cc in
+      let is : fault.Write (counted_to (before.sent + sent)) ≡ refusal = cc in
       let part : ArePartOut board name known show (take (i + 1) texts) old new (counted_to (before.sent + sent)) =
       subst (λ ts. ArePartOut board name known show ts old new (counted_to (before.sent + sent))) (sym step) (out_failed (take i texts) text old mid new before sent all next) in
       subst (λ r. AnswersTexts board name known show texts old new (Err r)) is (i + 1, part.0, part.1, part.2)
@@ -198,11 +196,11 @@ module _ (board : Shape) (name : List ℕ) (known : Option Files) (show : Show) 
   texts_more texts text old mid new before after (Err sent) all next tallied = cc
 
 -- the failures of the sink, after what was counted of the next text
-pub counts_stopped : (T : Type 0) (old mid new : ℕ) (before after : Tally) (answered : Result Answered ℕ) (refusal : QueryFault) → mid ≡ old → CountsFailure mid new answered
+pub counts_stopped : (T : Type 0) (old mid new : ℕ) (before after : Tally) (answered : Result Answered ℕ) (refusal : Fault) → mid ≡ old → CountsFailure mid new answered
     → IsTallied before after answered (Err refusal) → CountsWrites {T = T} old new (Err refusal)
 counts_stopped T old mid new before after (Ok done) refusal same counted tallied = let no : Err refusal ≡ Ok tt = tallied.0 in cc
 counts_stopped T old mid new before after (Err sent) refusal same counted tallied =
-    let is : query.Write (counted_to (before.sent + sent)) ≡ refusal = cc in
+    let is : fault.Write (counted_to (before.sent + sent)) ≡ refusal = cc in
     subst (λ r. CountsWrites {T = T} old new (Err r)) is (counted ∙ ap (λ n. n + 1) same)
 
 pub counts_on : (old mid new : ℕ) (before after : Tally) (answered : Result Answered ℕ) → mid ≡ old → CountsFailure mid new answered

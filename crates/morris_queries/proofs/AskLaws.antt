@@ -13,7 +13,7 @@ use Rattle.morris_queries.specs.declared.ask.Question.{Question}
 use Rattle.morris_queries.specs.declared.ask.Question.TheVariants.{Counts as Counting, Positions}
 use Rattle.morris_queries.specs.declared.library.Unfound.{Unfound}
 use Rattle.morris_queries.specs.declared.library.Unfound.TheVariants as unfound
-use Rattle.morris_queries.specs.Refusals.{find_fault, query_fault}
+use Rattle.morris_queries.specs.Libraries.{find_fault}
 use Rattle.morris_queries.specs.Telling.{IsRefusal, table_in}
 
 -- that it is refused by the file, or memory was refused
@@ -35,6 +35,6 @@ memory_answer board file (Counting csv) output r is = inl (is, Keeps-refl output
 memory_answer board file (Positions search) output r is = inl (is, Keeps-refl output)
 
 -- that the place of the files isn't found isn't the fault of a write
-pub unfound_unwritten : (refused : Unfound) → is_write (query_fault (find_fault refused)) ≡ false
+pub unfound_unwritten : (refused : Unfound) → is_write (find_fault refused) ≡ false
 unfound_unwritten unfound.Memory = refl
 unfound_unwritten unfound.Folder = refl

@@ -1,8 +1,8 @@
 -- What is told where the files of a folder are those of exact tables is the game's.
-use Rattle.std.proofs.Common.{◌≡◌, ◌≢◌, ℕ, zero, suc, ◌+◌, ◌≤◌, ◌<◌, true, false, Bool, eqb, leb, List, [], ◌∷◌, ◌++◌, map, length, Option, Some, None, Result, Ok, Err, refl, sym, ap, subst, ◌∙◌, inl, inr, arith, append_assoc, append-nil}
+use Rattle.std.proofs.Common.{◌≡◌, ◌≢◌, ℕ, zero, suc, ◌+◌, ◌≤◌, ◌<◌, true, false, Bool, eqb, leb, List, [], ◌∷◌, map, length, Option, Some, None, Result, Ok, Err, refl, sym, ap, subst, ◌∙◌, inl, inr, arith}
 use Rattle.std.specs.Prelude.{IfSome, ◌&&◌, ◌||◌, slice_get}
-use Rattle.std.specs.List.{Contains, AllPairs}
-use Rattle.std.proofs.lemmas.Bool.{cases_Bool, and_parts, leb-true, leb-false, eqb-true, eq-eqb, cases_eq, ne_eqb, both_ways}
+use Rattle.std.specs.List.{Contains}
+use Rattle.std.proofs.lemmas.Bool.{cases_Bool, and_parts, leb-true, leb-false, eq-eqb, cases_eq, ne_eqb}
 use Rattle.morris_board.specs.Boards.{Shape}
 use Rattle.morris_board.specs.Sets.{count_of}
 use Rattle.morris_board.specs.Positions.{Sides, IsPosition, is_between}
@@ -10,10 +10,8 @@ use Rattle.morris_board.specs.Symmetries.{HasSymmetries}
 use Rattle.morris_index.specs.Pairs.{Counts, IsPair, pair_of, is_of, ordered}
 use Rattle.morris_index.proofs.IndexLaws.{placed, counts_fit}
 use Rattle.morris_moves.specs.declared.step.Move.{Move}
-use Rattle.morris_moves.specs.Order.{Precedes}
 use Rattle.morris_moves.specs.Rules.{moves_of, result_of}
 use Rattle.morris_moves.specs.Values.{is_lost}
-use Rattle.morris_moves.proofs.OrderLaws.{moves_in_order}
 use Rattle.morris_moves.proofs.ListLaws.{Contains-head, Contains-tail, Contains-cons_cases}
 use Rattle.morris_pairs.specs.declared.value.Value.{Value}
 use Rattle.morris_pairs.specs.declared.value.Value.TheVariants.{Draw, Won, Lost}
@@ -23,15 +21,16 @@ use Rattle.morris_pairs.specs.NetLaws.{result-position}
 use Rattle.morris_pairs.specs.Tables.{Table}
 use Rattle.morris_pairs.proofs.FileLaws.{IsRaw-from_exact}
 use Rattle.morris_probe.specs.Best.{LeadsOn, after_best}
-use Rattle.morris_probe.proofs.BestLaws.{AreBestOf, best_none, best_more, best_same, leads_off, best_all, one_value}
+use Rattle.morris_probe.proofs.BestLaws.{AreBestOf, best_all, one_value}
 use Rattle.morris_probe.proofs.SomeBest.{HasValues, some_listed}
 use Rattle.morris_probe.proofs.ProbingLaws.{lost_with_two}
 use Rattle.morris_lookup.specs.declared.outcomes.Outcome.{Outcome}
 use Rattle.morris_lookup.specs.Lookups.{code_for, depth_of}
 use Rattle.morris_lookup.specs.Opening.{OpenFile, open_file, IsOpen, framed_in}
-use Rattle.morris_lookup.specs.Outcomes.{turned}
+use Rattle.morris_lookup.specs.Outcomes.{best_among, same_value, turned}
 use Rattle.morris_lookup.proofs.FileLookups.{exact_code}
 use Rattle.morris_lookup.proofs.OpeningLaws.{framed_file}
+use Rattle.morris_lookup.proofs.OutcomeLaws.{best_right, first_some, same_itself}
 use Rattle.morris_files.specs.Files.{Files}
 use Rattle.morris_files.specs.Names.{name_of}
 use Rattle.morris_jobs.specs.declared.fault.Fault.{Fault}
@@ -44,10 +43,10 @@ use Rattle.morris_queries.specs.Answers.{IsExactAnswer}
 use Rattle.morris_queries.specs.Exactness.{AreExactIn, AreExactNear, AreExactWithin, IsExactAt, IsExactBytes, IsExactFor, LeadsTo, IsBestLine, HasLine, IsGame}
 use Rattle.morris_queries.specs.declared.show.Show.{Show}
 use Rattle.morris_queries.specs.declared.show.Show.TheVariants as show
-use Rattle.morris_queries.specs.Telling.{followed, with_first, Agrees, Played, played, Telling, telling, best_among, same_value, same_counts, framed_as, value_from, outcome, told_from, told_of, told_line, told_shown, shown_line, told_value, told_outcome, told_outcomes, value_at, opened_as, table_in, stated_in}
+use Rattle.morris_queries.specs.Telling.{followed, with_first, Agrees, Played, played, Telling, telling, same_counts, framed_as, value_from, outcome, told_from, told_of, told_line, told_shown, shown_line, told_value, told_outcome, told_outcomes, value_at, opened_as, table_in, stated_in}
 use Rattle.morris_queries.proofs.OpenLaws.{framed_found}
-use Rattle.morris_queries.proofs.AgreeLaws.{best-turned, follows, same_itself}
-use Rattle.morris_queries.proofs.TellingLaws.{agreed, first_there, from_same, from_told}
+use Rattle.morris_queries.proofs.AgreeLaws.{follows}
+use Rattle.morris_queries.proofs.TellingLaws.{agreed, from_same, from_told}
 
 -- ---- the pair of a position
 
@@ -230,16 +229,7 @@ module _ (board : Shape) (name : List ℕ) (files : Files) where
     where
       read_never : (refusal : ReadFault) → read_fault refusal ≡ fault.Disagree → ⊥
       read_never read.Short e = cc
-      read_never read.Magic e = cc
-      read_never read.Version e = cc
-      read_never read.BoardId e = cc
-      read_never read.Counts e = cc
-      read_never read.Crowded e = cc
-      read_never read.Count e = cc
-      read_never read.Digest e = cc
-      read_never read.Trailing e = cc
-      read_never read.Read e = cc
-      read_never read.Memory e = cc
+      read_never _ e = cc
 
       framed : (c : Counts) (bytes : List ℕ) (r : Result (Layout × Counts) ReadFault)
           → followed (framed_as c bytes r) (λ file. Ok (stated_in board s file)) ≡ Err fault.Disagree → ⊥
@@ -268,57 +258,6 @@ module _ (board : Shape) (name : List ℕ) (files : Files) where
       from others (Ok value) found (Ok ps) rest e = cc
       from others (Ok value) found (Err refused) rest e = others (rest ∙ e)
       from others (Err refused) found q rest e = let is : refused ≡ fault.Disagree = cc in value_never (result_of s m) (found ∙ ap (λ f. Err f) is)
-
--- ---- best moves
-
-turned-best : (found next : Value) → turned next ≡ found → after_best found ≡ Some next
-turned-best found Draw e = subst (λ v. after_best v ≡ Some Draw) e refl
-turned-best found (Won depth) e = subst (λ v. after_best v ≡ Some (Won depth)) e refl
-turned-best found (Lost depth) e = subst (λ v. after_best v ≡ Some (Lost depth)) e refl
-
-same_true : (v w : Value) → same_value v w ≡ true → v ≡ w
-same_true Draw Draw e = refl
-same_true (Won a) (Won b) e = ap (λ n. Won n) (eqb-true a b e)
-same_true (Lost a) (Lost b) e = ap (λ n. Lost n) (eqb-true a b e)
-same_true Draw (Won b) e = cc
-same_true Draw (Lost b) e = cc
-same_true (Won a) Draw e = cc
-same_true (Won a) (Lost b) e = cc
-same_true (Lost a) Draw e = cc
-same_true (Lost a) (Won b) e = cc
-
-module _ (board : Shape) (s : Sides) (value : Value) where
-  abbrev steps : List Outcome → List Move
-  steps os = map (λ (o : Outcome). o.step) os
-
-  best_from : (seen best : List Move) (os : List Outcome) → AreBestOf board s value seen best → AllPairs Precedes (seen ++ steps os)
-      → ((o : Outcome) → Contains os o → LeadsTo board s o) → AreBestOf board s value (seen ++ steps os) (best ++ best_among value os)
-  best_from seen best [] so_far order lead = subst (λ b. AreBestOf board s value (seen ++ []) b) (sym (append-nil best)) (subst (λ m. AreBestOf board s value m best) (sym (append-nil seen)) so_far)
-  best_from seen best (o ∷ os) so_far order lead = elim (cases_Bool (same_value o.value value)) [
-    | inl alike ↦
-        let here = lead o (Contains-head o os) in
-        let on : LeadsOn board s value o.step = (here.0, turned-best value here.0 (sym here.2 ∙ same_true o.value value alike), here.1) in
-        let next : AreBestOf board s value ((seen ++ o.step ∷ []) ++ steps os) ((best ++ o.step ∷ []) ++ best_among value os) =
-        best_from (seen ++ o.step ∷ []) (best ++ o.step ∷ []) os (best_more board s value seen (steps os) best o.step so_far order on)
-        (subst (AllPairs Precedes) (sym (append_assoc seen (o.step ∷ []) (steps os))) order) (λ p c. lead p (Contains-tail o os p c)) in
-        rw alike (subst (AreBestOf board s value (seen ++ o.step ∷ steps os)) (append_assoc best (o.step ∷ []) (best_among value os))
-        (subst (λ m. AreBestOf board s value m ((best ++ o.step ∷ []) ++ best_among value os)) (append_assoc seen (o.step ∷ []) (steps os)) next))
-    | inr apart ↦
-        let here = lead o (Contains-head o os) in
-        let off : LeadsOn board s value o.step → ⊥ =
-        leads_off board s value o.step here.0 here.1 (λ e. both_ways (same_value o.value value) apart
-        (subst (λ v. same_value v value ≡ true) (sym (here.2 ∙ best-turned value here.0 e)) (same_itself value))) in
-        let next : AreBestOf board s value ((seen ++ o.step ∷ []) ++ steps os) (best ++ best_among value os) =
-        best_from (seen ++ o.step ∷ []) best os (best_same board s value seen (steps os) best o.step so_far off)
-        (subst (AllPairs Precedes) (sym (append_assoc seen (o.step ∷ []) (steps os))) order) (λ p c. lead p (Contains-tail o os p c)) in
-        rw apart (subst (λ m. AreBestOf board s value m (best ++ best_among value os)) (append_assoc seen (o.step ∷ []) (steps os)) next)
-  ]
-
-  pub best_right : (os : List Outcome) → steps os ≡ moves_of board s → ((o : Outcome) → Contains os o → LeadsTo board s o) → IsValue board s value
-      → AreBestOf board s value (moves_of board s) (best_among value os)
-  best_right os listed lead here =
-      subst (λ ms. AreBestOf board s value ms (best_among value os)) listed
-      (best_from [] [] os (best_none board s value) (subst (AllPairs Precedes) (sym listed) (moves_in_order board s)) lead)
 
 -- ---- a position and its line
 
@@ -398,7 +337,7 @@ module _ (board : Shape) (few : board.points ≤ 24) (y : HasSymmetries board) (
       step : GoesOn k → (m : Move) → Some m ≡ slice_get t.best 0 → (u : Telling) → told_of board name files (result_of s m) ≡ Ok u → (rest : List Played)
           → told_line board name files k (result_of s m) (slice_get u.best 0) ≡ Ok rest → IsBestLine board s t.value (played m (result_of s m) u.value ∷ rest)
       step on m first u next rest goes =
-          let there = (right.best.each m).0 (first_there t.best m first) in
+          let there = (right.best.each m).0 (first_some t.best m first) in
           let leads : LeadsOn board s t.value m = there.1 in
           let after : IsPosition board (result_of s m) = result-position board few s position m there.0 in
           let own = told_right (result_of s m) after (near_of k (result_of s m) (exact.1 m there.0)) u next in
@@ -459,14 +398,10 @@ module _ (board : Shape) (few : board.points ≤ 24) (y : HasSymmetries board) (
 
       from : (kind : Show) → AreExactIn board name files kind s → (r : Result Telling Fault) → told_of board name files s ≡ r
           → followed r (λ u. followed (shown_line board name files kind u s) (λ line. Ok (telling u.value u.best u.outcomes line))) ≡ Ok t → IsGame board kind s t
-      from show.Best exact (Ok u) found e = let same : telling u.value u.best u.outcomes [] ≡ t = cc in with_line show.Best exact u found [] refl same
-      from show.Moves exact (Ok u) found e = let same : telling u.value u.best u.outcomes [] ≡ t = cc in with_line show.Moves exact u found [] refl same
-      from show.Csv exact (Ok u) found e = let same : telling u.value u.best u.outcomes [] ≡ t = cc in with_line show.Csv exact u found [] refl same
       from show.Line exact (Ok u) found e = lined exact u found (told_line board name files (depth_of u.value) s (slice_get u.best 0)) refl e
-      from show.Best exact (Err refused) found e = cc
-      from show.Moves exact (Err refused) found e = cc
-      from show.Csv exact (Err refused) found e = cc
       from show.Line exact (Err refused) found e = cc
+      from kind exact (Ok u) found e = let same : telling u.value u.best u.outcomes [] ≡ t = cc in with_line kind exact u found [] refl same
+      from kind exact (Err refused) found e = cc
 
   -- ---- the files don't disagree
 
@@ -520,7 +455,7 @@ module _ (board : Shape) (few : board.points ≤ 24) (y : HasSymmetries board) (
           followed (told_line board name files k (result_of s m) (slice_get u.best 0)) (λ rest. Ok (played m (result_of s m) u.value ∷ rest)))) ≡ Err fault.Disagree → ⊥
       at_first on None first e = cc
       at_first on (Some m) first e =
-          let listed = (((told_right s position exact.0 t found).best.each m).0 (first_there t.best m first)).0 in
+          let listed = (((told_right s position exact.0 t found).best.each m).0 (first_some t.best m first)).0 in
           next_of on m (result-position board few s position m listed) (exact.1 m listed) (told_of board name files (result_of s m)) refl e
 
   never_shown : (what : Show) (s : Sides) → IsPosition board s → AreExactIn board name files what s → told_shown board name files what s ≡ Err fault.Disagree → ⊥
@@ -536,14 +471,10 @@ module _ (board : Shape) (few : board.points ≤ 24) (y : HasSymmetries board) (
 
       from : (kind : Show) → AreExactIn board name files kind s → (r : Result Telling Fault) → told_of board name files s ≡ r
           → followed r (λ u. followed (shown_line board name files kind u s) (λ line. Ok (telling u.value u.best u.outcomes line))) ≡ Err fault.Disagree → ⊥
-      from show.Best exact (Ok u) found e = cc
-      from show.Moves exact (Ok u) found e = cc
-      from show.Csv exact (Ok u) found e = cc
       from show.Line exact (Ok u) found e = lined exact u found (told_line board name files (depth_of u.value) s (slice_get u.best 0)) refl e
-      from show.Best exact (Err refused) found e = never_told s position exact (found ∙ e)
-      from show.Moves exact (Err refused) found e = never_told s position exact (found ∙ e)
-      from show.Csv exact (Err refused) found e = never_told s position exact (found ∙ e)
       from show.Line exact (Err refused) found e = never_told s position (near_of 0 s (exact 0)) (found ∙ e)
+      from _ exact (Ok u) found e = cc
+      from _ exact (Err refused) found e = never_told s position exact (found ∙ e)
 
   pub game_told : (what : Show) (s : Sides) → IsPosition board s → AreExactIn board name files what s → (answer : Result Telling Fault) → Agrees answer (told_shown board name files what s) → IsExactAnswer board what s answer
   game_told what s position right (Ok t) h = game_of what s position right t (agreed t (told_shown board name files what s) h)

@@ -8,13 +8,13 @@ use Rattle.std.proofs.lemmas.Bool.{cases_lt, lt-leb, ne_eqb}
 use Rattle.std.proofs.lemmas.List.{length-take, take-append-le, take-take, take_all, take_min, take_more}
 use Rattle.morris_board.specs.Boards.{Shape}
 use Rattle.morris_board.specs.Positions.{read_of}
-use Rattle.morris_board.specs.declared.faults.TextFault.TheVariants as fault
+use Rattle.morris_board.specs.declared.faults.TextFault.TheVariants as unread
 use Rattle.morris_moves.specs.MoveText.{move_text}
 use Rattle.morris_lookup.specs.declared.outcomes.Outcome.{Outcome}
 use Rattle.morris_files.specs.Files.{Files}
 use Rattle.morris_queries.specs.declared.answer.Answered.{Answered}
-use Rattle.morris_queries.specs.declared.fault.QueryFault.{QueryFault}
-use Rattle.morris_queries.specs.declared.fault.QueryFault.TheVariants as query
+use Rattle.morris_jobs.specs.declared.fault.Fault.{Fault}
+use Rattle.morris_jobs.specs.declared.fault.Fault.TheVariants as fault
 use Rattle.morris_queries.specs.declared.show.Show.{Show}
 use Rattle.morris_queries.specs.declared.show.Show.TheVariants as show
 use Rattle.morris_queries.specs.declared.texts.Tally.{Tally}
@@ -38,7 +38,7 @@ module _ (board : Shape) (few : board.points ≤ 24) (k t : List ℕ) (start : t
         inl (sym (take_all 25 k (omega (arith, short))) ∙ (start ∙ take_all 25 t (omega (arith, also))))
   ]
 
-  read_long : (u : List ℕ) → 24 < length u → read_of board u ≡ Err fault.Length
+  read_long : (u : List ℕ) → 24 < length u → read_of board u ≡ Err unread.Length
   read_long u long =
       let other : nat_eq (length u) board.points ≡ false = ne_eqb _ _ (λ e. omega (arith, few, long, e)) in
       rw other refl
@@ -65,10 +65,8 @@ module _ (board : Shape) (few : board.points ≤ 24) (k t : List ℕ) (start : t
 
   told_same : (show : Show) (told : Telling) → told_text board show k told ≡ told_text board show t told
   unfolding told_text first_line csv_line
-  told_same show.Best told = rw shown_same refl
-  told_same show.Moves told = rw shown_same refl
-  told_same show.Line told = rw shown_same refl
   told_same show.Csv told = ap (λ shown. flat_map (λ (o : Outcome). shown ++ codes "," ++ move_text o.step ++ csv_value o.value) told.outcomes) shown_same
+  told_same _ told = rw shown_same refl
 
   answer_same : (show : Show) (answer : Answer) → answer_text board show k answer ≡ answer_text board show t answer
   answer_same show (Ok told) = told_same show told
@@ -146,36 +144,33 @@ module _ (board : Shape) (name : List ℕ) (known : Option Files) (show : Show) 
 
   -- a part of the answers to some texts went out
   part_stops : (texts : List (List ℕ)) (old new : Option (List ℕ)) (sent : ℕ) → ArePartOut board name known show texts old new sent
-      → StopsIn board name known show texts old new (query.Write sent)
+      → StopsIn board name known show texts old new (fault.Write sent)
   part_stops texts old new sent part =
       (length texts, part.0, subst (λ ts. AreGiven board name known show ts part.0) (sym (take_all (length texts) texts (omega arith))) part.1, part.2)
 
-  pub feed_stops : (read : List ℕ) (old mid new : Option (List ℕ)) (line : List ℕ) (before after : Tally) (answered : Result Answered ℕ) (refusal : QueryFault)
+  pub feed_stops : (read : List ℕ) (old mid new : Option (List ℕ)) (line : List ℕ) (before after : Tally) (answered : Result Answered ℕ) (refusal : Fault)
       → is_passed_over (text_in line) ≡ false
       → ((whole : List ℕ) → line ≡ take 26 whole → AnswersText board name known show (text_in whole) mid new answered)
       → IsTallied before after answered (Err refusal) → ReadTo read old mid line before
       → StopsIn board name known show (texts_ended (read ++ 10 ∷ [])) old new refusal
   feed_stops read old mid new line before after (Ok done) refusal asked answers tallied h = let no : Err refusal ≡ Ok tt = tallied.0 in cc
   feed_stops read old mid new line before after (Err sent) refusal asked answers tallied h =
-      let is : query.Write (counted_to (before.sent + sent)) ≡ refusal = cc in
+      let is : fault.Write (counted_to (before.sent + sent)) ≡ refusal = cc in
       let part = out_failed board name known show (texts_ended read) (text_in (begun_after [] read)) old mid new before sent h.out (answers (begun_after [] read) h.kept) in
       let stops = part_stops (texts_ended read ++ text_in (begun_after [] read) ∷ []) old new (counted_to (before.sent + sent)) part in
       subst (λ ts. StopsIn board name known show ts old new refusal) (sym (texts_ended-feed read (begun_passed read line false h.kept asked)))
       (subst (StopsIn board name known show (texts_ended read ++ text_in (begun_after [] read) ∷ []) old new) is stops)
 
   -- what stopped among some texts stopped among more
-  stops_longer : (texts more : List (List ℕ)) (old new : Option (List ℕ)) (refusal : QueryFault) → StopsIn board name known show texts old new refusal
+  stops_longer : (texts more : List (List ℕ)) (old new : Option (List ℕ)) (refusal : Fault) → StopsIn board name known show texts old new refusal
       → StopsIn board name known show (texts ++ more) old new refusal
-  stops_longer texts more old new (query.Write sent) h =
+  stops_longer texts more old new (fault.Write sent) h =
       let low : min h.0 (length texts) ≤ length texts = omega arith in
       let same : take h.0 texts ≡ take (min h.0 (length texts)) (texts ++ more) = sym (take-append-le _ texts more low ∙ take_min h.0 texts) in
       (min h.0 (length texts), h.1, subst (λ ts. AreGiven board name known show ts h.1) same h.2, h.3)
-  stops_longer texts more old new query.Board h = absurd h
-  stops_longer texts more old new query.NoFolder h = absurd h
-  stops_longer texts more old new query.Memory h = absurd h
-  stops_longer texts more old new query.Read h = absurd h
+  stops_longer texts more old new _ h = absurd h
 
-  pub stops_later : (read more : List ℕ) (old new : Option (List ℕ)) (refusal : QueryFault) → StopsIn board name known show (texts_ended read) old new refusal
+  pub stops_later : (read more : List ℕ) (old new : Option (List ℕ)) (refusal : Fault) → StopsIn board name known show (texts_ended read) old new refusal
       → StopsIn board name known show (texts_ended (read ++ more)) old new refusal
   stops_later read more old new refusal h =
       subst (λ ts. StopsIn board name known show ts old new refusal) (sym (texts_ended-append read more))
@@ -190,33 +185,29 @@ module _ (board : Shape) (name : List ℕ) (known : Option Files) (show : Show) 
 
   -- ---- the answer to the whole input
 
-  pub lines_stopped : (before mid after : Option (List ℕ)) (old new : Option (List ℕ)) (read more : List ℕ) (refusal : QueryFault) → Consumes before mid read → Consumes mid after more
+  pub lines_stopped : (before mid after : Option (List ℕ)) (old new : Option (List ℕ)) (read more : List ℕ) (refusal : Fault) → Consumes before mid read → Consumes mid after more
       → StopsIn board name known show (texts_ended (read ++ more)) old new refusal → AnswersLines board name known show before after old new (Err refusal)
-  lines_stopped before mid after old new read more (query.Write sent) got next stops =
-      (read ++ more, Consumes-trans before mid after read more got next, stops_later (read ++ more) (10 ∷ []) old new (query.Write sent) stops)
-  lines_stopped before mid after old new read more query.Board got next stops = absurd stops
-  lines_stopped before mid after old new read more query.NoFolder got next stops = absurd stops
-  lines_stopped before mid after old new read more query.Memory got next stops = absurd stops
-  lines_stopped before mid after old new read more query.Read got next stops = absurd stops
+  lines_stopped before mid after old new read more (fault.Write sent) got next stops =
+      (read ++ more, Consumes-trans before mid after read more got next, stops_later (read ++ more) (10 ∷ []) old new (fault.Write sent) stops)
+  lines_stopped before mid after old new read more _ got next stops = absurd stops
 
   pub lines_unread : (before mid after : Option (List ℕ)) (old new : Option (List ℕ)) (read line : List ℕ) (tally : Tally) → Consumes before mid read → Keeps mid after
-      → ReadTo read old new line tally → AnswersLines board name known show before after old new (Err query.Read)
+      → ReadTo read old new line tally → AnswersLines board name known show before after old new (Err fault.Read)
   lines_unread before mid after old new read line tally got kept here =
       (read, Consumes-kept before mid after read got kept, (tally.refused, all_out (texts_ended read) old new tally here.out))
 
   -- ---- where the place of the files was found
 
-  pub lines_found : (before after old new : Option (List ℕ)) (result : Result ℕ QueryFault) → AnswersLines board name known show before after old new result
+  pub lines_found : (before after old new : Option (List ℕ)) (result : Result ℕ Fault) → AnswersLines board name known show before after old new result
       → AnswersFound board name known show before after old new result
   lines_found before after old new (Ok refused) h = h
-  lines_found before after old new (Err query.Read) h = h
-  lines_found before after old new (Err (query.Write sent)) h = h
-  lines_found before after old new (Err query.Memory) h = h
-  lines_found before after old new (Err query.Board) h = absurd h
-  lines_found before after old new (Err query.NoFolder) h = absurd h
+  lines_found before after old new (Err fault.Read) h = h
+  lines_found before after old new (Err (fault.Write sent)) h = h
+  lines_found before after old new (Err fault.Memory) h = h
+  lines_found before after old new (Err _) h = absurd h
 
   -- it isn't the answer that there is none
-  pub found_then : (before after old new : Option (List ℕ)) (result : Result ℕ QueryFault) → result ≡ Err query.NoFolder
+  pub found_then : (before after old new : Option (List ℕ)) (result : Result ℕ Fault) → result ≡ Err fault.NoFolder
       → AnswersLines board name known show before after old new result → ⊥
   found_then before after old new result e h = subst (AnswersLines board name known show before after old new) e h
 

@@ -14,6 +14,7 @@ use Rattle.morris_pairs.specs.Codes.{value_in}
 use Rattle.morris_lookup.specs.FileSets.{Files as OpenFiles, file_for, said_of, said_at, said_by, said_in, missing_file, without_file}
 use Rattle.morris_lookup.specs.Lookups.{code_for}
 use Rattle.morris_lookup.specs.Opening.{OpenFile, open_file, framed_in, IsFramingRefusal, IsOpen}
+use Rattle.morris_lookup.proofs.OpeningLaws.{at_bytes}
 use Rattle.morris_files.specs.Files.{Files}
 use Rattle.morris_files.specs.Names.{name_of}
 use Rattle.morris_jobs.specs.declared.fault.Fault.{Fault}
@@ -44,19 +45,14 @@ module _ (board : Shape) (c : Counts) where
   framed_found layout pair bytes is framed =
       rw (framed, counts_alike pair c is) (ap (λ p. Ok (open_file layout p (Some bytes) (Some bytes))) (sym is))
 
-  framed_at : (o : Option (List ℕ)) (file : OpenFile) (bytes : List ℕ) → o ≡ Some bytes → IfSome o (λ b. framed_in board b ≡ Ok (file.layout, file.pair))
-      → framed_in board bytes ≡ Ok (file.layout, file.pair)
-  framed_at None file bytes e h = cc
-  framed_at (Some b) file bytes e h = let same : b ≡ bytes = cc in subst (λ x. framed_in board x ≡ Ok (file.layout, file.pair)) same h
-
   -- a file that was opened is the one that is to be opened
   pub found_agrees : {F : Type 0} (contents : F → Option (List ℕ)) (stored : Option (List ℕ)) (found : F) (file : OpenFile) → file.pair ≡ c
       → file.bytes ≡ contents found → IsOpen board file → IsFound contents stored (Some found) → opened_as board c stored ≡ Ok file
   found_agrees contents stored found file pair known right_file there =
       let bytes : List ℕ = there.0 in
       let have : file.bytes ≡ Some bytes = known ∙ there.2 in
-      let held : file.held ≡ Some bytes = subst (λ o. IfSome o (λ b. file.held ≡ Some b)) have right_file.kept in
-      let right : framed_in board bytes ≡ Ok (file.layout, file.pair) = framed_at file.held file bytes held right_file.framed in
+      let held : file.held ≡ Some bytes = at_bytes (λ b. file.held ≡ Some b) file.bytes bytes have right_file.kept in
+      let right : framed_in board bytes ≡ Ok (file.layout, file.pair) = at_bytes (λ b. framed_in board b ≡ Ok (file.layout, file.pair)) file.held bytes held right_file.framed in
       ap (opened_as board c) there.1 ∙ framed_found file.layout file.pair bytes pair right ∙ ap₂ (λ b h. Ok (open_file file.layout file.pair b h)) (sym have) (sym held)
 
   -- nothing was found
@@ -70,19 +66,7 @@ module _ (board : Shape) (c : Counts) where
   unframed : (bytes : List ℕ) (refusal : ReadFault) → IsFramingRefusal board bytes refusal → Agrees (Err (read_fault refusal)) (opened_as board c (Some bytes))
   unframed bytes read.Memory h = inr refl
   unframed bytes read.Read h = absurd h
-  unframed bytes read.Short h = inl (framing_refused bytes read.Short h)
-  unframed bytes read.Magic h = inl (framing_refused bytes read.Magic h)
-  unframed bytes read.Version h = inl (framing_refused bytes read.Version h)
-  unframed bytes read.BoardId h = inl (framing_refused bytes read.BoardId h)
-  unframed bytes read.Counts h = inl (framing_refused bytes read.Counts h)
-  unframed bytes read.Crowded h = inl (framing_refused bytes read.Crowded h)
-  unframed bytes read.Count h = inl (framing_refused bytes read.Count h)
-  unframed bytes read.Digest h = inl (framing_refused bytes read.Digest h)
-  unframed bytes read.Trailing h = inl (framing_refused bytes read.Trailing h)
-
-  at_bytes : (P : List ℕ → Type 0) (o : Option (List ℕ)) (bytes : List ℕ) → o ≡ Some bytes → IfSome o P → P bytes
-  at_bytes P None bytes e h = cc
-  at_bytes P (Some b) bytes e h = let same : b ≡ bytes = cc in subst P same h
+  unframed bytes refusal h = inl (framing_refused bytes refusal h)
 
   pub refused_agrees : {F : Type 0} (contents : F → Option (List ℕ)) (stored : Option (List ℕ)) (found : F) (refusal : ReadFault) → IsFound contents stored (Some found)
       → IfSome (contents found) (λ bytes. IsFramingRefusal board bytes refusal) → Agrees (Err (read_fault refusal)) (opened_as board c stored)

@@ -5,8 +5,8 @@ use Rattle.std.proofs.KnownBytes.{Consumes-trans}
 use Rattle.std.proofs.Common.{append-nil, subst}
 use Rattle.morris_board.specs.Boards.{Shape}
 use Rattle.morris_files.specs.Files.{Files}
-use Rattle.morris_queries.specs.declared.fault.QueryFault.{QueryFault}
-use Rattle.morris_queries.specs.declared.fault.QueryFault.TheVariants as query
+use Rattle.morris_jobs.specs.declared.fault.Fault.{Fault}
+use Rattle.morris_jobs.specs.declared.fault.Fault.TheVariants as fault
 use Rattle.morris_queries.specs.declared.lines.Reading.{Reading}
 use Rattle.morris_queries.specs.declared.show.Show.{Show}
 use Rattle.morris_queries.specs.LineAnswers.{AnswersLines, CountsReads, StopsIn}
@@ -26,35 +26,26 @@ module _ {B L O F : Type 0} (board : Shape) (files_of : L → Option Files) wher
 
   module _ (contents : O → Option (List ℕ)) (name : List ℕ) (known : Option Files) (before mid after start : Option (List ℕ)) (read : List ℕ) (old new : Reading B L O F) where
     -- the input is at its end
-    pub reading_ended : (result : Result ℕ QueryFault) → Consumes before mid read → Consumes mid after [] → IsAtEnd after → Stands board files_of contents name known start read old
+    pub reading_ended : (result : Result ℕ Fault) → Consumes before mid read → Consumes mid after [] → IsAtEnd after → Stands board files_of contents name known start read old
         → Ends board files_of contents old new result → AnswersLines board name known old.show before after start (contents new.output.now) result
     reading_ended (Ok refused) got nothing end here ended =
         (read, subst (Consumes before after) (append-nil read) (Consumes-trans before mid after read [] got nothing), end, ended name known start read here)
-    reading_ended (Err (query.Write sent)) got nothing end here ended =
+    reading_ended (Err (fault.Write sent)) got nothing end here ended =
         (read, subst (Consumes before after) (append-nil read) (Consumes-trans before mid after read [] got nothing), ended name known start read here)
-    reading_ended (Err query.Board) got nothing end here ended = absurd (ended name known start read here)
-    reading_ended (Err query.NoFolder) got nothing end here ended = absurd (ended name known start read here)
-    reading_ended (Err query.Memory) got nothing end here ended = absurd (ended name known start read here)
-    reading_ended (Err query.Read) got nothing end here ended = absurd (ended name known start read here)
+    reading_ended (Err _) got nothing end here ended = absurd (ended name known start read here)
 
     -- and no read of it failed
-    pub ended_reads : (result : Result ℕ QueryFault) → Stands board files_of contents name known start read old → Ends board files_of contents old new result
+    pub ended_reads : (result : Result ℕ Fault) → Stands board files_of contents name known start read old → Ends board files_of contents old new result
         → (failed now : ℕ) → now ≡ failed → CountsReads before after failed now result
     ended_reads (Ok refused) here ended failed now same = same
-    ended_reads (Err (query.Write sent)) here ended failed now same = same
-    ended_reads (Err query.Board) here ended failed now same = absurd (ended name known start read here)
-    ended_reads (Err query.NoFolder) here ended failed now same = absurd (ended name known start read here)
-    ended_reads (Err query.Memory) here ended failed now same = absurd (ended name known start read here)
-    ended_reads (Err query.Read) here ended failed now same = absurd (ended name known start read here)
+    ended_reads (Err (fault.Write sent)) here ended failed now same = same
+    ended_reads (Err _) here ended failed now same = absurd (ended name known start read here)
 
 -- a write that stops it is no read
 pub stopped_reads : (board : Shape) (name : List ℕ) (known : Option Files) (show : Show) (texts : List (List ℕ)) (start out before after : Option (List ℕ))
-    (refusal : QueryFault) → StopsIn board name known show texts start out refusal → (failed now : ℕ) → now ≡ failed
+    (refusal : Fault) → StopsIn board name known show texts start out refusal → (failed now : ℕ) → now ≡ failed
     → CountsReads {T = ℕ} before after failed now (Err refusal)
-stopped_reads board name known show texts start out before after (query.Write sent) stops failed now same = same
-stopped_reads board name known show texts start out before after query.Board stops failed now same = absurd stops
-stopped_reads board name known show texts start out before after query.NoFolder stops failed now same = absurd stops
-stopped_reads board name known show texts start out before after query.Memory stops failed now same = absurd stops
-stopped_reads board name known show texts start out before after query.Read stops failed now same = absurd stops
+stopped_reads board name known show texts start out before after (fault.Write sent) stops failed now same = same
+stopped_reads board name known show texts start out before after _ stops failed now same = absurd stops
 
 pub ruleset reading_laws = (reading_here, reading_on)

@@ -10,12 +10,13 @@ use Rattle.morris_moves.specs.declared.step.Move.{Move}
 use Rattle.morris_moves.specs.Rules.{moves_of, result_of}
 use Rattle.morris_moves.proofs.ListLaws.{Contains-head, Contains-tail, Contains-cons_cases}
 use Rattle.morris_pairs.specs.declared.value.Value.{Value}
+use Rattle.morris_lookup.proofs.OutcomeLaws.{first_some}
 use Rattle.morris_lookup.specs.declared.outcomes.Outcome.{Outcome}
 use Rattle.morris_lookup.specs.Lookups.{depth_of}
-use Rattle.morris_lookup.specs.Outcomes.{turned}
+use Rattle.morris_lookup.specs.Outcomes.{best_among, same_value, turned}
 use Rattle.morris_jobs.specs.declared.fault.Fault.{Fault}
 use Rattle.morris_jobs.specs.declared.fault.Fault.TheVariants as fault
-use Rattle.morris_queries.specs.Telling.{followed, Agrees, IsRefusal, IsListed, Played, played, Telling, telling, outcome, best_among, same_value, value_from, told_from, told_value, told_outcome, told_outcomes, told_of, told_line, shown_line, told_shown}
+use Rattle.morris_queries.specs.Telling.{followed, Agrees, IsRefusal, IsListed, Played, played, Telling, telling, outcome, value_from, told_from, told_value, told_outcome, told_outcomes, told_of, told_line, shown_line, told_shown}
 use Rattle.morris_queries.specs.declared.show.Show.{Show}
 use Rattle.morris_queries.specs.declared.show.Show.TheVariants as show
 
@@ -177,10 +178,6 @@ best_listed value (o ∷ os) m c = elim (cases_Bool (same_value o.value value)) 
       Contains-tail o.step (map (λ (p : Outcome). p.step) os) m (best_listed value os m there)
 ]
 
-pub first_there : (moves : List Move) (m : Move) → Some m ≡ slice_get moves 0 → Contains moves m
-first_there [] m e = cc
-first_there (x ∷ moves) m e = let same : x ≡ m = cc in subst (Contains (x ∷ moves)) same (Contains-head x moves)
-
 -- the first best move, if there is one, is legal
 pub first_legal : (board : Shape) (s : Sides) (t : Telling) → IsListed board s t → IfSome (slice_get t.best 0) (Contains (moves_of board s))
 first_legal board s t listed = from (slice_get t.best 0) refl
@@ -188,7 +185,7 @@ first_legal board s t listed = from (slice_get t.best 0) refl
     from : (o : Option Move) → o ≡ slice_get t.best 0 → IfSome o (Contains (moves_of board s))
     from None e = tt
     from (Some m) e =
-        let there : Contains (best_among t.value t.outcomes) m = subst (λ ms. Contains ms m) listed.best (first_there t.best m e) in
+        let there : Contains (best_among t.value t.outcomes) m = subst (λ ms. Contains ms m) listed.best (first_some t.best m e) in
         subst (λ ms. Contains ms m) listed.legal (best_listed t.value t.outcomes m there)
 
 -- ---- the line of play
@@ -267,10 +264,8 @@ module _ (board : Shape) (name : List ℕ) (files : Files) (s : Sides) where
       ∙ ap (λ r. followed r (λ l. Ok (telling t.value t.best t.outcomes l))) goes
 
   none_shown : (what : Show) (t : Telling) → (what ≡ show.Line → ⊥) → shown_line board name files what t s ≡ Ok []
-  none_shown show.Best t other = refl
-  none_shown show.Moves t other = refl
-  none_shown show.Csv t other = refl
   none_shown show.Line t other = absurd (other refl)
+  none_shown _ t other = refl
 
   pub shown_without : (what : Show) (t : Telling) → (what ≡ show.Line → ⊥) → told_of board name files s ≡ Ok t → told_shown board name files what s ≡ Ok t
   unfolding told_shown

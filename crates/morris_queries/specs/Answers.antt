@@ -11,8 +11,6 @@ use Rattle.morris_jobs.specs.declared.fault.Fault.TheVariants as fault
 use Rattle.morris_jobs.specs.Faults.{text_fault}
 use Rattle.morris_queries.specs.declared.answer.Answered.{Answered}
 use Rattle.morris_queries.specs.declared.texts.Tally.{Tally}
-use Rattle.morris_queries.specs.declared.fault.QueryFault.{QueryFault}
-use Rattle.morris_queries.specs.declared.fault.QueryFault.TheVariants as query
 use Rattle.morris_queries.specs.declared.show.Show.{Show}
 use Rattle.morris_queries.specs.Telling.{Telling, Agrees, IsListed, told_text}
 use Rattle.morris_queries.specs.Exactness.{AreExactIn, IsGame}
@@ -95,33 +93,26 @@ ArePartOut board name known show texts old new sent = (given : Given) × AreGive
 
 -- What is counted after the next text: the bytes that went out, and whether it was a fault; or the
 -- bytes that went out until a write failed.
-abbrev pub IsTallied : Tally → Tally → Result Answered ℕ → Result (Unit {0}) QueryFault → Type 0
+abbrev pub IsTallied : Tally → Tally → Result Answered ℕ → Result (Unit {0}) Fault → Type 0
 IsTallied old new (Ok done) result =
     (result ≡ Ok tt) × (new.sent ≡ counted_to (old.sent + done.sent))
     × (new.refused ≡ counted_to (old.refused + (if done.is_refused then 1 else 0)))
-IsTallied old new (Err sent) result = result ≡ Err (query.Write (counted_to (old.sent + sent)))
-
--- one failed write was counted where the answer is that a write failed, and none where it is
--- another
-abbrev pub CountsWrites : {T : Type 0} → ℕ → ℕ → Result T QueryFault → Type 0
-CountsWrites old new (Ok done) = new ≡ old
-CountsWrites old new (Err (query.Write sent)) = new ≡ old + 1
-CountsWrites old new (Err _) = new ≡ old
+IsTallied old new (Err sent) result = result ≡ Err (fault.Write (counted_to (old.sent + sent)))
 
 -- What the call for a list of texts answers: how many were answered by a fault, where all answers
 -- went out; a write that failed, of the answers to the first texts; or, before anything went out,
 -- that there is no such folder, where its files aren't known, or want of memory.
-abbrev pub AnswersTexts : Shape → List ℕ → Option Files → Show → List (List ℕ) → Option (List ℕ) → Option (List ℕ) → Result ℕ QueryFault → Type 0
+abbrev pub AnswersTexts : Shape → List ℕ → Option Files → Show → List (List ℕ) → Option (List ℕ) → Option (List ℕ) → Result ℕ Fault → Type 0
 AnswersTexts board name known show texts old new (Ok refused) =
     (given : Given) × AreGiven board name known show texts given × Appends old new (printed_of board show given) × (refused ≡ counted_to (refused_in given))
-AnswersTexts board name known show texts old new (Err (query.Write sent)) =
+AnswersTexts board name known show texts old new (Err (fault.Write sent)) =
     (n : ℕ) × (given : Given) × AreGiven board name known show (take n texts) given × WentIn old new (printed_of board show given) sent
-AnswersTexts board name known show texts old new (Err query.NoFolder) = (known ≡ None) × Keeps old new
-AnswersTexts board name known show texts old new (Err query.Memory) = Keeps old new
+AnswersTexts board name known show texts old new (Err fault.NoFolder) = (known ≡ None) × Keeps old new
+AnswersTexts board name known show texts old new (Err fault.Memory) = Keeps old new
 AnswersTexts board name known show texts old new (Err _) = ⊥
 
 -- What the command answers: that there is no board of the name, with nothing printed; otherwise
 -- what it answers on the board.
-abbrev pub AnswersLookup : Option Shape → List ℕ → Option Files → Show → List (List ℕ) → Option (List ℕ) → Option (List ℕ) → Result ℕ QueryFault → Type 0
-AnswersLookup None name known show texts old new result = (result ≡ Err query.Board) × Keeps old new
+abbrev pub AnswersLookup : Option Shape → List ℕ → Option Files → Show → List (List ℕ) → Option (List ℕ) → Option (List ℕ) → Result ℕ Fault → Type 0
+AnswersLookup None name known show texts old new result = (result ≡ Err fault.Board) × Keeps old new
 AnswersLookup (Some board) name known show texts old new result = AnswersTexts board name known show texts old new result

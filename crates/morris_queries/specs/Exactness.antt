@@ -49,10 +49,8 @@ AreExactWithin board name files (suc plies) s =
 -- the position and those of the positions after its moves; and for a line, those of all positions
 -- to which play may lead from it.
 abbrev pub AreExactIn : Shape → List ℕ → Files → Show → Sides → Type 0
-AreExactIn board name files show.Best s = AreExactNear board name files s
-AreExactIn board name files show.Moves s = AreExactNear board name files s
-AreExactIn board name files show.Csv s = AreExactNear board name files s
 AreExactIn board name files show.Line s = (plies : ℕ) → AreExactWithin board name files plies s
+AreExactIn board name files _ s = AreExactNear board name files s
 
 -- a move leads to this value: that of the position after it, turned round
 abbrev pub LeadsTo : Shape → Sides → Outcome → Type 0
@@ -67,10 +65,8 @@ IsBestLine board s value (ply ∷ line) =
     IsBestStep board s (ply.step, ply.after) × (after_best value ≡ Some ply.value) × IsValue board ply.after ply.value × IsBestLine board ply.after ply.value line
 
 abbrev pub HasLine : Shape → Show → Sides → Telling → Type 0
-HasLine board show.Best s t = t.line ≡ []
-HasLine board show.Moves s t = t.line ≡ []
-HasLine board show.Csv s t = t.line ≡ []
 HasLine board show.Line s t = IsBestLine board s t.value t.line
+HasLine board _ s t = t.line ≡ []
 
 -- what is told is the game's
 pub record IsGame (board : Shape) (show : Show) (s : Sides) (t : Telling) : Type 0 where

@@ -6,7 +6,6 @@ pub mod Printing
 pub mod Answers
 pub mod InputLines
 pub mod LineAnswers
-pub mod Refusals
 pub mod Readings
 pub mod Wanted
 pub mod Found

@@ -1,5 +1,5 @@
 -- What the files of a folder tell of positions.
-use Rattle.std.specs.Prelude.{◌≡◌, ◌⊎◌, ℕ, zero, suc, min, max, Bool, true, false, ◌&&◌, nat_eq, List, [], ◌∷◌, map, filter, fold, slice_get, Option, Some, None, unwrap_or, Result, Ok, Err, if◌then◌else◌}
+use Rattle.std.specs.Prelude.{◌≡◌, ◌⊎◌, ℕ, zero, suc, min, max, Bool, ◌&&◌, nat_eq, List, [], ◌∷◌, map, fold, slice_get, Option, Some, None, unwrap_or, Result, Ok, Err, if◌then◌else◌}
 use Rattle.morris_board.specs.Boards.{Shape}
 use Rattle.morris_board.specs.Positions.{Sides, read_of}
 use Rattle.morris_board.specs.declared.faults.TextFault.{TextFault}
@@ -15,7 +15,7 @@ use Rattle.morris_lookup.specs.declared.outcomes.Outcome.{Outcome}
 use Rattle.morris_lookup.specs.FileSets.{Files as OpenFiles, file_for}
 use Rattle.morris_lookup.specs.Lookups.{code_for, depth_of}
 use Rattle.morris_lookup.specs.Opening.{OpenFile, open_file, framed_in}
-use Rattle.morris_lookup.specs.Outcomes.{turned}
+use Rattle.morris_lookup.specs.Outcomes.{best_among, same_value, turned}
 use Rattle.morris_files.specs.Files.{Files}
 use Rattle.morris_files.specs.Names.{name_of}
 use Rattle.morris_jobs.specs.declared.fault.Fault.{Fault}
@@ -62,18 +62,6 @@ opened_as board c (Some bytes) = framed_as c bytes (framed_in board bytes)
 -- the value that a file states for a position of its pair
 abbrev pub stated_in : Shape → Sides → OpenFile → Value
 stated_in board s file = value_in (code_for board file (unwrap_or file.bytes []) s)
-
--- ---- best moves
-
-abbrev pub same_value : Value → Value → Bool
-same_value Draw Draw = true
-same_value (Won depth) (Won other) = nat_eq depth other
-same_value (Lost depth) (Lost other) = nat_eq depth other
-same_value _ _ = false
-
--- of the legal moves with what they lead to, those that lead to the position's own value
-abbrev pub best_among : Value → List Outcome → List Move
-best_among value outcomes = map (λ o. o.step) (filter (λ o. same_value o.value value) outcomes)
 
 -- ---- what a value follows from
 
@@ -175,10 +163,8 @@ module _ (board : Shape) (name : List ℕ) (files : Files) where
 
   -- the line of best play that is shown: as many plies as the value says, none at a draw
   abbrev pub shown_line : Show → Telling → Sides → Result (List Played) Fault
-  shown_line show.Best t s = Ok []
-  shown_line show.Moves t s = Ok []
-  shown_line show.Csv t s = Ok []
   shown_line show.Line t s = told_line (depth_of t.value) s (slice_get t.best 0)
+  shown_line _ t s = Ok []
 
   unfoldable pub told_shown : Show → Sides → Result Telling Fault
   told_shown show s = followed (told_of s) (λ t.

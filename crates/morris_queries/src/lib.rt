@@ -5,13 +5,11 @@
 
 pub mod answer;
 pub mod ask;
-pub mod fault;
 pub mod find;
 pub mod library;
 mod line;
 pub mod lines;
 pub mod lookup;
-pub mod memory;
 pub mod pages;
 pub mod print;
 mod send;

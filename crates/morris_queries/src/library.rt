@@ -1,18 +1,11 @@
 //! Where the files of tables are found by their names.
 ghost use Rattle.std.specs.Prelude.{◌≡◌, Option};
 ghost use Rattle.morris_files.specs.Files.{Files};
-ghost use Rattle.morris_queries.specs.Libraries.{Finds, Opens};
+ghost use Rattle.morris_queries.specs.Libraries.{Finds, Opens, find_fault};
 
+use morris_files::reason::Reason;
+use morris_jobs::fault::Fault;
 use morris_lookup::storage::Storage;
-
-/// Why a file isn't open.
-#[derive(Clone, Copy, Debug, PartialEq, Eq)]
-pub enum Unopened {
-    /// Want of memory.
-    Memory,
-    /// What has the name can't be opened as a file.
-    Failed,
-}
 
 /// Why the place of the files isn't found.
 #[derive(Clone, Copy, Debug, PartialEq, Eq)]
@@ -21,6 +14,17 @@ pub enum Unfound {
     Memory,
     /// There is no such folder.
     Folder,
+}
+
+impl From<Unfound> for Fault {
+    ghost from_gives = { λ unfound fault. fault ≡ find_fault unfound };
+
+    fn from(unfound: Unfound) -> Fault {
+        match unfound {
+            Unfound::Memory => Fault::Memory,
+            Unfound::Folder => Fault::NoFolder,
+        }
+    }
 }
 
 /// Files under names, which nobody changes meanwhile.
@@ -43,8 +47,9 @@ pub trait Library {
     /// Opens the file of this name; `None` where there isn't one.
     ///
     /// # Errors
-    /// Those of [`Unopened`].
-    fn open(&mut self, name: &str) -> Result<Option<Self::Bytes>, Unopened>
+    /// [`Reason::Memory`] for want of memory, and any other [`Reason`] where what has the name can't
+    /// be opened as a file.
+    fn open(&mut self, name: &str) -> Result<Option<Self::Bytes>, Reason>
         ensures opened { Opens Self.Bytes.contents (files self.old) name.now result }
         ensures kept { files self.new ≡ files self.old };
 }

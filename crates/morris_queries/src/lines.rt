@@ -2,14 +2,14 @@
 ghost use Rattle.std.specs.Prelude.{◌≡◌, ℕ, ◌-◌, ◌^◌, ◌<◌, ◌∷◌, [], List, Option, Err, take};
 ghost use Rattle.morris_board.specs.Streams.{CountsFailure};
 ghost use Rattle.morris_files.specs.Files.{Files};
-ghost use Rattle.morris_queries.specs.Answers.{AnswersText, AreOut, CountsWrites};
+ghost use Rattle.morris_jobs.specs.Faults.{CountsWrites};
+ghost use Rattle.morris_queries.specs.Answers.{AnswersText, AreOut};
 ghost use Rattle.morris_queries.specs.Folders.{IsOf, Stays};
 ghost use Rattle.morris_queries.specs.InputLines.{text_in};
 ghost use Rattle.morris_queries.specs.LineAnswers.{AnswersFound, AnswersLines, CountsReads};
 ghost use Rattle.morris_queries.specs.Readings.{Ends, Stands, StaysOf, Takes};
 
 use crate::answer::{Answered, answer_text};
-use crate::fault::QueryFault;
 use crate::library::Library;
 use crate::line::{KEPT, is_passed_over, take_in, text_of};
 use crate::show::Show;
@@ -18,6 +18,7 @@ use crate::values::{Folder, no_files};
 use arrayvec::ArrayVec;
 use morris_board::board::Geometry;
 use morris_board::streams::{Failed, Sink, Source};
+use morris_jobs::fault::Fault;
 use std::alloc::Global;
 
 /// How many bytes are read at a time, at most.
@@ -67,8 +68,8 @@ impl<'n, 'l, 't, 'o, B: Geometry, L: Library, O: Sink> Reading<'n, 'l, 't, 'o, B
     /// over.
     ///
     /// # Errors
-    /// [`QueryFault::Write`], with the bytes that went out, where a write failed.
-    fn take_byte(&mut self, byte: u8) -> Result<(), QueryFault>
+    /// [`Fault::Write`], with the bytes that went out, where a write failed.
+    fn take_byte(&mut self, byte: u8) -> Result<(), Fault>
         requires { O.failures self.old.output.now < 2 ^ 64 - 1 }
         ensures stays { StaysOf B.shape L.files self.old self.new }
         ensures taken { Takes B.shape L.files O.contents self.old self.new (byte ∷ []) result }
@@ -85,7 +86,7 @@ impl<'n, 'l, 't, 'o, B: Geometry, L: Library, O: Sink> Reading<'n, 'l, 't, 'o, B
     ///
     /// # Errors
     /// Those of [`take_byte`](Reading::take_byte).
-    fn end_line(&mut self) -> Result<(), QueryFault>
+    fn end_line(&mut self) -> Result<(), Fault>
         requires { O.failures self.old.output.now < 2 ^ 64 - 1 }
         ensures stays { StaysOf B.shape L.files self.old self.new }
         ensures taken { Takes B.shape L.files O.contents self.old self.new (10 ∷ []) result }
@@ -104,7 +105,7 @@ impl<'n, 'l, 't, 'o, B: Geometry, L: Library, O: Sink> Reading<'n, 'l, 't, 'o, B
     ///
     /// # Errors
     /// Those of [`take_byte`](Reading::take_byte).
-    fn take_bytes(&mut self, bytes: &[u8]) -> Result<(), QueryFault>
+    fn take_bytes(&mut self, bytes: &[u8]) -> Result<(), Fault>
         requires { O.failures self.old.output.now < 2 ^ 64 - 1 }
         ensures stays { StaysOf B.shape L.files self.old self.new }
         ensures taken { Takes B.shape L.files O.contents self.old self.new bytes.now result }
@@ -120,7 +121,7 @@ impl<'n, 'l, 't, 'o, B: Geometry, L: Library, O: Sink> Reading<'n, 'l, 't, 'o, B
     ///
     /// # Errors
     /// Those of [`take_byte`](Reading::take_byte).
-    fn end(&mut self) -> Result<u64, QueryFault>
+    fn end(&mut self) -> Result<u64, Fault>
         requires { O.failures self.old.output.now < 2 ^ 64 - 1 }
         ensures stays { StaysOf B.shape L.files self.old self.new }
         ensures ended { Ends B.shape L.files O.contents self.old self.new result }
@@ -134,8 +135,8 @@ impl<'n, 'l, 't, 'o, B: Geometry, L: Library, O: Sink> Reading<'n, 'l, 't, 'o, B
     /// faults.
     ///
     /// # Errors
-    /// [`QueryFault::Read`] and [`QueryFault::Write`], as [`answer_lines`] says.
-    fn read_all<I: Source>(&mut self, input: &mut I) -> Result<u64, QueryFault>
+    /// [`Fault::Read`] and [`Fault::Write`], as [`answer_lines`] says.
+    fn read_all<I: Source>(&mut self, input: &mut I) -> Result<u64, Fault>
         requires reading { I.failures input.old < 2 ^ 64 - 1 }
         requires writing { O.failures self.old.output.now < 2 ^ 64 - 1 }
         ensures stays { StaysOf B.shape L.files self.old self.new }
@@ -150,10 +151,10 @@ impl<'n, 'l, 't, 'o, B: Geometry, L: Library, O: Sink> Reading<'n, 'l, 't, 'o, B
             match input.read(&mut piece) {
                 Ok(0) => return self.end(),
                 Ok(count) => self.take_bytes(&piece[..count])?,
-                Err(Failed) => return Err(QueryFault::Read),
+                Err(Failed) => return Err(Fault::Read),
             }
         }
-        Err(QueryFault::Read)
+        Err(Fault::Read)
     }
 }
 
@@ -183,10 +184,10 @@ fn answer_line<B: Geometry, L: Library, O: Sink>(
 /// more. Of a line 26 bytes are kept, however long it is.
 ///
 /// # Errors
-/// [`QueryFault::NoFolder`] where the place of the files isn't there, and then
-/// [`QueryFault::Memory`] where there is no room for the places of open files, both before anything
-/// is read; [`QueryFault::Read`] at the first read that fails, and after `u64::MAX` reads;
-/// [`QueryFault::Write`], with the bytes that went out, at the first write that fails.
+/// [`Fault::NoFolder`] where the place of the files isn't there, and then
+/// [`Fault::Memory`] where there is no room for the places of open files, both before anything
+/// is read; [`Fault::Read`] at the first read that fails, and after `u64::MAX` reads;
+/// [`Fault::Write`], with the bytes that went out, at the first write that fails.
 pub fn answer_lines<B: Geometry, L: Library, I: Source, O: Sink>(
     alloc: Global,
     board: &str,
@@ -194,18 +195,18 @@ pub fn answer_lines<B: Geometry, L: Library, I: Source, O: Sink>(
     input: &mut I,
     show: Show,
     output: &mut O,
-) -> Result<u64, QueryFault>
+) -> Result<u64, Fault>
     requires reading { I.failures input.old < 2 ^ 64 - 1 }
     requires writing { O.failures output.old < 2 ^ 64 - 1 }
     ensures kept { L.files library.new ≡ L.files library.old }
     ensures answer { AnswersFound B.shape board.now (L.files library.old) show (I.remaining input.old) (I.remaining input.new) (O.contents output.old) (O.contents output.new) result }
-    ensures unread { result ≡ Err QueryFault.NoFolder → input.new ≡ input.old }
+    ensures unread { result ≡ Err Fault.NoFolder → input.new ≡ input.old }
     ensures reads { CountsReads (I.remaining input.old) (I.remaining input.new) (I.failures input.old) (I.failures input.new) result }
     ensures counted { CountsWrites (O.failures output.old) (O.failures output.new) result }
 {
     library.find()?;
     let Ok(mut tables) = no_files::<B, L>(alloc) else {
-        return Err(QueryFault::Memory);
+        return Err(Fault::Memory);
     };
     let folder = Folder::new(alloc, board, library, &mut tables);
     match Tally::begin(show, output) {
@@ -213,6 +214,6 @@ pub fn answer_lines<B: Geometry, L: Library, I: Source, O: Sink>(
             let mut reading = Reading::new(folder, show, output, tally);
             reading.read_all(input)
         }
-        Err(sent) => Err(QueryFault::Write(sent)),
+        Err(sent) => Err(Fault::Write(sent)),
     }
 }

@@ -1,18 +1,17 @@
 //! The command `lookup`, for a list of texts and for the lines of an input.
 ghost use Rattle.std.specs.Prelude.{◌≡◌, ◌-◌, ◌^◌, ◌<◌, Err, map};
 ghost use Rattle.morris_jobs.specs.BoardNames.{board_of};
-ghost use Rattle.morris_queries.specs.Answers.{AnswersLookup, CountsWrites};
+ghost use Rattle.morris_jobs.specs.Faults.{CountsWrites};
+ghost use Rattle.morris_queries.specs.Answers.{AnswersLookup};
 ghost use Rattle.morris_queries.specs.LineAnswers.{AnswersInput, CountsReads};
 
-use crate::fault::QueryFault;
 use crate::library::Library;
 use crate::lines::answer_lines;
 use crate::show::Show;
 use crate::texts::answer_texts;
-use morris_board::grid::Grid;
-use morris_board::nine::Nine;
 use morris_board::streams::{Sink, Source};
-use morris_jobs::boards::{NamedBoard, read_board};
+use morris_jobs::fault::Fault;
+use morris_jobs::on_board;
 use std::alloc::Global;
 
 /// Answers texts of positions on the board named `board`, each in turn, from the table files of a
@@ -21,9 +20,9 @@ use std::alloc::Global;
 /// it, and stays open.
 ///
 /// # Errors
-/// [`QueryFault::Board`] where there is no such board; then [`QueryFault::NoFolder`] where the
-/// place of the files isn't there; then [`QueryFault::Memory`] where there is no room for the
-/// places of open files; in these cases nothing was written. [`QueryFault::Write`], with the bytes
+/// [`Fault::Board`] where there is no such board; then [`Fault::NoFolder`] where the
+/// place of the files isn't there; then [`Fault::Memory`] where there is no room for the
+/// places of open files; in these cases nothing was written. [`Fault::Write`], with the bytes
 /// that went out, at the first write that fails.
 pub fn lookup_texts<L: Library, O: Sink>(
     alloc: Global,
@@ -32,21 +31,16 @@ pub fn lookup_texts<L: Library, O: Sink>(
     texts: &[&str],
     show: Show,
     output: &mut O,
-) -> Result<u64, QueryFault>
+) -> Result<u64, Fault>
     requires failures { O.failures output.old < 2 ^ 64 - 1 }
     ensures kept { L.files library.new ≡ L.files library.old }
     ensures answer { AnswersLookup (board_of board.now) board.now (L.files library.old) show (map (λ text. text.now) texts.now) (O.contents output.old) (O.contents output.new) result }
     ensures counted { CountsWrites (O.failures output.old) (O.failures output.new) result }
 {
-    match read_board(board) {
-        Ok(NamedBoard::Nine) => {
-            answer_texts::<Nine, L, O>(alloc, board, library, texts, show, output)
-        }
-        Ok(NamedBoard::Grid) => {
-            answer_texts::<Grid, L, O>(alloc, board, library, texts, show, output)
-        }
-        Err(_) => Err(QueryFault::Board),
-    }
+    on_board!(
+        board,
+        answer_texts::<L, O>(alloc, board, library, texts, show, output)
+    )
 }
 
 /// Answers positions on the board named `board`, one on each line of an input, each as soon as its
@@ -54,7 +48,7 @@ pub fn lookup_texts<L: Library, O: Sink>(
 /// What a line is, [`answer_lines`] says.
 ///
 /// # Errors
-/// [`QueryFault::Board`] where there is no such board, before anything is read; otherwise those of
+/// [`Fault::Board`] where there is no such board, before anything is read; otherwise those of
 /// [`answer_lines`].
 pub fn lookup_lines<L: Library, I: Source, O: Sink>(
     alloc: Global,
@@ -63,23 +57,18 @@ pub fn lookup_lines<L: Library, I: Source, O: Sink>(
     input: &mut I,
     show: Show,
     output: &mut O,
-) -> Result<u64, QueryFault>
+) -> Result<u64, Fault>
     requires reading { I.failures input.old < 2 ^ 64 - 1 }
     requires writing { O.failures output.old < 2 ^ 64 - 1 }
     ensures kept { L.files library.new ≡ L.files library.old }
     ensures answer { AnswersInput (board_of board.now) board.now (L.files library.old) show (I.remaining input.old) (I.remaining input.new) (O.contents output.old) (O.contents output.new) result }
-    ensures unread { result ≡ Err QueryFault.Board → input.new ≡ input.old }
-    ensures unfound { result ≡ Err QueryFault.NoFolder → input.new ≡ input.old }
+    ensures unread { result ≡ Err Fault.Board → input.new ≡ input.old }
+    ensures unfound { result ≡ Err Fault.NoFolder → input.new ≡ input.old }
     ensures reads { CountsReads (I.remaining input.old) (I.remaining input.new) (I.failures input.old) (I.failures input.new) result }
     ensures counted { CountsWrites (O.failures output.old) (O.failures output.new) result }
 {
-    match read_board(board) {
-        Ok(NamedBoard::Nine) => {
-            answer_lines::<Nine, L, I, O>(alloc, board, library, input, show, output)
-        }
-        Ok(NamedBoard::Grid) => {
-            answer_lines::<Grid, L, I, O>(alloc, board, library, input, show, output)
-        }
-        Err(_) => Err(QueryFault::Board),
-    }
+    on_board!(
+        board,
+        answer_lines::<L, I, O>(alloc, board, library, input, show, output)
+    )
 }

@@ -1,5 +1,5 @@
 //! Files of the system of which the pages that were read last are kept.
-ghost use Rattle.std.specs.Prelude.{◌≡◌, ◌/◌, ◌%◌, ◌<◌, ◌^◌, length, take, drop, None, IfOk, IsTrue};
+ghost use Rattle.std.specs.Prelude.{◌≡◌, ◌/◌, ◌%◌, ◌<◌, length, take, drop, None, IfOk, IsTrue};
 
 use morris_board::streams::Failed;
 use morris_lookup::storage::Storage;
@@ -68,20 +68,14 @@ impl Storage for PagedFile {
 
     fn read_at(&self, place: u64, out: &mut [u8]) -> Result<(), Failed> {
         if let Ok(mut pages) = self.pages.try_borrow_mut() {
-            if read_kept(&self.file, &mut *pages, place, out) {
-                return Ok(());
+            // Pages whose numbers differ by a multiple of `KEPT` have one place in turn.
+            if let Some(page) = (*pages).get_mut((place / PAGE % KEPT) as usize) {
+                if page.read(&self.file, place, out) {
+                    return Ok(());
+                }
             }
         }
         Storage::read_at(&self.file, place, out)
-    }
-}
-
-/// Fills `out` with the bytes from `place` on, where they lie in one page and it can be read; says
-/// whether it did. Pages whose numbers differ by a multiple of [`KEPT`] have one place in turn.
-fn read_kept(file: &File, pages: &mut Vec<Page>, place: u64, out: &mut [u8]) -> bool {
-    match pages.get_mut((place / PAGE % KEPT) as usize) {
-        None => false,
-        Some(page) => page.read(file, place, out),
     }
 }
 
@@ -94,18 +88,11 @@ impl Page {
     {
         let number = place / PAGE;
         if self.number != number {
-            self.fill(file, number);
+            self.number = number;
+            let bytes = self.bytes.as_mut_slice();
+            self.count = FileExt::read_at(file, bytes, number * PAGE).unwrap_or(0);
         }
         self.copy_to((place % PAGE) as usize, out)
-    }
-
-    /// Reads the page with this number.
-    fn fill(&mut self, file: &File, number: u64)
-        requires { number < 2 ^ 52 }
-        ensures { self.new.number ≡ number }
-    {
-        self.number = number;
-        self.count = FileExt::read_at(file, self.bytes.as_mut_slice(), number * PAGE).unwrap_or(0);
     }
 
     /// Fills `out` with the bytes from a place of the page on, where they were read; says whether

@@ -1,15 +1,13 @@
 //! The files of a folder of the system.
 ghost use Rattle.std.specs.Prelude.{◌≡◌, None};
 
-use crate::library::{Library, Unfound, Unopened};
+use crate::library::{Library, Unfound};
 use crate::pages::PagedFile;
 use morris_files::reason::Reason;
-use std::alloc::AllocError;
-use std::fs::{File, Metadata};
-use std::io::ErrorKind;
+use morris_files::system::calls::{find_folder, open_file};
+use std::fs::File;
 use std::marker::Model;
 use std::rt::Files;
-use std::{fs, io};
 
 /// The folder of the system with this path. It isn't looked for before [`find`](Library::find):
 /// where it isn't there, no file is.
@@ -51,37 +49,6 @@ impl<'a, R: Files<File = File> + AllocGlobal> SystemLibrary<'a, R> {
     {
         self.why
     }
-
-    /// Whether the path stands for a folder, links followed, or why not.
-    fn look(&self) -> Result<(), Reason> {
-        if self.path.is_empty() {
-            return Err(Reason::Nameless);
-        }
-        match fs::metadata(self.rt, self.path) {
-            Ok(found) if found.is_dir() => Ok(()),
-            Ok(_) => Err(Reason::NotAFolder),
-            Err(fault) => Err(Reason::of(&fault)),
-        }
-    }
-
-    /// The path of the file of this name.
-    fn path_of(&self, name: &str) -> Result<String, AllocError> {
-        let mut path = String::new(self.rt.alloc());
-        path.push_str(self.path)?;
-        path.push('/')?;
-        path.push_str(name)?;
-        Ok(path)
-    }
-
-    /// Opens the regular file of this path, links followed. Nothing else is opened: the opening of
-    /// a pipe waits for its other end. What was opened is looked at once more, since something else
-    /// may have come to stand there.
-    fn open_regular(&self, path: &str) -> io::Result<File> {
-        require_regular(&fs::metadata(self.rt, path)?)?;
-        let file = fs::open(self.rt, path)?;
-        require_regular(&file.metadata()?)?;
-        Ok(file)
-    }
 }
 
 impl<'a, R: Files<File = File> + AllocGlobal> Library for SystemLibrary<'a, R> {
@@ -90,7 +57,7 @@ impl<'a, R: Files<File = File> + AllocGlobal> Library for SystemLibrary<'a, R> {
     ghost files = { λ _. None };
 
     fn find(&mut self) -> Result<(), Unfound> {
-        let looked = self.look();
+        let looked = find_folder(self.rt, self.path);
         self.why = looked.err();
         match looked {
             Ok(()) => Ok(()),
@@ -99,29 +66,10 @@ impl<'a, R: Files<File = File> + AllocGlobal> Library for SystemLibrary<'a, R> {
         }
     }
 
-    fn open(&mut self, name: &str) -> Result<Option<PagedFile>, Unopened> {
-        let Ok(path) = self.path_of(name) else {
-            return Err(Unopened::Memory);
-        };
-        match self.open_regular(path.as_str()) {
-            Ok(file) => match PagedFile::new(self.rt.alloc(), file) {
-                Ok(paged) => Ok(Some(paged)),
-                Err(_) => Err(Unopened::Memory),
-            },
-            Err(fault) => match fault.kind() {
-                ErrorKind::NotFound => Ok(None),
-                ErrorKind::OutOfMemory => Err(Unopened::Memory),
-                _ => Err(Unopened::Failed),
-            },
+    fn open(&mut self, name: &str) -> Result<Option<PagedFile>, Reason> {
+        match open_file(self.rt, self.path, name)? {
+            Some(file) => Ok(Some(PagedFile::new(self.rt.alloc(), file)?)),
+            None => Ok(None),
         }
-    }
-}
-
-/// Refuses what isn't a regular file.
-fn require_regular(found: &Metadata) -> io::Result<()> {
-    if found.is_file() {
-        Ok(())
-    } else {
-        Err(io::Error::from(ErrorKind::InvalidInput))
     }
 }

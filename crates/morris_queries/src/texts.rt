@@ -2,18 +2,19 @@
 ghost use Rattle.std.specs.Prelude.{◌≡◌, ◌-◌, ◌^◌, ◌<◌, ℕ, List, [], Option, map};
 ghost use Rattle.morris_board.specs.Streams.{CountsFailure};
 ghost use Rattle.morris_files.specs.Files.{Files};
-ghost use Rattle.morris_queries.specs.Answers.{AnswersTexts, AreOut, Begins, CountsWrites, IsTallied};
+ghost use Rattle.morris_jobs.specs.Faults.{CountsWrites};
+ghost use Rattle.morris_queries.specs.Answers.{AnswersTexts, AreOut, Begins, IsTallied};
 ghost use Rattle.morris_queries.specs.Folders.{IsOf, Stays};
 ghost use Rattle.morris_queries.specs.Printing.{head_text};
 
 use crate::answer::{Answered, answer_text};
-use crate::fault::QueryFault;
 use crate::library::Library;
 use crate::send::send;
 use crate::show::Show;
 use crate::values::{Folder, no_files};
 use morris_board::board::Geometry;
 use morris_board::streams::Sink;
+use morris_jobs::fault::Fault;
 use std::alloc::Global;
 
 /// How much went out so far.
@@ -42,9 +43,9 @@ impl Tally {
     /// Takes in what came of the next text.
     ///
     /// # Errors
-    /// [`QueryFault::Write`] with the bytes that went out before and of this text, where a write
+    /// [`Fault::Write`] with the bytes that went out before and of this text, where a write
     /// failed.
-    pub(crate) fn take(&mut self, answered: Result<Answered, u64>) -> Result<(), QueryFault>
+    pub(crate) fn take(&mut self, answered: Result<Answered, u64>) -> Result<(), Fault>
         ensures { IsTallied self.old self.new answered result }
     {
         match answered {
@@ -53,7 +54,7 @@ impl Tally {
                 self.refused = self.refused.saturating_add(u64::from(done.is_refused));
                 Ok(())
             }
-            Err(sent) => Err(QueryFault::Write(self.sent.saturating_add(sent))),
+            Err(sent) => Err(Fault::Write(self.sent.saturating_add(sent))),
         }
     }
 }
@@ -72,9 +73,9 @@ fn head_text(show: Show) -> &'static str
 /// that are answered by a fault. Files are opened when a position first needs them, and stay open.
 ///
 /// # Errors
-/// [`QueryFault::NoFolder`] where the place of the files isn't there, and then
-/// [`QueryFault::Memory`] where there is no room for the places of open files, both before anything
-/// is answered; [`QueryFault::Write`], with the bytes that went out, at the first write that fails.
+/// [`Fault::NoFolder`] where the place of the files isn't there, and then
+/// [`Fault::Memory`] where there is no room for the places of open files, both before anything
+/// is answered; [`Fault::Write`], with the bytes that went out, at the first write that fails.
 pub fn answer_texts<B: Geometry, L: Library, O: Sink>(
     alloc: Global,
     board: &str,
@@ -82,7 +83,7 @@ pub fn answer_texts<B: Geometry, L: Library, O: Sink>(
     texts: &[&str],
     show: Show,
     output: &mut O,
-) -> Result<u64, QueryFault>
+) -> Result<u64, Fault>
     requires failures { O.failures output.old < 2 ^ 64 - 1 }
     ensures kept { L.files library.new ≡ L.files library.old }
     ensures answer { AnswersTexts B.shape board.now (L.files library.old) show (map (λ text. text.now) texts.now) (O.contents output.old) (O.contents output.new) result }
@@ -90,12 +91,12 @@ pub fn answer_texts<B: Geometry, L: Library, O: Sink>(
 {
     library.find()?;
     let Ok(mut tables) = no_files::<B, L>(alloc) else {
-        return Err(QueryFault::Memory);
+        return Err(Fault::Memory);
     };
     let mut folder = Folder::new(alloc, board, library, &mut tables);
     match Tally::begin(show, output) {
         Ok(tally) => answer_each(&mut folder, texts, show, tally, output),
-        Err(sent) => Err(QueryFault::Write(sent)),
+        Err(sent) => Err(Fault::Write(sent)),
     }
 }
 
@@ -103,7 +104,7 @@ pub fn answer_texts<B: Geometry, L: Library, O: Sink>(
 /// those that are answered by a fault.
 ///
 /// # Errors
-/// [`QueryFault::Write`], with the bytes that went out, at the first write that fails.
+/// [`Fault::Write`], with the bytes that went out, at the first write that fails.
 #[tactic(auto, using(crate::proofs::FolderLaws::stays_laws))]
 fn answer_each<B: Geometry, L: Library, O: Sink>(
     folder: &mut Folder<'_, '_, '_, B, L>,
@@ -111,7 +112,7 @@ fn answer_each<B: Geometry, L: Library, O: Sink>(
     show: Show,
     begun: Tally,
     output: &mut O,
-) -> Result<u64, QueryFault>
+) -> Result<u64, Fault>
     requires { O.failures output.old < 2 ^ 64 - 1 }
     ensures stays { Stays B.shape L.files folder.old folder.new }
     ensures answer { (name : List ℕ) (known : Option Files) (start : Option (List ℕ)) → IsOf B.shape L.files name known folder.old

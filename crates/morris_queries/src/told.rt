@@ -7,7 +7,7 @@ ghost use Rattle.morris_lookup.specs.Lookups.{depth_of};
 ghost use Rattle.morris_moves.specs.Rules.{moves_of};
 ghost use Rattle.morris_queries.specs.Folders.{Stays, Tells};
 ghost use Rattle.morris_queries.specs.Printing.{IsShort};
-ghost use Rattle.morris_queries.specs.Telling.{Agrees, Gives, IsListed, best_among, better, played, same_value, value_from, told_of, told_line, told_outcomes, told_shown};
+ghost use Rattle.morris_queries.specs.Telling.{Agrees, Gives, IsListed, better, played, value_from, told_of, told_line, told_outcomes, told_shown};
 
 use crate::library::Library;
 use crate::show::Show;
@@ -15,11 +15,11 @@ use crate::values::Folder;
 use morris_board::board::Geometry;
 use morris_board::position::Position;
 use morris_jobs::fault::Fault;
-use morris_lookup::outcomes::{Outcome, turned};
+use morris_lookup::outcomes::{Outcome, best_of, is_same, turned};
 use morris_moves::rules::{moves, play};
 use morris_moves::step::Move;
 use morris_pairs::value::Value;
-use std::alloc::{AllocError, Global};
+use std::alloc::AllocError;
 use std::marker::Model;
 
 /// A ply of a line of play.
@@ -219,18 +219,6 @@ fn keep<T: Drop>(list: &mut Vec<T>, next: T) -> Result<(), AllocError>
     Ok(())
 }
 
-/// Whether two values are the same.
-fn is_same(one: Value, other: Value) -> bool
-    ensures { result ≡ same_value one other }
-{
-    match (one, other) {
-        (Value::Draw, Value::Draw) => true,
-        (Value::Won(depth), Value::Won(other)) => depth == other,
-        (Value::Lost(depth), Value::Lost(other)) => depth == other,
-        _ => false,
-    }
-}
-
 /// The better of two values for who may choose between them.
 fn better(one: Value, other: Value) -> Value
     ensures { result ≡ better one other }
@@ -256,17 +244,6 @@ fn value_from(outcomes: &[Outcome]) -> Value
     ensures { result ≡ value_from outcomes.now }
 {
     outcomes.iter().fold(Value::Lost(0), |best, outcome| better(best, outcome.value))
-}
-
-/// Of the moves with what they lead to, those that lead to this value.
-fn best_of(alloc: Global, value: Value, outcomes: &[Outcome]) -> Result<Vec<Move>, AllocError>
-    ensures { IfOk result (λ best. best.items ≡ best_among value outcomes.now) }
-{
-    outcomes
-        .iter()
-        .filter(|outcome| is_same(outcome.value, value))
-        .map(|outcome| outcome.step)
-        .collect(alloc)
 }
 
 /// In how many plies the game is over by a value, 0 at a draw.

@@ -8,10 +8,11 @@ ghost use Rattle.morris_queries.specs.Folders.{IsOf, Stays, Tells, lent_of, libr
 ghost use Rattle.morris_queries.specs.Libraries.{IsFound};
 ghost use Rattle.morris_queries.specs.Telling.{Agrees, AreOf, IsRefusal, opened_as, table_in, told_value};
 
-use crate::library::{Library, Unopened};
+use crate::library::Library;
 use morris_board::board::Geometry;
 use morris_board::position::Position;
 use morris_files::names::file_name;
+use morris_files::reason::Reason;
 use morris_index::pair::Pair;
 use morris_jobs::fault::Fault;
 use morris_lookup::fault::{LookFault, OpenFault};
@@ -69,8 +70,8 @@ impl<'n, 'l, 't, B: Geometry, L: Library> Folder<'n, 'l, 't, B, L> {
         let name = file_name(self.alloc, self.board, pair)?;
         match self.library.open(name.as_str()) {
             Ok(found) => open_found(self.alloc, found, pair),
-            Err(Unopened::Memory) => Err(Fault::Memory),
-            Err(Unopened::Failed) => Err(Fault::Read),
+            Err(Reason::Memory) => Err(Fault::Memory),
+            Err(_) => Err(Fault::Read),
         }
     }
 

@@ -1,6 +1,7 @@
 use Rattle.std.proofs.Common.{◌≡◌, ◌≤◌, ◌∙◌, Some, ap, arith, length, inl, sym}
 use Rattle.std.proofs.lemmas.Result.{err_from_is_err_and}
-use Rattle.morris_queries.specs.Telling.{best_among, same_value, value_from}
+use Rattle.morris_lookup.specs.Outcomes.{best_among, same_value}
+use Rattle.morris_queries.specs.Telling.{value_from}
 use Rattle.morris_queries.proofs.FolderLaws.{stays_on}
 use Rattle.morris_queries.proofs.TellingLaws.{refusal_from, agrees_from, agreed, told_refused_value, told_refused_outcomes, told_found, told_disagrees, best_few}
 use Rattle.morris_queries.proofs.values.Folder.tell_best.Goals as goal

@@ -1,8 +1,9 @@
-//! Files in memory, for tests.
+// Files in memory that are found by their names.
 ghost use Rattle.std.specs.Prelude.{◌≡◌, IfSome, MatchOption, None, Some};
-ghost use Rattle.morris_queries.specs.Libraries.{file_named};
+ghost use Rattle.morris_program_tests.specs.Held.{file_named};
 
-use crate::library::{Library, Unfound, Unopened};
+use morris_files::reason::Reason;
+use morris_queries::library::{Library, Unfound};
 
 /// Files in memory, each with its name. Where two have one name, the first is found.
 #[derive(Clone, Copy)]
@@ -20,7 +21,7 @@ impl<'a> Library for Held<'a> {
         Ok(())
     }
 
-    fn open(&mut self, name: &str) -> Result<Option<&'a [u8]>, Unopened> {
+    fn open(&mut self, name: &str) -> Result<Option<&'a [u8]>, Reason> {
         Ok(bytes_named(self.files, name))
     }
 }

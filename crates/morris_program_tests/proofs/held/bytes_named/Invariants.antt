@@ -1,6 +1,6 @@
 use Rattle.std.proofs.Common.{◌≡◌, drop}
-use Rattle.morris_queries.specs.Libraries.{file_named}
-use Rattle.morris_queries.proofs.memory.bytes_named.Given as goal
+use Rattle.morris_program_tests.specs.Held.{file_named}
+use Rattle.morris_program_tests.proofs.held.bytes_named.Given as goal
 
 -- none of the files so far has the name
 abbrev pub invariant-loop-known : goal.invariant-loop-known
