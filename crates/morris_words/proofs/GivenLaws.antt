@@ -1,4 +1,4 @@
--- Whether words gave an argument, by where its value came from, and which number of 32 bits they gave.
+-- Whether words gave an argument, by where its value came from, and which number they gave.
 use Rattle.std.proofs.Common.{◌≡◌, ◌∙◌, ◌≤◌, ◌<◌, ◌^◌, ℕ, Bool, true, false, List, Option, Some, None, Result, ap, refl, sym, subst, is_some}
 use Rattle.std.specs.Option.{option_map_or}
 use Rattle.std.specs.Prelude.{Ok, option_and_then, pos}
@@ -47,11 +47,11 @@ words_given f name is = sym (present_row f name) ∙ by_words (matched_of f name
 pub there_given : (f : Found) (name : Text) → source_of (matched_of f name) ≡ None → is_some (matched_of f name) ≡ is_given name (rows_of f)
 there_given f name is = from_nowhere (matched_of f name) is ∙ present_row f name
 
--- what is read of a text in a range, by a reader of numbers of 32 bits
-pub wide_number : {E : Type 0} (G : List ℕ → Result ℕ E → Type 0) (low high : ℕ) (t : List ℕ) (r : Option ℕ)
-    → ReadsOne G (without_minus t) r → ((u : List ℕ) (x : Result ℕ E) → G u x → ParsesUnsigned 32 10 u x) → high < 2 ^ 32
+-- what is read of a text in a range, by a reader of numbers of so many bits
+pub read_number : {E : Type 0} (G : List ℕ → Result ℕ E → Type 0) (bits low high : ℕ) (t : List ℕ) (r : Option ℕ)
+    → ReadsOne G (without_minus t) r → ((u : List ℕ) (x : Result ℕ E) → G u x → ParsesUnsigned bits 10 u x) → high < 2 ^ bits
     → IsSignedIn (pos low) (pos high) t → (n : ℕ) × (r ≡ Some n) × (low ≤ n) × (n ≤ high) × (number_of (without_minus t) ≡ n)
-wide_number {E} G low high t r one only fits in_range =
-    let got = signed_reads E G 32 low high t r one only fits in_range in
+read_number {E} G bits low high t r one only fits in_range =
+    let got = signed_reads E G bits low high t r one only fits in_range in
     let reads : G (without_minus t) (Ok got.0) = subst (λ o. ReadsOne G (without_minus t) o) got.1 one in
     (got.0, got.1, got.2, got.3, sym (only (without_minus t) (Ok got.0) reads).1)

@@ -6,7 +6,6 @@ use Rattle.std.specs.Result.{result_ok}
 use Rattle.std.specs.Prelude.{Err, IfOk, Ok}
 use Rattle.std.specs.Prelude.{Box, find, if◌then◌else◌, option_and_then, slice_get}
 use Rattle.std.specs.Str.{bytes_eq}
-use Rattle.std.proofs.lemmas.Slice.Eq.{bytes_eq-Decides}
 use Rattle.clap.proofs.WalkLemmas.{one_text-rows}
 use Rattle.clap.specs.Words.{AddsArg, AddsInTurn, AddsSubcommand, App, Rule, app_of, subcommand_rows, with_rule, with_subcommand}
 use Rattle.clap.specs.declared.builder.arg.Arg.{Arg}
@@ -130,12 +129,6 @@ named_here m o found name names has is same =
     named_rows _ name (rows_of (found_of found.1.now)) (sym names ∙ (ap (option_map (λ p. p.0.now)) is ∙ ap (λ n. Some n) same))
     (sym has ∙ ap (option_map (λ p. rows_of (found_of p.1.now))) is)
 
--- texts with other bytes aren't equal
-differ : (a b : Text) → bytes_eq a b ≡ false → a ≡ b → ⊥
-differ a b other same =
-    let bad : true ≡ false = sym ((bytes_eq-Decides a b).1 same) ∙ other in
-    cc
-
 -- an argument without a first value has no text to read
 pub no_text : (name : Text) (rows : List Row) → is_some (first_of name rows) ≡ false → one_of name rows ≡ None
 no_text name rows none = go (find (λ (r : Row). bytes_eq r.id name) rows) none
@@ -150,86 +143,29 @@ no_text name rows none = go (find (λ (r : Row). bytes_eq r.id name) rows) none
     go None none = refl
     go (Some r) none = empty r.reading r.values none
 
--- the values of `look`, where that was named
-pub look_values : (rows : List Row) → NamesCommand (codes "look", rows) → HasLookValues rows
-look_values rows named = elim named [
-  | inl has ↦ has.1
-  | inr (inl has) ↦ absurd (differ (codes "look") (codes "stats") refl has.0)
-  | inr (inr (inl has)) ↦ absurd (differ (codes "look") (codes "build") refl has.0)
-  | inr (inr (inr (inl has))) ↦ absurd (differ (codes "look") (codes "verify") refl has.0)
-  | inr (inr (inr (inr (inl has)))) ↦ absurd (differ (codes "look") (codes "probe") refl has.0)
-  | inr (inr (inr (inr (inr (inl has))))) ↦ absurd (differ (codes "look") (codes "lookup") refl has.0)
-  | inr (inr (inr (inr (inr (inr has))))) ↦ absurd (differ (codes "look") (codes "find") refl has.0)
-]
+-- the values of which a command makes its request, by its name
+abbrev Either : Bool → Type 0 → Type 0 → Type 0
+Either true A B = A
+Either false A B = B
 
--- the values of `stats`, where that was named
-pub stats_values : (rows : List Row) → NamesCommand (codes "stats", rows) → HasStatsValues rows
-stats_values rows named = elim named [
-  | inl has ↦ absurd (differ (codes "stats") (codes "look") refl has.0)
-  | inr (inl has) ↦ has.1
-  | inr (inr (inl has)) ↦ absurd (differ (codes "stats") (codes "build") refl has.0)
-  | inr (inr (inr (inl has))) ↦ absurd (differ (codes "stats") (codes "verify") refl has.0)
-  | inr (inr (inr (inr (inl has)))) ↦ absurd (differ (codes "stats") (codes "probe") refl has.0)
-  | inr (inr (inr (inr (inr (inl has))))) ↦ absurd (differ (codes "stats") (codes "lookup") refl has.0)
-  | inr (inr (inr (inr (inr (inr has))))) ↦ absurd (differ (codes "stats") (codes "find") refl has.0)
-]
+abbrev pub HasValues : Text → List Row → Type 0
+HasValues name rows =
+    Either (bytes_eq name (codes "look")) (HasLookValues rows)
+    (Either (bytes_eq name (codes "stats")) (HasStatsValues rows)
+    (Either (bytes_eq name (codes "build")) (HasBuildValues rows)
+    (Either (bytes_eq name (codes "verify")) (HasVerifyValues rows)
+    (Either (bytes_eq name (codes "probe")) (HasProbeValues rows)
+    (Either (bytes_eq name (codes "lookup")) (HasLookupValues rows) (HasFindValues rows))))))
 
--- the values of `build`, where that was named
-pub build_values : (rows : List Row) → NamesCommand (codes "build", rows) → HasBuildValues rows
-build_values rows named = elim named [
-  | inl has ↦ absurd (differ (codes "build") (codes "look") refl has.0)
-  | inr (inl has) ↦ absurd (differ (codes "build") (codes "stats") refl has.0)
-  | inr (inr (inl has)) ↦ has.1
-  | inr (inr (inr (inl has))) ↦ absurd (differ (codes "build") (codes "verify") refl has.0)
-  | inr (inr (inr (inr (inl has)))) ↦ absurd (differ (codes "build") (codes "probe") refl has.0)
-  | inr (inr (inr (inr (inr (inl has))))) ↦ absurd (differ (codes "build") (codes "lookup") refl has.0)
-  | inr (inr (inr (inr (inr (inr has))))) ↦ absurd (differ (codes "build") (codes "find") refl has.0)
-]
-
--- the values of `verify`, where that was named
-pub verify_values : (rows : List Row) → NamesCommand (codes "verify", rows) → HasVerifyValues rows
-verify_values rows named = elim named [
-  | inl has ↦ absurd (differ (codes "verify") (codes "look") refl has.0)
-  | inr (inl has) ↦ absurd (differ (codes "verify") (codes "stats") refl has.0)
-  | inr (inr (inl has)) ↦ absurd (differ (codes "verify") (codes "build") refl has.0)
-  | inr (inr (inr (inl has))) ↦ has.1
-  | inr (inr (inr (inr (inl has)))) ↦ absurd (differ (codes "verify") (codes "probe") refl has.0)
-  | inr (inr (inr (inr (inr (inl has))))) ↦ absurd (differ (codes "verify") (codes "lookup") refl has.0)
-  | inr (inr (inr (inr (inr (inr has))))) ↦ absurd (differ (codes "verify") (codes "find") refl has.0)
-]
-
--- the values of `probe`, where that was named
-pub probe_values : (rows : List Row) → NamesCommand (codes "probe", rows) → HasProbeValues rows
-probe_values rows named = elim named [
-  | inl has ↦ absurd (differ (codes "probe") (codes "look") refl has.0)
-  | inr (inl has) ↦ absurd (differ (codes "probe") (codes "stats") refl has.0)
-  | inr (inr (inl has)) ↦ absurd (differ (codes "probe") (codes "build") refl has.0)
-  | inr (inr (inr (inl has))) ↦ absurd (differ (codes "probe") (codes "verify") refl has.0)
-  | inr (inr (inr (inr (inl has)))) ↦ has.1
-  | inr (inr (inr (inr (inr (inl has))))) ↦ absurd (differ (codes "probe") (codes "lookup") refl has.0)
-  | inr (inr (inr (inr (inr (inr has))))) ↦ absurd (differ (codes "probe") (codes "find") refl has.0)
-]
-
--- the values of `lookup`, where that was named
-pub lookup_values : (rows : List Row) → NamesCommand (codes "lookup", rows) → HasLookupValues rows
-lookup_values rows named = elim named [
-  | inl has ↦ absurd (differ (codes "lookup") (codes "look") refl has.0)
-  | inr (inl has) ↦ absurd (differ (codes "lookup") (codes "stats") refl has.0)
-  | inr (inr (inl has)) ↦ absurd (differ (codes "lookup") (codes "build") refl has.0)
-  | inr (inr (inr (inl has))) ↦ absurd (differ (codes "lookup") (codes "verify") refl has.0)
-  | inr (inr (inr (inr (inl has)))) ↦ absurd (differ (codes "lookup") (codes "probe") refl has.0)
-  | inr (inr (inr (inr (inr (inl has))))) ↦ has.1
-  | inr (inr (inr (inr (inr (inr has))))) ↦ absurd (differ (codes "lookup") (codes "find") refl has.0)
-]
-
--- the values of `find`, where that was named
-pub find_values : (rows : List Row) → NamesCommand (codes "find", rows) → HasFindValues rows
-find_values rows named = elim named [
-  | inl has ↦ absurd (differ (codes "find") (codes "look") refl has.0)
-  | inr (inl has) ↦ absurd (differ (codes "find") (codes "stats") refl has.0)
-  | inr (inr (inl has)) ↦ absurd (differ (codes "find") (codes "build") refl has.0)
-  | inr (inr (inr (inl has))) ↦ absurd (differ (codes "find") (codes "verify") refl has.0)
-  | inr (inr (inr (inr (inl has)))) ↦ absurd (differ (codes "find") (codes "probe") refl has.0)
-  | inr (inr (inr (inr (inr (inl has))))) ↦ absurd (differ (codes "find") (codes "lookup") refl has.0)
-  | inr (inr (inr (inr (inr (inr has))))) ↦ has.1
-]
+pub has_values : (name : Text) (rows : List Row) → NamesCommand (name, rows) → HasValues name rows
+has_values name rows named =
+    let at : Text → Type 0 = λ n. HasValues n rows in
+    elim named [
+      | inl has ↦ subst at (sym has.0) has.1
+      | inr (inl has) ↦ subst at (sym has.0) has.1
+      | inr (inr (inl has)) ↦ subst at (sym has.0) has.1
+      | inr (inr (inr (inl has))) ↦ subst at (sym has.0) has.1
+      | inr (inr (inr (inr (inl has)))) ↦ subst at (sym has.0) has.1
+      | inr (inr (inr (inr (inr (inl has))))) ↦ subst at (sym has.0) has.1
+      | inr (inr (inr (inr (inr (inr has))))) ↦ subst at (sym has.0) has.1
+    ]

@@ -1,21 +1,24 @@
 -- Where `clap` finds no mistake in the words, they name a command of the program, with the values
 -- that its request wants.
-use Rattle.std.proofs.Common.{◌≡◌, ◌∙◌, ◌&&◌, ◌||◌, ◌⊎◌, Bool, true, false, not, refl, length, sym, ap, subst, inl, inr, List, [], ◌∷◌, Option, Some, None, is_some, codes}
+use Rattle.std.proofs.Common.{◌≡◌, ◌∙◌, ℕ, ◌&&◌, ◌||◌, ◌⊎◌, Bool, true, false, not, refl, length, map, sym, ap, subst, inl, inr, List, [], ◌∷◌, Option, Some, None, is_some, codes}
 use Rattle.std.specs.Prelude.{find, fold, nat_lt, option_map, pos}
+use Rattle.std.specs.List.{list_all, list_any}
 use Rattle.std.specs.Option.{option_map_or}
 use Rattle.std.specs.Str.{bytes_eq}
 use Rattle.std.proofs.lemmas.Slice.Eq.{bytes_eq-Decides}
 use Rattle.clap.proofs.ValueTestLemmas.{accepts-Accepts}
+use Rattle.clap.proofs.WalkLemmas.{both}
 use Rattle.clap.specs.Faults.{built_fault, entered_fault, fault_of, level_fault}
 use Rattle.clap.specs.Takes.{is_given}
 use Rattle.clap.specs.ValueTests.{accepts}
 use Rattle.clap.specs.Facts.{unwrap_or_range}
 use Rattle.clap.specs.Values.{bool_text, is_request}
-use Rattle.clap.specs.Walk.{Row, Rule, Text, action_of, answers_to, arg_by_id, finished, has_row, nothing_held, one_of, rows_after, settled, stop_after, walk, with_default}
-use Rattle.clap.specs.Simple.{App, Shape, argument_words, built, built_leaf, entered, filled, help_rule, inherited, label_of, marked_built, names_of, new_rule, new_shape, rows_at, with_index, with_leaf_noted, with_subcommand}
+use Rattle.clap.specs.Walk.{Row, Rule, Text, action_of, answers_to, arg_by_id, finished, first_of, has_row, is_empty, nothing_held, rows_after, settled, stop_after, walk, with_default}
+use Rattle.clap.specs.Simple.{App, Shape, argument_words, built, built_leaf, entered, filled, inherited, label_of, marked_built, names_of, new_shape, rows_at, with_index, with_leaf_noted, with_subcommand}
+use Rattle.clap.specs.declared.builder.action.ArgAction.{ArgAction}
 use Rattle.clap.specs.declared.builder.action.ArgAction.TheVariants.{Append, Set, SetTrue}
 use Rattle.clap.specs.declared.builder.value_parser.ValueParser.TheVariants as parser
-use Rattle.morris_words.specs.Words.{HasBuildValues, HasFindValues, HasLookValues, HasLookupValues, HasProbeValues, HasStatsValues, HasVerifyValues, NamesRequest, blocks_rule, build_app, depth_rule, find_app, flag_rule, limit_rule, look_app, lookup_app, morris_app, named_by, option_rule, probe_app, program, required_option_rule, required_rule, several_rule, stats_app, verify_app, workers_rule}
+use Rattle.morris_words.specs.Words.{HasBuildValues, HasFindValues, HasFlag, HasLookValues, HasLookupValues, HasNumber, HasProbeValues, HasStatsValues, HasVerifyValues, NamesRequest, build_rules, command_app, commands, find_rules, flag_rule, limit_rule, look_rules, lookup_rules, morris_app, named_by, number_rule, option_rule, probe_rules, program, required_option_rule, required_rule, stats_rules, verify_rules}
 use Rattle.morris_words.proofs.Parsed.{Each, Each-find, HasValue, IsNotHelp, IsPlainRule, Passing, arguments_there, default_fills, default_keeps, given_value, level_passes, row_value, subcommand_there, text_given}
 
 -- ---- arguments that have a value where they are left out
@@ -26,13 +29,107 @@ defaults_keep id [] rows has = has
 defaults_keep id (a ∷ rest) rows has = defaults_keep id rest (with_default rows a) (default_keeps id a rows has)
 
 -- so an argument with a default has a row, whichever arguments come after it
-default_stays : (a : Rule) (v : Text) (vs : List Text) (rest : List Rule) (rows : List Row) → a.defaults ≡ v ∷ vs
+default_stays : (a : Rule) (default : List Text) (rest : List Rule) (rows : List Row) → a.defaults ≡ default → is_empty default ≡ false
     → has_row a.id (fold with_default rows (a ∷ rest)) ≡ true
-default_stays a v vs rest rows is = defaults_keep a.id rest (with_default rows a) (default_fills a v vs rows is)
+default_stays a [] rest rows is some =
+    let bad : true ≡ false = some in
+    cc
+default_stays a (v ∷ vs) rest rows is some = defaults_keep a.id rest (with_default rows a) (default_fills a v vs rows is)
 
--- the flag of a name, as it is built
+abbrev HasRow : List Row → Rule → Type 0
+HasRow rows a = is_empty a.defaults ≡ false → has_row a.id rows ≡ true
+
+have_rows : (rules : List Rule) (rows : List Row) → Each (HasRow (fold with_default rows rules)) rules
+have_rows [] rows = tt
+have_rows (a ∷ rest) rows = (default_stays a a.defaults rest rows refl, have_rows rest (with_default rows a))
+
+-- ---- plain arguments
+
+heads : {X : Type 0} (x y : X) (xs ys : List X) → x ∷ xs ≡ y ∷ ys → (x ≡ y) × (xs ≡ ys)
+heads x y xs ys same =
+    let head : x ≡ y = cc in
+    let tail : xs ≡ ys = cc in (head, tail)
+
+-- whether an argument takes a value at least, stands for one, or asks for help or for the version
+abbrev is_plain : ArgAction → Rule → Bool
+is_plain Set a = nat_lt 0 (unwrap_or_range a.range).start_inclusive
+is_plain Append a = nat_lt 0 (unwrap_or_range a.range).start_inclusive
+is_plain SetTrue a = nat_lt 0 (length a.missing)
+is_plain x a = is_request x
+
+plain_rule : (c : List Rule) (a : Rule) (x : ArgAction) → arg_by_id c a.id ≡ Some a → action_of a ≡ x → is_plain x a ≡ true → IsPlainRule c a
+plain_rule c a Set known is plain = record { known = known; kind = inl (inl is, plain) }
+plain_rule c a Append known is plain = record { known = known; kind = inl (inr is, plain) }
+plain_rule c a SetTrue known is plain = record { known = known; kind = inr (inl (is, plain)) }
+plain_rule c a _ known is plain = record { known = known; kind = inr (inr (ap is_request is ∙ plain)) }
+
+all_plain : (c rules : List Rule) → map (λ a. arg_by_id c a.id) rules ≡ map (λ a. Some a) rules → list_all (λ a. is_plain (action_of a) a) rules ≡ true
+    → Each (IsPlainRule c) rules
+all_plain c [] known plain = tt
+all_plain c (a ∷ rest) known plain =
+    let ids = heads (arg_by_id c a.id) (Some a) (map (λ x. arg_by_id c x.id) rest) (map (λ x. Some x) rest) known in
+    let kinds = both (is_plain (action_of a) a) (list_all (λ x. is_plain (action_of x) x) rest) plain in
+    (plain_rule c a (action_of a) ids.0 refl kinds.0, all_plain c rest ids.1 kinds.1)
+
+-- ---- what is known of each argument
+
+-- It has a value where it has to be given, where it has a default, and where the words gave it; and
+-- one without a default exactly there.
+record IsServed (rows : List Row) (a : Rule) : Type 0 where
+  when_required : a.required ≡ true → HasValue rows a
+  when_left_out : is_empty a.defaults ≡ false → HasValue rows a
+  when_given : is_given a.id rows ≡ true → HasValue rows a
+  as_given : is_empty a.defaults ≡ true → is_given a.id rows ≡ is_some (first_of a.id rows)
+
+either : (p q : Bool) → (p || q) ≡ false → (p ≡ false) × (q ≡ false)
+either true q none = cc
+either false q none = (refl, none)
+
+given_where : (required given : Bool) → (required && not given) ≡ false → required ≡ true → given ≡ true
+given_where true true none is = refl
+given_where true false none is = cc
+given_where false given none is = cc
+
+all_served : (c : List Rule) (rows : List Row) → Passing c rows → (rules : List Rule) → Each (IsPlainRule c) rules
+    → list_any (λ a. a.required && not (is_given a.id rows)) rules ≡ false → Each (HasRow rows) rules → Each (IsServed rows) rules
+all_served c rows passes [] plain none has = tt
+all_served c rows passes (a ∷ rest) plain none has =
+    let parts = either (a.required && not (is_given a.id rows)) (list_any (λ x. x.required && not (is_given x.id rows)) rest) none in (
+      record {
+        when_required = λ is. given_value c rows a passes (given_where a.required (is_given a.id rows) parts.0 is) plain.0.known;
+        when_left_out = λ some. row_value c rows a passes (has.0 some) plain.0.known;
+        when_given = λ is. given_value c rows a passes is plain.0.known;
+        as_given = λ empty. text_given c rows a passes plain.0.known empty;
+      },
+      all_served c rows passes rest plain.1 parts.1 has.1,
+    )
+
+record AreServed (rules : List Rule) (rows : List Row) : Type 0 where
+  each : Each (IsServed rows) rules
+
+unneeded : (negates lacks : Bool) → (not (negates && false) && lacks) ≡ false → lacks ≡ false
+unneeded true lacks none = none
+unneeded false lacks none = none
+
+-- of a command in whose words there is no mistake
+served : (s : Shape) (words : List Text) → map (λ a. arg_by_id s.rules a.id) s.rules ≡ map (λ a. Some a) s.rules
+    → list_all (λ a. is_plain (action_of a) a) s.rules ≡ true → level_fault s [] nothing_held words false [] ≡ []
+    → AreServed s.rules (rows_after s.rules [] words)
+served s words known kinds none =
+    let plain = all_plain s.rules s.rules known kinds in
+    let level = level_passes s [] words false [] plain none in
+    let rows = rows_after s.rules [] words in
+    let start = (settled s.rules (walk s.rules [] nothing_held words).held).rows in
+    record {
+      each = all_served s.rules rows level.rows s.rules plain (unneeded s.subcommand_negates_reqs (list_any (λ a. a.required && not (is_given a.id rows)) s.rules) (arguments_there s rows false level.checked)) (have_rows s.rules start);
+    }
+
+-- the flag of a name, and the option of a name whose value is a number, as they are built
 abbrev flag : Text → Rule
-flag name = filled (record (new_rule name) { long = Some name; action = Some SetTrue })
+flag name = filled (flag_rule name)
+
+abbrev number : Text → ℕ → ℕ → Text → Rule
+number name low high default = filled (number_rule name low high (default ∷ []))
 
 -- a text that passed the parser of a flag says true or false
 says_bool : (t : Text) → accepts false parser.Bool t ≡ true → (b : Bool) × (t ≡ bool_text b)
@@ -42,327 +139,153 @@ says_bool t pass = go (bytes_eq t (codes "true")) refl
     go true e = (true, (bytes_eq-Decides t (codes "true")).0 e)
     go false e = (false, (bytes_eq-Decides t (codes "false")).0 (rw e at pass))
 
--- the rows with the default of a flag say true or false of it
-flag_says : (c : List Rule) (name : Text) (rest : List Rule) (rows : List Row) → Passing c (fold with_default rows (flag name ∷ rest))
-    → arg_by_id c name ≡ Some (flag name) → (b : Bool) × (one_of name (fold with_default rows (flag name ∷ rest)) ≡ Some (bool_text b))
-flag_says c name rest rows passes known =
-    let all = fold with_default rows (flag name ∷ rest) in
-    let value : HasValue all (flag name) = row_value c all (flag name) passes (default_stays (flag name) (codes "false") [] rest rows refl) known in
-    let says = says_bool value.first value.passes in
-    (says.0, value.read ∙ ap (λ t. Some t) says.1)
+module _ {rules : List Rule} {rows : List Row} (are : AreServed rules rows) where
+  argument : (a : Rule) → arg_by_id rules a.id ≡ Some a → IsServed rows a
+  argument a known = (Each-find (IsServed rows) (λ x. bytes_eq x.id a.id) rules a are.each known).0
 
--- an argument that is set to a value, a flag, and one that asks for help or for the version
-sets : {c : List Rule} {a : Rule} → arg_by_id c a.id ≡ Some a → action_of a ≡ Set → nat_lt 0 (unwrap_or_range a.range).start_inclusive ≡ true → IsPlainRule c a
-sets known is some = record { known = known; kind = inl (inl is, some) }
+  -- the text of an argument that has to be given
+  has_text : (a : Rule) → arg_by_id rules a.id ≡ Some a → a.required ≡ true → is_some (first_of a.id rows) ≡ true
+  has_text a known is = ap is_some ((argument a known).when_required is).is_first
 
--- one that takes more values at each use
-appends : {c : List Rule} {a : Rule} → arg_by_id c a.id ≡ Some a → action_of a ≡ Append → nat_lt 0 (unwrap_or_range a.range).start_inclusive ≡ true
-    → IsPlainRule c a
-appends known is some = record { known = known; kind = inl (inr is, some) }
+  -- what a flag says
+  has_flag : (name : Text) → arg_by_id rules name ≡ Some (flag name) → HasFlag name rows
+  has_flag name known =
+      let value : HasValue rows (flag name) = (argument (flag name) known).when_left_out refl in
+      let said = says_bool value.first value.passes in
+      (said.0, value.read ∙ ap (λ t. Some t) said.1)
 
-stands : {c : List Rule} {a : Rule} → arg_by_id c a.id ≡ Some a → action_of a ≡ SetTrue → nat_lt 0 (length a.missing) ≡ true → IsPlainRule c a
-stands known is some = record { known = known; kind = inr (inl (is, some)) }
+  -- a number that stands for one where it is left out
+  has_number : (name : Text) (low high : ℕ) (default : Text) → arg_by_id rules name ≡ Some (number name low high default) → HasNumber name low high rows
+  has_number name low high default known =
+      let value : HasValue rows (number name low high default) = (argument (number name low high default) known).when_left_out refl in
+      record { text = value.first; read = value.read; in_range = accepts-Accepts false (parser.Signed (pos low) (pos high)) value.first value.passes }
 
-asks : {c : List Rule} {a : Rule} → arg_by_id c a.id ≡ Some a → is_request (action_of a) ≡ true → IsPlainRule c a
-asks known is = record { known = known; kind = inr (inr is) }
+-- ---- the commands, as they are built
 
--- ---- `look`, as it is built
+abbrev top_of : Text → List Rule → Shape
+top_of name rules = record (new_shape name) { rules = rules }
 
+abbrev with_tops : App → List (Text × List Rule) → App
+with_tops a [] = a
+with_tops a ((name, rules) ∷ rest) = with_tops (with_subcommand a (top_of name rules)) rest
+
+abbrev whole : App
+whole = with_tops program commands
+
+abbrev built_of : Text → List Rule → Shape
+built_of name rules = built_leaf (inherited (with_leaf_noted (marked_built whole.top)) (top_of name rules))
+
+-- the arguments that several have, in their places
 abbrev board : Rule
 board = with_index 1 (filled (required_rule (codes "BOARD")))
 
 abbrev position : Rule
 position = with_index 2 (filled (required_rule (codes "TEXT")))
 
-abbrev depth : Rule
-depth = filled depth_rule
-
-abbrev help : Rule
-help = filled help_rule
-
-abbrev look_top : Shape
-look_top = record (new_shape (codes "look")) { rules = required_rule (codes "BOARD") ∷ required_rule (codes "TEXT") ∷ depth_rule ∷ [] }
-
-abbrev stats_top : Shape
-stats_top = record (new_shape (codes "stats")) {
-  rules = required_rule (codes "BOARD") ∷ required_rule (codes "PAIR") ∷ flag_rule (codes "classes") ∷ workers_rule ∷ blocks_rule
-      ∷ flag_rule (codes "deepest") ∷ option_rule (codes "from") ∷ flag_rule (codes "csv") ∷ flag_rule (codes "progress") ∷ [];
-}
-
-abbrev build_top : Shape
-build_top = record (new_shape (codes "build")) {
-  rules = required_rule (codes "BOARD") ∷ required_rule (codes "PAIR") ∷ workers_rule ∷ blocks_rule ∷ flag_rule (codes "all") ∷ option_rule (codes "into")
-      ∷ flag_rule (codes "classes") ∷ flag_rule (codes "progress") ∷ [];
-}
-
-abbrev verify_top : Shape
-verify_top = record (new_shape (codes "verify")) {
-  rules = required_rule (codes "BOARD") ∷ flag_rule (codes "all") ∷ option_rule (codes "from") ∷ workers_rule ∷ flag_rule (codes "progress") ∷ [];
-}
-
-abbrev probe_top : Shape
-probe_top = record (new_shape (codes "probe")) { rules = required_rule (codes "BOARD") ∷ required_rule (codes "TEXT") ∷ flag_rule (codes "progress") ∷ [] }
-
-abbrev lookup_top : Shape
-lookup_top = record (new_shape (codes "lookup")) {
-  rules = required_rule (codes "BOARD") ∷ required_option_rule (codes "from") ∷ flag_rule (codes "moves") ∷ flag_rule (codes "line")
-      ∷ flag_rule (codes "csv") ∷ several_rule (codes "TEXT") ∷ [];
-}
-
-abbrev find_top : Shape
-find_top = record (new_shape (codes "find")) {
-  rules = required_rule (codes "BOARD") ∷ required_rule (codes "PAIR") ∷ required_rule (codes "VALUE") ∷ required_option_rule (codes "from")
-      ∷ flag_rule (codes "all") ∷ limit_rule ∷ flag_rule (codes "count") ∷ [];
-}
-
-abbrev whole : App
-whole =
-    with_subcommand (with_subcommand (with_subcommand (with_subcommand (with_subcommand (with_subcommand (with_subcommand program look_top) stats_top) build_top)
-    verify_top) probe_top) lookup_top) find_top
-
-abbrev look : Shape
-look = built_leaf (inherited (with_leaf_noted (marked_built whole.top)) look_top)
-
-look_plain : Each (IsPlainRule look.rules) look.rules
-look_plain = (sets refl refl refl, (sets refl refl refl, (sets refl refl refl, (asks refl refl, tt))))
-
-both_given : (p q : Bool) → (not p || (not q || false)) ≡ false → (p ≡ true) × (q ≡ true)
-both_given true true h = (refl, refl)
-both_given true false h = cc
-both_given false q h = cc
-
-look_fits : (words : List Text) → level_fault look [] nothing_held words false [] ≡ [] → HasLookValues (rows_after look.rules [] words)
-look_fits words none =
-    let level = level_passes look [] words false [] look_plain none in
-    let rows = rows_after look.rules [] words in
-    let start = (settled look.rules (walk look.rules [] nothing_held words).held).rows in
-    let missing : (not (is_given (codes "BOARD") rows) || (not (is_given (codes "TEXT") rows) || false)) ≡ false = arguments_there look rows false level.checked in
-    let given = both_given _ _ missing in
-    let has : has_row (codes "depth") rows ≡ true = default_stays depth (codes "2") [] (help ∷ []) (with_default (with_default start board) position) refl in
-    let first : HasValue rows board = given_value look.rules rows board level.rows given.0 refl in
-    let second : HasValue rows position = given_value look.rules rows position level.rows given.1 refl in
-    let third : HasValue rows depth = row_value look.rules rows depth level.rows has refl in
-    record {
-      board = ap is_some first.is_first;
-      text = ap is_some second.is_first;
-      depth = record { text = third.first; read = third.read; in_range = accepts-Accepts false (parser.Signed (pos 0) (pos 6)) third.first third.passes };
-    }
-
--- ---- `stats`, as it is built
-
 abbrev pair : Rule
 pair = with_index 2 (filled (required_rule (codes "PAIR")))
-
-abbrev workers : Rule
-workers = filled workers_rule
-
-abbrev blocks : Rule
-blocks = filled blocks_rule
 
 abbrev from : Rule
 from = filled (option_rule (codes "from"))
 
-abbrev stats : Shape
-stats = built_leaf (inherited (with_leaf_noted (marked_built whole.top)) stats_top)
+abbrev folder : Rule
+folder = filled (required_option_rule (codes "from"))
 
-stats_plain : Each (IsPlainRule stats.rules) stats.rules
-stats_plain = (
-  sets refl refl refl,
-  (
-    sets refl refl refl,
-    (
-      stands refl refl refl,
-      (sets refl refl refl, (sets refl refl refl, (stands refl refl refl, (sets refl refl refl, (stands refl refl refl, (stands refl refl refl, (asks refl refl, tt))))))),
-    ),
-  ),
-)
+-- ---- `look`
+
+abbrev look : Shape
+look = built_of (codes "look") look_rules
+
+look_fits : (words : List Text) → level_fault look [] nothing_held words false [] ≡ [] → HasLookValues (rows_after look.rules [] words)
+look_fits words none =
+    let are = served look words refl refl none in
+    record { board = has_text are board refl refl; text = has_text are position refl refl; depth = has_number are (codes "depth") 0 6 (codes "2") refl }
+
+-- ---- `stats`
+
+abbrev stats : Shape
+stats = built_of (codes "stats") stats_rules
 
 stats_fits : (words : List Text) → level_fault stats [] nothing_held words false [] ≡ [] → HasStatsValues (rows_after stats.rules [] words)
 stats_fits words none =
-    let level = level_passes stats [] words false [] stats_plain none in
-    let rows = rows_after stats.rules [] words in
-    let start = (settled stats.rules (walk stats.rules [] nothing_held words).held).rows in
-    let missing : (not (is_given (codes "BOARD") rows) || (not (is_given (codes "PAIR") rows) || false)) ≡ false = arguments_there stats rows false level.checked in
-    let given = both_given _ _ missing in
-    let two = with_default (with_default start board) pair in
-    let three = with_default two (flag (codes "classes")) in
-    let four = with_default three workers in
-    let five = with_default four blocks in
-    let seven = with_default (with_default five (flag (codes "deepest"))) from in
-    let after_csv = flag (codes "progress") ∷ help ∷ [] in
-    let after_deepest = from ∷ flag (codes "csv") ∷ after_csv in
-    let after_blocks = flag (codes "deepest") ∷ after_deepest in
-    let after_workers = blocks ∷ after_blocks in
-    let first : HasValue rows board = given_value stats.rules rows board level.rows given.0 refl in
-    let second : HasValue rows pair = given_value stats.rules rows pair level.rows given.1 refl in
-    let classes = flag_says stats.rules (codes "classes") (workers ∷ after_workers) two level.rows refl in
-    let third : HasValue rows workers = row_value stats.rules rows workers level.rows (default_stays workers (codes "2") [] after_workers three refl) refl in
-    let fourth : HasValue rows blocks = row_value stats.rules rows blocks level.rows (default_stays blocks (codes "16") [] after_blocks four refl) refl in
-    let deepest = flag_says stats.rules (codes "deepest") after_deepest five level.rows refl in
-    let csv = flag_says stats.rules (codes "csv") after_csv seven level.rows refl in
-    let progress = flag_says stats.rules (codes "progress") (help ∷ []) (with_default seven (flag (codes "csv"))) level.rows refl in
+    let are = served stats words refl refl none in
     record {
-      board = ap is_some first.is_first;
-      pair = ap is_some second.is_first;
-      classes = classes;
-      workers = record { text = third.first; read = third.read; in_range = accepts-Accepts false (parser.Signed (pos 1) (pos 64)) third.first third.passes };
-      blocks = record { text = fourth.first; read = fourth.read; in_range = accepts-Accepts false (parser.Signed (pos 1) (pos 1024)) fourth.first fourth.passes };
-      deepest = deepest;
-      from = text_given stats.rules rows from level.rows refl refl;
-      csv = csv;
-      progress = progress;
+      board = has_text are board refl refl;
+      pair = has_text are pair refl refl;
+      classes = has_flag are (codes "classes") refl;
+      workers = has_number are (codes "workers") 1 64 (codes "2") refl;
+      blocks = has_number are (codes "blocks") 1 1024 (codes "16") refl;
+      deepest = has_flag are (codes "deepest") refl;
+      from = (argument are from refl).as_given refl;
+      csv = has_flag are (codes "csv") refl;
+      progress = has_flag are (codes "progress") refl;
     }
 
--- ---- `build`, as it is built
+-- ---- `build`
 
 abbrev into : Rule
 into = filled (option_rule (codes "into"))
 
 abbrev build : Shape
-build = built_leaf (inherited (with_leaf_noted (marked_built whole.top)) build_top)
-
-build_plain : Each (IsPlainRule build.rules) build.rules
-build_plain = (
-  sets refl refl refl,
-  (sets refl refl refl, (sets refl refl refl, (sets refl refl refl, (stands refl refl refl, (sets refl refl refl, (stands refl refl refl, (stands refl refl refl, (asks refl refl, tt)))))))),
-)
+build = built_of (codes "build") build_rules
 
 build_fits : (words : List Text) → level_fault build [] nothing_held words false [] ≡ [] → HasBuildValues (rows_after build.rules [] words)
 build_fits words none =
-    let level = level_passes build [] words false [] build_plain none in
-    let rows = rows_after build.rules [] words in
-    let start = (settled build.rules (walk build.rules [] nothing_held words).held).rows in
-    let missing : (not (is_given (codes "BOARD") rows) || (not (is_given (codes "PAIR") rows) || false)) ≡ false = arguments_there build rows false level.checked in
-    let given = both_given _ _ missing in
-    let two = with_default (with_default start board) pair in
-    let three = with_default two workers in
-    let four = with_default three blocks in
-    let five = with_default four (flag (codes "all")) in
-    let six = with_default five into in
-    let seven = with_default six (flag (codes "classes")) in
-    let after_classes = flag (codes "progress") ∷ help ∷ [] in
-    let after_all = into ∷ flag (codes "classes") ∷ after_classes in
-    let after_blocks = flag (codes "all") ∷ after_all in
-    let first : HasValue rows board = given_value build.rules rows board level.rows given.0 refl in
-    let second : HasValue rows pair = given_value build.rules rows pair level.rows given.1 refl in
-    let third : HasValue rows workers = row_value build.rules rows workers level.rows (default_stays workers (codes "2") [] (blocks ∷ after_blocks) two refl) refl in
-    let fourth : HasValue rows blocks = row_value build.rules rows blocks level.rows (default_stays blocks (codes "16") [] after_blocks three refl) refl in
-    let all = flag_says build.rules (codes "all") after_all four level.rows refl in
-    let classes = flag_says build.rules (codes "classes") after_classes six level.rows refl in
-    let progress = flag_says build.rules (codes "progress") (help ∷ []) seven level.rows refl in
+    let are = served build words refl refl none in
     record {
-      board = ap is_some first.is_first;
-      pair = ap is_some second.is_first;
-      workers = record { text = third.first; read = third.read; in_range = accepts-Accepts false (parser.Signed (pos 1) (pos 64)) third.first third.passes };
-      blocks = record { text = fourth.first; read = fourth.read; in_range = accepts-Accepts false (parser.Signed (pos 1) (pos 1024)) fourth.first fourth.passes };
-      all = all;
-      into = text_given build.rules rows into level.rows refl refl;
-      classes = classes;
-      progress = progress;
+      board = has_text are board refl refl;
+      pair = has_text are pair refl refl;
+      workers = has_number are (codes "workers") 1 64 (codes "2") refl;
+      blocks = has_number are (codes "blocks") 1 1024 (codes "16") refl;
+      all = has_flag are (codes "all") refl;
+      into = (argument are into refl).as_given refl;
+      classes = has_flag are (codes "classes") refl;
+      progress = has_flag are (codes "progress") refl;
     }
 
--- ---- `verify`, as it is built
+-- ---- `verify`
 
 abbrev verify : Shape
-verify = built_leaf (inherited (with_leaf_noted (marked_built whole.top)) verify_top)
-
-verify_plain : Each (IsPlainRule verify.rules) verify.rules
-verify_plain = (
-  sets refl refl refl,
-  (stands refl refl refl, (sets refl refl refl, (sets refl refl refl, (stands refl refl refl, (asks refl refl, tt))))),
-)
-
-one_given : (p : Bool) → (not p || false) ≡ false → p ≡ true
-one_given true h = refl
-one_given false h = cc
+verify = built_of (codes "verify") verify_rules
 
 verify_fits : (words : List Text) → level_fault verify [] nothing_held words false [] ≡ [] → HasVerifyValues (rows_after verify.rules [] words)
 verify_fits words none =
-    let level = level_passes verify [] words false [] verify_plain none in
-    let rows = rows_after verify.rules [] words in
-    let start = (settled verify.rules (walk verify.rules [] nothing_held words).held).rows in
-    let missing : (not (is_given (codes "BOARD") rows) || false) ≡ false = arguments_there verify rows false level.checked in
-    let one = with_default start board in
-    let three = with_default (with_default one (flag (codes "all"))) from in
-    let after_workers = flag (codes "progress") ∷ help ∷ [] in
-    let first : HasValue rows board = given_value verify.rules rows board level.rows (one_given _ missing) refl in
-    let all = flag_says verify.rules (codes "all") (from ∷ workers ∷ after_workers) one level.rows refl in
-    let third : HasValue rows workers = row_value verify.rules rows workers level.rows (default_stays workers (codes "2") [] after_workers three refl) refl in
-    let progress = flag_says verify.rules (codes "progress") (help ∷ []) (with_default three workers) level.rows refl in
+    let are = served verify words refl refl none in
     record {
-      board = ap is_some first.is_first;
-      all = all;
-      from = text_given verify.rules rows from level.rows refl refl;
-      workers = record { text = third.first; read = third.read; in_range = accepts-Accepts false (parser.Signed (pos 1) (pos 64)) third.first third.passes };
-      progress = progress;
+      board = has_text are board refl refl;
+      all = has_flag are (codes "all") refl;
+      from = (argument are from refl).as_given refl;
+      workers = has_number are (codes "workers") 1 64 (codes "2") refl;
+      progress = has_flag are (codes "progress") refl;
     }
 
--- ---- `probe`, as it is built
+-- ---- `probe`
 
 abbrev probe : Shape
-probe = built_leaf (inherited (with_leaf_noted (marked_built whole.top)) probe_top)
-
-probe_plain : Each (IsPlainRule probe.rules) probe.rules
-probe_plain = (sets refl refl refl, (sets refl refl refl, (stands refl refl refl, (asks refl refl, tt))))
+probe = built_of (codes "probe") probe_rules
 
 probe_fits : (words : List Text) → level_fault probe [] nothing_held words false [] ≡ [] → HasProbeValues (rows_after probe.rules [] words)
 probe_fits words none =
-    let level = level_passes probe [] words false [] probe_plain none in
-    let rows = rows_after probe.rules [] words in
-    let start = (settled probe.rules (walk probe.rules [] nothing_held words).held).rows in
-    let missing : (not (is_given (codes "BOARD") rows) || (not (is_given (codes "TEXT") rows) || false)) ≡ false = arguments_there probe rows false level.checked in
-    let given = both_given _ _ missing in
-    let first : HasValue rows board = given_value probe.rules rows board level.rows given.0 refl in
-    let second : HasValue rows position = given_value probe.rules rows position level.rows given.1 refl in
-    let progress = flag_says probe.rules (codes "progress") (help ∷ []) (with_default (with_default start board) position) level.rows refl in
-    record {
-      board = ap is_some first.is_first;
-      text = ap is_some second.is_first;
-      progress = progress;
-    }
+    let are = served probe words refl refl none in
+    record { board = has_text are board refl refl; text = has_text are position refl refl; progress = has_flag are (codes "progress") refl }
 
--- ---- `lookup`, as it is built
-
-abbrev folder : Rule
-folder = filled (required_option_rule (codes "from"))
-
-abbrev positions : Rule
-positions = with_index 2 (filled (several_rule (codes "TEXT")))
+-- ---- `lookup`
 
 abbrev lookup : Shape
-lookup = built_leaf (inherited (with_leaf_noted (marked_built whole.top)) lookup_top)
-
-lookup_plain : Each (IsPlainRule lookup.rules) lookup.rules
-lookup_plain = (
-  sets refl refl refl,
-  (sets refl refl refl, (stands refl refl refl, (stands refl refl refl, (stands refl refl refl, (appends refl refl refl, (asks refl refl, tt)))))),
-)
+lookup = built_of (codes "lookup") lookup_rules
 
 lookup_fits : (words : List Text) → level_fault lookup [] nothing_held words false [] ≡ [] → HasLookupValues (rows_after lookup.rules [] words)
 lookup_fits words none =
-    let level = level_passes lookup [] words false [] lookup_plain none in
-    let rows = rows_after lookup.rules [] words in
-    let start = (settled lookup.rules (walk lookup.rules [] nothing_held words).held).rows in
-    let missing : (not (is_given (codes "BOARD") rows) || (not (is_given (codes "from") rows) || false)) ≡ false = arguments_there lookup rows false level.checked in
-    let given = both_given _ _ missing in
-    let two = with_default (with_default start board) folder in
-    let after_csv = positions ∷ help ∷ [] in
-    let after_line = flag (codes "csv") ∷ after_csv in
-    let three = with_default two (flag (codes "moves")) in
-    let first : HasValue rows board = given_value lookup.rules rows board level.rows given.0 refl in
-    let second : HasValue rows folder = given_value lookup.rules rows folder level.rows given.1 refl in
-    let moves = flag_says lookup.rules (codes "moves") (flag (codes "line") ∷ after_line) two level.rows refl in
-    let line = flag_says lookup.rules (codes "line") after_line three level.rows refl in
-    let csv = flag_says lookup.rules (codes "csv") after_csv (with_default three (flag (codes "line"))) level.rows refl in
+    let are = served lookup words refl refl none in
     record {
-      board = ap is_some first.is_first;
-      from = ap is_some second.is_first;
-      moves = moves;
-      line = line;
-      csv = csv;
+      board = has_text are board refl refl;
+      from = has_text are folder refl refl;
+      moves = has_flag are (codes "moves") refl;
+      line = has_flag are (codes "line") refl;
+      csv = has_flag are (codes "csv") refl;
     }
 
--- ---- `find`, as it is built
+-- ---- `find`
 
 abbrev value : Rule
 value = with_index 3 (filled (required_rule (codes "VALUE")))
@@ -371,51 +294,25 @@ abbrev limit : Rule
 limit = filled limit_rule
 
 abbrev find_built : Shape
-find_built = built_leaf (inherited (with_leaf_noted (marked_built whole.top)) find_top)
-
-find_plain : Each (IsPlainRule find_built.rules) find_built.rules
-find_plain = (
-  sets refl refl refl,
-  (sets refl refl refl, (sets refl refl refl, (sets refl refl refl, (stands refl refl refl, (sets refl refl refl, (stands refl refl refl, (asks refl refl, tt))))))),
-)
-
-four_given : (p q r s : Bool) → (not p || (not q || (not r || (not s || false)))) ≡ false → (p ≡ true) × (q ≡ true) × (r ≡ true) × (s ≡ true)
-four_given true true true true h = (refl, refl, refl, refl)
-four_given true true true false h = cc
-four_given true true false s h = cc
-four_given true false r s h = cc
-four_given false q r s h = cc
+find_built = built_of (codes "find") find_rules
 
 find_fits : (words : List Text) → level_fault find_built [] nothing_held words false [] ≡ [] → HasFindValues (rows_after find_built.rules [] words)
 find_fits words none =
-    let level = level_passes find_built [] words false [] find_plain none in
-    let rows = rows_after find_built.rules [] words in
-    let start = (settled find_built.rules (walk find_built.rules [] nothing_held words).held).rows in
-    let missing : (not (is_given (codes "BOARD") rows)
-    || (not (is_given (codes "PAIR") rows) || (not (is_given (codes "VALUE") rows) || (not (is_given (codes "from") rows) || false)))) ≡ false =
-    arguments_there find_built rows false level.checked in
-    let given = four_given _ _ _ _ missing in
-    let four = with_default (with_default (with_default (with_default start board) pair) value) folder in
-    let after_limit = flag (codes "count") ∷ help ∷ [] in
-    let first : HasValue rows board = given_value find_built.rules rows board level.rows given.0 refl in
-    let second : HasValue rows pair = given_value find_built.rules rows pair level.rows given.1 refl in
-    let third : HasValue rows value = given_value find_built.rules rows value level.rows given.2 refl in
-    let fourth : HasValue rows folder = given_value find_built.rules rows folder level.rows given.3 refl in
-    let all = flag_says find_built.rules (codes "all") (limit ∷ after_limit) four level.rows refl in
-    let count = flag_says find_built.rules (codes "count") (help ∷ []) (with_default (with_default four (flag (codes "all"))) limit) level.rows refl in
+    let are = served find_built words refl refl none in
+    let most = argument are limit refl in
     record {
-      board = ap is_some first.is_first;
-      pair = ap is_some second.is_first;
-      value = ap is_some third.is_first;
-      from = ap is_some fourth.is_first;
-      all = all;
+      board = has_text are board refl refl;
+      pair = has_text are pair refl refl;
+      value = has_text are value refl refl;
+      from = has_text are folder refl refl;
+      all = has_flag are (codes "all") refl;
       limit = record {
-        there = text_given find_built.rules rows limit level.rows refl refl;
+        there = most.as_given refl;
         number = λ there.
-            let most : HasValue rows limit = given_value find_built.rules rows limit level.rows there refl in
-            record { text = most.first; read = most.read; in_range = accepts-Accepts false (parser.Signed (pos 1) (pos 4294967295)) most.first most.passes };
+            let given = most.when_given there in
+            record { text = given.first; read = given.read; in_range = accepts-Accepts false (parser.Signed (pos 1) (pos 4294967295)) given.first given.passes };
       };
-      count = count;
+      count = has_flag are (codes "count") refl;
     }
 
 -- ---- the program
@@ -450,9 +347,6 @@ all_serve = (
     ),
   ),
 )
-
-program_plain : Each (IsPlainRule (built whole).top.rules) (built whole).top.rules
-program_plain = (asks refl refl, (asks refl refl, tt))
 
 not_named_help : (s : Shape) (name : Text) → s.name ≡ codes "help" → s.aliases ≡ [] → answers_to name (label_of s) ≡ true
     → bytes_eq name (codes "help") ≡ false → ⊥
@@ -498,5 +392,5 @@ program_named a words plain serves wants offers none =
     entered_named a stop serves (level.stopped offers) level.below_none (there has wanted)
 
 pub named : (words : List Text) → fault_of morris_app words ≡ [] → NamesRequest (named_by words)
-unfolding morris_app look_app stats_app build_app verify_app probe_app lookup_app find_app
-named words none = program_named (built whole) (argument_words whole words) program_plain all_serve refl refl none
+unfolding morris_app command_app
+named words none = program_named (built whole) (argument_words whole words) (all_plain (built whole).top.rules (built whole).top.rules refl refl) all_serve refl refl none

@@ -34,24 +34,87 @@ abbrev pub with_rules : App → List Rule → App
 with_rules a [] = a
 with_rules a (r ∷ rules) = with_rules (with_rule a r) rules
 
+-- a command of this name with these arguments
+unfoldable pub command_app : Text → List Rule → App
+command_app name rules = with_rules (new_app name) rules
+
 -- an argument that has to be given, in its place
 abbrev pub required_rule : Text → Rule
 required_rule name = record (new_rule name) { required = true }
 
--- `--depth N`, N a number from 0 to 6, and 2 where it is left out
+-- an argument that may be left out, or given several times, in its place
+abbrev pub several_rule : Text → Rule
+several_rule name = record (new_rule name) { range = Some (record { start_inclusive = 1; end_inclusive = usize_max }) }
+
+-- `--NAME`, a flag: its value is true where it is given, and false where it is left out
+abbrev pub flag_rule : Text → Rule
+flag_rule name = record (new_rule name) { long = Some name; action = Some action.SetTrue }
+
+-- `--NAME VALUE`, an option that may be left out, and has no value then
+abbrev pub option_rule : Text → Rule
+option_rule name = record (new_rule name) { long = Some name; value_names = 1 }
+
+-- `--NAME VALUE`, an option that has to be given
+abbrev pub required_option_rule : Text → Rule
+required_option_rule name = record (option_rule name) { required = true }
+
+-- `--NAME N`, N a number from `low` to `high`, and the default, if there is one, where it is left
+-- out
+abbrev pub number_rule : Text → ℕ → ℕ → List Text → Rule
+number_rule name low high default =
+    record (option_rule name) { parser = Some (parser.Signed (pos low) (pos high)); defaults = default }
+
+-- how many plies to look ahead, how many workers and blocks there are, and how many positions are
+-- shown at most, a number of 32 bits
 abbrev pub depth_rule : Rule
-depth_rule = record (new_rule (codes "depth")) {
-  long = Some (codes "depth");
-  value_names = 1;
-  parser = Some (parser.Signed (pos 0) (pos 6));
-  defaults = codes "2" ∷ [];
-}
+depth_rule = number_rule (codes "depth") 0 6 (codes "2" ∷ [])
+
+abbrev pub workers_rule : Rule
+workers_rule = number_rule (codes "workers") 1 64 (codes "2" ∷ [])
+
+abbrev pub blocks_rule : Rule
+blocks_rule = number_rule (codes "blocks") 1 1024 (codes "16" ∷ [])
+
+abbrev pub limit_rule : Rule
+limit_rule = number_rule (codes "limit") 1 4294967295 []
 
 -- `look BOARD TEXT [--depth N]`
-unfoldable pub look_app : App
-look_app =
-    with_rule (with_rule (with_rule (new_app (codes "look")) (required_rule (codes "BOARD")))
-    (required_rule (codes "TEXT"))) depth_rule
+abbrev pub look_rules : List Rule
+look_rules = required_rule (codes "BOARD") ∷ required_rule (codes "TEXT") ∷ depth_rule ∷ []
+
+-- `stats BOARD PAIR [--classes] [--workers W] [--blocks K] [--deepest] [--from FOLDER] [--csv]
+-- [--progress]`
+abbrev pub stats_rules : List Rule
+stats_rules =
+    required_rule (codes "BOARD") ∷ required_rule (codes "PAIR") ∷ flag_rule (codes "classes") ∷ workers_rule ∷ blocks_rule
+    ∷ flag_rule (codes "deepest") ∷ option_rule (codes "from") ∷ flag_rule (codes "csv") ∷ flag_rule (codes "progress") ∷ []
+
+-- `build BOARD PAIR [--workers W] [--blocks K] [--all] [--into FOLDER] [--classes] [--progress]`
+abbrev pub build_rules : List Rule
+build_rules =
+    required_rule (codes "BOARD") ∷ required_rule (codes "PAIR") ∷ workers_rule ∷ blocks_rule ∷ flag_rule (codes "all")
+    ∷ option_rule (codes "into") ∷ flag_rule (codes "classes") ∷ flag_rule (codes "progress") ∷ []
+
+-- `verify BOARD [--all] [--from FOLDER] [--workers W] [--progress]`
+abbrev pub verify_rules : List Rule
+verify_rules =
+    required_rule (codes "BOARD") ∷ flag_rule (codes "all") ∷ option_rule (codes "from") ∷ workers_rule ∷ flag_rule (codes "progress") ∷ []
+
+-- `probe BOARD TEXT [--progress]`
+abbrev pub probe_rules : List Rule
+probe_rules = required_rule (codes "BOARD") ∷ required_rule (codes "TEXT") ∷ flag_rule (codes "progress") ∷ []
+
+-- `lookup BOARD --from FOLDER [--moves] [--line] [--csv] [TEXT]..`
+abbrev pub lookup_rules : List Rule
+lookup_rules =
+    required_rule (codes "BOARD") ∷ required_option_rule (codes "from") ∷ flag_rule (codes "moves") ∷ flag_rule (codes "line")
+    ∷ flag_rule (codes "csv") ∷ several_rule (codes "TEXT") ∷ []
+
+-- `find BOARD PAIR VALUE --from FOLDER [--all] [--limit N] [--count]`
+abbrev pub find_rules : List Rule
+find_rules =
+    required_rule (codes "BOARD") ∷ required_rule (codes "PAIR") ∷ required_rule (codes "VALUE") ∷ required_option_rule (codes "from")
+    ∷ flag_rule (codes "all") ∷ limit_rule ∷ flag_rule (codes "count") ∷ []
 
 -- a program that has a version to show and wants one of its commands
 abbrev pub program : App
@@ -59,93 +122,20 @@ program = record (new_app (codes "morris")) {
   top = record (new_app (codes "morris")).top { has_version = true; subcommand_required = true };
 }
 
--- `--NAME`, a flag: its value is true where it is given, and false where it is left out
-abbrev pub flag_rule : Text → Rule
-flag_rule name = record (new_rule name) { long = Some name; action = Some action.SetTrue }
+-- a program with these commands more, one after the other
+abbrev pub with_commands : App → List (Text × List Rule) → App
+with_commands a [] = a
+with_commands a ((name, rules) ∷ rest) = with_commands (with_subcommand a (command_app name rules).top) rest
 
--- `--workers W`, W a number from 1 to 64, and 2 where it is left out
-abbrev pub workers_rule : Rule
-workers_rule = record (new_rule (codes "workers")) {
-  long = Some (codes "workers");
-  value_names = 1;
-  parser = Some (parser.Signed (pos 1) (pos 64));
-  defaults = codes "2" ∷ [];
-}
+-- the commands of `morris`, each with its arguments
+abbrev pub commands : List (Text × List Rule)
+commands =
+    (codes "look", look_rules) ∷ (codes "stats", stats_rules) ∷ (codes "build", build_rules) ∷ (codes "verify", verify_rules)
+    ∷ (codes "probe", probe_rules) ∷ (codes "lookup", lookup_rules) ∷ (codes "find", find_rules) ∷ []
 
--- `--blocks K`, K a number from 1 to 1024, and 16 where it is left out
-abbrev pub blocks_rule : Rule
-blocks_rule = record (new_rule (codes "blocks")) {
-  long = Some (codes "blocks");
-  value_names = 1;
-  parser = Some (parser.Signed (pos 1) (pos 1024));
-  defaults = codes "16" ∷ [];
-}
-
--- `--NAME VALUE`, an option that may be left out, and has no value then
-abbrev pub option_rule : Text → Rule
-option_rule name = record (new_rule name) { long = Some name; value_names = 1 }
-
--- `stats BOARD PAIR [--classes] [--workers W] [--blocks K] [--deepest] [--from FOLDER] [--csv]
--- [--progress]`
-unfoldable pub stats_app : App
-stats_app =
-    with_rule (with_rule (with_rule (with_rule (with_rule (with_rule (with_rule (with_rule (with_rule (new_app (codes "stats"))
-    (required_rule (codes "BOARD"))) (required_rule (codes "PAIR"))) (flag_rule (codes "classes"))) workers_rule) blocks_rule) (flag_rule (codes "deepest")))
-    (option_rule (codes "from"))) (flag_rule (codes "csv"))) (flag_rule (codes "progress"))
-
--- `build BOARD PAIR [--workers W] [--blocks K] [--all] [--into FOLDER] [--classes] [--progress]`
-unfoldable pub build_app : App
-build_app =
-    with_rule (with_rule (with_rule (with_rule (with_rule (with_rule (with_rule (with_rule (new_app (codes "build")) (required_rule (codes "BOARD")))
-    (required_rule (codes "PAIR"))) workers_rule) blocks_rule) (flag_rule (codes "all"))) (option_rule (codes "into"))) (flag_rule (codes "classes")))
-    (flag_rule (codes "progress"))
-
--- `verify BOARD [--all] [--from FOLDER] [--workers W] [--progress]`
-unfoldable pub verify_app : App
-verify_app =
-    with_rule (with_rule (with_rule (with_rule (with_rule (new_app (codes "verify")) (required_rule (codes "BOARD"))) (flag_rule (codes "all")))
-    (option_rule (codes "from"))) workers_rule) (flag_rule (codes "progress"))
-
--- `probe BOARD TEXT [--progress]`
-unfoldable pub probe_app : App
-probe_app =
-    with_rule (with_rule (with_rule (new_app (codes "probe")) (required_rule (codes "BOARD")))
-    (required_rule (codes "TEXT"))) (flag_rule (codes "progress"))
-
--- `--NAME VALUE`, an option that has to be given
-abbrev pub required_option_rule : Text → Rule
-required_option_rule name = record (option_rule name) { required = true }
-
--- an argument that may be left out, or given several times, in its place
-abbrev pub several_rule : Text → Rule
-several_rule name = record (new_rule name) { range = Some (record { start_inclusive = 1; end_inclusive = usize_max }) }
-
--- `lookup BOARD --from FOLDER [--moves] [--line] [--csv] [TEXT]..`
-unfoldable pub lookup_app : App
-lookup_app =
-    with_rule (with_rule (with_rule (with_rule (with_rule (with_rule (new_app (codes "lookup")) (required_rule (codes "BOARD")))
-    (required_option_rule (codes "from"))) (flag_rule (codes "moves"))) (flag_rule (codes "line"))) (flag_rule (codes "csv"))) (several_rule (codes "TEXT"))
-
--- `--limit N`, N a number of 32 bits from 1 on, which may be left out
-abbrev pub limit_rule : Rule
-limit_rule = record (new_rule (codes "limit")) {
-  long = Some (codes "limit");
-  value_names = 1;
-  parser = Some (parser.Signed (pos 1) (pos 4294967295));
-}
-
--- `find BOARD PAIR VALUE --from FOLDER [--all] [--limit N] [--count]`
-unfoldable pub find_app : App
-find_app =
-    with_rule (with_rule (with_rule (with_rule (with_rule (with_rule (with_rule (new_app (codes "find")) (required_rule (codes "BOARD")))
-    (required_rule (codes "PAIR"))) (required_rule (codes "VALUE"))) (required_option_rule (codes "from"))) (flag_rule (codes "all"))) limit_rule)
-    (flag_rule (codes "count"))
-
--- the program `morris` with its commands
+-- the program `morris`
 unfoldable pub morris_app : App
-morris_app =
-    with_subcommand (with_subcommand (with_subcommand (with_subcommand (with_subcommand (with_subcommand (with_subcommand program look_app.top)
-    stats_app.top) build_app.top) verify_app.top) probe_app.top) lookup_app.top) find_app.top
+morris_app = with_commands program commands
 
 -- the command takes what `a` says, and none of its arguments, or of those of its own commands, is
 -- global
@@ -178,8 +168,8 @@ finds_values rows =
     is_on (codes "classes") rows
     || (is_given (codes "workers") rows || (is_given (codes "blocks") rows || (is_on (codes "deepest") rows || is_on (codes "progress") rows)))
 
--- two arguments of `stats` exclude each other: `--csv` and `--deepest`, or `--from` and one of those
--- that say how values are found
+-- two arguments of `stats` exclude each other: `--csv` and `--deepest`, or `--from` and one of
+-- those that say how values are found
 abbrev pub stats_clash : List Row → Bool
 stats_clash rows = (is_on (codes "csv") rows && is_on (codes "deepest") rows) || (is_given (codes "from") rows && finds_values rows)
 
@@ -187,8 +177,8 @@ stats_clash rows = (is_on (codes "csv") rows && is_on (codes "deepest") rows) ||
 abbrev pub lookup_clash : List Row → Bool
 lookup_clash rows = (is_on (codes "moves") rows && is_on (codes "line") rows) || (is_on (codes "csv") rows && not (is_on (codes "moves") rows))
 
--- arguments of the command don't go together: those of `stats` or of `lookup`, `--all` and `--into` of
--- `build`, `--all` and `--from` of `verify`, or `--limit` and `--count` of `find`
+-- arguments of the command don't go together: those of `stats` or of `lookup`, `--all` and `--into`
+-- of `build`, `--all` and `--from` of `verify`, or `--limit` and `--count` of `find`
 abbrev pub has_clash : Text → List Row → Bool
 has_clash name rows =
     (bytes_eq name (codes "build") && (is_on (codes "all") rows && is_given (codes "into") rows))
@@ -312,8 +302,8 @@ pub record HasLookValues (rows : List Row) : Type 0 where
   pub depth : HasNumber (codes "depth") 0 6 rows
 
 -- the values of which `stats` makes its request: board and pair are there, and so are a number of
--- workers from 1 to 64, one of blocks from 1 to 1,024, the values of its flags, and a folder where one
--- was given
+-- workers from 1 to 64, one of blocks from 1 to 1,024, the values of its flags, and a folder where
+-- one was given
 pub record HasStatsValues (rows : List Row) : Type 0 where
   pub board : is_some (first_of (codes "BOARD") rows) ≡ true
   pub pair : is_some (first_of (codes "PAIR") rows) ≡ true

@@ -2,13 +2,13 @@
 ghost use Rattle.std.specs.Prelude.{◌≡◌, List, ℕ, ◌<◌, ◌≤◌, ◌^◌, [], IfErr, IfOk, OnOk, Some, codes, is_some, map, option_map, true, unwrap_or};
 ghost use Rattle.clap.specs.Takes.{is_given};
 ghost use Rattle.clap.specs.Values.{bool_text};
-ghost use Rattle.clap.specs.Words.{App, FailsBy, Rule, all_of, app_of, fault_of, first_of, found_of, kind_of, new_app, one_of, rows_of, subcommand_rows_of, with_subcommand};
+ghost use Rattle.clap.specs.Words.{App, FailsBy, Rule, all_of, app_of, fault_of, first_of, found_of, kind_of, one_of, rows_of, subcommand_rows_of, with_subcommand};
 ghost use Rattle.clap.specs.declared.error.kind.ErrorKind.TheVariants.{ArgumentConflict};
 ghost use Rattle.morris_words.specs.Words.{AreArgs, AsksFor, HasBuildValues, HasFindValues, HasFlag, HasLimit, HasLookValues, HasLookupValues, HasNumber, HasOption, HasProbeValues};
 ghost use Rattle.morris_words.specs.Words.{HasStatsValues, HasVerifyValues, Is, IsAnswerTo, IsAnswerToOneOf, IsArg, IsInRange, IsLimit, IsOption, IsRequestOf, IsShown};
-ghost use Rattle.morris_words.specs.Words.{NamesRequest, blocks_rule, build_app, clashes, depth_rule, faults_of, find_app, flag_rule, has_clash, limit_rule, look_app};
-ghost use Rattle.morris_words.specs.Words.{lookup_app, morris_app, named_by, number_of, option_rule, probe_app, program, required_option_rule, required_rule};
-ghost use Rattle.morris_words.specs.Words.{several_rule, stats_app, verify_app, with_rules, workers_rule};
+ghost use Rattle.morris_words.specs.Words.{NamesRequest, blocks_rule, build_rules, clashes, command_app, depth_rule, faults_of, find_rules, flag_rule, has_clash, limit_rule, look_rules};
+ghost use Rattle.morris_words.specs.Words.{lookup_rules, morris_app, named_by, number_of, option_rule, probe_rules, program, required_option_rule, required_rule};
+ghost use Rattle.morris_words.specs.Words.{several_rule, stats_rules, verify_rules, workers_rule};
 
 use crate::help;
 use crate::request::{Build, Find, Look, Lookup, Probe, Request, Show, Stats, Task, Verify};
@@ -153,7 +153,7 @@ fn command_of<'a>(
     help: &'a str,
     args: Vec<Arg<'a>>,
 ) -> Result<Command<'a>, AllocError>
-    ensures { (rules : List Rule) → AreArgs rules args.entry.items → IfOk result (Is (with_rules (new_app name.entry.now) rules)) }
+    ensures { (rules : List Rule) → AreArgs rules args.entry.items → IfOk result (Is (command_app name.entry.now rules)) }
 {
     Command::new(alloc, name)
         .about(about)
@@ -162,7 +162,7 @@ fn command_of<'a>(
 }
 
 fn look_command<'a>(alloc: Global) -> Result<Command<'a>, AllocError>
-    ensures { IfOk result (Is look_app) }
+    ensures { IfOk result (Is (command_app (codes "look") look_rules)) }
 {
     let about = "Show a position, its legal moves and its value within N plies";
     let args = vec![in alloc;
@@ -174,7 +174,7 @@ fn look_command<'a>(alloc: Global) -> Result<Command<'a>, AllocError>
 }
 
 fn stats_command<'a>(alloc: Global) -> Result<Command<'a>, AllocError>
-    ensures { IfOk result (Is stats_app) }
+    ensures { IfOk result (Is (command_app (codes "stats") stats_rules)) }
 {
     let about = "Count the values of all positions with a pair's numbers of stones";
     let args = vec![in alloc;
@@ -192,7 +192,7 @@ fn stats_command<'a>(alloc: Global) -> Result<Command<'a>, AllocError>
 }
 
 fn build_command<'a>(alloc: Global) -> Result<Command<'a>, AllocError>
-    ensures { IfOk result (Is build_app) }
+    ensures { IfOk result (Is (command_app (codes "build") build_rules)) }
 {
     let about = "Build the table of a pair, and write its file to standard output or a folder";
     let args = vec![in alloc;
@@ -209,7 +209,7 @@ fn build_command<'a>(alloc: Global) -> Result<Command<'a>, AllocError>
 }
 
 fn verify_command<'a>(alloc: Global) -> Result<Command<'a>, AllocError>
-    ensures { IfOk result (Is verify_app) }
+    ensures { IfOk result (Is (command_app (codes "verify") verify_rules)) }
 {
     let about = "Check each entry of the table files on standard input or in a folder";
     let args = vec![in alloc;
@@ -223,7 +223,7 @@ fn verify_command<'a>(alloc: Global) -> Result<Command<'a>, AllocError>
 }
 
 fn probe_command<'a>(alloc: Global) -> Result<Command<'a>, AllocError>
-    ensures { IfOk result (Is probe_app) }
+    ensures { IfOk result (Is (command_app (codes "probe") probe_rules)) }
 {
     let about =
         "Report the value and the best moves of a position, by table files on standard input";
@@ -236,7 +236,7 @@ fn probe_command<'a>(alloc: Global) -> Result<Command<'a>, AllocError>
 }
 
 fn lookup_command<'a>(alloc: Global) -> Result<Command<'a>, AllocError>
-    ensures { IfOk result (Is lookup_app) }
+    ensures { IfOk result (Is (command_app (codes "lookup") lookup_rules)) }
 {
     let about = "Look up positions in the table files of a folder";
     let args = vec![in alloc;
@@ -251,7 +251,7 @@ fn lookup_command<'a>(alloc: Global) -> Result<Command<'a>, AllocError>
 }
 
 fn find_command<'a>(alloc: Global) -> Result<Command<'a>, AllocError>
-    ensures { IfOk result (Is find_app) }
+    ensures { IfOk result (Is (command_app (codes "find") find_rules)) }
 {
     let about = "Find the positions that have a value in the table file of a pair";
     let args = vec![in alloc;

@@ -1,11 +1,8 @@
-use Rattle.std.proofs.Common.{[], ◌∷◌, List, codes, subst, sym}
-use Rattle.clap.specs.Words.{Rule}
-use Rattle.morris_words.specs.Words.{AreArgs, blocks_rule, build_app, flag_rule, option_rule, required_rule, workers_rule}
+use Rattle.std.proofs.Common.{subst, sym}
+use Rattle.morris_words.specs.Words.{AreArgs, build_rules}
 use Rattle.morris_words.proofs.words.build_command.Goals as goal
 
 pub returns : goal.returns
-unfolding build_app
 returns c =
-    let rules : List Rule = required_rule (codes "BOARD") ∷ required_rule (codes "PAIR") ∷ workers_rule ∷ blocks_rule ∷ flag_rule (codes "all") ∷ option_rule (codes "into") ∷ flag_rule (codes "classes") ∷ flag_rule (codes "progress") ∷ [] in
-    c.command_of.ensures rules
-    (subst (AreArgs rules) (sym c.in_ok-args.ensures.items) (c.required_arg.ensures, (c.required_arg-2.ensures, (c.workers_arg.ensures, (c.blocks_arg.ensures, (c.flag_arg.ensures, (c.option_arg.ensures, (c.flag_arg-2.ensures, (c.flag_arg-3.ensures, tt)))))))))
+    c.command_of.ensures build_rules
+    (subst (AreArgs build_rules) (sym c.in_ok-args.ensures.items) (c.required_arg.ensures, (c.required_arg-2.ensures, (c.workers_arg.ensures, (c.blocks_arg.ensures, (c.flag_arg.ensures, (c.option_arg.ensures, (c.flag_arg-2.ensures, (c.flag_arg-3.ensures, tt)))))))))

@@ -4,11 +4,12 @@ use Rattle.clap.specs.Simple.{app_of_fields}
 use Rattle.clap.specs.Words.{new_app}
 use Rattle.clap.specs.declared.builder.command.Command.{Command}
 use Rattle.clap.specs.declared.builder.command.Command.TheOpen.{Command-F}
-use Rattle.morris_words.specs.Words.{Is}
+use Rattle.morris_words.specs.Words.{Is, command_app}
 use Rattle.morris_words.proofs.ReadLaws.{with_args}
 use Rattle.morris_words.proofs.words.command_of.Goals as goal
 
 pub returns : goal.returns
+unfolding command_app
 returns c rules are =
     let app = ap app_of_fields c.after_help.ensures ∙ (ap app_of_fields c.about.ensures ∙ c.new.ensures.app) in
     let local = ap (λ (f : Command-F Command). f.has_globals) c.after_help.ensures

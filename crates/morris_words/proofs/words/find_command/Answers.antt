@@ -1,16 +1,11 @@
-use Rattle.std.proofs.Common.{[], ◌∷◌, List, codes, subst, sym}
-use Rattle.clap.specs.Words.{Rule}
-use Rattle.morris_words.specs.Words.{AreArgs, find_app, flag_rule, limit_rule, required_option_rule, required_rule}
+use Rattle.std.proofs.Common.{subst, sym}
+use Rattle.morris_words.specs.Words.{AreArgs, find_rules}
 use Rattle.morris_words.proofs.words.find_command.Goals as goal
 
 pub returns : goal.returns
-unfolding find_app
 returns c =
-    let rules : List Rule =
-    required_rule (codes "BOARD") ∷ required_rule (codes "PAIR") ∷ required_rule (codes "VALUE") ∷ required_option_rule (codes "from") ∷ flag_rule (codes "all") ∷ limit_rule
-    ∷ flag_rule (codes "count") ∷ [] in
-    c.command_of.ensures rules
-    (subst (AreArgs rules) (sym c.in_ok-args.ensures.items) (
+    c.command_of.ensures find_rules
+    (subst (AreArgs find_rules) (sym c.in_ok-args.ensures.items) (
       c.required_arg.ensures,
       (
         c.required_arg-2.ensures,

@@ -6,7 +6,7 @@ use Rattle.clap.specs.Walk.{one_of}
 use Rattle.clap.specs.Words.{found_of, rows_of}
 use Rattle.clap.proofs.WalkLemmas.{one_text-rows}
 use Rattle.morris_words.specs.Words.{IsLimit, number_of}
-use Rattle.morris_words.proofs.GivenLaws.{wide_number}
+use Rattle.morris_words.proofs.GivenLaws.{read_number}
 use Rattle.morris_words.proofs.ReadLaws.{no_text}
 use Rattle.morris_words.proofs.words.limit_of.Goals as goal
 
@@ -17,7 +17,7 @@ returns c =
     elim (cases_Bool (is_given (codes "limit") rows)) [
       | inl given ↦
           let has = c.requires.number given in
-          let read = wide_number (λ bs r. ParsesUnsigned 32 10 bs r × ExplainsUnsignedError 10 bs r × HasUnsignedDigitsIfOk bs r) 1 4294967295 has.text c.get_one.result
+          let read = read_number (λ bs r. ParsesUnsigned 32 10 bs r × ExplainsUnsignedError 10 bs r × HasUnsignedDigitsIfOk bs r) 32 1 4294967295 has.text c.get_one.result
           (c.get_one.ensures.value _ (one_text-rows found (codes "limit") ∙ has.read)) (λ u x g. g.0) (omega arith) has.in_range in
           subst (IsLimit rows) (sym read.1) (given, ap (option_map number_of) has.read ∙ ap (λ n. Some n) read.4)
       | inr none ↦

@@ -1,15 +1,15 @@
 use Rattle.std.proofs.Common.{◌≡◌, ◌∙◌, ap, refl, subst, map, true}
 use Rattle.std.proofs.lemmas.Result.{IfOk-weaker}
 use Rattle.clap.specs.Words.{App, FailsBy, fault_of, is_simple, is_simple_and_free, subcommand_of}
-use Rattle.morris_words.specs.Words.{build_app, find_app, look_app, lookup_app, morris_app, probe_app, stats_app, verify_app}
+use Rattle.morris_words.specs.Words.{command_app, morris_app}
 use Rattle.morris_words.proofs.words.parse.Goals as goal
 
 is_free : is_simple_and_free morris_app ≡ true
-unfolding morris_app look_app stats_app build_app verify_app probe_app lookup_app find_app
+unfolding morris_app command_app
 is_free = refl
 
 is_known : is_simple morris_app ≡ true
-unfolding morris_app look_app stats_app build_app verify_app probe_app lookup_app find_app
+unfolding morris_app command_app
 is_known = refl
 
 pub returns-clause-kinds : goal.returns-clause-kinds

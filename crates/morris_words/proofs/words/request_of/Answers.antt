@@ -2,14 +2,14 @@ use Rattle.std.proofs.Common.{codes, subst, sym}
 use Rattle.std.specs.Prelude.{IfErr, IfOk}
 use Rattle.clap.specs.Words.{found_of, rows_of}
 use Rattle.morris_words.specs.Words.{IsAnswerToOneOf, IsRequestOf, NamesRequest, clashes}
-use Rattle.morris_words.proofs.ReadLaws.{build_values, find_values, look_values, lookup_values, named_here, probe_values, stats_values, verify_values}
+use Rattle.morris_words.proofs.ReadLaws.{has_values, named_here}
 use Rattle.morris_words.proofs.words.request_of.Goals as goal
 
 pub look_request-requires : goal.look_request-requires
 look_request-requires c =
     let here = c.in-Some-look-default in
     let named = named_here c.args.matches.now c.subcommand.result _ (codes "look") c.subcommand.ensures.name c.subcommand.ensures.rows here.is here.is-look in
-    look_values (rows_of (found_of here.found.now)) (subst NamesRequest named c.requires)
+    has_values (codes "look") (rows_of (found_of here.found.now)) (subst NamesRequest named c.requires)
 
 pub returns-in-Some-look-default-clause-request : goal.returns-in-Some-look-default-clause-request
 returns-in-Some-look-default-clause-request c =
@@ -21,7 +21,7 @@ pub stats_request-requires : goal.stats_request-requires
 stats_request-requires c =
     let here = c.in-Some-stats-default in
     let named = named_here c.args.matches.now c.subcommand.result _ (codes "stats") c.subcommand.ensures.name c.subcommand.ensures.rows here.is here.is-stats in
-    stats_values (rows_of (found_of here.found.now)) (subst NamesRequest named c.requires)
+    has_values (codes "stats") (rows_of (found_of here.found.now)) (subst NamesRequest named c.requires)
 
 pub returns-in-Some-stats-default-clause-request : goal.returns-in-Some-stats-default-clause-request
 returns-in-Some-stats-default-clause-request c =
@@ -39,7 +39,7 @@ pub build_request-requires : goal.build_request-requires
 build_request-requires c =
     let here = c.in-Some-build-default in
     let named = named_here c.args.matches.now c.subcommand.result _ (codes "build") c.subcommand.ensures.name c.subcommand.ensures.rows here.is here.is-build in
-    build_values (rows_of (found_of here.found.now)) (subst NamesRequest named c.requires)
+    has_values (codes "build") (rows_of (found_of here.found.now)) (subst NamesRequest named c.requires)
 
 pub returns-in-Some-build-default-clause-request : goal.returns-in-Some-build-default-clause-request
 returns-in-Some-build-default-clause-request c =
@@ -57,7 +57,7 @@ pub verify_request-requires : goal.verify_request-requires
 verify_request-requires c =
     let here = c.in-Some-verify-default in
     let named = named_here c.args.matches.now c.subcommand.result _ (codes "verify") c.subcommand.ensures.name c.subcommand.ensures.rows here.is here.is-verify in
-    verify_values (rows_of (found_of here.found.now)) (subst NamesRequest named c.requires)
+    has_values (codes "verify") (rows_of (found_of here.found.now)) (subst NamesRequest named c.requires)
 
 pub returns-in-Some-verify-default-clause-request : goal.returns-in-Some-verify-default-clause-request
 returns-in-Some-verify-default-clause-request c =
@@ -75,7 +75,7 @@ pub probe_request-requires : goal.probe_request-requires
 probe_request-requires c =
     let here = c.in-Some-probe-default in
     let named = named_here c.args.matches.now c.subcommand.result _ (codes "probe") c.subcommand.ensures.name c.subcommand.ensures.rows here.is here.is-probe in
-    probe_values (rows_of (found_of here.found.now)) (subst NamesRequest named c.requires)
+    has_values (codes "probe") (rows_of (found_of here.found.now)) (subst NamesRequest named c.requires)
 
 pub returns-in-Some-probe-default-clause-request : goal.returns-in-Some-probe-default-clause-request
 returns-in-Some-probe-default-clause-request c =
@@ -87,7 +87,7 @@ pub lookup_request-requires : goal.lookup_request-requires
 lookup_request-requires c =
     let here = c.in-Some-lookup-default in
     let named = named_here c.args.matches.now c.subcommand.result _ (codes "lookup") c.subcommand.ensures.name c.subcommand.ensures.rows here.is here.is-lookup in
-    lookup_values (rows_of (found_of here.found.now)) (subst NamesRequest named c.requires)
+    has_values (codes "lookup") (rows_of (found_of here.found.now)) (subst NamesRequest named c.requires)
 
 pub returns-in-Some-lookup-default-clause-request : goal.returns-in-Some-lookup-default-clause-request
 returns-in-Some-lookup-default-clause-request c =
@@ -105,7 +105,7 @@ pub find_request-requires : goal.find_request-requires
 find_request-requires c =
     let here = c.in-Some-find-default in
     let named = named_here c.args.matches.now c.subcommand.result _ (codes "find") c.subcommand.ensures.name c.subcommand.ensures.rows here.is here.is-find in
-    find_values (rows_of (found_of here.found.now)) (subst NamesRequest named c.requires)
+    has_values (codes "find") (rows_of (found_of here.found.now)) (subst NamesRequest named c.requires)
 
 pub returns-in-Some-find-default-clause-request : goal.returns-in-Some-find-default-clause-request
 returns-in-Some-find-default-clause-request c =
