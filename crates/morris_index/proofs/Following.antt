@@ -2,9 +2,9 @@
 use Rattle.std.proofs.Common.{◌≡◌, ℕ, zero, suc, ◌+◌, ◌-◌, ◌^◌, ◌<◌, ◌≤◌, Bool, true, false, not, ◌&&◌, ◌||◌, ltb, eqb, List, [], ◌∷◌, ◌++◌, map, length, filter, get_or, refl, sym, ◌∙◌, ap, subst, inl, inr, ◌⊎◌, arith, zero-add}
 use Rattle.std.proofs.lemmas.Bool.{cases_Bool, cases_eq, cases_lt, both_ways, eq-eqb, ne_eqb, lt-ltb, le-ltb, eqb-true, ltb-true, and_parts, and_right}
 use Rattle.std.specs.List.{range_with_len, list_all}
-use Rattle.morris_board.specs.Sets.{has, members, count_of, with_point, set_where}
+use Rattle.morris_board.specs.Sets.{has, members, count_of, with_point}
 use Rattle.morris_board.proofs.SetLaws.{point_lt, lt_from_points}
-use Rattle.morris_board.proofs.PointsLaws.{members_all, has-none, has-with, has-above, same_points, has-set_where, set_where-lt}
+use Rattle.morris_board.proofs.PointsLaws.{members_all, has-none, has-with, has-above}
 use Rattle.morris_index.specs.Binomials.{choose}
 use Rattle.morris_board.specs.Positions.{Sides, sides}
 use Rattle.morris_index.specs.Numbering.{rank_of, number_outside, half_index, IsRanked}

@@ -1,11 +1,11 @@
 -- The index of a position that differs from a given one by a moved stone.
-use Rattle.std.proofs.Common.{◌≡◌, ℕ, ◌+◌, ◌-◌, ◌*◌, ◌^◌, ◌<◌, ◌≤◌, Bool, true, false, not, ◌&&◌, ◌||◌, eqb, ltb, map, refl, sym, ◌∙◌, ap, ap₂, inl, inr, ◌⊎◌, arith}
-use Rattle.std.proofs.lemmas.Bool.{cases_Bool, cases_eq, cases_lt, both_ways, eq-eqb, ne_eqb, ltb-true, ltb-false, and_right}
+use Rattle.std.proofs.Common.{◌≡◌, ℕ, ◌+◌, ◌-◌, ◌*◌, ◌^◌, ◌<◌, ◌≤◌, Bool, true, false, not, ◌||◌, eqb, ltb, map, refl, sym, ◌∙◌, ap, ap₂, inl, inr, ◌⊎◌, arith}
+use Rattle.std.proofs.lemmas.Bool.{cases_Bool, cases_eq, both_ways, eq-eqb, ne_eqb, ltb-true, ltb-false, and_right}
 use Rattle.morris_board.specs.Boards.{Shape}
 use Rattle.morris_board.specs.Sets.{has, members, count_of, with_point, without_point}
 use Rattle.morris_board.specs.Positions.{Sides, sides, IsPosition}
 use Rattle.morris_board.proofs.SetLaws.{point_lt, with_point-lt, without_point-lt}
-use Rattle.morris_board.proofs.PointsLaws.{has-without, has-above, count_of-with, count_of-without}
+use Rattle.morris_board.proofs.PointsLaws.{has-without, count_of-with, count_of-without}
 use Rattle.morris_index.specs.Binomials.{choose}
 use Rattle.morris_index.specs.Numbering.{rank_of, number_outside, half_index}
 use Rattle.morris_index.specs.Pairs.{Counts, IsPair, IsHalf, index_of}

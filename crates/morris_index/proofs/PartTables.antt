@@ -1,7 +1,7 @@
 -- The tables by parts are what they say, by one computation over each.
 use Rattle.std.proofs.Common.{◌&&◌, ◌≡◌, ℕ, zero, suc, ◌+◌, ◌*◌, ◌^◌, ◌<◌, ◌≤◌, Bool, true, false, not, ◌||◌, [], get_or, eqb, leb, ltb, refl, sym, ◌∙◌, inl, inr, cond, arith}
 use Rattle.std.specs.List.{range_with_len, list_all}
-use Rattle.std.proofs.lemmas.Bool.{cases_Bool, cases_lt, eqb-true, lt-ltb, le-leb, ltb-true, and_parts, both_ways}
+use Rattle.std.proofs.lemmas.Bool.{cases_Bool, eqb-true, lt-ltb, le-leb, ltb-true, and_parts, both_ways}
 use Rattle.std.proofs.Math.Nat.{pow-le-pow_right}
 use Rattle.morris_board.specs.Sets.{has}
 use Rattle.morris_board.proofs.SetLaws.{point_lt}

@@ -1,14 +1,14 @@
 -- What a move does to the numbers of stones. A quiet move from a position with x own and y other
 -- stones leads to one with y own and x other stones; a move that captures leads to one with y - 1
 -- own and x other stones.
-use Rattle.std.proofs.Common.{◌≡◌, ℕ, suc, ◌-◌, ◌<◌, ◌≤◌, true, [], ◌∷◌, refl, sym, ◌∙◌, inl, inr, ◌⊎◌, arith, Some, lit<}
+use Rattle.std.proofs.Common.{◌≡◌, ℕ, suc, ◌-◌, ◌<◌, true, [], ◌∷◌, refl, ◌∙◌, inl, inr, ◌⊎◌, arith, Some, lit<}
 use Rattle.std.specs.List.{Contains}
 use Rattle.std.specs.Option.{option_to_list}
 use Rattle.std.proofs.lemmas.Bool.{cases_lt, eq-eqb, ne_eqb, le-leb, lt-leb, lt-ltb}
 use Rattle.std.proofs.lemmas.List.Elements.{Contains-append_left, Contains-append_right}
 use Rattle.morris_board.specs.Sets.{count_of}
 use Rattle.morris_board.specs.Positions.{Sides}
-use Rattle.morris_index.specs.Pairs.{Counts, counts, IsPair, ordered, pair_of, has_counts, is_of, less_lesser, less_greater, needed}
+use Rattle.morris_index.specs.Pairs.{Counts, counts, IsPair, pair_of, has_counts, is_of, less_lesser, less_greater, needed}
 use Rattle.morris_index.proofs.IndexLaws.{halves_of, is_of-first, is_of-second}
 
 only : (c : Counts) → Contains (c ∷ []) c

@@ -1,12 +1,10 @@
 -- Laws of sets of points that the numbering needs: the points of a set below a point, and a set
 -- with a new least point.
 use Rattle.std.proofs.Common.{◌≡◌, ℕ, zero, suc, ◌+◌, ◌-◌, ◌^◌, ◌<◌, ◌≤◌, Bool, true, false, ◌&&◌, ◌||◌, ltb, List, [], ◌∷◌, ◌++◌, length, filter, refl, sym, ◌∙◌, ap, inl, inr, arith}
-use Rattle.std.specs.List.{range_with_len, list_all}
-use Rattle.std.proofs.lemmas.Bool.{cases_Bool, cases_eq, cases_lt, both_ways, eq-eqb, ne_eqb, lt-ltb, le-ltb, ltb-true, and_parts, and_right}
-use Rattle.std.proofs.lemmas.List.Folds.{list_all-append}
+use Rattle.std.specs.List.{range_with_len}
+use Rattle.std.proofs.lemmas.Bool.{cases_Bool, cases_eq, eq-eqb, ne_eqb, lt-ltb, le-ltb, and_right}
 use Rattle.morris_board.specs.Sets.{has, members, count_of, with_point, without_point}
-use Rattle.morris_board.proofs.SetLaws.{point_lt}
-use Rattle.morris_board.proofs.PointsLaws.{has-with, has-without, same_points, members-first, all_members}
+use Rattle.morris_board.proofs.PointsLaws.{has-with, has-without, same_points, members-first}
 use Rattle.morris_index.proofs.RankLaws.{passing, count_below, passing-yes, passing-no, passing-above, members-passing}
 
 pub or_false : (b : Bool) → (b || false) ≡ b

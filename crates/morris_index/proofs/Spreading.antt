@@ -7,7 +7,7 @@ use Rattle.std.proofs.Math.Nat.{add-mul, mul_assoc, mul_comm, mod-lt, pow-le-pow
 use Rattle.std.specs.Int.{bit_at}
 use Rattle.morris_board.specs.Sets.{has, members, count_of}
 use Rattle.morris_board.proofs.SetLaws.{point_lt, lt_from_points}
-use Rattle.morris_board.proofs.PointsLaws.{has-above, has-none}
+use Rattle.morris_board.proofs.PointsLaws.{has-none}
 use Rattle.morris_index.specs.Numbering.{rank_of, number_outside, IsRanked}
 use Rattle.morris_index.specs.Sums.{total}
 use Rattle.morris_index.specs.Parts.{weight, squeezed_below}

@@ -1,12 +1,12 @@
 -- The sums from which the rank of a set is found where a stone has moved.
-use Rattle.std.proofs.Common.{◌≡◌, ◌≢◌, ℕ, zero, suc, ◌+◌, ◌-◌, ◌*◌, ◌^◌, ◌<◌, ◌≤◌, Bool, true, false, not, ◌&&◌, ◌||◌, eqb, ltb, cond, List, [], ◌∷◌, ◌++◌, length, filter, map, slice_index, slice_set, refl, sym, ◌∙◌, ap, ap₂, inl, inr, ◌⊎◌, arith, zero-add, length-append, append_assoc}
+use Rattle.std.proofs.Common.{◌≡◌, ◌≢◌, ℕ, zero, suc, ◌+◌, ◌-◌, ◌*◌, ◌^◌, ◌<◌, ◌≤◌, Bool, true, false, ◌||◌, ltb, cond, List, [], ◌∷◌, ◌++◌, length, filter, map, slice_index, slice_set, refl, sym, ◌∙◌, ap, ap₂, inl, inr, ◌⊎◌, arith, zero-add, length-append, append_assoc}
 use Rattle.std.proofs.lemmas.Bool.{cases_Bool, cases_eq, cases_lt, both_ways, eq-eqb, ne_eqb, or_right}
 use Rattle.std.proofs.lemmas.List.{get_or-set_other, same_from_push}
 use Rattle.std.proofs.lemmas.Grind.{get_or-set_at}
 use Rattle.morris_board.specs.Sets.{has, members, count_of, with_point, without_point}
 use Rattle.morris_board.proofs.ImageTables.{member_lt}
 use Rattle.morris_board.proofs.SetLaws.{with_point-lt, without_point-lt}
-use Rattle.morris_board.proofs.PointsLaws.{has-with, has-without, has-above}
+use Rattle.morris_board.proofs.PointsLaws.{has-with, has-without}
 use Rattle.morris_index.specs.Binomials.{choose}
 use Rattle.morris_index.specs.Numbering.{rank_of, number_outside}
 use Rattle.morris_index.specs.Sums.{total, term, sum_below, bias, AreKept, moved_end, renumbered_end}

@@ -198,7 +198,9 @@ impl<'a, B: Geometry> Facing<'a, B> {
         let _ = position.own();
         let faced = from.image(symmetry);
         let other = faced.other();
-        let entry = self.pair.entry_outside(start, other, other.count(), representative);
+        let entry = self
+            .pair
+            .entry_outside(start, other, other.count(), representative);
         Faced {
             after: SuccessorEntries::led_by(
                 self.pair,

@@ -83,7 +83,10 @@ impl<'a, B: Geometry> PredecessorEntries<'a, B> {
         let carrying = leading.common(self.returning.symmetries);
         for symmetry in carrying.iter() {
             let image = self.returning.image(symmetry);
-            out.push(self.pair.entry_outside(start, image, self.count, representative))?;
+            out.push(
+                self.pair
+                    .entry_outside(start, image, self.count, representative),
+            )?;
         }
         Ok(())
     }

@@ -105,6 +105,7 @@ impl<'a, B: Geometry> SuccessorEntries<'a, B> {
         let led_from = B::image(self.symmetry, from);
         let led_to = B::image(self.symmetry, to);
         let moved = self.led.own().without(led_from).with(led_to);
-        self.pair.entry_outside(self.start, moved, self.count, self.place)
+        self.pair
+            .entry_outside(self.start, moved, self.count, self.place)
     }
 }

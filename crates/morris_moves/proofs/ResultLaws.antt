@@ -1,9 +1,9 @@
 -- What a legal move leads to: a position again, and how many stones each side then has.
-use Rattle.std.proofs.Common.{◌≡◌, ℕ, suc, ◌<◌, ◌≤◌, Bool, true, false, not, ◌&&◌, ◌||◌, cond, eqb, leb, refl, sym, ap, subst, ◌∙◌, inl, inr, ◌⊎◌, arith, Option, Some, None, Ok, Err}
+use Rattle.std.proofs.Common.{◌≡◌, ℕ, suc, ◌<◌, ◌≤◌, true, false, not, ◌&&◌, ◌||◌, cond, eqb, refl, sym, ap, subst, ◌∙◌, inl, inr, ◌⊎◌, arith, Option, Some, None, Ok, Err}
 use Rattle.std.proofs.lemmas.Bool.{eqb-true, and_parts, and_right, or_cases, both_ways, false_from_ne_true}
 use Rattle.morris_board.specs.Sets.{has, count_of, without_point}
 use Rattle.morris_board.specs.Boards.{Shape}
-use Rattle.morris_board.specs.Positions.{Sides, sides, IsApart, IsPosition, is_sized, is_between, made}
+use Rattle.morris_board.specs.Positions.{Sides, sides, IsApart, IsPosition, is_sized, made}
 use Rattle.morris_board.proofs.PointsLaws.{has-with, has-without, count_of-with, count_of-without}
 use Rattle.morris_board.proofs.PositionLaws.{own_count, other_count, sized_from}
 use Rattle.morris_moves.specs.declared.step.Move.{Move}

@@ -1,15 +1,15 @@
 -- Gathering the blocks of a graph.
-use Rattle.std.proofs.Common.{◌≡◌, ℕ, suc, ◌+◌, ◌-◌, ◌*◌, ◌/◌, ◌<◌, ◌≤◌, Bool, true, false, not, ◌&&◌, ◌||◌, cond, eqb, List, [], ◌∷◌, ◌++◌, Option, Some, None, is_some, length, get_or, set, take, drop, replicate, refl, sym, ap, ap₂, ◌∙◌, subst, ⊎_elim, arith, get_or-set_same, get_or-set_other, length-set, take_all, Vec}
+use Rattle.std.proofs.Common.{◌≡◌, ℕ, suc, ◌+◌, ◌-◌, ◌*◌, ◌/◌, ◌<◌, ◌≤◌, Bool, true, false, ◌&&◌, ◌||◌, cond, eqb, List, [], ◌∷◌, ◌++◌, Option, Some, None, is_some, length, get_or, set, take, drop, replicate, refl, sym, ap, ap₂, ◌∙◌, subst, ⊎_elim, arith, get_or-set_same, get_or-set_other, length-set, take_all, Vec}
 use Rattle.std.specs.List.{All, count_by}
 use Rattle.std.specs.declared.alloc.Global.{Global}
 use Rattle.std.proofs.Math.Nat.{mul-div_cancel, div-mul-le_self, zero-div}
-use Rattle.std.proofs.lemmas.Bool.{and_parts, or_cases, cases_Bool, cases_eq, cases_lt, eq-eqb, eqb-true, ltb-true, ne_eqb, or_left, or_right, both_ways, not-true, false_from_ne_true}
+use Rattle.std.proofs.lemmas.Bool.{and_parts, or_cases, cases_Bool, cases_eq, cases_lt, eq-eqb, eqb-true, ltb-true, ne_eqb, or_left, or_right, both_ways, false_from_ne_true}
 use Rattle.std.proofs.lemmas.Nat.{le-div}
 use Rattle.std.proofs.lemmas.List.{drop_more, drop_all, take_more, get_or-replicate, length-replicate, get_or_past, get_or_append_left, get_or-append_right, length-append, length-take-le, get_or_default}
 use Rattle.std.proofs.lemmas.List.Folds.{list_any_more, list_any-append}
 use Rattle.std.proofs.lemmas.List.Elements.{All-head, All-tail, All-nil, All-cons}
 use Rattle.morris_wave.specs.Nets.{Net, IsNet}
-use Rattle.morris_wave.specs.Values.{is_decided, code_within, HasDepth, HasCode, IsTooDeep}
+use Rattle.morris_wave.specs.Values.{code_within, HasDepth, HasCode, IsTooDeep}
 use Rattle.morris_wave.specs.Waves.{is_fresh}
 use Rattle.morris_wave.specs.Blocks.{Parts, IsCut, IsIn, first_of, block_of, BlockState, BlockHolds, is_complete, first_node, count_of, IsSettled}
 use Rattle.morris_wave.specs.Answering.{is_same_cut}

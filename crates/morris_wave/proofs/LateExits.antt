@@ -1,5 +1,5 @@
 -- An exit that comes due after the last wave makes a graph too deep.
-use Rattle.std.proofs.Common.{refl, ◌≡◌, ℕ, suc, ◌-◌, ◌<◌, ◌≤◌, Bool, true, leb, List, [], ◌∷◌, Option, Some, None, sym, ap, subst, ⊎_elim, inl, inr, arith}
+use Rattle.std.proofs.Common.{refl, ◌≡◌, ℕ, suc, ◌-◌, ◌<◌, ◌≤◌, Bool, true, leb, List, [], ◌∷◌, Option, Some, None, ap, ⊎_elim, inl, inr, arith}
 use Rattle.std.specs.List.{All, list_all}
 use Rattle.std.proofs.lemmas.Bool.{cases_lt, cases_Bool, and_from, le-leb, leb-true}
 use Rattle.std.proofs.lemmas.List.Elements.{All-head, All-tail}

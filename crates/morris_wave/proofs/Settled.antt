@@ -1,13 +1,12 @@
 -- What a block's tallies, list and entries say of its nodes.
-use Rattle.std.proofs.Common.{◌≡◌, ℕ, zero, suc, ◌+◌, ◌-◌, ◌<◌, ◌≤◌, Bool, true, false, ◌↔◌, not, ◌&&◌, cond, eqb, ltb, List, [], ◌∷◌, length, get_or, refl, sym, ap, ap₂, ◌∙◌, subst, ◌⊎◌, arith}
-use Rattle.std.specs.List.{All, list_any, count_by}
+use Rattle.std.proofs.Common.{◌≡◌, ℕ, ◌+◌, ◌-◌, ◌<◌, ◌≤◌, Bool, true, false, ◌↔◌, not, ◌&&◌, cond, eqb, ltb, List, length, get_or, refl, sym, ap, ap₂, ◌∙◌, subst, ◌⊎◌, arith}
+use Rattle.std.specs.List.{All, list_any}
 use Rattle.std.specs.List.Sorted.{IsPermutation, IsNonDecreasingBy}
-use Rattle.std.proofs.lemmas.Bool.{ne_eqb, lt-ltb, le-ltb, not-true, not_from_false, false_from_ne_true}
+use Rattle.std.proofs.lemmas.Bool.{lt-ltb, le-ltb, not-true, not_from_false, false_from_ne_true}
 use Rattle.std.proofs.lemmas.List.{same_lists, get_or_default}
 use Rattle.std.proofs.lemmas.List.Sorted.{All-permutation, sum_by-IsPermutation}
 use Rattle.std.proofs.lemmas.List.FromFn.{get_or-map-range_with_len, length-map-range_with_len}
 use Rattle.morris_wave.specs.Nets.{Net, IsNet, times}
-use Rattle.morris_wave.specs.Exits.{is_odd, is_won_code, exits_of, last_due_of}
 use Rattle.morris_wave.specs.Values.{HasCode, IsTooDeep}
 use Rattle.morris_wave.specs.Waves.{entry_at, is_decided_at, is_fresh}
 use Rattle.morris_wave.specs.Keeping.{Ranked}

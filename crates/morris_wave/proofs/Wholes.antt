@@ -1,5 +1,5 @@
 -- The waves of a whole graph as one stretch.
-use Rattle.std.proofs.Common.{◌≡◌, ℕ, suc, ◌+◌, ◌-◌, ◌<◌, ◌≤◌, Bool, true, false, ◌&&◌, ◌||◌, cond, eqb, List, length, get_or, take, drop, refl, sym, ap, ◌∙◌, subst, ⊎_elim, arith, zero-add, length-take, length-drop}
+use Rattle.std.proofs.Common.{◌≡◌, ℕ, suc, ◌+◌, ◌-◌, ◌<◌, ◌≤◌, Bool, true, false, ◌&&◌, cond, eqb, List, length, get_or, take, drop, refl, sym, ap, ◌∙◌, subst, ⊎_elim, arith, zero-add, length-take, length-drop}
 use Rattle.std.specs.List.{list_any, count_by}
 use Rattle.std.proofs.lemmas.Bool.{and_from, and_left, cases_eq, cond-true, cond-false, eqb-true, eq-eqb, ne_eqb, lt-ltb, le-ltb, false_from_ne_true, true_from_ne_false}
 use Rattle.std.proofs.lemmas.List.{get_or-take, get_or-drop}
@@ -36,10 +36,10 @@ fresh_at old new before here place le same low high =
     let back : before + (place - before) ≡ place = omega (arith, low) in (
       omega (arith, fresh_length old before here le, low, high),
       sym (get_or-take here new place 0 high)
-      ∙ (ap (λ xs. get_or xs place 0) same
-      ∙ (get_or-take here old place 0 high
-      ∙ sym (get_or-take (here - before) (drop before old) (place - before) 0 (omega (arith, low, high))
-      ∙ (get_or-drop before old (place - before) 0 ∙ ap (λ p. get_or old p 0) back)))),
+          ∙ (ap (λ xs. get_or xs place 0) same
+          ∙ (get_or-take here old place 0 high
+          ∙ sym (get_or-take (here - before) (drop before old) (place - before) 0 (omega (arith, low, high))
+          ∙ (get_or-drop before old (place - before) 0 ∙ ap (λ p. get_or old p 0) back)))),
     )
 
 -- One fresh node more, whose predecessors are `nodes`.

@@ -172,7 +172,7 @@ nine.sha256 beside the files, for `sha256sum -c nine.sha256` in the folder.\n\
 \n\
 With --classes most positions that a symmetry of the board leads to one another\n\
 share an entry, so that the files are smaller. They are of version 2, which\n\
-`verify`, `probe` and `lookup` read as well.\n\
+every command that reads table files reads as well.\n\
 \n\
 "
     PROGRESS
@@ -191,19 +191,21 @@ pub(crate) const VERIFY: &str = page!(
     []
     "\
 It reads the file of one table, as `morris build` writes it, builds the tables\n\
-of the pairs that the table's pair rests on, and compares each entry of the\n\
-table with what the rules give from the entries of its results. So nothing of\n\
-the file is believed. The threads share the entries out among them; the answer\n\
-is the same for every number of threads.\n\
+of the pairs that its pair rests on, then that of the pair itself, and compares\n\
+the two. The threads share the work; the answer is the same for every number of\n\
+threads.\n\
 \n\
 With --all it reads up to 64 table files, one after the other, as `morris build\n\
 --all` writes them: each after those of the pairs that its pair needs, with\n\
-those of fewer stones first. It compares each over those before it, tells of it\n\
-before it reads the next, and stops at the first that isn't right. As no one\n\
-knows what follows, the first line of --progress counts the first file alone.\n\
+those of fewer stones first. It builds none of them: it compares each entry with\n\
+what the rules give from the entries after its moves, in this file and those\n\
+before it. It prints a line for each file before it reads the next, and stops at\n\
+the first that isn't right. As no one knows what follows, the first line of\n\
+--progress counts the first file alone.\n\
 \n\
 With --from it does the same with every table file of the board that a folder\n\
-has, as `morris build --into` writes them. Nothing is believed in either case.\n\
+has, as `morris build --into` writes them. Nothing in a file is believed in any\n\
+of these cases.\n\
 \n\
 "
     PROGRESS
@@ -287,9 +289,9 @@ pub(crate) const FIND: &str = page!(
     []
     PAIR
     "\
-It reads the pair's table file in a folder and prints each position of the pair\n\
-that has the value, one a line, in the order of the entries and as soon as its\n\
-entry is read: a text that `morris lookup` takes. VALUE is for the player to\n\
+It reads the pair's table file in a folder and prints the positions of the pair\n\
+that have the value, one a line, in the order of the entries and as soon as the\n\
+entry is read: texts that `morris lookup` takes. VALUE is for the player to\n\
 move, and one word for the shell:\n  \
 draw, won, lost  neither can force a win; one of the two can\n  \
 'won in 9'       won in 9 plies, not in fewer (a ply is one player's move)\n  \
@@ -297,9 +299,10 @@ draw, won, lost  neither can force a win; one of the two can\n  \
 deepest          won in the most plies that occur, then lost in the most\n\
 \n\
 In a file that `build --classes` wrote, most positions that a symmetry of the\n\
-board leads to one another share an entry. One of them is printed; with --all\n\
-each of them is. With --limit it prints N positions at most, the first ones.\n\
-With --count it prints how many there are, and nothing else.\n\
+board leads to one another share an entry. One position of each entry is\n\
+printed, and with --all every position. With --limit it prints N positions at\n\
+most, the first ones. With --count it prints how many there are, and nothing\n\
+else.\n\
 \n\
 It believes the file: it checks nothing but the header and the length. What\n\
 makes it right to is `morris verify BOARD --from FOLDER`, run once before.\n\

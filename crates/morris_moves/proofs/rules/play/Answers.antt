@@ -1,5 +1,5 @@
 -- The move is legal, so its result is a position.
-use Rattle.std.proofs.Common.{◌≡◌, ◌≤◌, Ok, sym, ap, ◌∙◌, arith}
+use Rattle.std.proofs.Common.{◌≡◌, ◌≤◌, sym, ap, ◌∙◌, arith}
 use Rattle.morris_board.specs.Positions.{sides, made}
 use Rattle.morris_moves.specs.Rules.{result_of}
 use Rattle.morris_moves.proofs.LegalLaws.{IsLegalMove, listed_move, taken_low}

@@ -1,8 +1,8 @@
-use Rattle.std.proofs.Common.{◌≡◌, ◌<◌, ℕ, ◌+◌, ◌%◌, ◌&&◌, List, eqb, length, set, slice_index, sym, ap, subst, ◌∙◌, arith}
+use Rattle.std.proofs.Common.{◌≡◌, ◌<◌, ℕ, ◌+◌, ◌&&◌, eqb, length, slice_index, sym, ap, subst, ◌∙◌, arith}
 use Rattle.std.proofs.lemmas.Bool.{ltb-true}
 use Rattle.morris_wave.specs.Exits.{exits_of, exits_won}
 use Rattle.morris_wave.specs.Solving.{Marks, exits_at}
-use Rattle.morris_wave.specs.Keeping.{HasRead, due_wave, due_within, waits}
+use Rattle.morris_wave.specs.Keeping.{HasRead}
 use Rattle.morris_wave.proofs.Frames.{frame_joins}
 use Rattle.morris_wave.proofs.Readings.{read_more}
 use Rattle.morris_wave.proofs.reading.read_piece.Goals as goal

@@ -2,7 +2,6 @@ use Rattle.std.proofs.Common.{◌≡◌, ◌<◌, ◌≤◌, ℕ, ◌+◌, false
 use Rattle.std.specs.List.{list_any}
 use Rattle.std.proofs.lemmas.Bool.{and_parts, and_cases, leb-true, leb-false, not-true, not-false}
 use Rattle.morris_wave.specs.Values.{HasCode}
-use Rattle.morris_wave.specs.Counts.{counts_of}
 use Rattle.morris_wave.proofs.Stretches.{last_deep}
 use Rattle.morris_wave.proofs.Wholes.{finished, finished_shallow}
 use Rattle.morris_wave.proofs.sweeping.codes_of.Given as given

@@ -2,7 +2,7 @@ use Rattle.std.proofs.Common.{◌≡◌, ◌<◌, ◌≤◌, ℕ, ◌+◌, ◌-�
 use Rattle.std.proofs.lemmas.List.{take_all}
 use Rattle.morris_wave.specs.Nets.{times}
 use Rattle.morris_wave.specs.Exits.{is_odd}
-use Rattle.morris_wave.specs.Solving.{ListsFresh, among, every, none}
+use Rattle.morris_wave.specs.Solving.{ListsFresh, among, every}
 use Rattle.morris_wave.specs.Keeping.{StretchHolds, Ranked, Takes}
 use Rattle.morris_wave.specs.Counts.{counts_of, left_at, AreFew}
 use Rattle.morris_wave.proofs.Widths.{left_enough}

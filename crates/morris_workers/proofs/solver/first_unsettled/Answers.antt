@@ -13,6 +13,6 @@ loop-place-preserved g c =
     let inside : place < length blocks = omega (arith, c.loop-place-test.true) in
     let fit : IsFit s = (c.settled.ensures.settled.0 c.if-not-settled.false, omega (arith, inside, c.number.ensures, c.if-number-place.false)) in
     λ k d l. ⊎_elim
-        (λ e. subst (λ (p : ℕ). IsFit (slice_index_or blocks p d)) e (subst IsFit (get_or_read blocks place s inside c.index-blocks-place.is d) fit))
-        (λ e. c.loop-place.invariant k d (omega (arith, l, e)))
-        (cases_eq place k)
+    (λ e. subst (λ (p : ℕ). IsFit (slice_index_or blocks p d)) e (subst IsFit (get_or_read blocks place s inside c.index-blocks-place.is d) fit))
+    (λ e. c.loop-place.invariant k d (omega (arith, l, e)))
+    (cases_eq place k)

@@ -1,5 +1,5 @@
 -- What the symmetry makes of the turned position is one that faces it.
-use Rattle.std.proofs.Common.{◌≡◌, ◌+◌, ◌<◌, ◌≤◌, true, sym, ap, ap₂, subst, ◌∙◌, arith}
+use Rattle.std.proofs.Common.{◌≡◌, ◌<◌, true, sym, ap, ap₂, subst, ◌∙◌, arith}
 use Rattle.morris_board.specs.Sets.{count_of}
 use Rattle.morris_board.specs.Symmetries.{image_sides}
 use Rattle.morris_index.specs.Classes.{class_of, representative_of}

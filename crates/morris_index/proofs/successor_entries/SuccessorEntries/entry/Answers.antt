@@ -2,7 +2,6 @@
 use Rattle.std.proofs.Common.{◌≡◌, ◌||◌, not, true, sym, ap, ap₂, ◌∙◌, arith}
 use Rattle.morris_board.specs.Sets.{has, with_point, without_point}
 use Rattle.morris_board.specs.Symmetries.{image_of}
-use Rattle.morris_index.specs.Classes.{representative_of}
 use Rattle.morris_index.specs.Moves.{InPair, in_pair, moved_on}
 use Rattle.morris_index.proofs.ClassMoveLaws.{IsLedMove, leading_within, led_move}
 use Rattle.morris_index.proofs.successor_entries.SuccessorEntries.entry.Given as given

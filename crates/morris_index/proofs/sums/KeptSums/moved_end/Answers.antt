@@ -1,5 +1,5 @@
 -- What is kept for the stones below the point, and what the point adds.
-use Rattle.std.proofs.Common.{◌≡◌, ◌+◌, ◌≤◌, ap, ap₂, ◌∙◌, arith, slice_index}
+use Rattle.std.proofs.Common.{◌+◌, ap, ap₂, ◌∙◌, arith, slice_index}
 use Rattle.morris_index.specs.Binomials.{choose}
 use Rattle.morris_index.proofs.RankLaws.{number-count}
 use Rattle.morris_index.proofs.SumLaws.{standing, lower_is, lower-few, higher_is, higher-few}

@@ -1,5 +1,5 @@
 -- What is kept for the stones below the point.
-use Rattle.std.proofs.Common.{◌≡◌, ap, ◌∙◌, arith, slice_index}
+use Rattle.std.proofs.Common.{ap, ◌∙◌, arith, slice_index}
 use Rattle.morris_index.proofs.SumLaws.{standing, before_is, lower-few, after_is, higher-few}
 use Rattle.morris_index.proofs.sums.KeptSums.renumbered_end.Goals as goal
 

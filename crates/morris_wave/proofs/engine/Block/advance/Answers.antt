@@ -1,4 +1,4 @@
-use Rattle.std.proofs.Common.{◌≡◌, ◌<◌, ℕ, ◌+◌, Bool, false, true, List, length, replicate, sym, ap, ap₂, ◌∙◌, arith}
+use Rattle.std.proofs.Common.{◌≡◌, ◌<◌, ℕ, ◌+◌, Bool, false, List, length, replicate, sym, ap, ap₂, ◌∙◌, arith}
 use Rattle.morris_wave.specs.Blocks.{is_complete}
 use Rattle.morris_wave.specs.Counts.{counts_of}
 use Rattle.morris_wave.specs.Nets.{times}

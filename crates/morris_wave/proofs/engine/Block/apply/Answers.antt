@@ -1,8 +1,8 @@
-use Rattle.std.proofs.Common.{◌≡◌, ◌<◌, ℕ, ◌+◌, Bool, false, eqb, List, get_or, set, length, sym, ap, subst, ◌∙◌, arith}
+use Rattle.std.proofs.Common.{◌≡◌, ◌<◌, ℕ, ◌+◌, Bool, false, get_or, length, sym, ap, subst, ◌∙◌, arith}
 use Rattle.std.proofs.lemmas.List.{get_or_read}
-use Rattle.morris_wave.specs.Blocks.{BlockState, BlockHolds}
+use Rattle.morris_wave.specs.Blocks.{BlockState}
 use Rattle.morris_wave.specs.Batches.{BatchState, BatchHolds}
-use Rattle.morris_wave.specs.Counts.{counts_of, most_of}
+use Rattle.morris_wave.specs.Counts.{counts_of}
 use Rattle.morris_wave.specs.Nets.{times}
 use Rattle.morris_wave.proofs.Widths.{left_enough}
 use Rattle.morris_wave.proofs.Blocking.{same_parts, batch_inside, apply_enough, apply_few, apply_holds}

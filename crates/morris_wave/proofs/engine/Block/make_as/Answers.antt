@@ -1,7 +1,7 @@
-use Rattle.std.proofs.Common.{◌≡◌, ℕ, ◌-◌, Bool, true, List, length, replicate, sym, ap, subst, ◌∙◌, arith}
+use Rattle.std.proofs.Common.{◌≡◌, ℕ, ◌-◌, true, length, replicate, sym, ap, ◌∙◌, arith}
 use Rattle.morris_wave.specs.Keeping.{StretchHolds}
 use Rattle.morris_wave.specs.Solving.{every}
-use Rattle.morris_wave.specs.Blocks.{BlockState, BlockHolds, IsCut, first_of}
+use Rattle.morris_wave.specs.Blocks.{IsCut, first_of}
 use Rattle.morris_wave.specs.Counts.{counts_of, most_of, AreFew}
 use Rattle.morris_wave.proofs.Blocking.{make_holds}
 use Rattle.morris_wave.proofs.engine.Block.make_as.Goals as goal

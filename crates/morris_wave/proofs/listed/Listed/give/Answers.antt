@@ -1,4 +1,4 @@
-use Rattle.std.proofs.Common.{◌≡◌, ℕ, ◌+◌, ◌∷◌, [], List, arith, set, sym, ap, subst, slice_index, take, refl, ◌∙◌}
+use Rattle.std.proofs.Common.{ℕ, ◌+◌, ◌∷◌, [], List, arith, set, sym, ap, subst, take, refl, ◌∙◌}
 use Rattle.std.proofs.lemmas.List.{take-append-le}
 use Rattle.morris_wave.specs.Keeping.{Ranked}
 use Rattle.morris_wave.proofs.Ranks.{ranked_more, room_left}

@@ -3,7 +3,6 @@ use Rattle.std.specs.List.{All}
 use Rattle.morris_wave.specs.Nets.{times}
 use Rattle.morris_wave.specs.Lists.{list_at}
 use Rattle.morris_wave.specs.Exits.{is_odd}
-use Rattle.morris_wave.specs.Counts.{left_at}
 use Rattle.morris_wave.proofs.DueLists.{gone_keeps}
 use Rattle.morris_wave.proofs.stretch.Stretch.next_wave.Goals as goal
 
