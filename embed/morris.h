@@ -10,29 +10,27 @@
  *     morris_close(tables);
  *
  * There are two ways to ask. The calls of "open tables" take a handle, which has the files of a
- * folder mapped, and are all that most programs need. Those of "files in memory" take the bytes of
- * the files, which the program has mapped or read itself, as an array of views, and keep nothing:
- * they have no state, take no memory, open no files and never change what they are handed but for
- * the results. The first stand on these, and answer the same. Of either, every call may be made
- * from any thread at any time, with the same handle, or the same views and words, as long as nobody
- * closes or changes these meanwhile. The calls of "moves without tables" need neither.
+ * folder mapped; most programs need no others. The calls of "files in memory" take an array of
+ * views: the bytes of files that the program has mapped or read itself. They have no state, take no
+ * memory, open no files and change only the results. Both ways give the same answers. Any thread
+ * may make any call at any time, also with the same handle, views or words, as long as nobody
+ * closes or changes these meanwhile. The calls of "moves without tables" need no files.
  *
  * Boards: MORRIS_NINE is the usual board, with 24 points: three rings of eight, outer, middle and
  * inner, where point 8 * r + k is place k of ring r, clockwise from the top left corner.
  * MORRIS_GRID is a board of three rows and three columns, for trials. A set of points is a mask:
  * bit p stands for point p.
  *
- * A position is two masks: `own` has the stones of the player to move, 2 to 9, and `other` those of
- * the opponent, 3 to 9. They have no point in common. All stones are on the board: the table files
- * are those of the second phase of the game. Masks have 32 bits: C cuts a wider number to these,
- * and says so with -Wconversion alone.
+ * A position is two masks: `own` has the 2 to 9 stones of the player to move, `other` the 3 to 9
+ * stones of the opponent. They have no point in common. All stones are on the board: tables cover
+ * the second phase of the game. Masks have 32 bits: C cuts a wider number to these, and warns only
+ * with -Wconversion.
  *
- * Each call answers a status, MORRIS_OK or another, and writes its results only with MORRIS_OK, but
- * where it says otherwise. Any numbers and any bytes may be handed in. What the caller owes is that
- * each pointer is valid: not null but where that is said, rightly aligned, and with as many
- * elements behind it as are named beside it; and that results have places of their own, which
- * overlap nothing else that is handed in. Where no elements are named, any pointer that isn't null
- * will do. */
+ * Each call returns a status, MORRIS_OK or another, and writes its results only with MORRIS_OK,
+ * except where it says otherwise. Any numbers and any bytes may be passed. The caller sees to it
+ * that each pointer is valid: aligned, not null except where that is allowed, and with as many
+ * elements behind it as the argument beside it says; and that results overlap nothing else that is
+ * passed. Where there are no elements, any pointer that isn't null will do. */
 #ifndef MORRIS_H
 #define MORRIS_H
 
@@ -43,11 +41,11 @@
 extern "C" {
 #endif
 
-/* The version of this interface: raised where a program has to be changed or compiled anew. */
+/* The version of this interface: raised when programs have to be changed or compiled again. */
 #define MORRIS_INTERFACE 1
 
-/* The version of Morris, as `morris --version` prints it: that of this header, and that of the
- * library which the program runs with. The text lies in memory that lasts. */
+/* The version of Morris, as `morris --version` prints it: of this header, and of the library that
+ * the program runs with. The text is never freed. */
 #define MORRIS_VERSION_STRING "0.2.0"
 const char *morris_version(void);
 
@@ -73,18 +71,18 @@ enum {
     MORRIS_OFF_BOARD = 2,    /* a mask has a point that the board doesn't have */
     MORRIS_OVERLAP = 3,      /* the masks have a point in common */
     MORRIS_STONES = 4,       /* a player has a number of stones that no position has */
-    MORRIS_NO_TABLE = 5,     /* none of the files is that of a position that is asked for */
-    MORRIS_NOT_PREPARED = 6, /* a file is one by classes, and the words aren't prepared ones */
+    MORRIS_NO_TABLE = 5,     /* no file has the pair of a position that is asked for */
+    MORRIS_NOT_PREPARED = 6, /* a file of version 2 needs prepared words, which these are not */
     MORRIS_ROOM = 7,         /* there is too little room for the results */
     MORRIS_SHORT = 8,        /* a file has fewer bytes than its header says, or than a header has */
     MORRIS_MAGIC = 9,        /* a file doesn't begin with NMMT: it is no table file */
     MORRIS_VERSION = 10,     /* the version of a file is neither 1 nor 2 */
-    MORRIS_OTHER_BOARD = 11, /* a file is that of another board */
+    MORRIS_OTHER_BOARD = 11, /* a file is of another board */
     MORRIS_COUNTS = 12,      /* a number of stones in a header isn't 3 to 9, or they are swapped */
     MORRIS_CROWDED = 13,     /* a header has more stones than the board has points */
-    MORRIS_ENTRIES = 14,     /* a header states a number of entries that isn't that of its table */
+    MORRIS_ENTRIES = 14,     /* a header states a wrong number of entries */
     MORRIS_TRAILING = 15,    /* a file has more bytes than its header says */
-    MORRIS_DIGEST = 16,      /* the digest at the end of a file isn't that of its bytes */
+    MORRIS_DIGEST = 16,      /* the digest at the end of a file isn't the digest of its bytes */
     MORRIS_ILLEGAL = 19,     /* the move isn't legal in the position */
     MORRIS_OVER = 20,        /* the game is over: there is no move */
     MORRIS_DISAGREE = 21     /* what the files say of a position and of its moves disagree */
@@ -93,12 +91,12 @@ enum {
 /* The system refused a file or memory, and errno says why. */
 #define MORRIS_SYSTEM 100
 
-/* A line of English that says what a status means, for any number. It lies in memory that lasts. */
+/* A line of English that says what a status means, for any number. It is never freed. */
 const char *morris_error(int32_t status);
 
-/* ---- what is handed in and out */
+/* ---- arguments and results */
 
-/* A table file, as it lies in memory. */
+/* A table file in memory. */
 typedef struct morris_view {
     const uint8_t *bytes;
     size_t len;
@@ -107,7 +105,7 @@ typedef struct morris_view {
 /* The value of a position, for the player to move. */
 typedef struct morris_value {
     uint16_t kind;  /* MORRIS_DRAW, MORRIS_WON or MORRIS_LOST */
-    uint16_t depth; /* in how many plies the game is over by best play, 0 at a draw */
+    uint16_t depth; /* in how many plies best play ends the game, 0 for a draw */
 } morris_value;
 
 /* A legal move: a stone goes from one point to another. */
@@ -116,12 +114,12 @@ typedef struct morris_move {
     uint8_t to;
     uint8_t taken; /* the point of the opponent's stone that is taken, or MORRIS_NONE */
     uint8_t pad;   /* 0 */
-    morris_value value; /* what the move leads to, for the player who makes it; it is counted */
+    morris_value value; /* of the move, which counts as a ply, for the player who makes it */
 } morris_move;
 
 /* What the header of a table file says. */
 typedef struct morris_header {
-    uint8_t version; /* 1: an entry for each position; 2: by classes, which needs prepared words */
+    uint8_t version; /* 1: an entry for each position; 2: for each class, with prepared words */
     uint8_t board;   /* MORRIS_NINE or MORRIS_GRID */
     uint8_t greater; /* the pair of numbers of stones, the greater one first */
     uint8_t lesser;
@@ -135,62 +133,59 @@ typedef struct morris_header {
 typedef struct morris_tables morris_tables;
 
 /* Maps the table files of a board that lie in a folder, under the names that `morris build` gives
- * them: nine-3-3.nmmt, nine-4-3.nmmt and so on to nine-9-9.nmmt, or grid-3-3.nmmt and so on. Those
- * that aren't there are left out. Where `path` names nothing that is there, colons divide it into
- * several folders, as in `tables:/usr/share/morris`: of each pair the first one that has its file
- * gives it, and folders without files are passed over. Links are followed. Only the headers are
- * looked at here. Where a file is one by classes, opening takes some hundredths of a second and 1.4
- * MB of memory.
+ * them: nine-3-3.nmmt, nine-4-3.nmmt and so on to nine-9-9.nmmt, or grid-3-3.nmmt and so on. Files
+ * that aren't there are left out. If `path` doesn't exist, it is divided at its colons into several
+ * folders, as in `tables:/usr/share/morris`: each pair's file is taken from the first folder that
+ * has it, and folders without files are skipped. Links are followed. Only headers are looked at
+ * here. If a file is of version 2, opening takes some hundredths of a second and 1.4 MB of memory.
  *
- * Answers null where the tables aren't open, and `*status`, which may be null, says why: MORRIS_OK;
- * MORRIS_NO_BOARD; MORRIS_NO_TABLE where there is none of these files; or MORRIS_SYSTEM, and errno
- * says why a file couldn't be opened or mapped, or memory was refused: EINVAL where what has the
- * name of a table file isn't a regular file, but a folder, a FIFO or a device, say, which isn't
- * opened or waited for; ENOENT where a path is empty.
+ * Returns null if it opens nothing, and `*status`, unless `status` is null, says why: MORRIS_OK;
+ * MORRIS_NO_BOARD; MORRIS_NO_TABLE if there is none of these files; or MORRIS_SYSTEM, and errno
+ * says why a file couldn't be opened or mapped, or memory was refused: EINVAL if something with the
+ * name of a table file isn't a regular file (a folder, a FIFO or a device isn't opened or waited
+ * for); ENOENT if a path is empty.
  *
  * A file that somebody cuts short or changes while it is mapped may end the program (SIGBUS), or
  * give wrong values: files are replaced by renaming, as `morris build` does. */
 morris_tables *morris_open(const char *path, uint32_t board, int32_t *status);
 
-/* Gives back what is open. Nothing may ask these tables any more. Null may be closed. */
+/* Closes the tables: no call may use them any more. Null may be closed. */
 void morris_close(morris_tables *tables);
 
-/* Whether a file names this pair of numbers of stones in its header, either number first: 1 or
- * 0. */
+/* Whether there is a file with this pair of numbers of stones, either number first: 1 or 0. */
 int32_t morris_has(const morris_tables *tables, uint32_t greater, uint32_t lesser);
 
-/* The value of a position, for the player to move, as `morris_lookup` gives it. A call takes less
- * than a microsecond. Its statuses are those of `morris_lookup`. */
+/* The value of a position, for the player to move, with the statuses of `morris_lookup`. A call
+ * takes less than a microsecond. */
 int32_t morris_value_of(const morris_tables *tables, uint32_t own, uint32_t other,
                         morris_value *out);
 
-/* The legal moves of a position, each with the value that it leads to, as `morris_moves` gives
- * them: `out` has `room` places, of which the first `*count` are filled, and MORRIS_MOST_MOVES are
- * always enough. Its statuses are those of `morris_moves`. */
+/* The legal moves of a position, each with its value, in the order and with the statuses of
+ * `morris_moves`: `out` has `room` places, of which the first `*count` are filled, and
+ * MORRIS_MOST_MOVES are always enough. */
 int32_t morris_moves_of(const morris_tables *tables, uint32_t own, uint32_t other, morris_move *out,
                         size_t room, size_t *count);
 
-/* A best move of a position: of those that win, one that wins soonest; where none wins, one that
- * keeps the draw; where all lose, one that loses latest. Of several the first, in the order of
- * `morris_moves_of`; but of several that keep the draw one after which the opponent has the fewest
- * moves that keep it too, so that a slip is likeliest. A table tells no draw from another: this is
- * a rule of thumb, which looks two plies ahead. At a draw with three stones that may take a
- * millisecond, and else some microseconds. It takes 32 KB of stack.
+/* A best move of a position: one that wins soonest; if no move wins, one that keeps the draw; if
+ * all lose, one that loses latest. Of several it is the first in the order of `morris_moves_of`,
+ * except at a draw: there it is one after which the opponent has the fewest moves that keep the
+ * draw, so that a slip is likeliest. A table doesn't rank draws: this is a rule of thumb, which
+ * looks two plies ahead. At a draw with three stones that may take a millisecond, otherwise some
+ * microseconds. It takes 32 KB of stack.
  *
  * The statuses of `morris_lookup` for the position, and of `morris_moves` for it and, at a draw,
- * for those that its drawing moves lead to; MORRIS_OVER; MORRIS_DISAGREE where the value of the
- * position isn't that of its best move, as damaged files have it: `morris verify` tells of them. */
+ * for the positions after its drawing moves; MORRIS_OVER; MORRIS_DISAGREE if the best move has
+ * another value than the position, as in damaged files: `morris verify` finds them. */
 int32_t morris_best(const morris_tables *tables, uint32_t own, uint32_t other, morris_move *out);
 
-/* Whether each file is whole, by `morris_check` and `morris_digest`. It reads all files, at some
- * hundred megabytes a second. The status is that of the first file that isn't. */
+/* Whether each file is whole, by `morris_check` and `morris_digest`: the status of the first file
+ * that isn't. It reads all files, at some hundred megabytes a second. */
 int32_t morris_check_tables(const morris_tables *tables);
 
 /* ---- moves without tables */
 
-/* The position after a legal move, from the side of the player who is to move then: the opponent.
- * Of the move `from`, `to` and `taken` are looked at, and not the value. A move may be played as
- * `morris_play(board, own, other, &move, &own, &other)`.
+/* The position after a legal move, as the opponent sees it, who is to move then. The move's value
+ * isn't looked at. A move may be played as `morris_play(board, own, other, &move, &own, &other)`.
  *
  * MORRIS_NO_BOARD; MORRIS_OFF_BOARD, MORRIS_OVERLAP, MORRIS_STONES; MORRIS_ILLEGAL where the move
  * isn't one of `morris_legal_moves`. */
@@ -198,8 +193,8 @@ int32_t morris_play(uint32_t board, uint32_t own, uint32_t other, const morris_m
                     uint32_t *next_own, uint32_t *next_other);
 
 /* The legal moves of a position, in order of from, to, taken. `out` has `room` places, of which the
- * first `*count` are filled: MORRIS_MOST_MOVES are always enough. Nothing is known of what a move
- * leads to: its value is that of a draw.
+ * first `*count` are filled: MORRIS_MOST_MOVES are always enough. Each has the value of a draw,
+ * since nothing is known of it.
  *
  * MORRIS_NO_BOARD; MORRIS_OFF_BOARD, MORRIS_OVERLAP, MORRIS_STONES; MORRIS_ROOM where `room` is
  * less than the number of legal moves: then `*count` hasn't changed. */
@@ -208,53 +203,51 @@ int32_t morris_legal_moves(uint32_t board, uint32_t own, uint32_t other, morris_
 
 /* ---- files in memory: once in a program */
 
-/* How many words `morris_prepare` fills for a board, of 4 bytes each: for MORRIS_NINE they are
- * MORRIS_NINE_WORDS. 0 where there is no such board. It goes through the sets of points, as the
- * next call does: that takes some hundredths of a second. A program that has the room of
- * MORRIS_NINE_WORDS at hand needn't ask. */
+/* How many words of 4 bytes `morris_prepare` fills for a board: MORRIS_NINE_WORDS for MORRIS_NINE,
+ * 0 if there is no such board. Like the next call it goes through all sets of points, which takes
+ * some hundredths of a second. */
 #define MORRIS_NINE_WORDS 354229u
 size_t morris_prepare_size(uint32_t board);
 
-/* Fills `words` with what files of version 2 need for a board. By one version of this library the
- * words are the same each time, on any machine of the same byte order; another version may read
- * them as other ones and answer wrongly, so words that are kept are prepared anew for it. `room` is
- * how many there are, at least `morris_prepare_size(board)`; those after the first ones keep what
- * they have. A program that has files of version 1 alone needs no words, and hands in none (`m` is
- * 0) where words are asked for.
+/* Fills `words` with what files of version 2 need for a board. `room` is how many words there are,
+ * at least `morris_prepare_size(board)`; the rest keep what they have. Each version of the library
+ * has words of its own, the same each time: prepare words that you keep again for another version,
+ * which could read them wrongly. A program that has only files of version 1 needs no words, and
+ * passes none (`m` is 0).
  *
  * MORRIS_NO_BOARD; MORRIS_ROOM, and then some words may have changed. */
 int32_t morris_prepare(uint32_t board, uint32_t *words, size_t room);
 
 /* ---- files in memory: of a file */
 
-/* Whether a file is a table file: its header, and how many bytes it has. The codes and the digest
- * aren't looked at. Writes what the header says. For a file of version 2 it goes through all sets
- * of its numbers of points, which takes up to a tenth of a second.
+/* Whether a file is a table file, by its header and its length. The entries and the digest aren't
+ * looked at. Writes what the header says. For a file of version 2 it goes through all sets of as
+ * many points, which takes up to a tenth of a second.
  *
  * MORRIS_SHORT, MORRIS_MAGIC, MORRIS_VERSION, MORRIS_OTHER_BOARD (no known board), MORRIS_COUNTS,
  * MORRIS_CROWDED, MORRIS_ENTRIES, MORRIS_SHORT, MORRIS_TRAILING: the first that applies. */
 int32_t morris_check(const morris_view *file, morris_header *out);
 
 /* Whether the digest at the end of a file, its last 32 bytes, is the SHA-256 of all bytes before
- * it. It reads the whole file, at some hundred megabytes a second. It shows damage, and no more:
- * whoever writes a file can write the digest of any bytes. Whether the values of a file are right,
- * only `morris verify` tells.
+ * it. It reads the whole file, at some hundred megabytes a second. This finds damage only: whoever
+ * writes a file can write the digest of any bytes. `morris verify` finds out whether the values are
+ * right.
  *
- * MORRIS_SHORT where there are fewer than 32 bytes; MORRIS_DIGEST. */
+ * MORRIS_SHORT if there are fewer than 32 bytes; MORRIS_DIGEST. */
 int32_t morris_digest(const morris_view *file);
 
 /* ---- files in memory: of a position */
 
-/* The value of a position: what the first of the `n` files that names its pair in its header
- * states. A player to move with two stones has lost in 0 plies, and no file is needed. Two bytes of
- * the file are read, and its header; a call takes less than a microsecond. The files may be of both
- * versions, and in any order.
+/* The value of a position: what the first of the `n` files that has its pair in its header says. A
+ * player to move with two stones has lost in 0 plies, and no file is needed. It reads the file's
+ * header and two bytes; a call takes less than a microsecond. The files may be of both versions,
+ * and in any order.
  *
- * The library believes the files: where they are those that `morris build` wrote, the value is the
- * position's value in the game. `morris verify BOARD --from FOLDER`, run once before, tells whether
- * they are; no call of this library does. `words` are those that `morris_prepare` filled for this
- * board, `m` of them. Only how they begin and how many they are is tested: with other words a file
- * of version 2 may give a wrong value, and nothing worse.
+ * The library believes the files: if they are as `morris build` wrote them, the value is the
+ * position's value in the game. `morris verify BOARD --from FOLDER`, run once before, finds out
+ * whether they are; no call of this library does. `words` are the `m` words that `morris_prepare`
+ * filled for this board. Only their beginning and number are tested: with other words a file of
+ * version 2 may give a wrong value, and nothing worse.
  *
  * MORRIS_NO_BOARD; MORRIS_OFF_BOARD, MORRIS_OVERLAP, MORRIS_STONES; MORRIS_NO_TABLE; MORRIS_SHORT,
  * MORRIS_MAGIC, MORRIS_VERSION, MORRIS_OTHER_BOARD, MORRIS_NOT_PREPARED, MORRIS_ENTRIES,
@@ -262,17 +255,17 @@ int32_t morris_digest(const morris_view *file);
 int32_t morris_lookup(uint32_t board, const morris_view *files, size_t n, const uint32_t *words,
                       size_t m, uint32_t own, uint32_t other, morris_value *out);
 
-/* The legal moves of a position, in order of from, to, taken, each with the value that it leads to
- * for the player who makes it: won in d plies where the opponent has then lost in d - 1, and so on.
- * `out` has `room` places, of which the first `*count` are filled: MORRIS_MOST_MOVES are always
- * enough. A position has no legal moves where the game is over.
+/* The legal moves of a position, in order of from, to, taken, each with its value for the player
+ * who makes it: won in d plies if the opponent has then lost in d - 1, and so on. `out` has `room`
+ * places, of which the first `*count` are filled: MORRIS_MOST_MOVES are always enough. A position
+ * in which the game is over has no legal moves.
  *
- * A best move is one whose value is that of the position. Captures lead to positions of lesser
- * pairs, so the files of the pairs below are needed as well.
+ * A move is best if it has the value of the position. Captures lead to pairs with fewer stones, so
+ * the files of these are needed as well.
  *
- * The statuses of `morris_lookup` for the masks; MORRIS_ROOM where `room` is less than the number
- * of legal moves; those of `morris_lookup` for the position after the first move for which one
- * applies: then some of `out` may have changed, and `*count` hasn't. */
+ * The statuses of `morris_lookup` for the masks; MORRIS_ROOM if `room` is less than the number of
+ * legal moves; the status of `morris_lookup` for the position after the first move for which there
+ * is one: then some of `out` may have changed, and `*count` hasn't. */
 int32_t morris_moves(uint32_t board, const morris_view *files, size_t n, const uint32_t *words,
                      size_t m, uint32_t own, uint32_t other, morris_move *out, size_t room,
                      size_t *count);

@@ -5,8 +5,7 @@ use std::fmt;
 use std::io;
 use std::path::PathBuf;
 
-/// What a call of the library answers where it did not do what was asked: the statuses of
-/// `morris.h`.
+/// Why a call of the library did nothing: the statuses of `morris.h`.
 #[derive(Clone, Copy, PartialEq, Eq, Hash, Debug)]
 #[non_exhaustive]
 #[repr(i32)]
@@ -19,9 +18,9 @@ pub enum Status {
     Overlap = 3,
     /// A player has a number of stones that no position has.
     Stones = 4,
-    /// None of the files is that of a position that is asked for.
+    /// No file has the pair of a position that is asked for.
     NoTable = 5,
-    /// A file is one by classes, and the words aren't prepared ones. The tables prepare theirs.
+    /// A file of version 2 needs prepared words. The tables prepare theirs.
     NotPrepared = 6,
     /// There is too little room for the results. The tables take enough.
     Room = 7,
@@ -31,17 +30,17 @@ pub enum Status {
     Magic = 9,
     /// The version of a file is neither 1 nor 2.
     Version = 10,
-    /// A file is that of another board.
+    /// A file is of another board.
     OtherBoard = 11,
     /// A number of stones in a header isn't 3 to 9, or they are swapped.
     Counts = 12,
     /// A header has more stones than the board has points.
     Crowded = 13,
-    /// A header states a number of entries that isn't that of its table.
+    /// A header states a wrong number of entries.
     Entries = 14,
     /// A file has more bytes than its header says.
     Trailing = 15,
-    /// The digest at the end of a file isn't that of its bytes.
+    /// The digest at the end of a file isn't the digest of its bytes.
     Digest = 16,
     /// The move isn't legal in the position.
     Illegal = 19,
