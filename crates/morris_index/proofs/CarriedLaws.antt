@@ -1,5 +1,5 @@
 -- The moves that a move is carried to: the entries from which they lead, symmetry by symmetry.
-use Rattle.std.proofs.Common.{◌≡◌, ◌≢◌, ℕ, ◌+◌, ◌-◌, ◌^◌, ◌<◌, ◌≤◌, Bool, true, false, not, ◌&&◌, ◌||◌, eqb, ltb, List, [], ◌∷◌, ◌++◌, map, filter, slice_index, refl, sym, ◌∙◌, ap, ap₂, subst, inl, inr, arith, append_assoc}
+use Rattle.std.proofs.Common.{◌≡◌, ◌≢◌, ℕ, ◌+◌, ◌-◌, ◌^◌, ◌<◌, ◌≤◌, Bool, true, false, not, ◌&&◌, ◌||◌, eqb, ltb, List, [], ◌∷◌, ◌++◌, map, filter, refl, sym, ◌∙◌, ap, ap₂, subst, inl, inr, arith, append_assoc}
 use Rattle.std.specs.List.{range_with_len, list_all}
 use Rattle.std.proofs.lemmas.Bool.{cases_eq, cases_lt, ne_eqb, lt-ltb, le-ltb, ltb-true, and_parts, and_from, and_right}
 use Rattle.std.proofs.lemmas.List.{map-append}
@@ -17,7 +17,6 @@ use Rattle.morris_index.specs.ClassMoves.{class_start_of}
 use Rattle.morris_index.specs.Pairs.{Counts}
 use Rattle.morris_index.specs.Moves.{InPair, taken_back}
 use Rattle.morris_index.specs.Carried.{carries, AreReturning, IsCarriedBack}
-use Rattle.morris_index.specs.declared.returning.Returning.{Returning}
 use Rattle.morris_index.proofs.RankLaws.{passing, passing-above}
 use Rattle.morris_index.proofs.SetLaws.{or_false}
 use Rattle.morris_index.proofs.Following.{passing-same}
@@ -185,7 +184,7 @@ module _ (board : Shape) (n : ℕ) (few : n ≤ 24) (points : board.points ≡ n
 
   -- ---- the position before a quiet move
 
-  module _ (q : InPair) (returning : Returning) (k : IsCarriedBack board q returning) (u v : ℕ) (u_in : u < n)
+  module _ (q : InPair) (returning : ℕ) (k : IsCarriedBack board q returning) (u v : ℕ) (u_in : u < n)
       (vacant : not (has q.position.own u || has q.position.other u) ≡ true) (here : has q.position.other v ≡ true) where
     abbrev s : Sides
     s = q.position
@@ -207,17 +206,17 @@ module _ (board : Shape) (n : ℕ) (few : n ≤ 24) (points : board.points ≡ n
     mover_count =
         before_count n few q.pair s (placed board n s points k.lawful) own_most other_most u v u_in (vacant_own _ _ vacant) (vacant_other _ _ vacant) here
 
-    module _ (leading carrying : ℕ) (leads : AreLeading board before.own leading) (common : (t : ℕ) → has carrying t ≡ (has leading t && has returning.symmetries t)) where
+    module _ (leading carrying : ℕ) (leads : AreLeading board before.own leading) (common : (t : ℕ) → has carrying t ≡ (has leading t && has returning t)) where
       carrying_is : (t : ℕ) → has carrying t ≡ (ltb t board.symmetries && carries board s before.own t)
-      carrying_is = both_carry board s before.own leading returning.symmetries carrying leads k.returns.symmetries common
+      carrying_is = both_carry board s before.own leading returning carrying leads k.returns common
 
       -- the symmetries that carry the move
       pub members_are : board.symmetries ≤ 32 → members carrying ≡ filter (carries board s before.own) (range_with_len 0 board.symmetries)
       members_are = carrying_members board s before.own carrying carrying_is
 
-      -- one of them, the image that is kept for it, and what it makes of the position before
+      -- one of them, and what it makes of the position before
       pub carried_before : (t : ℕ) → has carrying t ≡ true
-          → (t < board.symmetries) × (slice_index returning.images t ≡ image_of (board.image t) s.own) × IsCarried board n before t
+          → (t < board.symmetries) × IsCarried board n before t
       carried_before t inside =
           let both = one_carries board s before.own carrying carrying_is t inside in
-          (both.0, k.returns.images t both.0, is_carried before before_here own_most t both.0 (and_parts _ _ both.1).0)
+          (both.0, is_carried before before_here own_most t both.0 (and_parts _ _ both.1).0)

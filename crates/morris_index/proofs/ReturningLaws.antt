@@ -5,12 +5,11 @@ use Rattle.std.proofs.lemmas.List.{get_or_push, get_or_append_left}
 use Rattle.morris_board.specs.Boards.{Shape}
 use Rattle.morris_board.specs.Sets.{count_of}
 use Rattle.morris_index.specs.Classes.{representative_of, class_of}
-use Rattle.morris_index.specs.Carried.{IsReturning, IsReturningKept}
-use Rattle.morris_index.specs.declared.returning.Returning.{Returning}
+use Rattle.morris_index.specs.Carried.{AreReturning, AreReturningKept}
 use Rattle.morris_index.proofs.ClassLaws.{test_from, class_alone}
 
 module _ (board : Shape) (n count : ℕ) where
-  pub returning-none : IsReturningKept board n count 0 []
+  pub returning-none : AreReturningKept board n count 0 []
   returning-none = record {
     len = omega arith;
     each = λ set within counted own low. absurd (omega arith);
@@ -23,17 +22,17 @@ module _ (board : Shape) (n count : ℕ) where
       class_alone board count a b (test_from board count a a_own a_count) (test_from board count b b_own b_count)
       (rw (a_count, b_count, a_own, b_own) at same)
 
-  pub returning-more : (class set : ℕ) (x : Returning) (kept : List Returning) → IsReturningKept board n count class kept → count_of set ≡ count
-      → representative_of board set ≡ set → class_of board set ≡ class → IsReturning board set x → IsReturningKept board n count (class + 1) (kept ++ x ∷ [])
+  pub returning-more : (class set : ℕ) (x : ℕ) (kept : List ℕ) → AreReturningKept board n count class kept → count_of set ≡ count
+      → representative_of board set ≡ set → class_of board set ≡ class → AreReturning board set x → AreReturningKept board n count (class + 1) (kept ++ x ∷ [])
   returning-more class set x kept k counted own is returns = record {
     len = omega (arith, length-append kept (x ∷ []), k.len);
     each = λ t within t_counted t_own low d. elim (cases_eq (class_of board t) class) [
       | inl e ↦
           let same : t ≡ set = alone t set t_counted counted t_own own (e ∙ sym is) in
-          subst (IsReturning board t) (sym (get_or_push kept x d (class_of board t) (k.len ∙ sym e)))
-          (subst (λ r. IsReturning board r x) (sym same) returns)
+          subst (AreReturning board t) (sym (get_or_push kept x d (class_of board t) (k.len ∙ sym e)))
+          (subst (λ r. AreReturning board r x) (sym same) returns)
       | inr other ↦
-          subst (IsReturning board t) (sym (get_or_append_left kept (x ∷ []) d (class_of board t) (omega (arith, k.len))))
+          subst (AreReturning board t) (sym (get_or_append_left kept (x ∷ []) d (class_of board t) (omega (arith, k.len))))
           (k.each t within t_counted t_own (omega arith) d)
     ];
   }

@@ -1,7 +1,7 @@
 -- The entries of the positions before a position, where the positions of a pair are numbered by
 -- classes. Only a position with the player to move on a representative has an entry of its own, so
 -- the position before a move is carried to such a one, and the move with it.
-use Rattle.std.specs.Prelude.{◌≡◌, ◌≢◌, ℕ, ◌<◌, ◌^◌, ◌↔◌, Bool, true, not, ◌&&◌, ◌||◌, nat_eq, nat_lt, List, ◌++◌, map, filter, length, slice_index}
+use Rattle.std.specs.Prelude.{◌≡◌, ◌≢◌, ℕ, ◌<◌, ◌^◌, ◌↔◌, Bool, true, not, ◌&&◌, ◌||◌, nat_eq, nat_lt, List, ◌++◌, map, filter, length}
 use Rattle.std.specs.List.{range_with_len, AllPairs, Contains, HoldsAt}
 use Rattle.morris_board.specs.Boards.{Shape}
 use Rattle.morris_board.specs.Sets.{has, count_of}
@@ -11,7 +11,6 @@ use Rattle.morris_index.specs.Classes.{is_leading, symmetry_of, representative_o
 use Rattle.morris_index.specs.ClassPairs.{led, class_index_of}
 use Rattle.morris_index.specs.Moves.{InPair, taken_back, moved_on}
 use Rattle.morris_index.specs.Pairs.{Counts, is_of}
-use Rattle.morris_index.specs.declared.returning.Returning.{Returning}
 
 -- a quiet move, with the position in which it is made
 pub record Step : Type 0 where
@@ -69,22 +68,16 @@ abbrev pub AreReturning : Shape → ℕ → ℕ → Type 0
 AreReturning board set x = (s : ℕ)
     → has x s ≡ (nat_lt s board.symmetries && nat_eq (symmetry_of board (image_of (board.image s) set)) (inverse_of s))
 
--- What is kept of a set of points: these symmetries, and its image under each symmetry.
-pub record IsReturning (board : Shape) (set : ℕ) (kept : Returning) : Type 0 where
-  pub symmetries : AreReturning board set kept.symmetries
-  pub len : length kept.images ≡ 16
-  pub images : (s : ℕ) → s < board.symmetries → slice_index kept.images s ≡ image_of (board.image s) set
-
 -- What is kept of the classes of sets of `count` points, on n points, that are numbered below `to`:
--- for each, that of its representative.
-pub record IsReturningKept (board : Shape) (n count to : ℕ) (kept : List Returning) : Type 0 where
+-- for each, these symmetries of its representative.
+pub record AreReturningKept (board : Shape) (n count to : ℕ) (kept : List ℕ) : Type 0 where
   pub len : length kept ≡ to
   pub each : (set : ℕ) → set < 2 ^ n → count_of set ≡ count → representative_of board set ≡ set → class_of board set < to
-      → HoldsAt (IsReturning board set) kept (class_of board set)
+      → HoldsAt (AreReturning board set) kept (class_of board set)
 
--- What is kept of a position for the entries of those before it: that of the stones of the player
--- to move.
-pub record IsCarriedBack (board : Shape) (q : InPair) (kept : Returning) : Type 0 where
+-- What is kept of a position for the entries of those before it: these symmetries of the stones of
+-- the player to move.
+pub record IsCarriedBack (board : Shape) (q : InPair) (returning : ℕ) : Type 0 where
   pub counts : is_of q.pair q.position ≡ true
   pub lawful : IsPosition board q.position
-  pub returns : IsReturning board q.position.own kept
+  pub returns : AreReturning board q.position.own returning

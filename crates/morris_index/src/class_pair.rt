@@ -11,7 +11,7 @@ ghost use Rattle.morris_index.specs.ClassMoves.{class_start_of};
 ghost use Rattle.morris_index.specs.EntryRows.{row_end};
 ghost use Rattle.morris_index.specs.Falls.{HasEntry, HasPositions, falls_from};
 ghost use Rattle.morris_index.specs.Halves.{half_of};
-ghost use Rattle.morris_index.specs.Carried.{IsReturning, IsReturningKept};
+ghost use Rattle.morris_index.specs.Carried.{AreReturning, AreReturningKept};
 ghost use Rattle.morris_index.specs.Standings.{are_of};
 
 use crate::binomials::binomial;
@@ -23,7 +23,7 @@ use crate::falls::FallsOn;
 use crate::halves::next_of_own;
 use crate::pair::Pair;
 use crate::rank_tables::RankTable;
-use crate::returning::{Returning, keep_returning, returning_of};
+use crate::returning::{keep_returning, returning_of};
 use crate::rings::Outside;
 use crate::set_lists::SetList;
 use morris_board::board::Geometry;
@@ -39,11 +39,11 @@ pub struct ClassPair<B: Geometry> {
     pair: Pair<B>,
     greater: Classes<B>,
     lesser: Classes<B>,
-    /// For each class of the greater number, the images of its representative, and the symmetries
-    /// that return from them: their inverse is the one that leads the image.
-    greater_returning: Vec<Returning>,
+    /// For each class of the greater number, the symmetries that return from the images of its
+    /// representative: their inverse is the one that leads the image.
+    greater_returning: Vec<Points>,
     /// The same for each class of the lesser number.
-    lesser_returning: Vec<Returning>,
+    lesser_returning: Vec<Points>,
     /// How many entries the first half has, in which the player to move has the greater number.
     first: u64,
     /// How many sets of the opponent's stones there are for a class of the greater number.
@@ -62,7 +62,7 @@ impl<B: Geometry> Model for ClassPair<B> {
     ghost use Rattle.std.specs.Prelude.{◌≡◌, ◌-◌};
     ghost use Rattle.morris_index.specs.Pairs.{Counts};
     ghost use Rattle.morris_index.specs.Classes.{class_count};
-    ghost use Rattle.morris_index.specs.Carried.{IsReturningKept};
+    ghost use Rattle.morris_index.specs.Carried.{AreReturningKept};
     ghost use Rattle.morris_index.specs.ClassPairs.{AreSizes};
 
     ghost Value = { Counts };
@@ -70,8 +70,8 @@ impl<B: Geometry> Model for ClassPair<B> {
     ghost view = { λ pair. pair.pair };
 
     ghost invariant = { λ pair. (pair.greater ≡ pair.pair.greater) × (pair.lesser ≡ pair.pair.lesser)
-        × IsReturningKept B.shape B.POINTS pair.pair.greater (class_count B.shape pair.pair.greater) pair.greater_returning.items
-        × IsReturningKept B.shape B.POINTS pair.pair.lesser (class_count B.shape pair.pair.lesser) pair.lesser_returning.items
+        × AreReturningKept B.shape B.POINTS pair.pair.greater (class_count B.shape pair.pair.greater) pair.greater_returning.items
+        × AreReturningKept B.shape B.POINTS pair.pair.lesser (class_count B.shape pair.pair.lesser) pair.lesser_returning.items
         × AreSizes B.shape B.POINTS pair.pair pair.first pair.greater_choices pair.lesser_choices
         × (pair.greater_sets.points ≡ B.POINTS - pair.pair.lesser) × (pair.greater_sets.count ≡ pair.pair.greater)
         × (pair.lesser_sets.points ≡ B.POINTS - pair.pair.greater) × (pair.lesser_sets.count ≡ pair.pair.lesser) };
@@ -83,10 +83,10 @@ fn keep_sets<B: Geometry>(
     alloc: Global,
     own: u8,
     other: u8,
-) -> Result<(Classes<B>, Vec<Returning>, SetList), AllocError>
+) -> Result<(Classes<B>, Vec<Points>, SetList), AllocError>
     requires { IsHalf B.POINTS own other }
     ensures classes { IfOk result (λ kept. kept.0 ≡ own) }
-    ensures returning { IfOk result (λ kept. IsReturningKept B.shape B.POINTS own (class_count B.shape own) kept.1.items) }
+    ensures returning { IfOk result (λ kept. AreReturningKept B.shape B.POINTS own (class_count B.shape own) kept.1.items) }
     ensures points { IfOk result (λ kept. kept.2.points ≡ B.POINTS - other) }
     ensures count { IfOk result (λ kept. kept.2.count ≡ own) }
 {
@@ -218,11 +218,11 @@ impl<B: Geometry> ClassPair<B> {
         start + self.ranks.rank_outside(set, count, outside)
     }
 
-    /// The images of `own`, and the symmetries whose inverse is the one that leads the image.
-    pub(crate) fn returning_of(&self, own: Points, other: Points) -> Returning
+    /// The symmetries whose inverse is the one that leads the image of `own` under them.
+    pub(crate) fn returning_of(&self, own: Points, other: Points) -> Points
         requires within { own < 2 ^ B.POINTS }
         requires counts { is_of self.now (sides own other) ≡ true }
-        ensures { IsReturning B.shape own result }
+        ensures { AreReturning B.shape own result }
     {
         // The proof learns here that the numbers of stones are those of a pair.
         let greater = self.pair.greater();

@@ -133,9 +133,7 @@ impl<'a, B: Geometry> Facing<'a, B> {
         Facing {
             pair,
             position: *position,
-            returning: pair
-                .returning_of(position.own(), position.other())
-                .symmetries,
+            returning: pair.returning_of(position.own(), position.other()),
             place: Outside::of(position.own()),
             start,
         }

@@ -7,8 +7,8 @@ ghost use Rattle.morris_index.specs.Carried.{entries_before, AddsEntries};
 
 use crate::class_halves::Half;
 use crate::class_pair::ClassPair;
-use crate::returning::Returning;
 use morris_board::board::Geometry;
+use morris_board::points::Points;
 use morris_board::position::Position;
 use std::alloc::AllocError;
 use std::marker::Model;
@@ -25,9 +25,9 @@ pub struct PredecessorEntries<'a, B: Geometry> {
     count: u8,
     /// The entries of the positions before it.
     before: Half<'a, B>,
-    /// The images of the stones of the player to move, and the symmetries whose inverse is the one
-    /// that leads the image under them.
-    returning: Returning,
+    /// The symmetries whose inverse is the one that leads the image of the stones of the player to
+    /// move under them.
+    returning: Points,
 }
 
 impl<'a, B: Geometry> Model for PredecessorEntries<'a, B> {
@@ -80,9 +80,9 @@ impl<'a, B: Geometry> PredecessorEntries<'a, B> {
     {
         let mover = self.position.other().without(to).with(from);
         let (start, representative, leading, _) = self.before.leads_of(mover);
-        let carrying = leading.common(self.returning.symmetries);
+        let carrying = leading.common(self.returning);
         for symmetry in carrying.iter() {
-            let image = self.returning.image(symmetry);
+            let image = B::image_of(symmetry, self.position.own());
             out.push(
                 self.pair
                     .entry_outside(start, image, self.count, representative),

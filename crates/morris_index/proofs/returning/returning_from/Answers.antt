@@ -1,8 +1,6 @@
 -- A symmetry is kept where its inverse leads the image under it.
-use Rattle.std.proofs.Common.{refl, ℕ, inl, inr, ◌≡◌, ◌<◌, ◌^◌, eqb, sym, subst, ap, ◌∙◌, arith}
-use Rattle.std.proofs.lemmas.Bool.{cases_eq, eq-eqb, ne_eqb}
-use Rattle.std.proofs.lemmas.List.{length-set, get_or-set_other}
-use Rattle.std.proofs.lemmas.Grind.{get_or-set_at}
+use Rattle.std.proofs.Common.{ℕ, ◌≡◌, ◌<◌, ◌^◌, eqb, sym, subst, ap, ◌∙◌, arith}
+use Rattle.std.proofs.lemmas.Bool.{eq-eqb, ne_eqb}
 use Rattle.morris_board.specs.Symmetries.{image_of, inverse_of}
 use Rattle.morris_index.specs.Classes.{symmetry_of}
 use Rattle.morris_index.proofs.ClassLaws.{image_within, image_count}
@@ -11,11 +9,7 @@ use Rattle.morris_index.proofs.returning.returning_from.Goals as goal
 use Rattle.morris_index.proofs.returning.returning_from.Goals.{then-class_of-inverse, else-class_of-inverse}
 
 pub loop-symmetry-init : goal.loop-symmetry-init
-loop-symmetry-init g c = record {
-  returns = none_pass (λ s. eqb (symmetry_of g.B.Geometry.shape (image_of (g.B.Geometry.shape.image s) c.args.own)) (inverse_of s));
-  len = refl;
-  kept = λ s low. absurd (omega arith);
-}
+loop-symmetry-init g c = none_pass (λ s. eqb (symmetry_of g.B.Geometry.shape (image_of (g.B.Geometry.shape.image s) c.args.own)) (inverse_of s))
 
 pub class_of-requires-clause-within : goal.class_of-requires-clause-within
 class_of-requires-clause-within g c =
@@ -39,37 +33,19 @@ loop-symmetry-preserved g c =
     let leads : c.class_of.result.1 ≡ symmetry_of g.B.Geometry.shape (image_of (g.B.Geometry.shape.image c.loop-symmetry.symmetry) c.args.own) =
     c.class_of.ensures.symmetry ∙ ap (symmetry_of g.B.Geometry.shape) c.image_of-image.ensures in
     let test = λ (s : ℕ). eqb (symmetry_of g.B.Geometry.shape (image_of (g.B.Geometry.shape.image s) c.args.own)) (inverse_of s) in
-    record {
-      returns = elim c.if-class_of-inverse.branch [
-        | then-class_of-inverse w ↦
-            rw (w.symmetries-is, w.with-symmetries.ensures)
-            (one_passes test c.loop-symmetry.symmetry c.loop-symmetry.symmetries c.loop-symmetry.invariant.returns
-            (eq-eqb _ _ (sym leads ∙ w.if-class_of-inverse.true ∙ c.inverse.ensures)))
-        | else-class_of-inverse w ↦
-            rw w.symmetries-is
-            (one_fails test c.loop-symmetry.symmetry c.loop-symmetry.symmetries c.loop-symmetry.invariant.returns
-            (ne_eqb _ _ (λ e. w.if-class_of-inverse.false (leads ∙ e ∙ sym c.inverse.ensures))))
-      ];
-      len = length-set c.loop-symmetry.images c.loop-symmetry.symmetry c.mask.result ∙ c.loop-symmetry.invariant.len;
-      kept = λ s low. elim (cases_eq s c.loop-symmetry.symmetry) [
-        | inl e ↦
-            get_or-set_at c.loop-symmetry.images c.loop-symmetry.symmetry s c.mask.result 0 e
-            (omega (arith, c.loop-symmetry.invariant.len, c.loop-symmetry-test.true, c.SYMMETRIES-symmetry-end.ensures, g.met.B.Geometry.few_symmetries))
-            ∙ c.mask.ensures
-            ∙ c.image_of-image.ensures
-            ∙ ap (λ t. image_of (g.B.Geometry.shape.image t) c.args.own) (sym e)
-        | inr d ↦
-            get_or-set_other c.loop-symmetry.images c.loop-symmetry.symmetry s c.mask.result 0 d
-            ∙ c.loop-symmetry.invariant.kept s (omega (arith, d))
-      ];
-    }
+    elim c.if-class_of-inverse.branch [
+      | then-class_of-inverse w ↦
+          rw (w.symmetries-is, w.with-symmetries.ensures)
+          (one_passes test c.loop-symmetry.symmetry c.loop-symmetry.symmetries c.loop-symmetry.invariant
+          (eq-eqb _ _ (sym leads ∙ w.if-class_of-inverse.true ∙ c.inverse.ensures)))
+      | else-class_of-inverse w ↦
+          rw w.symmetries-is
+          (one_fails test c.loop-symmetry.symmetry c.loop-symmetry.symmetries c.loop-symmetry.invariant
+          (ne_eqb _ _ (λ e. w.if-class_of-inverse.false (leads ∙ e ∙ sym c.inverse.ensures))))
+    ]
 
 pub returns : goal.returns
 returns g c =
     let end : c.loop-symmetry.symmetry ≡ g.B.Geometry.shape.symmetries =
     omega (arith, c.loop-symmetry-test.false, c.loop-symmetry.auto.symmetry-end, c.SYMMETRIES-symmetry-end.ensures, g.met.B.Geometry.symmetry_count) in
-    record {
-      symmetries = rw end at c.loop-symmetry.invariant.returns;
-      len = c.loop-symmetry.invariant.len;
-      images = λ s low. c.loop-symmetry.invariant.kept s (omega (arith, end, low));
-    }
+    rw end at c.loop-symmetry.invariant

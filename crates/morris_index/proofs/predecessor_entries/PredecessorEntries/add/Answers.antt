@@ -1,5 +1,5 @@
 -- Each symmetry that carries the move gives one entry.
-use Rattle.std.proofs.Common.{◌≡◌, ◌||◌, ◌<◌, ◌++◌, not, true, map, slice_index, refl, sym, ap, subst, ◌∙◌, arith}
+use Rattle.std.proofs.Common.{◌≡◌, ◌||◌, ◌<◌, ◌++◌, not, true, map, refl, sym, ap, subst, ◌∙◌, arith}
 use Rattle.std.proofs.lemmas.List.{append-nil}
 use Rattle.morris_board.specs.Sets.{has, members, with_point, without_point}
 use Rattle.morris_board.specs.Symmetries.{image_of, image_sides}
@@ -17,9 +17,8 @@ use Rattle.morris_index.proofs.predecessor_entries.PredecessorEntries.add.Given 
 use Rattle.morris_index.proofs.predecessor_entries.PredecessorEntries.add.Goals as goal
 use Rattle.morris_index.proofs.predecessor_entries.PredecessorEntries.add.Goals.{In-Some}
 
--- the symmetry at hand carries the move: what is kept for it, and what it makes of the position before
+-- the symmetry at hand carries the move: what it makes of the position before
 carried : (g : given.Over) (c : In-Some g) → (c.in-Some.symmetry < g.B.Geometry.shape.symmetries)
-    × (slice_index c.self.inside.returning.images c.in-Some.symmetry ≡ image_of (g.B.Geometry.shape.image c.in-Some.symmetry) c.self.inside.position.own)
     × (c.with-mover.result ≡ (taken_back c.self.inside.position c.args.from c.args.to).own)
     × IsCarried g.B.Geometry.shape g.B.Geometry.POINTS (taken_back c.self.inside.position c.args.from c.args.to) c.in-Some.symmetry
 carried g c =
@@ -34,7 +33,7 @@ carried g c =
     member_has c.common-carrying.result c.in-Some.symmetry c.loop-symmetry.yielded _ _ (c.loop-symmetry.invariant.split ∙ ap members items) c.in-Some.ensures.steps in
     let found =
     carried_before g.B.Geometry.shape g.B.Geometry.POINTS (omega (arith, g.met.B.Geometry.few)) g.met.B.Geometry.point_count g.met.B.Geometry.has_symmetries (in_pair c.self.inside.pair.now c.self.inside.position) c.self.inside.returning c.self.invariant.0 c.args.from c.args.to c.requires.start vacant end c.leads_of-start.result.2 c.common-carrying.result leads c.common-carrying.ensures c.in-Some.symmetry inside in
-    (found.0, found.1, mover, found.2)
+    (found.0, mover, found.1)
 
 pub without-requires : goal.without-requires
 without-requires g c =
@@ -56,28 +55,28 @@ leads_of-start-requires g c =
 pub loop-symmetry-init : goal.loop-symmetry-init
 loop-symmetry-init g c = record { split = refl; added = sym (append-nil _) }
 
-pub image-image-requires : goal.image-image-requires
-image-image-requires g c =
-    omega (arith, (carried g (goal.at.image-image-requires g c).In-Some).0, g.met.B.Geometry.symmetry_count, g.met.B.Geometry.few_symmetries, c.self.invariant.0.returns.len)
+pub image_of-image-requires-clause-symmetry : goal.image_of-image-requires-clause-symmetry
+image_of-image-requires-clause-symmetry g c =
+    omega (arith, (carried g (goal.at.image_of-image-requires-clause-symmetry g c).In-Some).0, g.met.B.Geometry.symmetry_count)
 
 pub entry_outside-requires : goal.entry_outside-requires
 entry_outside-requires g c =
     let is = carried g (goal.at.entry_outside-requires g c).In-Some in
-    let at : c.image-image.result ≡ image_of (g.B.Geometry.shape.image c.in-Some.symmetry) c.self.inside.position.own = c.image-image.ensures ∙ is.1 in
+    let at : c.image_of-image.result ≡ image_of (g.B.Geometry.shape.image c.in-Some.symmetry) c.self.inside.position.own = c.image_of-image.ensures ∙ ap (image_of (g.B.Geometry.shape.image c.in-Some.symmetry)) c.own.ensures.points in
     record {
       start = c.leads_of-start.ensures.few;
-      board = rw at is.3.within;
-      counted = rw at (c.self.invariant.1 ∙ sym is.3.counted);
-      few = rw at is.3.most;
-      apart = rw (at, c.leads_of-start.ensures.representative, is.2) is.3.apart;
+      board = rw at is.2.within;
+      counted = rw at (c.self.invariant.1 ∙ sym is.2.counted);
+      few = rw at is.2.most;
+      apart = rw (at, c.leads_of-start.ensures.representative, is.1) is.2.apart;
     }
 
 pub loop-symmetry-preserved : goal.loop-symmetry-preserved
 loop-symmetry-preserved g c =
     let is = carried g (goal.at.loop-symmetry-preserved g c).In-Some in
-    let at : c.image-image.result ≡ image_of (g.B.Geometry.shape.image c.in-Some.symmetry) c.self.inside.position.own = c.image-image.ensures ∙ is.1 in
+    let at : c.image_of-image.result ≡ image_of (g.B.Geometry.shape.image c.in-Some.symmetry) c.self.inside.position.own = c.image_of-image.ensures ∙ ap (image_of (g.B.Geometry.shape.image c.in-Some.symmetry)) c.own.ensures.points in
     let entry : c.entry_outside.result ≡ class_index_of g.B.Geometry.shape g.B.Geometry.POINTS c.self.inside.pair.now (image_sides (g.B.Geometry.shape.image c.in-Some.symmetry) (taken_back c.self.inside.position c.args.from c.args.to)) =
-    rw (c.entry_outside.ensures, at, c.leads_of-start.ensures.start, c.leads_of-start.ensures.representative, c.self.invariant.2, is.2) (is.3.entry c.self.inside.pair.now) in
+    rw (c.entry_outside.ensures, at, c.leads_of-start.ensures.start, c.leads_of-start.ensures.representative, c.self.invariant.2, is.1) (is.2.entry c.self.inside.pair.now) in
     record {
       split = split_after c.loop-symmetry.yielded _ c.in-Some.symmetry _ _ c.in-Some.ensures.steps c.loop-symmetry.invariant.split;
       added = c.in_ok-push.ensures.items ∙ pushed _ c.args.out.now.items c.loop-symmetry.yielded c.loop-symmetry.out.items c.in-Some.symmetry _ c.loop-symmetry.invariant.added
