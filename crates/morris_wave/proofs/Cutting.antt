@@ -16,7 +16,7 @@ from : (x k y : ℕ) → 0 < k → y ≤ x / k → y * k ≤ x
 from x k y pos l = ⊎_elim (λ h. absurd (omega (arith, below x k y pos h))) (λ h. h) (cases_lt x (y * k))
 
 -- a quotient by its two bounds
-pub quotient_is : (x k q : ℕ) → 0 < k → k * q ≤ x → x < k * q + k → q ≡ x / k
+quotient_is : (x k q : ℕ) → 0 < k → k * q ≤ x → x < k * q + k → q ≡ x / k
 quotient_is x k q pos low high =
     let upper : x / k < q + 1 = below x k (q + 1) pos (omega (arith, high)) in
     let lower : q ≤ x / k = le-div q x k pos (omega (arith, low)) in

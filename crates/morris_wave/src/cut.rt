@@ -12,9 +12,6 @@ const WHOLE: u128 = 18446744073709551616;
 // 2^32: the square of a size of at most this is at most 2^64, and then a reciprocal is exact enough.
 const SHORT: u64 = 4294967296;
 
-// 2^53: a factor counts in such parts, and 1,024 blocks of them are below 2^64.
-const PARTS: u64 = 9007199254740992;
-
 /// The number of blocks isn't 1 to 1,024.
 #[derive(Clone, Copy, Debug, PartialEq, Eq, Error)]
 #[error("blocks must be 1 to 1024")]
@@ -109,26 +106,6 @@ impl Cut {
         ((i + 1) * self.blocks - 1) / size
     }
 
-    // The block that holds node `i`. Where a guess is right or one too low, it costs no division.
-    #[tactic(auto, using(crate::proofs::Cutting::quotient_is))]
-    fn near(&self, i: u64, guess: u64) -> u64
-        requires node { i < self.now.size }
-        requires guess { guess < 2 ^ 11 }
-        ensures { result ≡ block_of self.now i }
-    {
-        let size = self.size;
-        let last = (i + 1) * self.blocks - 1;
-        // One comparison, since this wraps to far more than two sizes where the guess is too high.
-        let over = last.wrapping_sub(size * guess);
-        if over < size {
-            return guess;
-        }
-        if over < size + size {
-            return guess + 1;
-        }
-        self.block_of(i)
-    }
-
     /// The nodes of block `k`.
     ///
     /// The ranges follow one another without gap from 0 to the size.
@@ -146,15 +123,13 @@ impl Cut {
     }
 }
 
-/// Finds the blocks of nodes of a cut without a division for each.
+/// Finds the blocks of nodes of a cut, without a division for each up to 2^32 nodes.
 #[derive(Clone, Copy)]
 pub(crate) struct Finder {
     pub(crate) cut: Cut,
     // The blocks by the size in parts of 2^64, just below the quotient; 0 where there are more blocks
     // than nodes, so that it doesn't fit, or more than 2^32 nodes, so that it isn't exact enough.
     reciprocal: u64,
-    // The same in larger parts, for the guesses where there is no reciprocal.
-    factor: u64,
     ghost lawful: { IsCut cut },
     ghost small: { 0 < reciprocal → cut.size ≤ 2 ^ 32 },
     ghost below: { 0 < reciprocal → reciprocal * cut.size < cut.blocks * 2 ^ 64 },
@@ -166,11 +141,6 @@ impl Finder {
         ensures { result.cut ≡ cut.now }
     {
         let size = cut.size();
-        let factor = if size == 0 {
-            0
-        } else {
-            cut.blocks() * PARTS / size
-        };
         let reciprocal = if cut.blocks() <= size && size <= SHORT {
             reciprocal_of(cut.blocks(), size)
         } else {
@@ -179,7 +149,6 @@ impl Finder {
         Finder {
             cut: *cut,
             reciprocal,
-            factor,
         }
     }
 
@@ -195,8 +164,7 @@ impl Finder {
             let (_, block) = (i + 1).carrying_mul(self.reciprocal, 0);
             block
         } else {
-            // Any guess will do, a good one is quick.
-            self.cut.near(i, i.wrapping_mul(self.factor) / PARTS)
+            self.cut.block_of(i)
         }
     }
 }
