@@ -22,9 +22,9 @@ const WORKER: u64 = 2_800_000;
 /// Bytes of an entry of a table: its code.
 pub(crate) const CODE: u64 = 2;
 
-/// Bytes of a set of stones of a table by classes: 8 for the class that it is led to, and 5 for its
-/// part of what is kept of a class, which are 76 for some 16 sets.
-const SET: u64 = 13;
+/// Bytes of a set of stones of a table by classes: 8 for the class that it is led to, and 1 for its
+/// part of what is kept of a class, which are 12 for some 16 sets.
+const SET: u64 = 9;
 
 /// Bytes of an entry of the pair that is built: its code, and a counter of the results that it waits
 /// for. Both have a byte while no depth is above 254.
