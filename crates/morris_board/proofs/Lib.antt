@@ -1,7 +1,8 @@
 pub mod PointsLaws
 pub mod SetLaws
 pub mod PositionLaws
-pub mod BufferedLaws
+pub mod LengthLaws
+pub mod PrinterLaws
 pub mod SentLaws
 pub mod Tables
 pub mod TextLaws

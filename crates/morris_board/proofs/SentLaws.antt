@@ -48,6 +48,3 @@ HasSent-append old mid new a b t u (Err c) first second = PartSent-append old mi
 pub PartSent-within : (old mid new : Option (List ℕ)) (a b c : ℕ) (t u v whole : List ℕ) → AllSent old mid a b t → PartSent mid new b c u → whole ≡ t ++ u ++ v → PartSent old new a c whole
 PartSent-within old mid new a b c t u v whole first second e =
     subst (PartSent old new a c) (sym e) (PartSent-longer old new a c (t ++ u) v (PartSent-append old mid new a b c t u first second))
-
--- the laws by which pieces sent one after the other make up a text
-pub ruleset sent_laws = (AllSent-nil, AllSent-append, PartSent-longer, PartSent-append, HasSent-append)

@@ -5,4 +5,4 @@ pub mod Symmetries
 pub mod BoardLaws
 pub mod SymmetryLaws
 pub mod Streams
-pub mod Buffered
+pub mod Printers

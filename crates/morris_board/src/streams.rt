@@ -1,17 +1,16 @@
 //! Where bytes are read from and written to, with a count of the calls that failed.
-ghost use Rattle.std.specs.Prelude.{◌≡◌, ℕ, ◌+◌, ◌-◌, ◌^◌, ◌<◌, ◌≤◌, List, [], ◌∷◌, Option, length, IfOk};
-ghost use Rattle.std.specs.Fmt.{decimal};
+ghost use Rattle.std.specs.Prelude.{◌≡◌, ℕ, ◌+◌, ◌-◌, ◌^◌, ◌<◌, List, Option, length, IfOk};
 ghost use Rattle.std.specs.Io.{ReadsAtMost, WritesAtMost};
 ghost use Rattle.std.specs.Io.KnownBytes.{ReadConsumes, WriteAppends};
 ghost use Rattle.morris_board.specs.Streams.{Counted, counted, CountsFailure, HasSent, read_answer, write_answer};
 
-use itoa::Buffer;
 use std::io;
 use std::io::{Read, Write};
 use std::marker::Model;
 use thiserror::Error;
 
-pub mod buffered;
+pub mod printed;
+pub mod printer;
 
 /// A call of a stream failed. Why isn't kept: what matters is that it did, and the stream counts
 /// it.
@@ -220,27 +219,4 @@ pub fn put<S: Sink>(sink: &mut S, sent: u64, text: &[u8]) -> Result<u64, u64>
         }
     }
     Ok(sent + done as u64)
-}
-
-/// Writes one byte as [`put`] does.
-pub fn put_byte<S: Sink>(sink: &mut S, sent: u64, byte: u8) -> Result<u64, u64>
-    requires failures { S.failures sink.old < 2 ^ 64 - 1 }
-    requires room { sent < 2 ^ 64 - 1 }
-    ensures sent { HasSent (S.contents sink.old) (S.contents sink.new) sent (byte ∷ []) result }
-    ensures counted { CountsFailure (S.failures sink.old) (S.failures sink.new) result }
-{
-    put(sink, sent, &[byte])
-}
-
-/// Writes the decimal digits of `number`, at most 20, as [`put`] does. The count of bytes sent must
-/// have room for 20 more.
-pub fn put_number<S: Sink>(sink: &mut S, sent: u64, number: u64) -> Result<u64, u64>
-    requires failures { S.failures sink.old < 2 ^ 64 - 1 }
-    requires room { sent + 20 < 2 ^ 64 }
-    ensures sent { HasSent (S.contents sink.old) (S.contents sink.new) sent (decimal number) result }
-    ensures counted { CountsFailure (S.failures sink.old) (S.failures sink.new) result }
-    ensures few { length (decimal number) ≤ 20 }
-{
-    let mut buffer = Buffer::new();
-    put(sink, sent, buffer.format(number).as_bytes())
 }

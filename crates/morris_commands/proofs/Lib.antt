@@ -4,4 +4,5 @@ mod AloneLaws
 pub mod BeforeLaws
 pub mod DeepestLaws
 pub mod DeepLaws
+pub mod LengthLaws
 pub mod EntryOrder

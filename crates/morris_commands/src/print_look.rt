@@ -1,16 +1,16 @@
-//! What `look` prints, piece by piece. Each function ends at the first write that fails.
-ghost use Rattle.std.specs.Prelude.{◌≡◌, ◌+◌, ◌-◌, ◌^◌, ◌<◌, ◌≤◌, length, OnOk};
+//! What `look` prints, piece by piece.
+ghost use Rattle.std.specs.Prelude.{◌≡◌, length};
 ghost use Rattle.std.specs.List.{flat_map};
-ghost use Rattle.morris_board.specs.Buffered.{Passes, sink_of, taken_of};
 ghost use Rattle.morris_moves.specs.Rules.{moves_of};
 ghost use Rattle.morris_probe.specs.Lines.{move_line};
 ghost use Rattle.morris_commands.specs.Look.{counts_line, value_line, head_text, list_text};
+ghost use Rattle.morris_board.specs.Printers.{Takes};
 
 use morris_board::board::Geometry;
 use morris_board::position::Position;
-use morris_board::streams::buffered::Buffered;
-use morris_board::streams::{Failed, Sink};
-use morris_jobs::print::Printed;
+use morris_board::streams::Sink;
+use morris_board::streams::printed::Printed;
+use morris_board::streams::printer::Printer;
 use morris_moves::rules::moves;
 use morris_moves::search::Within;
 use morris_probe::print::{put_count, put_move_line, put_number_line, put_position};
@@ -32,50 +32,34 @@ impl<B: Geometry> Printed for Looked<B> {
 
     ghost bytes = { λ looked. look_text B.shape looked.position looked.plies looked.found };
 
-    fn put_into<S: Sink>(&self, out: &mut Buffered<'_, S>) -> Result<(), Failed> {
-        put_head(out, &self.position)?;
-        put_list(out, &self.position)?;
-        put_within(out, self.plies, self.found)
+    fn put_into<S: Sink>(&self, out: &mut Printer<'_, S>) {
+        put_head(out, &self.position);
+        put_list(out, &self.position);
+        put_within(out, self.plies, self.found);
     }
 }
 
 /// How many stones each side has.
-fn put_counts<B: Geometry, S: Sink>(
-    out: &mut Buffered<'_, S>,
-    position: &Position<B>,
-) -> Result<(), Failed>
-    requires failures { S.failures (sink_of out.old) < 2 ^ 64 - 1 }
-    requires room { taken_of out.old < 2 ^ 63 }
-    ensures passed { Passes S.contents S.failures out.old out.new (counts_line position.now) result }
-    ensures few { OnOk result (taken_of out.new ≤ taken_of out.old + 105) }
+fn put_counts<B: Geometry, S: Sink>(out: &mut Printer<'_, S>, position: &Position<B>)
+    ensures { Takes S.contents S.failures out.old out.new (counts_line position.now) }
 {
     let (own, other) = position.counts();
-    put_count(out, "own ", u64::from(own))?;
-    put_number_line(out, " other ", u64::from(other))
+    put_count(out, "own ", u64::from(own));
+    put_number_line(out, " other ", u64::from(other));
 }
 
 /// The lines of the legal moves.
-fn put_moves<B: Geometry, S: Sink>(
-    out: &mut Buffered<'_, S>,
-    position: &Position<B>,
-) -> Result<(), Failed>
-    requires failures { S.failures (sink_of out.old) < 2 ^ 64 - 1 }
-    requires room { taken_of out.old < 2 ^ 10 }
-    ensures passed { Passes S.contents S.failures out.old out.new (flat_map move_line (moves_of B.shape position.now)) result }
-    ensures few { OnOk result (taken_of out.new < 2 ^ 20) }
+fn put_moves<B: Geometry, S: Sink>(out: &mut Printer<'_, S>, position: &Position<B>)
+    ensures { Takes S.contents S.failures out.old out.new (flat_map move_line (moves_of B.shape position.now)) }
 {
     for m in moves(position) {
-        put_move_line(out, m)?;
+        put_move_line(out, m);
     }
-    Ok(())
 }
 
 /// The value of a position as far as `plies` plies show it.
-fn put_within<S: Sink>(out: &mut Buffered<'_, S>, plies: u8, found: Within) -> Result<(), Failed>
-    requires failures { S.failures (sink_of out.old) < 2 ^ 64 - 1 }
-    requires room { taken_of out.old < 2 ^ 63 }
-    ensures passed { Passes S.contents S.failures out.old out.new (value_line plies found) result }
-    ensures few { OnOk result (taken_of out.new ≤ taken_of out.old + 53) }
+fn put_within<S: Sink>(out: &mut Printer<'_, S>, plies: u8, found: Within)
+    ensures { Takes S.contents S.failures out.old out.new (value_line plies found) }
 {
     match found {
         Within::Lost(depth) => put_number_line(out, "lost in ", u64::from(depth)),
@@ -85,31 +69,19 @@ fn put_within<S: Sink>(out: &mut Buffered<'_, S>, plies: u8, found: Within) -> R
 }
 
 /// A position and how many stones each side has.
-fn put_head<B: Geometry, S: Sink>(
-    out: &mut Buffered<'_, S>,
-    position: &Position<B>,
-) -> Result<(), Failed>
-    requires failures { S.failures (sink_of out.old) < 2 ^ 64 - 1 }
-    requires new { taken_of out.old ≡ 0 }
-    ensures passed { Passes S.contents S.failures out.old out.new (head_text B.shape position.now) result }
-    ensures few { OnOk result (taken_of out.new < 2 ^ 10) }
+fn put_head<B: Geometry, S: Sink>(out: &mut Printer<'_, S>, position: &Position<B>)
+    ensures { Takes S.contents S.failures out.old out.new (head_text B.shape position.now) }
 {
-    put_position(out, position)?;
-    put_counts(out, position)
+    put_position(out, position);
+    put_counts(out, position);
 }
 
 /// The legal moves and how many there are.
-fn put_list<B: Geometry, S: Sink>(
-    out: &mut Buffered<'_, S>,
-    position: &Position<B>,
-) -> Result<(), Failed>
-    requires failures { S.failures (sink_of out.old) < 2 ^ 64 - 1 }
-    requires room { taken_of out.old < 2 ^ 10 }
-    ensures passed { Passes S.contents S.failures out.old out.new (list_text B.shape position.now) result }
-    ensures few { OnOk result (taken_of out.new < 2 ^ 21) }
+fn put_list<B: Geometry, S: Sink>(out: &mut Printer<'_, S>, position: &Position<B>)
+    ensures { Takes S.contents S.failures out.old out.new (list_text B.shape position.now) }
 {
-    put_moves(out, position)?;
-    put_number_line(out, "moves ", move_count(position))
+    put_moves(out, position);
+    put_number_line(out, "moves ", move_count(position));
 }
 
 /// How many legal moves there are.

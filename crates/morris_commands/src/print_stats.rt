@@ -2,10 +2,10 @@
 use crate::deepest::Deepest;
 use crate::print_deepest::put_deepest;
 use morris_board::board::Geometry;
-use morris_board::streams::buffered::Buffered;
-use morris_board::streams::{Failed, Sink};
+use morris_board::streams::Sink;
+use morris_board::streams::printed::Printed;
+use morris_board::streams::printer::Printer;
 use morris_jobs::counts::Tallied;
-use morris_jobs::print::Printed;
 use morris_jobs::print_counts::put_tallies;
 
 /// What `stats --deepest` prints of a pair.
@@ -26,8 +26,8 @@ impl<B: Geometry> Printed for Counted<B> {
 
     ghost is_short = { λ counted. length counted.tallied.tallies.items ≤ 2 ^ 16 };
 
-    fn put_into<S: Sink>(&self, out: &mut Buffered<'_, S>) -> Result<(), Failed> {
-        put_tallies(out, self.tallied.pair, self.tallied.tallies.as_slice())?;
-        put_deepest(out, self.deepest)
+    fn put_into<S: Sink>(&self, out: &mut Printer<'_, S>) {
+        put_tallies(out, self.tallied.pair, self.tallied.tallies.as_slice());
+        put_deepest(out, self.deepest);
     }
 }

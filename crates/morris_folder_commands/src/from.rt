@@ -177,8 +177,6 @@ pub(crate) fn take_in<B: Board, R: Threads + Sync, O: Sink, T: Teller>(
     ensures told { T.becomes teller.old teller.new }
 {
     let pair = raw.pair();
-    // The proof learns here that the numbers of stones are those of a pair.
-    let _ = pair.greater();
     teller.begin_pair(pair);
     let exact = match verify_over(crew, stock, raw, teller) {
         Ok(exact) => exact,

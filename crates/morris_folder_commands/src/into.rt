@@ -252,9 +252,6 @@ fn keep_table<B: Geometry, F: Folder, W: Watch>(
     let Some(table) = stock.get(pair) else {
         unreachable!()
     };
-    // The proof learns here that the numbers of stones are those of a pair, and how many entries
-    // there may be.
-    let _ = (pair.greater(), table.len());
     match write_table_file(alloc, folder, board, table, watch) {
         Ok(written) => Ok(written),
         Err(fault) => {

@@ -1,15 +1,15 @@
 //! What `build` prints of a file in a folder.
-ghost use Rattle.std.specs.Prelude.{◌≡◌, ◌+◌, ◌-◌, ◌^◌, ◌<◌, ◌≤◌, [], ◌∷◌, ◌++◌, codes, OnOk};
+ghost use Rattle.std.specs.Prelude.{[], ◌∷◌, ◌++◌, codes};
 ghost use Rattle.hex.specs.Hex.{encode_lower};
-ghost use Rattle.morris_board.specs.Buffered.{Passes, sink_of, taken_of};
+ghost use Rattle.morris_board.specs.Printers.{Takes};
 
 use hex::encode_to_slice;
 use morris_board::board::Geometry;
-use morris_board::streams::buffered::Buffered;
-use morris_board::streams::{Failed, Sink};
+use morris_board::streams::Sink;
+use morris_board::streams::printed::Printed;
+use morris_board::streams::printer::Printer;
 use morris_files::table_file::Written;
 use morris_jobs::pairs::put_pair;
-use morris_jobs::print::Printed;
 use morris_probe::print::put_count;
 
 /// What `build` prints of a file that was written into a folder.
@@ -19,31 +19,31 @@ pub struct Filed<'a, B: Geometry> {
     pub file: &'a Written<B>,
 }
 
-#[tactic(auto, using(morris_board::proofs::BufferedLaws::passed_laws), unfolding(crate::specs::Into::filed_text))]
+#[tactic(auto, using(morris_board::proofs::PrinterLaws::takes_laws), unfolding(crate::specs::Into::filed_text))]
 impl<'a, B: Geometry> Printed for Filed<'a, B> {
+    ghost use Rattle.std.specs.Prelude.{◌≤◌, ◌^◌, length};
     ghost use Rattle.morris_folder_commands.specs.Into.{filed_text};
 
     ghost bytes = { λ filed. filed_text filed.file.now.pair filed.file.now.entries filed.file.now.bytes filed.file.now.digest };
 
-    fn put_into<S: Sink>(&self, out: &mut Buffered<'_, S>) -> Result<(), Failed> {
-        put_pair(out, self.file.pair)?;
-        put_count(out, " ", self.file.entries)?;
-        put_count(out, " entries ", self.file.bytes)?;
-        put_digest(out, &self.file.digest)
+    ghost is_short = { λ filed. length (filed_text filed.file.now.pair filed.file.now.entries filed.file.now.bytes filed.file.now.digest) ≤ 2 ^ 10 };
+
+    fn put_into<S: Sink>(&self, out: &mut Printer<'_, S>) {
+        put_pair(out, self.file.pair);
+        put_count(out, " ", self.file.entries);
+        put_count(out, " entries ", self.file.bytes);
+        put_digest(out, &self.file.digest);
     }
 }
 
 /// The end of the line: the digest of the file.
-#[tactic(auto, using(morris_board::proofs::BufferedLaws::passed_laws))]
-fn put_digest<S: Sink>(out: &mut Buffered<'_, S>, digest: &[u8; 32]) -> Result<(), Failed>
-    requires failures { S.failures (sink_of out.old) < 2 ^ 64 - 1 }
-    requires room { taken_of out.old < 2 ^ 32 }
-    ensures passed { Passes S.contents S.failures out.old out.new (codes " bytes " ++ encode_lower digest.now ++ (10 ∷ [])) result }
-    ensures few { OnOk result (taken_of out.new ≤ taken_of out.old + 100) }
+#[tactic(auto, using(morris_board::proofs::PrinterLaws::takes_laws))]
+fn put_digest<S: Sink>(out: &mut Printer<'_, S>, digest: &[u8; 32])
+    ensures { Takes S.contents S.failures out.old out.new (codes " bytes " ++ encode_lower digest.now ++ (10 ∷ [])) }
 {
     let mut digits = [0; 64];
     let _ = encode_to_slice(digest, &mut digits);
-    out.put(b" bytes ")?;
-    out.put(&digits)?;
-    out.put_byte(b'\n')
+    out.put(" bytes ");
+    out.put_bytes(&digits);
+    out.put("\n");
 }

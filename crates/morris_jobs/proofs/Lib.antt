@@ -3,6 +3,6 @@ pub mod NearLaws
 pub mod FaultLaws
 pub mod OrderLaws
 pub mod BundleLaws
-pub mod PieceLaws
+pub mod LengthLaws
 pub mod LineLaws
 pub mod CountedLaws

@@ -18,7 +18,7 @@ use Rattle.morris_pairs.specs.declared.file_faults.ReadFault.{ReadFault}
 use Rattle.morris_pairs.specs.declared.file_faults.ReadFault.TheVariants as read
 use Rattle.morris_pairs.specs.declared.verify.VerifyFault.{VerifyFault}
 use Rattle.morris_pairs.specs.declared.verify.VerifyFault.TheVariants as verify
-use Rattle.morris_probe.specs.Reports.{WentOut}
+use Rattle.morris_board.specs.Printers.{WentOut}
 use Rattle.morris_probe.specs.declared.fault.ProbeFault.{ProbeFault}
 use Rattle.morris_probe.specs.declared.fault.ProbeFault.TheVariants as probe
 use Rattle.morris_jobs.specs.declared.fault.Fault.{Fault}

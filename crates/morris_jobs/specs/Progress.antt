@@ -4,7 +4,7 @@ use Rattle.std.specs.Borrow.{GName}
 use Rattle.std.specs.Fmt.{decimal}
 use Rattle.morris_board.specs.Streams.{CountsFailure}
 use Rattle.morris_index.specs.Pairs.{Counts, counts}
-use Rattle.morris_probe.specs.Reports.{WentOut}
+use Rattle.morris_board.specs.Printers.{WentOut}
 use Rattle.morris_jobs.specs.declared.progress.News.{News}
 use Rattle.morris_jobs.specs.declared.progress.News.TheVariants as news
 use Rattle.morris_jobs.specs.declared.progress.SoFar.{SoFar}

@@ -5,7 +5,7 @@ use Rattle.morris_jobs.specs.declared.progress.News.{News}
 use Rattle.morris_jobs.specs.declared.progress.News.TheVariants as news
 use Rattle.morris_jobs.specs.declared.progress.Progress.{Progress}
 use Rattle.morris_board.specs.Streams.{CountsFailure}
-use Rattle.morris_probe.specs.Reports.{WentOut}
+use Rattle.morris_board.specs.Printers.{WentOut}
 use Rattle.morris_jobs.specs.Progress.{Becomes, BeginsWithWhole, GoesOn, IsWholeFirst, MayTell, SaysLine, Speaks, Tells, TellsInOrder, TellsLine, TellsWholeFirst, Told, has_begun_of, lent_of, news_line, rewrites_of, sink_of, tells_of, whole_of}
 
 -- failures only rise
@@ -304,6 +304,3 @@ module _ {R E : Type 0} (contents : E → Option (List ℕ)) (failures : E → �
                 (begins_of p q first.told.lines first.first new) after.0 (kept_of q r second.told.lines second.first))
                 kept;
           }
-
--- the laws by which what each call tells makes up what all of them tell
-pub ruleset told_laws = (Becomes-stays, Becomes-joins)

@@ -1,14 +1,14 @@
 //! Pairs as texts: those that the words of the command line name, and how one is printed.
-ghost use Rattle.std.specs.Prelude.{◌≡◌, ◌+◌, ◌-◌, ◌^◌, ◌<◌, ◌≤◌, OnOk};
-ghost use Rattle.morris_board.specs.Buffered.{Passes, sink_of, taken_of};
+ghost use Rattle.std.specs.Prelude.{◌≡◌};
 ghost use Rattle.morris_index.specs.Pairs.{pair_text};
 ghost use Rattle.morris_jobs.specs.Faults.{stones_text};
 ghost use Rattle.morris_jobs.specs.PairText.{read_pair_of};
+ghost use Rattle.morris_board.specs.Printers.{Takes};
 
 use crate::fault::Fault;
 use morris_board::board::Geometry;
-use morris_board::streams::buffered::Buffered;
-use morris_board::streams::{Failed, Sink};
+use morris_board::streams::Sink;
+use morris_board::streams::printer::Printer;
 use morris_index::pair::Pair;
 use morris_probe::print::put_signed;
 
@@ -29,28 +29,16 @@ pub fn read_pair<B: Geometry>(text: &str) -> Result<Pair<B>, Fault>
 }
 
 /// Puts numbers of stones, with a hyphen between them, into a buffer.
-///
-/// # Errors
-/// [`Failed`] at the first write that fails.
-pub fn put_stones<S: Sink>(out: &mut Buffered<'_, S>, greater: u8, lesser: u8) -> Result<(), Failed>
-    requires failures { S.failures (sink_of out.old) < 2 ^ 64 - 1 }
-    requires room { taken_of out.old < 2 ^ 63 }
-    ensures passed { Passes S.contents S.failures out.old out.new (stones_text greater lesser) result }
-    ensures few { OnOk result (taken_of out.new ≤ taken_of out.old + 41) }
+pub fn put_stones<S: Sink>(out: &mut Printer<'_, S>, greater: u8, lesser: u8)
+    ensures { Takes S.contents S.failures out.old out.new (stones_text greater lesser) }
 {
-    out.put_number(u64::from(greater))?;
-    put_signed(out, b'-', lesser)
+    out.put_number(u64::from(greater));
+    put_signed(out, b'-', lesser);
 }
 
 /// The numbers of a pair.
-pub fn put_pair<B: Geometry, S: Sink>(
-    out: &mut Buffered<'_, S>,
-    pair: Pair<B>,
-) -> Result<(), Failed>
-    requires failures { S.failures (sink_of out.old) < 2 ^ 64 - 1 }
-    requires room { taken_of out.old < 2 ^ 10 }
-    ensures passed { Passes S.contents S.failures out.old out.new (pair_text pair) result }
-    ensures few { OnOk result (taken_of out.new ≤ taken_of out.old + 41) }
+pub fn put_pair<B: Geometry, S: Sink>(out: &mut Printer<'_, S>, pair: Pair<B>)
+    ensures { Takes S.contents S.failures out.old out.new (pair_text pair) }
 {
-    put_stones(out, pair.greater(), pair.lesser())
+    put_stones(out, pair.greater(), pair.lesser());
 }

@@ -1,15 +1,14 @@
-//! How many positions of a pair have each value, printed piece by piece. Each function ends at the
-//! first write that fails.
-ghost use Rattle.std.specs.Prelude.{◌≡◌, ◌+◌, ◌*◌, ◌^◌, ◌-◌, ◌<◌, ◌≤◌, length, drop, slice_index, OnOk};
-ghost use Rattle.morris_board.specs.Buffered.{Passes, sink_of, taken_of};
+//! How many positions of a pair have each value, printed piece by piece.
+ghost use Rattle.std.specs.Prelude.{◌≡◌, ◌≤◌, length, drop, slice_index};
 ghost use Rattle.morris_jobs.specs.Counted.{csv_depth, csv_depths, csv_draw, csv_front, csv_half, csv_lesser, depth_label, depth_line, depth_lines, pair_line, stats_text};
+ghost use Rattle.morris_board.specs.Printers.{Takes};
 
 use crate::counts::{Halves, Tallied};
 use crate::pairs::put_pair;
-use crate::print::Printed;
 use morris_board::board::Geometry;
-use morris_board::streams::buffered::Buffered;
-use morris_board::streams::{Failed, Sink};
+use morris_board::streams::Sink;
+use morris_board::streams::printed::Printed;
+use morris_board::streams::printer::Printer;
 use morris_index::pair::Pair;
 use morris_probe::print::{put_count, put_number_line, put_signed};
 
@@ -21,65 +20,44 @@ impl<B: Geometry> Printed for Tallied<B> {
 
     ghost is_short = { λ tallied. length tallied.tallies.items ≤ 2 ^ 16 };
 
-    fn put_into<S: Sink>(&self, out: &mut Buffered<'_, S>) -> Result<(), Failed> {
-        put_tallies(out, self.pair, self.tallies.as_slice())
+    fn put_into<S: Sink>(&self, out: &mut Printer<'_, S>) {
+        put_tallies(out, self.pair, self.tallies.as_slice());
     }
 }
 
 /// How many positions of a pair have each value. `tallies` has the numbers for the codes 0, 1, ..
-///
-/// # Errors
-/// [`Failed`] at the first write that fails.
-pub fn put_tallies<B: Geometry, S: Sink>(
-    out: &mut Buffered<'_, S>,
-    pair: Pair<B>,
-    tallies: &[u64],
-) -> Result<(), Failed>
-    requires failures { S.failures (sink_of out.old) < 2 ^ 64 - 1 }
-    requires few { length tallies.now ≤ 2 ^ 16 }
-    requires new { taken_of out.old ≡ 0 }
-    ensures passed { Passes S.contents S.failures out.old out.new (stats_text B.POINTS pair tallies.now) result }
-    ensures few { OnOk result (taken_of out.new < 2 ^ 34) }
+pub fn put_tallies<B: Geometry, S: Sink>(out: &mut Printer<'_, S>, pair: Pair<B>, tallies: &[u64])
+    ensures { Takes S.contents S.failures out.old out.new (stats_text B.POINTS pair tallies.now) }
 {
     let (draws, decided) = draws_and_decided(tallies);
-    put_pair_line(out, pair)?;
-    put_depths(out, decided)?;
-    put_number_line(out, "draw: ", draws)
+    put_pair_line(out, pair);
+    put_depths(out, decided);
+    put_number_line(out, "draw: ", draws);
 }
 
 /// A pair and how many positions it has.
-fn put_pair_line<B: Geometry, S: Sink>(
-    out: &mut Buffered<'_, S>,
-    pair: Pair<B>,
-) -> Result<(), Failed>
-    requires failures { S.failures (sink_of out.old) < 2 ^ 64 - 1 }
-    requires new { taken_of out.old ≡ 0 }
-    ensures passed { Passes S.contents S.failures out.old out.new (pair_line B.POINTS pair) result }
-    ensures few { OnOk result (taken_of out.new < 2 ^ 10) }
+fn put_pair_line<B: Geometry, S: Sink>(out: &mut Printer<'_, S>, pair: Pair<B>)
+    ensures { Takes S.contents S.failures out.old out.new (pair_line B.POINTS pair) }
 {
-    put_pair(out, pair)?;
-    put_count(out, " ", pair.size())?;
-    out.put(b" positions\n")
+    put_pair(out, pair);
+    put_count(out, " ", pair.size());
+    out.put(" positions\n");
 }
 
 /// How many positions have a depth, where there are any.
-fn put_depth<S: Sink>(out: &mut Buffered<'_, S>, depth: u64, count: u64) -> Result<(), Failed>
-    requires failures { S.failures (sink_of out.old) < 2 ^ 64 - 1 }
-    requires room { taken_of out.old < 2 ^ 63 }
-    ensures passed { Passes S.contents S.failures out.old out.new (depth_line depth count) result }
-    ensures few { OnOk result (taken_of out.new ≤ taken_of out.old + 105) }
+fn put_depth<S: Sink>(out: &mut Printer<'_, S>, depth: u64, count: u64)
+    ensures { Takes S.contents S.failures out.old out.new (depth_line depth count) }
 {
     if count == 0 {
-        return Ok(());
+        return;
     }
-    put_count(out, depth_label(depth), depth)?;
-    put_number_line(out, ": ", count)
+    put_count(out, depth_label(depth), depth);
+    put_number_line(out, ": ", count);
 }
 
 /// What has this depth: a loss where it is even, and else a win.
 fn depth_label(depth: u64) -> &'static str
-    ensures label { result.now ≡ depth_label depth }
-    ensures short { length result.now ≤ 32 }
+    ensures { result.now ≡ depth_label depth }
 {
     if depth % 2 == 0 {
         "lost in "
@@ -90,17 +68,12 @@ fn depth_label(depth: u64) -> &'static str
 
 /// How many positions have each depth, where there are any. `counts` has the numbers for the depths
 /// 0, 1, ..
-fn put_depths<S: Sink>(out: &mut Buffered<'_, S>, counts: &[u64]) -> Result<(), Failed>
-    requires failures { S.failures (sink_of out.old) < 2 ^ 64 - 1 }
-    requires few { length counts.now ≤ 2 ^ 16 }
-    requires room { taken_of out.old < 2 ^ 10 }
-    ensures passed { Passes S.contents S.failures out.old out.new (depth_lines counts.now) result }
-    ensures few { OnOk result (taken_of out.new < 2 ^ 32) }
+fn put_depths<S: Sink>(out: &mut Printer<'_, S>, counts: &[u64])
+    ensures { Takes S.contents S.failures out.old out.new (depth_lines counts.now) }
 {
     for (depth, count) in counts.iter().enumerate() {
-        put_depth(out, depth as u64, *count)?;
+        put_depth(out, depth as u64, *count);
     }
-    Ok(())
 }
 
 /// How many positions are draws, and how many have the depths 0, 1, ..
@@ -122,133 +95,89 @@ impl<B: Geometry> Printed for Halves<B> {
 
     ghost is_short = { λ halves. (length halves.lesser.items ≤ 2 ^ 16) × (length halves.greater.items ≤ 2 ^ 16) };
 
-    fn put_into<S: Sink>(&self, out: &mut Buffered<'_, S>) -> Result<(), Failed> {
-        out.put(b"own,other,result,depth,positions\n")?;
-        put_lesser(out, self.pair, self.lesser.as_slice())?;
+    fn put_into<S: Sink>(&self, out: &mut Printer<'_, S>) {
+        out.put("own,other,result,depth,positions\n");
+        put_lesser(out, self.pair, self.lesser.as_slice());
         let (own, other) = (self.pair.greater(), self.pair.lesser());
-        put_half(out, own, other, self.greater.as_slice())
+        put_half(out, own, other, self.greater.as_slice());
     }
 }
 
 /// The lines of the positions with the lesser number of stones of the player to move, where it is
 /// another one than the greater.
-fn put_lesser<B: Geometry, S: Sink>(
-    out: &mut Buffered<'_, S>,
-    pair: Pair<B>,
-    tallies: &[u64],
-) -> Result<(), Failed>
-    requires failures { S.failures (sink_of out.old) < 2 ^ 64 - 1 }
-    requires few { length tallies.now ≤ 2 ^ 16 }
-    requires room { taken_of out.old < 2 ^ 10 }
-    ensures passed { Passes S.contents S.failures out.old out.new (csv_lesser pair tallies.now) result }
-    ensures few { OnOk result (taken_of out.new < 2 ^ 40) }
+fn put_lesser<B: Geometry, S: Sink>(out: &mut Printer<'_, S>, pair: Pair<B>, tallies: &[u64])
+    ensures { Takes S.contents S.failures out.old out.new (csv_lesser pair tallies.now) }
 {
     if pair.greater() == pair.lesser() {
-        return Ok(());
+        return;
     }
-    put_half(out, pair.lesser(), pair.greater(), tallies)
+    put_half(out, pair.lesser(), pair.greater(), tallies);
 }
 
 /// The lines of the positions with so many stones of the player to move, and of the opponent.
-fn put_half<S: Sink>(
-    out: &mut Buffered<'_, S>,
-    own: u8,
-    other: u8,
-    tallies: &[u64],
-) -> Result<(), Failed>
-    requires failures { S.failures (sink_of out.old) < 2 ^ 64 - 1 }
-    requires few { length tallies.now ≤ 2 ^ 16 }
-    requires room { taken_of out.old < 2 ^ 50 }
-    ensures passed { Passes S.contents S.failures out.old out.new (csv_half own other tallies.now) result }
-    ensures few { OnOk result (taken_of out.new ≤ taken_of out.old + 2 ^ 26) }
+fn put_half<S: Sink>(out: &mut Printer<'_, S>, own: u8, other: u8, tallies: &[u64])
+    ensures { Takes S.contents S.failures out.old out.new (csv_half own other tallies.now) }
 {
     let (draws, decided) = draws_and_decided(tallies);
-    put_csv_draw(out, own, other, draws)?;
-    put_csv_depths(out, own, other, ",won,", 1, decided)?;
-    put_csv_depths(out, own, other, ",lost,", 0, decided)
+    put_csv_draw(out, own, other, draws);
+    put_csv_depths(out, own, other, ",won,", 1, decided);
+    put_csv_depths(out, own, other, ",lost,", 0, decided);
 }
 
 /// How many positions have the depths 0, 1, .. that are even or odd, where there are any.
 fn put_csv_depths<S: Sink>(
-    out: &mut Buffered<'_, S>,
+    out: &mut Printer<'_, S>,
     own: u8,
     other: u8,
     field: &str,
     odd: usize,
     counts: &[u64],
-) -> Result<(), Failed>
-    requires failures { S.failures (sink_of out.old) < 2 ^ 64 - 1 }
-    requires short { length field.now ≤ 32 }
-    requires few { length counts.now ≤ 2 ^ 16 }
-    requires room { taken_of out.old < 2 ^ 51 }
-    ensures passed { Passes S.contents S.failures out.old out.new (csv_depths own other field.now odd counts.now) result }
-    ensures few { OnOk result (taken_of out.new ≤ taken_of out.old + 160 * length counts.now) }
+)
+    ensures { Takes S.contents S.failures out.old out.new (csv_depths own other field.now odd counts.now) }
 {
     for (depth, count) in counts.iter().enumerate() {
         if depth % 2 != odd {
             continue;
         }
-        put_csv_depth(out, own, other, field, depth as u64, *count)?;
+        put_csv_depth(out, own, other, field, depth as u64, *count);
     }
-    Ok(())
 }
 
 /// The line of how many positions have a depth, where there are any.
 fn put_csv_depth<S: Sink>(
-    out: &mut Buffered<'_, S>,
+    out: &mut Printer<'_, S>,
     own: u8,
     other: u8,
     field: &str,
     depth: u64,
     count: u64,
-) -> Result<(), Failed>
-    requires failures { S.failures (sink_of out.old) < 2 ^ 64 - 1 }
-    requires short { length field.now ≤ 32 }
-    requires room { taken_of out.old < 2 ^ 62 }
-    ensures passed { Passes S.contents S.failures out.old out.new (csv_depth own other field.now depth count) result }
-    ensures few { OnOk result (taken_of out.new ≤ taken_of out.old + 160) }
+)
+    ensures { Takes S.contents S.failures out.old out.new (csv_depth own other field.now depth count) }
 {
     if count == 0 {
-        return Ok(());
+        return;
     }
-    put_csv_front(out, own, other, field)?;
-    out.put_number(depth)?;
-    put_number_line(out, ",", count)
+    put_csv_front(out, own, other, field);
+    out.put_number(depth);
+    put_number_line(out, ",", count);
 }
 
 /// The line of how many positions are draws, where there are any.
-fn put_csv_draw<S: Sink>(
-    out: &mut Buffered<'_, S>,
-    own: u8,
-    other: u8,
-    count: u64,
-) -> Result<(), Failed>
-    requires failures { S.failures (sink_of out.old) < 2 ^ 64 - 1 }
-    requires room { taken_of out.old < 2 ^ 62 }
-    ensures passed { Passes S.contents S.failures out.old out.new (csv_draw own other count) result }
-    ensures few { OnOk result (taken_of out.new ≤ taken_of out.old + 160) }
+fn put_csv_draw<S: Sink>(out: &mut Printer<'_, S>, own: u8, other: u8, count: u64)
+    ensures { Takes S.contents S.failures out.old out.new (csv_draw own other count) }
 {
     if count == 0 {
-        return Ok(());
+        return;
     }
-    put_csv_front(out, own, other, ",draw,")?;
-    put_number_line(out, ",", count)
+    put_csv_front(out, own, other, ",draw,");
+    put_number_line(out, ",", count);
 }
 
-/// The numbers of stones, and a result of at most 32 bytes.
-fn put_csv_front<S: Sink>(
-    out: &mut Buffered<'_, S>,
-    own: u8,
-    other: u8,
-    field: &str,
-) -> Result<(), Failed>
-    requires failures { S.failures (sink_of out.old) < 2 ^ 64 - 1 }
-    requires short { length field.now ≤ 32 }
-    requires room { taken_of out.old < 2 ^ 62 + 2 ^ 10 }
-    ensures passed { Passes S.contents S.failures out.old out.new (csv_front own other field.now) result }
-    ensures few { OnOk result (taken_of out.new ≤ taken_of out.old + 73) }
+/// The numbers of stones, and a result.
+fn put_csv_front<S: Sink>(out: &mut Printer<'_, S>, own: u8, other: u8, field: &str)
+    ensures { Takes S.contents S.failures out.old out.new (csv_front own other field.now) }
 {
-    out.put_number(u64::from(own))?;
-    put_signed(out, b',', other)?;
-    out.put(field.as_bytes())
+    out.put_number(u64::from(own));
+    put_signed(out, b',', other);
+    out.put(field);
 }

@@ -1,23 +1,20 @@
 //! What is printed of how far a command is.
-ghost use Rattle.std.specs.Prelude.{◌≡◌, ◌+◌, ◌-◌, ◌^◌, ◌<◌, ◌≤◌, ◌++◌, OnOk, codes};
-ghost use Rattle.morris_board.specs.Buffered.{Passes, sink_of, taken_of};
+ghost use Rattle.std.specs.Prelude.{◌≡◌, ◌+◌, ◌++◌, codes};
 ghost use Rattle.morris_jobs.specs.Progress.{entries_text, labelled, left_text, news_text, percent_of, so_far_text, stones_text, whole_text};
+ghost use Rattle.morris_board.specs.Printers.{Takes};
 
-use crate::print::Printed;
 use crate::progress::{Line, News, SoFar};
-use morris_board::streams::buffered::Buffered;
-use morris_board::streams::{Failed, Sink};
+use morris_board::streams::Sink;
+use morris_board::streams::printed::Printed;
+use morris_board::streams::printer::Printer;
 use morris_probe::print::{put_count, put_signed};
 
 /// The numbers of stones of a pair.
-fn put_stones<S: Sink>(out: &mut Buffered<'_, S>, greater: u8, lesser: u8) -> Result<(), Failed>
-    requires failures { S.failures (sink_of out.old) < 2 ^ 64 - 1 }
-    requires room { taken_of out.old < 2 ^ 10 }
-    ensures passed { Passes S.contents S.failures out.old out.new (stones_text greater lesser) result }
-    ensures few { OnOk result (taken_of out.new ≤ taken_of out.old + 73) }
+fn put_stones<S: Sink>(out: &mut Printer<'_, S>, greater: u8, lesser: u8)
+    ensures { Takes S.contents S.failures out.old out.new (stones_text greater lesser) }
 {
-    put_count(out, "progress: ", u64::from(greater))?;
-    put_signed(out, b'-', lesser)
+    put_count(out, "progress: ", u64::from(greater));
+    put_signed(out, b'-', lesser);
 }
 
 /// How many in a hundred are done, rounded down.
@@ -32,77 +29,60 @@ fn percent(done: u64, whole: u64) -> u64
 }
 
 /// About how many seconds are left, or minutes where they are many.
-fn put_left<S: Sink>(out: &mut Buffered<'_, S>, seconds: u64) -> Result<(), Failed>
-    requires failures { S.failures (sink_of out.old) < 2 ^ 64 - 1 }
-    requires room { taken_of out.old < 2 ^ 12 + 2 ^ 8 }
-    ensures passed { Passes S.contents S.failures out.old out.new (left_text seconds) result }
-    ensures few { OnOk result (taken_of out.new < 2 ^ 13) }
+fn put_left<S: Sink>(out: &mut Printer<'_, S>, seconds: u64)
+    ensures { Takes S.contents S.failures out.old out.new (left_text seconds) }
 {
     if seconds == 0 {
-        Ok(())
-    } else if seconds < 120 {
-        put_count(out, ", about ", seconds)?;
-        out.put(b" s left")
+        return;
+    }
+    if seconds < 120 {
+        put_count(out, ", about ", seconds);
+        out.put(" s left");
     } else {
-        put_count(out, ", about ", seconds / 60 + seconds % 60 / 30)?;
-        out.put(b" min left")
+        put_count(out, ", about ", seconds / 60 + seconds % 60 / 30);
+        out.put(" min left");
     }
 }
 
 /// When, and about how long the rest takes.
-fn put_times<S: Sink>(out: &mut Buffered<'_, S>, seconds: u64, left: u64) -> Result<(), Failed>
-    requires failures { S.failures (sink_of out.old) < 2 ^ 64 - 1 }
-    requires room { taken_of out.old < 2 ^ 12 }
-    ensures passed { Passes S.contents S.failures out.old out.new (labelled (codes ", ") seconds ++ codes " s" ++ left_text left) result }
-    ensures few { OnOk result (taken_of out.new < 2 ^ 13) }
+fn put_times<S: Sink>(out: &mut Printer<'_, S>, seconds: u64, left: u64)
+    ensures { Takes S.contents S.failures out.old out.new (labelled (codes ", ") seconds ++ codes " s" ++ left_text left) }
 {
-    put_count(out, ", ", seconds)?;
-    out.put(b" s")?;
-    put_left(out, left)
+    put_count(out, ", ", seconds);
+    out.put(" s");
+    put_left(out, left);
 }
 
 /// How many entries are done of how many.
-fn put_entries<S: Sink>(out: &mut Buffered<'_, S>, done: u64, whole: u64) -> Result<(), Failed>
-    requires failures { S.failures (sink_of out.old) < 2 ^ 64 - 1 }
-    requires room { taken_of out.old < 2 ^ 11 }
-    ensures passed { Passes S.contents S.failures out.old out.new (entries_text done whole) result }
-    ensures few { OnOk result (taken_of out.new < 2 ^ 12) }
+fn put_entries<S: Sink>(out: &mut Printer<'_, S>, done: u64, whole: u64)
+    ensures { Takes S.contents S.failures out.old out.new (entries_text done whole) }
 {
-    put_count(out, ", ", done)?;
-    put_count(out, " of ", whole)?;
-    put_count(out, " entries (", percent(done, whole))?;
-    out.put(b" %)")
+    put_count(out, ", ", done);
+    put_count(out, " of ", whole);
+    put_count(out, " entries (", percent(done, whole));
+    out.put(" %)");
 }
 
 /// How many entries are done of how many, when, and about how long the rest takes.
-fn put_so_far<S: Sink>(out: &mut Buffered<'_, S>, so_far: SoFar) -> Result<(), Failed>
-    requires failures { S.failures (sink_of out.old) < 2 ^ 64 - 1 }
-    requires room { taken_of out.old < 2 ^ 11 }
-    ensures passed { Passes S.contents S.failures out.old out.new (so_far_text so_far) result }
-    ensures few { OnOk result (taken_of out.new < 2 ^ 13) }
+fn put_so_far<S: Sink>(out: &mut Printer<'_, S>, so_far: SoFar)
+    ensures { Takes S.contents S.failures out.old out.new (so_far_text so_far) }
 {
-    put_entries(out, so_far.done, so_far.whole)?;
-    put_times(out, so_far.seconds, so_far.left)
+    put_entries(out, so_far.done, so_far.whole);
+    put_times(out, so_far.seconds, so_far.left);
 }
 
 /// How much there is to do.
-fn put_whole<S: Sink>(out: &mut Buffered<'_, S>, entries: u64, megabytes: u64) -> Result<(), Failed>
-    requires failures { S.failures (sink_of out.old) < 2 ^ 64 - 1 }
-    requires room { taken_of out.old < 2 ^ 11 }
-    ensures passed { Passes S.contents S.failures out.old out.new (whole_text entries megabytes) result }
-    ensures few { OnOk result (taken_of out.new < 2 ^ 12) }
+fn put_whole<S: Sink>(out: &mut Printer<'_, S>, entries: u64, megabytes: u64)
+    ensures { Takes S.contents S.failures out.old out.new (whole_text entries megabytes) }
 {
-    put_count(out, "progress: ", entries)?;
-    put_count(out, " entries, about ", megabytes)?;
-    out.put(b" MB of memory")
+    put_count(out, "progress: ", entries);
+    put_count(out, " entries, about ", megabytes);
+    out.put(" MB of memory");
 }
 
 /// What is told, without the end of its line.
-fn put_news<S: Sink>(out: &mut Buffered<'_, S>, news: News) -> Result<(), Failed>
-    requires failures { S.failures (sink_of out.old) < 2 ^ 64 - 1 }
-    requires room { taken_of out.old < 2 ^ 10 }
-    ensures passed { Passes S.contents S.failures out.old out.new (news_text news) result }
-    ensures few { OnOk result (taken_of out.new < 2 ^ 13) }
+fn put_news<S: Sink>(out: &mut Printer<'_, S>, news: News)
+    ensures { Takes S.contents S.failures out.old out.new (news_text news) }
 {
     match news {
         News::Whole { entries, megabytes } => put_whole(out, entries, megabytes),
@@ -112,28 +92,28 @@ fn put_news<S: Sink>(out: &mut Buffered<'_, S>, news: News) -> Result<(), Failed
             wave,
             so_far,
         } => {
-            put_stones(out, greater, lesser)?;
-            put_count(out, " wave ", u64::from(wave))?;
-            put_so_far(out, so_far)
+            put_stones(out, greater, lesser);
+            put_count(out, " wave ", u64::from(wave));
+            put_so_far(out, so_far);
         }
         News::Part {
             greater,
             lesser,
             so_far,
         } => {
-            put_stones(out, greater, lesser)?;
-            put_so_far(out, so_far)
+            put_stones(out, greater, lesser);
+            put_so_far(out, so_far);
         }
         News::Done {
             greater,
             lesser,
             so_far,
         } => {
-            put_stones(out, greater, lesser)?;
-            out.put(b" done")?;
-            put_so_far(out, so_far)
+            put_stones(out, greater, lesser);
+            out.put(" done");
+            put_so_far(out, so_far);
         }
-        News::Cleared => Ok(()),
+        News::Cleared => {}
     }
 }
 
@@ -143,19 +123,19 @@ impl Printed for Line {
 
     ghost bytes = { λ line. news_line line.rewrites line.news };
 
-    fn put_into<S: Sink>(&self, out: &mut Buffered<'_, S>) -> Result<(), Failed> {
+    fn put_into<S: Sink>(&self, out: &mut Printer<'_, S>) {
         let Line { news, rewrites } = *self;
         if !rewrites {
-            put_news(out, news)?;
-            return out.put(b"\n");
+            put_news(out, news);
+            out.put("\n");
+            return;
         }
-        out.put(b"\r")?;
-        put_news(out, news)?;
-        out.put(b"\x1b[K")?;
+        out.put("\r");
+        put_news(out, news);
+        out.put("\x1b[K");
         if news.is_passing() {
-            Ok(())
-        } else {
-            out.put(b"\n")
+            return;
         }
+        out.put("\n");
     }
 }

@@ -1,9 +1,9 @@
 //! What `verify` prints.
 use crate::pairs::put_pair;
-use crate::print::Printed;
 use morris_board::board::Geometry;
-use morris_board::streams::buffered::Buffered;
-use morris_board::streams::{Failed, Sink};
+use morris_board::streams::Sink;
+use morris_board::streams::printed::Printed;
+use morris_board::streams::printer::Printer;
 use morris_index::pair::Pair;
 use morris_probe::print::put_count;
 
@@ -21,10 +21,10 @@ impl<B: Geometry> Printed for Verified<B> {
 
     ghost bytes = { λ verified. verified_text verified.pair verified.entries };
 
-    fn put_into<S: Sink>(&self, out: &mut Buffered<'_, S>) -> Result<(), Failed> {
-        out.put(b"verified ")?;
-        put_pair(out, self.pair)?;
-        put_count(out, ": ", self.entries)?;
-        out.put(b" entries\n")
+    fn put_into<S: Sink>(&self, out: &mut Printer<'_, S>) {
+        out.put("verified ");
+        put_pair(out, self.pair);
+        put_count(out, ": ", self.entries);
+        out.put(" entries\n");
     }
 }

@@ -4,3 +4,4 @@ pub mod Listed
 pub mod BestLaws
 pub mod SomeBest
 pub mod ReportLaws
+pub mod LengthLaws

@@ -1,22 +1,10 @@
 -- The lines of moves that are printed one after another.
-use Rattle.std.proofs.Common.{◌≡◌, ◌+◌, ◌<◌, ℕ, suc, List, [], ◌∷◌, ◌++◌, take, drop, get_or, length, sym, ap, ◌∙◌, append_assoc, append-nil}
+use Rattle.std.proofs.Common.{◌≡◌, ◌+◌, ◌<◌, ℕ, List, [], ◌∷◌, ◌++◌, take, get_or, length, ap, ◌∙◌, append-nil}
 use Rattle.std.specs.List.{flat_map}
-use Rattle.std.proofs.lemmas.List.{take-append-drop, take_more}
+use Rattle.std.proofs.lemmas.List.{take_more}
 use Rattle.std.proofs.lemmas.Grind.{flat_map-append}
-use Rattle.std.proofs.Math.Seq.{drop-cons}
 use Rattle.morris_moves.specs.declared.step.Move.{Move}
 use Rattle.morris_probe.specs.Lines.{move_line}
-
--- the lines of all moves are those of the moves so far, of this one, and of the others
-pub lines_split : (moves : List Move) (i : ℕ) (d : Move) → i < length moves
-    → flat_map move_line moves ≡ flat_map move_line (take i moves) ++ move_line (get_or moves i d) ++ flat_map move_line (drop (suc i) moves)
-lines_split moves i d low =
-    let m : Move = get_or moves i d in
-    let parts : moves ≡ take i moves ++ (m ∷ drop (suc i) moves) =
-    sym (take-append-drop i moves) ∙ ap (λ ms. take i moves ++ ms) (drop-cons moves i d low) in
-    ap (λ ms. flat_map move_line ms) parts
-    ∙ flat_map-append move_line (take i moves) (m ∷ drop (suc i) moves)
-    ∙ sym (append_assoc (flat_map move_line (take i moves)) (move_line m) (flat_map move_line (drop (suc i) moves)))
 
 -- the lines of the moves up to this one are those of the moves before it, and its own
 pub lines_to : (moves : List Move) (i : ℕ) (d : Move) → i < length moves

@@ -24,11 +24,6 @@ pub record IsReport (board : Shape) (s : Sides) (text : List ℕ) : Type 0 where
   pub best : AreBest board s moves
   pub written : text ≡ report_text board s value moves
 
--- what went out of a text: all of it, or its first bytes up to the write that failed
-abbrev pub WentOut : {T : Type 0} → Option (List ℕ) → Option (List ℕ) → List ℕ → Result T ℕ → Type 0
-WentOut old new text (Ok done) = Appends old new text
-WentOut old new text (Err sent) = (sent < length text) × Appends old new (take sent text)
-
 -- What went out. Done: exactly the report. A table is missing, or memory was refused: nothing. A
 -- write failed: the first `sent` bytes of the report, not all of it.
 abbrev pub Reports : {T B : Type 0} → Shape → Sides → Option (List ℕ) → Option (List ℕ) → Result T (ProbeFault B) → Type 0

@@ -1,12 +1,11 @@
 //! The report of a position: its text, its value and its best moves.
-ghost use Rattle.std.specs.Prelude.{◌≡◌, ◌-◌, ◌^◌, ◌<◌, ◌≤◌, ◌*◌, [], None, length, MatchResult, OnOk};
+ghost use Rattle.std.specs.Prelude.{◌≡◌, ◌-◌, ◌^◌, ◌<◌, None, MatchResult};
 ghost use Rattle.std.specs.List.{flat_map};
-ghost use Rattle.morris_board.specs.Buffered.{Passes, held_of, sink_of, taken_of};
-ghost use Rattle.morris_board.specs.Streams.{CountsFailure};
 ghost use Rattle.morris_probe.specs.Probing.{missing_table};
 ghost use Rattle.morris_probe.specs.Refusals.{needed_by, CountsWrites};
 ghost use Rattle.morris_probe.specs.Lines.{move_line};
-ghost use Rattle.morris_probe.specs.Reports.{report_text, Reports, WentOut};
+ghost use Rattle.morris_probe.specs.Reports.{Reports};
+ghost use Rattle.morris_board.specs.Printers.{Takes};
 
 use crate::best::list_best;
 use crate::fault::ProbeFault;
@@ -14,8 +13,9 @@ use crate::print::{put_move_line, put_position, put_value};
 use crate::value::value;
 use morris_board::board::Geometry;
 use morris_board::position::Position;
-use morris_board::streams::buffered::Buffered;
-use morris_board::streams::{Failed, Sink};
+use morris_board::streams::Sink;
+use morris_board::streams::printed::{Printed, send};
+use morris_board::streams::printer::Printer;
 use morris_moves::step::Move;
 use morris_pairs::shelf::Shelf;
 use morris_pairs::value::Value;
@@ -44,61 +44,47 @@ pub fn report<B: Geometry, S: Sink>(
 {
     let found = value(shelf, position)?;
     let best = list_best(alloc, shelf, position, found)?;
-    match send_report(sink, position, found, best.as_slice()) {
-        Ok(()) => Ok(()),
+    let text = Probed {
+        position,
+        found,
+        best: best.as_slice(),
+    };
+    match send(&text, sink) {
+        Ok(_) => Ok(()),
         Err(sent) => Err(ProbeFault::Write(sent)),
     }
 }
 
-/// Sends the text of a report: the whole, or as many bytes of it as went out.
-fn send_report<B: Geometry, S: Sink>(
-    sink: &mut S,
-    position: &Position<B>,
+/// What is printed of a position: its text, its value and its best moves, which are few.
+#[derive(Drop)]
+struct Probed<'a, B: Geometry> {
+    position: &'a Position<B>,
     found: Value,
-    best: &[Move],
-) -> Result<(), u64>
-    requires failures { S.failures sink.old < 2 ^ 64 - 1 }
-    requires few { length best.now ≤ 9 * 24 * 9 }
-    ensures sent { WentOut (S.contents sink.old) (S.contents sink.new) (report_text B.shape position.now found best.now) result }
-    ensures counted { CountsFailure (S.failures sink.old) (S.failures sink.new) result }
-{
-    let mut out = Buffered::new(sink);
-    match put_report(&mut out, position, found, best) {
-        Ok(()) => Ok(()),
-        Err(Failed) => Err(out.sent()),
-    }
+    best: &'a [Move],
 }
 
-/// The text of a report, to the last byte: nothing is held back.
-#[tactic(auto, using(morris_board::proofs::BufferedLaws::passed_laws), unfolding(crate::specs::Reports::report_text))]
-fn put_report<B: Geometry, S: Sink>(
-    out: &mut Buffered<'_, S>,
-    position: &Position<B>,
-    found: Value,
-    best: &[Move],
-) -> Result<(), Failed>
-    requires failures { S.failures (sink_of out.old) < 2 ^ 64 - 1 }
-    requires new { taken_of out.old ≡ 0 }
-    requires few { length best.now ≤ 9 * 24 * 9 }
-    ensures passed { Passes S.contents S.failures out.old out.new (report_text B.shape position.now found best.now) result }
-    ensures empty { OnOk result (held_of out.new ≡ []) }
-{
-    put_position(out, position)?;
-    put_value(out, found)?;
-    put_move_lines(out, best)?;
-    out.flush()
+#[tactic(auto, using(morris_board::proofs::PrinterLaws::takes_laws), unfolding(crate::specs::Reports::report_text))]
+impl<B: Geometry> Printed for Probed<'_, B> {
+    ghost use Rattle.std.specs.Prelude.{◌≤◌, ◌*◌, length};
+    ghost use Rattle.morris_probe.specs.Reports.{report_text};
+
+    ghost bytes = { λ report. report_text B.shape report.position.now report.found report.best.now };
+
+    ghost is_short = { λ report. length report.best.now ≤ 9 * 24 * 9 };
+
+    fn put_into<S: Sink>(&self, out: &mut Printer<'_, S>) {
+        put_position(out, self.position);
+        put_value(out, self.found);
+        put_move_lines(out, self.best);
+    }
 }
 
 /// Moves, one a line.
-fn put_move_lines<S: Sink>(out: &mut Buffered<'_, S>, moves: &[Move]) -> Result<(), Failed>
-    requires failures { S.failures (sink_of out.old) < 2 ^ 64 - 1 }
-    requires room { taken_of out.old < 2 ^ 10 }
-    requires few { length moves.now ≤ 9 * 24 * 9 }
-    ensures passed { Passes S.contents S.failures out.old out.new (flat_map move_line moves.now) result }
-    ensures few { OnOk result (taken_of out.new < 2 ^ 20) }
+#[tactic(auto, using(morris_board::proofs::PrinterLaws::takes_laws))]
+fn put_move_lines<S: Sink>(out: &mut Printer<'_, S>, moves: &[Move])
+    ensures { Takes S.contents S.failures out.old out.new (flat_map move_line moves.now) }
 {
     for m in moves {
-        put_move_line(out, *m)?;
+        put_move_line(out, *m);
     }
-    Ok(())
 }

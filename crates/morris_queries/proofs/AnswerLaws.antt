@@ -1,7 +1,7 @@
 -- What an answer is, and how what went out of one text, and then of the next, makes up what went
 -- out of both.
 use Rattle.std.proofs.Common.{◌≡◌, ℕ, ◌+◌, ◌-◌, ◌^◌, ◌<◌, ◌≤◌, min, List, [], ◌∷◌, ◌++◌, Bor, get_or, take, map, length, Option, Some, Result, Ok, Err, refl, sym, ap, subst, ◌∙◌, inl, inr, arith, length-append, append-nil, append_assoc}
-use Rattle.std.specs.Prelude.{IfOk, is_err, if◌then◌else◌}
+use Rattle.std.specs.Prelude.{IfOk, MatchResult, is_err, if◌then◌else◌}
 use Rattle.std.specs.Io.KnownBytes.{Appends}
 use Rattle.std.specs.List.{flat_map}
 use Rattle.std.proofs.KnownBytes.{Appends-trans}
@@ -11,8 +11,9 @@ use Rattle.std.proofs.lemmas.Grind.{flat_map-append}
 use Rattle.std.proofs.lemmas.List.Elements.{Contains-push_cases}
 use Rattle.morris_board.specs.Boards.{Shape}
 use Rattle.morris_board.specs.Positions.{Sides, read_of}
-use Rattle.morris_board.specs.Streams.{AllSent, PartSent, CountsFailure}
+use Rattle.morris_board.specs.Streams.{AllSent, PartSent, HasSent, CountsFailure}
 use Rattle.morris_board.specs.declared.faults.TextFault.{TextFault}
+use Rattle.morris_board.specs.Printers.{WentOut}
 use Rattle.morris_files.specs.Files.{Files}
 use Rattle.morris_jobs.specs.Faults.{text_fault, CountsWrites}
 use Rattle.morris_queries.specs.declared.answer.Answered.{Answered}
@@ -59,6 +60,24 @@ answer_told board name known show text s answer e legal told exact = record {
 
 none_before : (n : ℕ) → n - 0 ≡ n
 none_before n = omega arith
+
+-- by the count of its bytes, where none were before
+pub sent_whole : (old new : Option (List ℕ)) (text : List ℕ) (r : Result ℕ ℕ) → WentOut old new text r → IfOk r (λ sent. sent ≡ length text) → HasSent old new 0 text r
+sent_whole old new text (Ok sent) out whole =
+    let all : sent ≡ length text = whole in
+    record { count = omega (arith, all); appended = out }
+sent_whole old new text (Err sent) out whole = record {
+  more = omega arith;
+  short = omega (arith, out.0);
+  appended = subst (λ n. Appends old new (take n text)) (sym (none_before sent)) out.1;
+}
+
+pub few_sent : (old new : Option (List ℕ)) (text : List ℕ) (r : Result ℕ ℕ) → WentOut old new text r → IfOk r (λ sent. sent ≡ length text) → length text < 2 ^ 63
+    → MatchResult r (λ sent. sent < 2 ^ 63) (λ sent. sent < 2 ^ 64)
+few_sent old new text (Ok sent) out whole few =
+    let all : sent ≡ length text = whole in
+    omega (arith, all, few)
+few_sent old new text (Err sent) out whole few = omega (arith, out.0, few)
 
 -- one whole text, and then a part of the next
 pub part_more : (old mid new : Option (List ℕ)) (t u : List ℕ) (a b total : ℕ) → AllSent old mid 0 a t → PartSent mid new 0 b u

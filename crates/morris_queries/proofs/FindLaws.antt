@@ -1,33 +1,36 @@
 -- What looking for positions answers, by what became of its steps.
-use Rattle.std.proofs.Common.{◌≡◌, ℕ, ◌+◌, ◌≤◌, Bool, true, false, List, [], Option, Some, None, Result, Ok, Err, refl, inl, inr, arith}
-use Rattle.std.specs.Prelude.{IfSome, IsOk}
+use Rattle.std.proofs.Common.{◌≡◌, ℕ, ◌+◌, ◌-◌, ◌^◌, ◌<◌, ◌≤◌, ◌∙◌, Bool, true, false, List, [], Option, Result, Ok, Err, refl, sym, subst, inl, inr, arith, length, length-append}
+use Rattle.std.specs.Prelude.{IfSome, IsOk, if◌then◌else◌}
 use Rattle.std.proofs.KnownBytes.{Keeps-refl}
-use Rattle.std.proofs.lemmas.Bool.{false_from_ne_true}
+use Rattle.std.proofs.lemmas.Bool.{cases_Bool, false_from_ne_true}
 use Rattle.morris_board.specs.Boards.{Shape}
-use Rattle.morris_board.specs.Buffered.{held_of, sent_of, sink_of}
-use Rattle.morris_board.specs.Positions.{Sides}
+use Rattle.morris_board.specs.Positions.{Sides, text_of}
+use Rattle.morris_board.specs.Streams.{CountsFailure}
 use Rattle.morris_board.specs.Symmetries.{HasSymmetries}
-use Rattle.morris_board.specs.declared.streams.buffered.Buffered.{Buffered}
-use Rattle.morris_board.proofs.BufferedLaws.{all_out, part_out}
+use Rattle.morris_board.specs.declared.streams.Failed.{Failed}
+use Rattle.morris_board.specs.declared.streams.printer.Printer.{Printer}
+use Rattle.morris_board.specs.Printers.{IsNew, Takes, WentOut, failed_of, held_of, sent_of, sink_of, told_of}
+use Rattle.morris_board.proofs.LengthLaws.{flat_map_few}
+use Rattle.morris_board.proofs.PrinterLaws.{all_counted, all_told, ends}
 use Rattle.morris_index.specs.Pairs.{IsPair}
 use Rattle.morris_pairs.specs.Counting.{AreTallies, AreTalliesOf, CodedEntries, table_of}
-use Rattle.morris_pairs.specs.Entries.{entry_count}
+use Rattle.morris_pairs.specs.Entries.{entry_count, entry_index}
 use Rattle.morris_pairs.specs.declared.counting.CountFault.{CountFault}
 use Rattle.morris_pairs.specs.declared.counting.CountFault.TheVariants as count
-use Rattle.morris_probe.specs.Lines.{number_line}
+use Rattle.morris_probe.specs.Lines.{line, number_line}
+use Rattle.morris_probe.proofs.LengthLaws.{text_few}
 use Rattle.morris_jobs.specs.declared.fault.Fault.{Fault}
 use Rattle.morris_jobs.specs.declared.fault.Fault.TheVariants as fault
 use Rattle.morris_jobs.specs.Faults.{Prints, count_fault}
 use Rattle.morris_jobs.proofs.CountedLaws.{both_some, some_map}
 use Rattle.morris_queries.specs.declared.find.Shown.{Shown}
 use Rattle.morris_queries.specs.declared.find.Shown.TheVariants.{Count, Texts}
-use Rattle.morris_queries.specs.declared.find.Stop.TheVariants as stop
 use Rattle.morris_queries.specs.declared.wanted.Kind.{Kind}
 use Rattle.morris_queries.specs.declared.wanted.Wanted.{Wanted}
 use Rattle.morris_queries.specs.declared.wanted.Wanted.TheVariants.{Deepest, Every}
-use Rattle.morris_queries.specs.Found.{AnswersFind, AreKinds, PrintsBefore, PutsKinds, found_text, has_shown, kind_sum}
+use Rattle.morris_queries.specs.Found.{AnswersFind, AreFoundTo, AreKinds, AreOfBoth, IsStated, PrintsBefore, PutsKinds, found_text, has_shown, kind_sum}
 use Rattle.morris_queries.specs.Wanted.{AreKindsBy}
-use Rattle.morris_queries.proofs.FoundLaws.{many_both, tallied_shown}
+use Rattle.morris_queries.proofs.FoundLaws.{Takes-failed, many_both, tallied_shown, to_all, to_some}
 
 not_ok : (T E P : Type 0) (failed : E) → IsOk {T = T} (Err failed) → P
 not_ok T E P failed ok =
@@ -71,35 +74,97 @@ module _ (board : Shape) (few : board.points ≤ 24) (y : HasSymmetries board) (
             counted,
       ))
 
--- ---- texts that went into a buffer that was new
+-- ---- texts that went into a printer that was new
 
-module _ {S : Type 0} (contents : S → Option (List ℕ)) (failures : S → ℕ) (board : Shape) (entries : CodedEntries) (all : Bool) (wanted : Wanted)
-    (kinds : Option Kind × Option Kind) (most : ℕ) (a b : Buffered S) (none : held_of a ≡ [])
-    (are : IfSome entries.stated (λ known. AreKinds (has_shown board (table_of entries known) all) wanted kinds)) where
+-- the texts are few enough to be counted
+texts_few : (board : Shape) (ps : List Sides) → board.points ≤ 24 → length ps ≤ 2 ^ 51 → length (found_text board ps) < 2 ^ 64
+unfolding found_text
+texts_few board ps points few = omega (arith, flat_map_few (λ s. line (text_of board s)) 25 (line_few board points) ps, few)
+  where
+    line_few : (board : Shape) → board.points ≤ 24 → (s : Sides) → length (line (text_of board s)) ≤ 25
+    line_few board points s = simp length-append (omega (arith, points, text_few board s))
+
+-- where all is told as sent, no write has failed
+well_told : (failed : Bool) (n sent : ℕ) → ◌≡◌ {A = Result ℕ ℕ} (if failed then Err n else Ok n) (Ok sent) → failed ≡ false
+well_told false n sent is = refl
+well_told true n sent is = cc
+
+module _ {S : Type 0} (contents : S → Option (List ℕ)) (failures : S → ℕ) (board : Shape) (points : board.points ≤ 24) (entries : CodedEntries) (all : Bool)
+    (wanted : Wanted) (kinds : Option Kind × Option Kind) (most : ℕ) {U : Type 0} (r : Result U Failed) (a m b : Printer S) (new : IsNew a)
+    (are : IfSome entries.stated (λ known. AreKinds (has_shown board (table_of entries known) all) wanted kinds))
+    (put : PutsKinds contents failures board entries all kinds most a m r) (last : Takes contents failures m b []) (empty : held_of b ≡ []) where
+  abbrev text : List ℕ
+  text = found_text board put.positions
+
+  abbrev of_both : List ℕ → ℕ → List Sides → Type 0
+  of_both known n ps = AreOfBoth (IsStated board (table_of entries known) all) (entry_index board board.points entries.layout entries.pair) n kinds ps
+
+  went : (told : Result ℕ ℕ) → told ≡ told_of b → WentOut (contents (sink_of a)) (contents (sink_of b)) text told
+  went told is =
+      subst (λ (q : Result ℕ ℕ). WentOut (contents (sink_of a)) (contents (sink_of b)) text q) (sym is)
+      (all_told contents failures a b text new empty (texts_few board put.positions points put.few) (ends put.takes last))
+
+  unfailed : (sent : ℕ) → Ok sent ≡ told_of b → failed_of m ≡ false
+  unfailed sent is = elim (cases_Bool (failed_of m)) [
+    | inl failed ↦
+        let bad : true ≡ false = sym (Takes-failed contents failures m b [] failed last) ∙ well_told (failed_of b) (sent_of b) sent (sym is) in
+        cc
+    | inr well ↦ well
+  ]
+
   -- all that are found went out
-  pub texts_answered : {T : Type 0} (done : T) → held_of b ≡ [] → PutsKinds contents failures board entries all kinds most a b (Ok done)
+  pub texts_answered : {T : Type 0} (done : T) (found : U) (sent : ℕ) → r ≡ Ok found → Ok sent ≡ told_of b
       → AnswersFind board entries all wanted (Texts most) (contents (sink_of a)) (contents (sink_of b)) (Ok done)
-  texts_answered done empty h =
-      let out = all_out contents failures a b (found_text board h.0) none empty h.1 in
-      inr (inr ((h.0, out), both_some entries.stated _ _ _ (λ known of both. (kinds, most, h.0, of, omega arith, (λ ok. refl), both, out)) are h.2))
+  texts_answered done found sent whole is =
+      let out = went (Ok sent) is in
+      inr (inr (
+        (put.positions, out),
+        both_some entries.stated _ _ _
+            (λ known of both. (
+              kinds,
+              most,
+              put.positions,
+              of,
+              omega arith,
+              (λ ok. refl),
+              to_all (of_both known) most put.positions found (failed_of m) (unfailed sent is)
+                  (subst (λ (q : Result U Failed). AreFoundTo (of_both known) most put.positions q (failed_of m)) whole both),
+              out,
+            )) are put.found,
+      ))
 
   -- those went out that were found before a code that can't be read
-  pub read_answered : {T : Type 0} → held_of b ≡ [] → (entries.unfailing ≡ true → ⊥) → PutsKinds contents failures board {T = T} entries all kinds most a b (Err stop.Read)
+  pub read_answered : {T : Type 0} (sent : ℕ) → (entries.unfailing ≡ true → ⊥) → Ok sent ≡ told_of b
       → AnswersFind {T = T} board entries all wanted (Texts most) (contents (sink_of a)) (contents (sink_of b)) (Err fault.Read)
-  read_answered empty sure h =
+  read_answered sent sure is =
       inr (inl (
         refl,
         false_from_ne_true entries.unfailing sure,
         inr (
-          h.0,
-          all_out contents failures a b (found_text board h.0) none empty h.1,
-          both_some entries.stated _ _ _ (λ known of part. (kinds, part.0, of, part.1, part.2)) are h.2,
+          put.positions,
+          went (Ok sent) is,
+          both_some entries.stated _ _ _
+              (λ known of both.
+              let part = to_some (of_both known) most put.positions r (failed_of m) both in
+              (kinds, part.0, of, part.1, part.2)) are put.found,
         ),
       ))
 
   -- the first bytes of what is found went out
-  pub write_answered : {T : Type 0} → sent_of a ≡ 0 → PutsKinds contents failures board {T = T} entries all kinds most a b (Err stop.Write)
-      → AnswersFind {T = T} board entries all wanted (Texts most) (contents (sink_of a)) (contents (sink_of b)) (Err (fault.Write (sent_of b)))
-  write_answered {T} zero h =
-      let out = part_out contents failures a b (found_text board h.0) none zero h.1 in
-      inr (inr ((h.0, out), both_some entries.stated _ _ _ (λ known of part. (kinds, part.0, h.0, of, part.1, not_ok T Fault _ (fault.Write (sent_of b)), part.2, out)) are h.2))
+  pub write_answered : {T : Type 0} (sent : ℕ) → Err sent ≡ told_of b
+      → AnswersFind {T = T} board entries all wanted (Texts most) (contents (sink_of a)) (contents (sink_of b)) (Err (fault.Write sent))
+  write_answered {T} sent is =
+      let out = went (Err sent) is in
+      inr (inr (
+        (put.positions, out),
+        both_some entries.stated _ _ _
+            (λ known of both.
+            let part = to_some (of_both known) most put.positions r (failed_of m) both in
+            (kinds, part.0, put.positions, of, part.1, not_ok T Fault _ (fault.Write sent), part.2, out)) are put.found,
+      ))
+
+  -- a write that failed is counted
+  pub told_counted : (told : Result ℕ ℕ) → failures (sink_of a) < 2 ^ 64 - 1 → told ≡ told_of b → CountsFailure (failures (sink_of a)) (failures (sink_of b)) told
+  told_counted told room is =
+      subst (λ (q : Result ℕ ℕ). CountsFailure (failures (sink_of a)) (failures (sink_of b)) q) (sym is)
+      (all_counted contents failures a b text new empty room (ends put.takes last))

@@ -1,7 +1,7 @@
 -- The positions that are found, entry by entry, and how many there are, code by code.
 use Rattle.std.proofs.Common.{◌≡◌, ◌≢◌, ◌↔◌, ◌⊎◌, ℕ, ◌+◌, ◌-◌, ◌<◌, ◌≤◌, zero, suc, Bool, true, false, List, [], ◌∷◌, ◌++◌, length, take, drop, get_or, refl, sym, ap, append-nil, append_assoc, Option, Some, None, Result, Ok, Err, ◌∙◌, subst, inl, inr, arith}
 use Rattle.std.specs.List.{AllPairs, Contains, flat_map, range_with_len, sum_by}
-use Rattle.std.specs.Prelude.{IfOk, IfSome, if◌then◌else◌}
+use Rattle.std.specs.Prelude.{IfSome, if◌then◌else◌}
 use Rattle.std.proofs.lemmas.Bool.{cases_Bool, cases_eq, cases_lt}
 use Rattle.std.proofs.lemmas.Grind.{flat_map-append}
 use Rattle.std.proofs.lemmas.List.{get_or_append_left, get_or_past, length-append, length-drop, length-take, take-append-drop, take-append-le, take_all}
@@ -9,8 +9,7 @@ use Rattle.std.proofs.lemmas.List.Elements.{Contains-append_cases, Contains-appe
 use Rattle.std.proofs.lemmas.List.FromFn.{sum_by-map-range_with_len_more}
 use Rattle.std.proofs.lemmas.List.Sums.{sum-map}
 use Rattle.morris_board.specs.Boards.{Shape}
-use Rattle.morris_board.specs.Buffered.{AllPassed, PartPassed}
-use Rattle.morris_board.specs.declared.streams.buffered.Buffered.{Buffered}
+use Rattle.morris_board.specs.declared.streams.Failed.{Failed}
 use Rattle.morris_board.specs.Positions.{Sides, IsPosition, text_of}
 use Rattle.morris_board.specs.Symmetries.{HasSymmetries}
 use Rattle.morris_index.specs.ClassPairs.{class_index_of}
@@ -24,14 +23,14 @@ use Rattle.morris_pairs.specs.Counting.{AreSoMany, AreTallies, AreTalliesOf, Cod
 use Rattle.morris_pairs.specs.Entries.{entry_count, entry_index, has_own_entry}
 use Rattle.morris_pairs.specs.EntryLaws.{laid}
 use Rattle.morris_pairs.specs.Tables.{Table}
-use Rattle.morris_board.proofs.BufferedLaws.{AllPassed-append, PartPassed-append}
 use Rattle.morris_pairs.proofs.CountLaws.{many_join, many_none, many_same, pairs_append}
 use Rattle.morris_queries.specs.declared.wanted.Kind.{Kind}
 use Rattle.morris_probe.specs.Lines.{line}
 use Rattle.morris_jobs.proofs.CountedLaws.{both_some, some_map}
-use Rattle.morris_queries.specs.declared.find.Stop.{Stop}
-use Rattle.morris_queries.specs.declared.find.Stop.TheVariants as stop
-use Rattle.morris_queries.specs.Found.{AreFound, AreManyOfBoth, AreOf, AreOfBoth, IsStated, PutsKind, PutsKinds, found_text, has_shown, kind_sum}
+use Rattle.morris_board.specs.declared.streams.printer.Printer.{Printer}
+use Rattle.morris_board.specs.Printers.{GoesOut, Outlet, Takes, failed_of, held_of, outlet_of}
+use Rattle.morris_board.proofs.PrinterLaws.{and_then_as, ends}
+use Rattle.morris_queries.specs.Found.{AreFound, AreFoundTo, AreManyOfBoth, AreOf, AreOfBoth, IsStated, PutsKind, PutsKinds, found_text, has_shown, kind_sum}
 use Rattle.morris_queries.specs.Wanted.{is_of_kind}
 
 -- ---- the first of a list
@@ -294,18 +293,6 @@ shared_listed board n points l c all every classes e ps listed s = (
   })),
 )
 
--- what isn't a write that failed
-pub well_unfailed : (T : Type 0) (done : T) → ◌≡◌ {A = Result T Stop} (Ok done) (Err stop.Write) → ⊥
-well_unfailed T done bad = cc
-
-pub read_unfailed : (T : Type 0) → ◌≡◌ {A = Result T Stop} (Err stop.Read) (Err stop.Write) → ⊥
-read_unfailed T bad = cc
-
--- so many are left after one
-pub one_left : {E : Type 0} (most : ℕ) (r : Result ℕ E) → IfOk r (λ left. left + 1 ≡ most) → IfOk r (λ left. left ≡ most - 1)
-one_left most (Ok left) h = omega (arith, h)
-one_left most (Err failed) h = tt
-
 -- the text of one position
 pub own_text : (board : Shape) (most : ℕ) (p : Sides) → 0 < most → found_text board (take most (p ∷ [])) ≡ line (text_of board p)
 unfolding found_text
@@ -497,6 +484,56 @@ module _ (asked : Kind → Sides → Type 0) (entry : Sides → ℕ) where
           },
         )
 
+-- ---- as many as there may be, or the first of them
+
+module _ {T : Type 0} (are : ℕ → List Sides → Type 0) (most : ℕ) (ps : List Sides) where
+  -- all of them, whether or not a write failed
+  pub all_to : (done : T) (failed : Bool) → are most ps → AreFoundTo are most ps (Ok done) failed
+  all_to done false h = h
+  all_to done true h = (most, omega arith, h)
+
+  -- the first of them, where one failed
+  pub some_to : (r : Result T Failed) (failed : Bool) → failed ≡ true → (n : ℕ) × (n ≤ most) × are n ps → AreFoundTo are most ps r failed
+  some_to (Ok done) false is h = cc
+  some_to (Ok done) true is h = h
+  some_to (Err why) failed is h = h
+
+  pub to_all : (done : T) (failed : Bool) → failed ≡ false → AreFoundTo are most ps (Ok done) failed → are most ps
+  to_all done false is h = h
+  to_all done true is h = cc
+
+  pub to_some : (r : Result T Failed) (failed : Bool) → AreFoundTo are most ps r failed → (n : ℕ) × (n ≤ most) × are n ps
+  to_some (Ok done) false h = (most, omega arith, h)
+  to_some (Ok done) true h = h
+  to_some (Err why) failed h = h
+
+-- ---- after a write that failed
+
+module _ {S : Type 0} (contents : S → Option (List ℕ)) (failures : S → ℕ) where
+  none_out : (p q : Bool) (a b : Outlet S) (x y k : List ℕ) → p ≡ true → GoesOut contents failures p q a b x k → GoesOut contents failures p q a b y k
+  none_out false q a b x y k failed goes = cc
+  none_out true false a b x y k failed goes = goes
+  none_out true true a b x y k failed goes = goes
+
+  still_failed : (p q : Bool) (a b : Outlet S) (x k : List ℕ) → p ≡ true → GoesOut contents failures p q a b x k → q ≡ true
+  still_failed false q a b x k failed goes = cc
+  still_failed true false a b x k failed goes = absurd goes
+  still_failed true true a b x k failed goes = refl
+
+  -- nothing goes out, whatever is put in
+  pub Takes-none : (a b : Printer S) (t u : List ℕ) → failed_of a ≡ true → Takes contents failures a b t → Takes contents failures a b u
+  Takes-none a b t u failed takes = record {
+    same = takes.same;
+    lets_out = record {
+      goes = none_out (failed_of a) (failed_of b) (outlet_of a) (outlet_of b) (held_of a ++ t) (held_of a ++ u) (held_of b) failed takes.lets_out.goes;
+    };
+  }
+
+  -- and it stays failed
+  pub Takes-failed : (a b : Printer S) (t : List ℕ) → failed_of a ≡ true → Takes contents failures a b t → failed_of b ≡ true
+  Takes-failed a b t failed takes =
+      still_failed (failed_of a) (failed_of b) (outlet_of a) (outlet_of b) (held_of a ++ t) (held_of b) failed takes.lets_out.goes
+
 module _ {S : Type 0} (contents : S → Option (List ℕ)) (failures : S → ℕ) (board : Shape) (entries : CodedEntries) (all : Bool) (kinds : Option Kind × Option Kind)
     (most : ℕ) where
   abbrev asked_in : List ℕ → Kind → Sides → Type 0
@@ -505,86 +542,82 @@ module _ {S : Type 0} (contents : S → Option (List ℕ)) (failures : S → ℕ
   abbrev place_in : Sides → ℕ
   place_in s = entry_index board board.points entries.layout entries.pair s
 
-  -- the first kind came to a stop
-  pub puts_first : (T : Type 0) (old new : Buffered S) (why : Stop) → PutsKind contents failures board entries all kinds.0 most old new (Err why)
-      → PutsKinds contents failures board {T = T} entries all kinds most old new (Err why)
-  puts_first T old new stop.Read h = (
-    h.0,
-    h.1,
-    some_map entries.stated _ _ (λ known part. both_first (asked_in known) place_in kinds most part.0 h.0 part.1 part.2) h.2,
-  )
-  puts_first T old new stop.Write h = (
-    h.0,
-    h.1,
-    some_map entries.stated _ _ (λ known part. both_first (asked_in known) place_in kinds most part.0 h.0 part.1 part.2) h.2,
-  )
+  -- so many of a kind, or of both
+  abbrev of_one : List ℕ → Option Kind → ℕ → List Sides → Type 0
+  of_one known kind n ps = AreOf (asked_in known) place_in n kind ps
 
-  module _ (old middle new : Buffered S) (left : ℕ) (first : PutsKind contents failures board entries all kinds.0 most old middle (Ok left)) where
-    -- so did the second
-    pub puts_second : (T : Type 0) (why : Stop) → PutsKind contents failures board entries all kinds.1 left middle new (Err why)
-        → PutsKinds contents failures board {T = T} entries all kinds most old new (Err why)
-    puts_second T stop.Read second = (
-      first.0 ++ second.0,
-      subst (AllPassed contents failures old new) (sym (found_text-append board first.0 second.0))
-          (AllPassed-append contents failures old middle new (found_text board first.0) (found_text board second.0) first.1 second.1),
-      both_some entries.stated _ _ _
-          (λ known whole part.
-          both_part (asked_in known) place_in kinds most part.0 first.0 second.0 whole.0 (omega (arith, part.1, whole.1)) part.2) first.2 second.2,
-    )
-    puts_second T stop.Write second = (
-      first.0 ++ second.0,
-      subst (PartPassed contents failures old new) (sym (found_text-append board first.0 second.0))
-          (PartPassed-append contents failures old middle new (found_text board first.0) (found_text board second.0) first.1 second.1),
-      both_some entries.stated _ _ _
-          (λ known whole part.
-          both_part (asked_in known) place_in kinds most part.0 first.0 second.0 whole.0 (omega (arith, part.1, whole.1)) part.2) first.2 second.2,
-    )
+  abbrev of_both : List ℕ → ℕ → List Sides → Type 0
+  of_both known n ps = AreOfBoth (asked_in known) place_in n kinds ps
+
+  -- no code of the first kind's could be read
+  pub puts_first : {T : Type 0} (old new : Printer S) (why reason : Failed) → PutsKind contents failures board entries all kinds.0 most old new (Err why)
+      → PutsKinds contents failures board {T = T} entries all kinds most old new (Err reason)
+  puts_first old new why reason h = record {
+    positions = h.positions;
+    few = omega (arith, h.few);
+    takes = h.takes;
+    found =
+        some_map entries.stated _ _ (λ known part. both_first (asked_in known) place_in kinds most part.0 h.positions part.1 part.2) h.found;
+  }
+
+  module _ (old middle new : Printer S) (left : ℕ) (first : PutsKind contents failures board entries all kinds.0 most old middle (Ok left)) where
+    left_is : left ≡ most - length first.positions
+    left_is = first.rest
+
+    -- a write failed among those of the first kind
+    puts_cut : {T : Type 0} (r : Result T Failed) (text : List ℕ) → failed_of middle ≡ true → Takes contents failures middle new text
+        → PutsKinds contents failures board entries all kinds most old new r
+    puts_cut r text failed takes = record {
+      positions = first.positions;
+      few = omega (arith, first.few);
+      takes = ends first.takes (Takes-none contents failures middle new text [] failed takes);
+      found =
+          some_map entries.stated _ _
+          (λ known whole.
+          let part = to_some (of_one known kinds.0) most first.positions (Ok left) (failed_of middle) whole in
+          some_to (of_both known) most first.positions r (failed_of new) (Takes-failed contents failures middle new text failed takes)
+          (both_first (asked_in known) place_in kinds most part.0 first.positions part.1 part.2))
+          first.found;
+    }
+
+    -- both kinds were looked for
+    both_to : (known : List ℕ) {T : Type 0} (done : T) (rest : ℕ) (qs : List Sides) (failed : Bool) → of_one known kinds.0 most first.positions
+        → AreFoundTo (of_one known kinds.1) left qs (Ok rest) failed → AreFoundTo (of_both known) most (first.positions ++ qs) (Ok done) failed
+    both_to known done rest qs false whole end =
+        both_whole (asked_in known) place_in kinds most first.positions qs whole (subst (λ n. of_one known kinds.1 n qs) left_is end)
+    both_to known done rest qs true whole end =
+        both_part (asked_in known) place_in kinds most end.0 first.positions qs whole (omega (arith, end.1, left_is)) end.2
+
+    -- no code of the second kind's could be read
+    pub puts_second : {T : Type 0} (why reason : Failed) → PutsKind contents failures board entries all kinds.1 left middle new (Err why)
+        → PutsKinds contents failures board {T = T} entries all kinds most old new (Err reason)
+    puts_second why reason second = elim (cases_Bool (failed_of middle)) [
+      | inl failed ↦ puts_cut (Err reason) (found_text board second.positions) failed second.takes
+      | inr unfailed ↦ record {
+        positions = first.positions ++ second.positions;
+        few = omega (arith, length-append first.positions second.positions, first.few, second.few);
+        takes = and_then_as (found_text-append board first.positions second.positions) first.takes second.takes;
+        found =
+            both_some entries.stated _ _ _
+            (λ known whole part.
+            both_part (asked_in known) place_in kinds most part.0 first.positions second.positions
+            (to_all (of_one known kinds.0) most first.positions left (failed_of middle) unfailed whole) (omega (arith, part.1, left_is)) part.2) first.found second.found;
+      }
+    ]
 
     -- both came to their end
     pub puts_whole : {T : Type 0} (done : T) (rest : ℕ) → PutsKind contents failures board entries all kinds.1 left middle new (Ok rest)
         → PutsKinds contents failures board entries all kinds most old new (Ok done)
-    puts_whole done rest second = (
-      first.0 ++ second.0,
-      subst (AllPassed contents failures old new) (sym (found_text-append board first.0 second.0))
-          (AllPassed-append contents failures old middle new (found_text board first.0) (found_text board second.0) first.1 second.1),
-      both_some entries.stated _ _ _
-          (λ known whole end.
-          both_whole (asked_in known) place_in kinds most first.0 second.0 whole.0
-          (subst (λ n. AreOf (asked_in known) place_in n kinds.1 second.0) whole.1 end.0)) first.2 second.2,
-    )
-
-  -- what was held back went out after it
-  pub puts_ended : {T : Type 0} (old middle new : Buffered S) (r : Result T Stop) → ((r ≡ Err stop.Write) → ⊥)
-      → PutsKinds contents failures board entries all kinds most old middle r → AllPassed contents failures middle new []
-      → PutsKinds contents failures board entries all kinds most old new r
-  puts_ended old middle new (Ok done) unsent h last = (
-    h.0,
-    subst (AllPassed contents failures old new) (append-nil (found_text board h.0))
-        (AllPassed-append contents failures old middle new (found_text board h.0) [] h.1 last),
-    h.2,
-  )
-  puts_ended old middle new (Err stop.Read) unsent h last = (
-    h.0,
-    subst (AllPassed contents failures old new) (append-nil (found_text board h.0))
-        (AllPassed-append contents failures old middle new (found_text board h.0) [] h.1 last),
-    h.2,
-  )
-  puts_ended old middle new (Err stop.Write) unsent h last = absurd (unsent refl)
-
-  -- of what was held back a part went out, and a write failed
-  pub puts_cut : {T : Type 0} (old middle new : Buffered S) (r : Result T Stop) → ((r ≡ Err stop.Write) → ⊥)
-      → PutsKinds contents failures board entries all kinds most old middle r → PartPassed contents failures middle new []
-      → PutsKinds contents failures board {T = T} entries all kinds most old new (Err stop.Write)
-  puts_cut old middle new (Ok done) unsent h last = (
-    h.0,
-    subst (PartPassed contents failures old new) (append-nil (found_text board h.0))
-        (PartPassed-append contents failures old middle new (found_text board h.0) [] h.1 last),
-    some_map entries.stated _ _ (λ known both. (most, omega arith, both)) h.2,
-  )
-  puts_cut old middle new (Err stop.Read) unsent h last = (
-    h.0,
-    subst (PartPassed contents failures old new) (append-nil (found_text board h.0))
-        (PartPassed-append contents failures old middle new (found_text board h.0) [] h.1 last),
-    h.2,
-  )
-  puts_cut old middle new (Err stop.Write) unsent h last = absurd (unsent refl)
+    puts_whole done rest second = elim (cases_Bool (failed_of middle)) [
+      | inl failed ↦ puts_cut (Ok done) (found_text board second.positions) failed second.takes
+      | inr unfailed ↦ record {
+        positions = first.positions ++ second.positions;
+        few = omega (arith, length-append first.positions second.positions, first.few, second.few);
+        takes = and_then_as (found_text-append board first.positions second.positions) first.takes second.takes;
+        found =
+            both_some entries.stated _ _ _
+            (λ known whole end.
+            both_to known done rest second.positions (failed_of new)
+            (to_all (of_one known kinds.0) most first.positions left (failed_of middle) unfailed whole) end) first.found second.found;
+      }
+    ]

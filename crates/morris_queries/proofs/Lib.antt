@@ -3,6 +3,7 @@ pub mod OpenLaws
 pub mod FolderLaws
 pub mod TellingLaws
 pub mod Pieces
+pub mod LengthLaws
 pub mod AgreeLaws
 pub mod ExactLaws
 pub mod LineLaws
@@ -10,6 +11,5 @@ pub mod LineAnswerLaws
 pub mod ReadingLaws
 pub mod FoundLaws
 pub mod FindLaws
-pub mod WantedLaws
 pub mod GameLaws
 pub mod AskLaws

@@ -1,24 +1,22 @@
 -- What is opened for a pair, and what open files tell, where the files of the folder are known.
 use Rattle.std.proofs.Common.{◌≡◌, ◌≢◌, ℕ, Bool, true, false, eqb, List, [], Option, Some, None, is_some, Result, Ok, Err, refl, sym, ap, ap₂, subst, ◌∙◌, inl, inr}
-use Rattle.std.specs.Prelude.{IfErr, IfSome, unwrap_or, if◌then◌else◌}
+use Rattle.std.specs.Prelude.{IfErr, unwrap_or, if◌then◌else◌}
 use Rattle.std.proofs.lemmas.Bool.{eq-eqb, eqb-true, and_from, and_parts, cases_Bool}
 use Rattle.morris_board.specs.Boards.{Shape}
 use Rattle.morris_board.specs.Positions.{Sides}
 use Rattle.morris_index.specs.Pairs.{Counts, counts, pair_of}
 use Rattle.morris_pairs.specs.declared.layout.Layout.{Layout}
 use Rattle.morris_pairs.specs.declared.file_faults.ReadFault.{ReadFault}
-use Rattle.morris_pairs.specs.declared.file_faults.ReadFault.TheVariants as read
 use Rattle.morris_pairs.specs.declared.value.Value.{Value}
 use Rattle.morris_pairs.specs.declared.value.Value.TheVariants.{Lost}
 use Rattle.morris_pairs.specs.Codes.{value_in}
 use Rattle.morris_lookup.specs.FileSets.{Files as OpenFiles, file_for, said_of, said_at, said_by, said_in, missing_file, without_file}
 use Rattle.morris_lookup.specs.Lookups.{code_for}
-use Rattle.morris_lookup.specs.Opening.{OpenFile, open_file, framed_in, IsFramingRefusal, IsOpen}
-use Rattle.morris_lookup.proofs.OpeningLaws.{at_bytes}
+use Rattle.morris_lookup.specs.Opening.{OpenFile, open_file, framed_in}
 use Rattle.morris_files.specs.Files.{Files}
 use Rattle.morris_files.specs.Names.{name_of}
 use Rattle.morris_jobs.specs.declared.fault.Fault.{Fault}
-use Rattle.morris_jobs.specs.Faults.{needs_fault, read_fault}
+use Rattle.morris_jobs.specs.Faults.{needs_fault}
 use Rattle.morris_queries.specs.Libraries.{IsFound, Opens}
 use Rattle.morris_queries.specs.Telling.{Agrees, IsRefusal, AreOf, followed, same_counts, framed_as, opened_as, table_in, stated_in, value_at, told_value}
 use Rattle.morris_queries.proofs.TellingLaws.{refusal_followed}
@@ -29,14 +27,6 @@ counts_alike : (c d : Counts) → c ≡ d → same_counts c d ≡ true
 counts_alike c d e =
     and_from (eqb c.greater d.greater) (eqb c.lesser d.lesser) (eq-eqb c.greater d.greater (ap (λ (x : Counts). x.greater) e)) (eq-eqb c.lesser d.lesser (ap (λ (x : Counts). x.lesser) e))
 
-counts_apart : (c d : Counts) → c ≢ d → same_counts c d ≡ false
-counts_apart c d ne = elim (cases_Bool (same_counts c d)) [
-  | inl alike ↦
-      let parts = and_parts (eqb c.greater d.greater) (eqb c.lesser d.lesser) alike in
-      absurd (ne (ap₂ counts (eqb-true c.greater d.greater parts.0) (eqb-true c.lesser d.lesser parts.1)))
-  | inr apart ↦ apart
-]
-
 -- ---- what was found
 
 module _ (board : Shape) (c : Counts) where
@@ -44,42 +34,6 @@ module _ (board : Shape) (c : Counts) where
       → opened_as board c (Some bytes) ≡ Ok (open_file layout pair (Some bytes) (Some bytes))
   framed_found layout pair bytes is framed =
       rw (framed, counts_alike pair c is) (ap (λ p. Ok (open_file layout p (Some bytes) (Some bytes))) (sym is))
-
-  -- a file that was opened is the one that is to be opened
-  pub found_agrees : {F : Type 0} (contents : F → Option (List ℕ)) (stored : Option (List ℕ)) (found : F) (file : OpenFile) → file.pair ≡ c
-      → file.bytes ≡ contents found → IsOpen board file → IsFound contents stored (Some found) → opened_as board c stored ≡ Ok file
-  found_agrees contents stored found file pair known right_file there =
-      let bytes : List ℕ = there.0 in
-      let have : file.bytes ≡ Some bytes = known ∙ there.2 in
-      let held : file.held ≡ Some bytes = at_bytes (λ b. file.held ≡ Some b) file.bytes bytes have right_file.kept in
-      let right : framed_in board bytes ≡ Ok (file.layout, file.pair) = at_bytes (λ b. framed_in board b ≡ Ok (file.layout, file.pair)) file.held bytes held right_file.framed in
-      ap (opened_as board c) there.1 ∙ framed_found file.layout file.pair bytes pair right ∙ ap₂ (λ b h. Ok (open_file file.layout file.pair b h)) (sym have) (sym held)
-
-  -- nothing was found
-  pub none_agrees : {F : Type 0} (contents : F → Option (List ℕ)) (stored : Option (List ℕ)) → IsFound contents stored None → opened_as board c stored ≡ Err (needs_fault c)
-  none_agrees contents stored there = ap (opened_as board c) there
-
-  -- bytes that aren't a file
-  framing_refused : (bytes : List ℕ) (refusal : ReadFault) → framed_in board bytes ≡ Err refusal → opened_as board c (Some bytes) ≡ Err (read_fault refusal)
-  framing_refused bytes refusal e = ap (framed_as c bytes) e
-
-  unframed : (bytes : List ℕ) (refusal : ReadFault) → IsFramingRefusal board bytes refusal → Agrees (Err (read_fault refusal)) (opened_as board c (Some bytes))
-  unframed bytes read.Memory h = inr refl
-  unframed bytes read.Read h = absurd h
-  unframed bytes refusal h = inl (framing_refused bytes refusal h)
-
-  pub refused_agrees : {F : Type 0} (contents : F → Option (List ℕ)) (stored : Option (List ℕ)) (found : F) (refusal : ReadFault) → IsFound contents stored (Some found)
-      → IfSome (contents found) (λ bytes. IsFramingRefusal board bytes refusal) → Agrees (Err (read_fault refusal)) (opened_as board c stored)
-  refused_agrees contents stored found refusal there h =
-      subst (λ o. Agrees (Err (read_fault refusal)) (opened_as board c o)) (sym there.1)
-      (unframed there.0 refusal (at_bytes (λ bytes. IsFramingRefusal board bytes refusal) (contents found) there.0 there.2 h))
-
-  -- a file of another pair
-  pub other_agrees : {F : Type 0} (contents : F → Option (List ℕ)) (stored : Option (List ℕ)) (found : F) → IsFound contents stored (Some found)
-      → IfSome (contents found) (λ bytes. (kind : Layout × Counts) × (framed_in board bytes ≡ Ok kind) × (kind.1 ≢ c)) → opened_as board c stored ≡ Err (needs_fault c)
-  other_agrees contents stored found there h =
-      let other = at_bytes (λ bytes. (kind : Layout × Counts) × (framed_in board bytes ≡ Ok kind) × (kind.1 ≢ c)) (contents found) there.0 there.2 h in
-      ap (opened_as board c) there.1 ∙ rw (other.1, counts_apart other.0.1 c other.2) refl
 
 -- what a library that is known found
 pub found_known : {F : Type 0} (E : Type 0) (contents : F → Option (List ℕ)) (known : Option Files) (files : Files) (name : List ℕ) (found : Option F)
@@ -96,13 +50,6 @@ opened_named board name files c path answer is h = subst (λ p. Agrees answer (o
 -- ---- open files
 
 module _ (board : Shape) (name : List ℕ) where
-  -- no file is open
-  pub of_none : (opened : OpenFiles) → ((c : Counts) → file_for opened c ≡ None) → (known : Option Files) → AreOf board name known opened
-  of_none opened none known files there c file e = let no : None ≡ Some file = sym (none c) ∙ e in absurd (never file no)
-    where
-      never : (file : OpenFile) → None ≡ Some file → ⊥
-      never file e = cc
-
   -- one file more
   pub of_more : (known after : Option Files) (old new : OpenFiles) (file : OpenFile) → after ≡ known → AreOf board name known old
       → ((files : Files) → known ≡ Some files → table_in board name files file.pair ≡ Ok file) → file_for new file.pair ≡ Some file

@@ -1,12 +1,10 @@
 -- The positions of a pair that have a value, by what the entries of a file state, and how they are
 -- printed.
-use Rattle.std.specs.Prelude.{◌≡◌, ◌≢◌, ◌↔◌, ◌⊎◌, ℕ, ◌+◌, ◌-◌, ◌≤◌, Bool, true, false, List, [], ◌++◌, length, take, slice_index, Option, Some, None, Result, Ok, Err, IfOk, IfSome, IsOk, if◌then◌else◌}
+use Rattle.std.specs.Prelude.{◌≡◌, ◌≢◌, ◌↔◌, ◌⊎◌, ℕ, ◌+◌, ◌-◌, ◌^◌, ◌≤◌, Bool, true, false, List, [], ◌++◌, length, take, slice_index, Option, Some, None, Result, Ok, Err, IfOk, IfSome, IsOk, if◌then◌else◌}
 use Rattle.std.specs.List.{AllPairs, Contains, flat_map, range_with_len, sum_by}
 use Rattle.std.specs.Io.KnownBytes.{Appends, Keeps}
 use Rattle.morris_board.specs.Boards.{Shape}
-use Rattle.morris_board.specs.Buffered.{AllPassed, PartPassed, Passes}
 use Rattle.morris_board.specs.declared.streams.Failed.{Failed}
-use Rattle.morris_board.specs.declared.streams.buffered.Buffered.{Buffered}
 use Rattle.morris_board.specs.Positions.{Sides, IsPosition, text_of}
 use Rattle.morris_index.specs.Pairs.{Counts, is_of}
 use Rattle.morris_pairs.specs.declared.layout.Layout.{Layout}
@@ -21,8 +19,8 @@ use Rattle.morris_jobs.specs.declared.fault.Fault.TheVariants as fault
 use Rattle.morris_jobs.specs.Faults.{Prints}
 use Rattle.morris_queries.specs.declared.find.Shown.{Shown}
 use Rattle.morris_queries.specs.declared.find.Shown.TheVariants.{Texts, Count}
-use Rattle.morris_queries.specs.declared.find.Stop.{Stop}
-use Rattle.morris_queries.specs.declared.find.Stop.TheVariants as stop
+use Rattle.morris_board.specs.declared.streams.printer.Printer.{Printer}
+use Rattle.morris_board.specs.Printers.{Takes, failed_of}
 use Rattle.morris_queries.specs.declared.wanted.Kind.{Kind}
 use Rattle.morris_queries.specs.declared.wanted.Wanted.{Wanted}
 use Rattle.morris_queries.specs.declared.wanted.Wanted.TheVariants.{Every, Deepest}
@@ -145,40 +143,38 @@ kind_sum None tallies = 0
 kind_sum (Some kind) tallies =
     sum_by (λ code. if is_of_kind kind (value_in code) then slice_index tallies code else 0) (range_with_len 0 (length tallies))
 
+-- These positions are what is found: as many as there may be; or, where a read or a write failed, the
+-- first of them.
+abbrev pub AreFoundTo : {T : Type 0} → (ℕ → List Sides → Type 0) → ℕ → List Sides → Result T Failed → Bool → Type 0
+AreFoundTo are most positions (Ok done) false = are most positions
+AreFoundTo are most positions (Ok done) true = (n : ℕ) × (n ≤ most) × are n positions
+AreFoundTo are most positions (Err why) failed = (n : ℕ) × (n ≤ most) × are n positions
+
 module _ {S : Type 0} (contents : S → Option (List ℕ)) (failures : S → ℕ) (board : Shape) where
-  -- a text went in; or a write of it failed
-  abbrev pub Went : {T : Type 0} → Buffered S → Buffered S → List ℕ → Result T Stop → Type 0
-  Went old new text (Ok done) = AllPassed contents failures old new text
-  Went old new text (Err stop.Read) = AllPassed contents failures old new text
-  Went old new text (Err stop.Write) = PartPassed contents failures old new text
-
   -- The texts of the positions of an entry went in, so many of them at most, and the answer is how
-  -- many more there may be; or a write of them failed.
-  abbrev pub PutsEntry : Layout → Counts → Bool → ℕ → ℕ → Buffered S → Buffered S → Result ℕ Failed → Type 0
-  PutsEntry l c all entry most old new result =
-      (positions : List Sides) × ((s : Sides) → Contains positions s ↔ IsOfEntry board l c all entry s) × AllPairs (λ s t. s ≢ t) positions
-      × Passes contents failures old new (found_text board (take most positions)) result × IfOk result (λ left. left ≡ most - length positions)
+  -- many more there may be.
+  pub record PutsEntry (l : Layout) (c : Counts) (all : Bool) (entry most : ℕ) (old new : Printer S) (left : ℕ) : Type 0 where
+    pub positions : List Sides
+    pub each : (s : Sides) → Contains positions s ↔ IsOfEntry board l c all entry s
+    pub once : AllPairs (λ s t. s ≢ t) positions
+    pub few : length positions ≤ 16
+    pub takes : Takes contents failures old new (found_text board (take most positions))
+    pub rest : left ≡ most - length positions
 
-  -- These positions are what is found of a kind: as many as there may be, and the answer is how many
-  -- more; or, where a read or a write failed, the first of them.
-  abbrev pub IsFoundOf : (Option Kind → ℕ → List Sides → Type 0) → Option Kind → ℕ → List Sides → Result ℕ Stop → Type 0
-  IsFoundOf are kind most positions (Ok left) = are kind most positions × (left ≡ most - length positions)
-  IsFoundOf are kind most positions (Err why) = (n : ℕ) × (n ≤ most) × are kind n positions
-
-  -- the texts of some positions went in, of the ones that are found where the codes are known
-  abbrev pub PutsKind : CodedEntries → Bool → Option Kind → ℕ → Buffered S → Buffered S → Result ℕ Stop → Type 0
-  PutsKind entries all kind most old new result =
-      (positions : List Sides) × Went old new (found_text board positions) result
-      × IfSome entries.stated (λ known. IsFoundOf (λ k n ps. AreOf (IsStated board (table_of entries known) all) (entry_index board board.points entries.layout entries.pair) n k ps)
-      kind most positions result)
+  -- The texts of some positions went in, and the answer is how many more there may be: of those that
+  -- are found of a kind, where the codes are known.
+  pub record PutsKind (entries : CodedEntries) (all : Bool) (kind : Option Kind) (most : ℕ) (old new : Printer S) (result : Result ℕ Failed) : Type 0 where
+    pub positions : List Sides
+    pub few : length positions ≤ 2 ^ 50
+    pub takes : Takes contents failures old new (found_text board positions)
+    pub rest : IfOk result (λ left. left ≡ most - length positions)
+    pub found : IfSome entries.stated (λ known. AreFoundTo (λ n ps. AreOf (IsStated board (table_of entries known) all)
+        (entry_index board board.points entries.layout entries.pair) n kind ps) most positions result (failed_of new))
 
   -- the same of both kinds, one after the other
-  abbrev pub AreKindsFound : {T : Type 0} → (ℕ → List Sides → Type 0) → ℕ → List Sides → Result T Stop → Type 0
-  AreKindsFound are most positions (Ok done) = are most positions
-  AreKindsFound are most positions (Err why) = (n : ℕ) × (n ≤ most) × are n positions
-
-  abbrev pub PutsKinds : {T : Type 0} → CodedEntries → Bool → Option Kind × Option Kind → ℕ → Buffered S → Buffered S → Result T Stop → Type 0
-  PutsKinds entries all kinds most old new result =
-      (positions : List Sides) × Went old new (found_text board positions) result
-      × IfSome entries.stated (λ known. AreKindsFound (λ n ps. AreOfBoth (IsStated board (table_of entries known) all)
-      (entry_index board board.points entries.layout entries.pair) n kinds ps) most positions result)
+  pub record PutsKinds {T : Type 0} (entries : CodedEntries) (all : Bool) (kinds : Option Kind × Option Kind) (most : ℕ) (old new : Printer S) (result : Result T Failed) : Type 0 where
+    pub positions : List Sides
+    pub few : length positions ≤ 2 ^ 51
+    pub takes : Takes contents failures old new (found_text board positions)
+    pub found : IfSome entries.stated (λ known. AreFoundTo (λ n ps. AreOfBoth (IsStated board (table_of entries known) all)
+        (entry_index board board.points entries.layout entries.pair) n kinds ps) most positions result (failed_of new))

@@ -1,21 +1,19 @@
 //! The positions of a pair that have a value, as the entries of a file state it.
-ghost use Rattle.std.specs.Prelude.{◌≡◌, ◌≢◌, ◌⊎◌, ℕ, ◌+◌, ◌-◌, ◌^◌, ◌<◌, ◌≤◌, [], Err, length, slice_index, take, true, IfOk, IfSome, OnOk};
-ghost use Rattle.morris_board.specs.Buffered.{Passes, held_of, sink_of, taken_of};
-ghost use Rattle.morris_board.specs.Positions.{text_of};
+ghost use Rattle.std.specs.Prelude.{◌≡◌, ◌≢◌, ℕ, ◌-◌, ◌^◌, ◌<◌, ◌≤◌, Err, length, slice_index, take, true, IfOk, IfSome, IsOk};
 ghost use Rattle.morris_pairs.specs.Counting.{table_of};
 ghost use Rattle.morris_pairs.specs.Entries.{entry_count};
-ghost use Rattle.morris_probe.specs.Lines.{line};
 ghost use Rattle.morris_jobs.specs.Faults.{CountsWrites};
+ghost use Rattle.morris_board.specs.Printers.{Takes};
 ghost use Rattle.morris_queries.specs.Found.{AnswersFind, AreKinds, PutsEntry, PutsKind, PutsKinds, found_text, has_shown, kind_sum};
 
 use crate::wanted::{Kind, Wanted, kinds_by};
 use morris_board::board::Geometry;
-use morris_board::position::Position;
-use morris_board::streams::buffered::Buffered;
+use morris_board::streams::printed::Printed;
+use morris_board::streams::printer::Printer;
 use morris_board::streams::{Failed, Sink};
 use morris_index::falls::FallsOn;
 use morris_jobs::fault::Fault;
-use morris_jobs::print::{Printed, print};
+use morris_jobs::print::print;
 use morris_pairs::counting::{Coded, CountFault, Entries};
 use morris_pairs::exact::value_of_code;
 use morris_probe::print::{put_number_line, put_position};
@@ -39,25 +37,6 @@ pub struct Search {
     pub all: bool,
     /// What is printed.
     pub shown: Shown,
-}
-
-/// Why the looking for positions stops before its end.
-#[derive(Clone, Copy, Debug, PartialEq, Eq)]
-pub(crate) enum Stop {
-    /// A code can't be read.
-    Read,
-    /// A write failed.
-    Write,
-}
-
-impl From<Failed> for Stop {
-    ghost use Rattle.morris_queries.specs.declared.find.Stop.TheVariants.{Write};
-
-    ghost from_gives = { λ _ stop. stop ≡ Write };
-
-    fn from(_failed: Failed) -> Stop {
-        Stop::Write
-    }
 }
 
 /// The kinds of values that are looked for, one after the other.
@@ -134,8 +113,8 @@ impl Printed for Total {
 
     ghost bytes = { λ total. number_line [] total.0 };
 
-    fn put_into<S: Sink>(&self, out: &mut Buffered<'_, S>) -> Result<(), Failed> {
-        put_number_line(out, "", self.0)
+    fn put_into<S: Sink>(&self, out: &mut Printer<'_, S>) {
+        put_number_line(out, "", self.0);
     }
 }
 
@@ -152,11 +131,12 @@ fn print_texts<B: Geometry, C: Coded, S: Sink>(
     ensures counted { CountsWrites (S.failures output.old) (S.failures output.new) result }
 {
     let kinds = kinds_of(alloc, entries, search)?;
-    let mut out = Buffered::new(output);
-    match put_all(entries, kinds, search.all, most, &mut out) {
-        Ok(()) => Ok(()),
-        Err(Stop::Read) => Err(Fault::Read),
-        Err(Stop::Write) => Err(Fault::Write(out.sent())),
+    let mut out = Printer::new(output);
+    let put = put_kinds(entries, kinds, search.all, most, &mut out);
+    match (out.finish(), put) {
+        (Err(sent), _) => Err(Fault::Write(sent)),
+        (Ok(_), Err(Failed)) => Err(Fault::Read),
+        (Ok(_), Ok(())) => Ok(()),
     }
 }
 
@@ -183,44 +163,16 @@ fn kinds_of<B: Geometry, C: Coded>(
     }
 }
 
-/// Puts the texts of the positions of both kinds in, to the last byte: nothing is held back, but
-/// after a write that failed.
-fn put_all<B: Geometry, C: Coded, S: Sink>(
-    entries: &mut Entries<B, C>,
-    kinds: Kinds,
-    all: bool,
-    most: u64,
-    out: &mut Buffered<'_, S>,
-) -> Result<(), Stop>
-    requires failures { S.failures (sink_of out.old) < 2 ^ 64 - 1 }
-    requires new { taken_of out.old ≡ 0 }
-    ensures put { PutsKinds S.contents S.failures B.shape entries.old all kinds most out.old out.new result }
-    ensures sure { entries.old.unfailing ≡ true → result ≢ Err Stop.Read }
-    ensures empty { (result ≡ Err Stop.Write) ⊎ (held_of out.new ≡ []) }
-{
-    match put_kinds(entries, kinds, all, most, out) {
-        Ok(()) => Ok(out.flush()?),
-        Err(Stop::Read) => {
-            out.flush()?;
-            Err(Stop::Read)
-        }
-        Err(Stop::Write) => Err(Stop::Write),
-    }
-}
-
 /// Puts the texts of the positions of both kinds in, one kind after the other, so many at most.
 fn put_kinds<B: Geometry, C: Coded, S: Sink>(
     entries: &mut Entries<B, C>,
     kinds: Kinds,
     all: bool,
     most: u64,
-    out: &mut Buffered<'_, S>,
-) -> Result<(), Stop>
-    requires failures { S.failures (sink_of out.old) < 2 ^ 64 - 1 }
-    requires new { taken_of out.old ≡ 0 }
+    out: &mut Printer<'_, S>,
+) -> Result<(), Failed>
     ensures put { PutsKinds S.contents S.failures B.shape entries.old all kinds most out.old out.new result }
-    ensures sure { entries.old.unfailing ≡ true → result ≢ Err Stop.Read }
-    ensures few { (result ≡ Err Stop.Write) ⊎ (taken_of out.new < 2 ^ 60) }
+    ensures sure { entries.old.unfailing ≡ true → IsOk result }
 {
     let left = put_kind(entries, kinds.0, all, most, out)?;
     put_kind(entries, kinds.1, all, left, out)?;
@@ -228,37 +180,31 @@ fn put_kinds<B: Geometry, C: Coded, S: Sink>(
 }
 
 /// Puts the texts of the positions of a kind in, so many at most, and answers how many more there
-/// may be.
+/// may be. No code is read any more after a write that failed.
 fn put_kind<B: Geometry, C: Coded, S: Sink>(
     entries: &mut Entries<B, C>,
     kind: Option<Kind>,
     all: bool,
     most: u64,
-    out: &mut Buffered<'_, S>,
-) -> Result<u64, Stop>
-    requires failures { S.failures (sink_of out.old) < 2 ^ 64 - 1 }
-    requires room { taken_of out.old < 2 ^ 52 }
+    out: &mut Printer<'_, S>,
+) -> Result<u64, Failed>
     ensures stays { entries.new ≡ entries.old }
     ensures put { PutsKind S.contents S.failures B.shape entries.old all kind most out.old out.new result }
-    ensures sure { entries.old.unfailing ≡ true → result ≢ Err Stop.Read }
-    ensures few { (result ≡ Err Stop.Write) ⊎ (taken_of out.new ≤ taken_of out.old + 2 ^ 50) }
+    ensures sure { entries.old.unfailing ≡ true → IsOk result }
 {
     let Some(kind) = kind else {
         return Ok(most);
     };
     let mut left = most;
     for entry in 0..entries.count() {
-        if left == 0 {
-            return Ok(0);
+        if left == 0 || out.has_failed() {
+            return Ok(left);
         }
-        let code = match entries.read_code(entry) {
-            Ok(code) => code,
-            Err(Failed) => return Err(Stop::Read),
-        };
+        let code = entries.read_code(entry)?;
         if !kind.has(value_of_code(code)) {
             continue;
         }
-        left = put_entry(entries, entry, all, left, out)?;
+        left = put_entry(entries, entry, all, left, out);
     }
     Ok(left)
 }
@@ -270,38 +216,21 @@ fn put_entry<B: Geometry, C: Coded, S: Sink>(
     entry: u64,
     all: bool,
     most: u64,
-    out: &mut Buffered<'_, S>,
-) -> Result<u64, Failed>
+    out: &mut Printer<'_, S>,
+) -> u64
     requires inside { entry < entry_count B.shape B.POINTS entries.now.layout entries.now.pair }
-    requires failures { S.failures (sink_of out.old) < 2 ^ 64 - 1 }
-    requires room { taken_of out.old < 2 ^ 62 }
     requires some { 0 < most }
-    ensures put { PutsEntry S.contents S.failures B.shape entries.now.layout entries.now.pair all entry most out.old out.new result }
-    ensures few { OnOk result (taken_of out.new ≤ taken_of out.old + 2 ^ 10) }
+    ensures { PutsEntry S.contents S.failures B.shape entries.now.layout entries.now.pair all entry most out.old out.new result }
 {
     // The proof learns here that the numbers of stones are those of a pair.
     let _ = entries.count();
     match entries.classes() {
         Some(classes) if all => put_falls(classes.falls_on(entry), most, out),
-        _ => put_one(&entries.position(entry), most, out),
+        _ => {
+            put_position(out, &entries.position(entry));
+            most - 1
+        }
     }
-}
-
-/// Puts the text of a position in, and answers how many more there may be.
-fn put_one<B: Geometry, S: Sink>(
-    position: &Position<B>,
-    most: u64,
-    out: &mut Buffered<'_, S>,
-) -> Result<u64, Failed>
-    requires failures { S.failures (sink_of out.old) < 2 ^ 64 - 1 }
-    requires room { taken_of out.old < 2 ^ 62 }
-    requires some { 0 < most }
-    ensures passed { Passes S.contents S.failures out.old out.new (line (text_of B.shape position.now)) result }
-    ensures left { IfOk result (λ left. left + 1 ≡ most) }
-    ensures few { OnOk result (taken_of out.new ≤ taken_of out.old + 64) }
-{
-    put_position(out, position)?;
-    Ok(most - 1)
 }
 
 /// Puts the texts of the positions that have an entry in, so many at most, and answers how many
@@ -309,22 +238,18 @@ fn put_one<B: Geometry, S: Sink>(
 fn put_falls<B: Geometry, S: Sink>(
     falls: FallsOn<'_, B>,
     most: u64,
-    out: &mut Buffered<'_, S>,
-) -> Result<u64, Failed>
-    requires failures { S.failures (sink_of out.old) < 2 ^ 64 - 1 }
-    requires room { taken_of out.old < 2 ^ 62 }
-    requires few { length falls ≤ 16 }
-    ensures passed { Passes S.contents S.failures out.old out.new (found_text B.shape (take most falls.entry)) result }
-    ensures left { IfOk result (λ left. left ≡ most - length falls.entry) }
-    ensures few { OnOk result (taken_of out.new ≤ taken_of out.old + 2 ^ 10) }
+    out: &mut Printer<'_, S>,
+) -> u64
+    ensures takes { Takes S.contents S.failures out.old out.new (found_text B.shape (take most falls.entry)) }
+    ensures left { result ≡ most - length falls.entry }
 {
     let mut left = most;
     for position in falls {
         if left == 0 {
-            return Ok(0);
+            return 0;
         }
-        put_position(out, &position)?;
+        put_position(out, &position);
         left -= 1;
     }
-    Ok(left)
+    left
 }

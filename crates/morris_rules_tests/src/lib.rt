@@ -6,8 +6,6 @@
 #[cfg(test)]
 mod board_tests;
 #[cfg(test)]
-mod buffered_tests;
-#[cfg(test)]
 mod checks;
 #[cfg(test)]
 mod class_tests;
@@ -21,6 +19,8 @@ mod move_tests;
 mod pair_tests;
 #[cfg(test)]
 mod position_tests;
+#[cfg(test)]
+mod printer_tests;
 #[cfg(test)]
 mod rule_tests;
 #[cfg(test)]

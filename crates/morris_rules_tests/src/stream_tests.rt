@@ -3,7 +3,8 @@ ghost use Rattle.std.specs.Prelude.{◌≡◌, ◌<◌, ◌^◌, IfOk};
 
 use crate::checks::{holds, same, same_bytes};
 use crate::counting::Counting;
-use morris_board::streams::{Failed, FromRead, IntoWrite, Sink, Source, put, put_byte, put_number};
+use morris_board::streams::printer::Printer;
+use morris_board::streams::{Failed, FromRead, IntoWrite, Sink, Source, put};
 use std::alloc::Global;
 use std::io;
 use std::io::{ErrorKind, Read, Write};
@@ -13,7 +14,7 @@ use std::process::Abort;
 fn put_goes_on_after_each_part(rt: HostRuntime) {
     let mut sink = Counting::new(rt.alloc(), 1, 100);
     holds(&rt, put(&mut sink, 0, b"morris").is_ok(), "a text is put");
-    holds(&rt, put_byte(&mut sink, 6, b' ').is_ok(), "a byte is put");
+    holds(&rt, put(&mut sink, 6, b" ").is_ok(), "a byte is put");
     same_bytes(&rt, sink.taken.as_slice(), b"morris ");
     same(&rt, sink.calls, 7, "writes");
 }
@@ -38,7 +39,9 @@ fn put_stops_at_the_first_failure(rt: HostRuntime) {
 /// The number is written as this text.
 fn assert_number(rt: &impl Abort, alloc: Global, number: u64, text: &str) {
     let mut sink = Counting::new(alloc, 100, 100);
-    holds(rt, put_number(&mut sink, 5, number).is_ok(), text);
+    let mut out = Printer::new(&mut sink);
+    out.put_number(number);
+    holds(rt, out.finish().is_ok(), text);
     same_bytes(rt, sink.taken.as_slice(), text.as_bytes());
 }
 

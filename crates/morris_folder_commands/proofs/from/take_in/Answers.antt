@@ -1,23 +1,19 @@
 -- The line of a table that was verified is short.
-use Rattle.std.proofs.Common.{◌≡◌, ◌<◌, ◌^◌, arith, inr, refl, subst}
+use Rattle.std.proofs.Common.{◌≡◌, arith, inr, refl, subst}
 use Rattle.morris_jobs.specs.Faults.{PrintsLine}
 use Rattle.morris_jobs.specs.Verified.{verified_text}
 use Rattle.morris_folder_commands.specs.From.{verified_line}
-use Rattle.morris_folder_commands.proofs.LineLaws.{line_few, verified_short}
+use Rattle.morris_jobs.proofs.LengthLaws.{verified_few}
+use Rattle.morris_folder_commands.proofs.LineLaws.{line_few}
 use Rattle.morris_folder_commands.proofs.from.take_in.Goals as goal
 
 pub print_after-requires-clause-few : goal.print_after-requires-clause-few
-print_after-requires-clause-few g c =
-    let pair = c.greater.ensures.lawful in
-    let low : c.len-entries.result < 2 ^ 64 = omega (arith, c.len-entries.ensures.few) in
-    omega (arith, verified_short c.pair-pair.result c.len-entries.result pair.most (omega (arith, pair.ordered, pair.most)) low)
+print_after-requires-clause-few g c = omega (arith, verified_few c.pair-pair.result c.len-entries.result)
 
 pub returns-clause-few : goal.returns-clause-few
 returns-clause-few g c =
-    let pair = c.greater.ensures.lawful in
-    let low : c.len-entries.result < 2 ^ 64 = omega (arith, c.len-entries.ensures.few) in
     line_few _ c.args.sent (g.O.Sink.contents c.args.output.now) (g.O.Sink.contents c.print_after.new.output) c.print_after.result
-    (verified_short c.pair-pair.result c.len-entries.result pair.most (omega (arith, pair.ordered, pair.most)) low) c.print_after.ensures.printed
+    (verified_few c.pair-pair.result c.len-entries.result) c.print_after.ensures.printed
 
 -- the table joins the others, and its line is printed
 pub returns-clause-taken : goal.returns-clause-taken

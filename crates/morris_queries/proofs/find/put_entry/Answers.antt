@@ -3,26 +3,29 @@ use Rattle.morris_board.specs.Boards.{Shape}
 use Rattle.morris_index.specs.Pairs.{IsPair}
 use Rattle.morris_pairs.specs.declared.layout.Layout.TheVariants.{Full}
 use Rattle.morris_pairs.specs.Entries.{entry_index}
-use Rattle.morris_queries.proofs.FoundLaws.{one_left, own_listed, own_text, shared_listed}
+use Rattle.morris_queries.proofs.FoundLaws.{own_listed, own_text, shared_listed}
 use Rattle.morris_queries.proofs.find.put_entry.Goals as goal
 use Rattle.morris_queries.proofs.find.put_entry.Goals.{in_default-via-in-Some+else-all, in_default-via-in_default}
 
 -- all that share the entry
-pub returns-in-Some-clause-put : goal.returns-in-Some-clause-put
-returns-in-Some-clause-put g c =
+pub returns-in-Some : goal.returns-in-Some
+returns-in-Some g c =
     let board : Shape = g.B.Geometry.shape in
-    let entries = c.args.entries.now in (
-      c.falls_on.result,
-      shared_listed board g.B.Geometry.POINTS g.met.B.Geometry.point_count entries.layout entries.pair c.args.all c.if-all.true c.in-Some.ensures.0 c.args.entry
-          c.falls_on.result (rw c.in-Some.ensures.1 at c.falls_on.ensures.listed),
-      c.falls_on.ensures.once,
-      c.put_falls.ensures.passed,
-      c.put_falls.ensures.left,
-    )
+    let entries = c.args.entries.now in
+    record {
+      positions = c.falls_on.result;
+      each =
+          shared_listed board g.B.Geometry.POINTS g.met.B.Geometry.point_count entries.layout entries.pair c.args.all c.if-all.true c.in-Some.ensures.0 c.args.entry
+          c.falls_on.result (rw c.in-Some.ensures.1 at c.falls_on.ensures.listed);
+      once = c.falls_on.ensures.once;
+      few = omega (arith, c.falls_on.ensures.few, g.met.B.Geometry.few_symmetries);
+      takes = c.put_falls.ensures.takes;
+      rest = c.put_falls.ensures.left;
+    }
 
 -- the one that has it for its own, or the one that has it
-pub returns-in_default-clause-put : goal.returns-in_default-clause-put
-returns-in_default-clause-put g c =
+pub returns-in_default : goal.returns-in_default
+returns-in_default g c =
     let board : Shape = g.B.Geometry.shape in
     let few : board.points ≤ 24 = omega (arith, g.met.B.Geometry.few, g.met.B.Geometry.point_count) in
     let entries = c.args.entries.now in
@@ -31,12 +34,15 @@ returns-in_default-clause-put g c =
     let one : (c.args.all ≡ false) ⊎ (entries.layout ≡ Full) = elim c.in_default.branch [
       | in_default-via-in-Some+else-all w ↦ inl w.if-all.false
       | in_default-via-in_default w ↦ inr (rw w.in_default.is at c.classes.ensures)
-    ] in (
-      p ∷ [],
-      own_listed board few g.met.B.Geometry.has_symmetries entries.layout entries.pair lawful c.args.all one p c.position.ensures.lawful
+    ] in
+    record {
+      positions = p ∷ [];
+      each =
+          own_listed board few g.met.B.Geometry.has_symmetries entries.layout entries.pair lawful c.args.all one p c.position.ensures.lawful
           c.position.ensures.counts c.position.ensures.own c.args.entry
-          (subst (λ n. entry_index board n entries.layout entries.pair p ≡ c.args.entry) (sym g.met.B.Geometry.point_count) c.position.ensures.entry),
-      (λ i j d less within. absurd (omega arith)),
-      rw (own_text board c.args.most p c.requires.some) c.put_one.ensures.passed,
-      one_left c.args.most c.put_one.result c.put_one.ensures.left,
-    )
+          (subst (λ n. entry_index board n entries.layout entries.pair p ≡ c.args.entry) (sym g.met.B.Geometry.point_count) c.position.ensures.entry);
+      once = λ i j d less within. absurd (omega arith);
+      few = omega arith;
+      takes = rw (own_text board c.args.most p c.requires.some) c.put_position.ensures;
+      rest = omega arith;
+    }

@@ -1,5 +1,5 @@
-use Rattle.std.proofs.Common.{◌≡◌, ◌+◌, ◌-◌, ◌*◌, ◌≤◌, ◌++◌, length, take}
-use Rattle.morris_board.specs.Buffered.{AllPassed, taken_of}
+use Rattle.std.proofs.Common.{◌≡◌, ◌-◌, ◌++◌, length, take}
+use Rattle.morris_board.specs.Printers.{Takes}
 use Rattle.morris_queries.specs.Found.{found_text}
 use Rattle.morris_queries.proofs.find.put_falls.Given as goal
 
@@ -7,7 +7,6 @@ use Rattle.morris_queries.proofs.find.put_falls.Given as goal
 abbrev pub invariant-loop-position : goal.invariant-loop-position
 invariant-loop-position g l = record {
   split : l.yielded ++ l.position-iterator ≡ l.fn.falls;
-  passed : AllPassed g.S.Sink.contents g.S.Sink.failures l.initial.out l.out (found_text g.B.Geometry.shape (take l.fn.most l.yielded));
+  takes : Takes g.S.Sink.contents g.S.Sink.failures l.initial.out l.out (found_text g.B.Geometry.shape (take l.fn.most l.yielded));
   left : l.left ≡ l.fn.most - length l.yielded;
-  few : taken_of l.out ≤ taken_of l.initial.out + 64 * length l.yielded;
 }

@@ -1,15 +1,13 @@
-use Rattle.std.proofs.Common.{[], ◌∷◌}
-use Rattle.morris_board.proofs.BufferedLaws.{goes_on}
-use Rattle.morris_jobs.specs.Faults.{fault_line, fault_words}
-use Rattle.morris_jobs.proofs.PieceLaws.{first_failed}
+use Rattle.morris_board.proofs.PrinterLaws.{and_then}
+use Rattle.morris_jobs.specs.Faults.{fault_line}
+use Rattle.std.proofs.Common.{arith, length-append}
 use Rattle.morris_jobs.proofs.print_fault.FaultPrinted.put_into.Goals as goal
 
-pub returns-in_err-put_fault-clause-passed : goal.returns-in_err-put_fault-clause-passed
+pub returns-clause-takes : goal.returns-clause-takes
 unfolding fault_line
-returns-in_err-put_fault-clause-passed g c =
-    first_failed (fault_words c.args.self.now) (10 ∷ []) c.from_residual.result _ c.from_residual.ensures.1 c.in_err-put_fault.ensures.passed
+returns-clause-takes g c =
+    and_then c.put_fault.ensures.takes c.put.ensures
 
-pub returns-clause-passed : goal.returns-clause-passed
+pub returns-clause-few : goal.returns-clause-few
 unfolding fault_line
-returns-clause-passed g c =
-    goes_on c.put_byte.new.self (10 ∷ []) c.put_byte.result c.in_ok-put_fault.ensures.passed c.put_byte.ensures.passed
+returns-clause-few g c = λ short. simp length-append (omega (arith, c.put_fault.ensures.few))
