@@ -3,7 +3,8 @@
 
     python3 ci/generated.py            compares each part with what it has to be; the status is 1
                                        where one differs
-    python3 ci/generated.py --write    writes them anew
+    python3 ci/generated.py --write    writes them anew; kinds after it are the only ones written,
+                                       which needs no program unless `options` is among them
 
 A part stands between a mark `<!-- from KIND WORDS -->`, of one line or more, and the next line
 `<!-- end -->`; in the man page these are comments of its own form. Kinds:
@@ -13,7 +14,8 @@ A part stands between a mark `<!-- from KIND WORDS -->`, of one line or more, an
     edits                     the edits that the prover has to refuse, crate by crate
     edit-counts               how many there are of each crate
     options COMMAND           the options of a command, as its help lists them
-    pairs FILE                what bench/pairs printed into docs/FILE, as a table
+    pairs FILE                what bench/pairs put into docs/FILE, as a table
+    picture FILE              the same as a picture, by bench/picture.py
 """
 
 import csv
@@ -26,11 +28,14 @@ from pathlib import Path
 sys.dont_write_bytecode = True
 from runs import MORRIS, MOST_SECONDS, ROOT
 
+sys.path.append(f"{ROOT}/bench")
+import picture as drawing
+
 MARKDOWN = ("<!-- from ", " -->", "<!-- end -->")
 MAN = ('.\\" from ', "", '.\\" end')
 BEGINS = re.compile(r"(?:unfoldable |abbrev |pub |use )")
 NAMES = re.compile(
-    r"^\s*(?:unfoldable |abbrev )?(?:pub )?(?:record )?([\w-]+)(?: [({]| : )", re.MULTILINE
+    r"^\s*(?:unfoldable |abbrev )?(?:pub )?(?:record |data )?([\w-]+)(?: [({]| : )", re.MULTILINE
 )
 # A line of the options in a help: an option, its value, what it does, and the default.
 OPTION = re.compile(r" +(?:-h, )?(--[a-z]+)(?: <(\w+)>)? +(.*?)(?: \[default: (\w+)\])?")
@@ -41,7 +46,7 @@ FOLDERS = {"must-fail": "gate", "edits-at-release": "release"}
 def documents():
     """The documents that are written for readers, by their paths from the root."""
     found = [*os.listdir(ROOT), *(f"docs/{it}" for it in os.listdir(f"{ROOT}/docs"))]
-    return sorted(it for it in found if it.endswith((".md", ".1")))
+    return sorted(it for it in found if it.endswith((".md", ".1", ".svg")))
 
 
 def read(path):
@@ -50,7 +55,7 @@ def read(path):
 
 def marks_of(path):
     """How a generated part begins and ends in a document."""
-    return MARKDOWN if path.endswith(".md") else MAN
+    return MAN if path.endswith(".1") else MARKDOWN
 
 
 def parts_of(path, text):
@@ -199,6 +204,11 @@ def pairs(_, file):
     return made
 
 
+def picture(_, file):
+    """The same as a picture."""
+    return drawing.picture(read(f"docs/{file}").splitlines())
+
+
 MAKERS = {
     "definitions": definitions,
     "source": source,
@@ -206,27 +216,29 @@ MAKERS = {
     "edit-counts": edit_counts,
     "options": options,
     "pairs": pairs,
+    "picture": picture,
 }
 
 
-def made_anew(path, text):
-    """A document with its generated parts as they have to be, and how many there are."""
+def made_anew(path, text, kinds):
+    """A document with its generated parts of these kinds as they have to be, and how many there
+    are."""
     lines, count = [], 0
     for words, found in parts_of(path, text):
-        if words:
+        if words and words[0] in kinds:
             found = MAKERS[words[0]](path, *words[1:])
             count += 1
         lines += found
     return "".join(f"{line}\n" for line in lines), count
 
 
-def hold(writes=False):
-    """Holds the documents against what is made of the sources, or writes it into them. Gives how
-    many parts there are."""
+def hold(writes=False, kinds=MAKERS):
+    """Holds the parts of these kinds in the documents against what is made of the sources, or
+    writes it into them. Gives how many parts there are."""
     wrong, parts = [], 0
     for path in documents():
         text = read(path)
-        wanted, count = made_anew(path, text)
+        wanted, count = made_anew(path, text, kinds)
         parts += count
         if wanted != text:
             wrong.append(path)
@@ -239,9 +251,10 @@ def hold(writes=False):
 
 
 def main():
-    if sys.argv[1:] not in ([], ["--write"]):
+    writes, kinds = sys.argv[1:2] == ["--write"], sys.argv[2:]
+    if sys.argv[1:] and not writes or not MAKERS.keys() >= {*kinds}:
         sys.exit(__doc__)
-    print(f"{hold(bool(sys.argv[1:]))} parts of documents are made of the sources")
+    print(f"{hold(writes, kinds or MAKERS)} parts of documents are made of the sources")
 
 
 if __name__ == "__main__":

@@ -2,8 +2,9 @@
 //!
 //! It is summed up from what is kept at once: the entries of the blocks, the lists of those that
 //! come due by captures, what the workers hold of the blocks that they are at, and the tables of
-//! the pairs that captures lead to. Only how many entries come due by captures, and how many of a
-//! block are fresh at one wave, are estimates: they are counts of the usual board.
+//! the pairs that captures lead to; or, where that is more, what puts codes of rows into the order
+//! of the entries. Only how many entries come due by captures, and how many of a block are fresh at
+//! one wave, are estimates: they are counts of the usual board.
 ghost use Rattle.std.specs.Prelude.{◌^◌, ◌<◌, ◌≤◌};
 
 use crate::team::Team;
@@ -11,6 +12,7 @@ use morris_board::board::Geometry;
 use morris_index::binomials::binomial;
 use morris_index::pair::Pair;
 use morris_pairs::layout::Layout;
+use morris_table::building::ROWS_FROM;
 
 /// Bytes of the program itself.
 pub(crate) const BASE: u64 = 4_000_000;
@@ -37,6 +39,10 @@ const LISTED: u64 = 4;
 /// Bytes of such a number where the pair has more, in a list of a sweep, and where a worker takes it
 /// out of a block to go back from its entry.
 const WIDE: u64 = 8;
+
+/// Bytes of a set of as many points as the side with fewer stones has, while a pair is built by
+/// rows: what the moves of these stones are.
+const MOVES: u64 = 28;
 
 /// A whole, in the parts in which shares are counted.
 const WHOLE: u64 = 1000;
@@ -68,7 +74,12 @@ pub(crate) fn bytes_of_table<B: Geometry>(pair: Pair<B>, layout: Layout, entries
 
 /// About how many bytes it takes at once to make the table of a pair with so many entries, beside
 /// the table itself as it is kept: by a team, or by a sweep on one thread.
-pub(crate) fn bytes_of_making<B: Geometry>(pair: Pair<B>, entries: u64, team: Option<Team>) -> u64 {
+pub(crate) fn bytes_of_making<B: Geometry>(
+    pair: Pair<B>,
+    layout: Layout,
+    entries: u64,
+    team: Option<Team>,
+) -> u64 {
     let due = entries.saturating_mul(due_share(pair)) / WHOLE;
     let Some(team) = team else {
         // A sweep keeps the numbers of all decided entries, and all that it keeps until the table is
@@ -85,8 +96,24 @@ pub(crate) fn bytes_of_making<B: Geometry>(pair: Pair<B>, entries: u64, team: Op
     let listed = due
         .saturating_add(due / 4)
         .saturating_mul(listed_bytes(entries));
-    open.saturating_add(listed)
-        .saturating_add(bytes_of_workers(pair, entries, team))
+    let solving = open
+        .saturating_add(listed)
+        .saturating_add(bytes_of_workers(pair, entries, team));
+    if layout == Layout::Full || pair.lesser() == pair.greater() || pair.greater() < ROWS_FROM {
+        return solving;
+    }
+    // By rows there are as many nodes as entries, or up to a tenth less. Once the blocks are gone,
+    // the codes of the second half are made anew, beside those of all nodes.
+    let anew = (entries / 2).saturating_mul(CODE);
+    solving.max(anew).saturating_add(bytes_of_rows(pair))
+}
+
+/// About how many bytes it takes to find the rows of a pair and the moves in them: a second table
+/// of the classes of the greater number's sets, and what the moves of each of the lesser one's are.
+fn bytes_of_rows<B: Geometry>(pair: Pair<B>) -> u64 {
+    let classes = SET * binomial(B::POINTS, pair.greater());
+    let moves = MOVES * binomial(B::POINTS, pair.lesser());
+    classes + moves
 }
 
 /// About how many bytes the workers hold: what each of them has in any case, and the fresh entries of

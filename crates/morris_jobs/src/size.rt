@@ -123,7 +123,7 @@ impl Size {
             near = near.before(below).with(table);
             all = all.saturating_add(table);
             let kept = if way.lets_go() { near.bytes() } else { all };
-            let making = bytes_beside(below, entries, way);
+            let making = bytes_beside(below, layout, entries, way);
             let weight = weight_in(below, pair, way);
             size = size.with(entries, weight, kept.saturating_add(making));
         }
@@ -187,13 +187,13 @@ fn weight_in<B: Geometry>(pair: Pair<B>, last: Pair<B>, way: Way) -> u64 {
 
 /// About how many bytes it takes to make the table of a pair with so many entries, beside all tables
 /// that are kept, its own among them.
-fn bytes_beside<B: Geometry>(pair: Pair<B>, entries: u64, way: Way) -> u64 {
+fn bytes_beside<B: Geometry>(pair: Pair<B>, layout: Layout, entries: u64, way: Way) -> u64 {
     match way {
-        Way::Swept => bytes_of_making(pair, entries, None),
-        Way::Built { team, .. } => bytes_of_making(pair, entries, Some(team)),
+        Way::Swept => bytes_of_making(pair, layout, entries, None),
+        Way::Built { team, .. } => bytes_of_making(pair, layout, entries, Some(team)),
         // The table that was read is there from the start, also while its pair is built beside it.
         Way::Verified { team, entries: own } => {
-            let making = bytes_of_making(pair, entries, Some(team));
+            let making = bytes_of_making(pair, layout, entries, Some(team));
             making.saturating_add(CODE.saturating_mul(own))
         }
         Way::Read => 0,

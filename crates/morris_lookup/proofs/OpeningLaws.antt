@@ -12,6 +12,7 @@ use Rattle.morris_pairs.specs.declared.layout.Layout.{Layout}
 use Rattle.morris_pairs.specs.declared.layout.Layout.TheVariants.{Full}
 use Rattle.morris_pairs.specs.Entries.{entry_count}
 use Rattle.morris_pairs.specs.EntryLaws.{entries_few}
+use Rattle.morris_pairs.specs.Orders.{order_of}
 use Rattle.morris_pairs.specs.Tables.{Table, table}
 use Rattle.morris_pairs.specs.Raws.{IsRaw}
 use Rattle.morris_pairs.specs.TableFiles.{file_of}
@@ -248,7 +249,7 @@ module _ (board : Shape) (low : board.points ≤ 24) (y : HasSymmetries board) w
   framed_file t raw =
       let read : file_in board (file_of board t) ≡ Ok (t, []) =
       ap (file_in board) (sym (append-nil (file_of board t)))
-      ∙ file_in-file_of board t [] raw (omega (arith, raw.counted, entries_few board low y t.pair raw.lawful t.layout)) in
+      ∙ file_in-file_of board t [] raw (omega (arith, raw.counted, entries_few board low y t.pair raw.lawful (order_of t.layout))) in
       let size : length (file_of board t) ≡ 16 + 2 * entry_count board board.points t.layout t.pair + 32 =
       omega (arith, length-file_of board t, raw.counted) in
       rw (

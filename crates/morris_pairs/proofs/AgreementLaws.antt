@@ -21,6 +21,7 @@ use Rattle.morris_wave.specs.Values.{is_lost, is_won, is_decided, is_lost_exit, 
 use Rattle.morris_wave.proofs.Depths.{lost_more, won_more, lost_parity, won_parity, apart, decided_by_then, none_decided}
 use Rattle.morris_wave.proofs.ExitTests.{depths_yes, depths_no, some_exit_lost, each_exit_won}
 use Rattle.morris_pairs.specs.Entries.{entry_count, entry_index, has_own_entry}
+use Rattle.morris_pairs.specs.Orders.{order_of}
 use Rattle.morris_pairs.specs.EntryLaws.{IsLaid, laid}
 use Rattle.morris_pairs.specs.Codes.{IsCodeOf, code_to}
 use Rattle.morris_pairs.specs.PairNets.{is_quiet, is_capture, quiet_results, capture_codes, pair_net}
@@ -30,7 +31,7 @@ use Rattle.morris_pairs.specs.Graphs.{HasGameValues}
 use Rattle.morris_wave.specs.Summaries.{added, least_with}
 use Rattle.morris_pairs.specs.Agreement.{code_above, code_from, stated_code, result_codes, quiet_codes, all_added, Agrees}
 use Rattle.morris_pairs.specs.FilterLaws.{list_any-map, all_parts, any_parts}
-use Rattle.morris_pairs.specs.NetLaws.{points_few, quiet-at, exits-at, quiet-stays, result-position, net_at-level_of}
+use Rattle.morris_pairs.specs.NetLaws.{points_few, quiet-at, exits-at, quiet-stays, result-position, net_at-level_in}
 use Rattle.morris_wave.proofs.Summaries.{exits_of-more}
 use Rattle.morris_pairs.specs.Worths.{worth_of, code_of_worth, best_of, IsShort}
 use Rattle.morris_pairs.proofs.WorthLaws.{code-best}
@@ -263,7 +264,7 @@ module _ (board : Shape) (t : Table) where
   unfolding stated_code
   stated-capture s m takes = cond-false {A = ℕ} (is_quiet m) (get_or t.codes (entry_index board board.points t.layout t.pair (result_of s m)) 0) (code_to 65534 board (result_of s m)) takes
 
-module _ (board : Shape) (few : board.points ≤ 24) (t : Table) (laid : IsLaid board t.layout t.pair) where
+module _ (board : Shape) (few : board.points ≤ 24) (t : Table) (laid : IsLaid board (order_of t.layout) t.pair) where
   abbrev Means : ℕ → Sides → Type 0
   Means n s = Says (pair_net board t.layout t.pair) (entry_index board board.points t.layout t.pair s) (get_or t.codes (entry_index board board.points t.layout t.pair s) 0) n
 
@@ -280,7 +281,7 @@ module _ (board : Shape) (few : board.points ≤ 24) (t : Table) (laid : IsLaid 
         ∙ list_all-map (is_won_exit n) (stated_code board t s) (moves_of board s)
         ∙ sym (
         ap₂ (λ quiet codes. list_all (is_won (pair_net board t.layout t.pair) n) quiet && list_all (is_won_exit n) codes)
-        (quiet-at board few t.layout t.pair laid s h of kept) (exits-at board few t.layout t.pair laid s h of kept)
+        (quiet-at board few (order_of t.layout) t.pair laid s h of kept) (exits-at board few (order_of t.layout) t.pair laid s h of kept)
         ∙ ap₂ (λ a b. a && b)
         (list_all-map (is_won (pair_net board t.layout t.pair) n) (λ m. entry_index board board.points t.layout t.pair (result_of s m)) (filter is_quiet (moves_of board s)))
         (list_all-map (is_won_exit n) (λ m. code_to 65534 board (result_of s m)) (filter is_capture (moves_of board s)))
@@ -297,7 +298,7 @@ module _ (board : Shape) (few : board.points ≤ 24) (t : Table) (laid : IsLaid 
         ∙ list_any-map (is_lost_exit n) (stated_code board t s) (moves_of board s)
         ∙ sym (
         ap₂ (λ quiet codes. list_any (is_lost (pair_net board t.layout t.pair) n) quiet || list_any (is_lost_exit n) codes)
-        (quiet-at board few t.layout t.pair laid s h of kept) (exits-at board few t.layout t.pair laid s h of kept)
+        (quiet-at board few (order_of t.layout) t.pair laid s h of kept) (exits-at board few (order_of t.layout) t.pair laid s h of kept)
         ∙ ap₂ (λ a b. a || b)
         (list_any-map (is_lost (pair_net board t.layout t.pair) n) (λ m. entry_index board board.points t.layout t.pair (result_of s m)) (filter is_quiet (moves_of board s)))
         (list_any-map (is_lost_exit n) (λ m. code_to 65534 board (result_of s m)) (filter is_capture (moves_of board s)))
@@ -355,7 +356,7 @@ module _ (board : Shape) (few : board.points ≤ 24) (t : Table) (laid : IsLaid 
 -- ---- in the words of the game
 
 module _ (board : Shape) (lawful : is_board board ≡ true) (y : HasSymmetries board) (t : Table) (raw : IsRaw board t) (values : HasGameValues board t.layout t.pair) where
-  entries : IsLaid board t.layout t.pair
+  entries : IsLaid board (order_of t.layout) t.pair
   entries = laid board (points_few board lawful) y t.layout t.pair raw.lawful
 
   -- the values of the pair's graph are those of the game
@@ -363,7 +364,7 @@ module _ (board : Shape) (lawful : is_board board ≡ true) (y : HasSymmetries b
       → (HasCode (pair_net board t.layout t.pair) (entry_index board board.points t.layout t.pair s) code → IsCodeOf board s code)
       × (IsCodeOf board s code → HasCode (pair_net board t.layout t.pair) (entry_index board board.points t.layout t.pair s) code)
   node_value s code h of =
-      let same = net_at-level_of board lawful y t.layout t.pair raw.lawful in
+      let same = net_at-level_in board lawful y (order_of t.layout) t.pair raw.lawful in
       let both = values s code h of in (
         λ e. both.0 (subst (λ g. HasCode g (entry_index board board.points t.layout t.pair s) code) (sym same) e),
         λ e. subst (λ g. HasCode g (entry_index board board.points t.layout t.pair s) code) same (both.1 e),

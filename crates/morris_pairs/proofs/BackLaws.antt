@@ -22,8 +22,8 @@ use Rattle.morris_index.proofs.IndexLaws.{IsPlaced, halves_of, index-lt, index-s
 use Rattle.morris_board.proofs.PositionLaws.{from_between, other_count}
 use Rattle.morris_index.proofs.ResultLaws.{is_of-quiet}
 use Rattle.morris_wave.specs.Nets.{times}
-use Rattle.morris_pairs.specs.declared.layout.Layout.TheVariants.{Full}
-use Rattle.morris_pairs.specs.PairNets.{at_index, is_quiet, quiet_results, pair_net}
+use Rattle.morris_pairs.specs.Orders.{Full}
+use Rattle.morris_pairs.specs.PairNets.{at_index, is_quiet, quiet_results, net_in}
 use Rattle.morris_moves.specs.Backward.{before, has_come}
 use Rattle.morris_pairs.specs.Backward.{moves_into, moves_before}
 use Rattle.morris_pairs.specs.FilterLaws.{filter-contains, contained-filter, range_bounds}
@@ -98,7 +98,7 @@ module _ (b : Shape) (q : Sides) where
       (λ v. Ascends-filter Apart (has_come b q) (map (λ u. move u v None) (range_with_len 0 b.points))
       (Ascends-map (λ x y. x < y) Apart (λ u. move u v None) (range_with_len 0 b.points) (Ascends-range 0 b.points)
       (λ x z l e. let same : x ≡ z = ap (λ (m : Move). m.from) e in omega arith)))
-      (λ v w m k l c d e.
+      (λ v w m k o c d e.
       let f = filter-contains (has_come b q) (map (λ u. move u v None) (range_with_len 0 b.points)) m c in
       let i = filter-contains (has_come b q) (map (λ u. move u w None) (range_with_len 0 b.points)) k d in
       let r = Contains-map_cases (λ u. move u v None) (range_with_len 0 b.points) m f.0 in
@@ -305,8 +305,8 @@ module _ (b : Shape) (small : b.points ≤ 24) (c : Counts) (pair : IsPair b.poi
         (after_before j s i)
 
     -- each position stands before q as often as q is one of its quiet results
-    pub times_before : (j : ℕ) → times j (indices_before b.points c q (all_before b q)) ≡ times (index_of b.points c q) ((pair_net b Full c).quiet j)
-    unfolding pair_net
+    pub times_before : (j : ℕ) → times j (indices_before b.points c q (all_before b q)) ≡ times (index_of b.points c q) ((net_in b Full c).quiet j)
+    unfolding net_in
     times_before j = elim (none_or_one b c small j) [
       | inl none ↦ count_before j ∙ (from_none j none ∙ rw none refl)
       | inr one ↦ count_before j ∙ (from_one j one.0 one.1

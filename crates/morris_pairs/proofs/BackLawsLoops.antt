@@ -17,32 +17,33 @@ use Rattle.morris_moves.proofs.SetLaws.{has-member}
 use Rattle.morris_index.specs.Pairs.{Counts, IsPair, is_of, index_of}
 use Rattle.morris_index.specs.Moves.{taken_back}
 use Rattle.morris_wave.specs.Nets.{times}
-use Rattle.morris_pairs.specs.declared.layout.Layout.{Layout}
-use Rattle.morris_pairs.specs.declared.layout.Layout.TheVariants.{Full, Classes}
-use Rattle.morris_pairs.specs.Entries.{entry_count, entry_index, has_own_entry}
-use Rattle.morris_pairs.specs.PairNets.{pair_net}
-use Rattle.morris_pairs.specs.Backward.{moves_into, moves_before, leads_from, entries_leading}
+use Rattle.morris_index.specs.Carried.{entries_before}
+use Rattle.morris_pairs.specs.Orders.{Order, Full, Classes, Rows, ahead, count_in, index_in, own_in}
+use Rattle.morris_pairs.specs.EntryLaws.{led-classes, led-rows}
+use Rattle.morris_pairs.specs.PairNets.{net_in}
+use Rattle.morris_pairs.specs.Backward.{moves_into, moves_before, rows_before, leads_in, leading_in}
 use Rattle.morris_pairs.proofs.BackLaws.{indices_before, times_before, nodes_before, few_before}
 use Rattle.morris_pairs.proofs.ClassBackLaws.{times_leads, nodes_leading, few_leading}
 
 -- ---- what the list of all of them is, with the number of points given apart
 
-pub record AreLeading (l : Layout) (b : Shape) (n : ℕ) (c : Counts) (p : Sides) (xs : List ℕ) : Type 0 where
-  pub often : (j : ℕ) → times j xs ≡ times (entry_index b n l c p) ((pair_net b l c).quiet j)
-  pub nodes : All (λ j. j < entry_count b n l c) xs
+pub record AreLeading (o : Order) (b : Shape) (n : ℕ) (c : Counts) (p : Sides) (xs : List ℕ) : Type 0 where
+  pub often : (j : ℕ) → times j xs ≡ times (index_in b n o c p) ((net_in b o c).quiet j)
+  pub nodes : All (λ j. j < count_in b n o c) xs
   pub few : length xs ≤ 9 * 24 * b.symmetries
 
 -- where each position has an entry, the entry before a move is that of the one position before it
-by_index : (b : Shape) (n : ℕ) (c : Counts) (p : Sides) (moves : List Move) → indices_before n c p moves ≡ entries_leading Full b n c p moves
-unfolding indices_before entries_leading before moved
+by_index : (b : Shape) (n : ℕ) (c : Counts) (p : Sides) (moves : List Move) → indices_before n c p moves ≡ leading_in Full b n c p moves
+unfolding indices_before leading_in before moved
 by_index b n c p moves = sym (flat_map_single (λ m. index_of n c (taken_back p m.from m.to)) moves)
 
-are_leading : (l : Layout) (b : Shape) (n : ℕ) → b.points ≡ n → n ≤ 24 → HasSymmetries b → (c : Counts) → IsPair n c → (p : Sides) → IsPosition b p → is_of c p ≡ true
-    → has_own_entry b l p ≡ true → AreLeading l b n c p (entries_leading l b n c p (moves_before b p n (members p.other)))
+are_leading : (o : Order) (b : Shape) (n : ℕ) → b.points ≡ n → n ≤ 24 → HasSymmetries b → (c : Counts) → IsPair n c → (p : Sides) → IsPosition b p → is_of c p ≡ true
+    → own_in b o p ≡ true → AreLeading o b n c p (leading_in o b n c p (moves_before b p n (members p.other)))
+unfolding leading_in entries_before rows_before
 are_leading Full b n e small y c pair p h of own =
     let low : b.points ≤ 24 = omega (arith, e, small) in
     let same : IsPair b.points c = subst (λ k. IsPair k c) (sym e) pair in
-    subst (λ k. AreLeading Full b k c p (entries_leading Full b k c p (moves_before b p k (members p.other)))) e
+    subst (λ k. AreLeading Full b k c p (leading_in Full b k c p (moves_before b p k (members p.other)))) e
     (subst (AreLeading Full b b.points c p) (by_index b b.points c p (moves_before b p b.points (members p.other)))
     (record {
       often = times_before b low c same p h of;
@@ -52,43 +53,54 @@ are_leading Full b n e small y c pair p h of own =
 are_leading Classes b n e small y c pair p h of own =
     let low : b.points ≤ 24 = omega (arith, e, small) in
     let same : IsPair b.points c = subst (λ k. IsPair k c) (sym e) pair in
-    subst (λ k. AreLeading Classes b k c p (entries_leading Classes b k c p (moves_before b p k (members p.other)))) e
+    let laws = led-classes b low y c in
+    subst (λ k. AreLeading Classes b k c p (leading_in Classes b k c p (moves_before b p k (members p.other)))) e
     (record {
-      often = times_leads b low y c same p h of own;
-      nodes = nodes_leading b low y c same p h of own;
-      few = few_leading b low y c same p h of own;
+      often = times_leads b low y c same Classes (λ s. s) laws p h of own;
+      nodes = nodes_leading b low y c same Classes (λ s. s) laws p h of own;
+      few = few_leading b low y c same Classes (λ s. s) laws p h of own;
+    })
+are_leading Rows b n e small y c pair p h of own =
+    let low : b.points ≤ 24 = omega (arith, e, small) in
+    let same : IsPair b.points c = subst (λ k. IsPair k c) (sym e) pair in
+    let laws = led-rows b low y c same in
+    subst (λ k. AreLeading Rows b k c p (leading_in Rows b k c p (moves_before b p k (members p.other)))) e
+    (record {
+      often = times_leads b low y c same Rows ahead laws p h of own;
+      nodes = nodes_leading b low y c same Rows ahead laws p h of own;
+      few = few_leading b low y c same Rows ahead laws p h of own;
     })
 
 -- ---- the loops over the points
 
-module _ (l : Layout) (b : Shape) (n : ℕ) (c : Counts) (p : Sides) where
-  pub leading_none : entries_leading l b n c p (moves_before b p n []) ≡ []
-  unfolding entries_leading moves_before
+module _ (o : Order) (b : Shape) (n : ℕ) (c : Counts) (p : Sides) where
+  pub leading_none : leading_in o b n c p (moves_before b p n []) ≡ []
+  unfolding leading_in moves_before
   leading_none = refl
 
-  pub leading_more : (vs : List ℕ) (v : ℕ) → entries_leading l b n c p (moves_before b p n vs) ++ entries_leading l b n c p (moves_into b p v n)
-      ≡ entries_leading l b n c p (moves_before b p n (vs ++ v ∷ []))
-  unfolding entries_leading moves_before
+  pub leading_more : (vs : List ℕ) (v : ℕ) → leading_in o b n c p (moves_before b p n vs) ++ leading_in o b n c p (moves_into b p v n)
+      ≡ leading_in o b n c p (moves_before b p n (vs ++ v ∷ []))
+  unfolding leading_in moves_before
   leading_more vs v =
-      sym (flat_map-append (λ (m : Move). leads_from l b n c p m.from m.to) (flat_map (λ k. moves_into b p k n) vs) (moves_into b p v n))
-      ∙ ap (flat_map (λ (m : Move). leads_from l b n c p m.from m.to)) (flat_map_more (λ k. moves_into b p k n) [] vs v)
+      sym (flat_map-append (λ (m : Move). leads_in o b n c p m.from m.to) (flat_map (λ k. moves_into b p k n) vs) (moves_into b p v n))
+      ∙ ap (flat_map (λ (m : Move). leads_in o b n c p m.from m.to)) (flat_map_more (λ k. moves_into b p k n) [] vs v)
 
-  pub leading_into_none : (v : ℕ) → entries_leading l b n c p (map (λ u. move u v None) []) ≡ []
-  unfolding entries_leading
+  pub leading_into_none : (v : ℕ) → leading_in o b n c p (map (λ u. move u v None) []) ≡ []
+  unfolding leading_in
   leading_into_none v = refl
 
-  pub leading_into_more : (us : List ℕ) (u v : ℕ) → entries_leading l b n c p (map (λ u. move u v None) us) ++ leads_from l b n c p u v
-      ≡ entries_leading l b n c p (map (λ u. move u v None) (us ++ u ∷ []))
-  unfolding entries_leading
+  pub leading_into_more : (us : List ℕ) (u v : ℕ) → leading_in o b n c p (map (λ u. move u v None) us) ++ leads_in o b n c p u v
+      ≡ leading_in o b n c p (map (λ u. move u v None) (us ++ u ∷ []))
+  unfolding leading_in
   leading_into_more us u v =
-      sym (ap (flat_map (λ (m : Move). leads_from l b n c p m.from m.to)) (map-append (λ u. move u v None) us (u ∷ []))
-      ∙ flat_map-append (λ (m : Move). leads_from l b n c p m.from m.to) (map (λ u. move u v None) us) (move u v None ∷ [])
-      ∙ ap (λ xs. flat_map (λ (m : Move). leads_from l b n c p m.from m.to) (map (λ u. move u v None) us) ++ xs) (append-nil (leads_from l b n c p u v)))
+      sym (ap (flat_map (λ (m : Move). leads_in o b n c p m.from m.to)) (map-append (λ u. move u v None) us (u ∷ []))
+      ∙ flat_map-append (λ (m : Move). leads_in o b n c p m.from m.to) (map (λ u. move u v None) us) (move u v None ∷ [])
+      ∙ ap (λ xs. flat_map (λ (m : Move). leads_in o b n c p m.from m.to) (map (λ u. move u v None) us) ++ xs) (append-nil (leads_in o b n c p u v)))
 
 -- among all positions, they are the indices of those before the moves
 pub leading_by_index : (b : Shape) (n : ℕ) (c : Counts) (p : Sides) (v : ℕ) (us : List ℕ)
-    → map (λ u. index_of n c (taken_back p u v)) us ≡ entries_leading Full b n c p (map (λ u. move u v None) us)
-unfolding entries_leading
+    → map (λ u. index_of n c (taken_back p u v)) us ≡ leading_in Full b n c p (map (λ u. move u v None) us)
+unfolding leading_in
 leading_by_index b n c p v [] = refl
 leading_by_index b n c p v (u ∷ us) = ap (λ (xs : List ℕ). index_of n c (taken_back p u v) ∷ xs) (leading_by_index b n c p v us)
 
@@ -100,10 +112,10 @@ pub end_of : (s : ℕ) (ys : List ℕ) (v : ℕ) (zs : List ℕ) → ys ++ v ∷
 end_of s ys v zs e = has-member s v (subst (λ xs. Contains xs v) e (Contains-append_right ys (v ∷ zs) v (Contains-head v zs)))
 
 -- its end: no stone is left
-pub all_leading : (l : Layout) (b : Shape) (n : ℕ) → b.points ≡ n → n ≤ 24 → HasSymmetries b → (c : Counts) → IsPair n c → (p : Sides) → IsPosition b p → is_of c p ≡ true
-    → has_own_entry b l p ≡ true
+pub all_leading : (o : Order) (b : Shape) (n : ℕ) → b.points ≡ n → n ≤ 24 → HasSymmetries b → (c : Counts) → IsPair n c → (p : Sides) → IsPosition b p → is_of c p ≡ true
+    → own_in b o p ≡ true
     → (ys : List ℕ) (rest : ℕ) → ys ++ members rest ≡ members p.other → members rest ≡ []
-    → AreLeading l b n c p (entries_leading l b n c p (moves_before b p n ys))
-all_leading l b n e small y c pair p h of own ys rest points none =
+    → AreLeading o b n c p (leading_in o b n c p (moves_before b p n ys))
+all_leading o b n e small y c pair p h of own ys rest points none =
     let each : ys ≡ members p.other = sym (append-nil ys) ∙ (ap (λ zs. ys ++ zs) (sym none) ∙ points) in
-    subst (λ zs. AreLeading l b n c p (entries_leading l b n c p (moves_before b p n zs))) (sym each) (are_leading l b n e small y c pair p h of own)
+    subst (λ zs. AreLeading o b n c p (leading_in o b n c p (moves_before b p n zs))) (sym each) (are_leading o b n e small y c pair p h of own)

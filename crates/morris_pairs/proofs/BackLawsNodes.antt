@@ -10,7 +10,7 @@ use Rattle.morris_moves.proofs.ListLaws.{Ascends, Contains-head, Contains-tail, 
 use Rattle.morris_moves.proofs.SetLaws.{point_lt}
 use Rattle.morris_index.specs.Pairs.{Counts, is_of, index_of}
 use Rattle.morris_index.proofs.IndexLaws.{IsPlaced, index-same}
-use Rattle.morris_pairs.specs.declared.layout.Layout.TheVariants.{Full}
+use Rattle.morris_pairs.specs.Orders.{Full}
 use Rattle.morris_pairs.specs.PairNets.{all_sides, are_apart, is_at, at_index}
 use Rattle.morris_pairs.specs.FilterLaws.{filter-contains, contained-filter, range_bounds}
 use Rattle.morris_pairs.proofs.BackLawsLists.{Contains-range, Ascends-range, Ascends-filter}
@@ -56,7 +56,7 @@ all_sides_differ n =
     Ascends-flat_map (λ x y. x < y) Differ (λ own. map (sides own) (range_with_len 0 (2 ^ n))) (range_with_len 0 (2 ^ n)) (Ascends-range 0 (2 ^ n))
     (λ own. Ascends-map (λ x y. x < y) Differ (sides own) (range_with_len 0 (2 ^ n)) (Ascends-range 0 (2 ^ n))
     (λ x z l e. let same : x ≡ z = ap (λ (t : Sides). t.other) e in omega arith))
-    (λ x z y w l c d e.
+    (λ x z y w o c d e.
     let r = Contains-map_cases (sides x) (range_with_len 0 (2 ^ n)) y c in
     let t = Contains-map_cases (sides z) (range_with_len 0 (2 ^ n)) w d in
     let same : x ≡ z = ap (λ (p : Sides). p.own) (r.2 ∙ (e ∙ sym t.2)) in

@@ -37,7 +37,7 @@ pub capture_is_legal : (b : Shape) (s : Sides) (u v t : ℕ) → has s.own u ≡
 unfolding is_legal
 capture_is_legal b s u v t own goes shuts takes = and_from _ _ own (and_from _ _ goes (and_from _ _ shuts takes))
 
-legal_capture : (b : Shape) (s : Sides) (m : Move) → is_legal b s m ≡ true → is_capture m ≡ true → IsClosing b s m.from m.to
+pub legal_capture : (b : Shape) (s : Sides) (m : Move) → is_legal b s m ≡ true → is_capture m ≡ true → IsClosing b s m.from m.to
 unfolding is_legal
 legal_capture b s m legal takes =
     let parts = and_parts (has s.own m.from) (has (reach b s m.from) m.to && takes_rightly b s m.from m.to m.taken) legal in
@@ -48,7 +48,7 @@ legal_capture b s m legal takes =
     at None e h = absurd (both_ways false refl e)
     at (Some t) e h = (and_parts (closes b s.own m.from m.to) (has (takable b s.other) t) h).0
 
-legal_takes : (b : Shape) (s : Sides) (m : Move) (t : ℕ) → m.taken ≡ Some t → is_legal b s m ≡ true → has (takable b s.other) t ≡ true
+pub legal_takes : (b : Shape) (s : Sides) (m : Move) (t : ℕ) → m.taken ≡ Some t → is_legal b s m ≡ true → has (takable b s.other) t ≡ true
 unfolding is_legal
 legal_takes b s m t e legal =
     let parts = and_parts (has s.own m.from) (has (reach b s m.from) m.to && takes_rightly b s m.from m.to m.taken) legal in
@@ -85,20 +85,53 @@ takable-lt b s few h = lt_from_points (takable b s.other) 32 (λ p here.
 abbrev pub kept_captures : Row → ℕ → List ℕ → List Move
 kept_captures row ends ts = flat_map (λ t. captures_to row.closers t (members ends)) ts
 
+-- ---- the ends of a move that closes a mill
+
+module _ (b : Shape) (n : ℕ) (points : b.points ≡ n) (low : n ≤ 24) (s : Sides) (lawful : IsPosition b s) where
+  pub closing_there : (u v : ℕ) → v < n → has s.other v ≡ false → (has s.own u && is_closing_end b s.own u v) ≡ true → IsClosing b s u v
+  unfolding is_closing_end
+  closing_there u v inside free here =
+      let parts = and_parts (has s.own u) (is_closing_end b s.own u v) here in
+      let more = and_parts (not (has s.own v)) (goes b (count_of s.own) u v && closes b s.own u v) parts.1 in
+      let both = and_parts (goes b (count_of s.own) u v) (closes b s.own u v) more.1 in
+      let vacant : is_vacant s v ≡ true = rw (not-true (has s.own v) more.0, free) refl in
+      record {
+        own = parts.0;
+        goes = has_reach b s n points (omega arith) u v inside ∙ and_from _ _ vacant both.0;
+        shuts = both.1;
+      }
+
+  module _ (u v : ℕ) (h : IsClosing b s u v) where
+    pub closing_in : v < n
+    closing_in = let there = reached b s u v h.goes in omega (arith, there.within, points)
+
+    pub closing_free : has s.other v ≡ false
+    closing_free = let there = reached b s u v h.goes in there.not_other
+
+    goes_there : goes b (count_of s.own) u v ≡ true
+    goes_there = (and_parts (is_vacant s v) (goes b (count_of s.own) u v) (sym (has_reach b s n points (omega arith) u v closing_in) ∙ h.goes)).1
+
+    pub closing_end : (has s.own u && is_closing_end b s.own u v) ≡ true
+    unfolding is_closing_end
+    closing_end = let there = reached b s u v h.goes in and_from _ _ h.own (and_from _ _ (ap not there.not_own) (and_from _ _ goes_there h.shuts))
+
+    pub closing_may : may_close b s.own v ≡ true
+    closing_may =
+        let there = reached b s u v h.goes in
+        sym (may_close-all b s.own v there.not_own)
+        ∙ contained_any (λ w. goes b (count_of s.own) w v && closes b s.own w v) (members s.own) u
+        (member-has s.own u (omega (arith, point_lt s.own b.points u lawful.stones.own_within h.own, points)) h.own) (and_from _ _ goes_there h.shuts)
+
 -- ---- the points at which a mill may be closed
 
 module _ (b : Shape) (n : ℕ) (points : b.points ≡ n) (low : n ≤ 24) (s : Sides) (lawful : IsPosition b s) (row : Row) (own : row.own ≡ s.own) (is : IsRow b n row) where
   -- where a stone closes a mill, one may
   opens : (u v : ℕ) → IsClosing b s u v → (has row.closing v ≡ true) × (has s.other v ≡ false)
   opens u v h =
-      let reachable = reached b s u v h.goes in
-      let inside : v < n = omega (arith, reachable.within, points) in
-      let parts = and_parts (is_vacant s v) (goes b (count_of s.own) u v) (sym (has_reach b s n points (omega arith) u v inside) ∙ h.goes) in
-      let there : may_close b s.own v ≡ true =
-      sym (may_close-all b s.own v reachable.not_own)
-      ∙ contained_any (λ w. goes b (count_of s.own) w v && closes b s.own w v) (members s.own) u
-      (member-has s.own u (omega (arith, point_lt s.own b.points u lawful.stones.own_within h.own, points)) h.own) (and_from _ _ parts.1 h.shuts) in
-      (is.closing v ∙ (ap (λ x. x && may_close b row.own v) (lt-ltb v n inside) ∙ (ap (λ o. may_close b o v) own ∙ there)), reachable.not_other)
+      let inside : v < n = closing_in b n points low s lawful u v h in (
+        is.closing v ∙ (ap (λ x. x && may_close b row.own v) (lt-ltb v n inside) ∙ (ap (λ o. may_close b o v) own ∙ closing_may b n points low s lawful u v h)),
+        closing_free b n points low s lawful u v h,
+      )
 
   record Closer (v : ℕ) : Type 0 where
     from : ℕ
@@ -161,26 +194,12 @@ module _ (b : Shape) (n : ℕ) (points : b.points ≡ n) (low : n ≤ 24) (s : S
   closer_is u v h = is.closers v h u ∙ ap (λ o. has o u && is_closing_end b o u v) own
 
   pub closers_close : (u v : ℕ) → has row.closing v ≡ true → has s.other v ≡ false → has (slice_index row.closers v) u ≡ true → IsClosing b s u v
-  unfolding is_closing_end
   closers_close u v closing free here =
       let inside : v < n = ltb-true v n (and_parts (ltb v n) (may_close b row.own v) (sym (is.closing v) ∙ closing)).0 in
-      let parts = and_parts (has s.own u) (is_closing_end b s.own u v) (sym (closer_is u v inside) ∙ here) in
-      let more = and_parts (not (has s.own v)) (goes b (count_of s.own) u v && closes b s.own u v) parts.1 in
-      let both = and_parts (goes b (count_of s.own) u v) (closes b s.own u v) more.1 in
-      let vacant : is_vacant s v ≡ true = rw (not-true (has s.own v) more.0, free) refl in
-      record {
-        own = parts.0;
-        goes = has_reach b s n points (omega arith) u v inside ∙ and_from _ _ vacant both.0;
-        shuts = both.1;
-      }
+      closing_there b n points low s lawful u v inside free (sym (closer_is u v inside) ∙ here)
 
   closing_kept : (u v : ℕ) → IsClosing b s u v → has (slice_index row.closers v) u ≡ true
-  unfolding is_closing_end
-  closing_kept u v h =
-      let reachable = reached b s u v h.goes in
-      let inside : v < n = omega (arith, reachable.within, points) in
-      let parts = and_parts (is_vacant s v) (goes b (count_of s.own) u v) (sym (has_reach b s n points (omega arith) u v inside) ∙ h.goes) in
-      closer_is u v inside ∙ and_from _ _ h.own (and_from _ _ (ap not reachable.not_own) (and_from _ _ parts.1 h.shuts))
+  closing_kept u v h = closer_is u v (closing_in b n points low s lawful u v h) ∙ closing_end b n points low s lawful u v h
 
   module _ (ends : ℕ) (each : (v : ℕ) → has ends v ≡ (has row.closing v && not (has s.other v))) where
     pub end_is : (v : ℕ) → has ends v ≡ true → (has row.closing v ≡ true) × (has s.other v ≡ false)

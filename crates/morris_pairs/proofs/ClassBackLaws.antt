@@ -1,6 +1,6 @@
--- The graph of a pair by classes, looked at from an entry: the moves to the position of the entry,
--- each carried by the symmetries that carry it, are the moves of the entries that lead there.
-use Rattle.std.proofs.Common.{◌≡◌, ℕ, ◌*◌, ◌<◌, ◌≤◌, ◌^◌, Bool, true, ◌&&◌, eqb, leb, cond, List, [], ◌∷◌, filter, length, refl, sym, ap, subst, ◌∙◌, inl, inr, arith, None}
+-- A graph in which positions are led, looked at from a node: the moves to the position of the node,
+-- each carried by the symmetries that carry it, are the moves of the nodes that lead there.
+use Rattle.std.proofs.Common.{◌≡◌, ℕ, ◌*◌, ◌<◌, ◌≤◌, ◌^◌, Bool, true, ◌&&◌, eqb, leb, cond, List, [], ◌∷◌, map, filter, length, refl, sym, ap, subst, ◌∙◌, inl, inr, arith, None}
 use Rattle.std.specs.List.{All, Contains, range_with_len, count_by, sum_by, flat_map, list_all}
 use Rattle.std.specs.Option.{option_map}
 use Rattle.std.proofs.lemmas.Bool.{cases_Bool, cases_lt, both_ways, cond-true, cond-false, eq-eqb, eqb-true, and_parts, and_from, le-leb, leb-true}
@@ -21,21 +21,17 @@ use Rattle.morris_moves.proofs.ResultLaws.{IsPosition-result, count_of-mover, co
 use Rattle.morris_moves.proofs.SymmetryLaws.{image_move, listed_goes, result_of-image, taken_within}
 use Rattle.morris_index.specs.Pairs.{Counts, IsPair, is_of}
 use Rattle.morris_index.specs.Classes.{is_leading, symmetry_of, representative_of}
-use Rattle.morris_index.specs.ClassPairs.{led, class_size_of, class_index_of}
 use Rattle.morris_index.specs.Moves.{taken_back}
-use Rattle.morris_index.specs.Carried.{carries, entries_before}
+use Rattle.morris_index.specs.Carried.{carries}
 use Rattle.morris_index.proofs.IndexLaws.{placed}
 use Rattle.morris_index.proofs.ResultLaws.{is_of-quiet}
 use Rattle.morris_index.proofs.ClassLaws.{symmetry_within, symmetry_first, image_twice, representative_twice}
-use Rattle.morris_index.proofs.ClassPairLaws.{led_alone, index-lt}
 use Rattle.morris_wave.specs.Nets.{times}
-use Rattle.morris_pairs.specs.declared.layout.Layout.TheVariants.{Classes}
-use Rattle.morris_pairs.specs.Entries.{has_own_entry}
-use Rattle.morris_pairs.specs.EntryLaws.{laid-classes, led_none, index_there, IsLaid}
-use Rattle.morris_pairs.specs.Backward.{entries_leading}
+use Rattle.morris_pairs.specs.Orders.{Order, count_in, index_in, own_in}
+use Rattle.morris_pairs.specs.EntryLaws.{IsLaid, IsLedBy, led_by as led_there, led_none, laid-led}
 use Rattle.morris_pairs.specs.FilterLaws.{filter-contains, contained-filter, range_bounds, length-filter_le, flat_map-one, All-from_contained}
 use Rattle.morris_pairs.specs.NetLaws.{at_index-is, at_index-position}
-use Rattle.morris_pairs.specs.PairNets.{at_index, is_quiet, quiet_results, pair_net}
+use Rattle.morris_pairs.specs.PairNets.{at_index, is_quiet, quiet_results, net_in}
 use Rattle.morris_pairs.proofs.BackLaws.{HasLed, all_before, led as led_by, led-listed, led-placed, led-of, led-moves, led-result, LeadsTo, leads-led, leads-before, leads-other, is_position, quiet_taken, taken_quiet, moves_differ, moves_before_differ, few_moves}
 use Rattle.morris_pairs.proofs.BackLawsLists.{Contains-range, Ascends-range, Ascends-filter, Ascends-weaker, counted, found, at_most_one, count_by-map, one_each}
 use Rattle.morris_pairs.proofs.BackLawsMoves.{moved_same, before_mover, alike}
@@ -46,9 +42,38 @@ use Rattle.morris_moves.proofs.BackLaws.{vacant_parts}
 abbrev all_symmetries : Shape → List ℕ
 all_symmetries b = range_with_len 0 b.symmetries
 
-module _ (b : Shape) (low : b.points ≤ 24) (y : HasSymmetries b) (c : Counts) (pair : IsPair b.points c) where
+-- ---- a set and its representative
+
+module _ (b : Shape) (low : b.points ≤ 24) (y : HasSymmetries b) (s : ℕ) (in_range : s < b.symmetries) (set : ℕ) (small : set < 2 ^ b.points) where
+  -- a symmetry that leads a set takes it to its representative
+  pub leads_there : is_leading b set s ≡ true → image_of (b.image s) set ≡ representative_of b set
+  unfolding is_leading representative_of
+  leads_there leading =
+      let first = symmetry_first b set y.some in
+      let above : leb (image_of (b.image s) set) (image_of (b.image (symmetry_of b set)) set) ≡ true =
+      below (λ t. leb (image_of (b.image s) set) (image_of (b.image t) set)) b.symmetries leading (symmetry_of b set) first.within in
+      omega (arith, first.least s in_range, leb-true (image_of (b.image s) set) (image_of (b.image (symmetry_of b set)) set) above)
+
+  -- a set that it takes to a representative is led by it
+  pub leading_from : representative_of b (image_of (b.image s) set) ≡ image_of (b.image s) set → image_of (b.image s) set < 2 ^ b.points → is_leading b set s ≡ true
+  unfolding is_leading representative_of
+  leading_from own within =
+      all_below (λ t. leb (image_of (b.image s) set) (image_of (b.image t) set)) (λ t t_low.
+      let u = image_twice b low y (image_of (b.image s) set) within t (inverse_of s) t_low (y.inverse_within s in_range) in
+      let first = symmetry_first b (image_of (b.image s) set) y.some in
+      let undone : image_of (b.image (inverse_of s)) (image_of (b.image s) set) ≡ set =
+      image_of-undone b.points low (b.image s) (b.image (inverse_of s)) (one_to_one b _ _ (y.symmetry s in_range)) set small in
+      let least : image_of (b.image (symmetry_of b (image_of (b.image s) set))) (image_of (b.image s) set) ≤ image_of (b.image u.0) (image_of (b.image s) set) = first.least u.0 u.1 in
+      let seen : image_of (b.image t) set ≡ image_of (b.image u.0) (image_of (b.image s) set) = ap (image_of (b.image t)) (sym undone) ∙ u.2 in
+      le-leb _ _ (omega (arith, least, own, seen)))
+    where
+      all_below : (test : ℕ → Bool) → ((t : ℕ) → t < b.symmetries → test t ≡ true) → list_all test (range_with_len 0 b.symmetries) ≡ true
+      all_below test each = contained_all test (range_with_len 0 b.symmetries) (λ t at. each t (omega (arith, (range_bounds 0 b.symmetries t at).1)))
+
+module _ (b : Shape) (low : b.points ≤ 24) (y : HasSymmetries b) (c : Counts) (pair : IsPair b.points c) (o : Order) (turn : Sides → Sides)
+    (laws : IsLedBy b o c turn) where
   abbrev entry : Sides → ℕ
-  entry s = class_index_of b b.points c s
+  entry s = index_in b b.points o c s
 
   one : (s : ℕ) → s < b.symmetries → IsOneToOne b.points (b.image s) (b.image (inverse_of s))
   one s in_range = one_to_one b _ _ (y.symmetry s in_range)
@@ -89,48 +114,35 @@ module _ (b : Shape) (low : b.points ≤ 24) (y : HasSymmetries b) (c : Counts) 
       count_of-image b.points low back f (back_one s in_range) q.other h.stones.other_within,
     ) of
 
-    -- a symmetry that leads a set takes it to its representative
-    leads_there : (set : ℕ) → set < 2 ^ b.points → is_leading b set s ≡ true → image_of f set ≡ representative_of b set
-    unfolding is_leading representative_of
-    leads_there set small leading =
-        let first = symmetry_first b set y.some in
-        let above : leb (image_of f set) (image_of (b.image (symmetry_of b set)) set) ≡ true =
-        below (λ t. leb (image_of f set) (image_of (b.image t) set)) b.symmetries leading (symmetry_of b set) first.within in
-        omega (arith, first.least s in_range, leb-true (image_of f set) (image_of (b.image (symmetry_of b set)) set) above)
-
-    carried_own : (q : Sides) → IsPosition b q → is_leading b q.own s ≡ true → has_own_entry b Classes (image_sides f q) ≡ true
+    carried_own : (q : Sides) → IsPosition b q → is_leading b (turn q).own s ≡ true → own_in b o (image_sides f q) ≡ true
     carried_own q h leading =
-        let same = leads_there q.own h.stones.own_within leading in
-        eq-eqb _ _ (ap (representative_of b) same ∙ representative_twice b low y q.own h.stones.own_within ∙ sym same)
-
-    -- a set that it takes to a representative is led by it
-    leading_from : (set : ℕ) → set < 2 ^ b.points → representative_of b (image_of f set) ≡ image_of f set → image_of f set < 2 ^ b.points → is_leading b set s ≡ true
-    unfolding is_leading representative_of
-    leading_from set small own within =
-        all_below (λ t. leb (image_of f set) (image_of (b.image t) set)) (λ t t_low.
-        let u = image_twice b low y (image_of f set) within t (inverse_of s) t_low (y.inverse_within s in_range) in
-        let first = symmetry_first b (image_of f set) y.some in
-        let undone : image_of back (image_of f set) ≡ set = image_of-undone b.points low f back (one s in_range) set small in
-        let least : image_of (b.image (symmetry_of b (image_of f set))) (image_of f set) ≤ image_of (b.image u.0) (image_of f set) = first.least u.0 u.1 in
-        let seen : image_of (b.image t) set ≡ image_of (b.image u.0) (image_of f set) = ap (image_of (b.image t)) (sym undone) ∙ u.2 in
-        le-leb _ _ (omega (arith, least, own, seen)))
-      where
-        all_below : (test : ℕ → Bool) → ((t : ℕ) → t < b.symmetries → test t ≡ true) → list_all test (range_with_len 0 b.symmetries) ≡ true
-        all_below test each = contained_all test (range_with_len 0 b.symmetries) (λ t at. each t (omega (arith, (range_bounds 0 b.symmetries t at).1)))
+        let is : (turn (image_sides f q)).own ≡ representative_of b (turn q).own =
+        laws.image s in_range q h ∙ leads_there b low y s in_range (turn q).own (laws.within q h) leading in
+        laws.own (image_sides f q)
+        ∙ eq-eqb _ _ (ap (representative_of b) is ∙ representative_twice b low y (turn q).own (laws.within q h) ∙ sym is)
 
   -- ---- the moves to a position with an entry of its own
 
-  module _ (p : Sides) (h : IsPosition b p) (of : is_of c p ≡ true) (own : has_own_entry b Classes p ≡ true) where
+  module _ (p : Sides) (h : IsPosition b p) (of : is_of c p ≡ true) (own : own_in b o p ≡ true) where
+    -- the nodes to which symmetries carry the move from u to v
+    abbrev carried_before : ℕ → ℕ → List ℕ
+    carried_before u v =
+        map (λ s. entry (image_sides (b.image s) (taken_back p u v))) (filter (carries b (turn p) (turn (taken_back p u v)).own) (all_symmetries b))
+
+    -- those to which they carry some moves
+    abbrev leading : List Move → List ℕ
+    leading moves = flat_map (λ m. carried_before m.from m.to) moves
+
     -- whether symmetry s carries a move to p to one of the entry j
     abbrev from_entry : ℕ → Move → ℕ → Bool
-    from_entry j m s = carries b p (before p m).own s && eqb (entry (image_sides (b.image s) (before p m))) j
+    from_entry j m s = carries b (turn p) (turn (before p m)).own s && eqb (entry (image_sides (b.image s) (before p m))) j
 
     -- whether a move of x leads to the entry of p, by the way back of symmetry s
     abbrev to_entry : Sides → Move → ℕ → Bool
-    to_entry x m s = eqb (entry (result_of x m)) (entry p) && eqb (symmetry_of b (result_of x m).own) (inverse_of s)
+    to_entry x m s = eqb (entry (result_of x m)) (entry p) && eqb (symmetry_of b (turn (result_of x m)).own) (inverse_of s)
 
-    led_here : led b p ≡ p
-    led_here = led_none b low y c p (placed b b.points p refl h) own
+    led_here : led_there b turn p ≡ p
+    led_here = led_none b low y o c turn laws p h own
 
     module _ (m : Move) (k : Contains (all_before b p) m) where
       has_led : HasLed b p m
@@ -143,29 +155,27 @@ module _ (b : Shape) (low : b.points ≤ 24) (y : HasSymmetries b) (c : Counts) 
       before_position = is_position b low c pair (before p m) (led-placed b low c pair p h of m has_led) before_of
 
     -- a position that falls on the entry of p, by the way back of s, is the image of p
-    landed : (t : Sides) → IsPosition b t → is_of c t ≡ true → entry t ≡ entry p → (s : ℕ) → s < b.symmetries → symmetry_of b t.own ≡ inverse_of s
+    landed : (t : Sides) → IsPosition b t → is_of c t ≡ true → entry t ≡ entry p → (s : ℕ) → s < b.symmetries → symmetry_of b (turn t).own ≡ inverse_of s
         → t ≡ image_sides (b.image s) p
-    unfolding led
     landed t position t_of same s in_range by =
-        let alone : image_sides (b.image (symmetry_of b t.own)) t ≡ image_sides (b.image (symmetry_of b p.own)) p =
-        led_alone b b.points low refl y c t p position h t_of of same in
+        let alone : image_sides (b.image (symmetry_of b (turn t).own)) t ≡ image_sides (b.image (symmetry_of b (turn p).own)) p =
+        laws.alone t p position h t_of of same in
         let there : image_sides (b.image (inverse_of s)) t ≡ p = ap (λ u. image_sides (b.image u) t) (sym by) ∙ alone ∙ led_here in
         sym (back_and_there s in_range t position) ∙ ap (image_sides (b.image s)) there
 
     -- and the image of p falls on it
-    lands : (s : ℕ) → s < b.symmetries → symmetry_of b (image_sides (b.image s) p).own ≡ inverse_of s → entry (image_sides (b.image s) p) ≡ entry p
-    unfolding led
+    lands : (s : ℕ) → s < b.symmetries → symmetry_of b (turn (image_sides (b.image s) p)).own ≡ inverse_of s → entry (image_sides (b.image s) p) ≡ entry p
     lands s in_range by =
         let t : Sides = image_sides (b.image s) p in
-        let there : image_sides (b.image (symmetry_of b t.own)) t ≡ p = ap (λ u. image_sides (b.image u) t) by ∙ there_and_back s in_range p h in
-        sym (index_there b low y c t (carried_position s in_range p h)) ∙ ap entry there
+        let there : image_sides (b.image (symmetry_of b (turn t).own)) t ≡ p = ap (λ u. image_sides (b.image u) t) by ∙ there_and_back s in_range p h in
+        sym (laws.there t (carried_position s in_range p h) (carried_of s in_range p h of)) ∙ ap entry there
 
-    module _ (j : ℕ) (x : Sides) (x_position : IsPosition b x) (x_of : is_of c x ≡ true) (x_own : has_own_entry b Classes x ≡ true) (x_at : entry x ≡ j) where
+    module _ (j : ℕ) (x : Sides) (x_position : IsPosition b x) (x_of : is_of c x ≡ true) (x_own : own_in b o x ≡ true) (x_at : entry x ≡ j) where
       abbrev quiets : List Move
       quiets = filter is_quiet (moves_of b x)
 
-      laid_here : IsLaid b Classes c
-      laid_here = laid-classes b low y c pair
+      laid_here : IsLaid b o c
+      laid_here = laid-led b low y o c turn laws pair
 
       module _ (m : Move) (k : Contains quiets m) where
         k_moves : Contains (moves_of b x) m × (is_quiet m ≡ true)
@@ -187,8 +197,8 @@ module _ (b : Shape) (low : b.points ≤ 24) (y : HasSymmetries b) (c : Counts) 
         -- a move that is carried to one of x comes from the position that is carried to x
         carried_is : (m : Move) → Contains (all_before b p) m → from_entry j m s ≡ true → image_sides (b.image s) (before p m) ≡ x
         carried_is m k e =
-            let parts = and_parts (carries b p (before p m).own s) _ e in
-            let leads = and_parts (is_leading b (before p m).own s) _ parts.0 in
+            let parts = and_parts (carries b (turn p) (turn (before p m)).own s) _ e in
+            let leads = and_parts (is_leading b (turn (before p m)).own s) _ parts.0 in
             let q = before p m in
             let position = before_position m k in
             let there = carried_position s in_range q position in
@@ -251,9 +261,10 @@ module _ (b : Shape) (low : b.points ≤ 24) (y : HasSymmetries b) (c : Counts) 
             let moves = led-moves b low c pair p h of m l in
             let legal = listed_move b q low position.stones m moves in
             let there = carried_is m r.1 r.2 in
-            let parts = and_parts (carries b p q.own s) _ r.2 in
-            let leads = and_parts (is_leading b q.own s) _ parts.0 in
-            let by : symmetry_of b (image_sides (b.image s) p).own ≡ inverse_of s = eqb-true _ _ leads.1 in
+            let parts = and_parts (carries b (turn p) (turn q).own s) _ r.2 in
+            let leads = and_parts (is_leading b (turn q).own s) _ parts.0 in
+            let by : symmetry_of b (turn (image_sides (b.image s) p)).own ≡ inverse_of s =
+            ap (symmetry_of b) (laws.image s in_range p h) ∙ eqb-true _ _ leads.1 in
             let sym_s = y.symmetry s in_range in
             let k = image_move (b.image s) m in
             let listed : Contains (moves_of b x) k =
@@ -265,7 +276,7 @@ module _ (b : Shape) (low : b.points ≤ 24) (y : HasSymmetries b) (c : Counts) 
             ∙ ap (image_sides (b.image s)) (led-result b low c pair p h of m l) in
             let quiet : k.taken ≡ None = ap (option_map (b.image s)) l.quiet in
             counted (λ z. to_entry x z s) quiets k (contained-filter is_quiet (moves_of b x) k listed (taken_quiet k quiet))
-            (and_from _ _ (eq-eqb _ _ (ap entry result ∙ lands s in_range by)) (eq-eqb _ _ (ap (λ (z : Sides). symmetry_of b z.own) result ∙ by)))
+            (and_from _ _ (eq-eqb _ _ (ap entry result ∙ lands s in_range by)) (eq-eqb _ _ (ap (λ z. symmetry_of b (turn z).own) result ∙ by)))
 
         -- and the reverse
         after_before : 0 < count_by (λ m. to_entry x m s) quiets → 0 < count_by (λ m. from_entry j m s) (all_before b p)
@@ -294,17 +305,19 @@ module _ (b : Shape) (low : b.points ≤ 24) (y : HasSymmetries b) (c : Counts) 
             let has : HasLed b p m = leads-led b low c pair p h of q q_placed m listed leads in
             let to_low : m.to < b.points = leads.move.to_within in
             let is : before p m ≡ q = leads-before b low c pair p h of q m leads in
-            let x_rep : representative_of b x.own ≡ x.own = eqb-true _ _ x_own in
-            let own_there : image_of (b.image s) q.own ≡ x.own = ap (λ (z : Sides). z.own) there in
-            let leading : is_leading b q.own s ≡ true =
-            leading_from s in_range q.own q_position.stones.own_within (ap (representative_of b) own_there ∙ x_rep ∙ sym own_there)
-            (subst (λ z. z < 2 ^ b.points) (sym own_there) x_position.stones.own_within) in
+            let x_rep : representative_of b (turn x).own ≡ (turn x).own = eqb-true _ _ (sym (laws.own x) ∙ x_own) in
+            let own_there : image_of (b.image s) (turn q).own ≡ (turn x).own =
+            sym (laws.image s in_range q q_position) ∙ ap (λ z. (turn z).own) there in
+            let leading : is_leading b (turn q).own s ≡ true =
+            leading_from b low y s in_range (turn q).own (laws.within q q_position) (ap (representative_of b) own_there ∙ x_rep ∙ sym own_there)
+            (subst (λ z. z < 2 ^ b.points) (sym own_there) (laws.within x x_position)) in
             let parts = and_parts (eqb (entry (result_of x k)) (entry p)) _ r.2 in
-            let by : symmetry_of b (image_of (b.image s) p.own) ≡ inverse_of s =
-            ap (λ (z : Sides). symmetry_of b z.own) (sym (landed_is k r.1 r.2)) ∙ eqb-true _ _ parts.1 in
+            let by : symmetry_of b (image_of (b.image s) (turn p).own) ≡ inverse_of s =
+            ap (symmetry_of b) (sym (laws.image s in_range p h))
+            ∙ ap (λ z. symmetry_of b (turn z).own) (sym (landed_is k r.1 r.2)) ∙ eqb-true _ _ parts.1 in
             counted (λ z. from_entry j z s) (all_before b p) m (led-listed b p m (omega arith) has)
             (and_from _ _
-            (and_from _ _ (subst (λ (z : Sides). is_leading b z.own s ≡ true) (sym is) leading) (eq-eqb _ _ by))
+            (and_from _ _ (subst (λ z. is_leading b (turn z).own s ≡ true) (sym is) leading) (eq-eqb _ _ by))
             (eq-eqb _ _ (ap (λ z. entry (image_sides (b.image s) z)) is ∙ ap entry there ∙ x_at)))
 
         counts_same : count_by (λ m. from_entry j m s) (all_before b p) ≡ count_by (λ m. to_entry x m s) quiets
@@ -315,12 +328,12 @@ module _ (b : Shape) (low : b.points ≤ 24) (y : HasSymmetries b) (c : Counts) 
       by_one m k = elim (cases_Bool (eqb (entry (result_of x m)) (entry p))) [
         | inl falls ↦
             let t : Sides = result_of x m in
-            let within : symmetry_of b t.own < b.symmetries = symmetry_within b low y t.own (k_position m k).stones.own_within in
+            let within : symmetry_of b (turn t).own < b.symmetries = symmetry_within b low y (turn t).own (laws.within t (k_position m k)) in
             let most : count_by (to_entry x m) (all_symmetries b) ≤ 1 = at_most_one (to_entry x m) (all_symmetries b) symmetries_differ (same m) in
             let some : 0 < count_by (to_entry x m) (all_symmetries b) =
-            counted (to_entry x m) (all_symmetries b) (inverse_of (symmetry_of b t.own))
-            (Contains-range 0 b.symmetries (inverse_of (symmetry_of b t.own)) (omega arith) (omega (arith, y.inverse_within (symmetry_of b t.own) within)))
-            (and_from _ _ falls (eq-eqb _ _ (sym (y.inverse_twice (symmetry_of b t.own) within)))) in
+            counted (to_entry x m) (all_symmetries b) (inverse_of (symmetry_of b (turn t).own))
+            (Contains-range 0 b.symmetries (inverse_of (symmetry_of b (turn t).own)) (omega arith) (omega (arith, y.inverse_within (symmetry_of b (turn t).own) within)))
+            (and_from _ _ falls (eq-eqb _ _ (sym (y.inverse_twice (symmetry_of b (turn t).own) within)))) in
             let counts : cond {A = ℕ} (eqb (entry (result_of x m)) (entry p)) 1 0 ≡ 1 = cond-true {A = ℕ} _ 1 0 falls in
             omega (arith, most, some, counts)
         | inr fails ↦
@@ -343,24 +356,24 @@ module _ (b : Shape) (low : b.points ≤ 24) (y : HasSymmetries b) (c : Counts) 
               sym (y.inverse_twice s (omega (arith, (range_bounds 0 b.symmetries s at).1))) ∙ ap inverse_of (sym first ∙ second)
               ∙ y.inverse_twice t (omega (arith, (range_bounds 0 b.symmetries t here).1))
 
-      count_after : times (entry p) (quiet_results b Classes c x) ≡ sum_by (λ m. count_by (to_entry x m) (all_symmetries b)) quiets
+      count_after : times (entry p) (quiet_results b o c x) ≡ sum_by (λ m. count_by (to_entry x m) (all_symmetries b)) quiets
       unfolding quiet_results
       count_after =
           count_by-map (λ z. eqb z (entry p)) (λ m. entry (result_of x m)) quiets
           ∙ count_sum (λ m. eqb (entry (result_of x m)) (entry p)) (λ m. count_by (to_entry x m) (all_symmetries b)) quiets by_one
 
-      count_before : times j (entries_leading Classes b b.points c p (all_before b p)) ≡ sum_by (λ m. count_by (from_entry j m) (all_symmetries b)) (all_before b p)
-      unfolding entries_leading entries_before before moved
+      count_before : times j (leading (all_before b p)) ≡ sum_by (λ m. count_by (from_entry j m) (all_symmetries b)) (all_before b p)
+      unfolding before moved
       count_before =
-          count_by-flat_map (λ z. eqb z j) (λ m. entries_before b b.points c p m.from m.to) (all_before b p)
+          count_by-flat_map (λ z. eqb z j) (λ m. carried_before m.from m.to) (all_before b p)
           ∙ sum_same _ _ (all_before b p) (λ m at. each m)
         where
-          each : (m : Move) → count_by (λ z. eqb z j) (entries_before b b.points c p m.from m.to) ≡ count_by (from_entry j m) (all_symmetries b)
+          each : (m : Move) → count_by (λ z. eqb z j) (carried_before m.from m.to) ≡ count_by (from_entry j m) (all_symmetries b)
           each m =
-              count_by-map (λ z. eqb z j) (λ s. entry (image_sides (b.image s) (before p m))) (filter (carries b p (before p m).own) (all_symmetries b))
-              ∙ count_by-filter (carries b p (before p m).own) (λ s. eqb (entry (image_sides (b.image s) (before p m))) j) (all_symmetries b)
+              count_by-map (λ z. eqb z j) (λ s. entry (image_sides (b.image s) (before p m))) (filter (carries b (turn p) (turn (before p m)).own) (all_symmetries b))
+              ∙ count_by-filter (carries b (turn p) (turn (before p m)).own) (λ s. eqb (entry (image_sides (b.image s) (before p m))) j) (all_symmetries b)
 
-      times_leading : times j (entries_leading Classes b b.points c p (all_before b p)) ≡ times (entry p) (quiet_results b Classes c x)
+      times_leading : times j (leading (all_before b p)) ≡ times (entry p) (quiet_results b o c x)
       times_leading =
           count_before
           ∙ exchange (from_entry j) (all_before b p) (all_symmetries b)
@@ -369,16 +382,16 @@ module _ (b : Shape) (low : b.points ≤ 24) (y : HasSymmetries b) (c : Counts) 
           ∙ sym count_after
 
     -- each that is listed is the entry of a position that has it for its own
-    listed_is : (z : ℕ) → Contains (entries_leading Classes b b.points c p (all_before b p)) z
-        → (x : Sides) × IsPosition b x × (is_of c x ≡ true) × (has_own_entry b Classes x ≡ true) × (entry x ≡ z)
-    unfolding entries_leading entries_before before moved
+    listed_is : (z : ℕ) → Contains (leading (all_before b p)) z
+        → (x : Sides) × IsPosition b x × (is_of c x ≡ true) × (own_in b o x ≡ true) × (entry x ≡ z)
+    unfolding before moved
     listed_is z at =
-        let r = Contains-flat_map_cases (λ m. entries_before b b.points c p m.from m.to) (all_before b p) z at in
+        let r = Contains-flat_map_cases (λ m. carried_before m.from m.to) (all_before b p) z at in
         let m = r.0 in
-        let t = Contains-map_cases (λ s. entry (image_sides (b.image s) (before p m))) (filter (carries b p (before p m).own) (all_symmetries b)) z r.2 in
-        let passed = filter-contains (carries b p (before p m).own) (all_symmetries b) t.0 t.1 in
+        let t = Contains-map_cases (λ s. entry (image_sides (b.image s) (before p m))) (filter (carries b (turn p) (turn (before p m)).own) (all_symmetries b)) z r.2 in
+        let passed = filter-contains (carries b (turn p) (turn (before p m)).own) (all_symmetries b) t.0 t.1 in
         let in_range : t.0 < b.symmetries = omega (arith, (range_bounds 0 b.symmetries t.0 passed.0).1) in
-        let leads = and_parts (is_leading b (before p m).own t.0) _ passed.1 in
+        let leads = and_parts (is_leading b (turn (before p m)).own t.0) _ passed.1 in
         let position = before_position m r.1 in (
           image_sides (b.image t.0) (before p m),
           carried_position t.0 in_range (before p m) position,
@@ -388,50 +401,49 @@ module _ (b : Shape) (low : b.points ≤ 24) (y : HasSymmetries b) (c : Counts) 
         )
 
     -- each entry is listed as often as it leads to that of p
-    pub times_leads : (j : ℕ) → times j (entries_leading Classes b b.points c p (all_before b p)) ≡ times (entry p) ((pair_net b Classes c).quiet j)
-    unfolding pair_net
-    times_leads j = from (at_index b Classes c j) refl
+    pub times_leads : (j : ℕ) → times j (leading (all_before b p)) ≡ times (entry p) ((net_in b o c).quiet j)
+    unfolding net_in
+    times_leads j = from (at_index b o c j) refl
       where
-        laid_here : IsLaid b Classes c
-        laid_here = laid-classes b low y c pair
+        laid_here : IsLaid b o c
+        laid_here = laid-led b low y o c turn laws pair
 
-        from : (xs : List Sides) → at_index b Classes c j ≡ xs
-            → times j (entries_leading Classes b b.points c p (all_before b p)) ≡ times (entry p) (flat_map (quiet_results b Classes c) (at_index b Classes c j))
-        from [] none = elim (cases_lt 0 (times j (entries_leading Classes b b.points c p (all_before b p)))) [
+        from : (xs : List Sides) → at_index b o c j ≡ xs
+            → times j (leading (all_before b p)) ≡ times (entry p) (flat_map (quiet_results b o c) (at_index b o c j))
+        from [] none = elim (cases_lt 0 (times j (leading (all_before b p)))) [
           | inl some ↦
-              let r = found (λ z. eqb z j) (entries_leading Classes b b.points c p (all_before b p)) some in
+              let r = found (λ z. eqb z j) (leading (all_before b p)) some in
               let w = listed_is r.0 r.1 in
-              let there : at_index b Classes c j ≡ w.0 ∷ [] =
-              ap (at_index b Classes c) (sym (w.4 ∙ eqb-true _ _ r.2)) ∙ at_index-is b low Classes c laid_here w.0 w.1 w.2 w.3 in
+              let there : at_index b o c j ≡ w.0 ∷ [] =
+              ap (at_index b o c) (sym (w.4 ∙ eqb-true _ _ r.2)) ∙ at_index-is b low o c laid_here w.0 w.1 w.2 w.3 in
               let one : 0 ≡ 1 = ap length (sym none ∙ there) in
               absurd (omega (arith, one))
           | inr less ↦
-              let zero_here : times j (entries_leading Classes b b.points c p (all_before b p)) ≡ 0 = omega (arith, less) in
-              zero_here ∙ sym (ap (λ xs. times (entry p) (flat_map (quiet_results b Classes c) xs)) none)
+              let zero_here : times j (leading (all_before b p)) ≡ 0 = omega (arith, less) in
+              zero_here ∙ sym (ap (λ xs. times (entry p) (flat_map (quiet_results b o c) xs)) none)
         ]
         from (x ∷ xs) e =
-            let at : Contains (at_index b Classes c j) x = subst (λ zs. Contains zs x) (sym e) (Contains-head x xs) in
-            let w = at_index-position b low Classes c laid_here pair j x at in
-            let one : at_index b Classes c j ≡ x ∷ [] = ap (at_index b Classes c) (sym w.3) ∙ at_index-is b low Classes c laid_here x w.0 w.1 w.2 in
+            let at : Contains (at_index b o c j) x = subst (λ zs. Contains zs x) (sym e) (Contains-head x xs) in
+            let w = at_index-position b low o c laid_here pair j x at in
+            let one : at_index b o c j ≡ x ∷ [] = ap (at_index b o c) (sym w.3) ∙ at_index-is b low o c laid_here x w.0 w.1 w.2 in
             times_leading j x w.0 w.1 w.2 w.3
-            ∙ ap (times (entry p)) (sym (flat_map-one (quiet_results b Classes c) x) ∙ ap (flat_map (quiet_results b Classes c)) (sym one))
+            ∙ ap (times (entry p)) (sym (flat_map-one (quiet_results b o c) x) ∙ ap (flat_map (quiet_results b o c)) (sym one))
 
-    pub nodes_leading : All (λ j. j < class_size_of b b.points c) (entries_leading Classes b b.points c p (all_before b p))
-    nodes_leading = All-from_contained (λ j. j < class_size_of b b.points c) _ (λ z at.
+    pub nodes_leading : All (λ j. j < count_in b b.points o c) (leading (all_before b p))
+    nodes_leading = All-from_contained (λ j. j < count_in b b.points o c) _ (λ z at.
         let w = listed_is z at in
-        subst (λ k. k < class_size_of b b.points c) w.4 (index-lt b b.points low refl y c w.0 w.1 w.2))
+        subst (λ k. k < count_in b b.points o c) w.4 (laws.below w.0 w.1 w.2))
 
-    pub few_leading : length (entries_leading Classes b b.points c p (all_before b p)) ≤ 9 * 24 * b.symmetries
-    unfolding entries_leading entries_before
+    pub few_leading : length (leading (all_before b p)) ≤ 9 * 24 * b.symmetries
     few_leading =
-        let each : length (flat_map (λ m. entries_before b b.points c p m.from m.to) (all_before b p)) ≤ length (all_before b p) * b.symmetries =
-        length-flat_map_le (λ m. entries_before b b.points c p m.from m.to) b.symmetries (all_before b p) few_each in
+        let each : length (flat_map (λ m. carried_before m.from m.to) (all_before b p)) ≤ length (all_before b p) * b.symmetries =
+        length-flat_map_le (λ m. carried_before m.from m.to) b.symmetries (all_before b p) few_each in
         omega (arith, each, mul-le-mul_right b.symmetries (few_moves b low c pair p h of))
       where
-        few_each : (m : Move) → length (entries_before b b.points c p m.from m.to) ≤ b.symmetries
+        few_each : (m : Move) → length (carried_before m.from m.to) ≤ b.symmetries
         few_each m = omega (
           arith,
-          length-map (filter (carries b p (taken_back p m.from m.to).own) (all_symmetries b)) (λ s. entry (image_sides (b.image s) (taken_back p m.from m.to))),
-          length-filter_le (carries b p (taken_back p m.from m.to).own) (all_symmetries b),
+          length-map (filter (carries b (turn p) (turn (taken_back p m.from m.to)).own) (all_symmetries b)) (λ s. entry (image_sides (b.image s) (taken_back p m.from m.to))),
+          length-filter_le (carries b (turn p) (turn (taken_back p m.from m.to)).own) (all_symmetries b),
           length-range_with_len 0 b.symmetries,
         )

@@ -21,10 +21,11 @@ use Rattle.morris_pairs.specs.declared.layout.Layout.TheVariants.{Full, Classes}
 use Rattle.morris_pairs.specs.Codes.{IsCodeOf}
 use Rattle.morris_pairs.specs.Counting.{AreSoMany, AreTallies, AreTalliesOf, HasCode, HasStated, IsBetween, IsOfEntry, first_half_of, with_own}
 use Rattle.morris_pairs.specs.Entries.{entry_count, entry_index}
+use Rattle.morris_pairs.specs.Orders.{order_of}
 use Rattle.morris_pairs.specs.EntryLaws.{laid}
 use Rattle.morris_pairs.specs.Tables.{IsTable, Table}
 use Rattle.morris_pairs.proofs.CodeLaws.{one_code}
-use Rattle.morris_pairs.proofs.PositionLaws.{position_of_entry}
+use Rattle.morris_pairs.proofs.PositionLaws.{position_of_node}
 
 -- what holds of every two of one list, and of another, and of each of the one with each of the other,
 -- holds of every two of both
@@ -200,7 +201,7 @@ module _ (board : Shape) (few : board.points ≤ 24) (y : HasSymmetries board) w
     -- one has it for its own
     pub one_own : (l : Layout) (entry : ℕ) → entry < entry_count board board.points l c → AreSoMany (IsOfEntry board l c false entry) 1
     one_own l entry low =
-        let found = position_of_entry board few y l c pair entry low in
+        let found = position_of_node board few y (order_of l) c pair entry low in
         let p : Sides = found.0 in
         let at = found.1 in
         many_one (IsOfEntry board l c false entry) p (record { lawful = at.position; of = at.of; shown = at.own; entry_is = at.entry })

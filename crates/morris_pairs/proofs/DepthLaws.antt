@@ -1,4 +1,4 @@
--- The graph of a pair, in either layout, is too deep exactly where codes of 16 bits can't tell the
+-- The graph of a pair, in each order, is too deep exactly where codes of 16 bits can't tell the
 -- game's values.
 use Rattle.std.proofs.Common.{◌≡◌, ℕ, suc, ◌-◌, ◌<◌, ◌≤◌, ◌%◌, max, Bool, true, false, not, ltb, leb, List, [], ◌∷◌, map, Option, Some, None, is_none, filter, refl, sym, ap, subst, ◌∙◌, inl, inr, ◌⊎◌, arith}
 use Rattle.std.proofs.lemmas.Bool.{cases_lt, both_ways, and_parts, and_from, eqb-true, eqb-false, eq-eqb, ltb-true, ltb-false, leb-true, le-leb, not-true, false_from_ne_true}
@@ -16,16 +16,15 @@ use Rattle.morris_wave.specs.Nets.{Net}
 use Rattle.morris_wave.specs.Exits.{is_odd, is_won_code, greatest, depths, exits_of, some_below}
 use Rattle.morris_wave.specs.Values.{is_lost_exit, HasDepth, HasCode, IsTooDeep}
 use Rattle.morris_wave.proofs.ExitTests.{some_exit_lost}
-use Rattle.morris_pairs.specs.declared.layout.Layout.{Layout}
-use Rattle.morris_pairs.specs.Entries.{entry_index, has_own_entry}
-use Rattle.morris_pairs.specs.EntryLaws.{IsLaid, laid}
+use Rattle.morris_pairs.specs.Orders.{Order, index_in, own_in}
+use Rattle.morris_pairs.specs.EntryLaws.{IsLaid, laid_in}
 use Rattle.morris_pairs.specs.Codes.{IsCodeOf, code_to}
-use Rattle.morris_pairs.specs.PairNets.{is_capture, capture_codes, pair_net}
+use Rattle.morris_pairs.specs.PairNets.{is_capture, capture_codes, net_in}
 use Rattle.morris_pairs.specs.Known.{IsKnown, WinsLateByCapture, IsBeyondCodes}
 use Rattle.morris_pairs.specs.FilterLaws.{filter-contains, contained-filter}
 use Rattle.morris_pairs.proofs.CodeLaws.{one_code, code_cases, code_of_lost, code_to-is}
-use Rattle.morris_pairs.specs.NetLaws.{size-pair_net, index_in, exits-at}
-use Rattle.morris_pairs.proofs.PositionLaws.{position_of_entry}
+use Rattle.morris_pairs.specs.NetLaws.{size-net_in, node_below, exits-at}
+use Rattle.morris_pairs.proofs.PositionLaws.{position_of_node}
 use Rattle.morris_pairs.proofs.LateLaws.{wins_late-image}
 use Rattle.morris_pairs.proofs.NodeLaws.{node_code, code_node}
 
@@ -103,17 +102,17 @@ abbrev IsDeepNode : Net → ℕ → Type 0
 IsDeepNode g i = ((depth : ℕ) × (65534 ≤ depth) × HasDepth g i depth)
     ⊎ (((exits_of (g.exits i)).least_lost ≡ Some 65534) ⊎ ((exits_of (g.exits i)).greatest_won ≡ Some 65534))
 
-module _ (board : Shape) (few : board.points ≤ 24) (y : HasSymmetries board) (l : Layout) (c : Counts) (pair : IsPair board.points c) (known : IsKnown board c) where
-  entries : IsLaid board l c
-  entries = laid board few y l c pair
+module _ (board : Shape) (few : board.points ≤ 24) (y : HasSymmetries board) (o : Order) (c : Counts) (pair : IsPair board.points c) (known : IsKnown board c) where
+  entries : IsLaid board o c
+  entries = laid_in board few y o c pair
 
   -- whether the captures of a node lead to a loss in 65,534 plies and to none in fewer
   abbrev deep_at : ℕ → Type 0
-  deep_at i = (exits_of ((pair_net board l c).exits i)).least_lost ≡ Some 65534
+  deep_at i = (exits_of ((net_in board o c).exits i)).least_lost ≡ Some 65534
 
-  module _ (s : Sides) (h : IsPosition board s) (of : is_of c s ≡ true) (own : has_own_entry board l s ≡ true) where
+  module _ (s : Sides) (h : IsPosition board s) (of : is_of c s ≡ true) (own : own_in board o s ≡ true) where
     abbrev codes : List ℕ
-    codes = (pair_net board l c).exits (entry_index board board.points l c s)
+    codes = (net_in board o c).exits (index_in board board.points o c s)
 
     code_is : (m : Move) → Contains (moves_of board s) m → is_capture m ≡ true → (code : ℕ) → IsCodeOf board (result_of s m) code
         → code_to 65534 board (result_of s m) ≡ code
@@ -126,7 +125,7 @@ module _ (board : Shape) (few : board.points ≤ 24) (y : HasSymmetries board) (
     unfolding capture_codes
     capture_code code listed =
         let by = Contains-map_cases (λ m. code_to 65534 board (result_of s m)) (filter is_capture (moves_of board s)) code
-        (subst (λ xs. Contains xs code) (exits-at board few l c entries s h of own) listed) in
+        (subst (λ xs. Contains xs code) (exits-at board few o c entries s h of own) listed) in
         let m = by.0 in
         let passed = filter-contains is_capture (moves_of board s) m by.1 in
         let k = known s h of m passed.0 passed.1 in
@@ -137,7 +136,7 @@ module _ (board : Shape) (few : board.points ≤ 24) (y : HasSymmetries board) (
     code_captured m listed takes code is =
         let moves = contained-filter is_capture (moves_of board s) m listed takes in
         let there = Contains-map (λ m. code_to 65534 board (result_of s m)) (filter is_capture (moves_of board s)) m moves in
-        subst (λ xs. Contains xs code) (sym (exits-at board few l c entries s h of own))
+        subst (λ xs. Contains xs code) (sym (exits-at board few o c entries s h of own))
         (subst (Contains (map (λ m. code_to 65534 board (result_of s m)) (filter is_capture (moves_of board s)))) (code_is m listed takes code is) there)
 
     -- an odd code is a loss
@@ -151,7 +150,7 @@ module _ (board : Shape) (few : board.points ≤ 24) (y : HasSymmetries board) (
       ]
     ]
 
-    wins_late : deep_at (entry_index board board.points l c s) → WinsLateByCapture board s
+    wins_late : deep_at (index_in board board.points o c s) → WinsLateByCapture board s
     wins_late e =
         let at = capture_code 65535 (late_in codes e) in
         let lost = lost_of at.0 65535 at.3 refl in
@@ -165,7 +164,7 @@ module _ (board : Shape) (few : board.points ≤ 24) (y : HasSymmetries board) (
               omega (arith, late_odd codes e (suc d) there odd);
         }
 
-    wins_late_back : WinsLateByCapture board s → deep_at (entry_index board board.points l c s)
+    wins_late_back : WinsLateByCapture board s → deep_at (index_in board board.points o c s)
     wins_late_back w =
         let m = w.late.0 in
         late_back codes (code_captured m w.late.1 w.late.2 65535 (code_of_lost board (result_of s m) 65534 w.late.3)) (λ code at odd.
@@ -173,9 +172,9 @@ module _ (board : Shape) (few : board.points ≤ 24) (y : HasSymmetries board) (
         let lost = lost_of by.0 code by.3 odd in
         omega (arith, lost.1, w.none_before by.0 lost.0 by.1 by.2 lost.2))
 
-    node_deep : IsDeepNode (pair_net board l c) (entry_index board board.points l c s) → IsBeyondCodes board c
+    node_deep : IsDeepNode (net_in board o c) (index_in board board.points o c s) → IsBeyondCodes board c
     node_deep why = elim why [
-      | inl deep ↦ (s, h, of, inl (suc deep.0, omega (arith, deep.1), node_code board few l c entries known s h of (suc deep.0) deep.2))
+      | inl deep ↦ (s, h, of, inl (suc deep.0, omega (arith, deep.1), node_code board few o c entries known s h of (suc deep.0) deep.2))
       | inr exits ↦ elim exits [
         | inl lost ↦ (s, h, of, inr (wins_late lost))
         | inr won ↦ absurd (no_deep_win codes won)
@@ -184,31 +183,31 @@ module _ (board : Shape) (few : board.points ≤ 24) (y : HasSymmetries board) (
 
   -- the graph is too deep exactly where the values of the pair, or those that its captures lead to,
   -- are beyond codes of 16 bits
-  pub too_deep_game : IsTooDeep (pair_net board l c) → IsBeyondCodes board c
+  pub too_deep_game : IsTooDeep (net_in board o c) → IsBeyondCodes board c
   too_deep_game deep =
-      let at = position_of_entry board few y l c pair deep.0 (rw (size-pair_net board l c) at deep.1) in
+      let at = position_of_node board few y o c pair deep.0 (rw (size-net_in board o c) at deep.1) in
       let w = at.1 in
-      node_deep at.0 w.position w.of w.own (subst (IsDeepNode (pair_net board l c)) (sym w.entry) deep.2)
+      node_deep at.0 w.position w.of w.own (subst (IsDeepNode (net_in board o c)) (sym w.entry) deep.2)
 
   -- a position that wins late by a capture is that of a node, or the image of such a one
-  late_node : (s : Sides) → IsPosition board s → is_of c s ≡ true → WinsLateByCapture board s → deep_at (entry_index board board.points l c s)
+  late_node : (s : Sides) → IsPosition board s → is_of c s ≡ true → WinsLateByCapture board s → deep_at (index_in board board.points o c s)
   late_node s h of w =
       let stands = entries.stands s h of in
       let t = stands.0 in
       let u = stands.1 in
       subst deep_at u.entry (wins_late_back t u.position u.of u.own (wins_late-image board few s t h u.image w))
 
-  pub game_too_deep : IsBeyondCodes board c → IsTooDeep (pair_net board l c)
+  pub game_too_deep : IsBeyondCodes board c → IsTooDeep (net_in board o c)
   game_too_deep beyond =
       let s = beyond.0 in
       let h = beyond.1 in
       let of = beyond.2 in
-      let i = entry_index board board.points l c s in
-      let low : entry_index board board.points l c s < (pair_net board l c).size = rw (size-pair_net board l c) (index_in board few l c entries s h of) in
+      let i = index_in board board.points o c s in
+      let low : index_in board board.points o c s < (net_in board o c).size = rw (size-net_in board o c) (node_below board few o c entries s h of) in
       elim beyond.3 [
         | inl great ↦
             let depth : great.0 ≡ suc (great.0 - 1) = omega (arith, great.1) in
-            let node = code_node board few l c entries known s h of great.0 great.2 in
-            (i, low, inl (great.0 - 1, omega (arith, great.1), subst (HasCode (pair_net board l c) i) depth node))
+            let node = code_node board few o c entries known s h of great.0 great.2 in
+            (i, low, inl (great.0 - 1, omega (arith, great.1), subst (HasCode (net_in board o c) i) depth node))
         | inr late ↦ (i, low, inr (inl (late_node s h of late)))
       ]

@@ -15,17 +15,17 @@ use Rattle.morris_index.specs.Pairs.{Counts, counts, IsPair, is_of, needed, less
 use Rattle.morris_wave.specs.Nets.{Net, times}
 use Rattle.morris_wave.specs.Exits.{exits_of}
 use Rattle.morris_wave.specs.Values.{HasCode, IsTooDeep}
-use Rattle.morris_pairs.specs.declared.layout.Layout.{Layout}
-use Rattle.morris_pairs.specs.Entries.{entry_count, entry_index, has_own_entry}
-use Rattle.morris_pairs.specs.EntryLaws.{IsLaid, laid}
+use Rattle.morris_pairs.specs.Entries.{entry_index}
+use Rattle.morris_pairs.specs.Orders.{Order, count_in, index_in, own_in}
+use Rattle.morris_pairs.specs.EntryLaws.{IsLaid, laid_in, laid}
 use Rattle.morris_pairs.specs.Codes.{IsCodeOf, code_to}
-use Rattle.morris_pairs.specs.PairNets.{is_capture, is_quiet, quiet_results, capture_codes, pair_net, level_of, net_at}
+use Rattle.morris_pairs.specs.PairNets.{is_capture, is_quiet, quiet_results, capture_codes, net_in, level_in, net_at}
 use Rattle.morris_pairs.specs.Tables.{Table}
 use Rattle.morris_wave.specs.Summaries.{added}
-use Rattle.morris_pairs.specs.Graphs.{IsTableOf, IsNeeded, IsPairGraph, exits_by, HasGameValues}
+use Rattle.morris_pairs.specs.Graphs.{IsTableOf, IsNeeded, IsPairGraph, exits_by, HasValuesIn}
 use Rattle.morris_pairs.specs.Known.{IsTabled, IsKnown, IsBeyondCodes}
 use Rattle.morris_pairs.specs.FilterLaws.{filter-yes}
-use Rattle.morris_pairs.specs.NetLaws.{points_few, quiet-at, exits-at, size-pair_net, net_at-level_of}
+use Rattle.morris_pairs.specs.NetLaws.{points_few, quiet-at, exits-at, size-net_in, net_at-level_in}
 use Rattle.morris_pairs.proofs.CodeLaws.{code_to-is}
 use Rattle.morris_pairs.proofs.NodeLaws.{known_by_tables, node_code, code_node}
 use Rattle.morris_pairs.proofs.DepthLaws.{too_deep_game, game_too_deep}
@@ -87,48 +87,48 @@ exits_by-capture board s ms m takes code is few =
 
 -- ---- the graph of a pair is the one of its level
 
-module _ (board : Shape) (lawful : is_board board ≡ true) (y : HasSymmetries board) (n : ℕ) (points : board.points ≡ n) (l : Layout) (c : Counts)
+module _ (board : Shape) (lawful : is_board board ≡ true) (y : HasSymmetries board) (n : ℕ) (points : board.points ≡ n) (o : Order) (c : Counts)
     (pair : IsPair board.points c) where
-  entries_here : IsLaid board l c
-  entries_here = laid board (points_few board lawful) y l c pair
+  entries_here : IsLaid board o c
+  entries_here = laid_in board (points_few board lawful) y o c pair
 
-  pub size_at : (net_at board (level_of l c)).size ≡ entry_count board n l c
-  size_at = ap (λ (g : Net). g.size) (net_at-level_of board lawful y l c pair) ∙ size-pair_net board l c ∙ ap (λ k. entry_count board k l c) points
+  pub size_at : (net_at board (level_in o c)).size ≡ count_in board n o c
+  size_at = ap (λ (g : Net). g.size) (net_at-level_in board lawful y o c pair) ∙ size-net_in board o c ∙ ap (λ k. count_in board k o c) points
 
-  pub is_node : (i : ℕ) → i < (net_at board (level_of l c)).size → i < entry_count board n l c
+  pub is_node : (i : ℕ) → i < (net_at board (level_in o c)).size → i < count_in board n o c
   is_node i low = subst (λ k. i < k) size_at low
 
-  pub quiet_count_at : (s : Sides) → IsPosition board s → is_of c s ≡ true → has_own_entry board l s ≡ true → (i : ℕ) → entry_index board n l c s ≡ i
-      → length (filter is_quiet (moves_of board s)) ≡ length ((net_at board (level_of l c)).quiet i)
+  pub quiet_count_at : (s : Sides) → IsPosition board s → is_of c s ≡ true → own_in board o s ≡ true → (i : ℕ) → index_in board n o c s ≡ i
+      → length (filter is_quiet (moves_of board s)) ≡ length ((net_at board (level_in o c)).quiet i)
   unfolding quiet_results
   quiet_count_at s h of kept i at =
-      sym (length-map (filter is_quiet (moves_of board s)) (λ m. entry_index board board.points l c (result_of s m)))
-      ∙ ap length (sym (quiet-at board (points_few board lawful) l c entries_here s h of kept) ∙ ap (pair_net board l c).quiet (ap (λ k. entry_index board k l c s) points ∙ at))
-      ∙ ap (λ (g : Net). length (g.quiet i)) (sym (net_at-level_of board lawful y l c pair))
+      sym (length-map (filter is_quiet (moves_of board s)) (λ m. index_in board board.points o c (result_of s m)))
+      ∙ ap length (sym (quiet-at board (points_few board lawful) o c entries_here s h of kept) ∙ ap (net_in board o c).quiet (ap (λ k. index_in board k o c s) points ∙ at))
+      ∙ ap (λ (g : Net). length (g.quiet i)) (sym (net_at-level_in board lawful y o c pair))
 
-  pub exits_same : (s : Sides) → IsPosition board s → is_of c s ≡ true → has_own_entry board l s ≡ true → (i : ℕ) → entry_index board n l c s ≡ i
-      → exits_of (capture_codes board s) ≡ exits_of ((net_at board (level_of l c)).exits i)
+  pub exits_same : (s : Sides) → IsPosition board s → is_of c s ≡ true → own_in board o s ≡ true → (i : ℕ) → index_in board n o c s ≡ i
+      → exits_of (capture_codes board s) ≡ exits_of ((net_at board (level_in o c)).exits i)
   exits_same s h of kept i at =
-      ap exits_of (sym (exits-at board (points_few board lawful) l c entries_here s h of kept) ∙ ap (pair_net board l c).exits (ap (λ k. entry_index board k l c s) points ∙ at))
-      ∙ ap (λ (g : Net). exits_of (g.exits i)) (sym (net_at-level_of board lawful y l c pair))
+      ap exits_of (sym (exits-at board (points_few board lawful) o c entries_here s h of kept) ∙ ap (net_in board o c).exits (ap (λ k. index_in board k o c s) points ∙ at))
+      ∙ ap (λ (g : Net). exits_of (g.exits i)) (sym (net_at-level_in board lawful y o c pair))
 
   -- what leads to a node, counted in the one and in the other
-  pub times_at : (s : Sides) (xs : List ℕ) (i : ℕ) → entry_index board n l c s ≡ i
-      → ((j : ℕ) → j < entry_count board n l c → times j xs ≡ times (entry_index board n l c s) ((pair_net board l c).quiet j))
-      → (j : ℕ) → j < (net_at board (level_of l c)).size → times j xs ≡ times i ((net_at board (level_of l c)).quiet j)
+  pub times_at : (s : Sides) (xs : List ℕ) (i : ℕ) → index_in board n o c s ≡ i
+      → ((j : ℕ) → j < count_in board n o c → times j xs ≡ times (index_in board n o c s) ((net_in board o c).quiet j))
+      → (j : ℕ) → j < (net_at board (level_in o c)).size → times j xs ≡ times i ((net_at board (level_in o c)).quiet j)
   times_at s xs i at h j low =
-      h j (is_node j low) ∙ ap (λ k. times k ((pair_net board l c).quiet j)) at ∙ ap (λ (g : Net). times i (g.quiet j)) (sym (net_at-level_of board lawful y l c pair))
+      h j (is_node j low) ∙ ap (λ k. times k ((net_in board o c).quiet j)) at ∙ ap (λ (g : Net). times i (g.quiet j)) (sym (net_at-level_in board lawful y o c pair))
 
   pub times_all_at : (xs nodes : List ℕ)
-      → ((j : ℕ) → j < entry_count board n l c → times j xs ≡ sum_by (λ i. times i ((pair_net board l c).quiet j)) nodes)
-      → (j : ℕ) → j < (net_at board (level_of l c)).size → times j xs ≡ sum_by (λ i. times i ((net_at board (level_of l c)).quiet j)) nodes
+      → ((j : ℕ) → j < count_in board n o c → times j xs ≡ sum_by (λ i. times i ((net_in board o c).quiet j)) nodes)
+      → (j : ℕ) → j < (net_at board (level_in o c)).size → times j xs ≡ sum_by (λ i. times i ((net_at board (level_in o c)).quiet j)) nodes
   times_all_at xs nodes h j low =
-      h j (is_node j low) ∙ ap (λ (g : Net). sum_by (λ i. times i (g.quiet j)) nodes) (sym (net_at-level_of board lawful y l c pair))
+      h j (is_node j low) ∙ ap (λ (g : Net). sum_by (λ i. times i (g.quiet j)) nodes) (sym (net_at-level_in board lawful y o c pair))
 
-  pub are_nodes : (nodes : List ℕ) → All (λ j. j < (net_at board (level_of l c)).size) nodes → All (λ j. j < entry_count board n l c) nodes
+  pub are_nodes : (nodes : List ℕ) → All (λ j. j < (net_at board (level_in o c)).size) nodes → All (λ j. j < count_in board n o c) nodes
   are_nodes nodes h = subst (λ size. All (λ j. j < size) nodes) size_at h
 
-  pub nodes_at : (xs : List ℕ) → All (λ j. j < entry_count board n l c) xs → All (λ j. j < (net_at board (level_of l c)).size) xs
+  pub nodes_at : (xs : List ℕ) → All (λ j. j < count_in board n o c) xs → All (λ j. j < (net_at board (level_in o c)).size) xs
   nodes_at xs h = subst (λ size. All (λ j. j < size) xs) (sym size_at) h
 
 -- ---- the values of the nodes
@@ -152,23 +152,23 @@ known_here board y few c of_lesser of_greater h = known_by_tables board c few h.
   | inr g ↦ let t = taken_from board (less_greater c) d of_greater g h.greater in tabled board y d t.0 few t.2
 ])
 
-pub game_values : (board : Shape) → is_board board ≡ true → HasSymmetries board → (l : Layout) (c : Counts) → IsPair board.points c → IsKnown board c → HasGameValues board l c
-game_values board lawful y l c pair known s code h of =
+pub game_values : (board : Shape) → is_board board ≡ true → HasSymmetries board → (o : Order) (c : Counts) → IsPair board.points c → IsKnown board c → HasValuesIn board o c
+game_values board lawful y o c pair known s code h of =
     let few = points_few board lawful in
-    let entries = laid board few y l c pair in
-    let same = net_at-level_of board lawful y l c pair in (
-      λ v. node_code board few l c entries known s h of code (subst (λ g. HasCode g (entry_index board board.points l c s) code) same v),
-      λ v. subst (λ g. HasCode g (entry_index board board.points l c s) code) (sym same) (code_node board few l c entries known s h of code v),
+    let entries = laid_in board few y o c pair in
+    let same = net_at-level_in board lawful y o c pair in (
+      λ v. node_code board few o c entries known s h of code (subst (λ g. HasCode g (index_in board board.points o c s) code) same v),
+      λ v. subst (λ g. HasCode g (index_in board board.points o c s) code) (sym same) (code_node board few o c entries known s h of code v),
     )
 
 -- the graph is too deep where codes of 16 bits don't tell the values of the game
-pub game_depths : (board : Shape) → is_board board ≡ true → HasSymmetries board → (l : Layout) (c : Counts) → IsPair board.points c → IsKnown board c
-    → IsTooDeep (net_at board (level_of l c)) ↔ IsBeyondCodes board c
-game_depths board lawful y l c pair known =
+pub game_depths : (board : Shape) → is_board board ≡ true → HasSymmetries board → (o : Order) (c : Counts) → IsPair board.points c → IsKnown board c
+    → IsTooDeep (net_at board (level_in o c)) ↔ IsBeyondCodes board c
+game_depths board lawful y o c pair known =
     let few = points_few board lawful in
-    let same = net_at-level_of board lawful y l c pair in (
-      λ deep. too_deep_game board few y l c pair known (subst IsTooDeep same deep),
-      λ beyond. subst IsTooDeep (sym same) (game_too_deep board few y l c pair known beyond),
+    let same = net_at-level_in board lawful y o c pair in (
+      λ deep. too_deep_game board few y o c pair known (subst IsTooDeep same deep),
+      λ beyond. subst IsTooDeep (sym same) (game_too_deep board few y o c pair known beyond),
     )
 
 -- the two tables as the code finds them
@@ -185,19 +185,19 @@ module _ (board : Shape) (lawful : is_board board ≡ true) (y : HasSymmetries b
     greater = subst (λ o. IsNeeded board o of_greater) f k;
   })
 
-  pub values_over : (l : Layout) → HasGameValues board l c
-  values_over l = game_values board lawful y l c pair_here known_over
+  pub values_over : (o : Order) → HasValuesIn board o c
+  values_over o = game_values board lawful y o c pair_here known_over
 
-  pub depths_over : (l : Layout) → IsTooDeep (net_at board (level_of l c)) ↔ IsBeyondCodes board c
-  depths_over l = game_depths board lawful y l c pair_here known_over
+  pub depths_over : (o : Order) → IsTooDeep (net_at board (level_in o c)) ↔ IsBeyondCodes board c
+  depths_over o = game_depths board lawful y o c pair_here known_over
 
 -- the codes of all nodes are those of the positions
-pub exact_codes : (board : Shape) → is_board board ≡ true → HasSymmetries board → (l : Layout) (c : Counts) (of_lesser of_greater : Option Table)
-    → IsPairGraph board c of_lesser of_greater → (codes : List ℕ) → length codes ≡ (net_at board (level_of l c)).size
-    → ((i : ℕ) → i < (net_at board (level_of l c)).size → HasCode (net_at board (level_of l c)) i (get_or codes i 0))
-    → (s : Sides) → IsPosition board s → is_of c s ≡ true → IsCodeOf board s (get_or codes (entry_index board board.points l c s) 0)
-exact_codes board lawful y l c of_lesser of_greater graph codes len each s h of =
+pub exact_codes : (board : Shape) → is_board board ≡ true → HasSymmetries board → (o : Order) (c : Counts) (of_lesser of_greater : Option Table)
+    → IsPairGraph board c of_lesser of_greater → (codes : List ℕ) → length codes ≡ (net_at board (level_in o c)).size
+    → ((i : ℕ) → i < (net_at board (level_in o c)).size → HasCode (net_at board (level_in o c)) i (get_or codes i 0))
+    → (s : Sides) → IsPosition board s → is_of c s ≡ true → IsCodeOf board s (get_or codes (index_in board board.points o c s) 0)
+exact_codes board lawful y o c of_lesser of_greater graph codes len each s h of =
     let few = points_few board lawful in
-    let low : entry_index board board.points l c s < entry_count board board.points l c = (laid board few y l c graph.lawful).below s h of in
-    (game_values board lawful y l c graph.lawful (known_here board y few c of_lesser of_greater graph) s (get_or codes (entry_index board board.points l c s) 0) h of).0
-    (each (entry_index board board.points l c s) (subst (λ k. entry_index board board.points l c s < k) (sym (size_at board lawful y board.points refl l c graph.lawful)) low))
+    let low : index_in board board.points o c s < count_in board board.points o c = (laid_in board few y o c graph.lawful).below s h of in
+    (game_values board lawful y o c graph.lawful (known_here board y few c of_lesser of_greater graph) s (get_or codes (index_in board board.points o c s) 0) h of).0
+    (each (index_in board board.points o c s) (subst (λ k. index_in board board.points o c s < k) (sym (size_at board lawful y board.points refl o c graph.lawful)) low))

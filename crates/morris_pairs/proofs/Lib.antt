@@ -19,6 +19,8 @@ pub mod BackLawsNodes
 pub mod BackLawsSources
 pub mod Doubles
 pub mod ClassBackLaws
+pub mod RowNodeLaws
+pub mod ReorderLaws
 pub mod QuietLaws
 pub mod ComerLaws
 pub mod RowLaws
@@ -39,3 +41,10 @@ pub mod ReadingLaws
 pub mod PlaceLaws
 pub mod AcceptLaws
 mod VerifyLaws
+pub mod SetLaws
+pub mod FacingCaptureLaws
+pub mod TurnedLaws
+pub mod PartLaws
+pub mod RowStepLists
+pub mod RowStepLaws
+pub mod RowBackLaws

@@ -15,10 +15,9 @@ use Rattle.morris_wave.specs.Exits.{is_odd, is_won_code}
 use Rattle.morris_wave.specs.Values.{is_lost, is_won, is_decided, some_lost, all_won, is_lost_exit, is_won_exit, HasDepth, HasCode}
 use Rattle.morris_wave.proofs.Depths.{decided_by_then, none_decided}
 use Rattle.morris_pairs.specs.Codes.{IsCodeOf, code_to}
-use Rattle.morris_pairs.specs.declared.layout.Layout.{Layout}
-use Rattle.morris_pairs.specs.Entries.{entry_index, has_own_entry}
+use Rattle.morris_pairs.specs.Orders.{Order, index_in, own_in}
 use Rattle.morris_pairs.specs.EntryLaws.{StandsFor, IsLaid}
-use Rattle.morris_pairs.specs.PairNets.{is_quiet, is_capture, quiet_results, capture_codes, pair_net}
+use Rattle.morris_pairs.specs.PairNets.{is_quiet, is_capture, quiet_results, capture_codes, net_in}
 use Rattle.morris_pairs.specs.Known.{IsTabled, IsKnown}
 use Rattle.morris_pairs.specs.FilterLaws.{list_any-map, all_parts, any_parts}
 use Rattle.morris_pairs.proofs.CodeLaws.{code_cases, code_of_draw, code_of_lost, code_of_won, code_of_stuck, decided_not, code_to-open, code_to-is}
@@ -170,11 +169,11 @@ module _ (board : Shape) (t : Sides) where
 
 -- ---- a node is lost, or won, where its position is
 
-module _ (board : Shape) (few : board.points ≤ 24) (l : Layout) (c : Counts) (laid : IsLaid board l c) where
+module _ (board : Shape) (few : board.points ≤ 24) (o : Order) (c : Counts) (laid : IsLaid board o c) where
   abbrev Agrees : ℕ → Sides → Type 0
   Agrees n s =
-      (is_lost (pair_net board l c) n (entry_index board board.points l c s) ≡ lost_before n board s)
-      × (is_won (pair_net board l c) n (entry_index board board.points l c s) ≡ won_before n board s)
+      (is_lost (net_in board o c) n (index_in board board.points o c s) ≡ lost_before n board s)
+      × (is_won (net_in board o c) n (index_in board board.points o c s) ≡ won_before n board s)
 
   -- the exits of the pair's nodes are lost, and won, where the positions are that the captures lead
   -- to
@@ -189,39 +188,39 @@ module _ (board : Shape) (few : board.points ≤ 24) (l : Layout) (c : Counts) (
       searched_small board (result_of s m) n k.0 k.2 k.1
 
   -- one ply more, where each quiet result agrees
-  module _ (n : ℕ) (exits : ExitsAgree n) (s : Sides) (h : IsPosition board s) (of : is_of c s ≡ true) (kept : has_own_entry board l s ≡ true)
+  module _ (n : ℕ) (exits : ExitsAgree n) (s : Sides) (h : IsPosition board s) (of : is_of c s ≡ true) (kept : own_in board o s ≡ true)
       (each : (t : Sides) → IsPosition board t → is_of c t ≡ true → Agrees n t) where
     there : (m : Move) → Contains (moves_of board s) m → is_quiet m ≡ true → Agrees n (result_of s m)
     there m listed quiet = each (result_of s m) (result-position board few s h m listed) (quiet-stays board few s h m listed c of quiet)
 
-    all_agree : all_won (pair_net board l c) (is_won (pair_net board l c) n) n (entry_index board board.points l c s) ≡ lost_before (suc n) board s
+    all_agree : all_won (net_in board o c) (is_won (net_in board o c) n) n (index_in board board.points o c s) ≡ lost_before (suc n) board s
     unfolding quiet_results capture_codes
     all_agree =
-        ap₂ (λ quiet codes. list_all (is_won (pair_net board l c) n) quiet && list_all (is_won_exit n) codes)
-        (quiet-at board few l c laid s h of kept) (exits-at board few l c laid s h of kept)
+        ap₂ (λ quiet codes. list_all (is_won (net_in board o c) n) quiet && list_all (is_won_exit n) codes)
+        (quiet-at board few o c laid s h of kept) (exits-at board few o c laid s h of kept)
         ∙ ap₂ (λ a b. a && b)
-        (list_all-map (is_won (pair_net board l c) n) (λ m. entry_index board board.points l c (result_of s m)) (filter is_quiet (moves_of board s)))
+        (list_all-map (is_won (net_in board o c) n) (λ m. index_in board board.points o c (result_of s m)) (filter is_quiet (moves_of board s)))
         (list_all-map (is_won_exit n) (λ m. code_to 65534 board (result_of s m)) (filter is_capture (moves_of board s)))
         ∙ all_parts is_quiet (λ m. won_before n board (result_of s m))
-        (λ m. is_won (pair_net board l c) n (entry_index board board.points l c (result_of s m))) (λ m. is_won_exit n (code_to 65534 board (result_of s m)))
+        (λ m. is_won (net_in board o c) n (index_in board board.points o c (result_of s m))) (λ m. is_won_exit n (code_to 65534 board (result_of s m)))
         (moves_of board s) (λ m listed quiet. (there m listed quiet).1) (λ m listed takes. (exits s h of m listed takes).1)
         ∙ sym (lost_before-suc n board s)
 
-    some_agree : some_lost (pair_net board l c) (is_lost (pair_net board l c) n) n (entry_index board board.points l c s) ≡ won_before (suc n) board s
+    some_agree : some_lost (net_in board o c) (is_lost (net_in board o c) n) n (index_in board board.points o c s) ≡ won_before (suc n) board s
     unfolding quiet_results capture_codes
     some_agree =
-        ap₂ (λ quiet codes. list_any (is_lost (pair_net board l c) n) quiet || list_any (is_lost_exit n) codes)
-        (quiet-at board few l c laid s h of kept) (exits-at board few l c laid s h of kept)
+        ap₂ (λ quiet codes. list_any (is_lost (net_in board o c) n) quiet || list_any (is_lost_exit n) codes)
+        (quiet-at board few o c laid s h of kept) (exits-at board few o c laid s h of kept)
         ∙ ap₂ (λ a b. a || b)
-        (list_any-map (is_lost (pair_net board l c) n) (λ m. entry_index board board.points l c (result_of s m)) (filter is_quiet (moves_of board s)))
+        (list_any-map (is_lost (net_in board o c) n) (λ m. index_in board board.points o c (result_of s m)) (filter is_quiet (moves_of board s)))
         (list_any-map (is_lost_exit n) (λ m. code_to 65534 board (result_of s m)) (filter is_capture (moves_of board s)))
         ∙ any_parts is_quiet (λ m. lost_before n board (result_of s m))
-        (λ m. is_lost (pair_net board l c) n (entry_index board board.points l c (result_of s m))) (λ m. is_lost_exit n (code_to 65534 board (result_of s m)))
+        (λ m. is_lost (net_in board o c) n (index_in board board.points o c (result_of s m))) (λ m. is_lost_exit n (code_to 65534 board (result_of s m)))
         (moves_of board s) (λ m listed quiet. (there m listed quiet).0) (λ m listed takes. (exits s h of m listed takes).0)
         ∙ sym (won_before-suc n board s)
 
   -- the entry of a position is that of the one that stands for it, which has its value
-  module _ (n : ℕ) (s : Sides) (t : Sides) (h : StandsFor board l c s t) where
+  module _ (n : ℕ) (s : Sides) (t : Sides) (h : StandsFor board o c s t) where
     lost_stands : lost_before n board t ≡ lost_before n board s
     lost_stands = lost_before-same n board t s (λ k. sym (h.one_value.lost k))
 
@@ -230,8 +229,8 @@ module _ (board : Shape) (few : board.points ≤ 24) (l : Layout) (c : Counts) (
 
     agrees_stands : Agrees n t → Agrees n s
     agrees_stands there = (
-      ap (is_lost (pair_net board l c) n) (sym h.entry) ∙ there.0 ∙ lost_stands,
-      ap (is_won (pair_net board l c) n) (sym h.entry) ∙ there.1 ∙ won_stands,
+      ap (is_lost (net_in board o c) n) (sym h.entry) ∙ there.0 ∙ lost_stands,
+      ap (is_won (net_in board o c) n) (sym h.entry) ∙ there.1 ∙ won_stands,
     )
 
   agrees : (n : ℕ) → ((k : ℕ) → k < n → ExitsAgree k) → (s : Sides) → IsPosition board s → is_of c s ≡ true → Agrees n s
@@ -248,59 +247,59 @@ module _ (board : Shape) (few : board.points ≤ 24) (l : Layout) (c : Counts) (
   -- where the exits agree in fewer plies than some number
   module _ (top : ℕ) (exits : (k : ℕ) → k < top → ExitsAgree k) (s : Sides) (h : IsPosition board s) (of : is_of c s ≡ true) where
     -- in fewer than n + 1 plies in the graph is within n plies in the game
-    lost_same : (n : ℕ) → n < top → is_lost (pair_net board l c) (suc n) (entry_index board board.points l c s) ≡ is_lost_game n board s
+    lost_same : (n : ℕ) → n < top → is_lost (net_in board o c) (suc n) (index_in board board.points o c s) ≡ is_lost_game n board s
     unfolding lost_before
     lost_same n low = (agrees (suc n) (λ k l. exits k (omega arith)) s h of).0
 
-    won_same : (n : ℕ) → n < top → is_won (pair_net board l c) (suc n) (entry_index board board.points l c s) ≡ is_won_game n board s
+    won_same : (n : ℕ) → n < top → is_won (net_in board o c) (suc n) (index_in board board.points o c s) ≡ is_won_game n board s
     unfolding won_before
     won_same n low = (agrees (suc n) (λ k l. exits k (omega arith)) s h of).1
 
     -- ---- codes
 
-    open_game : (n : ℕ) → n < top → is_decided (pair_net board l c) (suc n) (entry_index board board.points l c s) ≡ false → IsOpen board s n
+    open_game : (n : ℕ) → n < top → is_decided (net_in board o c) (suc n) (index_in board board.points o c s) ≡ false → IsOpen board s n
     open_game n low e =
-        let w = or_parts (is_lost (pair_net board l c) (suc n) (entry_index board board.points l c s)) (is_won (pair_net board l c) (suc n) (entry_index board board.points l c s)) e in
+        let w = or_parts (is_lost (net_in board o c) (suc n) (index_in board board.points o c s)) (is_won (net_in board o c) (suc n) (index_in board board.points o c s)) e in
         record { not_lost = sym (lost_same n low) ∙ w.0; not_won = sym (won_same n low) ∙ w.1 }
 
-    open_node : (n : ℕ) → n < top → IsOpen board s n → is_decided (pair_net board l c) (suc n) (entry_index board board.points l c s) ≡ false
-    open_node n low o =
-        or_from (is_lost (pair_net board l c) (suc n) (entry_index board board.points l c s)) (is_won (pair_net board l c) (suc n) (entry_index board board.points l c s))
-        (lost_same n low ∙ o.not_lost) (won_same n low ∙ o.not_won)
+    open_node : (n : ℕ) → n < top → IsOpen board s n → is_decided (net_in board o c) (suc n) (index_in board board.points o c s) ≡ false
+    open_node n low still =
+        or_from (is_lost (net_in board o c) (suc n) (index_in board board.points o c s)) (is_won (net_in board o c) (suc n) (index_in board board.points o c s))
+        (lost_same n low ∙ still.not_lost) (won_same n low ∙ still.not_won)
 
     -- not before a depth in the graph is open below it in the game
-    open_below : (depth : ℕ) → depth ≤ top → is_decided (pair_net board l c) depth (entry_index board board.points l c s) ≡ false → (k : ℕ) → k < depth → IsOpen board s k
+    open_below : (depth : ℕ) → depth ≤ top → is_decided (net_in board o c) depth (index_in board board.points o c s) ≡ false → (k : ℕ) → k < depth → IsOpen board s k
     open_below depth few_plies e k low = open_game k (omega arith) (false_from_ne_true _ (λ d.
-        both_ways _ e (decided_by_then (pair_net board l c) (suc k) depth (entry_index board board.points l c s) (omega arith) d)))
+        both_ways _ e (decided_by_then (net_in board o c) (suc k) depth (index_in board board.points o c s) (omega arith) d)))
 
-    open_before : (depth : ℕ) → depth ≤ top → ((k : ℕ) → k < depth → IsOpen board s k) → is_decided (pair_net board l c) depth (entry_index board board.points l c s) ≡ false
-    open_before zero few_plies each = none_decided (pair_net board l c) (entry_index board board.points l c s)
+    open_before : (depth : ℕ) → depth ≤ top → ((k : ℕ) → k < depth → IsOpen board s k) → is_decided (net_in board o c) depth (index_in board board.points o c s) ≡ false
+    open_before zero few_plies each = none_decided (net_in board o c) (index_in board board.points o c s)
     open_before (suc n) few_plies each = open_node n (omega arith) (each n (omega arith))
 
     -- the depth of the node is that of the position
-    depth_code : (depth : ℕ) → depth < top → HasDepth (pair_net board l c) (entry_index board board.points l c s) depth → IsCodeOf board s (suc depth)
+    depth_code : (depth : ℕ) → depth < top → HasDepth (net_in board o c) (index_in board board.points o c s) depth → IsCodeOf board s (suc depth)
     depth_code depth low d =
-        elim (or_cases (is_lost (pair_net board l c) (suc depth) (entry_index board board.points l c s)) (is_won (pair_net board l c) (suc depth) (entry_index board board.points l c s)) d.reached) [
+        elim (or_cases (is_lost (net_in board o c) (suc depth) (index_in board board.points o c s)) (is_won (net_in board o c) (suc depth) (index_in board board.points o c s)) d.reached) [
           | inl lost ↦
               code_of_lost board s depth (record { lost = sym (lost_same depth low) ∙ lost; least = open_below depth (omega arith) d.not_before })
           | inr won ↦ code_of_won board s depth (record { won = sym (won_same depth low) ∙ won; least = open_below depth (omega arith) d.not_before })
         ]
 
-    depth_lost : (depth : ℕ) → depth < top → IsLostIn board s depth → HasDepth (pair_net board l c) (entry_index board board.points l c s) depth
+    depth_lost : (depth : ℕ) → depth < top → IsLostIn board s depth → HasDepth (net_in board o c) (index_in board board.points o c s) depth
     depth_lost depth low h = record {
-      reached = or_left _ (is_won (pair_net board l c) (suc depth) (entry_index board board.points l c s)) (lost_same depth low ∙ h.lost);
+      reached = or_left _ (is_won (net_in board o c) (suc depth) (index_in board board.points o c s)) (lost_same depth low ∙ h.lost);
       not_before = open_before depth (omega arith) h.least;
     }
 
-    depth_won : (depth : ℕ) → depth < top → IsWonIn board s depth → HasDepth (pair_net board l c) (entry_index board board.points l c s) depth
+    depth_won : (depth : ℕ) → depth < top → IsWonIn board s depth → HasDepth (net_in board o c) (index_in board board.points o c s) depth
     depth_won depth low h = record {
-      reached = or_right (is_lost (pair_net board l c) (suc depth) (entry_index board board.points l c s)) _ (won_same depth low ∙ h.won);
+      reached = or_right (is_lost (net_in board o c) (suc depth) (index_in board board.points o c s)) _ (won_same depth low ∙ h.won);
       not_before = open_before depth (omega arith) h.least;
     }
 
   -- a code of 16 bits that isn't that of a draw is the game's, whatever the captures lead to
   pub small_code : (s : Sides) → IsPosition board s → is_of c s ≡ true
-      → (code : ℕ) → 0 < code → code ≤ 65535 → HasCode (pair_net board l c) (entry_index board board.points l c s) code → IsCodeOf board s code
+      → (code : ℕ) → 0 < code → code ≤ 65535 → HasCode (net_in board o c) (index_in board board.points o c s) code → IsCodeOf board s code
   small_code s h of zero some_plies small d = absurd (omega arith)
   small_code s h of (suc depth) some_plies small d =
       depth_code 65535 (λ k low t place there m listed takes. searched_early board (result_of t m) k (omega arith)) s h of depth (omega arith) d
@@ -311,18 +310,18 @@ module _ (board : Shape) (few : board.points ≤ 24) (l : Layout) (c : Counts) (
       exits_here top k low = exits_known known k
 
       -- the code of the node is the code of the position
-      pub node_code : (code : ℕ) → HasCode (pair_net board l c) (entry_index board board.points l c s) code → IsCodeOf board s code
+      pub node_code : (code : ℕ) → HasCode (net_in board o c) (index_in board board.points o c s) code → IsCodeOf board s code
       node_code zero never = code_of_draw board s (record { never = λ n. open_game (suc n) (exits_here (suc n)) s h of n (omega arith) (never (suc n)) })
       node_code (suc depth) d = depth_code (suc depth) (exits_here (suc depth)) s h of depth (omega arith) d
 
-      pub code_node : (code : ℕ) → IsCodeOf board s code → HasCode (pair_net board l c) (entry_index board board.points l c s) code
+      pub code_node : (code : ℕ) → IsCodeOf board s code → HasCode (net_in board o c) (index_in board board.points o c s) code
       code_node code is = elim (code_cases board s code is) [
-        | inl draw ↦ subst (HasCode (pair_net board l c) (entry_index board board.points l c s)) (sym draw.0)
+        | inl draw ↦ subst (HasCode (net_in board o c) (index_in board board.points o c s)) (sym draw.0)
             (λ n. open_before n (exits_here n) s h of n (omega arith) (λ k low. draw.1.never k))
         | inr decided ↦ elim decided [
-          | inl lost ↦ subst (HasCode (pair_net board l c) (entry_index board board.points l c s)) (sym lost.1)
+          | inl lost ↦ subst (HasCode (net_in board o c) (index_in board board.points o c s)) (sym lost.1)
               (depth_lost (suc lost.0) (exits_here (suc lost.0)) s h of lost.0 (omega arith) lost.3)
-          | inr won ↦ subst (HasCode (pair_net board l c) (entry_index board board.points l c s)) (sym won.1)
+          | inr won ↦ subst (HasCode (net_in board o c) (index_in board board.points o c s)) (sym won.1)
               (depth_won (suc won.0) (exits_here (suc won.0)) s h of won.0 (omega arith) won.3)
         ]
       ]

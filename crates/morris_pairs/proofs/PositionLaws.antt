@@ -1,7 +1,7 @@
--- Each index below the size of a pair is that of a position of the pair, and each entry of a table
--- is some position's own.
-use Rattle.std.proofs.Common.{◌≡◌, ◌≢◌, ℕ, zero, suc, ◌-◌, ◌/◌, ◌%◌, ◌^◌, ◌<◌, ◌≤◌, true, [], ◌∷◌, refl, sym, ap, ap₂, ◌∙◌, inl, inr, arith}
-use Rattle.std.proofs.lemmas.Bool.{cases_Bool, cases_eq, cases_lt, both_ways, and_from, eq-eqb, false_from_ne_true}
+-- Each index below the size of a pair is that of a position of the pair, and in each order each
+-- number is some position's own.
+use Rattle.std.proofs.Common.{◌≡◌, ◌≢◌, ℕ, zero, suc, ◌+◌, ◌-◌, ◌/◌, ◌%◌, ◌^◌, ◌<◌, ◌≤◌, true, false, eqb, [], ◌∷◌, refl, sym, ap, ap₂, subst, ◌∙◌, inl, inr, arith}
+use Rattle.std.proofs.lemmas.Bool.{cases_Bool, cases_eq, cases_lt, both_ways, and_from, eq-eqb, le-leb, lt-leb, false_from_ne_true}
 use Rattle.morris_board.specs.Boards.{Shape}
 use Rattle.morris_board.specs.Sets.{count_of}
 use Rattle.morris_board.specs.Positions.{Sides, sides, IsPosition}
@@ -11,15 +11,16 @@ use Rattle.morris_index.specs.Numbering.{half_size, half_index, IsRanked}
 use Rattle.morris_index.specs.Pairs.{Counts, IsPair, has_counts, is_of, size_of, index_of}
 use Rattle.morris_index.specs.Classes.{representative_of, is_representative, classes_below, class_of, class_count}
 use Rattle.morris_index.specs.ClassPairs.{class_half_size, class_half_index, class_size_of, class_index_of}
+use Rattle.morris_index.specs.Facing.{turned}
+use Rattle.morris_index.proofs.FacingLaws.{turned_of, turned_position}
 use Rattle.morris_index.proofs.IndexLaws.{IsPlaced, own_part-lt, other_part-lt, half_index-ranked, is_of-first, is_of-second, index-in_first, index-in_second, second_half}
 use Rattle.morris_index.proofs.ClassLaws.{test_parts, one_more, no_more}
 use Rattle.morris_index.proofs.ClassLaws.{none_below as no_classes_below}
 use Rattle.morris_index.proofs.ClassPairLaws.{choices_some, class_part-lt, class_index-of, index-first, index-second}
 use Rattle.morris_index.proofs.ClassPairLaws.{other_part-lt as class_other_part-lt, second_half as class_second_half}
 use Rattle.morris_pairs.specs.declared.layout.Layout.{Layout}
-use Rattle.morris_pairs.specs.declared.layout.Layout.TheVariants.{Full, Classes}
-use Rattle.morris_pairs.specs.Entries.{entry_count, entry_index, has_own_entry}
-use Rattle.morris_pairs.specs.EntryLaws.{position_of, laid}
+use Rattle.morris_pairs.specs.Orders.{Order, Full, Classes, Rows, order_of, is_ahead, row_size_of, row_index_of, count_in, index_in, own_in}
+use Rattle.morris_pairs.specs.EntryLaws.{position_of, laid_in, ahead-yes, ahead-no, row_size-one, row_size-two, row_index-ahead, row_index-behind}
 use Rattle.morris_pairs.specs.PairNets.{at_index}
 use Rattle.morris_pairs.specs.NetLaws.{at_index-is}
 use Rattle.morris_pairs.proofs.RankedSets.{ranked_set}
@@ -101,14 +102,18 @@ module _ (board : Shape) (count k : ℕ) where
       let parts = test_parts board count found.0 found.2 in
       (found.0, found.1, parts.0, parts.1, ap₂ (classes_below board) parts.1 parts.0 ∙ found.3)
 
--- ---- each entry is a position's own
+-- ---- each number is a position's own
 
--- the position with entry i for its own
-pub record IsAtEntry (board : Shape) (l : Layout) (c : Counts) (i : ℕ) (s : Sides) : Type 0 where
+-- the position with the number i for its own
+pub record IsAtNode (board : Shape) (o : Order) (c : Counts) (i : ℕ) (s : Sides) : Type 0 where
   pub position : IsPosition board s
   pub of : is_of c s ≡ true
-  pub own : has_own_entry board l s ≡ true
-  pub entry : entry_index board board.points l c s ≡ i
+  pub own : own_in board o s ≡ true
+  pub entry : index_in board board.points o c s ≡ i
+
+-- the position with an entry of a table for its own
+abbrev pub IsAtEntry : Shape → Layout → Counts → ℕ → Sides → Type 0
+IsAtEntry board l c i s = IsAtNode board (order_of l) c i s
 
 module _ (board : Shape) (few : board.points ≤ 24) (y : HasSymmetries board) where
   -- the stones with a number among the entries of their numbers: the player to move stands on the
@@ -128,7 +133,7 @@ module _ (board : Shape) (few : board.points ≤ 24) (y : HasSymmetries board) w
 
   module _ (c : Counts) (pair : IsPair board.points c) where
     at_class_entry : (i a b : ℕ) (s : Sides) → HasStones board.points a b s → representative_of board s.own ≡ s.own → is_of c s ≡ true
-        → class_index_of board board.points c s ≡ i → IsAtEntry board Classes c i s
+        → class_index_of board board.points c s ≡ i → IsAtNode board Classes c i s
     at_class_entry i a b s h least of entry = record {
       position = position_of board c s pair h.placed of;
       of = of;
@@ -136,7 +141,7 @@ module _ (board : Shape) (few : board.points ≤ 24) (y : HasSymmetries board) w
       entry = entry;
     }
 
-    class_position_at : (i : ℕ) → i < class_size_of board board.points c → (s : Sides) × IsAtEntry board Classes c i s
+    class_position_at : (i : ℕ) → i < class_size_of board board.points c → (s : Sides) × IsAtNode board Classes c i s
     class_position_at i low = elim (cases_lt i (class_half_size board board.points c.greater c.lesser)) [
       | inl first ↦
           let found = class_indexed_at c.greater c.lesser i first in
@@ -153,18 +158,60 @@ module _ (board : Shape) (few : board.points ≤ 24) (y : HasSymmetries board) w
           (s, at_class_entry i c.lesser c.greater s found.1 found.2 of index)
     ]
 
-  pub position_of_entry : (l : Layout) (c : Counts) → IsPair board.points c → (i : ℕ) → i < entry_count board board.points l c
-      → (s : Sides) × IsAtEntry board l c i s
-  position_of_entry Full c pair i low =
+    -- in rows, the position of a class, or the one that is turned to it
+    row_position_at : (i : ℕ) → i < row_size_of board board.points c → (s : Sides) × IsAtNode board Rows c i s
+    row_position_at i low = elim (cases_lt i (class_half_size board board.points c.greater c.lesser)) [
+      | inl first ↦
+          let found = class_indexed_at c.greater c.lesser i first in
+          let s : Sides = found.0 in
+          let of = is_of-first c s (has_both board.points c.greater c.lesser s found.1) in
+          let e : is_ahead s ≡ true = le-leb (count_of s.other) (count_of s.own) (omega (arith, found.1.own_count, found.1.other_count, pair.ordered)) in (
+            s,
+            record {
+              position = position_of board c s pair found.1.placed of;
+              of = of;
+              own = subst (λ (u : Sides). eqb (representative_of board u.own) u.own ≡ true) (sym (ahead-yes s e))
+                  (eq-eqb (representative_of board s.own) s.own found.2);
+              entry = row_index-ahead board board.points c s e ∙ found.3;
+            },
+          )
+      | inr second ↦ elim (cases_eq c.greater c.lesser) [
+        | inl same ↦ absurd (omega (arith, low, second, row_size-one board board.points c same))
+        | inr differ ↦
+            let found = class_indexed_at c.greater c.lesser (i - class_half_size board board.points c.greater c.lesser)
+            (omega (arith, low, second, row_size-two board board.points c differ)) in
+            let u : Sides = found.0 in
+            let s : Sides = turned u in
+            let u_of : is_of c u ≡ true = is_of-first c u (has_both board.points c.greater c.lesser u found.1) in
+            let e : is_ahead s ≡ false =
+            lt-leb (count_of u.own) (count_of u.other) (omega (arith, found.1.own_count, found.1.other_count, pair.ordered, differ)) in
+            let at : row_index_of board board.points c s ≡ class_half_size board board.points c.greater c.lesser + class_half_index board board.points u =
+            row_index-behind board board.points c s e in (
+              s,
+              record {
+                position = turned_position board board.points few refl y c pair u (position_of board c u pair found.1.placed u_of) u_of;
+                of = turned_of c u u_of;
+                own = subst (λ (v : Sides). eqb (representative_of board v.own) v.own ≡ true) (sym (ahead-no s e))
+                    (eq-eqb (representative_of board u.own) u.own found.2);
+                entry = omega (arith, at, found.3, second);
+              },
+            )
+      ]
+    ]
+
+  pub position_of_node : (o : Order) (c : Counts) → IsPair board.points c → (i : ℕ) → i < count_in board board.points o c
+      → (s : Sides) × IsAtNode board o c i s
+  position_of_node Full c pair i low =
       let found = position_at board few c pair i low in
       (found.0, record { position = found.1; of = found.2; own = refl; entry = found.3 })
-  position_of_entry Classes c pair i low = class_position_at c pair i low
+  position_of_node Classes c pair i low = class_position_at c pair i low
+  position_of_node Rows c pair i low = row_position_at c pair i low
 
   -- each node of the graph stands for one position
-  pub at_index-some : (l : Layout) (c : Counts) → IsPair board.points c → (i : ℕ) → i < entry_count board board.points l c
-      → (s : Sides) × IsAtEntry board l c i s × (at_index board l c i ≡ s ∷ [])
-  at_index-some l c pair i low =
-      let found = position_of_entry l c pair i low in
+  pub at_index-some : (o : Order) (c : Counts) → IsPair board.points c → (i : ℕ) → i < count_in board board.points o c
+      → (s : Sides) × IsAtNode board o c i s × (at_index board o c i ≡ s ∷ [])
+  at_index-some o c pair i low =
+      let found = position_of_node o c pair i low in
       let s = found.0 in
       let w = found.1 in
-      (s, w, ap (at_index board l c) (sym w.entry) ∙ at_index-is board few l c (laid board few y l c pair) s w.position w.of w.own)
+      (s, w, ap (at_index board o c) (sym w.entry) ∙ at_index-is board few o c (laid_in board few y o c pair) s w.position w.of w.own)

@@ -3,17 +3,17 @@ use Rattle.std.specs.Prelude.{◌≡◌, ℕ, ◌<◌, ◌≤◌, List, [], ◌�
 use Rattle.std.specs.List.{All, range_with_len, flat_map}
 use Rattle.morris_board.specs.Boards.{Shape}
 use Rattle.morris_board.specs.Positions.{Sides}
+use Rattle.morris_board.specs.Symmetries.{image_sides}
 use Rattle.morris_moves.specs.declared.step.Move.{Move}
 use Rattle.morris_moves.specs.Rules.{move}
 use Rattle.morris_moves.specs.Backward.{has_come}
 use Rattle.morris_index.specs.Pairs.{Counts, index_of}
 use Rattle.morris_index.specs.Moves.{taken_back}
-use Rattle.morris_index.specs.Carried.{entries_before}
+use Rattle.morris_index.specs.Carried.{carries, entries_before}
 use Rattle.morris_wave.specs.Nets.{times}
 use Rattle.morris_pairs.specs.declared.layout.Layout.{Layout}
-use Rattle.morris_pairs.specs.declared.layout.Layout.TheVariants.{Full, Classes}
-use Rattle.morris_pairs.specs.Entries.{entry_count, entry_index}
-use Rattle.morris_pairs.specs.PairNets.{pair_net}
+use Rattle.morris_pairs.specs.Orders.{Order, Full, Classes, Rows, order_of, ahead, row_index_of, count_in, index_in}
+use Rattle.morris_pairs.specs.PairNets.{net_in}
 
 -- the quiet moves to v that led to s from a point below n, in order of that point
 unfoldable pub moves_into : Shape → Sides → ℕ → ℕ → List Move
@@ -23,22 +23,42 @@ moves_into board s v n = filter (has_come board s) (map (λ u. move u v None) (r
 unfoldable pub moves_before : Shape → Sides → ℕ → List ℕ → List Move
 moves_before board s n points = flat_map (λ v. moves_into board s v n) points
 
--- The entries from which the quiet move to s from u to v leads to the entry of s, on n points.
--- Full: that of the position before it. Classes: one for each symmetry that carries the move along.
-abbrev pub leads_from : Layout → Shape → ℕ → Counts → Sides → ℕ → ℕ → List ℕ
-leads_from Full board n c s u v = index_of n c (taken_back s u v) ∷ []
-leads_from Classes board n c s u v = entries_before board n c s u v
+-- The numbers in rows of the positions before the quiet move to p from u to v, carried along by the
+-- symmetries that lead the set which leads the position before it, and whose way back is the
+-- symmetry that leads the image of p.
+unfoldable pub rows_before : Shape → ℕ → Counts → Sides → ℕ → ℕ → List ℕ
+rows_before board n c p u v =
+    map (λ s. row_index_of board n c (image_sides (board.image s) (taken_back p u v)))
+    (filter (carries board (ahead p) (ahead (taken_back p u v)).own) (range_with_len 0 board.symmetries))
 
--- the entries from which these quiet moves lead to the entry of s, each as often as it has such a
--- move
-unfoldable pub entries_leading : Layout → Shape → ℕ → Counts → Sides → List Move → List ℕ
-entries_leading l board n c s moves = flat_map (λ m. leads_from l board n c s m.from m.to) moves
+-- The nodes from which the quiet move to s from u to v leads to the node of s, on n points. Full:
+-- that of the position before it. Classes and Rows: one for each symmetry that carries the move
+-- along.
+abbrev pub leads_in : Order → Shape → ℕ → Counts → Sides → ℕ → ℕ → List ℕ
+leads_in Full board n c s u v = index_of n c (taken_back s u v) ∷ []
+leads_in Classes board n c s u v = entries_before board n c s u v
+leads_in Rows board n c s u v = rows_before board n c s u v
 
--- `new` is `old`, followed by the entries from which a quiet move leads to the entry of s, each as
+-- the nodes from which these quiet moves lead to the node of s, each as often as it has such a move
+unfoldable pub leading_in : Order → Shape → ℕ → Counts → Sides → List Move → List ℕ
+leading_in o board n c s moves = flat_map (λ m. leads_in o board n c s m.from m.to) moves
+
+-- `new` is `old`, followed by the nodes from which a quiet move leads to the node of s, each as
 -- often as it has such a move; these are at most 65,535
-pub record AddsBefore (l : Layout) (board : Shape) (n : ℕ) (c : Counts) (s : Sides) (old new : List ℕ) : Type 0 where
+pub record AddsBeforeIn (o : Order) (board : Shape) (n : ℕ) (c : Counts) (s : Sides) (old new : List ℕ) : Type 0 where
   pub added : List ℕ
   pub follow : new ≡ old ++ added
-  pub often : (j : ℕ) → j < entry_count board n l c → times j added ≡ times (entry_index board n l c s) ((pair_net board l c).quiet j)
-  pub nodes : All (λ j. j < entry_count board n l c) added
+  pub often : (j : ℕ) → j < count_in board n o c → times j added ≡ times (index_in board n o c s) ((net_in board o c).quiet j)
+  pub nodes : All (λ j. j < count_in board n o c) added
   pub few : length added ≤ 65535
+
+-- ---- the same for the entries of a table
+
+abbrev pub leads_from : Layout → Shape → ℕ → Counts → Sides → ℕ → ℕ → List ℕ
+leads_from l board n c s u v = leads_in (order_of l) board n c s u v
+
+abbrev pub entries_leading : Layout → Shape → ℕ → Counts → Sides → List Move → List ℕ
+entries_leading l board n c s moves = leading_in (order_of l) board n c s moves
+
+abbrev pub AddsBefore : Layout → Shape → ℕ → Counts → Sides → List ℕ → List ℕ → Type 0
+AddsBefore l board n c s old new = AddsBeforeIn (order_of l) board n c s old new

@@ -1,48 +1,50 @@
--- Laws of the entries of a table, in either layout: each entry is that of one position, and each
--- position has the value of the one whose entry tells it.
-use Rattle.std.proofs.Common.{◌≡◌, ℕ, ◌+◌, ◌-◌, ◌*◌, ◌^◌, ◌<◌, ◌≤◌, true, map, refl, sym, ap, ap₂, ◌∙◌, inl, inr, ◌⊎◌, arith}
-use Rattle.std.proofs.lemmas.Bool.{cases_eq, eqb-true, eq-eqb, and_from}
+-- Laws of the numbers of positions, in each order: each number is one position's own, and each
+-- position has the value of the one whose number it has.
+use Rattle.std.proofs.Common.{◌≡◌, ◌≢◌, ℕ, ◌+◌, ◌-◌, ◌*◌, ◌^◌, ◌<◌, ◌≤◌, true, false, eqb, leb, cond, map, refl, sym, ap, ap₂, subst, ◌∙◌, inl, inr, ◌⊎◌, arith}
+use Rattle.std.proofs.lemmas.Bool.{cases_Bool, cases_eq, eqb-true, eq-eqb, ne_eqb, le-leb, lt-leb, and_from}
 use Rattle.morris_board.specs.Boards.{Shape}
 use Rattle.morris_board.specs.Sets.{members, count_of}
-use Rattle.morris_board.specs.Positions.{Sides, IsPosition, is_sized}
-use Rattle.morris_board.specs.Symmetries.{inverse_of, HasSymmetries}
+use Rattle.morris_board.specs.Positions.{Sides, sides, IsPosition, is_sized}
+use Rattle.morris_board.specs.Symmetries.{image_of, image_sides, inverse_of, HasSymmetries}
+use Rattle.morris_board.proofs.ImageLaws.{IsOneToOne, one_to_one, IsPosition-image, count_of-image}
 use Rattle.morris_moves.specs.Images.{IsImage, HaveOneValue}
 use Rattle.morris_moves.proofs.SymmetryLaws.{IsImage-value}
 use Rattle.morris_index.specs.Binomials.{choose}
+use Rattle.morris_index.specs.Facing.{turned}
 use Rattle.morris_index.specs.Numbering.{rank_of, number_outside, half_size}
 use Rattle.morris_index.specs.Pairs.{Counts, IsPair, IsHalf, is_of, size_of}
 use Rattle.morris_index.specs.Classes.{symmetry_of, representative_of, class_of}
 use Rattle.morris_index.specs.ClassPairs.{led, class_half_size, class_half_index, class_size_of, class_index_of}
 use Rattle.morris_board.proofs.PositionLaws.{from_between}
 use Rattle.morris_index.proofs.IndexLaws.{IsPlaced, placed, halves_of, index-same, index-lt, size-one, size-two, half_size-few}
-use Rattle.morris_index.proofs.ClassLaws.{symmetry_within, representative_twice, class_of-representative}
-use Rattle.morris_index.proofs.ClassPairLaws.{led_position, led_own, led_own_count, led_other_count, led_itself, led_alone, class_size-few}
-use Rattle.morris_index.proofs.ClassPairLaws.{index-lt as class_index-lt, size-one as class_size-one, size-two as class_size-two}
+use Rattle.morris_index.proofs.ClassLaws.{symmetry_within, image_none, representative_symmetry, representative_twice, class_of-representative}
+use Rattle.morris_index.proofs.ClassPairLaws.{led_position, led_own, led_own_count, led_other_count, led_itself, led_alone, led_same, class_below, class_size-few}
+use Rattle.morris_index.proofs.ClassPairLaws.{index-lt as class_index-lt, class_index-lt as half_index-lt, size-one as class_size-one, size-two as class_size-two}
 use Rattle.morris_index.proofs.ClassCounts.{class_count-few}
+use Rattle.morris_index.proofs.FacingLaws.{turned_position}
 use Rattle.morris_pairs.specs.declared.layout.Layout.{Layout}
-use Rattle.morris_pairs.specs.declared.layout.Layout.TheVariants.{Full, Classes}
-use Rattle.morris_pairs.specs.Entries.{entry_count, entry_index, has_own_entry}
+use Rattle.morris_pairs.specs.Orders.{Order, Full, Classes, Rows, order_of, is_ahead, ahead, row_size_of, row_index_of, count_in, index_in, own_in}
 
--- The position t stands for the position s: it is s or an image of it, has the entry of s for its
+-- The position t stands for the position s: it is s or an image of it, has the number of s for its
 -- own, and the value of s.
-pub record StandsFor (board : Shape) (l : Layout) (c : Counts) (s t : Sides) : Type 0 where
+pub record StandsFor (board : Shape) (o : Order) (c : Counts) (s t : Sides) : Type 0 where
   pub position : IsPosition board t
   pub of : is_of c t ≡ true
-  pub own : has_own_entry board l t ≡ true
-  pub entry : entry_index board board.points l c t ≡ entry_index board board.points l c s
+  pub own : own_in board o t ≡ true
+  pub entry : index_in board board.points o c t ≡ index_in board board.points o c s
   pub image : (s ≡ t) ⊎ IsImage board s t
   pub one_value : HaveOneValue board s t
 
--- The entries of a pair: that of a position is one of them; two positions don't have one for their
--- own; and for each position there is one that stands for it.
-pub record IsLaid (board : Shape) (l : Layout) (c : Counts) : Type 0 where
-  pub below : (s : Sides) → IsPosition board s → is_of c s ≡ true → entry_index board board.points l c s < entry_count board board.points l c
+-- The numbers of a pair: that of a position is below their count; two positions don't have one for
+-- their own; and for each position there is one that stands for it.
+pub record IsLaid (board : Shape) (o : Order) (c : Counts) : Type 0 where
+  pub below : (s : Sides) → IsPosition board s → is_of c s ≡ true → index_in board board.points o c s < count_in board board.points o c
   pub alone : (s t : Sides) → IsPlaced board.points s → IsPlaced board.points t → is_of c s ≡ true → is_of c t ≡ true
-      → has_own_entry board l s ≡ true → has_own_entry board l t ≡ true
-      → entry_index board board.points l c s ≡ entry_index board board.points l c t → s ≡ t
-  pub stands : (s : Sides) → IsPosition board s → is_of c s ≡ true → (t : Sides) × StandsFor board l c s t
+      → own_in board o s ≡ true → own_in board o t ≡ true
+      → index_in board board.points o c s ≡ index_in board board.points o c t → s ≡ t
+  pub stands : (s : Sides) → IsPosition board s → is_of c s ≡ true → (t : Sides) × StandsFor board o c s t
 
--- ---- an entry for each position
+-- ---- a number for each position
 
 pub laid-full : (board : Shape) → board.points ≤ 24 → (c : Counts) → IsLaid board Full c
 laid-full board few c = record {
@@ -51,7 +53,7 @@ laid-full board few c = record {
   stands = λ s h of. (s, record { position = h; of = of; own = refl; entry = refl; image = inl refl; one_value = record { lost = λ n. refl; won = λ n. refl } });
 }
 
--- ---- entries by classes
+-- ---- positions that are led
 
 -- a position of a pair has as many stones as a position may have
 pub is_sized-is_of : (n : ℕ) (c : Counts) (s : Sides) → IsPair n c → is_of c s ≡ true → is_sized s ≡ true
@@ -71,34 +73,105 @@ position_of board c s pair h of = record {
   sized = is_sized-is_of board.points c s pair of;
 }
 
-module _ (board : Shape) (few : board.points ≤ 24) (y : HasSymmetries board) (c : Counts) where
-  -- a position whose own set is a representative is led to itself
-  pub led_none : (s : Sides) → IsPlaced board.points s → has_own_entry board Classes s ≡ true → led board s ≡ s
+-- the image of a position under the symmetry of the set that leads it: the own one, once the position
+-- is turned
+abbrev pub led_by : Shape → (Sides → Sides) → Sides → Sides
+led_by board turn s = image_sides (board.image (symmetry_of board (turn s).own)) s
+
+-- An order in which positions are led: the image of a set that leads a position leads the image of
+-- the position; the number is the own one of positions in which this set is a representative; and
+-- just the positions that are led to one have one number, that of this one.
+pub record IsLedBy (board : Shape) (o : Order) (c : Counts) (turn : Sides → Sides) : Type 0 where
+  pub within : (s : Sides) → IsPosition board s → (turn s).own < 2 ^ board.points
+  pub image : (k : ℕ) → k < board.symmetries → (s : Sides) → IsPosition board s
+      → (turn (image_sides (board.image k) s)).own ≡ image_of (board.image k) (turn s).own
+  pub own : (s : Sides) → own_in board o s ≡ eqb (representative_of board (turn s).own) (turn s).own
+  pub below : (s : Sides) → IsPosition board s → is_of c s ≡ true → index_in board board.points o c s < count_in board board.points o c
+  pub alone : (s t : Sides) → IsPosition board s → IsPosition board t → is_of c s ≡ true → is_of c t ≡ true
+      → index_in board board.points o c s ≡ index_in board board.points o c t → led_by board turn s ≡ led_by board turn t
+  pub there : (s : Sides) → IsPosition board s → is_of c s ≡ true
+      → index_in board board.points o c (led_by board turn s) ≡ index_in board board.points o c s
+
+module _ (board : Shape) (few : board.points ≤ 24) (y : HasSymmetries board) (o : Order) (c : Counts) (turn : Sides → Sides) (laws : IsLedBy board o c turn) where
+  -- a position whose number is its own is led to itself
+  pub led_none : (s : Sides) → IsPosition board s → own_in board o s ≡ true → led_by board turn s ≡ s
   led_none s h own =
-      led_itself board board.points few refl y s.own s.other h.own_within h.other_within (eqb-true (representative_of board s.own) s.own own)
+      let least : representative_of board (turn s).own ≡ (turn s).own = eqb-true _ _ (sym (laws.own s) ∙ own) in
+      let none : symmetry_of board (turn s).own ≡ 0 =
+      ap (symmetry_of board) (sym least) ∙ representative_symmetry board few y (turn s).own (laws.within s h) in
+      ap (λ k. image_sides (board.image k) s) none
+      ∙ ap₂ sides (image_none board few y s.own h.stones.own_within) (image_none board few y s.other h.stones.other_within)
 
   module _ (s : Sides) (h : IsPosition board s) where
-    there : IsPosition board (led board s)
-    there = led_position board board.points few refl y s h
+    leads : symmetry_of board (turn s).own < board.symmetries
+    leads = symmetry_within board few y (turn s).own (laws.within s h)
 
-    own_there : has_own_entry board Classes (led board s) ≡ true
+    one : IsOneToOne board.points (board.image (symmetry_of board (turn s).own)) (board.image (inverse_of (symmetry_of board (turn s).own)))
+    one = one_to_one board _ _ (y.symmetry (symmetry_of board (turn s).own) leads)
+
+    there : IsPosition board (led_by board turn s)
+    there = IsPosition-image board few _ _ one s h
+
+    set_there : (turn (led_by board turn s)).own ≡ representative_of board (turn s).own
+    unfolding representative_of
+    set_there = laws.image (symmetry_of board (turn s).own) leads s h
+
+    own_there : own_in board o (led_by board turn s) ≡ true
     own_there =
-        eq-eqb (representative_of board (led board s).own) (led board s).own
+        laws.own (led_by board turn s)
+        ∙ eq-eqb _ _ (ap (representative_of board) set_there ∙ representative_twice board few y (turn s).own (laws.within s h) ∙ sym set_there)
+
+    of_there : is_of c s ≡ true → is_of c (led_by board turn s) ≡ true
+    of_there of = rw (
+      count_of-image board.points few _ _ one s.own h.stones.own_within,
+      count_of-image board.points few _ _ one s.other h.stones.other_within,
+    ) of
+
+    image_there : IsImage board s (led_by board turn s)
+    image_there = record {
+      map = board.image (symmetry_of board (turn s).own);
+      back = board.image (inverse_of (symmetry_of board (turn s).own));
+      symmetry = y.symmetry (symmetry_of board (turn s).own) leads;
+      image = refl;
+    }
+
+  pub laid-led : IsPair board.points c → IsLaid board o c
+  laid-led pair = record {
+    below = laws.below;
+    alone = λ s t h k s_of t_of s_own t_own same.
+        let here = position_of board c s pair h s_of in
+        let also = position_of board c t pair k t_of in
+        sym (led_none s here s_own) ∙ laws.alone s t here also s_of t_of same ∙ led_none t also t_own;
+    stands = λ s h of. (
+      led_by board turn s,
+      record {
+        position = there s h;
+        of = of_there s h of;
+        own = own_there s h;
+        entry = laws.there s h of;
+        image = inr (image_there s h);
+        one_value = IsImage-value board few s (led_by board turn s) h (image_there s h);
+      },
+    );
+  }
+
+-- ---- by the player to move
+
+module _ (board : Shape) (few : board.points ≤ 24) (y : HasSymmetries board) where
+  module _ (s : Sides) (h : IsPosition board s) where
+    led_twice : led board (led board s) ≡ led board s
+    led_twice =
+        let p = led_position board board.points few refl y s h in
+        led_itself board board.points few refl y (led board s).own (led board s).other p.stones.own_within p.stones.other_within
         (ap (representative_of board) (led_own board board.points few refl y s h)
         ∙ representative_twice board few y s.own h.stones.own_within
         ∙ sym (led_own board board.points few refl y s h))
-
-    led_twice : led board (led board s) ≡ led board s
-    led_twice = led_none (led board s) (placed board board.points (led board s) refl there) own_there
 
     own_count : count_of (led board s).own ≡ count_of s.own
     own_count = led_own_count board board.points few refl y s h
 
     other_count : count_of (led board s).other ≡ count_of s.other
     other_count = led_other_count board board.points few refl y s h
-
-    of_there : is_of c s ≡ true → is_of c (led board s) ≡ true
-    of_there of = rw (own_count, other_count) of
 
     class_there : class_of board (led board s).own ≡ class_of board s.own
     class_there = ap (class_of board) (led_own board board.points few refl y s h) ∙ class_of-representative board few y s.own h.stones.own_within
@@ -110,46 +183,166 @@ module _ (board : Shape) (few : board.points ≤ 24) (y : HasSymmetries board) (
         (ap₂ (λ x r. x * r) class_there (ap₂ (λ a b. choose (board.points - a) b) own_count other_count))
         (ap (λ (t : Sides). rank_of (map (number_outside t.own) (members t.other))) led_twice)
 
-    pub index_there : class_index_of board board.points c (led board s) ≡ class_index_of board board.points c s
+    index_there : (c : Counts) → class_index_of board board.points c (led board s) ≡ class_index_of board board.points c s
     unfolding class_index_of
-    index_there = rw (own_count, half_there) refl
+    index_there c = rw (own_count, half_there) refl
 
-    image_there : IsImage board s (led board s)
-    unfolding led
-    image_there = record {
-      map = board.image (symmetry_of board s.own);
-      back = board.image (inverse_of (symmetry_of board s.own));
-      symmetry = y.symmetry (symmetry_of board s.own) (symmetry_within board few y s.own h.stones.own_within);
-      image = refl;
-    }
+    -- the number of a position among those with as many stones
+    half_lt : (a b : ℕ) → count_of s.own ≡ a → count_of s.other ≡ b → class_half_index board board.points s < class_half_size board board.points a b
+    half_lt a b own other =
+        subst (λ k. class_half_index board board.points s < class_half_size board board.points k b) own
+        (subst (λ k. class_half_index board board.points s < class_half_size board board.points (count_of s.own) k) other
+        (half_index-lt board board.points few refl y s h (class_below board board.points few refl y s h)))
 
-  pub laid-classes : IsPair board.points c → IsLaid board Classes c
-  laid-classes pair = record {
-    below = λ s h of. class_index-lt board board.points few refl y c s h of;
-    alone = λ s t h k s_of t_of s_own t_own same.
-        sym (led_none s h s_own)
-        ∙ led_alone board board.points few refl y c s t (position_of board c s pair h s_of) (position_of board c t pair k t_of) s_of t_of same
-        ∙ led_none t k t_own;
-    stands = λ s h of. (
-      led board s,
-      record {
-        position = there s h;
-        of = of_there s h of;
-        own = own_there s h;
-        entry = index_there s h;
-        image = inr (image_there s h);
-        one_value = IsImage-value board few s (led board s) h (image_there s h);
-      },
-    );
+  pub led-classes : (c : Counts) → IsLedBy board Classes c (λ s. s)
+  unfolding led
+  led-classes c = record {
+    within = λ s h. h.stones.own_within;
+    image = λ k low s h. refl;
+    own = λ s. refl;
+    below = class_index-lt board board.points few refl y c;
+    alone = λ s t h k s_of t_of same. led_alone board board.points few refl y c s t h k s_of t_of same;
+    there = λ s h of. index_there s h c;
   }
 
--- ---- in either layout
+-- ---- by the side with more stones
 
-pub laid : (board : Shape) → board.points ≤ 24 → HasSymmetries board → (l : Layout) (c : Counts) → IsPair board.points c → IsLaid board l c
-laid board few y Full c pair = laid-full board few c
-laid board few y Classes c pair = laid-classes board few y c pair
+pub ahead-yes : (s : Sides) → is_ahead s ≡ true → ahead s ≡ s
+ahead-yes s e = ap (λ b. cond {A = Sides} b s (turned s)) e
 
--- the number of entries is small
+pub ahead-no : (s : Sides) → is_ahead s ≡ false → ahead s ≡ turned s
+ahead-no s e = ap (λ b. cond {A = Sides} b s (turned s)) e
+
+-- in which half of a pair a position is
+pub ahead_cases : (n : ℕ) (c : Counts) → IsPair n c → (s : Sides) → is_of c s ≡ true
+    → ((is_ahead s ≡ true) × (count_of s.own ≡ c.greater) × (count_of s.other ≡ c.lesser))
+    ⊎ ((is_ahead s ≡ false) × (c.greater ≢ c.lesser) × (count_of s.own ≡ c.lesser) × (count_of s.other ≡ c.greater))
+ahead_cases n c pair s of = elim (halves_of c s of) [
+  | inl a ↦ inl (le-leb (count_of s.other) (count_of s.own) (omega (arith, a.0, a.1, pair.ordered)), a.0, a.1)
+  | inr b ↦ inr (lt-leb (count_of s.other) (count_of s.own) (omega (arith, b.0, b.1, b.2, pair.ordered)), b.0, b.1, b.2)
+]
+
+module _ (board : Shape) (n : ℕ) (c : Counts) where
+  abbrev half : ℕ
+  half = class_half_size board n c.greater c.lesser
+
+  pub row_size-one : c.greater ≡ c.lesser → row_size_of board n c ≡ half
+  unfolding row_size_of
+  row_size-one e = rw (eq-eqb c.greater c.lesser e) (omega arith)
+
+  pub row_size-two : c.greater ≢ c.lesser → row_size_of board n c ≡ half + half
+  unfolding row_size_of
+  row_size-two d = rw (ne_eqb c.greater c.lesser d) refl
+
+  pub row_index-ahead : (s : Sides) → is_ahead s ≡ true → row_index_of board n c s ≡ class_half_index board n s
+  unfolding row_index_of
+  row_index-ahead s e = rw e (omega arith)
+
+  pub row_index-behind : (s : Sides) → is_ahead s ≡ false → row_index_of board n c s ≡ half + class_half_index board n (turned s)
+  unfolding row_index_of
+  row_index-behind s e = rw e refl
+
+module _ (board : Shape) (few : board.points ≤ 24) (y : HasSymmetries board) where
+  pub ahead_within : (s : Sides) → IsPosition board s → (ahead s).own < 2 ^ board.points
+  ahead_within s h = elim (cases_Bool (is_ahead s)) [
+    | inl e ↦ subst (λ (u : Sides). u.own < 2 ^ board.points) (sym (ahead-yes s e)) h.stones.own_within
+    | inr e ↦ subst (λ (u : Sides). u.own < 2 ^ board.points) (sym (ahead-no s e)) h.stones.other_within
+  ]
+
+  module _ (k : ℕ) (low : k < board.symmetries) (s : Sides) (h : IsPosition board s) where
+    pub is_ahead-image : is_ahead (image_sides (board.image k) s) ≡ is_ahead s
+    is_ahead-image =
+        let one = one_to_one board _ _ (y.symmetry k low) in
+        ap₂ (λ a b. leb a b) (count_of-image board.points few _ _ one s.other h.stones.other_within)
+        (count_of-image board.points few _ _ one s.own h.stones.own_within)
+
+    pub ahead-image : ahead (image_sides (board.image k) s) ≡ image_sides (board.image k) (ahead s)
+    ahead-image = elim (cases_Bool (is_ahead s)) [
+      | inl e ↦ ahead-yes (image_sides (board.image k) s) (is_ahead-image ∙ e) ∙ sym (ap (image_sides (board.image k)) (ahead-yes s e))
+      | inr e ↦ ahead-no (image_sides (board.image k) s) (is_ahead-image ∙ e) ∙ sym (ap (image_sides (board.image k)) (ahead-no s e))
+    ]
+
+  module _ (c : Counts) (pair : IsPair board.points c) where
+    turned_here : (s : Sides) → IsPosition board s → is_of c s ≡ true → IsPosition board (turned s)
+    turned_here = turned_position board board.points few refl y c pair
+
+    row_index-lt : (s : Sides) → IsPosition board s → is_of c s ≡ true → row_index_of board board.points c s < row_size_of board board.points c
+    row_index-lt s h of = elim (ahead_cases board.points c pair s of) [
+      | inl a ↦
+          let low = half_lt board few y s h c.greater c.lesser a.1 a.2 in
+          elim (cases_eq c.greater c.lesser) [
+            | inl e ↦ omega (arith, low, row_index-ahead board board.points c s a.0, row_size-one board board.points c e)
+            | inr d ↦ omega (arith, low, row_index-ahead board board.points c s a.0, row_size-two board board.points c d)
+          ]
+      | inr b ↦
+          omega (arith, half_lt board few y (turned s) (turned_here s h of) c.greater c.lesser b.3 b.2, row_index-behind board board.points c s b.0, row_size-two board board.points c b.1)
+    ]
+
+    led-ahead : (s : Sides) → is_ahead s ≡ true → led_by board ahead s ≡ led board s
+    unfolding led
+    led-ahead s e = ap (λ (u : Sides). image_sides (board.image (symmetry_of board u.own)) s) (ahead-yes s e)
+
+    led-behind : (s : Sides) → is_ahead s ≡ false → led_by board ahead s ≡ turned (led board (turned s))
+    unfolding led
+    led-behind s e = ap (λ (u : Sides). image_sides (board.image (symmetry_of board u.own)) s) (ahead-no s e)
+
+    row_alone : (s t : Sides) → IsPosition board s → IsPosition board t → is_of c s ≡ true → is_of c t ≡ true
+        → row_index_of board board.points c s ≡ row_index_of board board.points c t → led_by board ahead s ≡ led_by board ahead t
+    row_alone s t h k s_of t_of same = elim (ahead_cases board.points c pair s s_of) [
+      | inl a ↦ elim (ahead_cases board.points c pair t t_of) [
+        | inl b ↦
+            led-ahead s a.0
+            ∙ led_same board board.points few refl y s t h k (a.1 ∙ sym b.1) (a.2 ∙ sym b.2) (sym (row_index-ahead board board.points c s a.0) ∙ same ∙ row_index-ahead board board.points c t b.0)
+            ∙ sym (led-ahead t b.0)
+        | inr b ↦ absurd (omega (arith, half_lt board few y s h c.greater c.lesser a.1 a.2, same, row_index-ahead board board.points c s a.0, row_index-behind board board.points c t b.0))
+      ]
+      | inr a ↦ elim (ahead_cases board.points c pair t t_of) [
+        | inl b ↦ absurd (omega (arith, half_lt board few y t k c.greater c.lesser b.1 b.2, same, row_index-ahead board board.points c t b.0, row_index-behind board board.points c s a.0))
+        | inr b ↦
+            led-behind s a.0
+            ∙ ap turned (led_same board board.points few refl y (turned s) (turned t) (turned_here s h s_of) (turned_here t k t_of) (a.3 ∙ sym b.3) (a.2 ∙ sym b.2)
+            (omega (arith, same, row_index-behind board board.points c s a.0, row_index-behind board board.points c t b.0)))
+            ∙ sym (led-behind t b.0)
+      ]
+    ]
+
+    ahead_here : (s : Sides) → IsPosition board s → is_of c s ≡ true → IsPosition board (ahead s)
+    ahead_here s h of = elim (cases_Bool (is_ahead s)) [
+      | inl e ↦ subst (IsPosition board) (sym (ahead-yes s e)) h
+      | inr e ↦ subst (IsPosition board) (sym (ahead-no s e)) (turned_here s h of)
+    ]
+
+    row_there : (s : Sides) → IsPosition board s → is_of c s ≡ true
+        → row_index_of board board.points c (led_by board ahead s) ≡ row_index_of board board.points c s
+    unfolding row_index_of led
+    row_there s h of =
+        let low = symmetry_within board few y (ahead s).own (ahead_within s h) in
+        ap₂ (λ z i. z + i)
+        (ap (λ b. cond {A = ℕ} b 0 (half board board.points c)) (is_ahead-image (symmetry_of board (ahead s).own) low s h))
+        (ap (class_half_index board board.points) (ahead-image (symmetry_of board (ahead s).own) low s h) ∙ half_there board few y (ahead s) (ahead_here s h of))
+
+    pub led-rows : IsLedBy board Rows c ahead
+    led-rows = record {
+      within = ahead_within;
+      image = λ k low s h. ap (λ (u : Sides). u.own) (ahead-image k low s h);
+      own = λ s. refl;
+      below = row_index-lt;
+      alone = row_alone;
+      there = row_there;
+    }
+
+-- ---- in each order
+
+pub laid_in : (board : Shape) → board.points ≤ 24 → HasSymmetries board → (o : Order) (c : Counts) → IsPair board.points c → IsLaid board o c
+laid_in board few y Full c pair = laid-full board few c
+laid_in board few y Classes c pair = laid-led board few y Classes c (λ s. s) (led-classes board few y c) pair
+laid_in board few y Rows c pair = laid-led board few y Rows c ahead (led-rows board few y c pair) pair
+
+-- and so in either layout of a table
+pub laid : (board : Shape) → board.points ≤ 24 → HasSymmetries board → (l : Layout) (c : Counts) → IsPair board.points c → IsLaid board (order_of l) c
+laid board few y l c pair = laid_in board few y (order_of l) c pair
+
+-- the numbers are few
 module _ (board : Shape) (few : board.points ≤ 24) (y : HasSymmetries board) (c : Counts) (pair : IsPair board.points c) where
   greater_first : IsHalf board.points c.greater c.lesser
   greater_first = record {
@@ -190,6 +383,15 @@ module _ (board : Shape) (few : board.points ≤ 24) (y : HasSymmetries board) (
         | inr d ↦ omega (arith, class_size-two board board.points few refl y c d)
       ]
 
-  pub entries_few : (l : Layout) → entry_count board board.points l c ≤ 2 ^ 40
+  rows_few : row_size_of board board.points c ≤ 2 ^ 40
+  rows_few =
+      let first : class_half_size board board.points c.greater c.lesser ≤ 549755813888 = class_half_few c.greater c.lesser greater_first in
+      elim (cases_eq c.greater c.lesser) [
+        | inl e ↦ omega (arith, row_size-one board board.points c e)
+        | inr d ↦ omega (arith, row_size-two board board.points c d)
+      ]
+
+  pub entries_few : (o : Order) → count_in board board.points o c ≤ 2 ^ 40
   entries_few Full = full_few
   entries_few Classes = classes_few
+  entries_few Rows = rows_few

@@ -9,9 +9,9 @@ use Rattle.morris_wave.specs.declared.network.Exits.{Exits}
 use Rattle.morris_wave.specs.Exits.{exits_of}
 use Rattle.morris_wave.specs.Values.{HasCode}
 use Rattle.morris_pairs.specs.declared.layout.Layout.{Layout}
-use Rattle.morris_pairs.specs.Entries.{entry_index}
+use Rattle.morris_pairs.specs.Orders.{Order, order_of, index_in}
 use Rattle.morris_pairs.specs.Codes.{IsCodeOf, code_to}
-use Rattle.morris_pairs.specs.PairNets.{is_capture, level_of, net_at}
+use Rattle.morris_pairs.specs.PairNets.{is_capture, level_in, net_at}
 use Rattle.morris_pairs.specs.Tables.{Table, IsTable}
 
 -- an exact table of a pair
@@ -36,7 +36,11 @@ unfoldable pub exits_by : Shape → Sides → List Move → Exits
 exits_by board s moves = exits_of (map (λ m. code_to 65534 board (result_of s m)) (filter is_capture moves))
 
 -- the node of each position in the pair's graph has the value that the position has in the game
-abbrev pub HasGameValues : Shape → Layout → Counts → Type 0
-HasGameValues board l c =
+abbrev pub HasValuesIn : Shape → Order → Counts → Type 0
+HasValuesIn board o c =
     (s : Sides) (code : ℕ) → IsPosition board s → is_of c s ≡ true
-    → (HasCode (net_at board (level_of l c)) (entry_index board board.points l c s) code ↔ IsCodeOf board s code)
+    → (HasCode (net_at board (level_in o c)) (index_in board board.points o c s) code ↔ IsCodeOf board s code)
+
+-- the same of the graph whose nodes are the entries of a table
+abbrev pub HasGameValues : Shape → Layout → Counts → Type 0
+HasGameValues board l c = HasValuesIn board (order_of l) c

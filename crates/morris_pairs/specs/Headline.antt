@@ -12,23 +12,27 @@ use Rattle.morris_wave.specs.Blocks.{BlockState, IsBlock, IsIn, in_applied, firs
 use Rattle.morris_wave.specs.Exits.{is_odd, is_won_code}
 use Rattle.morris_wave.specs.Waves.{entry_at}
 use Rattle.morris_pairs.specs.declared.layout.Layout.{Layout}
-use Rattle.morris_pairs.specs.Entries.{entry_index}
+use Rattle.morris_pairs.specs.Orders.{Order, order_of, index_in}
 use Rattle.morris_pairs.specs.Codes.{IsCodeOf}
-use Rattle.morris_pairs.specs.PairNets.{at_index, level_of, net_at}
+use Rattle.morris_pairs.specs.PairNets.{at_index, level_in, net_at}
 
 -- A block of the graph of a pair: it is of the level of that graph, as the block itself tells, and
 -- what every block keeps. The second is what a lock says of the block that it guards.
-pub record IsBlockOf (board : Shape) (l : Layout) (c : Counts) (s : BlockState) : Type 0 where
-  pub level : s.level ≡ level_of l c
+pub record IsBlockIn (board : Shape) (o : Order) (c : Counts) (s : BlockState) : Type 0 where
+  pub level : s.level ≡ level_in o c
   pub block : IsBlock (net_at board s.level) s
 
+-- the same of the graph whose nodes are the entries of a table
+abbrev pub IsBlockOf : Shape → Layout → Counts → BlockState → Type 0
+IsBlockOf board l c s = IsBlockIn board (order_of l) c s
+
 -- the positions that have the block's entries for their own, in the order of these
-abbrev pub positions_in : Shape → Layout → Counts → BlockState → List Sides
-positions_in board l c s = flat_map (at_index board l c) (range_with_len (first_node s) (count_of s))
+abbrev pub positions_in : Shape → Order → Counts → BlockState → List Sides
+positions_in board o c s = flat_map (at_index board o c) (range_with_len (first_node s) (count_of s))
 
 -- the entry at a position: 0 while it is open
-abbrev pub entry_of : Shape → Layout → Counts → BlockState → Sides → ℕ
-entry_of board l c s p = entry_at (net_at board s.level) s.wave (in_applied s) (entry_index board board.points l c p)
+abbrev pub entry_of : Shape → Order → Counts → BlockState → Sides → ℕ
+entry_of board o c s p = entry_at (net_at board s.level) s.wave (in_applied s) (index_in board board.points o c p)
 
 -- how many of the block's entries pass a test: the tallies count those of wins, those of losses and
 -- the open ones
@@ -38,8 +42,11 @@ tally_of board s p = count_by p (entries_of (net_at board s.level) s)
 -- Each decided entry, which isn't 0, is the game's value and exact depth at its position. The
 -- entries are those of the block's positions, one of each, and the three tallies together count
 -- each of them once.
-pub record TellsTheGame (board : Shape) (l : Layout) (c : Counts) (s : BlockState) : Type 0 where
-  pub exact : (p : Sides) → IsPosition board p → is_of c p ≡ true → IsIn s.cut s.number (entry_index board board.points l c p)
-      → 0 < entry_of board l c s p → IsCodeOf board p (entry_of board l c s p)
-  pub listed : entries_of (net_at board s.level) s ≡ map (entry_of board l c s) (positions_in board l c s)
-  pub tallied : tally_of board s is_won_code + tally_of board s is_odd + tally_of board s (λ entry. entry == 0) ≡ length (positions_in board l c s)
+pub record TellsIn (board : Shape) (o : Order) (c : Counts) (s : BlockState) : Type 0 where
+  pub exact : (p : Sides) → IsPosition board p → is_of c p ≡ true → IsIn s.cut s.number (index_in board board.points o c p)
+      → 0 < entry_of board o c s p → IsCodeOf board p (entry_of board o c s p)
+  pub listed : entries_of (net_at board s.level) s ≡ map (entry_of board o c s) (positions_in board o c s)
+  pub tallied : tally_of board s is_won_code + tally_of board s is_odd + tally_of board s (λ entry. entry == 0) ≡ length (positions_in board o c s)
+
+abbrev pub TellsTheGame : Shape → Layout → Counts → BlockState → Type 0
+TellsTheGame board l c s = TellsIn board (order_of l) c s

@@ -1,4 +1,5 @@
 pub mod Codes
+pub mod Orders
 pub mod Entries
 pub mod EntryLaws
 pub mod PairNets
@@ -21,6 +22,7 @@ pub mod Captured
 pub mod KeptCaptures
 pub mod Sweeping
 pub mod ClassGraphs
+pub mod RowGraphs
 pub mod Agreement
 pub mod Faces
 pub mod OwnSets
@@ -30,3 +32,7 @@ pub mod QuietEnds
 pub mod Verifying
 pub mod Headline
 pub mod Building
+pub mod SetMoves
+pub mod FacingCaptures
+pub mod RowSteps
+pub mod RowBacks

@@ -1,4 +1,4 @@
--- Laws of the graph of a pair in a layout: its nodes are positions of the pair, and it is a graph.
+-- Laws of the graph of a pair in an order: its nodes are positions of the pair, and it is a graph.
 use Rattle.std.proofs.Common.{◌≡◌, ℕ, ◌+◌, ◌-◌, ◌*◌, ◌/◌, ◌%◌, ◌^◌, ◌<◌, ◌≤◌, Bool, true, false, not, ◌&&◌, eqb, leb, ltb, List, [], ◌∷◌, map, filter, length, Option, Some, None, is_none, refl, sym, ap, ap₂, subst, ◌∙◌, inl, inr, ◌⊎◌, arith, zero, suc, cond}
 use Rattle.std.proofs.lemmas.Bool.{cases_Bool, both_ways, and_parts, and_from, eqb-true, eq-eqb, leb-true, le-leb, lt-ltb, le-ltb, ltb-true, not-true, not_from_false, false_from_ne_true}
 use Rattle.std.proofs.lemmas.List.{length-map}
@@ -21,11 +21,9 @@ use Rattle.morris_moves.proofs.SetLaws.{point_lt}
 use Rattle.morris_moves.proofs.LegalLaws.{IsLegalMove, listed_move}
 use Rattle.morris_moves.proofs.ResultLaws.{IsPosition-result, count_of-mover, count_of-quiet, count_of-capture}
 use Rattle.morris_wave.specs.Nets.{Net, IsNet}
-use Rattle.morris_pairs.specs.PairNets.{all_sides, are_apart, is_at, at_index, is_quiet, is_capture, quiet_results, capture_codes, pair_net, level_of, layout_at, counts_at, keeps_limits, is_net, net_at}
-use Rattle.morris_pairs.specs.declared.layout.Layout.{Layout}
-use Rattle.morris_pairs.specs.declared.layout.Layout.TheVariants.{Full, Classes}
-use Rattle.morris_pairs.specs.Entries.{entry_count, entry_index, has_own_entry}
-use Rattle.morris_pairs.specs.EntryLaws.{is_sized-is_of, IsLaid, laid, entries_few}
+use Rattle.morris_pairs.specs.PairNets.{all_sides, are_apart, is_at, at_index, is_quiet, is_capture, quiet_results, capture_codes, net_in, level_in, order_at, counts_at, keeps_limits, is_net, net_at}
+use Rattle.morris_pairs.specs.Orders.{Order, Full, Classes, Rows, count_in, index_in, own_in}
+use Rattle.morris_pairs.specs.EntryLaws.{is_sized-is_of, IsLaid, laid_in, entries_few}
 use Rattle.morris_pairs.specs.Codes.{is_decided, code_to}
 use Rattle.morris_pairs.specs.FilterLaws.{filter-flat_map, filter-map, flat_map-one, filter-yes, filter-no, range_bounds, range_none, range_one, filter-contains, length-filter_le, All-from_contained}
 
@@ -48,42 +46,42 @@ are_apart-passed n s few small h p e =
 
 -- ---- the position with an index
 
-module _ (board : Shape) (few : board.points ≤ 24) (l : Layout) (c : Counts) (laid : IsLaid board l c) where
+module _ (board : Shape) (few : board.points ≤ 24) (o : Order) (c : Counts) (laid : IsLaid board o c) where
   -- what passes the test for an index is placed
-  placed_at : (i : ℕ) (s : Sides) → s.own < 2 ^ board.points → s.other < 2 ^ board.points → is_at board l c i s ≡ true
-      → IsPlaced board.points s × (is_of c s ≡ true) × (has_own_entry board l s ≡ true) × (entry_index board board.points l c s ≡ i)
+  placed_at : (i : ℕ) (s : Sides) → s.own < 2 ^ board.points → s.other < 2 ^ board.points → is_at board o c i s ≡ true
+      → IsPlaced board.points s × (is_of c s ≡ true) × (own_in board o s ≡ true) × (index_in board board.points o c s ≡ i)
   placed_at i s own other h =
-      let first = and_parts (are_apart s) (is_of c s && (has_own_entry board l s && eqb (entry_index board board.points l c s) i)) h in
-      let second = and_parts (is_of c s) (has_own_entry board l s && eqb (entry_index board board.points l c s) i) first.1 in
-      let third = and_parts (has_own_entry board l s) (eqb (entry_index board board.points l c s) i) second.1 in (
+      let first = and_parts (are_apart s) (is_of c s && (own_in board o s && eqb (index_in board board.points o c s) i)) h in
+      let second = and_parts (is_of c s) (own_in board o s && eqb (index_in board board.points o c s) i) first.1 in
+      let third = and_parts (own_in board o s) (eqb (index_in board board.points o c s) i) second.1 in (
         record { own_within = own; other_within = other; apart = are_apart-passed board.points s few own first.0 },
         second.0,
         third.0,
         eqb-true _ _ third.1,
       )
 
-  -- the entry of a position is that of a node
-  pub index_in : (s : Sides) → IsPosition board s → is_of c s ≡ true → entry_index board board.points l c s < entry_count board board.points l c
-  index_in s h of = laid.below s h of
+  -- the number of a position is that of a node
+  pub node_below : (s : Sides) → IsPosition board s → is_of c s ≡ true → index_in board board.points o c s < count_in board board.points o c
+  node_below s h of = laid.below s h of
 
-  module _ (s : Sides) (h : IsPosition board s) (of : is_of c s ≡ true) (kept : has_own_entry board l s ≡ true) where
-    is_at-passes : is_at board l c (entry_index board board.points l c s) s ≡ true
+  module _ (s : Sides) (h : IsPosition board s) (of : is_of c s ≡ true) (kept : own_in board o s ≡ true) where
+    is_at-passes : is_at board o c (index_in board board.points o c s) s ≡ true
     is_at-passes =
         and_from (are_apart s) _ (are_apart-passes board s h.stones)
-        (and_from (is_of c s) _ of (and_from (has_own_entry board l s) _ kept (eq-eqb (entry_index board board.points l c s) _ refl)))
+        (and_from (is_of c s) _ of (and_from (own_in board o s) _ kept (eq-eqb (index_in board board.points o c s) _ refl)))
 
-    -- no other stones have its entry for their own
+    -- no other stones have its number for their own
     others : (t : Sides) → t.own < 2 ^ board.points → t.other < 2 ^ board.points → (t ≡ s → ⊥)
-        → is_at board l c (entry_index board board.points l c s) t ≡ false
+        → is_at board o c (index_in board board.points o c s) t ≡ false
     others t own other differ = false_from_ne_true _ (λ e.
-        let w = placed_at (entry_index board board.points l c s) t own other e in
+        let w = placed_at (index_in board board.points o c s) t own other e in
         differ (laid.alone t s w.0 (placed board board.points s refl h) w.1 of w.2 kept w.3))
 
-    -- the entry of a position that has its own is that position's, alone
-    pub at_index-is : at_index board l c (entry_index board board.points l c s) ≡ s ∷ []
+    -- a number that is a position's own is that position's, alone
+    pub at_index-is : at_index board o c (index_in board board.points o c s) ≡ s ∷ []
     unfolding at_index all_sides
     at_index-is =
-        let p : Sides → Bool = is_at board l c (entry_index board board.points l c s) in
+        let p : Sides → Bool = is_at board o c (index_in board board.points o c s) in
         let numbers : List ℕ = range_with_len 0 (2 ^ board.points) in
         let each : (own : ℕ) → filter p (map (sides own) numbers) ≡ flat_map (λ other. filter p (sides own other ∷ [])) numbers =
         λ own. filter-map p (sides own) numbers in
@@ -101,13 +99,13 @@ module _ (board : Shape) (few : board.points ≤ 24) (l : Layout) (c : Counts) (
         ∙ range_one (λ other. filter p (sides s.own other ∷ [])) 0 (2 ^ board.points) s.other (omega arith) (omega (arith, h.stones.other_within)) wrong_other
         ∙ filter-yes p (sides s.own s.other) is_at-passes
 
-  -- what stands at an entry is a position of the pair that has it for its own
-  pub at_index-position : IsPair board.points c → (i : ℕ) (s : Sides) → Contains (at_index board l c i) s
-      → IsPosition board s × (is_of c s ≡ true) × (has_own_entry board l s ≡ true) × (entry_index board board.points l c s ≡ i)
+  -- what stands at a number is a position of the pair that has it for its own
+  pub at_index-position : IsPair board.points c → (i : ℕ) (s : Sides) → Contains (at_index board o c i) s
+      → IsPosition board s × (is_of c s ≡ true) × (own_in board o s ≡ true) × (index_in board board.points o c s ≡ i)
   unfolding at_index all_sides
   at_index-position pair i s at =
       let numbers : List ℕ = range_with_len 0 (2 ^ board.points) in
-      let passed = filter-contains (is_at board l c i) (all_sides board.points) s at in
+      let passed = filter-contains (is_at board o c i) (all_sides board.points) s at in
       let owns = Contains-flat_map_cases (λ own. map (sides own) numbers) numbers s passed.0 in
       let others = Contains-map_cases (sides owns.0) numbers s owns.2 in
       let own_is : s.own ≡ owns.0 = ap (λ (t : Sides). t.own) (sym others.2) in
@@ -126,18 +124,18 @@ module _ (board : Shape) (few : board.points ≤ 24) (l : Layout) (c : Counts) (
 
   -- ---- what a node leads to
 
-  module _ (s : Sides) (h : IsPosition board s) (of : is_of c s ≡ true) (kept : has_own_entry board l s ≡ true) where
-    pub quiet-at : (pair_net board l c).quiet (entry_index board board.points l c s) ≡ quiet_results board l c s
-    unfolding pair_net
-    quiet-at = ap (flat_map (quiet_results board l c)) (at_index-is s h of kept) ∙ flat_map-one (quiet_results board l c) s
+  module _ (s : Sides) (h : IsPosition board s) (of : is_of c s ≡ true) (kept : own_in board o s ≡ true) where
+    pub quiet-at : (net_in board o c).quiet (index_in board board.points o c s) ≡ quiet_results board o c s
+    unfolding net_in
+    quiet-at = ap (flat_map (quiet_results board o c)) (at_index-is s h of kept) ∙ flat_map-one (quiet_results board o c) s
 
-    pub exits-at : (pair_net board l c).exits (entry_index board board.points l c s) ≡ capture_codes board s
-    unfolding pair_net
+    pub exits-at : (net_in board o c).exits (index_in board board.points o c s) ≡ capture_codes board s
+    unfolding net_in
     exits-at = ap (flat_map (capture_codes board)) (at_index-is s h of kept) ∙ flat_map-one (capture_codes board) s
 
-pub size-pair_net : (board : Shape) (l : Layout) (c : Counts) → (pair_net board l c).size ≡ entry_count board board.points l c
-unfolding pair_net
-size-pair_net board l c = refl
+pub size-net_in : (board : Shape) (o : Order) (c : Counts) → (net_in board o c).size ≡ count_in board board.points o c
+unfolding net_in
+size-net_in board o c = refl
 
 -- ---- the number of a pair's graph
 
@@ -147,15 +145,24 @@ digits n c h =
     let lesser : (c.greater * 10 + c.lesser) % 10 ≡ c.lesser = omega (arith, h.most, h.ordered) in
     ap₂ counts greater lesser
 
-pub level-layout : (n : ℕ) (l : Layout) (c : Counts) → IsPair n c → layout_at (level_of l c) ≡ l
-level-layout n Full c h = rw (lt-ltb (c.greater * 10 + c.lesser) 100 (omega (arith, h.most, h.ordered))) refl
-level-layout n Classes c h = rw (le-ltb (100 + (c.greater * 10 + c.lesser)) 100 (omega arith)) refl
+pub level-order : (n : ℕ) (o : Order) (c : Counts) → IsPair n c → order_at (level_in o c) ≡ o
+level-order n Full c h = rw (lt-ltb (c.greater * 10 + c.lesser) 100 (omega (arith, h.most, h.ordered))) refl
+level-order n Classes c h =
+    rw (le-ltb (100 + (c.greater * 10 + c.lesser)) 100 (omega arith), lt-ltb (100 + (c.greater * 10 + c.lesser)) 200 (omega (arith, h.most, h.ordered))) refl
+level-order n Rows c h = rw (le-ltb (200 + (c.greater * 10 + c.lesser)) 100 (omega arith), le-ltb (200 + (c.greater * 10 + c.lesser)) 200 (omega arith)) refl
 
-pub level-counts : (n : ℕ) (l : Layout) (c : Counts) → IsPair n c → counts_at (level_of l c) ≡ c
+pub level-counts : (n : ℕ) (o : Order) (c : Counts) → IsPair n c → counts_at (level_in o c) ≡ c
 level-counts n Full c h = rw (lt-ltb (c.greater * 10 + c.lesser) 100 (omega (arith, h.most, h.ordered))) (digits n c h)
 level-counts n Classes c h =
     let rest : 100 + (c.greater * 10 + c.lesser) - 100 ≡ c.greater * 10 + c.lesser = omega arith in
-    rw (le-ltb (100 + (c.greater * 10 + c.lesser)) 100 (omega arith), rest) (digits n c h)
+    rw (
+      le-ltb (100 + (c.greater * 10 + c.lesser)) 100 (omega arith),
+      lt-ltb (100 + (c.greater * 10 + c.lesser)) 200 (omega (arith, h.most, h.ordered)),
+      rest,
+    ) (digits n c h)
+level-counts n Rows c h =
+    let rest : 200 + (c.greater * 10 + c.lesser) - 200 ≡ c.greater * 10 + c.lesser = omega arith in
+    rw (le-ltb (200 + (c.greater * 10 + c.lesser)) 100 (omega arith), le-ltb (200 + (c.greater * 10 + c.lesser)) 200 (omega arith), rest) (digits n c h)
 
 -- ---- where a move leads
 
@@ -208,12 +215,12 @@ pub moves_of_few : (board : Shape) (s : Sides) → length (moves_of board s) ≤
 unfolding moves_of
 moves_of_few board s = omega (arith, length-flat_map_le (moves_from board s) 1024 (members s.own) (moves_from_few board s), members_few s.own)
 
-pub quiet_results_few : (board : Shape) (l : Layout) (c : Counts) (s : Sides) → length (quiet_results board l c s) ≤ 32768
+pub quiet_results_few : (board : Shape) (o : Order) (c : Counts) (s : Sides) → length (quiet_results board o c s) ≤ 32768
 unfolding quiet_results
-quiet_results_few board l c s =
+quiet_results_few board o c s =
     omega (
       arith,
-      length-map (filter is_quiet (moves_of board s)) (λ m. entry_index board board.points l c (result_of s m)),
+      length-map (filter is_quiet (moves_of board s)) (λ m. index_in board board.points o c (result_of s m)),
       length-filter_le is_quiet (moves_of board s),
       moves_of_few board s,
     )
@@ -233,54 +240,54 @@ code_to-few board s (suc n) =
     (omega (arith, code_to-few board s n))
     (cond_few (is_decided (suc n) board s) (n + 2) 0 (suc n + 1) (omega arith) (omega arith))
 
-module _ (board : Shape) (few : board.points ≤ 24) (y : HasSymmetries board) (l : Layout) (c : Counts) (pair : IsPair board.points c) where
-  entries : IsLaid board l c
-  entries = laid board few y l c pair
+module _ (board : Shape) (few : board.points ≤ 24) (y : HasSymmetries board) (o : Order) (c : Counts) (pair : IsPair board.points c) where
+  entries : IsLaid board o c
+  entries = laid_in board few y o c pair
 
   -- what quiet moves lead to are nodes
-  pub quiet-inside : (i j : ℕ) → Contains ((pair_net board l c).quiet i) j → j < entry_count board board.points l c
-  unfolding pair_net quiet_results
+  pub quiet-inside : (i j : ℕ) → Contains ((net_in board o c).quiet i) j → j < count_in board board.points o c
+  unfolding net_in quiet_results
   quiet-inside i j at =
-      let from = Contains-flat_map_cases (quiet_results board l c) (at_index board l c i) j at in
+      let from = Contains-flat_map_cases (quiet_results board o c) (at_index board o c i) j at in
       let s = from.0 in
-      let w = at_index-position board few l c entries pair i s from.1 in
-      let by = Contains-map_cases (λ m. entry_index board board.points l c (result_of s m)) (filter is_quiet (moves_of board s)) j from.2 in
+      let w = at_index-position board few o c entries pair i s from.1 in
+      let by = Contains-map_cases (λ m. index_in board board.points o c (result_of s m)) (filter is_quiet (moves_of board s)) j from.2 in
       let m = by.0 in
       let passed = filter-contains is_quiet (moves_of board s) m by.1 in
       let there = result-position board few s w.0 m passed.0 in
       let of = quiet-stays board few s w.0 m passed.0 c w.1 passed.1 in
-      subst (λ k. k < entry_count board board.points l c) by.2 (index_in board few l c entries (result_of s m) there of)
+      subst (λ k. k < count_in board board.points o c) by.2 (node_below board few o c entries (result_of s m) there of)
 
   -- and there are few of them
-  pub quiet-few : (i : ℕ) → length ((pair_net board l c).quiet i) ≤ 65535
-  unfolding pair_net
-  quiet-few i = from (at_index board l c i) refl
+  pub quiet-few : (i : ℕ) → length ((net_in board o c).quiet i) ≤ 65535
+  unfolding net_in
+  quiet-few i = from (at_index board o c i) refl
     where
-      from : (ss : List Sides) → at_index board l c i ≡ ss → length (flat_map (quiet_results board l c) (at_index board l c i)) ≤ 65535
-      from [] e = omega (arith, ap (λ ts. length (flat_map (quiet_results board l c) ts)) e)
+      from : (ss : List Sides) → at_index board o c i ≡ ss → length (flat_map (quiet_results board o c) (at_index board o c i)) ≤ 65535
+      from [] e = omega (arith, ap (λ ts. length (flat_map (quiet_results board o c) ts)) e)
       from (s ∷ ss) e =
-          let at : Contains (at_index board l c i) s = subst (λ ts. Contains ts s) (sym e) (Contains-head s ss) in
-          let w = at_index-position board few l c entries pair i s at in
-          let one : at_index board l c i ≡ s ∷ [] = ap (at_index board l c) (sym w.3) ∙ at_index-is board few l c entries s w.0 w.1 w.2 in
-          let same : length (flat_map (quiet_results board l c) (at_index board l c i)) ≡ length (quiet_results board l c s) =
-          ap (λ ts. length (flat_map (quiet_results board l c) ts)) one ∙ ap length (flat_map-one (quiet_results board l c) s) in
-          omega (arith, quiet_results_few board l c s)
+          let at : Contains (at_index board o c i) s = subst (λ ts. Contains ts s) (sym e) (Contains-head s ss) in
+          let w = at_index-position board few o c entries pair i s at in
+          let one : at_index board o c i ≡ s ∷ [] = ap (at_index board o c) (sym w.3) ∙ at_index-is board few o c entries s w.0 w.1 w.2 in
+          let same : length (flat_map (quiet_results board o c) (at_index board o c i)) ≡ length (quiet_results board o c s) =
+          ap (λ ts. length (flat_map (quiet_results board o c) ts)) one ∙ ap length (flat_map-one (quiet_results board o c) s) in
+          omega (arith, quiet_results_few board o c s)
 
   -- the codes of captures fit 16 bits
-  pub exits-few : (i code : ℕ) → Contains ((pair_net board l c).exits i) code → code ≤ 65535
-  unfolding pair_net capture_codes
+  pub exits-few : (i code : ℕ) → Contains ((net_in board o c).exits i) code → code ≤ 65535
+  unfolding net_in capture_codes
   exits-few i code at =
-      let from = Contains-flat_map_cases (capture_codes board) (at_index board l c i) code at in
+      let from = Contains-flat_map_cases (capture_codes board) (at_index board o c i) code at in
       let by = Contains-map_cases (λ m. code_to 65534 board (result_of from.0 m)) (filter is_capture (moves_of board from.0)) code from.2 in
       omega (arith, by.2, code_to-few board (result_of from.0 by.0) 65534)
 
-  pub IsNet-pair_net : IsNet (pair_net board l c)
-  IsNet-pair_net = record {
-    small = rw (size-pair_net board l c) (entries_few board few y c pair l);
+  pub IsNet-net_in : IsNet (net_in board o c)
+  IsNet-net_in = record {
+    small = rw (size-net_in board o c) (entries_few board few y c pair o);
     inside = λ i low.
-        All-from_contained (λ j. j < (pair_net board l c).size) ((pair_net board l c).quiet i) (λ j at. rw (size-pair_net board l c) (quiet-inside i j at));
+        All-from_contained (λ j. j < (net_in board o c).size) ((net_in board o c).quiet i) (λ j at. rw (size-net_in board o c) (quiet-inside i j at));
     few = λ i low. quiet-few i;
-    codes = λ i low. All-from_contained (λ code. code ≤ 65535) ((pair_net board l c).exits i) (exits-few i);
+    codes = λ i low. All-from_contained (λ code. code ≤ 65535) ((net_in board o c).exits i) (exits-few i);
   }
 
 -- ---- the test of a graph
@@ -335,19 +342,19 @@ IsNet-none g none = record {
 -- each level stands for a graph
 pub IsNet-net_at : (board : Shape) (level : ℕ) → IsNet (net_at board level)
 unfolding net_at
-IsNet-net_at board level = elim (cases_Bool (is_pair board.points (counts_at level) && is_net (pair_net board (layout_at level) (counts_at level)))) [
+IsNet-net_at board level = elim (cases_Bool (is_pair board.points (counts_at level) && is_net (net_in board (order_at level) (counts_at level)))) [
   | inl both ↦
-      let parts = and_parts (is_pair board.points (counts_at level)) (is_net (pair_net board (layout_at level) (counts_at level))) both in
-      rw both (IsNet-tested (pair_net board (layout_at level) (counts_at level)) parts.1)
+      let parts = and_parts (is_pair board.points (counts_at level)) (is_net (net_in board (order_at level) (counts_at level))) both in
+      rw both (IsNet-tested (net_in board (order_at level) (counts_at level)) parts.1)
   | inr neither ↦ rw neither (IsNet-none _ refl)
 ]
 
 -- the graph of the level of a pair is the pair's
-pub net_at-level_of : (board : Shape) → is_board board ≡ true → HasSymmetries board → (l : Layout) (c : Counts) → IsPair board.points c
-    → net_at board (level_of l c) ≡ pair_net board l c
+pub net_at-level_in : (board : Shape) → is_board board ≡ true → HasSymmetries board → (o : Order) (c : Counts) → IsPair board.points c
+    → net_at board (level_in o c) ≡ net_in board o c
 unfolding net_at
-net_at-level_of board lawful y l c h =
-    let counts_is : counts_at (level_of l c) ≡ c = level-counts board.points l c h in
-    let layout_is : layout_at (level_of l c) ≡ l = level-layout board.points l c h in
-    let tested : is_net (pair_net board l c) ≡ true = is_net-true (pair_net board l c) (IsNet-pair_net board (points_few board lawful) y l c h) in
-    rw (counts_is, layout_is, pair_passes board.points c h, tested) refl
+net_at-level_in board lawful y o c h =
+    let counts_is : counts_at (level_in o c) ≡ c = level-counts board.points o c h in
+    let order_is : order_at (level_in o c) ≡ o = level-order board.points o c h in
+    let tested : is_net (net_in board o c) ≡ true = is_net-true (net_in board o c) (IsNet-net_in board (points_few board lawful) y o c h) in
+    rw (counts_is, order_is, pair_passes board.points c h, tested) refl

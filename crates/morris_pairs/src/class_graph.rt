@@ -3,8 +3,9 @@ ghost use Rattle.std.specs.Prelude.{◌≡◌, ℕ, ◌↔◌, None, true, IfErr
 ghost use Rattle.morris_wave.specs.Blocks.{BlockState};
 ghost use Rattle.morris_wave.specs.Values.{HasCode, IsTooDeep};
 ghost use Rattle.morris_pairs.specs.Graphs.{HasGameValues};
-ghost use Rattle.morris_pairs.specs.Headline.{IsBlockOf, TellsTheGame};
+ghost use Rattle.morris_pairs.specs.Headline.{IsBlockIn, TellsIn};
 ghost use Rattle.morris_pairs.specs.Known.{IsBeyondCodes};
+ghost use Rattle.morris_pairs.specs.Orders.{Order};
 ghost use Rattle.morris_pairs.specs.PairNets.{level_of, net_at};
 ghost use Rattle.morris_pairs.specs.Shelves.{first_missing};
 ghost use Rattle.morris_pairs.specs.Sweeping.{needed_by, is_of_graph};
@@ -73,7 +74,7 @@ impl<'a, B: Geometry> ClassGraph<'a, B> {
         ensures deep { OnOk result (IsTooDeep (net_at B.shape (level_of Layout.Classes pair)) ↔ IsBeyondCodes B.shape pair) }
         // What the blocks of the graph hold, at any wave and whatever is applied, is the game's,
         // also where a table is missing.
-        ensures blocks { (s : BlockState) → IsBlockOf B.shape Layout.Classes pair s → TellsTheGame B.shape Layout.Classes pair s }
+        ensures blocks { (o : Order) (s : BlockState) → IsBlockIn B.shape o pair s → TellsIn B.shape o pair s }
     {
         ClassGraph::over(alloc, shelf.tables(), pair)
     }
@@ -95,7 +96,7 @@ impl<'a, B: Geometry> ClassGraph<'a, B> {
         ensures deep { OnOk result (IsTooDeep (net_at B.shape (level_of Layout.Classes pair)) ↔ IsBeyondCodes B.shape pair) }
         // What the blocks of the graph hold, at any wave and whatever is applied, is the game's,
         // also where a table is missing.
-        ensures blocks { (s : BlockState) → IsBlockOf B.shape Layout.Classes pair s → TellsTheGame B.shape Layout.Classes pair s }
+        ensures blocks { (o : Order) (s : BlockState) → IsBlockIn B.shape o pair s → TellsIn B.shape o pair s }
     {
         // The proof learns here that the numbers of stones are those of a pair.
         let _ = pair.greater();

@@ -13,13 +13,14 @@ ghost use Rattle.morris_wave.specs.Exits.{exits_of};
 ghost use Rattle.morris_wave.specs.Values.{HasCode, IsTooDeep};
 ghost use Rattle.morris_pairs.specs.Entries.{entry_count};
 ghost use Rattle.morris_pairs.specs.Numberings.{layout_of, pair_of};
-ghost use Rattle.morris_pairs.specs.PairNets.{capture_codes, level_of, net_at};
+ghost use Rattle.morris_pairs.specs.Orders.{Order};
+ghost use Rattle.morris_pairs.specs.PairNets.{capture_codes, level_in, level_of, net_at};
 ghost use Rattle.morris_pairs.specs.Known.{IsBeyondCodes};
 ghost use Rattle.morris_pairs.specs.Tables.{table};
 ghost use Rattle.morris_pairs.specs.Shelves.{table_on, first_missing};
-ghost use Rattle.morris_pairs.specs.Headline.{IsBlockOf, TellsTheGame};
+ghost use Rattle.morris_pairs.specs.Headline.{IsBlockIn, TellsIn};
 ghost use Rattle.morris_pairs.specs.Captured.{captured_pair, IsLeft, IsClosing, captures_at, captures_to};
-ghost use Rattle.morris_pairs.specs.Graphs.{IsTableOf, IsNeeded, exits_by, HasGameValues};
+ghost use Rattle.morris_pairs.specs.Graphs.{IsTableOf, IsNeeded, exits_by, HasGameValues, HasValuesIn};
 ghost use Rattle.morris_pairs.specs.KeptCaptures.{AreKept};
 
 use crate::backward::{list_before_all, list_entries_before};
@@ -202,7 +203,7 @@ impl<'a, B: Geometry> PairGraph<'a, B> {
         ensures deep { OnOk result ((l : Layout) → (IsTooDeep (net_at B.shape (level_of l pair)) ↔ IsBeyondCodes B.shape pair)) }
         // What the blocks of the graph hold, at any wave and whatever is applied, is the game's,
         // also where a table is missing.
-        ensures blocks { (l : Layout) (s : BlockState) → IsBlockOf B.shape l pair s → TellsTheGame B.shape l pair s }
+        ensures blocks { (o : Order) (s : BlockState) → IsBlockIn B.shape o pair s → TellsIn B.shape o pair s }
     {
         PairGraph::over(shelf.tables(), pair)
     }
@@ -218,7 +219,7 @@ impl<'a, B: Geometry> PairGraph<'a, B> {
         ensures deep { OnOk result ((l : Layout) → (IsTooDeep (net_at B.shape (level_of l pair)) ↔ IsBeyondCodes B.shape pair)) }
         // What the blocks of the graph hold, at any wave and whatever is applied, is the game's,
         // also where a table is missing.
-        ensures blocks { (l : Layout) (s : BlockState) → IsBlockOf B.shape l pair s → TellsTheGame B.shape l pair s }
+        ensures blocks { (o : Order) (s : BlockState) → IsBlockIn B.shape o pair s → TellsIn B.shape o pair s }
     {
         let (less_lesser, less_greater) = captured_pairs(&pair);
         if let Some(needs) = tables.missing(pair) {
@@ -253,9 +254,18 @@ impl<'a, B: Geometry> PairGraph<'a, B> {
         Exact::new(numbering, codes)
     }
 
+    /// What the proof knows of the values of the graph, in each order of its nodes.
+    pub(crate) fn values(&self)
+        ensures values { (o : Order) → HasValuesIn B.shape o self.now }
+        ensures deep { (o : Order) → (IsTooDeep (net_at B.shape (level_in o self.now)) ↔ IsBeyondCodes B.shape self.now) }
+    {
+        // The proof learns here that the graph has the tables that it needs.
+        let _ = &self.pair;
+    }
+
     /// The table of the results of the captures of a position of the pair, in which the opponent has
     /// more than three stones.
-    fn captured_table(&self, position: &Position<B>) -> &Exact<B>
+    pub(crate) fn captured_table(&self, position: &Position<B>) -> &Exact<B>
         requires counts { is_of self.now position.now ≡ true }
         requires above { 3 < count_of position.now.other }
         ensures { IsTableOf B.shape (captured_pair position.now) result.now }

@@ -4,7 +4,7 @@ use morris_wave::Levels;
 use std::marker::PhantomData;
 
 /// The family of the graphs of a board's pairs. The level of a pair is its two numbers of stones as
-/// digits, such as 43 for 4-3, and 143 for the graph of its classes.
+/// digits, such as 43 for 4-3, 143 for the graph of its classes, and 243 for that of its rows.
 pub struct PairLevels<B: Board> {
     board: PhantomData<B>,
 }

@@ -50,7 +50,7 @@ fn with_where(set: Points, number: u8, here: bool) -> Points
 
 impl SmallCounts {
     /// No number has a count.
-    const NONE: SmallCounts = SmallCounts {
+    pub(crate) const NONE: SmallCounts = SmallCounts {
         ones: Points::EMPTY,
         twos: Points::EMPTY,
         fours: Points::EMPTY,
@@ -58,7 +58,7 @@ impl SmallCounts {
     };
 
     /// These with the last four binary digits of `count` for `number`, which has no count yet.
-    fn with(self, number: u8, count: u16) -> SmallCounts
+    pub(crate) fn with(self, number: u8, count: u16) -> SmallCounts
         requires number { number < 32 }
         requires none { count_at self number ≡ 0 }
         ensures { (v : ℕ) → count_at result v ≡ count_at self v + (if nat_eq v number then count % 16 else 0) }
@@ -72,7 +72,7 @@ impl SmallCounts {
     }
 
     /// The counts of these numbers together.
-    fn sum_over(self, numbers: Points) -> u16
+    pub(crate) fn sum_over(self, numbers: Points) -> u16
         ensures { result ≡ sum_by (count_at self) (members numbers) }
     {
         u16::from(numbers.common(self.ones).count())

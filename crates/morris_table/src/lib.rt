@@ -6,5 +6,5 @@ pub mod building;
 
 pub use morris_pairs::{
     build_fault, class_graph, exact, file_faults, graph, header, layout, levels, raw, reading,
-    shelf, sweeping, table_set, value, verify, writing,
+    row_graph, shelf, sweeping, table_set, value, verify, writing,
 };

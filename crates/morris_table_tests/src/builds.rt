@@ -1,15 +1,17 @@
 // Tables built by many workers, of whom some are sent away: they are right, or none is answered.
 use crate::checks::{holds, same};
+use crate::graphs::row_graph_of;
 use crate::making::{
     agree, built, empty, file_of, pair, shelf_with, swept, three_by_classes, three_three,
 };
 use morris_board::grid::Grid;
+use morris_index::pair::Pair;
 use morris_pairs::build_fault::BuildFault;
 use morris_pairs::exact::Exact;
 use morris_pairs::layout::Layout;
-use morris_pairs::shelf::Needs;
+use morris_pairs::shelf::{Needs, Shelf};
 use morris_table::building::{build, build_as};
-use morris_workers::{Gate, OpenGate, Turn};
+use morris_workers::{Gate, OpenGate, Turn, solve};
 use std::alloc::Global;
 use std::process::Abort;
 use std::sync::Wait;
@@ -77,7 +79,20 @@ fn few_and_many_workers_build_the_same_table(rt: HostRuntime) {
     assert_built(&rt, rt.alloc(), 64, 64, 100);
 }
 
-/// The builds of 4-3 in both layouts, over a table of 3-3, agree with its sweep.
+/// The table of a pair of two different numbers from its graph by rows.
+fn built_by_rows<R: Abort + Threads + Wait + Sync>(
+    rt: &R,
+    alloc: Global,
+    shelf: &Shelf<Grid>,
+    pair: Pair<Grid>,
+) -> Exact<Grid> {
+    let graph = row_graph_of(rt, alloc, shelf, pair);
+    let codes = solve(rt, alloc, &graph, &OpenGate, 3, 16).expect(rt, "the codes");
+    graph.into_table(alloc, codes).expect(rt, "a table")
+}
+
+/// The builds of 4-3 in both layouts and from the graph by rows, over a table of 3-3, agree with its
+/// sweep.
 fn assert_agree_over<R: Abort + Threads + Wait + Sync>(rt: &R, alloc: Global, low: Exact<Grid>) {
     let shelf = shelf_with(rt, alloc, low);
     let pair = pair(rt, 4, 3);
@@ -86,6 +101,8 @@ fn assert_agree_over<R: Abort + Threads + Wait + Sync>(rt: &R, alloc: Global, lo
     holds(rt, agree(&full, &swept), "by positions");
     let classes = built(rt, alloc, &shelf, pair, Layout::Classes);
     holds(rt, agree(&classes, &swept), "by classes");
+    let rows = built_by_rows(rt, alloc, &shelf, pair);
+    holds(rt, agree(&rows, &swept), "by rows");
 }
 
 #[test]

@@ -5,6 +5,7 @@ use morris_board::grid::Grid;
 use morris_index::pair::Pair;
 use morris_pairs::class_graph::ClassGraph;
 use morris_pairs::graph::PairGraph;
+use morris_pairs::row_graph::RowGraph;
 use morris_pairs::shelf::Shelf;
 use morris_wave::{Graph, Levels};
 use std::alloc::Global;
@@ -46,6 +47,17 @@ fn class_graph_of<'a>(
     ClassGraph::new(alloc, shelf, pair).expect(rt, "a graph by classes")
 }
 
+/// The graph of a pair of two different numbers by rows.
+pub(crate) fn row_graph_of<'a>(
+    rt: &impl Abort,
+    alloc: Global,
+    shelf: &'a Shelf<Grid>,
+    pair: Pair<Grid>,
+) -> RowGraph<'a, Grid> {
+    assert!(rt; pair.lesser() < pair.greater());
+    RowGraph::new(alloc, shelf, pair).expect(rt, "a graph by rows")
+}
+
 /// The sum for the graph of a pair, and for its graph by classes.
 fn assert_sums(rt: &impl Abort, alloc: Global, greater: u8, full: u64, classes: u64) {
     let shelf = shelf_of_three(rt, alloc);
@@ -62,6 +74,18 @@ fn lists_have_each_quiet_move(rt: HostRuntime) {
     assert_sums(&rt, rt.alloc(), 4, 54_606, 87_080);
 }
 
+#[test]
+fn lists_by_rows_have_each_quiet_move(rt: HostRuntime) {
+    let shelf = shelf_of_three(&rt, rt.alloc());
+    let graph = row_graph_of(&rt, rt.alloc(), &shelf, pair(&rt, 4, 3));
+    same(
+        &rt,
+        sum_of_lists(&rt, rt.alloc(), &graph),
+        28_781,
+        "by rows",
+    );
+}
+
 /// What the nodes of a graph have in all: how many quiet moves, and how many of the nodes have a
 /// capture that leads to a loss, to a win and to a draw.
 fn moves_in_all<N: Levels, G: Graph<Name = N>>(graph: &G) -> (u64, u64, u64, u64) {
@@ -76,7 +100,7 @@ fn moves_in_all<N: Levels, G: Graph<Name = N>>(graph: &G) -> (u64, u64, u64, u64
     (quiet, lost, won, drawn)
 }
 
-// The graph of 4-3, and its graph by classes.
+// The graph of 4-3, its graph by classes and the one by rows.
 #[test]
 fn nodes_have_their_moves(rt: HostRuntime) {
     let shelf = shelf_of_three(&rt, rt.alloc());
@@ -85,4 +109,6 @@ fn nodes_have_their_moves(rt: HostRuntime) {
     holds(&rt, full == (9900, 380, 288, 216), "by positions");
     let classes = moves_in_all(&class_graph_of(&rt, rt.alloc(), &shelf, pair));
     holds(&rt, classes == (1894, 62, 48, 36), "by classes");
+    let rows = moves_in_all(&row_graph_of(&rt, rt.alloc(), &shelf, pair));
+    holds(&rt, rows == (1822, 62, 54, 36), "by rows");
 }

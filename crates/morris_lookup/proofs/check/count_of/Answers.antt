@@ -2,7 +2,7 @@ use Rattle.std.proofs.Common.{◌≤◌, ap, subst, sym, arith}
 use Rattle.morris_index.specs.ClassPairs.{class_size_of}
 use Rattle.morris_index.specs.Pairs.{IsPair}
 use Rattle.morris_pairs.specs.EntryLaws.{entries_few}
-use Rattle.morris_pairs.specs.declared.layout.Layout.TheVariants.{Classes}
+use Rattle.morris_pairs.specs.Orders.{Classes}
 use Rattle.morris_lookup.proofs.check.count_of.Goals as goal
 
 pub returns-in-Classes-clause-few : goal.returns-in-Classes-clause-few

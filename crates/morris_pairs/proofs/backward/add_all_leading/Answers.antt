@@ -2,6 +2,7 @@ use Rattle.std.proofs.Common.{◌≡◌, ℕ, ◌++◌, List, sym, ap, ◌∙◌
 use Rattle.std.proofs.lemmas.List.{append-nil}
 use Rattle.morris_board.specs.Sets.{members}
 use Rattle.morris_pairs.specs.Numberings.{layout_before, position_after}
+use Rattle.morris_pairs.specs.Orders.{order_of}
 use Rattle.morris_pairs.specs.Backward.{moves_before, moves_into, entries_leading}
 use Rattle.morris_pairs.proofs.BackLawsSources.{source_lt, source_vacant, moves_into-sources}
 use Rattle.morris_pairs.proofs.BackLawsLoops.{end_of, next_points, all_leading, leading_none, leading_more}
@@ -11,7 +12,7 @@ pub loop-to-init : goal.loop-to-init
 loop-to-init g c = record {
   points = ap members (c.into_iter-to-iterator.ensures.into_iter_gives ∙ (c.iter-to-items.ensures.points ∙ c.other.ensures.points));
   listed = sym (ap (λ (xs : List ℕ). c.args.out.now.items ++ xs)
-      (leading_none (layout_before c.args.before.now) g.B.Geometry.shape g.B.Geometry.POINTS (position_after c.args.before.now).pair c.args.position.now)
+      (leading_none (order_of (layout_before c.args.before.now)) g.B.Geometry.shape g.B.Geometry.POINTS (position_after c.args.before.now).pair c.args.position.now)
       ∙ append-nil c.args.out.now.items);
 }
 
@@ -52,12 +53,12 @@ loop-to-preserved g c =
           c.args.position.now (moves_into g.B.Geometry.shape c.args.position.now c.in-Some.to g.B.Geometry.POINTS)) c.loop-to.invariant.listed
           ∙ (append_assoc c.args.out.now.items _ _
           ∙ ap (λ (xs : List ℕ). c.args.out.now.items ++ xs)
-          (leading_more (layout_before c.args.before.now) g.B.Geometry.shape g.B.Geometry.POINTS (position_after c.args.before.now).pair c.args.position.now c.loop-to.yielded c.in-Some.to)));
+          (leading_more (order_of (layout_before c.args.before.now)) g.B.Geometry.shape g.B.Geometry.POINTS (position_after c.args.before.now).pair c.args.position.now c.loop-to.yielded c.in-Some.to)));
     }
 
 pub returns : goal.returns
 returns g c =
-    let all = all_leading (layout_before c.args.before.now) g.B.Geometry.shape g.B.Geometry.POINTS g.met.B.Geometry.point_count g.met.B.Geometry.few
+    let all = all_leading (order_of (layout_before c.args.before.now)) g.B.Geometry.shape g.B.Geometry.POINTS g.met.B.Geometry.point_count g.met.B.Geometry.few
     g.met.B.Geometry.has_symmetries (position_after c.args.before.now).pair c.requires.pair c.args.position.now c.other.ensures.lawful c.requires.counts c.requires.own
     c.loop-to.yielded c.loop-to.to-iterator c.loop-to.invariant.points c.in-None.ensures.steps.0 in
     record {

@@ -4,6 +4,7 @@ use Rattle.morris_board.specs.Sets.{has, members}
 use Rattle.morris_index.specs.Moves.{InPair}
 use Rattle.morris_pairs.specs.declared.layout.Layout.TheVariants.{Classes}
 use Rattle.morris_moves.specs.Rules.{move}
+use Rattle.morris_pairs.specs.Orders.{order_of}
 use Rattle.morris_pairs.specs.Backward.{entries_leading, leads_from}
 use Rattle.morris_pairs.proofs.BackLawsLoops.{end_of, next_points, leading_into_none, leading_into_more}
 use Rattle.morris_pairs.proofs.numbering.add_carried.Goals as goal
@@ -14,7 +15,7 @@ loop-from-init g c =
     record {
       points = ap members (c.into_iter-from-iterator.ensures.into_iter_gives ∙ c.iter-from-items.ensures.points);
       listed = sym (ap (λ xs. c.args.out.now.items ++ xs)
-          (leading_into_none Classes g.B.Geometry.shape g.B.Geometry.POINTS q.pair q.position c.args.to) ∙ append-nil c.args.out.now.items);
+          (leading_into_none (order_of Classes) g.B.Geometry.shape g.B.Geometry.POINTS q.pair q.position c.args.to) ∙ append-nil c.args.out.now.items);
     }
 
 pub add-requires-clause-start : goal.add-requires-clause-start
@@ -40,7 +41,7 @@ loop-from-preserved g c =
           c.loop-from.invariant.listed
           ∙ (append_assoc c.args.out.now.items _ _
           ∙ ap (λ (xs : List ℕ). c.args.out.now.items ++ xs)
-          (leading_into_more Classes g.B.Geometry.shape g.B.Geometry.POINTS q.pair q.position c.loop-from.yielded c.in-Some.from c.args.to)));
+          (leading_into_more (order_of Classes) g.B.Geometry.shape g.B.Geometry.POINTS q.pair q.position c.loop-from.yielded c.in-Some.from c.args.to)));
     }
 
 pub returns : goal.returns

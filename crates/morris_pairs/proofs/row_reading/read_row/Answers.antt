@@ -17,6 +17,7 @@ use Rattle.morris_pairs.specs.declared.layout.Layout.TheVariants.{Classes}
 use Rattle.morris_pairs.specs.declared.rows.Row.{Row}
 use Rattle.morris_pairs.specs.Entries.{entry_index, has_own_entry}
 use Rattle.morris_pairs.specs.NumberedRows.{AreNumbers}
+use Rattle.morris_pairs.specs.Orders.{order_of}
 use Rattle.morris_pairs.specs.PairNets.{is_quiet, capture_codes, level_of, net_at}
 use Rattle.morris_pairs.proofs.CaptureLaws.{no_codes}
 use Rattle.morris_pairs.proofs.NumberedLaws.{are_numbers}
@@ -41,10 +42,10 @@ module _ (b : Shape) (board : is_board b ≡ true) (y : HasSymmetries b) (n : �
   entry_here = subst (λ d. entry_index b n Classes d s ≡ row.first + place) of at.entry
 
   quiet_there : length (filter is_quiet (moves_of b s)) ≡ length ((net_at b (level_of Classes c)).quiet (row.first + place))
-  quiet_there = quiet_count_at b board y n points Classes c pair_here s at.lawful counts_here own_entry (row.first + place) entry_here
+  quiet_there = quiet_count_at b board y n points (order_of Classes) c pair_here s at.lawful counts_here own_entry (row.first + place) entry_here
 
   exits_there : exits_of (capture_codes b s) ≡ exits_of ((net_at b (level_of Classes c)).exits (row.first + place))
-  exits_there = exits_same b board y n points Classes c pair_here s at.lawful counts_here own_entry (row.first + place) entry_here
+  exits_there = exits_same b board y n points (order_of Classes) c pair_here s at.lawful counts_here own_entry (row.first + place) entry_here
 
   led_there : n ≤ 24 → led b s ≡ s
   led_there low =

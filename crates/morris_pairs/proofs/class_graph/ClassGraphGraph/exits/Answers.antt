@@ -1,4 +1,5 @@
 use Rattle.morris_pairs.specs.declared.layout.Layout.TheVariants.{Classes}
+use Rattle.morris_pairs.specs.Orders.{order_of}
 use Rattle.std.proofs.Common.{◌≡◌, sym, subst, ◌∙◌}
 use Rattle.morris_index.specs.Pairs.{IsPair}
 use Rattle.morris_wave.specs.Exits.{exits_of}
@@ -9,14 +10,14 @@ use Rattle.morris_pairs.proofs.class_graph.ClassGraphGraph.exits.Goals as goal
 pub position-requires : goal.position-requires
 position-requires g c =
     rw (c.self.invariant.classes, c.self.invariant.pair)
-    (is_node g.B.Geometry.shape g.met.B.Geometry.is_lawful g.met.B.Geometry.has_symmetries g.B.Geometry.POINTS g.met.B.Geometry.point_count Classes c.self.inside.graph
+    (is_node g.B.Geometry.shape g.met.B.Geometry.is_lawful g.met.B.Geometry.has_symmetries g.B.Geometry.POINTS g.met.B.Geometry.point_count (order_of Classes) c.self.inside.graph
     (subst (λ n. IsPair n c.self.inside.graph) (sym g.met.B.Geometry.point_count) c.self.invariant.lawful) c.args.i (rw (← c.self.view_is) at c.requires))
 
 pub returns : goal.returns
 returns g c =
     subst (λ d. c.exits_at.result ≡ exits_of ((net_at g.B.Geometry.shape (level_of Classes d)).exits c.args.i)) c.self.view_is
     (c.exits_at.ensures
-    ∙ exits_same g.B.Geometry.shape g.met.B.Geometry.is_lawful g.met.B.Geometry.has_symmetries g.B.Geometry.POINTS g.met.B.Geometry.point_count Classes c.self.inside.graph
+    ∙ exits_same g.B.Geometry.shape g.met.B.Geometry.is_lawful g.met.B.Geometry.has_symmetries g.B.Geometry.POINTS g.met.B.Geometry.point_count (order_of Classes) c.self.inside.graph
     (subst (λ n. IsPair n c.self.inside.graph) (sym g.met.B.Geometry.point_count) c.self.invariant.lawful)
     c.position.result c.position.ensures.lawful (rw c.self.invariant.pair at c.position.ensures.counts)
     (rw c.self.invariant.classes at c.position.ensures.own) c.args.i

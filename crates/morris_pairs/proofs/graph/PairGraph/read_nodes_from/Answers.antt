@@ -6,6 +6,7 @@ use Rattle.morris_wave.specs.Exits.{exits_of}
 use Rattle.morris_wave.specs.Solving.{exits_at}
 use Rattle.morris_pairs.specs.Entries.{entry_index}
 use Rattle.morris_pairs.specs.Numberings.{layout_of, pair_of}
+use Rattle.morris_pairs.specs.Orders.{order_of}
 use Rattle.morris_pairs.specs.PairNets.{level_of, net_at}
 use Rattle.morris_pairs.proofs.RowLaws.{each_more, exits_more}
 use Rattle.morris_pairs.proofs.GraphLaws.{exits_same, quiet_count_at}
@@ -54,11 +55,11 @@ loop-place-preserved g c =
     let lawful_here : IsPair g.B.Geometry.shape.points pair = subst (IsPair g.B.Geometry.shape.points) (sym (c.requires.pair ∙ sym c.self.view_is)) c.self.invariant.lawful in
     let quiet_here : c.quiet_moves.result ≡ length (net.quiet (c.args.first + c.loop-place.place)) =
     c.quiet_moves.ensures
-    ∙ quiet_count_at g.B.Geometry.shape g.met.B.Geometry.is_lawful g.met.B.Geometry.has_symmetries g.B.Geometry.POINTS g.met.B.Geometry.point_count layout pair lawful_here
+    ∙ quiet_count_at g.B.Geometry.shape g.met.B.Geometry.is_lawful g.met.B.Geometry.has_symmetries g.B.Geometry.POINTS g.met.B.Geometry.point_count (order_of layout) pair lawful_here
     c.loop-place.position inv.lawful inv.counts inv.own_entry (c.args.first + c.loop-place.place) (inv.at (omega arith)) in
     let exits_here : c.exits_by_row.result ≡ exits_of (net.exits (c.args.first + c.loop-place.place)) =
     c.exits_by_row.ensures
-    ∙ exits_same g.B.Geometry.shape g.met.B.Geometry.is_lawful g.met.B.Geometry.has_symmetries g.B.Geometry.POINTS g.met.B.Geometry.point_count layout pair lawful_here
+    ∙ exits_same g.B.Geometry.shape g.met.B.Geometry.is_lawful g.met.B.Geometry.has_symmetries g.B.Geometry.POINTS g.met.B.Geometry.point_count (order_of layout) pair lawful_here
     c.loop-place.position inv.lawful inv.counts inv.own_entry (c.args.first + c.loop-place.place) (inv.at (omega arith)) in
     record {
       counts_len = length-set c.loop-place.counts c.loop-place.place c.quiet_moves.result ∙ inv.counts_len;

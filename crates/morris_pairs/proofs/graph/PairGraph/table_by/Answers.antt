@@ -3,6 +3,7 @@ use Rattle.std.specs.Option.{option_copied}
 use Rattle.morris_index.specs.Pairs.{Counts}
 use Rattle.morris_pairs.specs.Graphs.{IsPairGraph}
 use Rattle.morris_pairs.specs.Numberings.{layout_of, pair_of}
+use Rattle.morris_pairs.specs.Orders.{order_of}
 use Rattle.morris_pairs.specs.PairNets.{level_of, net_at}
 use Rattle.morris_pairs.proofs.GraphLaws.{size_at, exact_codes}
 use Rattle.morris_pairs.proofs.graph.PairGraph.table_by.Goals as goal
@@ -21,9 +22,9 @@ new-requires g c =
     (c.self.view_is ∙ sym same) c.self.invariant in
     record {
       lawful = graph.lawful;
-      counted = len ∙ size_at g.B.Geometry.shape lawful g.met.B.Geometry.has_symmetries g.B.Geometry.shape.points refl layout pair graph.lawful;
+      counted = len ∙ size_at g.B.Geometry.shape lawful g.met.B.Geometry.has_symmetries g.B.Geometry.shape.points refl (order_of layout) pair graph.lawful;
       small = λ i low. search rules;
       exact =
-          exact_codes g.B.Geometry.shape lawful g.met.B.Geometry.has_symmetries layout pair (option_copied c.self.inside.less_lesser) (option_copied c.self.inside.less_greater) graph
+          exact_codes g.B.Geometry.shape lawful g.met.B.Geometry.has_symmetries (order_of layout) pair (option_copied c.self.inside.less_lesser) (option_copied c.self.inside.less_greater) graph
           c.args.codes.items len codes;
     }

@@ -1,0 +1,32 @@
+-- The graph of a pair by rows.
+use Rattle.std.specs.Prelude.{◌≡◌, ℕ, ◌+◌, ◌<◌, true, List, length, slice_index}
+use Rattle.morris_board.specs.Boards.{Shape}
+use Rattle.morris_board.specs.Positions.{Sides, IsPosition}
+use Rattle.morris_index.specs.Pairs.{Counts, IsPair, is_of}
+use Rattle.morris_pairs.specs.declared.set_moves.SetTable.{SetTable}
+use Rattle.morris_pairs.specs.Orders.{Classes, Rows, index_in, own_in}
+use Rattle.morris_pairs.specs.SetMoves.{AreSetsKept}
+
+-- The graph of a pair of two different numbers, on n points, has what is kept of the classes of
+-- this pair, the classes of the sets of the greater number, and a table of sets.
+pub record IsRowGraph (board : Shape) (n : ℕ) (c classes_of : Counts) (sets_of : ℕ) (table : SetTable) : Type 0 where
+  pub lawful : IsPair n c
+  pub two : c.lesser < c.greater
+  pub pair : classes_of ≡ c
+  pub sets : sets_of ≡ c.greater
+  pub moves : AreSetsKept board n table
+
+-- The nodes by rows of some positions of a pair with an entry of their own, on n points: of those
+-- of the entries by classes from `first` on.
+abbrev pub AreNodesFrom : Shape → ℕ → Counts → ℕ → ℕ → List ℕ → Type 0
+AreNodesFrom board n c first many nodes =
+    (s : Sides) → IsPosition board s → is_of c s ≡ true → own_in board Classes s ≡ true
+    → (k : ℕ) → k < many → index_in board n Classes c s ≡ first + k → slice_index nodes k ≡ index_in board n Rows c s
+
+-- The codes of the first entries of a pair by classes, on n points, from those of its nodes by
+-- rows: each position with one of these entries for its own has at it the code that stands at its node.
+abbrev pub AreReordered : Shape → ℕ → Counts → List ℕ → List ℕ → Type 0
+AreReordered board n c nodes entries =
+    (s : Sides) → IsPosition board s → is_of c s ≡ true → own_in board Classes s ≡ true
+    → index_in board n Classes c s < length entries
+    → slice_index entries (index_in board n Classes c s) ≡ slice_index nodes (index_in board n Rows c s)
