@@ -2,6 +2,7 @@
  *
  *     library FOLDER < POSITIONS      of the usual board, over views and then by a handle
  *     library FOLDER first < LINE     how many milliseconds the first value and its moves take
+ *     library FOLDER calls < POSITIONS    how many milliseconds of a processor the other calls take
  *
  * No part of the product.
  */
@@ -69,6 +70,92 @@ static double lesser(double a, double b) {
     return a < b ? a : b;
 }
 
+/* The seconds of this processor so far, in which other work on the machine counts for little. */
+static double used(void) {
+    struct timespec t;
+    clock_gettime(CLOCK_PROCESS_CPUTIME_ID, &t);
+    return (double)t.tv_sec + 1e-9 * (double)t.tv_nsec;
+}
+
+static void print_least(const char *what, double least) {
+    printf("  %-40s %10.4f ms\n", what, 1e3 * least);
+}
+
+/* The seconds of a best move: of one position the least of so many times. */
+static double time_best(const morris_tables *t, int i, int times) {
+    double least = 1e9;
+    while (times-- > 0) {
+        morris_move best;
+        double began = used();
+        morris_best(t, own[i], other[i], &best);
+        least = lesser(least, used() - began);
+    }
+    return least;
+}
+
+/* The best moves of positions: drawn ones with three own stones, and all others. */
+static void time_bests(const morris_tables *t, int count) {
+    double sums[2] = {0, 0}, most[2] = {0, 0};
+    int many[2] = {0, 0}, i, k;
+    for (i = 0; i < count; i++) {
+        morris_value value;
+        double took;
+        if (morris_value_of(t, own[i], other[i], &value) != MORRIS_OK) {
+            continue;
+        }
+        k = value.kind != MORRIS_DRAW || __builtin_popcount(own[i]) > 3;
+        took = time_best(t, i, 3);
+        sums[k] += took;
+        many[k]++;
+        most[k] = took > most[k] ? took : most[k];
+    }
+    for (k = 0; k < 2; k++) {
+        if (many[k] > 0) {
+            print_least(k ? "morris_best, other positions" : "morris_best, drawn with three stones", sums[k] / many[k]);
+            print_least("  the longest of these", most[k]);
+        }
+    }
+}
+
+/* The calls that a program makes seldom: the least of five times each. */
+static int time_calls(const char *folder, int count) {
+    static uint32_t words[MORRIS_NINE_WORDS];
+    double least[4] = {1e9, 1e9, 1e9, 1e9}, began;
+    morris_folder t;
+    morris_tables *tables = NULL;
+    size_t longest = 0, k;
+    int i;
+    if (morris_open_folder(folder, MORRIS_NINE, &t) != MORRIS_OK) {
+        return 1;
+    }
+    for (k = 0; k < t.n; k++) {
+        longest = t.files[k].len > t.files[longest].len ? k : longest;
+    }
+    for (i = 0; i < 5; i++) {
+        morris_header header;
+        began = used();
+        morris_prepare(MORRIS_NINE, words, MORRIS_NINE_WORDS);
+        least[0] = lesser(least[0], used() - began);
+        began = used();
+        morris_check(&t.files[longest], &header);
+        least[1] = lesser(least[1], used() - began);
+        began = used();
+        morris_digest(&t.files[longest]);
+        least[2] = lesser(least[2], used() - began);
+        morris_close(tables);
+        began = used();
+        tables = morris_open(folder, MORRIS_NINE, NULL);
+        least[3] = lesser(least[3], used() - began);
+    }
+    print_least("morris_prepare", least[0]);
+    print_least("morris_check, the longest file", least[1]);
+    printf("  %-40s %10.0f MB/s\n", "morris_digest", 1e-6 * (double)t.files[longest].len / least[2]);
+    print_least("morris_open", least[3]);
+    time_bests(tables, count);
+    morris_close(tables);
+    return 0;
+}
+
 int main(int argc, char **argv) {
     morris_folder t;
     morris_tables *tables;
@@ -77,6 +164,9 @@ int main(int argc, char **argv) {
     int count = read_all(), i;
     if (argc < 2 || count == 0) {
         return 2;
+    }
+    if (argc == 3 && strcmp(argv[2], "calls") == 0) {
+        return time_calls(argv[1], count);
     }
     if (argc == 3 && strcmp(argv[2], "first") == 0) {
         began = now();

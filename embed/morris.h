@@ -170,8 +170,7 @@ int32_t morris_moves_of(const morris_tables *tables, uint32_t own, uint32_t othe
  * all lose, one that loses latest. Of several it is the first in the order of `morris_moves_of`,
  * except at a draw: there it is one after which the opponent has the fewest moves that keep the
  * draw, so that a slip is likeliest. A table doesn't rank draws: this is a rule of thumb, which
- * looks two plies ahead. At a draw with three stones that may take a millisecond, otherwise some
- * microseconds. It takes 32 KB of stack.
+ * looks two plies ahead. It takes some hundredths of a millisecond, and 32 KB of stack.
  *
  * The statuses of `morris_lookup` for the position, and of `morris_moves` for it and, at a draw,
  * for the positions after its drawing moves; MORRIS_OVER; MORRIS_DISAGREE if the best move has
@@ -179,7 +178,7 @@ int32_t morris_moves_of(const morris_tables *tables, uint32_t own, uint32_t othe
 int32_t morris_best(const morris_tables *tables, uint32_t own, uint32_t other, morris_move *out);
 
 /* Whether each file is whole, by `morris_check` and `morris_digest`: the status of the first file
- * that isn't. It reads all files, at some hundred megabytes a second. */
+ * that isn't. It reads all files, at some two hundred megabytes a second. */
 int32_t morris_check_tables(const morris_tables *tables);
 
 /* ---- moves without tables */
@@ -222,16 +221,16 @@ int32_t morris_prepare(uint32_t board, uint32_t *words, size_t room);
 
 /* Whether a file is a table file, by its header and its length. The entries and the digest aren't
  * looked at. Writes what the header says. For a file of version 2 it goes through all sets of as
- * many points, which takes up to a tenth of a second.
+ * many points, which takes some hundredths of a second at most.
  *
  * MORRIS_SHORT, MORRIS_MAGIC, MORRIS_VERSION, MORRIS_OTHER_BOARD (no known board), MORRIS_COUNTS,
  * MORRIS_CROWDED, MORRIS_ENTRIES, MORRIS_SHORT, MORRIS_TRAILING: the first that applies. */
 int32_t morris_check(const morris_view *file, morris_header *out);
 
 /* Whether the digest at the end of a file, its last 32 bytes, is the SHA-256 of all bytes before
- * it. It reads the whole file, at some hundred megabytes a second. This finds damage only: whoever
- * writes a file can write the digest of any bytes. `morris verify` finds out whether the values are
- * right.
+ * it. It reads the whole file, at some two hundred megabytes a second. This finds damage only:
+ * whoever writes a file can write the digest of any bytes. `morris verify` finds out whether the
+ * values are right.
  *
  * MORRIS_SHORT if there are fewer than 32 bytes; MORRIS_DIGEST. */
 int32_t morris_digest(const morris_view *file);
