@@ -23,10 +23,14 @@ AreNodesFrom board n c first many nodes =
     (s : Sides) → IsPosition board s → is_of c s ≡ true → own_in board Classes s ≡ true
     → (k : ℕ) → k < many → index_in board n Classes c s ≡ first + k → slice_index nodes k ≡ index_in board n Rows c s
 
--- The codes of the first entries of a pair by classes, on n points, from those of its nodes by
--- rows: each position with one of these entries for its own has at it the code that stands at its node.
-abbrev pub AreReordered : Shape → ℕ → Counts → List ℕ → List ℕ → Type 0
-AreReordered board n c nodes entries =
+-- The code of an entry of a pair by classes, on n points, among the codes of its nodes by rows: the
+-- one that stands at the node of the position with this entry for its own.
+abbrev pub IsEntryCode : Shape → ℕ → Counts → List ℕ → ℕ → ℕ → Type 0
+IsEntryCode board n c nodes entry code =
     (s : Sides) → IsPosition board s → is_of c s ≡ true → own_in board Classes s ≡ true
-    → index_in board n Classes c s < length entries
-    → slice_index entries (index_in board n Classes c s) ≡ slice_index nodes (index_in board n Rows c s)
+    → index_in board n Classes c s ≡ entry → code ≡ slice_index nodes (index_in board n Rows c s)
+
+-- The codes of so many entries of a pair by classes, on n points, from `first` on, among those of its nodes.
+abbrev pub AreCodesFrom : Shape → ℕ → Counts → List ℕ → ℕ → ℕ → List ℕ → Type 0
+AreCodesFrom board n c nodes first many entries =
+    (k : ℕ) → k < many → IsEntryCode board n c nodes (first + k) (slice_index entries k)

@@ -5,7 +5,7 @@
 //! is found once for all of them: where the nodes before them stand, and what captures lead to. By
 //! classes, only the nodes of the first half are together like this: in the second half it is the
 //! side with fewer stones that stands on a representative.
-ghost use Rattle.std.specs.Prelude.{◌≡◌, ℕ, ◌+◌, ◌<◌, ◌≤◌, ◌++◌, true, false, min, take, length, slice_index, vec_len, vec_capacity, ◌↔◌, None, IfErr, IfOk, OnOk, MatchResult};
+ghost use Rattle.std.specs.Prelude.{◌≡◌, ℕ, ◌+◌, ◌<◌, ◌≤◌, true, false, min, length, slice_index, vec_len, ◌↔◌, None, IfErr, IfOk, OnOk, MatchResult};
 ghost use Rattle.morris_board.specs.Positions.{IsPosition};
 ghost use Rattle.morris_board.specs.Sets.{count_of};
 ghost use Rattle.morris_index.specs.ClassPairs.{class_half_size};
@@ -20,9 +20,9 @@ ghost use Rattle.morris_pairs.specs.FacingCaptures.{AreFacingsKept};
 ghost use Rattle.morris_pairs.specs.Graphs.{HasValuesIn};
 ghost use Rattle.morris_pairs.specs.Headline.{IsBlockIn, TellsIn};
 ghost use Rattle.morris_pairs.specs.Known.{IsBeyondCodes};
-ghost use Rattle.morris_pairs.specs.Orders.{Order, Rows, is_ahead, count_in, index_in, own_in};
-ghost use Rattle.morris_pairs.specs.RowGraphs.{AreNodesFrom, AreReordered};
-ghost use Rattle.morris_pairs.specs.PairNets.{level_in, net_at};
+ghost use Rattle.morris_pairs.specs.Orders.{Order, Rows, is_ahead, index_in, own_in};
+ghost use Rattle.morris_pairs.specs.RowGraphs.{AreCodesFrom, AreNodesFrom};
+ghost use Rattle.morris_pairs.specs.PairNets.{level_in, level_of, net_at};
 ghost use Rattle.morris_pairs.specs.Shelves.{first_missing};
 ghost use Rattle.morris_pairs.specs.Sweeping.{needed_by, is_of_graph};
 
@@ -48,6 +48,8 @@ use morris_index::pair::Pair;
 use morris_wave::{Exits, Graph};
 use std::alloc::{AllocError, Global};
 use std::marker::Model;
+use std::thread;
+use std::thread::Threads;
 
 /// The graph of a pair of two different numbers by rows, over the tables of the pairs that it
 /// needs. A node is a position in which the side with more stones stands on the representative of a
@@ -183,7 +185,7 @@ impl<'a, B: Geometry> RowGraph<'a, B> {
         requires counts { is_of self.now position.now ≡ true }
         requires behind { is_ahead position.now ≡ false }
         ensures value { result ≡ index_in B.shape B.POINTS Rows self.now position.now }
-        ensures below { result < count_in B.shape B.POINTS Rows self.now }
+        ensures below { result < (net_at B.shape (level_in Rows self.now)).size }
     {
         let own = position.own();
         let standing = self.classes.standing(position.other(), own.count());
@@ -253,7 +255,7 @@ impl<'a, B: Geometry> RowGraph<'a, B> {
         requires behind { class_half_size B.shape B.POINTS self.now.greater self.now.lesser ≤ entries.now.first }
         ensures many { result ≡ min entries.now.len (length nodes.old) }
         ensures nodes { AreNodesFrom B.shape B.POINTS self.now entries.now.first result nodes.new }
-        ensures below { (k : ℕ) → k < result → slice_index nodes.new k < count_in B.shape B.POINTS Rows self.now }
+        ensures below { (k : ℕ) → k < result → slice_index nodes.new k < (net_at B.shape (level_in Rows self.now)).size }
     {
         // The proof learns here that the numbers of stones are those of a pair.
         let _ = self.classes.pair();
@@ -264,74 +266,118 @@ impl<'a, B: Geometry> RowGraph<'a, B> {
         many
     }
 
-    /// Adds the codes of some entries of the second half by classes to those of all of this half before
-    /// them. All nodes are found first, so that their codes are read side by side.
-    fn add_codes(&self, codes: &[u16], behind: &mut Vec<u16>)
-        requires codes { length codes.now ≡ count_in B.shape B.POINTS Rows self.now }
-        requires inside { class_half_size B.shape B.POINTS self.now.greater self.now.lesser + vec_len behind.old < entry_count B.shape B.POINTS Layout.Classes self.now }
-        requires room { entry_count B.shape B.POINTS Layout.Classes self.now ≤ class_half_size B.shape B.POINTS self.now.greater self.now.lesser + vec_capacity behind.old }
-        requires before { AreReordered B.shape B.POINTS self.now codes.now (take (class_half_size B.shape B.POINTS self.now.greater self.now.lesser) codes.now ++ behind.old.items) }
-        ensures more { vec_len behind.old < vec_len behind.new }
-        ensures within { class_half_size B.shape B.POINTS self.now.greater self.now.lesser + vec_len behind.new ≤ entry_count B.shape B.POINTS Layout.Classes self.now }
-        ensures capacity { vec_capacity behind.new ≡ vec_capacity behind.old }
-        ensures each { AreReordered B.shape B.POINTS self.now codes.now (take (class_half_size B.shape B.POINTS self.now.greater self.now.lesser) codes.now ++ behind.new.items) }
+    /// Writes the codes of a row of entries of the second half by classes, from the first of them on,
+    /// as many as there is room for, up to a [`PIECE`]. It says how many these are. All nodes are
+    /// found first, so that their codes are read side by side.
+    fn fill_row(&self, codes: &[u16], entries: &EntryRow<B>, part: &mut [u16]) -> usize
+        requires pair { entries.now.pair ≡ self.now }
+        requires behind { class_half_size B.shape B.POINTS self.now.greater self.now.lesser ≤ entries.now.first }
+        requires codes { length codes.now ≡ (net_at B.shape (level_in Rows self.now)).size }
+        ensures many { result ≡ min entries.now.len (min PIECE (length part.old)) }
+        ensures each { AreCodesFrom B.shape B.POINTS self.now codes.now entries.now.first result part.new }
     {
-        let entries = self
-            .classes
-            .row_from(self.classes.first_half() + behind.len() as u64);
-        let mut nodes = [0; PIECE];
-        let many = self.list_nodes(&entries, &mut nodes);
+        let mut room = [0; PIECE];
+        let nodes = &mut room[..PIECE.min(part.len())];
+        let many = self.list_nodes(entries, nodes);
         for place in 0..many {
-            behind.push_reserved(codes[nodes[place] as usize]);
+            part[place] = codes[nodes[place] as usize];
         }
+        many
     }
 
-    /// The codes of the entries of the second half by classes in their order, from those of the nodes.
-    ///
-    /// # Errors
-    /// [`AllocError`] where memory for them is refused.
-    fn codes_behind(&self, alloc: Global, codes: &[u16]) -> Result<Vec<u16>, AllocError>
-        requires { length codes.now ≡ count_in B.shape B.POINTS Rows self.now }
-        ensures len { IfOk result (λ made. class_half_size B.shape B.POINTS self.now.greater self.now.lesser + vec_len made ≡ entry_count B.shape B.POINTS Layout.Classes self.now) }
-        ensures each { IfOk result (λ made. AreReordered B.shape B.POINTS self.now codes.now (take (class_half_size B.shape B.POINTS self.now.greater self.now.lesser) codes.now ++ made.items)) }
+    /// Writes the codes of the entries of the second half by classes from the one of this number on,
+    /// counted within the half, as many as there is room for.
+    fn fill(&self, codes: &[u16], start: usize, part: &mut [u16])
+        requires codes { length codes.now ≡ (net_at B.shape (level_in Rows self.now)).size }
+        requires inside { class_half_size B.shape B.POINTS self.now.greater self.now.lesser + (start + length part.old) ≤ entry_count B.shape B.POINTS Layout.Classes self.now }
+        ensures { AreCodesFrom B.shape B.POINTS self.now codes.now (class_half_size B.shape B.POINTS self.now.greater self.now.lesser + start) (length part.old) part.new }
     {
-        let count = (self.classes.size() - self.classes.first_half()) as usize;
-        let mut behind = Vec::with_capacity(alloc, count)?;
-        while behind.len() < count {
-            self.add_codes(codes, &mut behind);
+        // The proof learns here that the entries are few.
+        let _ = self.classes.size();
+        let first = self.classes.first_half() + start as u64;
+        let mut done = 0;
+        while done < part.len() {
+            let entries = self.classes.row_from(first + done as u64);
+            done += self.fill_row(codes, &entries, &mut part[done..]);
         }
-        Ok(behind)
     }
 
-    /// The codes of the entries by classes in their order, from those of the nodes. The entries of
-    /// the first half are its nodes, and their codes stay where they are.
+    /// The codes of the entries by classes in their order, from those of the nodes and those of the
+    /// second half. The entries of the first half are its nodes, and their codes stay where they are.
     ///
     /// # Errors
     /// [`AllocError`] where memory for the codes of the second half is refused.
-    fn in_entry_order(&self, alloc: Global, mut codes: Vec<u16>) -> Result<Vec<u16>, AllocError>
-        requires { vec_len codes ≡ count_in B.shape B.POINTS Rows self.now }
-        ensures len { IfOk result (λ made. vec_len made ≡ entry_count B.shape B.POINTS Layout.Classes self.now) }
-        ensures each { IfOk result (λ made. AreReordered B.shape B.POINTS self.now codes.items made.items) }
+    fn in_entry_order(&self, mut codes: Vec<u16>, behind: &[u16]) -> Result<Vec<u16>, AllocError>
+        requires len { vec_len codes ≡ (net_at B.shape (level_in Rows self.now)).size }
+        requires codes { (i : ℕ) → i < (net_at B.shape (level_in Rows self.now)).size → HasCode (net_at B.shape (level_in Rows self.now)) i (slice_index codes.items i) }
+        requires rest { class_half_size B.shape B.POINTS self.now.greater self.now.lesser + length behind.now ≡ entry_count B.shape B.POINTS Layout.Classes self.now }
+        requires behind { AreCodesFrom B.shape B.POINTS self.now codes.items (class_half_size B.shape B.POINTS self.now.greater self.now.lesser) (length behind.now) behind.now }
+        ensures len { IfOk result (λ made. vec_len made ≡ (net_at B.shape (level_of Layout.Classes self.now)).size) }
+        ensures codes { IfOk result (λ made. (i : ℕ) → i < (net_at B.shape (level_of Layout.Classes self.now)).size → HasCode (net_at B.shape (level_of Layout.Classes self.now)) i (slice_index made.items i)) }
     {
-        let behind = self.codes_behind(alloc, codes.as_slice())?;
+        self.graph.values();
         codes.truncate(self.classes.first_half() as usize);
         codes.reserve_exact(behind.len())?;
-        codes.extend_from_slice(&behind)?;
+        codes.extend_from_slice(behind)?;
         Ok(codes)
     }
+}
 
-    /// The table of the pair in layout `Classes`, of the codes of all nodes in order.
+impl<'a, B: Board> RowGraph<'a, B> {
+    /// The codes of the entries of the second half by classes in their order, from those of the nodes.
+    /// Each worker writes one stretch of them. Where a thread is refused, the caller's own does its
+    /// work.
     ///
     /// # Errors
-    /// [`AllocError`] where memory for the codes in the order of the entries is refused.
-    pub fn into_table(self, alloc: Global, codes: Vec<u16>) -> Result<Exact<B>, AllocError>
+    /// [`AllocError`] where memory for them is refused.
+    fn codes_behind<R: Threads + Sync>(
+        &self,
+        rt: &R,
+        alloc: Global,
+        codes: &[u16],
+        workers: usize,
+    ) -> Result<Vec<u16>, AllocError>
+        requires { length codes.now ≡ (net_at B.shape (level_in Rows self.now)).size }
+        ensures len { IfOk result (λ made. class_half_size B.shape B.POINTS self.now.greater self.now.lesser + vec_len made ≡ entry_count B.shape B.POINTS Layout.Classes self.now) }
+        ensures each { IfOk result (λ made. AreCodesFrom B.shape B.POINTS self.now codes.now (class_half_size B.shape B.POINTS self.now.greater self.now.lesser) (vec_len made) made.items) }
+    {
+        let count = (self.classes.size() - self.classes.first_half()) as usize;
+        let mut behind = vec![in alloc; 0u16; count]?;
+        let stretch = count / workers.max(1) + 1;
+        thread::for_each_chunk_mut(
+            rt,
+            &mut behind,
+            stretch,
+            &|start, part|
+                requires { (length codes.now ≡ (net_at B.shape (level_in Rows self.now)).size)
+                    × (class_half_size B.shape B.POINTS self.now.greater self.now.lesser + (start + length part.now) ≤ entry_count B.shape B.POINTS Layout.Classes self.now) }
+                ensures { AreCodesFrom B.shape B.POINTS self.entry.now codes.entry.now (class_half_size B.shape B.POINTS self.entry.now.greater self.entry.now.lesser + start)
+                    (length part.entry.now) part.exit.now }
+            { self.fill(codes, start, part) },
+        );
+        Ok(behind)
+    }
+
+    /// The table of the pair in layout `Classes`, of the codes of all nodes in order. So many workers
+    /// put them into the order of the entries, one at least.
+    ///
+    /// # Errors
+    /// [`AllocError`] where memory for the codes in the order of the entries is refused. Where a
+    /// thread is, the caller's own does its work.
+    pub fn into_table<R: Threads + Sync>(
+        self,
+        rt: &R,
+        alloc: Global,
+        codes: Vec<u16>,
+        workers: usize,
+    ) -> Result<Exact<B>, AllocError>
         requires len { vec_len codes ≡ (net_at B.shape (level_in Rows self)).size }
         requires codes { (i : ℕ) → i < (net_at B.shape (level_in Rows self)).size → HasCode (net_at B.shape (level_in Rows self)) i (slice_index codes.items i) }
         ensures layout { IfOk result (λ table. table.layout ≡ Layout.Classes) }
         ensures pair { IfOk result (λ table. table.pair ≡ self.entry) }
     {
-        self.graph.values();
-        let ordered = self.in_entry_order(alloc, codes)?;
+        let behind = self.codes_behind(rt, alloc, &codes, workers)?;
+        let ordered = self.in_entry_order(codes, &behind)?;
         let numbering = Numbering::Classes(self.classes);
         Ok(self.graph.table_by(numbering, ordered))
     }

@@ -216,7 +216,7 @@ fn build_by_rows<B: Board, A: Gate, V: Watch, R: Threads + Wait + Sync>(
 {
     let graph = RowGraph::over(alloc, tables, pair)?;
     match solve_with(rt, alloc, &graph, gate, workers, blocks, SHORT_NODES, watch) {
-        Ok(codes) => Ok(graph.into_table(alloc, codes)?),
+        Ok(codes) => Ok(graph.into_table(rt, alloc, codes, workers)?),
         Err(fault) => Err(unbuilt(fault)),
     }
 }

@@ -79,16 +79,20 @@ fn few_and_many_workers_build_the_same_table(rt: HostRuntime) {
     assert_built(&rt, rt.alloc(), 64, 64, 100);
 }
 
-/// The table of a pair of two different numbers from its graph by rows.
+/// The table of a pair of two different numbers from its graph by rows, whose codes so many workers
+/// put into the order of the entries.
 fn built_by_rows<R: Abort + Threads + Wait + Sync>(
     rt: &R,
     alloc: Global,
     shelf: &Shelf<Grid>,
     pair: Pair<Grid>,
+    workers: usize,
 ) -> Exact<Grid> {
     let graph = row_graph_of(rt, alloc, shelf, pair);
     let codes = solve(rt, alloc, &graph, &OpenGate, 3, 16).expect(rt, "the codes");
-    graph.into_table(alloc, codes).expect(rt, "a table")
+    graph
+        .into_table(rt, alloc, codes, workers)
+        .expect(rt, "a table")
 }
 
 /// The builds of 4-3 in both layouts and from the graph by rows, over a table of 3-3, agree with its
@@ -101,8 +105,10 @@ fn assert_agree_over<R: Abort + Threads + Wait + Sync>(rt: &R, alloc: Global, lo
     holds(rt, agree(&full, &swept), "by positions");
     let classes = built(rt, alloc, &shelf, pair, Layout::Classes);
     holds(rt, agree(&classes, &swept), "by classes");
-    let rows = built_by_rows(rt, alloc, &shelf, pair);
-    holds(rt, agree(&rows, &swept), "by rows");
+    for workers in [0, 1, 2, 3, 7] {
+        let rows = built_by_rows(rt, alloc, &shelf, pair, workers);
+        holds(rt, agree(&rows, &swept), "by rows");
+    }
 }
 
 #[test]

@@ -7,7 +7,8 @@ use Rattle.morris_board.specs.Positions.{Sides}
 use Rattle.morris_index.specs.ClassPairs.{led, class_index_of}
 use Rattle.morris_index.specs.Pairs.{is_of}
 use Rattle.morris_index.proofs.ClassPairLaws.{led_itself}
-use Rattle.morris_pairs.specs.Orders.{row_index_of, row_size_of}
+use Rattle.morris_pairs.specs.Orders.{Rows, row_index_of}
+use Rattle.morris_pairs.specs.PairNets.{level_in, net_at}
 use Rattle.morris_pairs.specs.RowGraphs.{IsRowGraph}
 use Rattle.morris_pairs.proofs.RowNodeLaws.{second_behind}
 use Rattle.morris_pairs.proofs.row_graph.RowGraph.list_nodes.Goals as goal
@@ -46,6 +47,7 @@ loop-place-preserved g c =
     let inv = c.loop-place.invariant in
     let place : ℕ = c.loop-place.place in
     let node : ℕ = c.node_behind.result in
+    let size : ℕ = (net_at b (level_in Rows c.args.self.now)).size in
     let inside : place < length c.loop-place.nodes = omega (arith, c.min-many.ensures, c.loop-place-test.true, inv.len) in
     record {
       len = length-set c.loop-place.nodes place node ∙ inv.len;
@@ -61,7 +63,7 @@ loop-place-preserved g c =
         | inr d ↦ get_or-set_other c.loop-place.nodes place k node 0 d ∙ inv.listed s h of own k (omega (arith, low, d)) at
       ];
       below = λ k low. elim (cases_eq k place) [
-        | inl e ↦ subst (λ x. x < row_size_of b n c.args.self.now) (sym (get_or-set_at c.loop-place.nodes place k node 0 e inside)) c.node_behind.ensures.below
-        | inr d ↦ subst (λ x. x < row_size_of b n c.args.self.now) (sym (get_or-set_other c.loop-place.nodes place k node 0 d)) (inv.below k (omega (arith, low, d)))
+        | inl e ↦ subst (λ x. x < size) (sym (get_or-set_at c.loop-place.nodes place k node 0 e inside)) c.node_behind.ensures.below
+        | inr d ↦ subst (λ x. x < size) (sym (get_or-set_other c.loop-place.nodes place k node 0 d)) (inv.below k (omega (arith, low, d)))
       ];
     }

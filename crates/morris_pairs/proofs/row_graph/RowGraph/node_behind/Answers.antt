@@ -4,11 +4,12 @@ use Rattle.morris_board.specs.Sets.{count_of}
 use Rattle.morris_board.specs.Positions.{Sides, sides, IsPosition}
 use Rattle.morris_index.specs.ClassPairs.{class_half_size, class_index_of}
 use Rattle.morris_index.specs.Facing.{turned}
-use Rattle.morris_index.specs.Pairs.{is_of}
+use Rattle.morris_index.specs.Pairs.{Counts, IsPair, is_of}
 use Rattle.morris_index.specs.Standings.{are_of, IsLedStanding}
 use Rattle.morris_index.proofs.FacingLaws.{turned_of, turned_position}
-use Rattle.morris_pairs.specs.Orders.{row_size_of}
+use Rattle.morris_pairs.specs.Orders.{Rows}
 use Rattle.morris_pairs.specs.RowGraphs.{IsRowGraph}
+use Rattle.morris_pairs.proofs.GraphLaws.{size_at}
 use Rattle.morris_pairs.proofs.RowNodeLaws.{split_is, behind_turned, first_index-lt, index-behind, row-below}
 use Rattle.morris_pairs.proofs.row_graph.RowGraph.node_behind.Goals as goal
 
@@ -81,6 +82,9 @@ returns-clause-value g c =
 pub returns-clause-below : goal.returns-clause-below
 returns-clause-below g c =
     let here = subst (λ d. IsRowGraph g.B.Geometry.shape g.B.Geometry.POINTS d c.self.inside.classes c.self.inside.sets c.self.inside.moves) c.self.view_is c.self.invariant in
-    subst (λ k. k < row_size_of g.B.Geometry.shape g.B.Geometry.POINTS c.args.self.now) (sym (returns-clause-value g c))
-    (row-below g.B.Geometry.shape g.B.Geometry.POINTS g.met.B.Geometry.few g.met.B.Geometry.point_count g.met.B.Geometry.has_symmetries c.args.self.now here.lawful here.two
-    c.args.position.now c.requires.counts c.own-own.ensures.lawful)
+    let b : Shape = g.B.Geometry.shape in
+    let points = g.met.B.Geometry.point_count in
+    let y = g.met.B.Geometry.has_symmetries in
+    let d : Counts = c.args.self.now in
+    rw (size_at b g.met.B.Geometry.is_lawful y g.B.Geometry.POINTS points Rows d (subst (λ m. IsPair m d) (sym points) here.lawful), returns-clause-value g c)
+    (row-below b g.B.Geometry.POINTS g.met.B.Geometry.few points y d here.lawful here.two c.args.position.now c.requires.counts c.own-own.ensures.lawful)
