@@ -1,5 +1,5 @@
 -- What is read in the file of a table is the table's.
-use Rattle.std.proofs.Common.{◌≡◌, ℕ, ◌+◌, ◌*◌, ◌<◌, ◌≤◌, true, List, ◌++◌, length, take, drop, get_or, Option, Some, None, Result, Ok, refl, sym, ap, ap₂, subst, ◌∙◌, arith, length-append, append-nil, append_assoc}
+use Rattle.std.proofs.Common.{◌≡◌, ℕ, ◌+◌, ◌*◌, ◌<◌, ◌≤◌, true, List, ◌++◌, length, take, drop, get_or, Option, Some, None, Result, Ok, sym, ap, ap₂, subst, ◌∙◌, arith, length-append, append-nil, append_assoc}
 use Rattle.std.specs.Prelude.{IfSome}
 use Rattle.std.specs.Int.{w16, to_be_bytes, from_be_bytes}
 use Rattle.std.proofs.lemmas.List.{take_at, drop_at, length-take-le}
@@ -13,14 +13,13 @@ use Rattle.morris_index.specs.Pairs.{Counts, is_of}
 use Rattle.morris_pairs.specs.declared.layout.Layout.{Layout}
 use Rattle.morris_pairs.specs.Codes.{IsCodeOf}
 use Rattle.morris_pairs.specs.Entries.{entry_count, entry_index}
-use Rattle.morris_pairs.specs.Tables.{Table, IsTable}
+use Rattle.morris_pairs.specs.Tables.{Table}
 use Rattle.morris_pairs.specs.TableFiles.{header_of, code_bytes, content_of, file_of}
 use Rattle.morris_pairs.proofs.FileLaws.{AreCodes, length-code_bytes, code_bytes-parts, file_of-parts, length-header_of, IsRaw-from_exact}
-use Rattle.morris_pairs.proofs.ReadingLaws.{ok_same}
-use Rattle.morris_lookup.specs.Storage.{bytes_at, LiesWithin, ReadsAt}
-use Rattle.morris_lookup.specs.Opening.{OpenFile, framed_in, IsOpen}
+use Rattle.morris_lookup.specs.Storage.{bytes_at, ReadsAt}
+use Rattle.morris_lookup.specs.Opening.{OpenFile, IsOpen}
 use Rattle.morris_lookup.specs.Lookups.{code_at, code_for, IsExactFile}
-use Rattle.morris_lookup.proofs.OpeningLaws.{at_bytes, framed_file, known_framed, size_of_framed}
+use Rattle.morris_lookup.proofs.OpeningLaws.{at_bytes, kind_found, known_framed}
 
 between : (front part rest : List ℕ) (place : ℕ) → length front ≡ place → length part ≡ 2 → bytes_at (front ++ (part ++ rest)) place 2 ≡ part
 between front part rest place at two = ap (take 2) (drop_at front (part ++ rest) place at) ∙ take_at part rest 2 two
@@ -59,44 +58,27 @@ code_at-file board t i small low =
 
 module _ (board : Shape) (n : ℕ) (points : board.points ≡ n) (low : board.points ≤ 24) (y : HasSymmetries board) where
   module _ (file : OpenFile) (right : IsOpen board file) (s : Sides) (position : IsPosition board s) (of : is_of file.pair s ≡ true) where
-    abbrev entry : ℕ
-    entry = entry_index board board.points file.layout file.pair s
-
-    of_table : (bytes : List ℕ) (t : Table) → IsTable board t → bytes ≡ file_of board t → framed_in board bytes ≡ Ok (file.layout, file.pair)
-        → entry < entry_count board board.points file.layout file.pair → IsCodeOf board s (code_for board file bytes s)
-    of_table bytes t exact is framed inside =
-        let found : framed_in board bytes ≡ Ok (t.layout, t.pair) = ap (framed_in board) is ∙ framed_file board low y t (IsRaw-from_exact board t exact) in
-        let same : (file.layout, file.pair) ≡ (t.layout, t.pair) =
-        ok_same {A = Layout × Counts} (framed_in board bytes) (file.layout, file.pair) (t.layout, t.pair) framed found in
-        let layouts : file.layout ≡ t.layout = ap (λ (k : Layout × Counts). k.0) same in
-        let pairs : file.pair ≡ t.pair = ap (λ (k : Layout × Counts). k.1) same in
-        let entries : entry ≡ entry_index board board.points t.layout t.pair s = ap₂ (λ l c. entry_index board board.points l c s) layouts pairs in
-        let counts : entry_count board board.points file.layout file.pair ≡ length t.codes =
-        ap₂ (entry_count board board.points) layouts pairs ∙ sym exact.counted in
-        let code : code_for board file bytes s ≡ get_or t.codes (entry_index board board.points t.layout t.pair s) 0 =
-        ap (λ b. code_at b entry) is ∙ code_at-file board t entry exact.small (omega arith) ∙ ap (λ i. get_or t.codes i 0) entries in
-        subst (IsCodeOf board s) (sym code) (exact.exact s position (subst (λ c. is_of c s ≡ true) pairs of))
-
     -- the code that is read for a position is the position's
     pub exact_code : (code : ℕ) → IfSome file.bytes (λ b. code ≡ code_for board file b s) → IsExactFile board file
         → entry_index board n file.layout file.pair s < entry_count board n file.layout file.pair → IsCodeOf board s code
-    exact_code code is exact inside =
-        let framed = at_bytes (λ bytes. framed_in board bytes ≡ Ok (file.layout, file.pair)) file.bytes (file_of board exact.0) exact.2 (known_framed board file right) in
+    exact_code code is (t, exact, known) inside =
+        let same : ◌≡◌ {A = Layout × Counts} (file.layout, file.pair) (t.layout, t.pair) =
+        kind_found board low y t (IsRaw-from_exact board t exact) file.bytes known (file.layout, file.pair) (known_framed board file right) in
+        let layouts : file.layout ≡ t.layout = ap (λ (k : Layout × Counts). k.0) same in
+        let pairs : file.pair ≡ t.pair = ap (λ (k : Layout × Counts). k.1) same in
+        let entry : ℕ = entry_index board board.points file.layout file.pair s in
+        let entries : entry ≡ entry_index board board.points t.layout t.pair s = ap₂ (λ l c. entry_index board board.points l c s) layouts pairs in
+        let counts : entry_count board board.points file.layout file.pair ≡ length t.codes =
+        ap₂ (entry_count board board.points) layouts pairs ∙ sym exact.counted in
         let here : entry < entry_count board board.points file.layout file.pair =
         subst (λ m. entry_index board m file.layout file.pair s < entry_count board m file.layout file.pair) (sym points) inside in
-        subst (IsCodeOf board s) (sym (at_bytes (λ bytes. code ≡ code_for board file bytes s) file.bytes (file_of board exact.0) exact.2 is))
-        (of_table (file_of board exact.0) exact.0 exact.1 refl framed here)
+        let code_is : code ≡ get_or t.codes (entry_index board board.points t.layout t.pair s) 0 =
+        at_bytes (λ bytes. code ≡ code_for board file bytes s) file.bytes (file_of board t) known is
+        ∙ code_at-file board t entry exact.small (omega (arith, here, counts))
+        ∙ ap (λ i. get_or t.codes i 0) entries in
+        subst (IsCodeOf board s) (sym code_is) (exact.exact s position (subst (λ c. is_of c s ≡ true) pairs of))
 
 -- ---- two bytes that are read
-
--- they stand in the file
-pub lies_there : (board : Shape) (n : ℕ) → board.points ≡ n → (o : Option (List ℕ)) (layout : Layout) (pair : Counts)
-    → IfSome o (λ bytes. framed_in board bytes ≡ Ok (layout, pair)) → (entry : ℕ) → entry < entry_count board n layout pair → LiesWithin o (16 + 2 * entry) 2
-lies_there board n points None layout pair framed entry low = tt
-lies_there board n points (Some bytes) layout pair framed entry low =
-    let size : length bytes ≡ 16 + 2 * entry_count board board.points layout pair + 32 = size_of_framed board bytes (layout, pair) framed in
-    let here : entry < entry_count board board.points layout pair = subst (λ m. entry < entry_count board m layout pair) (sym points) low in
-    omega (arith, size, here)
 
 -- where the bytes are known, what was read is the code of the entry
 pub read_stated : (T E : Type 0) (board : Shape) (n : ℕ) → board.points ≡ n → (file : OpenFile) (s : Sides) (o : Option (List ℕ)) (place : ℕ) (out : List ℕ) (done : T)

@@ -13,7 +13,7 @@ use Rattle.morris_board.specs.Symmetries.{HasSymmetries}
 use Rattle.morris_index.specs.Numbering.{count_below}
 use Rattle.morris_index.specs.Classes.{is_representative, representative_of, classes_below, class_of}
 use Rattle.morris_index.proofs.ClassLaws.{representative_within}
-use Rattle.morris_lookup.specs.Representatives.{representatives_of}
+use Rattle.morris_lookup.specs.Representatives.{representatives_of, AreListed}
 
 -- ---- the numbers from one on that pass a test
 
@@ -67,50 +67,42 @@ module _ (f : ℕ → Bool) where
 
 -- ---- a list stands in words
 
--- It stands from `start` to `end`, and before it the words are the old ones.
-pub record AreListed (list : List ℕ) (start end : ℕ) (words old : List ℕ) : Type 0 where
-  pub ends : end ≡ start + length list
-  pub within : end ≤ length words
-  pub listed : (i : ℕ) → i < length list → get_or words (start + i) 0 ≡ get_or list i 0
-  pub before : (i : ℕ) → i < start → get_or words i 0 ≡ get_or old i 0
-
-pub listed-one : (list : List ℕ) (start end mask : ℕ) (words old : List ℕ) → AreListed list start end words old → end < length words
+pub listed-one : (list : List ℕ) (start end mask : ℕ) (words old : List ℕ) → AreListed list start end words old
     → AreListed (list ++ mask ∷ []) start (end + 1) (set words end mask) old
-listed-one list start end mask words old here room =
+listed-one list start end mask words old here =
     let len : length (list ++ mask ∷ []) ≡ length list + 1 = length-append list (mask ∷ []) in
+    let same : length (set words end mask) ≡ length words = length-set words end mask in
     record {
       ends = omega (arith, len, here.ends);
-      within = omega (arith, room, length-set words end mask);
-      listed = λ i h. elim (cases_lt i (length list)) [
+      listed = λ i h room. elim (cases_lt i (length list)) [
         | inl low ↦
             get_or-set_other words end (start + i) mask 0 (omega (arith, here.ends))
-            ∙ here.listed i low
+            ∙ here.listed i low (omega (arith, room, same))
             ∙ sym (get_or_append_left list (mask ∷ []) 0 i low)
         | inr le ↦
             let at : length list ≡ i = omega (arith, len) in
             let place : start + i ≡ end = omega (arith, here.ends) in
             ap (λ k. get_or (set words end mask) k 0) place
-            ∙ get_or-set_same words end mask 0 room
+            ∙ get_or-set_same words end mask 0 (omega (arith, room, same, place))
             ∙ sym (get_or_push list mask 0 i at)
       ];
       before = λ i h. get_or-set_other words end i mask 0 (omega (arith, here.ends)) ∙ here.before i h;
     }
 
-pub listed-join : (xs ys : List ℕ) (start mid end : ℕ) (words mids old : List ℕ) → AreListed xs start mid mids old → AreListed ys mid end words mids
+pub listed-join : (xs ys : List ℕ) (start mid end : ℕ) (words mids old : List ℕ) → length words ≡ length mids → AreListed xs start mid mids old → AreListed ys mid end words mids
     → AreListed (xs ++ ys) start end words old
-listed-join xs ys start mid end words mids old first then =
+listed-join xs ys start mid end words mids old same first then =
     let len : length (xs ++ ys) ≡ length xs + length ys = length-append xs ys in
     record {
       ends = omega (arith, len, first.ends, then.ends);
-      within = then.within;
-      listed = λ i h. elim (cases_lt i (length xs)) [
-        | inl low ↦ then.before (start + i) (omega (arith, first.ends)) ∙ first.listed i low ∙ sym (get_or_append_left xs ys 0 i low)
+      listed = λ i h room. elim (cases_lt i (length xs)) [
+        | inl low ↦ then.before (start + i) (omega (arith, first.ends)) ∙ first.listed i low (omega (arith, room, same)) ∙ sym (get_or_append_left xs ys 0 i low)
         | inr le ↦
             let j : ℕ = i - length xs in
             let place : start + i ≡ mid + j = omega (arith, first.ends) in
             let at : length xs + j ≡ i = omega arith in
             ap (λ k. get_or words k 0) place
-            ∙ then.listed j (omega (arith, len))
+            ∙ then.listed j (omega (arith, len)) (omega (arith, room, place))
             ∙ sym (get_or-append-add xs ys j 0)
             ∙ ap (λ k. get_or (xs ++ ys) k 0) at
       ];
@@ -133,30 +125,13 @@ module _ (f : ℕ → Bool) (a mask : ℕ) (from : a ≤ mask) where
       let e : a + (mask - a) ≡ mask = omega arith in
       ap (between f a) (sym one_more) ∙ between-no f a (mask - a) (ap f e ∙ h)
 
-  counted-yes : f mask ≡ true → length (between f a (mask + 1 - a)) ≡ length (between f a (mask - a)) + 1
-  counted-yes h = ap length (between-yes_to h) ∙ length-append (between f a (mask - a)) (mask ∷ [])
-
   module _ (start end : ℕ) (words old : List ℕ) (here : AreListed (between f a (mask - a)) start end words old) where
-    pub listed-yes : f mask ≡ true → end < length words → AreListed (between f a (mask + 1 - a)) start (end + 1) (set words end mask) old
-    listed-yes h room =
-        subst (λ xs. AreListed xs start (end + 1) (set words end mask) old) (sym (between-yes_to h)) (listed-one (between f a (mask - a)) start end mask words old here room)
+    pub listed-yes : f mask ≡ true → AreListed (between f a (mask + 1 - a)) start (end + 1) (set words end mask) old
+    listed-yes h =
+        subst (λ xs. AreListed xs start (end + 1) (set words end mask) old) (sym (between-yes_to h)) (listed-one (between f a (mask - a)) start end mask words old here)
 
     pub listed-no : f mask ≡ false → AreListed (between f a (mask + 1 - a)) start end words old
     listed-no h = subst (λ xs. AreListed xs start end words old) (sym (between-no_to h)) here
-
-    -- where there is no room for one more, there is none for all
-    pub listed_full : (n : ℕ) → f mask ≡ true → end ≡ length words → mask < a + n → length words < start + length (between f a n)
-    listed_full n h full low =
-        let k : ℕ = mask + 1 - a in
-        let e : k + (n - k) ≡ n = omega arith in
-        omega (
-          arith,
-          here.ends,
-          counted-yes h,
-          ap (λ m. length (between f a m)) e,
-          ap length (between-join f a k (n - k)),
-          length-append (between f a k) (between f (a + k) (n - k)),
-        )
 
 -- ---- stretches are listed one after the other
 
@@ -164,33 +139,20 @@ module _ (f : ℕ → Bool) (a n : ℕ) where
   join_at : between f 0 (a + n) ≡ between f 0 a ++ between f a n
   join_at = between-join f 0 a n ∙ ap (λ k. between f 0 a ++ between f k n) (zero-add a)
 
-  pub counted-stretch : length (between f 0 (a + n)) ≡ length (between f 0 a) + length (between f a n)
-  counted-stretch = ap length join_at ∙ length-append (between f 0 a) (between f a n)
-
-  pub listed-stretch : (start mid end : ℕ) (words mids old : List ℕ) → AreListed (between f 0 a) start mid mids old → AreListed (between f a n) mid end words mids
-      → AreListed (between f 0 (a + n)) start end words old
-  listed-stretch start mid end words mids old first then =
-      subst (λ xs. AreListed xs start end words old) (sym join_at) (listed-join (between f 0 a) (between f a n) start mid end words mids old first then)
-
-  -- all have at least as many as these
-  pub counted_up : (most : ℕ) → a + n ≤ most → length (between f 0 a) + length (between f a n) ≤ length (between f 0 most)
-  counted_up most le =
-      let e : (a + n) + (most - (a + n)) ≡ most = omega arith in
-      omega (
-        arith,
-        counted-stretch,
-        ap (λ m. length (between f 0 m)) e,
-        ap length (between-join f 0 (a + n) (most - (a + n))),
-        length-append (between f 0 (a + n)) (between f (0 + (a + n)) (most - (a + n))),
-      )
+  pub listed-stretch : (start mid end : ℕ) (words mids old : List ℕ) → length words ≡ length mids → AreListed (between f 0 a) start mid mids old
+      → AreListed (between f a n) mid end words mids → AreListed (between f 0 (a + n)) start end words old
+  listed-stretch start mid end words mids old same first then =
+      subst (λ xs. AreListed xs start end words old) (sym join_at) (listed-join (between f 0 a) (between f a n) start mid end words mids old same first then)
 
 -- a list that stands at the beginning of words, up to where it ends
-pub listed_first : (list : List ℕ) (end : ℕ) (words : List ℕ) → end ≡ length list → end ≤ length words
-    → ((i : ℕ) → i < length list → get_or words (0 + i) 0 ≡ get_or list i 0) → take end words ≡ list
-listed_first list end words ends within listed =
+pub listed_first : (list : List ℕ) (end : ℕ) (words old : List ℕ) → AreListed list 0 end words old → end ≤ length words → take end words ≡ list
+listed_first list end words old here within =
+    let ends : end ≡ length list = omega (arith, here.ends) in
     let len : length (take end words) ≡ length list = length-take-le end words within ∙ ends in
     ext_get_or 0 (take end words) list len (λ i h.
-    get_or-take end words i 0 (omega (arith, h, len, ends)) ∙ ap (λ k. get_or words k 0) (sym (zero-add i)) ∙ listed i (omega (arith, h, len)))
+    get_or-take end words i 0 (omega (arith, h, len, ends))
+    ∙ ap (λ k. get_or words k 0) (sym (zero-add i))
+    ∙ here.listed i (omega (arith, h, len)) (omega (arith, h, len, ends, within)))
 
 -- ---- how many there are
 

@@ -1,13 +1,13 @@
 -- Laws of opening: what the steps find in bytes of which the header and the number are known, and
 -- that the file of each table is one.
-use Rattle.std.proofs.Common.{◌≡◌, ◌≢◌, ℕ, ◌+◌, ◌*◌, ◌<◌, ◌≤◌, List, [], ◌++◌, length, take, drop, Option, Some, None, Result, Ok, Err, IsOk, refl, sym, ap, subst, ◌∙◌, inl, inr, arith, append-nil}
+use Rattle.std.proofs.Common.{◌≡◌, ◌≢◌, ℕ, ◌+◌, ◌*◌, ◌<◌, ◌≤◌, List, [], ◌++◌, length, take, drop, Option, Some, None, Result, Ok, Err, false, true, not, ◌&&◌, eqb, refl, sym, ap, ap₂, subst, ◌∙◌, inl, inr, arith, append-nil}
 use Rattle.std.specs.Prelude.{nat_eq, nat_le, IfSome}
 use Rattle.std.specs.Str.{bytes_eq}
-use Rattle.std.proofs.lemmas.Bool.{cases_Bool, le-leb, leb-true}
+use Rattle.std.proofs.lemmas.Bool.{and_from, and_parts, both_ways, cases_Bool, eq-eqb, eqb-true, le-leb, leb-true, not-false, not-true}
 use Rattle.sha2.specs.Sha256.{sha256}
 use Rattle.morris_board.specs.Boards.{Shape}
 use Rattle.morris_board.specs.Symmetries.{HasSymmetries}
-use Rattle.morris_index.specs.Pairs.{Counts}
+use Rattle.morris_index.specs.Pairs.{Counts, counts}
 use Rattle.morris_pairs.specs.declared.layout.Layout.{Layout}
 use Rattle.morris_pairs.specs.declared.layout.Layout.TheVariants.{Full}
 use Rattle.morris_pairs.specs.Entries.{entry_count}
@@ -17,111 +17,65 @@ use Rattle.morris_pairs.specs.Tables.{Table, table}
 use Rattle.morris_pairs.specs.Raws.{IsRaw}
 use Rattle.morris_pairs.specs.TableFiles.{file_of}
 use Rattle.morris_pairs.specs.declared.header.Header.{Header}
-use Rattle.morris_pairs.specs.FileReading.{unless, and_then, header_at, kind_in, counted_in, heading_in, roomless_in, header_in, codes_in, body_in, file_in, IsOfBytes}
+use Rattle.morris_pairs.specs.FileReading.{unless, and_then, header_at, kind_in, counted_in, heading_in, header_in, codes_in, body_in, file_in, IsOfBytes}
 use Rattle.morris_pairs.specs.declared.file_faults.ReadFault.{ReadFault}
 use Rattle.morris_pairs.specs.declared.file_faults.ReadFault.TheVariants as fault
 use Rattle.morris_pairs.proofs.FileLaws.{header_in-short, file_in-file_of, length-file_of}
 use Rattle.morris_pairs.proofs.ReadingLaws.{ok_same, room_refused}
 use Rattle.morris_lookup.specs.declared.fault.OpenFault.TheVariants as opening
 use Rattle.morris_lookup.specs.Storage.{bytes_at, CountsBytes}
-use Rattle.morris_lookup.specs.Opening.{file_size, measured_in, framed_in, borne_out, BeginsWith, IsFramingRefusal, IsOpen, IsOpeningRefusal, OpenFile, Opens}
+use Rattle.morris_lookup.specs.Opening.{file_size, measured_in, framed_in, borne_out, IsHeaded, IsFramingRefusal, IsOpen, IsOpeningRefusal, OpenFile, Opens}
 
--- ---- the last steps
+-- ---- bytes by their header and number
 
--- where none of them refuses, the bytes are as many as the file of a table has
-pub borne : (stated long count : ℕ) (done : Unit {0}) → Ok done ≡ borne_out stated long count → long ≡ 16 + 2 * count + 32
-unfolding borne_out
-borne stated long count done e = elim (cases_Bool (nat_eq stated count)) [
-  | inl right ↦ elim (cases_Bool (nat_le (16 + 2 * count + 32) long)) [
-    | inl enough ↦ elim (cases_Bool (nat_le long (16 + 2 * count + 32))) [
-      | inl fit ↦ omega (arith, leb-true (16 + 2 * count + 32) long enough, leb-true long (16 + 2 * count + 32) fit)
-      | inr more ↦ absurd (never-borne fault.Trailing (rw (right, enough, more) at e))
-    ]
-    | inr fewer ↦ absurd (never-borne fault.Short (rw (right, fewer) at e))
-  ]
-  | inr other ↦ absurd (never-borne fault.Count (rw other at e))
-]
-  where
-    never-borne : (refusal : ReadFault) → ◌≡◌ {A = Result (Unit {0}) ReadFault} (Ok done) (Err refusal) → ⊥
-    never-borne refusal h = cc
-
--- the entry lies in the file
-pub entry_inside : (stated long count entry : ℕ) (done : Unit {0}) → Ok done ≡ borne_out stated long count → entry < count → 16 + 2 * entry + 2 ≤ long
-entry_inside stated long count entry done e low = omega (arith, borne stated long count done e)
-
--- what they leave of a layout and a pair
+-- what the last steps leave of a layout and a pair
 abbrev pub left_of : Layout × Counts → Result (Unit {0}) ReadFault → Result (Layout × Counts) ReadFault
 left_of kind (Ok done) = Ok kind
 left_of kind (Err refusal) = Err refusal
 
--- ---- bytes by their header and number
-
 module _ (board : Shape) (bytes : List ℕ) where
-  pub framed_short : length bytes < 16 → framed_in board bytes ≡ Err fault.Short
+  framed_short : length bytes < 16 → framed_in board bytes ≡ Err fault.Short
   unfolding framed_in
   framed_short short = rw (header_in-short board bytes short) refl
 
-  module _ (header : Header) (n : ℕ) (begins : BeginsWith header n bytes) where
-    pub framed_refused : (refusal : ReadFault) → Err refusal ≡ kind_in board header → framed_in board bytes ≡ Err refusal
-    unfolding framed_in header_in heading_in
-    framed_refused refusal e =
-        let here : Err refusal ≡ kind_in board (header_at (take 16 bytes)) = e ∙ ap (kind_in board) begins.1 in
-        rw (le-leb 16 (length bytes) begins.0, ← here) refl
+  framed_refused : 16 ≤ length bytes → (refusal : ReadFault) → Err refusal ≡ kind_in board (header_at (take 16 bytes)) → framed_in board bytes ≡ Err refusal
+  unfolding framed_in header_in heading_in
+  framed_refused long refusal e = rw (le-leb 16 (length bytes) long, ← e) refl
 
-    framed_here : (kind : Layout × Counts) → Ok kind ≡ kind_in board (header_at (take 16 bytes))
-        → framed_in board bytes ≡ left_of kind (borne_out (header_at (take 16 bytes)).entries (length bytes) (entry_count board board.points kind.0 kind.1))
+  module _ (kind : Layout × Counts) (stated n : ℕ) (here : IsHeaded board kind stated n bytes) where
+    framed_here : framed_in board bytes ≡ left_of kind (borne_out (header_at (take 16 bytes)).entries (length bytes) (entry_count board board.points kind.0 kind.1))
     unfolding framed_in header_in heading_in counted_in measured_in borne_out
-    framed_here kind e =
-        let stated : ℕ = (header_at (take 16 bytes)).entries in
+    framed_here =
+        let said : ℕ = (header_at (take 16 bytes)).entries in
         let count : ℕ = entry_count board board.points kind.0 kind.1 in
         let size : ℕ = 16 + 2 * count + 32 in
-        elim (cases_Bool (nat_eq stated count)) [
+        elim (cases_Bool (nat_eq said count)) [
           | inl right ↦ elim (cases_Bool (nat_le size (length bytes))) [
             | inl enough ↦ elim (cases_Bool (nat_le (length bytes) size)) [
-              | inl fit ↦ rw (le-leb 16 (length bytes) begins.0, ← e, right, enough, fit) refl
-              | inr more ↦ rw (le-leb 16 (length bytes) begins.0, ← e, right, enough, more) refl
+              | inl fit ↦ rw (le-leb 16 (length bytes) here.long, ← here.says, right, enough, fit) refl
+              | inr more ↦ rw (le-leb 16 (length bytes) here.long, ← here.says, right, enough, more) refl
             ]
-            | inr fewer ↦ rw (le-leb 16 (length bytes) begins.0, ← e, right, fewer) refl
+            | inr fewer ↦ rw (le-leb 16 (length bytes) here.long, ← here.says, right, fewer) refl
           ]
-          | inr other ↦ rw (le-leb 16 (length bytes) begins.0, ← e, other) refl
+          | inr other ↦ rw (le-leb 16 (length bytes) here.long, ← here.says, other) refl
         ]
 
-    module _ (kind : Layout × Counts) (named : Ok kind ≡ kind_in board header) (m : ℕ) (points : board.points ≡ m) (count : ℕ)
-        (counted : count ≡ entry_count board m kind.0 kind.1) where
-      framed_counted : framed_in board bytes ≡ left_of kind (borne_out header.entries n count)
+    module _ (m : ℕ) (points : board.points ≡ m) (count : ℕ) (counted : count ≡ entry_count board m kind.0 kind.1) where
+      framed_counted : framed_in board bytes ≡ left_of kind (borne_out stated n count)
       framed_counted =
-          let here : count ≡ entry_count board board.points kind.0 kind.1 = counted ∙ ap (λ p. entry_count board p kind.0 kind.1) (sym points) in
-          rw (begins.2, here, begins.1) (framed_here kind (named ∙ ap (kind_in board) begins.1))
+          let all : count ≡ entry_count board board.points kind.0 kind.1 = counted ∙ ap (λ p. entry_count board p kind.0 kind.1) (sym points) in
+          rw (here.many, all, here.states) framed_here
 
-      pub framed_not_borne : (refusal : ReadFault) → Err refusal ≡ borne_out header.entries n count → framed_in board bytes ≡ Err refusal
+      pub framed_not_borne : (refusal : ReadFault) → Err refusal ≡ borne_out stated n count → framed_in board bytes ≡ Err refusal
       framed_not_borne refusal e = framed_counted ∙ ap (left_of kind) (sym e)
 
-      pub framed_found : (done : Unit {0}) → Ok done ≡ borne_out header.entries n count → framed_in board bytes ≡ Ok kind
+      pub framed_found : (done : Unit {0}) → Ok done ≡ borne_out stated n count → framed_in board bytes ≡ Ok kind
       framed_found done e = framed_counted ∙ ap (left_of kind) (sym e)
 
 of_bytes : (board : Shape) (bytes : List ℕ) (refusal : ReadFault) → framed_in board bytes ≡ Err refusal → IsOfBytes refusal → IsFramingRefusal board bytes refusal
 of_bytes board bytes fault.Memory e r = absurd r
 of_bytes board bytes fault.Read e r = absurd r
 of_bytes board bytes refusal e r = e
-
-not_borne : (stated n count : ℕ) (refusal : ReadFault) → Err refusal ≡ borne_out stated n count → IsOfBytes refusal
-unfolding borne_out
-not_borne stated n count refusal e = elim (cases_Bool (nat_eq stated count)) [
-  | inl right ↦ elim (cases_Bool (nat_le (16 + 2 * count + 32) n)) [
-    | inl enough ↦ elim (cases_Bool (nat_le n (16 + 2 * count + 32))) [
-      | inl fit ↦ absurd (never-done (rw (right, enough, fit) at e))
-      | inr more ↦ subst IsOfBytes (sym (same fault.Trailing (rw (right, enough, more) at e))) tt
-    ]
-    | inr fewer ↦ subst IsOfBytes (sym (same fault.Short (rw (right, fewer) at e))) tt
-  ]
-  | inr other ↦ subst IsOfBytes (sym (same fault.Count (rw other at e))) tt
-]
-  where
-    never-done : ◌≡◌ {A = Result (Unit {0}) ReadFault} (Err refusal) (Ok tt) → ⊥
-    never-done h = cc
-
-    same : (other : ReadFault) → ◌≡◌ {A = Result (Unit {0}) ReadFault} (Err refusal) (Err other) → refusal ≡ other
-    same other h = cc
 
 -- ---- the same where the bytes may be known
 
@@ -140,34 +94,34 @@ module _ (board : Shape) (o : Option (List ℕ)) where
   abbrev IsRefusedBy : ReadFault → Type 0
   IsRefusedBy refusal = IfSome o (λ bytes. IsFramingRefusal board bytes refusal)
 
-pub frame_short : (board : Shape) (o : Option (List ℕ)) (refusal : ReadFault) → IfSome o (λ bytes. (length bytes < 16) × (refusal ≡ fault.Short)) → IsRefusedBy board o refusal
-frame_short board None refusal h = tt
-frame_short board (Some bytes) refusal h = subst (IsFramingRefusal board bytes) (sym h.1) (framed_short board bytes h.0)
+pub frame_refused : (board : Shape) (o : Option (List ℕ)) (refusal : ReadFault) → IfSome o (λ bytes. (framed_in board bytes ≡ Err refusal) × IsOfBytes refusal)
+    → IsRefusedBy board o refusal
+frame_refused board None refusal h = tt
+frame_refused board (Some bytes) refusal h = of_bytes board bytes refusal h.0 h.1
 
-module _ (board : Shape) (header : Header) (n : ℕ) where
-  pub frame_refused : (o : Option (List ℕ)) → IfSome o (BeginsWith header n) → (refusal : ReadFault) → Err refusal ≡ kind_in board header → IsOfBytes refusal
-      → IsRefusedBy board o refusal
-  frame_refused None begins refusal e of = tt
-  frame_refused (Some bytes) begins refusal e of = of_bytes board bytes refusal (framed_refused board bytes header n begins refusal e) of
+module _ (board : Shape) (stated n : ℕ) where
+  pub frame_roomless : (l : Layout) (c : Counts) (o : Option (List ℕ)) → IfSome o (IsHeaded board (l, c) stated n) → (l ≡ Full → ⊥) → IsRefusedBy board o fault.Memory
+  frame_roomless l c None here classes = tt
+  frame_roomless l c (Some bytes) here classes = (here.long, room_refused board (header_at (take 16 bytes)) l c here.says classes)
 
-  pub frame_roomless : (l : Layout) (c : Counts) → Ok (l, c) ≡ kind_in board header → (o : Option (List ℕ)) → IfSome o (BeginsWith header n) → (l ≡ Full → ⊥)
-      → IsRefusedBy board o fault.Memory
-  frame_roomless l c named None begins classes = tt
-  frame_roomless l c named (Some bytes) begins classes =
-      (begins.0, subst (λ h. IsOk (roomless_in board h)) begins.1 (room_refused board header l c named classes))
+  module _ (kind : Layout × Counts) (m : ℕ) (points : board.points ≡ m) (count : ℕ) (counted : count ≡ entry_count board m kind.0 kind.1) where
+    pub frame_not_borne : (o : Option (List ℕ)) → IfSome o (IsHeaded board kind stated n) → (refusal : ReadFault) → Err refusal ≡ borne_out stated n count
+        → IsOfBytes refusal → IsRefusedBy board o refusal
+    frame_not_borne None here refusal e of = tt
+    frame_not_borne (Some bytes) here refusal e of = of_bytes board bytes refusal (framed_not_borne board bytes kind stated n here m points count counted refusal e) of
 
-  module _ (kind : Layout × Counts) (named : Ok kind ≡ kind_in board header) where
-    module _ (m : ℕ) (points : board.points ≡ m) (count : ℕ) (counted : count ≡ entry_count board m kind.0 kind.1) where
-      pub frame_not_borne : (o : Option (List ℕ)) → IfSome o (BeginsWith header n) → (refusal : ReadFault) → Err refusal ≡ borne_out header.entries n count
-          → IsRefusedBy board o refusal
-      frame_not_borne None begins refusal e = tt
-      frame_not_borne (Some bytes) begins refusal e =
-          of_bytes board bytes refusal (framed_not_borne board bytes header n begins kind named m points count counted refusal e) (not_borne header.entries n count refusal e)
+    pub frame_found : (o : Option (List ℕ)) → IfSome o (IsHeaded board kind stated n) → (done : Unit {0}) → Ok done ≡ borne_out stated n count
+        → IfSome o (λ bytes. framed_in board bytes ≡ Ok kind)
+    frame_found None here done e = tt
+    frame_found (Some bytes) here done e = framed_found board bytes kind stated n here m points count counted done e
 
-      pub frame_found : (o : Option (List ℕ)) → IfSome o (BeginsWith header n) → (done : Unit {0}) → Ok done ≡ borne_out header.entries n count
-          → IfSome o (λ bytes. framed_in board bytes ≡ Ok kind)
-      frame_found None begins done e = tt
-      frame_found (Some bytes) begins done e = framed_found board bytes header n begins kind named m points count counted done e
+-- pairs that a test finds the same, or tells apart
+pub alike : (c d : Counts) → not (eqb c.greater d.greater && eqb c.lesser d.lesser) ≡ false → c ≡ d
+alike c d same = let both = and_parts _ _ (not-false _ same) in ap₂ counts (eqb-true _ _ both.0) (eqb-true _ _ both.1)
+
+pub apart : (c d : Counts) → not (eqb c.greater d.greater && eqb c.lesser d.lesser) ≡ true → c ≢ d
+apart c d differ = λ same.
+    both_ways _ (not-true _ differ) (and_from _ _ (eq-eqb _ _ (ap (λ (x : Counts). x.greater) same)) (eq-eqb _ _ (ap (λ (x : Counts). x.lesser) same)))
 
 -- the file of another pair is refused as such
 pub other_pair : (board : Shape) (wanted : Counts) (o : Option (List ℕ)) (kind : Layout × Counts) → IfSome o (λ bytes. framed_in board bytes ≡ Ok kind) → kind.1 ≢ wanted
@@ -176,17 +130,30 @@ other_pair board wanted None kind framed other = tt
 other_pair board wanted (Some bytes) kind framed other = (kind, framed, other)
 
 -- what a reader found that counted the bytes and read the first of them
-module _ (n : ℕ) (front : List ℕ) (sized : length front ≡ 16) (enough : 16 ≤ n) (header : Header) (is : header ≡ header_at front) where
-  pub begins_with : (o : Option (List ℕ)) → IfSome o (λ bytes. n ≡ length bytes) → IfSome o (λ bytes. front ≡ bytes_at bytes 0 (length front))
-      → IfSome o (BeginsWith header n)
-  begins_with None counted read = tt
-  begins_with (Some bytes) counted read =
-      (omega (arith, enough, counted), is ∙ ap header_at (read ∙ ap (λ k. bytes_at bytes 0 k) sized), counted)
+module _ (board : Shape) (n : ℕ) (front : List ℕ) (sized : length front ≡ 16) (enough : 16 ≤ n) (header : Header) (is : header ≡ header_at front) where
+  same_header : (bytes : List ℕ) → front ≡ bytes_at bytes 0 (length front) → header ≡ header_at (take 16 bytes)
+  same_header bytes read = is ∙ ap header_at (read ∙ ap (λ k. bytes_at bytes 0 k) sized)
 
-pub too_short : (E : Type 0) (o : Option (List ℕ)) (n : ℕ) → CountsBytes {E = E} o (Ok n) → n < 16 → (refusal : ReadFault) → refusal ≡ fault.Short
-    → IfSome o (λ bytes. (length bytes < 16) × (refusal ≡ fault.Short))
-too_short E None n counted short refusal is = tt
-too_short E (Some bytes) n counted short refusal is = let all : n ≡ length bytes = cc in (omega (arith, short, all), is)
+  pub headed : (o : Option (List ℕ)) → IfSome o (λ bytes. n ≡ length bytes) → IfSome o (λ bytes. front ≡ bytes_at bytes 0 (length front))
+      → (kind : Layout × Counts) → Ok kind ≡ kind_in board header → IfSome o (IsHeaded board kind header.entries n)
+  headed None counted read kind says = tt
+  headed (Some bytes) counted read kind says = record {
+    long = omega (arith, enough, counted);
+    says = says ∙ ap (kind_in board) (same_header bytes read);
+    states = ap (λ (h : Header). h.entries) (same_header bytes read);
+    many = counted;
+  }
+
+  pub unheaded : (o : Option (List ℕ)) → IfSome o (λ bytes. n ≡ length bytes) → IfSome o (λ bytes. front ≡ bytes_at bytes 0 (length front))
+      → (refusal : ReadFault) → Err refusal ≡ kind_in board header → IsOfBytes refusal → IfSome o (λ bytes. (framed_in board bytes ≡ Err refusal) × IsOfBytes refusal)
+  unheaded None counted read refusal e of = tt
+  unheaded (Some bytes) counted read refusal e of =
+      (framed_refused board bytes (omega (arith, enough, counted)) refusal (e ∙ ap (kind_in board) (same_header bytes read)), of)
+
+pub too_short : (E : Type 0) (board : Shape) (o : Option (List ℕ)) (n : ℕ) → CountsBytes {E = E} o (Ok n) → n < 16
+    → IfSome o (λ bytes. (framed_in board bytes ≡ Err fault.Short) × IsOfBytes fault.Short)
+too_short E board None n counted short = tt
+too_short E board (Some bytes) n counted short = let all : n ≡ length bytes = cc in (framed_short board bytes (omega (arith, short, all)), tt)
 
 -- bytes that no step refuses are as many as the file of the table has
 pub size_of_framed : (board : Shape) (bytes : List ℕ) (kind : Layout × Counts) → framed_in board bytes ≡ Ok kind

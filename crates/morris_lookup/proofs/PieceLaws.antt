@@ -14,13 +14,12 @@ use Rattle.morris_pairs.specs.Entries.{entry_count}
 use Rattle.morris_pairs.specs.Tables.{IsTable, Table}
 use Rattle.morris_pairs.specs.TableFiles.{file_of}
 use Rattle.morris_pairs.proofs.FileLaws.{AreCodes, IsRaw-from_exact}
-use Rattle.morris_pairs.proofs.ReadingLaws.{ok_same}
 use Rattle.morris_lookup.specs.FileCodes.{IsPiece, codes_in_file, stated_codes}
 use Rattle.morris_lookup.specs.Lookups.{code_at}
 use Rattle.morris_lookup.specs.Opening.{IsOpen, OpenFile, framed_in}
 use Rattle.morris_lookup.specs.Storage.{LiesWithin, ReadsAt, bytes_at}
 use Rattle.morris_lookup.proofs.FileLookups.{code_at-file}
-use Rattle.morris_lookup.proofs.OpeningLaws.{at_bytes, framed_file, known_framed, size_of_framed}
+use Rattle.morris_lookup.proofs.OpeningLaws.{at_bytes, kind_found, known_framed, size_of_framed}
 
 -- two bytes that stand within the first ones
 within_first : (xs : List ℕ) (place n : ℕ) → place + 2 ≤ n → bytes_at (take n xs) place 2 ≡ bytes_at xs place 2
@@ -109,11 +108,7 @@ piece_known (Some bytes) piece first end n entry code there low less within is =
 module _ (board : Shape) (low : board.points ≤ 24) (y : HasSymmetries board) (file : OpenFile) (right : IsOpen board file) (t : Table) (exact : IsTable board t)
     (is : file.bytes ≡ Some (file_of board t)) where
   same_kind : ◌≡◌ {A = Layout × Counts} (file.layout, file.pair) (t.layout, t.pair)
-  same_kind =
-      let found : framed_in board (file_of board t) ≡ Ok (t.layout, t.pair) = framed_file board low y t (IsRaw-from_exact board t exact) in
-      let framed : framed_in board (file_of board t) ≡ Ok (file.layout, file.pair) =
-      at_bytes (λ bytes. framed_in board bytes ≡ Ok (file.layout, file.pair)) file.bytes (file_of board t) is (known_framed board file right) in
-      ok_same {A = Layout × Counts} (framed_in board (file_of board t)) (file.layout, file.pair) (t.layout, t.pair) framed found
+  same_kind = kind_found board low y t (IsRaw-from_exact board t exact) file.bytes is (file.layout, file.pair) (known_framed board file right)
 
   pub layout_of_table : file.layout ≡ t.layout
   layout_of_table = ap (λ (k : Layout × Counts). k.0) same_kind

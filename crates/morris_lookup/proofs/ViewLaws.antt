@@ -1,5 +1,5 @@
 -- Laws of what files in memory say.
-use Rattle.std.proofs.Common.{◌≡◌, ℕ, ◌+◌, Bool, true, false, List, length, take, get_or, Some, None, Result, Ok, Err, refl, sym, ap, ap₂, ◌∙◌, inl, inr, arith}
+use Rattle.std.proofs.Common.{◌≡◌, ℕ, ◌+◌, Bool, true, false, List, length, take, get_or, Some, None, Result, Ok, Err, refl, sym, ap, ap₂, subst, ◌∙◌, inl, inr, arith}
 use Rattle.std.specs.Prelude.{nat_eq, nat_le, IfOk}
 use Rattle.std.specs.Str.{bytes_eq}
 use Rattle.std.proofs.lemmas.Bool.{cases_Bool, eqb-true, and_parts, false≢true}
@@ -15,7 +15,7 @@ use Rattle.morris_pairs.specs.declared.layout.Layout.TheVariants.{Full, Classes}
 use Rattle.morris_pairs.specs.TableFiles.{magic}
 use Rattle.morris_pairs.specs.declared.header.Header.{Header}
 use Rattle.morris_pairs.specs.FileReading.{unless, are_counts, is_version, header_at, layout_in, kind_in}
-use Rattle.morris_lookup.specs.Opening.{framed_in}
+use Rattle.morris_lookup.specs.Opening.{framed_in, IsHeaded}
 use Rattle.morris_lookup.specs.declared.fault.ViewFault.TheVariants as view
 use Rattle.morris_lookup.specs.Views.{is_by_classes, value_by_kind, value_of_bytes, value_said, needs_words, IsExactAt, IsExactFile}
 use Rattle.morris_lookup.specs.Views.{names_pair, file_of_pair}
@@ -46,12 +46,12 @@ kind_says board h kind e =
     (passed (bytes_eq h.magic magic) fault.Magic _ kind e)))) in
     cc
 
-module _ (board : Shape) (bytes : List ℕ) (header : Header) (is : header ≡ header_at (take 16 bytes)) (found : Layout) (pair : Counts)
-    (known : Ok (found, pair) ≡ kind_in board header) where
+module _ (board : Shape) (bytes : List ℕ) (found : Layout) (pair : Counts) (stated n : ℕ) (here : IsHeaded board (found, pair) stated n bytes) where
+  says : ◌≡◌ {A = Layout × Counts} (found, pair) (layout_in (get_or (take 16 bytes) 4 0), counts (get_or (take 16 bytes) 6 0) (get_or (take 16 bytes) 7 0))
+  says = kind_says board (header_at (take 16 bytes)) (found, pair) here.says
+
   version_is : found ≡ layout_in (get_or bytes 4 0)
-  version_is =
-      ap (λ (k : Layout × Counts). k.0) (kind_says board header (found, pair) known)
-      ∙ ap (λ (h : Header). layout_in h.version) is ∙ ap layout_in (get_or-take 16 bytes 4 0 (omega arith))
+  version_is = ap (λ (k : Layout × Counts). k.0) says ∙ ap layout_in (get_or-take 16 bytes 4 0 (omega arith))
 
   pub read_by_classes : found ≡ Classes → is_by_classes bytes ≡ true
   read_by_classes classes = by_classes (get_or bytes 4 0) (sym version_is ∙ classes)
@@ -59,19 +59,16 @@ module _ (board : Shape) (bytes : List ℕ) (header : Header) (is : header ≡ h
   pub laid_by_classes : is_by_classes bytes ≡ true → found ≡ Classes
   laid_by_classes y = version_is ∙ rw y refl
 
-  module _ (c : Counts) (named : names_pair c bytes ≡ true) where
-    pair_is : pair ≡ c
-    pair_is =
-        let parts = and_parts (nat_eq (get_or bytes 6 0) c.greater) (nat_eq (get_or bytes 7 0) c.lesser) (and_parts (nat_le 16 (length bytes)) _ named).1 in
-        ap (λ (k : Layout × Counts). k.1) (kind_says board header (found, pair) known)
-        ∙ ap (λ (h : Header). counts h.greater h.lesser) is
-        ∙ ap₂ counts
-        (get_or-take 16 bytes 6 0 (omega arith) ∙ eqb-true (get_or bytes 6 0) c.greater parts.0)
-        (get_or-take 16 bytes 7 0 (omega arith) ∙ eqb-true (get_or bytes 7 0) c.lesser parts.1)
-
-    -- so the header is one of this pair
-    pub named_kind : Ok (found, c) ≡ kind_in board header
-    named_kind = ap (λ p. Ok (found, p)) (sym pair_is) ∙ known
+  -- the header is one of the pair that is named
+  pub named_heading : (c : Counts) → names_pair c bytes ≡ true → IsHeaded board (found, c) stated n bytes
+  named_heading c named =
+      let parts = and_parts (nat_eq (get_or bytes 6 0) c.greater) (nat_eq (get_or bytes 7 0) c.lesser) (and_parts (nat_le 16 (length bytes)) _ named).1 in
+      let same : pair ≡ c =
+      ap (λ (k : Layout × Counts). k.1) says
+      ∙ ap₂ counts
+      (get_or-take 16 bytes 6 0 (omega arith) ∙ eqb-true (get_or bytes 6 0) c.greater parts.0)
+      (get_or-take 16 bytes 7 0 (omega arith) ∙ eqb-true (get_or bytes 7 0) c.lesser parts.1) in
+      subst (λ p. IsHeaded board (found, p) stated n bytes) same here
 
 -- ---- answers
 

@@ -5,8 +5,7 @@ use Rattle.morris_board.specs.Boards.{Shape}
 use Rattle.morris_index.specs.Pairs.{Counts, IsPair}
 use Rattle.morris_pairs.specs.declared.layout.Layout.{Layout}
 use Rattle.morris_pairs.specs.Entries.{entry_count}
-use Rattle.morris_pairs.specs.declared.header.Header.{Header}
-use Rattle.morris_pairs.specs.FileReading.{unless, and_then, header_at, header_in, MayTakeRoom}
+use Rattle.morris_pairs.specs.FileReading.{unless, and_then, header_at, kind_in, header_in, MayTakeRoom}
 use Rattle.morris_pairs.specs.declared.file_faults.ReadFault.{ReadFault}
 use Rattle.morris_pairs.specs.declared.file_faults.ReadFault.TheVariants as read
 use Rattle.morris_lookup.specs.declared.fault.OpenFault.{OpenFault}
@@ -63,9 +62,13 @@ Opens layout (Err refusal) = ⊥
 
 -- ---- parts of a call
 
--- bytes begin with a header, and are so many
-abbrev pub BeginsWith : Header → ℕ → List ℕ → Type 0
-BeginsWith header n bytes = (16 ≤ length bytes) × (header ≡ header_at (take 16 bytes)) × (n ≡ length bytes)
+-- bytes begin with a header that says this layout and pair and states so many entries, and are so
+-- many
+pub record IsHeaded (board : Shape) (kind : Layout × Counts) (stated n : ℕ) (bytes : List ℕ) : Type 0 where
+  pub long : 16 ≤ length bytes
+  pub says : Ok kind ≡ kind_in board (header_at (take 16 bytes))
+  pub states : stated ≡ (header_at (take 16 bytes)).entries
+  pub many : n ≡ length bytes
 
 -- the last steps, once the layout and the pair are known: the number of entries that the header
 -- states is that of the table, and there are as many bytes as its file has

@@ -15,7 +15,7 @@ use morris_index::pair::Pair;
 
 /// How many entries a pair has by classes, where the representatives of the classes of sets of its
 /// greater and of its lesser number of points are listed.
-pub fn class_size<B: Geometry>(pair: Pair<B>, greater: &[u32], lesser: &[u32]) -> u64
+pub(crate) fn class_size<B: Geometry>(pair: Pair<B>, greater: &[u32], lesser: &[u32]) -> u64
     requires greater { length greater.now < 2 ^ 32 }
     requires lesser { length lesser.now < 2 ^ 32 }
     ensures value { greater.now ≡ representatives_of B.shape pair.greater → lesser.now ≡ representatives_of B.shape pair.lesser → result ≡ class_size_of B.shape B.POINTS pair }
@@ -32,7 +32,7 @@ pub fn class_size<B: Geometry>(pair: Pair<B>, greater: &[u32], lesser: &[u32]) -
 
 /// The entry of a position of the pair by classes, by the same lists and by words that may lead the
 /// sets of either number of points. By other lists or words it is any number.
-pub fn class_index<B: Geometry>(
+pub(crate) fn class_index<B: Geometry>(
     pair: Pair<B>,
     greater: &[u32],
     lesser: &[u32],

@@ -1,27 +1,37 @@
 //! The steps that hold bytes against the file of a table: its header, and how many bytes it has.
-ghost use Rattle.std.specs.Prelude.{◌≡◌, ◌<◌, ◌^◌, length, IfOk, IfErr, IfSome};
-ghost use Rattle.morris_lookup.specs.Opening.{BeginsWith, borne_out};
+ghost use Rattle.std.specs.Prelude.{◌≡◌, ◌<◌, ◌^◌, length, Err, IfOk, IfErr, IfSome};
+ghost use Rattle.morris_pairs.specs.FileReading.{IsOfBytes};
+ghost use Rattle.morris_lookup.specs.Opening.{IsHeaded, framed_in, borne_out};
 
 use crate::storage::Storage;
+use morris_board::board::Geometry;
+use morris_index::pair::Pair;
 use morris_pairs::file_faults::ReadFault;
 use morris_pairs::header::{HEADER, Header};
+use morris_pairs::layout::Layout;
 use morris_pairs::reading::DIGEST;
 
-/// The header that bytes begin with, and how many bytes there are.
+/// The layout and the pair that the header of bytes says, how many entries it states, and how many
+/// bytes there are.
 ///
 /// # Errors
-/// `Short` where there are fewer bytes than a header has, and `Read` where they can't be read.
-pub(crate) fn header_of<S: Storage>(storage: &S) -> Result<(Header, u64), ReadFault>
-    ensures found { IfOk result (λ read. IfSome (S.held storage.now) (BeginsWith read.0 read.1)) }
-    ensures refused { IfErr result (λ fault. IfSome (S.contents storage.now) (λ bytes. (length bytes < 16) × (fault ≡ ReadFault.Short))) }
+/// `Short` where there are fewer bytes than a header has; `Magic`, `Version`, `BoardId`, `Counts` and
+/// `Crowded` for the header; and `Read` where they can't be read.
+pub(crate) fn heading_of<B: Geometry, S: Storage>(
+    storage: &S,
+) -> Result<(Layout, Pair<B>, u64, u64), ReadFault>
+    ensures found { IfOk result (λ found. IfSome (S.held storage.now) (IsHeaded B.shape (found.0, found.1) found.2 found.3)) }
+    ensures refused { IfErr result (λ fault. IfSome (S.contents storage.now) (λ bytes. (framed_in B.shape bytes ≡ Err fault) × IsOfBytes fault)) }
 {
     let length = storage.len()?;
     if length < HEADER as u64 {
         return Err(ReadFault::Short);
     }
-    let mut header = [0; HEADER];
-    storage.read_at(0, &mut header)?;
-    Ok((Header::from_bytes(&header), length))
+    let mut bytes = [0; HEADER];
+    storage.read_at(0, &mut bytes)?;
+    let header = Header::from_bytes(&bytes);
+    let (layout, pair) = header.kind()?;
+    Ok((layout, pair, header.entries, length))
 }
 
 /// Holds how many entries a header states, and how many bytes there are, against a table of `count`
@@ -32,7 +42,8 @@ pub(crate) fn header_of<S: Storage>(storage: &S) -> Result<(Header, u64), ReadFa
 #[tactic(auto, unfolding(crate::specs::Opening::borne_out))]
 pub(crate) fn bear_out(stated: u64, length: u64, count: u64) -> Result<(), ReadFault>
     requires { count < 2 ^ 56 }
-    ensures { result ≡ borne_out stated length count }
+    ensures value { result ≡ borne_out stated length count }
+    ensures refused { IfErr result IsOfBytes }
 {
     if stated != count {
         return Err(ReadFault::Count);

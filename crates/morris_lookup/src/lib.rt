@@ -3,7 +3,7 @@
 
 pub mod best;
 pub mod check;
-pub mod class_entries;
+mod class_entries;
 mod classes;
 pub mod codes;
 pub mod digest;
@@ -18,7 +18,7 @@ pub mod outcomes;
 pub mod prepared;
 mod ranks;
 pub mod records;
-pub mod representatives;
+mod representatives;
 pub mod storage;
 pub mod tables;
 pub mod views;

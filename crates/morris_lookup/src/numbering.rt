@@ -2,7 +2,7 @@
 ghost use Rattle.std.specs.Prelude.{◌≡◌, ◌<◌, ◌≤◌, ◌^◌, true, IfOk, IsOk};
 ghost use Rattle.morris_index.specs.Pairs.{IsPair, is_of};
 ghost use Rattle.morris_pairs.specs.Entries.{entry_count, entry_index};
-ghost use Rattle.morris_lookup.specs.Numberings.{Serve, ServeFor, Lead, LeadFor, Fits};
+ghost use Rattle.morris_lookup.specs.Numberings.{Serve, ServeFor, Fits};
 
 use crate::class_entries::{class_index, class_size};
 use crate::leads::leads;
@@ -44,8 +44,8 @@ impl<B: Geometry> Numbering<'_, B> {
     pub(crate) fn entry(&self, position: &Position<B>) -> u64
         requires fits { Fits self.now }
         requires of { is_of self.now.pair position.now ≡ true }
-        ensures value { ServeFor B.shape self.now → LeadFor B.shape self.now → result ≡ entry_index B.shape B.POINTS self.now.layout self.now.pair position.now }
-        ensures below { ServeFor B.shape self.now → LeadFor B.shape self.now → result < entry_count B.shape B.POINTS self.now.layout self.now.pair }
+        ensures value { ServeFor B.shape self.now → result ≡ entry_index B.shape B.POINTS self.now.layout self.now.pair position.now }
+        ensures below { ServeFor B.shape self.now → result < entry_count B.shape B.POINTS self.now.layout self.now.pair }
         ensures few { result < 2 ^ 55 }
     {
         // The proof learns the rules of a position where its stones are read, and how many entries
@@ -66,8 +66,10 @@ impl<B: Geometry> Numbering<'_, B> {
     }
 }
 
-/// The lists that the entries of a pair go by in a layout: 4 bytes for each class, and nothing in
-/// layout `Full`.
+/// What the entries of a pair go by in a layout: the lists of the representatives for its greater
+/// and for its lesser number of points, 4 bytes for each class; then words that lead the sets of
+/// either number, 4 bytes for each set where these are few. In layout `Full` there is nothing in
+/// them.
 ///
 /// # Errors
 /// [`AllocError`] where memory runs out, which isn't asked for in layout `Full`.
@@ -75,12 +77,17 @@ pub(crate) fn lists_of<B: Geometry>(
     alloc: Global,
     layout: Layout,
     pair: Pair<B>,
-) -> Result<(Vec<u32>, Vec<u32>), AllocError>
-    ensures serve { IfOk result (λ lists. Serve B.shape layout pair lists.0.items lists.1.items) }
+) -> Result<(Vec<u32>, Vec<u32>, Vec<u32>, Vec<u32>), AllocError>
+    ensures serve { IfOk result (λ lists. Serve B.shape layout pair lists.0.items lists.1.items lists.2.items lists.3.items) }
     ensures full { layout ≡ Layout.Full → IsOk result }
 {
     match layout {
-        Layout::Full => Ok((Vec::new(alloc), Vec::new(alloc))),
+        Layout::Full => Ok((
+            Vec::new(alloc),
+            Vec::new(alloc),
+            Vec::new(alloc),
+            Vec::new(alloc),
+        )),
         Layout::Classes => {
             let greater = representatives::<B>(alloc, pair.greater())?;
             let lesser = if pair.lesser() == pair.greater() {
@@ -88,33 +95,9 @@ pub(crate) fn lists_of<B: Geometry>(
             } else {
                 representatives::<B>(alloc, pair.lesser())?
             };
-            Ok((greater, lesser))
+            let greater_leads = leads::<B>(alloc, pair.greater(), greater.as_slice())?;
+            let lesser_leads = leads::<B>(alloc, pair.lesser(), lesser.as_slice())?;
+            Ok((greater, lesser, greater_leads, lesser_leads))
         }
-    }
-}
-
-/// Words that lead the sets of the numbers of points of a pair in a layout, by the lists that its
-/// entries go by: 4 bytes for each set of few points, and nothing for sets of more and in layout
-/// `Full`.
-///
-/// # Errors
-/// [`AllocError`] where memory runs out, which isn't asked for in layout `Full`.
-pub(crate) fn leads_of<B: Geometry>(
-    alloc: Global,
-    layout: Layout,
-    pair: Pair<B>,
-    greater: &[u32],
-    lesser: &[u32],
-) -> Result<(Vec<u32>, Vec<u32>), AllocError>
-    requires { Serve B.shape layout pair greater.now lesser.now }
-    ensures lead { IfOk result (λ leads. Lead B.shape layout pair leads.0.items leads.1.items) }
-    ensures full { layout ≡ Layout.Full → IsOk result }
-{
-    match layout {
-        Layout::Full => Ok((Vec::new(alloc), Vec::new(alloc))),
-        Layout::Classes => Ok((
-            leads::<B>(alloc, pair.greater(), greater)?,
-            leads::<B>(alloc, pair.lesser(), lesser)?,
-        )),
     }
 }

@@ -1,5 +1,5 @@
 //! A table file that was opened: its codes are read where they lie.
-ghost use Rattle.std.specs.Prelude.{◌≡◌, ◌-◌, ◌*◌, ◌<◌, ◌≤◌, ◌^◌, ◌↔◌, true, length, IsTrue, Ok, Err, Some, IfOk, IfErr, IfSome, IsOk, IsSome};
+ghost use Rattle.std.specs.Prelude.{◌≡◌, ◌-◌, ◌*◌, ◌<◌, ◌≤◌, ◌^◌, true, length, Ok, Err, Some, IfOk, IfErr, IfSome, IsOk, IsSome};
 ghost use Rattle.morris_index.specs.Pairs.{is_of};
 ghost use Rattle.morris_pairs.specs.Codes.{IsCodeOf, IsValue, value_in};
 ghost use Rattle.morris_pairs.specs.Entries.{entry_count, entry_index};
@@ -9,11 +9,11 @@ ghost use Rattle.morris_pairs.specs.TableFiles.{file_of};
 ghost use Rattle.morris_lookup.specs.Opening.{IsFramingRefusal, IsOpeningRefusal, IsOpen, Opens};
 ghost use Rattle.morris_lookup.specs.FileCodes.{IsPiece};
 ghost use Rattle.morris_lookup.specs.Lookups.{code_for, depth_of, IsExactFile};
-ghost use Rattle.morris_lookup.specs.Numberings.{Fits, ServeFor, LeadFor};
+ghost use Rattle.morris_lookup.specs.Numberings.{Fits, ServeFor};
 
 use crate::fault::OpenFault;
-use crate::framing::{bear_out, header_of};
-use crate::numbering::{Numbering, leads_of, lists_of};
+use crate::framing::{bear_out, heading_of};
+use crate::numbering::{Numbering, lists_of};
 use crate::storage::Storage;
 use morris_board::board::Geometry;
 use morris_board::position::Position;
@@ -44,7 +44,7 @@ pub struct Opened<B: Geometry, S: Storage> {
 }
 
 impl<B: Geometry, S: Storage> Model for Opened<B, S> {
-    ghost use Rattle.morris_lookup.specs.Numberings.{Serve, Lead};
+    ghost use Rattle.morris_lookup.specs.Numberings.{Serve};
     ghost use Rattle.morris_lookup.specs.Opening.{OpenFile, open_file, IsOpen};
 
     ghost Value = { OpenFile };
@@ -52,8 +52,7 @@ impl<B: Geometry, S: Storage> Model for Opened<B, S> {
     ghost view = { λ file. open_file file.layout file.pair (S.contents file.storage) (S.held file.storage) };
 
     ghost invariant = { λ file. IsOpen B.shape (open_file file.layout file.pair (S.contents file.storage) (S.held file.storage))
-        × Serve B.shape file.layout file.pair file.greater.items file.lesser.items
-        × Lead B.shape file.layout file.pair file.greater_leads.items file.lesser_leads.items };
+        × Serve B.shape file.layout file.pair file.greater.items file.lesser.items file.greater_leads.items file.lesser_leads.items };
 }
 
 impl<B: Geometry, S: Storage> Opened<B, S> {
@@ -107,7 +106,6 @@ impl<B: Geometry, S: Storage> Opened<B, S> {
         ensures layout { result.layout ≡ self.now.layout }
         ensures pair { result.pair ≡ self.now.pair }
         ensures serve { ServeFor B.shape result }
-        ensures lead { LeadFor B.shape result }
         ensures fits { Fits result }
     {
         Numbering {
@@ -118,16 +116,6 @@ impl<B: Geometry, S: Storage> Opened<B, S> {
             greater_leads: self.greater_leads.as_slice(),
             lesser_leads: self.lesser_leads.as_slice(),
         }
-    }
-
-    /// The entry of a position of its pair.
-    fn entry(&self, position: &Position<B>) -> u64
-        requires { is_of self.now.pair position.now ≡ true }
-        ensures value { result ≡ entry_index B.shape B.POINTS self.now.layout self.now.pair position.now }
-        ensures below { result < entry_count B.shape B.POINTS self.now.layout self.now.pair }
-        ensures few { result < 2 ^ 55 }
-    {
-        self.numbering().entry(position)
     }
 
     /// The code that the file states at the entry of a position of its pair: the two bytes that
@@ -143,7 +131,7 @@ impl<B: Geometry, S: Storage> Opened<B, S> {
         // The proof learns the rules of a position where its stones are read.
         let _ = position.own();
         let mut code = [0; 2];
-        let place = HEADER as u64 + 2 * self.entry(position);
+        let place = HEADER as u64 + 2 * self.numbering().entry(position);
         self.storage.read_at(place, &mut code)?;
         Ok(u16::from_be_bytes(code))
     }
@@ -184,18 +172,11 @@ impl<B: Geometry, S: Storage + Drop> Opened<B, S> {
         ensures complete { (t : Table) → IsRaw B.shape t → t.pair ≡ pair → S.contents storage ≡ Some (file_of B.shape t) → Opens t.layout result }
     {
         let file = frame(alloc, storage)?;
-        if !is_pair(file.pair(), pair) {
+        if file.pair() != pair {
             return Err(OpenFault::Pair);
         }
         Ok(file)
     }
-}
-
-/// Whether two pairs are the same.
-fn is_pair<B: Geometry>(one: Pair<B>, other: Pair<B>) -> bool
-    ensures { IsTrue result ↔ one ≡ other }
-{
-    one.greater() == other.greater() && one.lesser() == other.lesser()
 }
 
 /// Opens a file as that of the pair that its header names.
@@ -211,18 +192,10 @@ fn frame<B: Geometry, S: Storage + Drop>(
     ensures right { IfOk result (IsOpen B.shape) }
     ensures refused { IfErr result (λ fault. IfSome (S.contents storage) (λ bytes. IsFramingRefusal B.shape bytes fault)) }
 {
-    let (header, length) = header_of(&storage)?;
-    let (layout, pair) = header.kind::<B>()?;
+    let (layout, pair, entries, length) = heading_of::<B, S>(&storage)?;
     // The proof learns the pair's invariant where a number is asked for.
     let _ = pair.greater();
-    let (greater, lesser) = lists_of(alloc, layout, pair)?;
-    let (greater_leads, lesser_leads) = leads_of(
-        alloc,
-        layout,
-        pair,
-        greater.as_slice(),
-        lesser.as_slice(),
-    )?;
+    let (greater, lesser, greater_leads, lesser_leads) = lists_of(alloc, layout, pair)?;
     let numbering = Numbering {
         layout,
         pair,
@@ -231,7 +204,7 @@ fn frame<B: Geometry, S: Storage + Drop>(
         greater_leads: greater_leads.as_slice(),
         lesser_leads: lesser_leads.as_slice(),
     };
-    bear_out(header.entries, length, numbering.count())?;
+    bear_out(entries, length, numbering.count())?;
     Ok(Opened {
         layout,
         pair,

@@ -1,13 +1,13 @@
 //! Prepared words: what the classes of sets of points need, in memory that the caller hands in.
 ghost use Rattle.std.specs.Prelude.{◌≡◌, ◌<◌, ◌≤◌, ◌^◌, true, length, IsOk, IfOk, IfSome, IfNone, MatchResult};
 ghost use Rattle.morris_index.specs.Binomials.{choose};
-ghost use Rattle.morris_lookup.specs.Numberings.{Lead, Serve};
+ghost use Rattle.morris_lookup.specs.Numberings.{Serve};
 ghost use Rattle.morris_lookup.specs.Prepared.{prepared_count, section_at, start_of, looks_prepared, IsPrepared, IsPreparedTo, LeadAll};
 ghost use Rattle.morris_lookup.specs.Representatives.{representatives_of};
 
 use crate::fault::ViewFault;
 use crate::leads::lead_sets;
-use crate::representatives::{list, representative_count};
+use crate::representatives::{list, put};
 use morris_board::board::Geometry;
 use morris_index::binomials::binomial;
 use morris_index::pair::Pair;
@@ -32,21 +32,9 @@ const LED: u8 = 4;
 pub fn prepared_count<B: Geometry>() -> usize
     ensures { result ≡ prepared_count B.shape }
 {
-    let mut end = listed_count::<B>();
+    let mut end = list_all::<B>(&mut []);
     for k in 0..LED {
         end += set_count::<B>(LEAST + k);
-    }
-    end
-}
-
-/// Where the sections with representatives end.
-fn listed_count<B: Geometry>() -> usize
-    ensures value { result ≡ start_of B.shape 7 }
-    ensures few { result ≤ 2 ^ 27 }
-{
-    let mut end = HEADING;
-    for k in 0..NUMBERS {
-        end += representative_count::<B>(LEAST + k);
     }
     end
 }
@@ -68,32 +56,28 @@ pub fn prepare<B: Geometry>(words: &mut [u32]) -> Option<usize>
     ensures count { IfSome result (λ count. count ≡ prepared_count B.shape) }
     ensures room { IfNone result (length words.old < prepared_count B.shape) }
 {
-    if words.len() < HEADING {
+    let listed = list_all::<B>(words);
+    if words.len() < listed {
         return None;
     }
-    words[0] = FIRST + u32::from(B::ID);
-    words[1] = HEADING as u32;
-    let listed = list_all::<B>(words)?;
     lead_all::<B>(words, listed)
 }
 
-/// Fills the sections with representatives, and answers where they end; `None` where there is too
-/// little room for them.
-fn list_all<B: Geometry>(words: &mut [u32]) -> Option<usize>
-    requires { IsPreparedTo B.shape 0 13 words.old }
-    ensures prepared { IfSome result (λ end. IsPreparedTo B.shape 7 end words.new) }
-    ensures few { IfSome result (λ end. end ≤ 2 ^ 27) }
-    ensures room { IfNone result (length words.old < start_of B.shape 7) }
+/// Fills the heading and the sections with representatives, as far as there is room, and answers
+/// where these sections end.
+fn list_all<B: Geometry>(words: &mut [u32]) -> usize
+    ensures end { result ≡ start_of B.shape 7 }
+    ensures few { result ≤ 2 ^ 27 }
+    ensures prepared { result ≤ length words.old → IsPreparedTo B.shape 7 result words.new }
 {
+    put(words, 0, FIRST + u32::from(B::ID));
+    put(words, 1, HEADING as u32);
     let mut end = HEADING;
     for k in 0..NUMBERS {
-        end = match list::<B>(LEAST + k, words, end) {
-            None => return None,
-            Some(next) => next,
-        };
-        words[usize::from(k) + 2] = end as u32;
+        end = list::<B>(LEAST + k, words, end);
+        put(words, usize::from(k) + 2, end as u32);
     }
-    Some(end)
+    end
 }
 
 /// Fills the sections with a word for each set behind those that end at `listed`, and answers where
@@ -180,8 +164,7 @@ pub(crate) fn lists_in<B: Geometry>(
     layout: Layout,
     pair: Pair<B>,
 ) -> Result<((&[u32], &[u32]), (&[u32], &[u32])), ViewFault>
-    ensures serve { (layout ≡ Layout.Classes → IsPrepared B.shape words.now) → IfOk result (λ lists. Serve B.shape layout pair lists.0.0.now lists.1.0.now) }
-    ensures lead { (layout ≡ Layout.Classes → IsPrepared B.shape words.now) → IfOk result (λ lists. Lead B.shape layout pair lists.0.1.now lists.1.1.now) }
+    ensures serve { (layout ≡ Layout.Classes → IsPrepared B.shape words.now) → IfOk result (λ lists. Serve B.shape layout pair lists.0.0.now lists.1.0.now lists.0.1.now lists.1.1.now) }
     ensures ready { (layout ≡ Layout.Classes → IsPrepared B.shape words.now) → IsOk result }
     ensures tested { IfOk result (λ _. layout ≡ Layout.Classes → looks_prepared B.shape words.now ≡ true) }
     ensures few { IfOk result (λ lists. (length lists.0.0.now < 2 ^ 32) × (length lists.1.0.now < 2 ^ 32)) }

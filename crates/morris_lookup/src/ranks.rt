@@ -13,16 +13,11 @@ pub(crate) fn rank(set: Points) -> u64
     ensures value { result ≡ rank_of (members set) }
     ensures few { result < 2 ^ 25 }
 {
-    let mut rank = 0;
-    let mut place = 0;
-    for point in set.iter() {
-        place += 1;
-        rank += binomial(point, place);
-    }
-    rank
+    rank_outside(set, Points::EMPTY)
 }
 
 /// The rank of `set` among the sets of as many points outside `outside`.
+#[inline]
 pub(crate) fn rank_outside(set: Points, outside: Points) -> u64
     requires board { set < 2 ^ 24 }
     requires few { count_of set ≤ 9 }
@@ -32,17 +27,10 @@ pub(crate) fn rank_outside(set: Points, outside: Points) -> u64
     let mut rank = 0;
     let mut place = 0;
     for point in set.iter() {
+        // The number of the point among those that aren't in `outside`, in ascending order.
+        let number = point - outside.count_below(point);
         place += 1;
-        rank += binomial(number_outside(outside, point), place);
+        rank += binomial(number, place);
     }
     rank
-}
-
-/// The number of `point` among the points that aren't in `outside`, in ascending order.
-fn number_outside(outside: Points, point: u8) -> u8
-    requires { point < 32 }
-    ensures value { result ≡ number_outside outside point }
-    ensures few { result ≤ point }
-{
-    point - outside.count_below(point)
 }

@@ -1,17 +1,14 @@
 //! The lists of the representatives of classes. Stretches of masks that have none are passed over.
-ghost use Rattle.std.specs.Prelude.{◌≡◌, ℕ, ◌+◌, ◌-◌, ◌*◌, ◌/◌, ◌<◌, ◌≤◌, ◌^◌, true, false, length, slice_index, IsTrue, IfOk, IfSome, IfNone};
+ghost use Rattle.std.specs.Prelude.{◌≡◌, ℕ, ◌+◌, ◌-◌, ◌*◌, ◌/◌, ◌<◌, ◌≤◌, ◌^◌, true, false, slice_set, IsTrue, IfOk};
 ghost use Rattle.morris_board.specs.Sets.{is_within};
 ghost use Rattle.morris_index.specs.Classes.{is_representative};
-ghost use Rattle.morris_lookup.specs.Representatives.{representatives_of, representatives_at, stretch_size};
+ghost use Rattle.morris_lookup.specs.Representatives.{representatives_of, representatives_at, stretch_size, AreListed};
 
 use morris_board::board::Geometry;
 use morris_board::points::Points;
 use morris_index::binomials::binomial;
 use morris_index::class_sizes::is_representative;
 use std::alloc::{AllocError, Global};
-
-/// How many masks a stretch has at most.
-const MOST_MASKS: usize = 256;
 
 /// The representatives of the classes of sets of `count` points, in ascending order of their masks.
 ///
@@ -25,92 +22,57 @@ pub(crate) fn representatives<B: Geometry>(alloc: Global, count: u8) -> Result<V
 {
     let mut room = vec![in alloc; 0u32; binomial(B::POINTS, count) as usize]?;
     let words = room.as_mut_slice();
-    match list::<B>(count, words, 0) {
-        Some(end) => Ok(Vec::from_slice(alloc, &words[..end])?),
-        None => unreachable!(),
-    }
-}
-
-/// How many representatives there are of the classes of sets of `count` points.
-pub fn representative_count<B: Geometry>(count: u8) -> usize
-    ensures value { result ≡ length (representatives_of B.shape count) }
-    ensures few { result ≤ 2 ^ 24 }
-{
-    let mut room = [0; MOST_MASKS];
-    let words = &mut room[..stretch_size::<B>() as usize];
-    let mut found = 0;
-    for number in 0..stretch_count::<B>() {
-        match list_stretch::<B>(count, number, words, 0) {
-            Some(end) => found += end,
-            None => unreachable!(),
-        }
-    }
-    found
+    let end = list::<B>(count, words, 0);
+    Ok(Vec::from_slice(alloc, &words[..end])?)
 }
 
 /// Lists the representatives of the classes of sets of `count` points from `start` on, in ascending
-/// order of their masks, and answers where they end; `None` where there is too little room for
-/// them.
-pub fn list<B: Geometry>(count: u8, words: &mut [u32], start: usize) -> Option<usize>
-    requires { start ≤ length words.old }
-    ensures end { IfSome result (λ end. end ≡ start + length (representatives_of B.shape count)) }
-    ensures within { IfSome result (λ end. end ≤ length words.old) }
-    ensures listed { IfSome result (λ end. (i : ℕ) → i < length (representatives_of B.shape count) → slice_index words.new (start + i) ≡ slice_index (representatives_of B.shape count) i) }
-    ensures few { IfSome result (λ end. end ≤ start + 2 ^ 24) }
-    ensures before { (i : ℕ) → i < start → slice_index words.new i ≡ slice_index words.old i }
-    ensures room { IfNone result (length words.old < start + length (representatives_of B.shape count)) }
+/// order of their masks, as far as there is room, and answers where all of them end.
+pub(crate) fn list<B: Geometry>(count: u8, words: &mut [u32], start: usize) -> usize
+    requires { start ≤ 2 ^ 27 }
+    ensures listed { AreListed (representatives_of B.shape count) start result words.new words.old }
+    ensures few { result ≤ start + 2 ^ 24 }
 {
     let mut end = start;
     for number in 0..stretch_count::<B>() {
-        end = match list_stretch::<B>(count, number, words, end) {
-            None => return None,
-            Some(next) => next,
-        };
+        end = list_stretch::<B>(count, number, words, end);
     }
-    Some(end)
+    end
 }
 
-/// Lists those of a stretch from `start` on, as [`list`] does.
-fn list_stretch<B: Geometry>(
-    count: u8,
-    number: u32,
-    words: &mut [u32],
-    start: usize,
-) -> Option<usize>
+/// Lists those of a stretch from `start` on, as [`list`] does. A stretch has none where its first
+/// set, which is a part of all others, and its last one, which has all of them, show that.
+fn list_stretch<B: Geometry>(count: u8, number: u32, words: &mut [u32], start: usize) -> usize
     requires number { number < 2 ^ (B.POINTS - B.POINTS / 3) }
-    requires start { start ≤ length words.old }
-    ensures end { IfSome result (λ end. end ≡ start + length (representatives_at B.shape B.POINTS count number)) }
-    ensures within { IfSome result (λ end. end ≤ length words.old) }
-    ensures listed { IfSome result (λ end. (i : ℕ) → i < length (representatives_at B.shape B.POINTS count number) → slice_index words.new (start + i) ≡ slice_index (representatives_at B.shape B.POINTS count number) i) }
-    ensures before { (i : ℕ) → i < start → slice_index words.new i ≡ slice_index words.old i }
-    ensures room { IfNone result (length words.old < start + length (representatives_at B.shape B.POINTS count number)) }
+    requires few { start ≤ 2 ^ 28 }
+    ensures { AreListed (representatives_at B.shape B.POINTS count number) start result words.new words.old }
 {
-    if has_none::<B>(count, number) {
-        return Some(start);
-    }
     let first = stretch_start::<B>(number);
+    let after = first + stretch_size::<B>();
+    if is_passed_over::<B>(
+        count,
+        Points::from_mask(first),
+        Points::from_mask(after - 1),
+    ) {
+        return start;
+    }
     let mut end = start;
-    for mask in first..first + stretch_size::<B>() {
+    for mask in first..after {
         if is_representative::<B>(count, Points::from_mask(mask)) {
-            if end == words.len() {
-                return None;
-            }
-            words[end] = mask;
+            put(words, end, mask);
             end += 1;
         }
     }
-    Some(end)
+    end
 }
 
-/// Whether a stretch has no representative of sets of `count` points. That is seen at its first and
-/// at its last set, of which one is a part of all others and the other has all of them.
-fn has_none<B: Geometry>(count: u8, number: u32) -> bool
-    requires { number < 2 ^ (B.POINTS - B.POINTS / 3) }
-    ensures { IsTrue result → (i : ℕ) → i < stretch_size B.POINTS → is_representative B.shape count (number * stretch_size B.POINTS + i) ≡ false }
+/// Writes a word at a place, where there is one.
+pub(crate) fn put(words: &mut [u32], place: usize, word: u32)
+    ensures { words.new ≡ slice_set words.old place word }
 {
-    let first = stretch_start::<B>(number);
-    let last = first + (stretch_size::<B>() - 1);
-    is_passed_over::<B>(count, Points::from_mask(first), Points::from_mask(last))
+    if place < words.len() {
+        words[place] = word;
+    }
 }
 
 /// Whether no set between two is a representative of sets of `count` points: one has more points or

@@ -9,7 +9,7 @@ ghost use Rattle.morris_lookup.specs.Views.{contents, file_of_pair, names_pair, 
 
 use crate::codes::code_in;
 use crate::fault::ViewFault;
-use crate::framing::{bear_out, header_of};
+use crate::framing::{bear_out, heading_of};
 use crate::numbering::Numbering;
 use crate::prepared::lists_in;
 use morris_board::board::Geometry;
@@ -80,8 +80,7 @@ fn value_of_file<B: Geometry>(
     ensures unready { IfOk result (λ _. is_by_classes bytes.now ≡ true → looks_prepared B.shape words.now ≡ true) }
     ensures few { IfOk result (λ value. depth_of value ≤ 65534) }
 {
-    let (header, length) = header_of(&bytes)?;
-    let (layout, _) = header.kind::<B>()?;
+    let (layout, _, entries, length) = heading_of::<B, &[u8]>(&bytes)?;
     let (greater, lesser) = lists_in(words, layout, pair)?;
     let numbering = Numbering {
         layout,
@@ -91,7 +90,7 @@ fn value_of_file<B: Geometry>(
         greater_leads: greater.1,
         lesser_leads: lesser.1,
     };
-    bear_out(header.entries, length, numbering.count())?;
+    bear_out(entries, length, numbering.count())?;
     let place = HEADER / 2 + numbering.entry(position) as usize;
     if bytes.len() < 2 * place + 2 {
         // The entry lies in the file where the words are prepared ones.

@@ -1,30 +1,22 @@
 use Rattle.std.proofs.Common.{◌≡◌, ◌∙◌, ap, sym}
 use Rattle.std.proofs.lemmas.Result.{err_from_is_err_and}
 use Rattle.morris_pairs.specs.Entries.{entry_count}
-use Rattle.morris_lookup.proofs.OpeningLaws.{framed_short, framed_refused, framed_not_borne, framed_found}
+use Rattle.morris_lookup.proofs.OpeningLaws.{framed_not_borne, framed_found}
 use Rattle.morris_lookup.proofs.ViewLaws.{header_by_kind}
 use Rattle.morris_lookup.proofs.check.check.Goals as goal
 
-pub returns-in_err-header : goal.returns-in_err-header
-returns-in_err-header g c =
-    let failed = err_from_is_err_and c.from_residual.result c.from_residual.ensures.1 in
-    rw (failed.1, failed.2, c.in_err-header.ensures.refused.1)
-    (header_by_kind g.B.Geometry.shape c.args.bytes.now _ (framed_short g.B.Geometry.shape c.args.bytes.now c.in_err-header.ensures.refused.0))
-
 pub returns-in_err-layout : goal.returns-in_err-layout
 returns-in_err-layout g c =
-    let failed = err_from_is_err_and c.from_residual-in_err-layout.result c.from_residual-in_err-layout.ensures.1 in
-    rw (failed.1, failed.2)
-    (header_by_kind g.B.Geometry.shape c.args.bytes.now _
-    (framed_refused g.B.Geometry.shape c.args.bytes.now c.in_ok-header.header c.in_ok-header.length c.in_ok-header.ensures.found c.in_err-layout.field-0.0 c.in_err-layout.ensures.value))
+    let failed = err_from_is_err_and c.from_residual.result c.from_residual.ensures.1 in
+    rw (failed.1, failed.2) (header_by_kind g.B.Geometry.shape c.args.bytes.now _ c.in_err-layout.ensures.refused.0)
 
 pub returns-in_err-bear_out : goal.returns-in_err-bear_out
 returns-in_err-bear_out g c =
     let failed = err_from_is_err_and c.from_residual-in_err-bear_out.result c.from_residual-in_err-bear_out.ensures.1 in
     rw (failed.1, failed.2)
     (header_by_kind g.B.Geometry.shape c.args.bytes.now _
-    (framed_not_borne g.B.Geometry.shape c.args.bytes.now c.in_ok-header.header c.in_ok-header.length c.in_ok-header.ensures.found (c.in_ok-layout.layout, c.in_ok-layout.pair) c.in_ok-layout.ensures.value
-    g.B.Geometry.POINTS g.met.B.Geometry.point_count c.count_of-entries.result c.count_of-entries.ensures.value c.in_err-bear_out.field-0.0 c.in_err-bear_out.ensures))
+    (framed_not_borne g.B.Geometry.shape c.args.bytes.now (c.in_ok-layout.layout, c.in_ok-layout.pair) c.in_ok-layout.stated c.in_ok-layout.length c.in_ok-layout.ensures.found
+    g.B.Geometry.POINTS g.met.B.Geometry.point_count c.count_of-entries.result c.count_of-entries.ensures.value c.in_err-bear_out.field-0.0 c.in_err-bear_out.ensures.value))
 
 pub returns : goal.returns
 returns g c =
@@ -33,5 +25,5 @@ returns g c =
     let board : c.ID.result ≡ g.B.Geometry.shape.id = c.ID.ensures ∙ sym g.met.B.Geometry.file_id in
     rw (c.version_of.ensures, board, c.greater.ensures.value, c.lesser.ensures.value, entries)
     (header_by_kind g.B.Geometry.shape c.args.bytes.now _
-    (framed_found g.B.Geometry.shape c.args.bytes.now c.in_ok-header.header c.in_ok-header.length c.in_ok-header.ensures.found (c.in_ok-layout.layout, c.in_ok-layout.pair) c.in_ok-layout.ensures.value
-    g.B.Geometry.POINTS g.met.B.Geometry.point_count c.count_of-entries.result c.count_of-entries.ensures.value c.in_ok-bear_out.field-0 c.in_ok-bear_out.ensures))
+    (framed_found g.B.Geometry.shape c.args.bytes.now (c.in_ok-layout.layout, c.in_ok-layout.pair) c.in_ok-layout.stated c.in_ok-layout.length c.in_ok-layout.ensures.found
+    g.B.Geometry.POINTS g.met.B.Geometry.point_count c.count_of-entries.result c.count_of-entries.ensures.value c.in_ok-bear_out.field-0 c.in_ok-bear_out.ensures.value))

@@ -4,69 +4,51 @@ use Rattle.std.proofs.lemmas.Result.{err_from_is_err_and}
 use Rattle.morris_index.specs.Pairs.{IsPair}
 use Rattle.morris_lookup.specs.Numberings.{Serve}
 use Rattle.morris_lookup.proofs.EntryLaws.{serve_few}
-use Rattle.morris_lookup.proofs.OpeningLaws.{frame_short, frame_refused, frame_roomless, frame_not_borne, frame_found, held_known}
+use Rattle.morris_lookup.proofs.OpeningLaws.{frame_refused, frame_roomless, frame_not_borne, frame_found, held_known}
 use Rattle.morris_lookup.proofs.opened.frame.Goals as goal
-
-pub returns-in_err-header-clause-refused : goal.returns-in_err-header-clause-refused
-returns-in_err-header-clause-refused g c =
-    let failed = err_from_is_err_and c.from_residual.result c.from_residual.ensures.1 in
-    rw (failed.1, failed.2) (frame_short g.B.Geometry.shape (g.S.Storage.contents c.args.storage) c.in_err-header.field-0.0 c.in_err-header.ensures.refused)
 
 pub returns-in_err-layout-clause-refused : goal.returns-in_err-layout-clause-refused
 returns-in_err-layout-clause-refused g c =
-    let failed = err_from_is_err_and c.from_residual-in_err-layout.result c.from_residual-in_err-layout.ensures.1 in
-    rw (failed.1, failed.2)
-    (frame_refused g.B.Geometry.shape c.in_ok-header.header c.in_ok-header.length (g.S.Storage.contents c.args.storage)
-    (held_known (g.S.Storage.contents c.args.storage) (g.S.Storage.held c.args.storage) _ (g.met.S.Storage.contents_held c.args.storage) c.in_ok-header.ensures.found) c.in_err-layout.field-0.0
-    c.in_err-layout.ensures.value c.in_err-layout.ensures.refused)
+    let failed = err_from_is_err_and c.from_residual.result c.from_residual.ensures.1 in
+    rw (failed.1, failed.2) (frame_refused g.B.Geometry.shape (g.S.Storage.contents c.args.storage) c.in_err-layout.field-0.0 c.in_err-layout.ensures.refused)
 
 pub returns-in_err-greater-clause-refused : goal.returns-in_err-greater-clause-refused
 returns-in_err-greater-clause-refused g c =
     let failed = err_from_is_err_and c.from_residual-in_err-greater.result c.from_residual-in_err-greater.ensures.1 in
     rw (failed.1, failed.2)
-    (frame_roomless g.B.Geometry.shape c.in_ok-header.header c.in_ok-header.length c.in_ok-layout.layout c.in_ok-layout.pair c.in_ok-layout.ensures.value (g.S.Storage.contents c.args.storage)
-    (held_known (g.S.Storage.contents c.args.storage) (g.S.Storage.held c.args.storage) _ (g.met.S.Storage.contents_held c.args.storage) c.in_ok-header.ensures.found) (λ full. false≢true (c.in_err-greater.ensures.full full)))
-
-pub leads_of-requires : goal.leads_of-requires
-leads_of-requires g c = rw (c.as_slice.ensures.value, c.as_slice-2.ensures.value) c.in_ok-greater.ensures.serve
-
-pub returns-in_err-greater_leads-clause-refused : goal.returns-in_err-greater_leads-clause-refused
-returns-in_err-greater_leads-clause-refused g c =
-    let failed = err_from_is_err_and c.from_residual-in_err-greater_leads.result c.from_residual-in_err-greater_leads.ensures.1 in
-    rw (failed.1, failed.2)
-    (frame_roomless g.B.Geometry.shape c.in_ok-header.header c.in_ok-header.length c.in_ok-layout.layout c.in_ok-layout.pair c.in_ok-layout.ensures.value (g.S.Storage.contents c.args.storage)
-    (held_known (g.S.Storage.contents c.args.storage) (g.S.Storage.held c.args.storage) _ (g.met.S.Storage.contents_held c.args.storage) c.in_ok-header.ensures.found) (λ full. false≢true (c.in_err-greater_leads.ensures.full full)))
+    (frame_roomless g.B.Geometry.shape c.in_ok-layout.entries c.in_ok-layout.length c.in_ok-layout.layout c.in_ok-layout.pair (g.S.Storage.contents c.args.storage)
+    (held_known (g.S.Storage.contents c.args.storage) (g.S.Storage.held c.args.storage) _ (g.met.S.Storage.contents_held c.args.storage) c.in_ok-layout.ensures.found)
+    (λ full. false≢true (c.in_err-greater.ensures.full full)))
 
 pub count-requires : goal.count-requires
 count-requires g c =
     let low : g.B.Geometry.shape.points ≤ 24 = omega (arith, g.met.B.Geometry.few, g.met.B.Geometry.point_count) in
-    let few = serve_few g.B.Geometry.shape low c.in_ok-layout.layout c.in_ok-layout.pair c.in_ok-greater.greater.items c.in_ok-greater.lesser.items c.in_ok-greater.ensures.serve in
-    (omega (arith, ap length c.as_slice-3.ensures.value, few.0), omega (arith, ap length c.as_slice-4.ensures.value, few.1))
+    let few = serve_few g.B.Geometry.shape low c.in_ok-layout.layout c.in_ok-layout.pair _ _ _ _ c.in_ok-greater.ensures.serve in
+    (omega (arith, ap length c.as_slice.ensures.value, few.0), omega (arith, ap length c.as_slice-2.ensures.value, few.1))
 
 pub returns-in_err-bear_out-clause-refused : goal.returns-in_err-bear_out-clause-refused
 returns-in_err-bear_out-clause-refused g c =
-    let serve : Serve g.B.Geometry.shape c.in_ok-layout.layout c.in_ok-layout.pair c.as_slice-3.result.now c.as_slice-4.result.now =
-    rw (c.as_slice-3.ensures.value, c.as_slice-4.ensures.value) c.in_ok-greater.ensures.serve in
+    let serve : Serve g.B.Geometry.shape c.in_ok-layout.layout c.in_ok-layout.pair c.as_slice.result.now c.as_slice-2.result.now c.as_slice-3.result.now c.as_slice-4.result.now =
+    rw (c.as_slice.ensures.value, c.as_slice-2.ensures.value, c.as_slice-3.ensures.value, c.as_slice-4.ensures.value) c.in_ok-greater.ensures.serve in
     let failed = err_from_is_err_and c.from_residual-in_err-bear_out.result c.from_residual-in_err-bear_out.ensures.1 in
     rw (failed.1, failed.2)
-    (frame_not_borne g.B.Geometry.shape c.in_ok-header.header c.in_ok-header.length (c.in_ok-layout.layout, c.in_ok-layout.pair) c.in_ok-layout.ensures.value g.B.Geometry.POINTS
+    (frame_not_borne g.B.Geometry.shape c.in_ok-layout.entries c.in_ok-layout.length (c.in_ok-layout.layout, c.in_ok-layout.pair) g.B.Geometry.POINTS
     g.met.B.Geometry.point_count c.count.result (c.count.ensures.value serve) (g.S.Storage.contents c.args.storage)
-    (held_known (g.S.Storage.contents c.args.storage) (g.S.Storage.held c.args.storage) _ (g.met.S.Storage.contents_held c.args.storage) c.in_ok-header.ensures.found) c.in_err-bear_out.field-0.0
-    c.in_err-bear_out.ensures)
+    (held_known (g.S.Storage.contents c.args.storage) (g.S.Storage.held c.args.storage) _ (g.met.S.Storage.contents_held c.args.storage) c.in_ok-layout.ensures.found)
+    c.in_err-bear_out.field-0.0 c.in_err-bear_out.ensures.value c.in_err-bear_out.ensures.refused)
 
 pub invariant_of-result : goal.invariant_of-result
 invariant_of-result g c =
-    let serve : Serve g.B.Geometry.shape c.in_ok-layout.layout c.in_ok-layout.pair c.as_slice-3.result.now c.as_slice-4.result.now =
-    rw (c.as_slice-3.ensures.value, c.as_slice-4.ensures.value) c.in_ok-greater.ensures.serve in (
+    let serve : Serve g.B.Geometry.shape c.in_ok-layout.layout c.in_ok-layout.pair c.as_slice.result.now c.as_slice-2.result.now c.as_slice-3.result.now c.as_slice-4.result.now =
+    rw (c.as_slice.ensures.value, c.as_slice-2.ensures.value, c.as_slice-3.ensures.value, c.as_slice-4.ensures.value) c.in_ok-greater.ensures.serve in (
       record {
         lawful = subst (λ n. IsPair n c.in_ok-layout.pair) (sym g.met.B.Geometry.point_count) c.greater.ensures.lawful;
-        framed = frame_found g.B.Geometry.shape c.in_ok-header.header c.in_ok-header.length (c.in_ok-layout.layout, c.in_ok-layout.pair) c.in_ok-layout.ensures.value g.B.Geometry.POINTS
-            g.met.B.Geometry.point_count c.count.result (c.count.ensures.value serve) (g.S.Storage.held c.args.storage) c.in_ok-header.ensures.found c.in_ok-bear_out.field-0
-            c.in_ok-bear_out.ensures;
+        framed = frame_found g.B.Geometry.shape c.in_ok-layout.entries c.in_ok-layout.length (c.in_ok-layout.layout, c.in_ok-layout.pair) g.B.Geometry.POINTS
+            g.met.B.Geometry.point_count c.count.result (c.count.ensures.value serve) (g.S.Storage.held c.args.storage) c.in_ok-layout.ensures.found c.in_ok-bear_out.field-0
+            c.in_ok-bear_out.ensures.value;
         kept = g.met.S.Storage.contents_held c.args.storage;
       },
       c.in_ok-greater.ensures.serve,
-      c.in_ok-greater_leads.ensures.lead,
     )
 
 pub returns-clause-right : goal.returns-clause-right

@@ -5,7 +5,7 @@ use Rattle.morris_lookup.proofs.PreparedLaws.{start-suc, size-led}
 use Rattle.morris_lookup.proofs.prepared.prepared_count.Goals as goal
 
 pub loop-k-init : goal.loop-k-init
-loop-k-init g c = record { ends = c.listed_count-end.ensures.value; few = omega (arith, c.listed_count-end.ensures.few) }
+loop-k-init g c = record { ends = c.list_all-end.ensures.end; few = omega (arith, c.list_all-end.ensures.few) }
 
 pub loop-k-preserved : goal.loop-k-preserved
 loop-k-preserved g c =

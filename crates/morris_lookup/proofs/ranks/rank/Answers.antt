@@ -1,46 +1,6 @@
-use Rattle.std.proofs.Common.{◌≡◌, ◌∷◌, [], refl, ap, ◌∙◌, arith, length-append, length, ◌++◌, sym, append_assoc}
-use Rattle.std.proofs.lemmas.List.{map-id}
-use Rattle.morris_board.specs.Sets.{members, count_of}
-use Rattle.morris_index.specs.Numbering.{rank_of}
-use Rattle.morris_index.proofs.SumLaws.{next_point}
-use Rattle.morris_lookup.proofs.SetRanks.{rank_more, none_left}
+use Rattle.std.proofs.Common.{◌∙◌, sym}
+use Rattle.morris_lookup.proofs.LeadLaws.{rank_is}
 use Rattle.morris_lookup.proofs.ranks.rank.Goals as goal
 
-pub loop-point-init : goal.loop-point-init
-unfolding rank_of
-loop-point-init c = record {
-  split = ap members (c.into_iter-point-iterator.ensures.into_iter_gives ∙ c.iter-point-items.ensures.points);
-  placed = refl;
-  rank = refl;
-  small = omega arith;
-}
-
-pub binomial-rank-requires-clause-things : goal.binomial-rank-requires-clause-things
-binomial-rank-requires-clause-things c =
-    let next = next_point c.args.set c.in-Some.point c.loop-point.yielded _ _ c.requires.board c.requires.few c.loop-point.invariant.split c.in-Some.ensures.steps in
-    omega (arith, next.low)
-
-pub binomial-rank-requires-clause-chosen : goal.binomial-rank-requires-clause-chosen
-binomial-rank-requires-clause-chosen c =
-    let next = next_point c.args.set c.in-Some.point c.loop-point.yielded _ _ c.requires.board c.requires.few c.loop-point.invariant.split c.in-Some.ensures.steps in
-    omega (arith, next.few, c.loop-point.invariant.placed)
-
-pub loop-point-preserved : goal.loop-point-preserved
-loop-point-preserved c = record {
-  split = append_assoc c.loop-point.yielded (c.in-Some.point ∷ []) _ ∙ (ap (λ t. c.loop-point.yielded ++ t) (sym c.in-Some.ensures.steps) ∙ c.loop-point.invariant.split);
-  placed = omega (arith, c.loop-point.invariant.placed, length-append c.loop-point.yielded (c.in-Some.point ∷ []));
-  rank = rank_more (λ p. p) c.loop-point.yielded c.in-Some.point c.in-Some.point c.loop-point.place c.loop-point.rank c.binomial-rank.result
-      c.loop-point.invariant.rank c.loop-point.invariant.placed refl c.binomial-rank.ensures.value;
-  small = omega (arith, c.loop-point.invariant.small, c.binomial-rank.ensures.few);
-}
-
 pub returns-clause-value : goal.returns-clause-value
-returns-clause-value c =
-    c.loop-point.invariant.rank
-    ∙ ap rank_of (map-id c.loop-point.yielded ∙ none_left c.loop-point.yielded _ _ c.loop-point.invariant.split c.in-None.ensures.steps.0)
-
-pub returns-clause-few : goal.returns-clause-few
-unfolding count_of
-returns-clause-few c =
-    let all : length c.loop-point.yielded ≡ length (members c.args.set) = ap length (none_left c.loop-point.yielded _ _ c.loop-point.invariant.split c.in-None.ensures.steps.0) in
-    omega (arith, c.loop-point.invariant.small, c.loop-point.invariant.placed, all, c.requires.few)
+returns-clause-value c = c.rank_outside.ensures.value ∙ sym (rank_is c.args.set)

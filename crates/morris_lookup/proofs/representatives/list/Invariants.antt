@@ -1,8 +1,8 @@
 -- The representatives of the stretches before are listed.
 use Rattle.std.proofs.Common.{◌*◌}
 use Rattle.morris_index.specs.Classes.{is_representative}
-use Rattle.morris_lookup.specs.Representatives.{stretch_size}
-use Rattle.morris_lookup.proofs.ListLaws.{AreListed, between}
+use Rattle.morris_lookup.specs.Representatives.{stretch_size, AreListed}
+use Rattle.morris_lookup.proofs.ListLaws.{between}
 use Rattle.morris_lookup.proofs.representatives.list.Given as goal
 
 abbrev pub invariant-loop-number : goal.invariant-loop-number

@@ -1,14 +1,14 @@
 use Rattle.std.proofs.Common.{◌≤◌, ◌∙◌, sym, arith}
 use Rattle.morris_probe.proofs.ProbingLaws.{lost_with_two}
 use Rattle.morris_lookup.specs.Views.{contents}
-use Rattle.morris_lookup.proofs.FoundLaws.{found_named, found_there}
+use Rattle.morris_lookup.proofs.FoundLaws.{found}
 use Rattle.morris_lookup.proofs.ViewLaws.{said-none, needs-none, said-no_file, said-file, needs-file, exact-file, ok_maps}
 use Rattle.morris_lookup.proofs.ExactLaws.{exact_value}
 use Rattle.morris_lookup.proofs.views.value.Goals as goal
 
 pub value_of_file-requires-clause-named : goal.value_of_file-requires-clause-named
 value_of_file-requires-clause-named g c =
-    found_named c.in-Some.pair (contents c.args.files.now) c.in-Some-file_of_pair.bytes.now (sym c.in-Some-file_of_pair.ensures)
+    (found c.in-Some.pair (contents c.args.files.now) c.in-Some-file_of_pair.bytes.now (sym c.in-Some-file_of_pair.ensures)).0
 
 pub returns-in-None-clause-said : goal.returns-in-None-clause-said
 returns-in-None-clause-said g c = λ serve. sym (said-none g.B.Geometry.shape (contents c.args.files.now) c.args.position.now c.in-None.ensures.pair)
@@ -26,20 +26,20 @@ returns-in-None-file_of_pair-clause-said g c = λ serve.
 pub returns-in-Some-file_of_pair-clause-said : goal.returns-in-Some-file_of_pair-clause-said
 returns-in-Some-file_of_pair-clause-said g c = λ serve.
     c.value_of_file.ensures.said
-    (serve c.in-Some-file_of_pair.bytes.now (found_there c.in-Some.pair (contents c.args.files.now) c.in-Some-file_of_pair.bytes.now (sym c.in-Some-file_of_pair.ensures)))
+    (serve c.in-Some-file_of_pair.bytes.now (found c.in-Some.pair (contents c.args.files.now) c.in-Some-file_of_pair.bytes.now (sym c.in-Some-file_of_pair.ensures)).1)
     ∙ sym (said-file g.B.Geometry.shape (contents c.args.files.now) c.args.position.now c.in-Some.pair c.in-Some.ensures.pair c.in-Some-file_of_pair.bytes.now
     c.in-Some-file_of_pair.ensures)
 
 pub returns-in-Some-file_of_pair-clause-exact : goal.returns-in-Some-file_of_pair-clause-exact
 returns-in-Some-file_of_pair-clause-exact g c = λ serve exact.
     let few : g.B.Geometry.shape.points ≤ 24 = omega (arith, g.met.B.Geometry.few, g.met.B.Geometry.point_count) in
-    let there = found_there c.in-Some.pair (contents c.args.files.now) c.in-Some-file_of_pair.bytes.now (sym c.in-Some-file_of_pair.ensures) in
+    let there = found c.in-Some.pair (contents c.args.files.now) c.in-Some-file_of_pair.bytes.now (sym c.in-Some-file_of_pair.ensures) in
     exact_value g.B.Geometry.shape few g.met.B.Geometry.has_symmetries c.args.position.now c.own.ensures.lawful c.in-Some.pair c.in-Some.ensures.counts
     c.in-Some-file_of_pair.bytes.now
     (exact-file g.B.Geometry.shape (contents c.args.files.now) c.args.position.now c.in-Some.pair c.in-Some.ensures.pair c.in-Some-file_of_pair.bytes.now
     c.in-Some-file_of_pair.ensures exact)
-    (found_named c.in-Some.pair (contents c.args.files.now) c.in-Some-file_of_pair.bytes.now (sym c.in-Some-file_of_pair.ensures)) c.value_of_file.result
-    (c.value_of_file.ensures.said (serve c.in-Some-file_of_pair.bytes.now there))
+    there.0 c.value_of_file.result
+    (c.value_of_file.ensures.said (serve c.in-Some-file_of_pair.bytes.now there.1))
 
 pub returns-in-Some-file_of_pair-clause-unready : goal.returns-in-Some-file_of_pair-clause-unready
 returns-in-Some-file_of_pair-clause-unready g c =
