@@ -90,62 +90,6 @@ probe_fault (probe.Needs needs) = needs_fault needs.0
 probe_fault probe.Memory = fault.Memory
 probe_fault (probe.Write sent) = fault.Write sent
 
--- the number of a flaw
-abbrev pub flaw_number : Flaw → ℕ
-flaw_number flaw.Short = 15
-flaw_number flaw.Magic = 16
-flaw_number flaw.Version = 17
-flaw_number flaw.BoardId = 18
-flaw_number flaw.Counts = 4
-flaw_number flaw.Crowded = 5
-flaw_number flaw.Count = 19
-flaw_number flaw.Digest = 20
-flaw_number flaw.Trailing = 21
-flaw_number flaw.Read = 22
-flaw_number (flaw.Needs greater lesser) = 13
-flaw_number (flaw.Differs index) = 14
-
--- the number of a fault; one that was met in a file has that of the file's flaw
-abbrev pub fault_number : Fault → ℕ
-fault_number fault.Length = 1
-fault_number (fault.Character place) = 2
-fault_number fault.Stones = 3
-fault_number fault.Counts = 4
-fault_number fault.Crowded = 5
-fault_number fault.Blocks = 6
-fault_number (fault.Missing number) = 8
-fault_number fault.TooDeep = 10
-fault_number fault.Workers = 11
-fault_number fault.Memory = 12
-fault_number (fault.Needs greater lesser) = 13
-fault_number (fault.Differs index) = 14
-fault_number fault.Short = 15
-fault_number fault.Magic = 16
-fault_number fault.Version = 17
-fault_number fault.BoardId = 18
-fault_number fault.Count = 19
-fault_number fault.Digest = 20
-fault_number fault.Trailing = 21
-fault_number fault.Read = 22
-fault_number (fault.Write sent) = 23
-fault_number fault.Board = 25
-fault_number fault.PairText = 26
-fault_number fault.ValueText = 39
-fault_number fault.TooMany = 27
-fault_number fault.Folder = 28
-fault_number (fault.Unwritten greater lesser) = 29
-fault_number (fault.Unopened greater lesser) = 30
-fault_number (fault.OtherPair greater lesser) = 31
-fault_number fault.NoFiles = 32
-fault_number (fault.Unanswered count) = 33
-fault_number fault.Digests = 34
-fault_number fault.Busy = 35
-fault_number fault.NoFolder = 36
-fault_number fault.Disagree = 37
-fault_number fault.Unlocked = 38
-fault_number fault.Terminal = 40
-fault_number (fault.InFile greater lesser f) = flaw_number f
-
 -- numbers of stones, with a hyphen (45) between them
 abbrev pub stones_text : ℕ → ℕ → List ℕ
 stones_text greater lesser = decimal greater ++ (45 ∷ decimal lesser)
@@ -162,70 +106,76 @@ length_around (Plain text) = length text.now
 length_around (Number before number after) = length before.now + length after.now
 length_around (Pair before greater lesser after) = length before.now + length after.now
 
--- the text of a flaw
-abbrev pub flaw_text : Flaw → List ℕ
-flaw_text flaw.Short = codes "file is too short"
-flaw_text flaw.Magic = codes "not a table file"
-flaw_text flaw.Version = codes "unknown version"
-flaw_text flaw.BoardId = codes "another board"
-flaw_text flaw.Counts = codes "bad counts"
-flaw_text flaw.Crowded = codes "more stones than points"
-flaw_text flaw.Count = codes "wrong number of entries"
-flaw_text flaw.Digest = codes "digest is wrong"
-flaw_text flaw.Trailing = codes "bytes after the table"
-flaw_text flaw.Read = codes "reading failed"
-flaw_text (flaw.Needs greater lesser) = codes "needs " ++ stones_text greater lesser
-flaw_text (flaw.Differs index) = codes "entry " ++ decimal index ++ codes " differs"
+-- the number and the text of a flaw
+abbrev pub flaw_told : Flaw → ℕ × List ℕ
+flaw_told flaw.Short = (15, codes "file is too short")
+flaw_told flaw.Magic = (16, codes "not a table file")
+flaw_told flaw.Version = (17, codes "unknown version")
+flaw_told flaw.BoardId = (18, codes "another board")
+flaw_told flaw.Counts = (4, codes "bad counts")
+flaw_told flaw.Crowded = (5, codes "more stones than points")
+flaw_told flaw.Count = (19, codes "wrong number of entries")
+flaw_told flaw.Digest = (20, codes "digest is wrong")
+flaw_told flaw.Trailing = (21, codes "bytes after the table")
+flaw_told flaw.Read = (22, codes "reading failed")
+flaw_told (flaw.Needs greater lesser) = (13, codes "needs " ++ stones_text greater lesser)
+flaw_told (flaw.Differs index) = (14, codes "entry " ++ decimal index ++ codes " differs")
 
 -- how many lines have no answer, in words
 abbrev pub unanswered_text : ℕ → List ℕ
 unanswered_text count = if count == 1 then codes "1 line has no answer" else decimal count ++ codes " lines have no answer"
 
--- the text of a fault
-abbrev pub fault_text : Fault → List ℕ
-fault_text fault.Length = codes "text is not one character per point"
-fault_text (fault.Character place) = codes "bad character at " ++ decimal place
-fault_text fault.Stones = codes "bad number of stones"
-fault_text fault.Counts = flaw_text flaw.Counts
-fault_text fault.Crowded = flaw_text flaw.Crowded
-fault_text fault.Blocks = codes "blocks must be 1 to 1024"
-fault_text (fault.Missing number) = codes "block " ++ decimal number ++ codes " is not complete"
-fault_text fault.TooDeep = codes "depth is too great"
-fault_text fault.Workers = codes "workers must be 1 to 64"
-fault_text fault.Memory = codes "out of memory"
-fault_text (fault.Needs greater lesser) = flaw_text (flaw.Needs greater lesser)
-fault_text (fault.Differs index) = flaw_text (flaw.Differs index)
-fault_text fault.Short = flaw_text flaw.Short
-fault_text fault.Magic = flaw_text flaw.Magic
-fault_text fault.Version = flaw_text flaw.Version
-fault_text fault.BoardId = flaw_text flaw.BoardId
-fault_text fault.Count = flaw_text flaw.Count
-fault_text fault.Digest = flaw_text flaw.Digest
-fault_text fault.Trailing = flaw_text flaw.Trailing
-fault_text fault.Read = flaw_text flaw.Read
-fault_text (fault.Write sent) = codes "writing failed after " ++ decimal sent ++ codes " bytes"
-fault_text fault.Board = codes "no such board"
-fault_text fault.PairText = codes "not a pair"
-fault_text fault.ValueText = codes "not a value: draw, won, lost, won in D, lost in D or deepest"
-fault_text fault.TooMany = codes "more than 64 tables"
-fault_text fault.Folder = codes "folder can't be made"
-fault_text (fault.Unwritten greater lesser) = codes "file of " ++ stones_text greater lesser ++ codes " can't be written"
-fault_text (fault.Unopened greater lesser) = codes "file of " ++ stones_text greater lesser ++ codes " can't be opened"
-fault_text (fault.OtherPair greater lesser) = codes "file of " ++ stones_text greater lesser ++ codes " has the table of another pair"
-fault_text fault.NoFiles = codes "no table files"
-fault_text (fault.Unanswered count) = unanswered_text count
-fault_text fault.Digests = codes "file of digests can't be written"
-fault_text fault.Busy = codes "another build is at work in this folder"
-fault_text fault.NoFolder = codes "no such folder"
-fault_text fault.Disagree = codes "the files of this position and its moves disagree"
-fault_text fault.Unlocked = codes "folder can't be locked"
-fault_text fault.Terminal = codes "a table isn't for a terminal: add --into FOLDER or > FILE"
-fault_text (fault.InFile greater lesser f) = flaw_text f ++ codes ", in the file of " ++ stones_text greater lesser
+-- the number of a fault, and its text but for the file in which it was met
+abbrev pub fault_told : Fault → ℕ × List ℕ
+fault_told fault.Length = (1, codes "text is not one character per point")
+fault_told (fault.Character place) = (2, codes "bad character at " ++ decimal place)
+fault_told fault.Stones = (3, codes "bad number of stones")
+fault_told fault.Counts = flaw_told flaw.Counts
+fault_told fault.Crowded = flaw_told flaw.Crowded
+fault_told fault.Blocks = (6, codes "blocks must be 1 to 1024")
+fault_told (fault.Missing number) = (8, codes "block " ++ decimal number ++ codes " is not complete")
+fault_told fault.TooDeep = (10, codes "depth is too great")
+fault_told fault.Workers = (11, codes "workers must be 1 to 64")
+fault_told fault.Memory = (12, codes "out of memory")
+fault_told (fault.Needs greater lesser) = flaw_told (flaw.Needs greater lesser)
+fault_told (fault.Differs index) = flaw_told (flaw.Differs index)
+fault_told fault.Short = flaw_told flaw.Short
+fault_told fault.Magic = flaw_told flaw.Magic
+fault_told fault.Version = flaw_told flaw.Version
+fault_told fault.BoardId = flaw_told flaw.BoardId
+fault_told fault.Count = flaw_told flaw.Count
+fault_told fault.Digest = flaw_told flaw.Digest
+fault_told fault.Trailing = flaw_told flaw.Trailing
+fault_told fault.Read = flaw_told flaw.Read
+fault_told (fault.Write sent) = (23, codes "writing failed after " ++ decimal sent ++ codes " bytes")
+fault_told fault.Board = (25, codes "no such board")
+fault_told fault.PairText = (26, codes "not a pair")
+fault_told fault.ValueText = (39, codes "not a value: draw, won, lost, won in D, lost in D or deepest")
+fault_told fault.TooMany = (27, codes "more than 64 tables")
+fault_told fault.Folder = (28, codes "folder can't be made")
+fault_told (fault.Unwritten greater lesser) = (29, codes "file of " ++ stones_text greater lesser ++ codes " can't be written")
+fault_told (fault.Unopened greater lesser) = (30, codes "file of " ++ stones_text greater lesser ++ codes " can't be opened")
+fault_told (fault.OtherPair greater lesser) = (31, codes "file of " ++ stones_text greater lesser ++ codes " has the table of another pair")
+fault_told fault.NoFiles = (32, codes "no table files")
+fault_told (fault.Unanswered count) = (33, unanswered_text count)
+fault_told fault.Digests = (34, codes "file of digests can't be written")
+fault_told fault.Busy = (35, codes "another build is at work in this folder")
+fault_told fault.NoFolder = (36, codes "no such folder")
+fault_told fault.Disagree = (37, codes "the files of this position and its moves disagree")
+fault_told fault.Unlocked = (38, codes "folder can't be locked")
+fault_told fault.Terminal = (40, codes "a table isn't for a terminal: add --into FOLDER or > FILE")
+fault_told (fault.InFile greater lesser f) = flaw_told f
 
--- that but for the file in which it was met
+abbrev pub fault_number : Fault → ℕ
+fault_number f = (fault_told f).0
+
 abbrev pub own_text : Fault → List ℕ
-own_text (fault.InFile greater lesser f) = flaw_text f
-own_text f = fault_text f
+own_text f = (fault_told f).1
+
+-- the text of a fault; where it was met in a file, the text says in which one
+abbrev pub fault_text : Fault → List ℕ
+fault_text (fault.InFile greater lesser f) = (flaw_told f).1 ++ codes ", in the file of " ++ stones_text greater lesser
+fault_text f = own_text f
 
 -- the flaw that a fault says a table file has, where it doesn't say which file
 abbrev pub flaw_in : Fault → Option Flaw
@@ -286,8 +236,3 @@ ReportsText contents failures old new text =
 -- the line of a fault was written, or its first bytes
 abbrev pub ReportsFault : {E : Type 0} → (E → Option (List ℕ)) → (E → ℕ) → E → E → Fault → Type 0
 ReportsFault contents failures old new f = ReportsText contents failures old new (fault_line f)
-
--- what was reported of an answer: nothing where it is `Ok`, and else its fault
-abbrev pub Reports : {E T : Type 0} → (E → Option (List ℕ)) → (E → ℕ) → E → E → Result T Fault → Type 0
-Reports contents failures old new (Ok done) = new ≡ old
-Reports contents failures old new (Err f) = ReportsFault contents failures old new f
