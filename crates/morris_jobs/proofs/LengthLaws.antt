@@ -5,23 +5,21 @@ use Rattle.std.specs.List.{flat_map, range_with_len}
 use Rattle.std.specs.Fmt.{decimal}
 use Rattle.std.proofs.lemmas.List.FromFn.{length-range_with_len}
 use Rattle.morris_board.proofs.LengthLaws.{by_test, decimal_few, flat_map_few}
-use Rattle.morris_index.specs.Pairs.{Counts, pair_text, size_of}
+use Rattle.morris_index.specs.Pairs.{Counts, size_of}
 use Rattle.morris_probe.specs.Lines.{number_line}
 use Rattle.morris_jobs.specs.Counted.{csv_depth, csv_depths, csv_draw, csv_front, csv_half, csv_lesser, csv_text, depth_label, depth_line, depth_lines, stats_text}
 use Rattle.morris_jobs.specs.Verified.{verified_text}
-use Rattle.morris_jobs.specs.Faults.{fault_number, fault_text, fault_words, length_around, own_text, said}
+use Rattle.morris_jobs.specs.Faults.{fault_number, fault_text, fault_words, length_around, own_text, said, stones_text}
 use Rattle.morris_jobs.specs.declared.fault.Fault.{Fault}
 use Rattle.morris_jobs.specs.declared.fault.Fault.TheVariants as fault
 use Rattle.morris_jobs.specs.declared.wording.Words.{Words}
 use Rattle.morris_jobs.specs.declared.wording.Words.TheVariants.{Plain, Number, Pair}
 use Rattle.morris_jobs.specs.declared.progress.News.{News}
 use Rattle.morris_jobs.specs.declared.progress.News.TheVariants as news
-use Rattle.morris_jobs.specs.Progress.{is_passing, labelled, left_text, news_line, news_text, percent_of}
+use Rattle.morris_jobs.specs.declared.progress.SoFar.{SoFar}
+use Rattle.morris_jobs.specs.Progress.{is_passing, labelled, left_text, news_line, news_text, percent_of, so_far_text}
 
 -- ---- counts, as lines of text
-
-pair_few : (pair : Counts) → length (pair_text pair) ≤ 129
-pair_few pair = simp length-append (omega (arith, decimal_few pair.greater, decimal_few pair.lesser))
 
 depth_label_few : (depth : ℕ) → length (depth_label depth) ≤ 8
 depth_label_few depth = by_test (nat_eq (depth % 2) 0) 8 (codes "lost in ") (codes "won in ") (omega arith) (omega arith)
@@ -86,7 +84,7 @@ csv_lesser_few pair tallies =
     by_test (nat_eq pair.greater pair.lesser) (201 + 600 * length tallies) [] (csv_half pair.lesser pair.greater tallies) (omega arith)
     (csv_half_few pair.lesser pair.greater tallies)
 
-pub csv_few : (pair : Counts) (lesser greater : List ℕ) → length lesser ≤ 2 ^ 16 → length greater ≤ 2 ^ 16 → length (csv_text pair lesser greater) < 2 ^ 32
+pub csv_few : (pair : Counts) (lesser greater : List ℕ) → length lesser ≤ 2 ^ 16 → length greater ≤ 2 ^ 16 → length (csv_text pair lesser greater) < 2 ^ 63
 unfolding csv_text
 csv_few pair lesser greater few_lesser few_greater =
     simp length-append
@@ -125,48 +123,24 @@ left_few seconds =
     (by_test (nat_lt seconds 120) 81 (labelled (codes ", about ") seconds ++ codes " s left") (labelled (codes ", about ") minutes ++ codes " min left")
     (simp length-append (omega (arith, decimal_few seconds))) (simp length-append (omega (arith, decimal_few minutes))))
 
+-- what is told of a pair, after so many bytes
+so_far_few : (front : List ℕ) (s : SoFar) → length front ≤ 280 → length (front ++ so_far_text s) ≤ 700
+so_far_few front s few =
+    simp length-append
+    (omega (arith, few, decimal_few s.done, decimal_few s.whole, decimal_few (percent_of s.done s.whole), decimal_few s.seconds, left_few s.left))
+
 news_few : (n : News) → length (news_text n) ≤ 700
 news_few (news.Whole entries megabytes) = simp length-append (omega (arith, decimal_few entries, decimal_few megabytes))
 news_few (news.Wave greater lesser wave s) =
-    simp length-append
-    (omega (
-      arith,
-      decimal_few greater,
-      decimal_few lesser,
-      decimal_few wave,
-      decimal_few s.done,
-      decimal_few s.whole,
-      decimal_few (percent_of s.done s.whole),
-      decimal_few s.seconds,
-      left_few s.left,
-    ))
+    so_far_few (codes "progress: " ++ stones_text greater lesser ++ labelled (codes " wave ") wave) s
+    (simp length-append (omega (arith, decimal_few greater, decimal_few lesser, decimal_few wave)))
 news_few (news.Part greater lesser s) =
-    simp length-append
-    (omega (
-      arith,
-      decimal_few greater,
-      decimal_few lesser,
-      decimal_few s.done,
-      decimal_few s.whole,
-      decimal_few (percent_of s.done s.whole),
-      decimal_few s.seconds,
-      left_few s.left,
-    ))
+    so_far_few (codes "progress: " ++ stones_text greater lesser) s (simp length-append (omega (arith, decimal_few greater, decimal_few lesser)))
 news_few (news.Done greater lesser s) =
-    simp length-append
-    (omega (
-      arith,
-      decimal_few greater,
-      decimal_few lesser,
-      decimal_few s.done,
-      decimal_few s.whole,
-      decimal_few (percent_of s.done s.whole),
-      decimal_few s.seconds,
-      left_few s.left,
-    ))
+    so_far_few (codes "progress: " ++ stones_text greater lesser ++ codes " done") s (simp length-append (omega (arith, decimal_few greater, decimal_few lesser)))
 news_few news.Cleared = omega arith
 
-pub news_line_few : (rewrites : Bool) (n : News) → length (news_line rewrites n) ≤ 2 ^ 10
+pub news_line_few : (rewrites : Bool) (n : News) → length (news_line rewrites n) < 2 ^ 63
 news_line_few false n = simp length-append (omega (arith, news_few n))
 news_line_few true n =
     let end : length (if is_passing n then [] else (10 ∷ [])) ≤ 1 = by_test (is_passing n) 1 [] (10 ∷ []) (omega arith) (omega arith) in

@@ -9,17 +9,13 @@ use Rattle.morris_jobs.specs.declared.progress.News.{News}
 use Rattle.morris_jobs.specs.declared.progress.News.TheVariants as news
 use Rattle.morris_jobs.specs.declared.progress.SoFar.{SoFar}
 use Rattle.morris_jobs.specs.declared.progress.Progress.{Progress}
-use Rattle.morris_jobs.specs.Faults.{ReportsText}
+use Rattle.morris_jobs.specs.Faults.{ReportsText, stones_text}
 
 -- ---- the lines
 
 -- a label and a number
 abbrev pub labelled : List ℕ → ℕ → List ℕ
 labelled label number = label ++ decimal number
-
--- `progress: a-b`
-abbrev pub stones_text : ℕ → ℕ → List ℕ
-stones_text greater lesser = labelled (codes "progress: ") greater ++ (45 ∷ decimal lesser)
 
 -- how many in a hundred are done, rounded down; all where there are none
 abbrev pub percent_of : ℕ → ℕ → ℕ
@@ -31,34 +27,29 @@ left_text seconds =
     if nat_eq seconds 0 then [] else (if nat_lt seconds 120 then labelled (codes ", about ") seconds ++ codes " s left"
     else labelled (codes ", about ") (seconds / 60 + seconds % 60 / 30) ++ codes " min left")
 
--- `, D of N entries (P %)`, where D of the N entries are done, P in a hundred
-abbrev pub entries_text : ℕ → ℕ → List ℕ
-entries_text done whole = labelled (codes ", ") done ++ labelled (codes " of ") whole ++ labelled (codes " entries (") (percent_of done whole) ++ codes " %)"
-
--- how many entries are done; `, S s`, S seconds after the start; and how long the rest takes
+-- `, D of N entries (P %), S s`, where D of the N entries are done, P in a hundred, S seconds after
+-- the start; and how long the rest takes
 abbrev pub so_far_text : SoFar → List ℕ
-so_far_text s = entries_text s.done s.whole ++ (labelled (codes ", ") s.seconds ++ codes " s" ++ left_text s.left)
+so_far_text s =
+    labelled (codes ", ") s.done ++ labelled (codes " of ") s.whole ++ labelled (codes " entries (") (percent_of s.done s.whole) ++ codes " %)"
+    ++ labelled (codes ", ") s.seconds ++ codes " s" ++ left_text s.left
 
--- `progress: N entries, about M MB of memory`
-abbrev pub whole_text : ℕ → ℕ → List ℕ
-whole_text entries megabytes = labelled (codes "progress: ") entries ++ labelled (codes " entries, about ") megabytes ++ codes " MB of memory"
-
--- what is told: how much there is to do; the wave of a pair that begins; how many entries are done
--- in the midst of a pair; the pair that is done; nothing, in the place of what a terminal shows
+-- What is told: how much there is to do, `progress: N entries, about M MB of memory`; the wave of a
+-- pair that begins; how many entries are done in the midst of a pair; the pair that is done; nothing,
+-- in the place of what a terminal shows.
 abbrev pub news_text : News → List ℕ
-news_text (news.Whole entries megabytes) = whole_text entries megabytes
-news_text (news.Wave greater lesser wave so_far) = stones_text greater lesser ++ labelled (codes " wave ") wave ++ so_far_text so_far
-news_text (news.Part greater lesser so_far) = stones_text greater lesser ++ so_far_text so_far
-news_text (news.Done greater lesser so_far) = stones_text greater lesser ++ codes " done" ++ so_far_text so_far
+news_text (news.Whole entries megabytes) =
+    labelled (codes "progress: ") entries ++ labelled (codes " entries, about ") megabytes ++ codes " MB of memory"
+news_text (news.Wave greater lesser wave so_far) = codes "progress: " ++ stones_text greater lesser ++ labelled (codes " wave ") wave ++ so_far_text so_far
+news_text (news.Part greater lesser so_far) = codes "progress: " ++ stones_text greater lesser ++ so_far_text so_far
+news_text (news.Done greater lesser so_far) = codes "progress: " ++ stones_text greater lesser ++ codes " done" ++ so_far_text so_far
 news_text news.Cleared = []
 
 -- what a terminal shows until something takes its place
 abbrev pub is_passing : News → Bool
 is_passing (news.Whole entries megabytes) = false
-is_passing (news.Wave greater lesser wave so_far) = true
-is_passing (news.Part greater lesser so_far) = true
 is_passing (news.Done greater lesser so_far) = false
-is_passing news.Cleared = true
+is_passing _ = true
 
 -- As a line: on a terminal in the place of the one at which it is, of which the rest is cleared, and
 -- without a line feed where it is to be replaced itself.
@@ -93,10 +84,7 @@ module _ {E : Type 0} (contents : E → Option (List ℕ)) (failures : E → ℕ
 abbrev pub IsWholeFirst : List News → Type 0
 IsWholeFirst [] = ⊤
 IsWholeFirst (news.Whole entries megabytes ∷ rest) = ⊤
-IsWholeFirst (news.Wave greater lesser wave so_far ∷ rest) = ⊥
-IsWholeFirst (news.Part greater lesser so_far ∷ rest) = ⊥
-IsWholeFirst (news.Done greater lesser so_far ∷ rest) = ⊥
-IsWholeFirst (news.Cleared ∷ rest) = ⊥
+IsWholeFirst (n ∷ rest) = ⊥
 
 -- such lines were told
 abbrev pub TellsInOrder : {E : Type 0} → (E → Option (List ℕ)) → (E → ℕ) → Bool → E → E → Type 0
@@ -138,58 +126,63 @@ at_work_of p = counts p.greater p.lesser
 abbrev pub part_of : {R E : Type 0} → Progress R E → ℕ
 part_of p = p.part
 
+-- who tells, as far as the sink and its lines show
+pub record Telling (E : Type 0) : Type 0 where
+  pub lent : GName
+  pub sink : E
+  pub tells : Bool
+  pub rewrites : Bool
+  pub has_begun : Bool
+  pub whole : ℕ
+
+abbrev pub telling_of : {R E : Type 0} → Progress R E → Telling E
+telling_of p = record {
+  lent = lent_of p;
+  sink = sink_of p;
+  tells = tells_of p;
+  rewrites = rewrites_of p;
+  has_begun = has_begun_of p;
+  whole = whole_of p;
+}
+
 -- The lines of who begins to tell: first how much there is to do, of as many entries as there are;
 -- none before that is known, or where nothing is told any more.
 abbrev pub BeginsWithWhole : Bool → Bool → ℕ → List News → Type 0
 BeginsWithWhole has_begun tells whole [] = has_begun ≡ true → tells ≡ false
 BeginsWithWhole has_begun tells whole (news.Whole entries megabytes ∷ rest) = (has_begun ≡ true) × (entries ≡ whole)
-BeginsWithWhole has_begun tells whole (news.Wave greater lesser wave so_far ∷ rest) = ⊥
-BeginsWithWhole has_begun tells whole (news.Part greater lesser so_far ∷ rest) = ⊥
-BeginsWithWhole has_begun tells whole (news.Done greater lesser so_far ∷ rest) = ⊥
-BeginsWithWhole has_begun tells whole (news.Cleared ∷ rest) = ⊥
+BeginsWithWhole has_begun tells whole (n ∷ rest) = ⊥
 
--- So are the lines that make the one who tells what they are then, where it wasn't known before how
--- much there is to do; otherwise that stays what it is.
-unfoldable pub TellsWholeFirst : {R E : Type 0} → Progress R E → Progress R E → List News → Type 0
-TellsWholeFirst old new lines =
-    (has_begun_of old ≡ false → BeginsWithWhole (has_begun_of new) (tells_of new) (whole_of new) lines)
-    × (has_begun_of old ≡ true → (has_begun_of new ≡ true) × (whole_of new ≡ whole_of old))
+module _ {E : Type 0} (contents : E → Option (List ℕ)) (failures : E → ℕ) where
+  -- What telling makes of who tells: of the same sink, which was told some lines, or nothing where it
+  -- isn't told anything. Nothing more is told after a write that failed, and nothing before how much
+  -- there is to do, which stays what it is once it is known.
+  pub record Goes (old new : Telling E) : Type 0 where
+    pub same : new.lent ≡ old.lent
+    pub silent : old.tells ≡ false → (new.tells ≡ false) × (new.sink ≡ old.sink)
+    pub rewrites : new.rewrites ≡ old.rewrites
+    pub told : Tells contents failures old.rewrites old.sink new.sink
+    pub unfailed : new.tells ≡ true → failures new.sink ≡ failures old.sink
+    pub first : old.has_begun ≡ false → BeginsWithWhole new.has_begun new.tells new.whole told.lines
+    pub kept : old.has_begun ≡ true → (new.has_begun ≡ true) × (new.whole ≡ old.whole)
 
--- What telling makes of who tells: of the same sink, which was told some lines, or nothing where it
--- isn't told anything. Nothing more is told after a write that failed, and nothing before how much
--- there is to do.
-pub record Becomes {R E : Type 0} (contents : E → Option (List ℕ)) (failures : E → ℕ) (old new : Progress R E) : Type 0 where
-  pub same : lent_of new ≡ lent_of old
-  pub silent : tells_of old ≡ false → (tells_of new ≡ false) × (sink_of new ≡ sink_of old)
-  pub rewrites : rewrites_of new ≡ rewrites_of old
-  pub told : Tells contents failures (rewrites_of old) (sink_of old) (sink_of new)
-  pub unfailed : tells_of new ≡ true → failures (sink_of new) ≡ failures (sink_of old)
-  pub first : TellsWholeFirst old new told.lines
+  abbrev pub Becomes : {R : Type 0} → Progress R E → Progress R E → Type 0
+  Becomes old new = Goes (telling_of old) (telling_of new)
 
--- ---- one line
-
--- the line went out, or its first bytes up to the write that failed, and more is told only where it
--- went out
-abbrev pub SaysLine : {R E : Type 0} → (E → Option (List ℕ)) → (E → ℕ) → Progress R E → Progress R E → News → Type 0
-SaysLine contents failures old new n =
-    (sent : Result (Unit {0}) ℕ) × WentOut (contents (sink_of old)) (contents (sink_of new)) (news_line (rewrites_of old) n) sent
-    × CountsFailure (failures (sink_of old)) (failures (sink_of new)) sent × (tells_of new ≡ is_ok sent)
-
--- What telling one of the news makes of who tells: what it was, where it isn't told anything or it
--- isn't known how much there is to do; else its line went out, or nothing more is told where the
--- sink has no room for a failure more.
-pub record Speaks {R E : Type 0} (contents : E → Option (List ℕ)) (failures : E → ℕ) (old new : Progress R E) (n : News) : Type 0 where
-  pub same : lent_of new ≡ lent_of old
-  pub rewrites : rewrites_of new ≡ rewrites_of old
-  pub begun : has_begun_of new ≡ has_begun_of old
-  pub whole : whole_of new ≡ whole_of old
-  pub done : done_of new ≡ done_of old
-  pub part : part_of new ≡ part_of old
-  pub silent : tells_of old ≡ false → (tells_of new ≡ false) × (sink_of new ≡ sink_of old)
-  pub early : has_begun_of old ≡ false → (tells_of new ≡ tells_of old) × (sink_of new ≡ sink_of old)
-  pub cramped : tells_of old ≡ true → has_begun_of old ≡ true → 2 ^ 64 - 3 ≤ failures (sink_of old)
-      → (tells_of new ≡ false) × (sink_of new ≡ sink_of old)
-  pub said : tells_of old ≡ true → has_begun_of old ≡ true → failures (sink_of old) < 2 ^ 64 - 3 → SaysLine contents failures old new n
+  -- What telling one of the news makes of who tells: what it was, where it isn't told anything or it
+  -- isn't known how much there is to do. Else its line went out, or its first bytes up to the write
+  -- that failed, and more is told only where it went out; or nothing more is told where the sink has
+  -- no room for a failure more.
+  pub record Speaks (old new : Telling E) (n : News) : Type 0 where
+    pub same : new.lent ≡ old.lent
+    pub rewrites : new.rewrites ≡ old.rewrites
+    pub begun : new.has_begun ≡ old.has_begun
+    pub whole : new.whole ≡ old.whole
+    pub silent : old.tells ≡ false → (new.tells ≡ false) × (new.sink ≡ old.sink)
+    pub early : old.has_begun ≡ false → (new.tells ≡ old.tells) × (new.sink ≡ old.sink)
+    pub cramped : old.tells ≡ true → old.has_begun ≡ true → 2 ^ 64 - 3 ≤ failures old.sink → (new.tells ≡ false) × (new.sink ≡ old.sink)
+    pub said : old.tells ≡ true → old.has_begun ≡ true → failures old.sink < 2 ^ 64 - 3
+        → (sent : Result (Unit {0}) ℕ) × WentOut (contents old.sink) (contents new.sink) (news_line old.rewrites n) sent
+        × CountsFailure (failures old.sink) (failures new.sink) sent × (new.tells ≡ is_ok sent)
 
 -- Whoever tells anything writes this line, or its first bytes up to the write that failed, where
 -- the sink has room for a failure more and for one after it.

@@ -1,17 +1,17 @@
 -- What was told by one call, and then by the next, was told by both.
-use Rattle.std.proofs.Common.{◌≡◌, ℕ, ◌+◌, ◌-◌, ◌^◌, ◌<◌, ◌≤◌, Bool, true, false, List, [], ◌∷◌, ◌++◌, Option, Result, Ok, Err, is_ok, inl, inr, refl, sym, ap, subst, ◌∙◌, arith}
-use Rattle.std.proofs.lemmas.Bool.{cases_lt}
+use Rattle.std.proofs.Common.{◌≡◌, ℕ, ◌+◌, ◌-◌, ◌^◌, ◌<◌, ◌≤◌, Bool, true, false, List, [], ◌∷◌, ◌++◌, Option, Result, Ok, Err, is_ok, inl, inr, refl, sym, ap, subst, ◌∙◌, arith, append-nil}
+use Rattle.std.proofs.lemmas.Bool.{cases_Bool, cases_lt, false_from_ne_true}
 use Rattle.morris_jobs.specs.declared.progress.News.{News}
 use Rattle.morris_jobs.specs.declared.progress.News.TheVariants as news
 use Rattle.morris_jobs.specs.declared.progress.Progress.{Progress}
 use Rattle.morris_board.specs.Streams.{CountsFailure}
 use Rattle.morris_board.specs.Printers.{WentOut}
-use Rattle.morris_jobs.specs.Progress.{Becomes, BeginsWithWhole, GoesOn, IsWholeFirst, MayTell, SaysLine, Speaks, Tells, TellsInOrder, TellsLine, TellsWholeFirst, Told, has_begun_of, lent_of, news_line, rewrites_of, sink_of, tells_of, whole_of}
+use Rattle.morris_jobs.specs.Progress.{Becomes, BeginsWithWhole, Goes, GoesOn, IsWholeFirst, MayTell, Speaks, Telling, Tells, TellsInOrder, Told, has_begun_of, news_line, rewrites_of, sink_of, telling_of, tells_of, whole_of}
 
--- failures only rise
-counts_up : (old new : ℕ) (sent : Result (Unit {0}) ℕ) → CountsFailure old new sent → old ≤ new
-counts_up old new (Ok done) e = omega (arith, e)
-counts_up old new (Err sent) e = omega (arith, e)
+-- failures only rise, and by one at most
+counts_up : (old new : ℕ) (sent : Result (Unit {0}) ℕ) → CountsFailure old new sent → (old ≤ new) × (new ≤ old + 1)
+counts_up old new (Ok done) e = (omega (arith, e), omega (arith, e))
+counts_up old new (Err sent) e = (omega (arith, e), omega (arith, e))
 
 goes_on : (old new : ℕ) (rest : List News) → new ≡ old → GoesOn old new rest
 goes_on old new [] e = tt
@@ -21,7 +21,7 @@ module _ {E : Type 0} (contents : E → Option (List ℕ)) (failures : E → ℕ
   Told-up : (a b : E) (lines : List News) → Told contents failures rewrites a b lines → failures a ≤ failures b
   unfolding Told
   Told-up a b [] one = omega (arith, ap failures one)
-  Told-up a b (n ∷ rest) one = omega (arith, counts_up (failures a) (failures one.0) one.1.0 one.1.2, Told-up one.0 b rest one.3)
+  Told-up a b (n ∷ rest) one = omega (arith, (counts_up (failures a) (failures one.0) one.1.0 one.1.2).0, Told-up one.0 b rest one.3)
 
   -- lines of which all went out, and then others
   pub Told-append : (a b c : E) (first second : List News) → Told contents failures rewrites a b first → failures b ≡ failures a → Told contents failures rewrites b c second
@@ -29,7 +29,7 @@ module _ {E : Type 0} (contents : E → Option (List ℕ)) (failures : E → ℕ
   unfolding Told
   Told-append a b c [] second one unfailed two = subst (λ (x : E). Told contents failures rewrites x c second) one two
   Told-append a b c (n ∷ first) second one unfailed two =
-      let up = counts_up (failures a) (failures one.0) one.1.0 one.1.2 in
+      let up = (counts_up (failures a) (failures one.0) one.1.0 one.1.2).0 in
       let on = Told-up one.0 b first one.3 in
       let here : failures one.0 ≡ failures a = omega (arith, up, on, unfailed) in
       let after : failures b ≡ failures one.0 = omega (arith, up, on, unfailed) in
@@ -43,264 +43,181 @@ module _ {E : Type 0} (contents : E → Option (List ℕ)) (failures : E → ℕ
   pub Tells-line : (a b : E) (n : News) (sent : Result (Unit {0}) ℕ) → WentOut (contents a) (contents b) (news_line rewrites n) sent
       → CountsFailure (failures a) (failures b) sent → failures a < 2 ^ 64 - 3 → Tells contents failures rewrites a b
   unfolding Told
-  Tells-line a b n sent out counted room = record {
-    lines = n ∷ [];
-    told = (b, (sent, out, counted), tt, refl);
-    once = at_most sent counted;
-    room = λ h. omega (arith, room, at_most sent counted);
-  }
-    where
-      at_most : (sent : Result (Unit {0}) ℕ) → CountsFailure (failures a) (failures b) sent → failures b ≤ failures a + 1
-      at_most (Ok done) e = omega (arith, e)
-      at_most (Err sent) e = omega (arith, e)
+  Tells-line a b n sent out counted room =
+      let most = (counts_up (failures a) (failures b) sent counted).1 in
+      record {
+        lines = n ∷ [];
+        told = (b, (sent, out, counted), tt, refl);
+        once = most;
+        room = λ h. omega (arith, room, most);
+      }
 
 -- the lines of who begins to tell, and those of who goes on with it
 whole_first : (b t : Bool) (whole : ℕ) (lines : List News) → BeginsWithWhole b t whole lines → IsWholeFirst lines
 whole_first b t whole [] h = tt
 whole_first b t whole (news.Whole entries megabytes ∷ rest) h = tt
-whole_first b t whole (news.Wave greater lesser wave so_far ∷ rest) h = absurd h
-whole_first b t whole (news.Part greater lesser so_far ∷ rest) h = absurd h
-whole_first b t whole (news.Done greater lesser so_far ∷ rest) h = absurd h
-whole_first b t whole (news.Cleared ∷ rest) h = absurd h
+whole_first b t whole (n ∷ rest) h = absurd h
 
-then_more : (a b t u : Bool) (whole more : ℕ) (lines rest : List News) → BeginsWithWhole a t whole lines → t ≡ true → a ≡ true
-    → b ≡ true → more ≡ whole → BeginsWithWhole b u more (lines ++ rest)
-then_more a b t u whole more [] rest h tells begun still kept =
-    let bad : true ≡ false = sym tells ∙ h begun in
-    cc
-then_more a b t u whole more (news.Whole entries megabytes ∷ lines) rest h tells begun still kept = (still, h.1 ∙ sym kept)
-then_more a b t u whole more (news.Wave greater lesser wave so_far ∷ lines) rest h tells begun still kept = absurd h
-then_more a b t u whole more (news.Part greater lesser so_far ∷ lines) rest h tells begun still kept = absurd h
-then_more a b t u whole more (news.Done greater lesser so_far ∷ lines) rest h tells begun still kept = absurd h
-then_more a b t u whole more (news.Cleared ∷ lines) rest h tells begun still kept = absurd h
+then_more : (a b t u : Bool) (whole more : ℕ) (lines rest : List News) → BeginsWithWhole a t whole lines → (a ≡ true → (b ≡ true) × (more ≡ whole))
+    → ((a ≡ true → t ≡ false) → BeginsWithWhole b u more rest) → BeginsWithWhole b u more (lines ++ rest)
+then_more a b t u whole more [] rest h kept begins = begins h
+then_more a b t u whole more (news.Whole entries megabytes ∷ lines) rest h kept begins = ((kept h.0).0, h.1 ∙ sym (kept h.0).1)
+then_more a b t u whole more (n ∷ lines) rest h kept begins = absurd h
 
-none_before : (a b t u : Bool) (whole more : ℕ) (lines rest : List News) → BeginsWithWhole a t whole lines → a ≡ false
-    → BeginsWithWhole b u more rest → BeginsWithWhole b u more (lines ++ rest)
-none_before a b t u whole more [] rest h none begins = begins
-none_before a b t u whole more (news.Whole entries megabytes ∷ lines) rest h none begins =
-    let bad : true ≡ false = sym h.0 ∙ none in
-    cc
-none_before a b t u whole more (news.Wave greater lesser wave so_far ∷ lines) rest h none begins = absurd h
-none_before a b t u whole more (news.Part greater lesser so_far ∷ lines) rest h none begins = absurd h
-none_before a b t u whole more (news.Done greater lesser so_far ∷ lines) rest h none begins = absurd h
-none_before a b t u whole more (news.Cleared ∷ lines) rest h none begins = absurd h
-
-no_more : (a b t u : Bool) (whole more : ℕ) (lines : List News) → BeginsWithWhole a t whole lines → u ≡ false
-    → (a ≡ true → (b ≡ true) × (more ≡ whole)) → BeginsWithWhole b u more lines
-no_more a b t u whole more [] h none kept = λ begun. none
-no_more a b t u whole more (news.Whole entries megabytes ∷ lines) h none kept = ((kept h.0).0, h.1 ∙ sym (kept h.0).1)
-no_more a b t u whole more (news.Wave greater lesser wave so_far ∷ lines) h none kept = absurd h
-no_more a b t u whole more (news.Part greater lesser so_far ∷ lines) h none kept = absurd h
-no_more a b t u whole more (news.Done greater lesser so_far ∷ lines) h none kept = absurd h
-no_more a b t u whole more (news.Cleared ∷ lines) h none kept = absurd h
-
-module _ {R E : Type 0} (p q : Progress R E) (lines : List News) where
-  in_order : (has_begun_of p ≡ false → BeginsWithWhole (has_begun_of q) (tells_of q) (whole_of q) lines)
-      → (has_begun_of p ≡ true → (has_begun_of q ≡ true) × (whole_of q ≡ whole_of p)) → TellsWholeFirst p q lines
-  unfolding TellsWholeFirst
-  in_order begins kept = (begins, kept)
-
-  begins_of : TellsWholeFirst p q lines → has_begun_of p ≡ false → BeginsWithWhole (has_begun_of q) (tells_of q) (whole_of q) lines
-  unfolding TellsWholeFirst
-  begins_of h = h.0
-
-  kept_of : TellsWholeFirst p q lines → has_begun_of p ≡ true → (has_begun_of q ≡ true) × (whole_of q ≡ whole_of p)
-  unfolding TellsWholeFirst
-  kept_of h = h.1
-
-module _ {R E : Type 0} (contents : E → Option (List ℕ)) (failures : E → ℕ) where
+module _ {E : Type 0} (contents : E → Option (List ℕ)) (failures : E → ℕ) where
   -- Who is told of by no line: how much there is to do isn't known yet, or is known as before, or
   -- nothing more is told.
-  pub Becomes-silent : (p q : Progress R E) → lent_of q ≡ lent_of p → rewrites_of q ≡ rewrites_of p → sink_of q ≡ sink_of p → (tells_of p ≡ false → tells_of q ≡ false)
-      → (has_begun_of p ≡ false → has_begun_of q ≡ true → tells_of q ≡ false)
-      → (has_begun_of p ≡ true → (has_begun_of q ≡ true) × (whole_of q ≡ whole_of p)) → Becomes contents failures p q
-  Becomes-silent p q lent rewrites sink tells begins kept = record {
+  Goes-silent : (a b : Telling E) → b.lent ≡ a.lent → b.rewrites ≡ a.rewrites → b.sink ≡ a.sink → (a.tells ≡ false → b.tells ≡ false)
+      → (a.has_begun ≡ false → b.has_begun ≡ true → b.tells ≡ false) → (a.has_begun ≡ true → (b.has_begun ≡ true) × (b.whole ≡ a.whole))
+      → Goes contents failures a b
+  Goes-silent a b lent rewrites sink tells first kept = record {
     same = lent;
-    rewrites = rewrites;
     silent = λ e. (tells e, sink);
+    rewrites = rewrites;
     told = record {
       lines = [];
-      told = Told-nothing contents failures (rewrites_of p) (sink_of p) (sink_of q) sink;
+      told = Told-nothing contents failures a.rewrites a.sink b.sink sink;
       once = omega (arith, ap failures sink);
       room = λ h. omega (arith, h, ap failures sink);
     };
     unfailed = λ e. ap failures sink;
-    first = in_order p q [] begins kept;
+    first = first;
+    kept = kept;
   }
 
-  -- anyone else who tells the same sink
-  pub Becomes-same : (p q : Progress R E) → lent_of q ≡ lent_of p → rewrites_of q ≡ rewrites_of p → sink_of q ≡ sink_of p
-      → tells_of q ≡ tells_of p → has_begun_of q ≡ has_begun_of p → whole_of q ≡ whole_of p → Becomes contents failures p q
-  Becomes-same p q lent rewrites sink tells begun whole =
-      Becomes-silent p q lent rewrites sink (λ e. tells ∙ e)
-      (λ none some.
-      let bad : true ≡ false = sym some ∙ (begun ∙ none) in
-      cc)
-      (λ e. (begun ∙ e, whole))
+  -- who tells, where this is known of how much there is to do
+  abbrev pub knowing : Telling E → Bool → ℕ → Telling E
+  knowing a begun whole = record { lent = a.lent; sink = a.sink; tells = a.tells; rewrites = a.rewrites; has_begun = begun; whole = whole }
 
-  -- who tells nothing is what they were
-  pub Becomes-stays : (p : Progress R E) → Becomes contents failures p p
-  Becomes-stays p = Becomes-same p p refl refl refl refl refl refl
-
-  -- who tells a line goes on where it went out
-  Becomes-line : (p q : Progress R E) (n : News) → lent_of q ≡ lent_of p → rewrites_of q ≡ rewrites_of p → tells_of p ≡ true → failures (sink_of p) < 2 ^ 64 - 3
-      → SaysLine contents failures p q n
-      → (has_begun_of p ≡ false → BeginsWithWhole (has_begun_of q) (tells_of q) (whole_of q) (n ∷ []))
-      → (has_begun_of p ≡ true → (has_begun_of q ≡ true) × (whole_of q ≡ whole_of p)) → Becomes contents failures p q
+  -- Who tells one of the news, before which it may come to be known how much there is to do, goes on
+  -- where its line went out.
+  pub Goes-speaks : (a b : Telling E) (n : News) (begun : Bool) (whole : ℕ) → Speaks contents failures (knowing a begun whole) b n
+      → (a.has_begun ≡ false → begun ≡ true → BeginsWithWhole b.has_begun b.tells b.whole (n ∷ []))
+      → (a.has_begun ≡ true → (begun ≡ true) × (whole ≡ a.whole)) → Goes contents failures a b
   unfolding Tells-line
-  Becomes-line p q n lent rewrites tells room said first kept = record {
-    same = lent;
-    rewrites = rewrites;
-    silent = λ none.
-        let bad : true ≡ false = sym tells ∙ none in
-        cc;
-    told = Tells-line contents failures (rewrites_of p) (sink_of p) (sink_of q) n said.0 said.1 said.2 room;
-    unfailed = λ still. uncounted said.0 said.2 (sym said.3 ∙ still);
-    first = in_order p q (n ∷ []) first kept;
-  }
+  Goes-speaks a b n begun whole speaks first kept = elim (cases_Bool a.tells) [
+    | inr none ↦
+        let s = speaks.silent none in
+        Goes-silent a b speaks.same speaks.rewrites s.1 (λ e. s.0) (λ new known. s.0) keeps
+    | inl tells ↦ elim (cases_Bool begun) [
+      | inr early ↦
+          let s = speaks.early early in
+          Goes-silent a b speaks.same speaks.rewrites s.1 (λ e. s.0 ∙ e)
+          (λ new known.
+          let bad : true ≡ false = sym known ∙ (speaks.begun ∙ early) in
+          cc)
+          keeps
+      | inl known ↦ elim (cases_lt (failures a.sink) (2 ^ 64 - 3)) [
+        | inl room ↦
+            let said = speaks.said tells known room in
+            record {
+              same = speaks.same;
+              silent = λ none.
+                  let bad : true ≡ false = sym tells ∙ none in
+                  cc;
+              rewrites = speaks.rewrites;
+              told = Tells-line contents failures a.rewrites a.sink b.sink n said.0 said.1 said.2 room;
+              unfailed = λ still. uncounted said.0 said.2 (sym said.3 ∙ still);
+              first = λ new. first new known;
+              kept = keeps;
+            }
+        | inr full ↦
+            let s = speaks.cramped tells known (omega (arith, full)) in
+            Goes-silent a b speaks.same speaks.rewrites s.1 (λ e. s.0) (λ new known. s.0) keeps
+      ]
+    ]
+  ]
     where
-      uncounted : (sent : Result (Unit {0}) ℕ) → CountsFailure (failures (sink_of p)) (failures (sink_of q)) sent → is_ok sent ≡ true
-          → failures (sink_of q) ≡ failures (sink_of p)
+      keeps : a.has_begun ≡ true → (b.has_begun ≡ true) × (b.whole ≡ a.whole)
+      keeps e = let same = kept e in (speaks.begun ∙ same.0, speaks.whole ∙ same.1)
+
+      uncounted : (sent : Result (Unit {0}) ℕ) → CountsFailure (failures a.sink) (failures b.sink) sent → is_ok sent ≡ true → failures b.sink ≡ failures a.sink
       uncounted (Ok done) e h = e
       uncounted (Err part) e h = cc
 
-  -- what is said of one who tells the same sink
-  same_said : (p r q : Progress R E) (n : News) → rewrites_of r ≡ rewrites_of p → sink_of r ≡ sink_of p → SaysLine contents failures r q n
-      → SaysLine contents failures p q n
-  same_said p r q n rewrites sink said = (
-    said.0,
-    subst (λ w. WentOut (contents (sink_of p)) (contents (sink_of q)) (news_line w n) said.0) rewrites
-        (subst (λ s. WentOut (contents s) (contents (sink_of q)) (news_line (rewrites_of r) n) said.0) sink said.1),
-    subst (λ s. CountsFailure (failures s) (failures (sink_of q)) said.0) sink said.2,
-    said.3,
-  )
-
-  -- who tells one of the news after a change of what isn't told
-  pub Becomes-speaks : (p r q : Progress R E) (n : News) → lent_of r ≡ lent_of p → rewrites_of r ≡ rewrites_of p → sink_of r ≡ sink_of p
-      → tells_of r ≡ tells_of p → has_begun_of r ≡ has_begun_of p → whole_of r ≡ whole_of p → Speaks contents failures r q n → Becomes contents failures p q
-  Becomes-speaks p r q n lent rewrites sink tells begun whole speaks = go (tells_of p) (has_begun_of p) refl refl
-    where
-      go : (t b : Bool) → tells_of p ≡ t → has_begun_of p ≡ b → Becomes contents failures p q
-      go false b et eb =
-          let s = speaks.silent (tells ∙ et) in
-          Becomes-same p q (speaks.same ∙ lent) (speaks.rewrites ∙ rewrites) (s.1 ∙ sink) (s.0 ∙ sym et) (speaks.begun ∙ begun) (speaks.whole ∙ whole)
-      go true false et eb =
-          let s = speaks.early (begun ∙ eb) in
-          Becomes-same p q (speaks.same ∙ lent) (speaks.rewrites ∙ rewrites) (s.1 ∙ sink) (s.0 ∙ tells) (speaks.begun ∙ begun) (speaks.whole ∙ whole)
-      go true true et eb = elim (cases_lt (failures (sink_of r)) (2 ^ 64 - 3)) [
-        | inl room ↦
-            Becomes-line p q n (speaks.same ∙ lent) (speaks.rewrites ∙ rewrites) et (omega (arith, room, ap failures sink))
-            (same_said p r q n rewrites sink (speaks.said (tells ∙ et) (begun ∙ eb) room))
-            (λ none.
-            let bad : true ≡ false = sym eb ∙ none in
-            cc)
-            (λ e. (speaks.begun ∙ (begun ∙ e), speaks.whole ∙ whole))
-        | inr full ↦
-            let s = speaks.cramped (tells ∙ et) (begun ∙ eb) (omega (arith, full)) in
-            Becomes-silent p q (speaks.same ∙ lent) (speaks.rewrites ∙ rewrites) (s.1 ∙ sink) (λ e. s.0) (λ none some. s.0) (λ e. (speaks.begun ∙ (begun ∙ e), speaks.whole ∙ whole))
-      ]
-
-  -- who tells how much there is to do, once that is known
-  pub Becomes-begins : (p r q : Progress R E) (megabytes : ℕ) → lent_of r ≡ lent_of p → rewrites_of r ≡ rewrites_of p → sink_of r ≡ sink_of p
-      → tells_of p ≡ true → tells_of r ≡ true → has_begun_of p ≡ false → has_begun_of r ≡ true → Speaks contents failures r q (news.Whole (whole_of r) megabytes) → Becomes contents failures p q
-  Becomes-begins p r q megabytes lent rewrites sink tells still new begun speaks = elim (cases_lt (failures (sink_of r)) (2 ^ 64 - 3)) [
-    | inl room ↦
-        Becomes-line p q (news.Whole (whole_of r) megabytes) (speaks.same ∙ lent) (speaks.rewrites ∙ rewrites) tells (omega (arith, room, ap failures sink))
-        (same_said p r q (news.Whole (whole_of r) megabytes) rewrites sink (speaks.said still begun room))
-        (λ none. (speaks.begun ∙ begun, sym speaks.whole))
-        (λ some.
-        let bad : true ≡ false = sym some ∙ new in
-        cc)
-    | inr full ↦
-        let s = speaks.cramped still begun (omega (arith, full)) in
-        Becomes-silent p q (speaks.same ∙ lent) (speaks.rewrites ∙ rewrites) (s.1 ∙ sink) (λ e. s.0) (λ none some. s.0)
-        (λ some.
-        let bad : true ≡ false = sym some ∙ new in
-        cc)
-  ]
-
-  -- the line of the news
-  pub TellsLine-speaks : (p r q : Progress R E) (n : News) → rewrites_of r ≡ rewrites_of p → sink_of r ≡ sink_of p → tells_of r ≡ tells_of p → has_begun_of r ≡ true
-      → Speaks contents failures r q n → TellsLine contents failures p q n
-  TellsLine-speaks p r q n rewrites sink tells begun speaks = λ e room.
-      let said = same_said p r q n rewrites sink (speaks.said (tells ∙ e) begun (omega (arith, room, ap failures sink))) in
-      (said.0, said.1, said.2)
-
-  -- that line, or none where it isn't known yet how much there is to do
-  pub MayTell-speaks : (p r q : Progress R E) (n : News) → rewrites_of r ≡ rewrites_of p → sink_of r ≡ sink_of p → tells_of r ≡ tells_of p
-      → Speaks contents failures r q n → MayTell contents failures p q n
-  MayTell-speaks p r q n rewrites sink tells speaks = go (has_begun_of r) refl
-    where
-      go : (b : Bool) → has_begun_of r ≡ b → MayTell contents failures p q n
-      go true e = inr (TellsLine-speaks p r q n rewrites sink tells e speaks)
-      go false e = inl ((speaks.early e).1 ∙ sink)
-
-  pub Becomes-in_order : (p q : Progress R E) → has_begun_of p ≡ false → Becomes contents failures p q
-      → TellsInOrder contents failures (rewrites_of p) (sink_of p) (sink_of q)
-  Becomes-in_order p q new h = (h.told, whole_first (has_begun_of q) (tells_of q) (whole_of q) h.told.lines (begins_of p q h.told.lines h.first new))
-
   -- after a first call and then another
-  pub Becomes-joins : (p q r : Progress R E) → Becomes contents failures p q → Becomes contents failures q r → Becomes contents failures p r
-  Becomes-joins p q r first second = go (tells_of q) (has_begun_of q) refl refl
+  Goes-joins : (a b c : Telling E) → Goes contents failures a b → Goes contents failures b c → Goes contents failures a c
+  Goes-joins a b c one two = elim (cases_Bool b.tells) [
+    | inl tells ↦ record {
+      same = two.same ∙ one.same;
+      silent = λ none.
+          let was = one.silent none in
+          let after = two.silent was.0 in (after.0, after.1 ∙ was.1);
+      rewrites = two.rewrites ∙ one.rewrites;
+      told = record {
+        lines = one.told.lines ++ two.told.lines;
+        told =
+            Told-append contents failures a.rewrites a.sink b.sink c.sink one.told.lines two.told.lines one.told.told (one.unfailed tells)
+            (subst (λ w. Told contents failures w b.sink c.sink two.told.lines) one.rewrites two.told.told);
+        once = omega (arith, two.told.once, one.unfailed tells);
+        room = λ h. two.told.room (one.told.room h);
+      };
+      unfailed = λ still. two.unfailed still ∙ one.unfailed tells;
+      first = λ new.
+          then_more b.has_begun c.has_begun b.tells c.tells b.whole c.whole one.told.lines two.told.lines (one.first new) two.kept
+          (λ none. two.first (false_from_ne_true b.has_begun (λ known.
+          let bad : true ≡ false = sym tells ∙ none known in
+          cc)));
+      kept = kept;
+    }
+    | inr silent ↦
+        let after = two.silent silent in
+        record {
+          same = two.same ∙ one.same;
+          silent = λ none. (after.0, after.1 ∙ (one.silent none).1);
+          rewrites = two.rewrites ∙ one.rewrites;
+          told = record {
+            lines = one.told.lines;
+            told = subst (λ s. Told contents failures a.rewrites a.sink s one.told.lines) (sym after.1) one.told.told;
+            once = omega (arith, one.told.once, ap failures after.1);
+            room = λ h. omega (arith, one.told.room h, ap failures after.1);
+          };
+          unfailed = λ still.
+              let bad : true ≡ false = sym still ∙ after.0 in
+              cc;
+          first = λ new.
+              subst (BeginsWithWhole c.has_begun c.tells c.whole) (append-nil one.told.lines)
+              (then_more b.has_begun c.has_begun b.tells c.tells b.whole c.whole one.told.lines [] (one.first new) two.kept (λ none known. after.0));
+          kept = kept;
+        }
+  ]
     where
-      told : failures (sink_of q) ≡ failures (sink_of p) → Told contents failures (rewrites_of p) (sink_of p) (sink_of r) (first.told.lines ++ second.told.lines)
-      told unfailed =
-          Told-append contents failures (rewrites_of p) (sink_of p) (sink_of q) (sink_of r) first.told.lines second.told.lines first.told.told unfailed
-          (subst (λ w. Told contents failures w (sink_of q) (sink_of r) second.told.lines) first.rewrites second.told.told)
-
-      kept : has_begun_of p ≡ true → (has_begun_of r ≡ true) × (whole_of r ≡ whole_of p)
+      kept : a.has_begun ≡ true → (c.has_begun ≡ true) × (c.whole ≡ a.whole)
       kept e =
-          let once = kept_of p q first.told.lines first.first e in
-          let again = kept_of q r second.told.lines second.first once.0 in (again.0, again.1 ∙ once.1)
+          let once = one.kept e in
+          let again = two.kept once.0 in (again.0, again.1 ∙ once.1)
 
-      both : tells_of q ≡ true
-          → (has_begun_of p ≡ false → BeginsWithWhole (has_begun_of r) (tells_of r) (whole_of r) (first.told.lines ++ second.told.lines))
-          → Becomes contents failures p r
-      both e begins = record {
-        same = second.same ∙ first.same;
-        rewrites = second.rewrites ∙ first.rewrites;
-        silent = λ none.
-            let was = first.silent none in
-            let after = second.silent was.0 in (after.0, after.1 ∙ was.1);
-        told = record {
-          lines = first.told.lines ++ second.told.lines;
-          told = told (first.unfailed e);
-          once = omega (arith, second.told.once, first.unfailed e);
-          room = λ h. second.told.room (first.told.room h);
-        };
-        unfailed = λ tells. second.unfailed tells ∙ first.unfailed e;
-        first = in_order p r (first.told.lines ++ second.told.lines) begins kept;
-      }
+  module _ {R : Type 0} where
+    -- who tells nothing is what they were
+    pub Becomes-stays : (p : Progress R E) → Becomes contents failures p p
+    Becomes-stays p =
+        Goes-silent (telling_of p) (telling_of p) refl refl refl (λ e. e)
+        (λ new known.
+        let bad : true ≡ false = sym known ∙ new in
+        cc)
+        (λ known. (known, refl))
 
-      go : (t b : Bool) → tells_of q ≡ t → has_begun_of q ≡ b → Becomes contents failures p r
-      go true true e eb =
-          both e (λ new.
-          let still = kept_of q r second.told.lines second.first eb in
-          then_more (has_begun_of q) (has_begun_of r) (tells_of q) (tells_of r) (whole_of q) (whole_of r) first.told.lines second.told.lines
-          (begins_of p q first.told.lines first.first new) e eb still.0 still.1)
-      go true false e eb =
-          both e (λ new.
-          none_before (has_begun_of q) (has_begun_of r) (tells_of q) (tells_of r) (whole_of q) (whole_of r) first.told.lines second.told.lines
-          (begins_of p q first.told.lines first.first new) eb (begins_of q r second.told.lines second.first eb))
-      go false b e eb =
-          let after = second.silent e in
-          record {
-            same = second.same ∙ first.same;
-            rewrites = second.rewrites ∙ first.rewrites;
-            silent = λ none. (after.0, after.1 ∙ (first.silent none).1);
-            told = record {
-              lines = first.told.lines;
-              told = subst (λ s. Told contents failures (rewrites_of p) (sink_of p) s first.told.lines) (sym after.1) first.told.told;
-              once = omega (arith, first.told.once, ap failures after.1);
-              room = λ h. omega (arith, first.told.room h, ap failures after.1);
-            };
-            unfailed = λ tells.
-                let bad : true ≡ false = sym tells ∙ after.0 in
-                cc;
-            first =
-                in_order p r first.told.lines
-                (λ new.
-                no_more (has_begun_of q) (has_begun_of r) (tells_of q) (tells_of r) (whole_of q) (whole_of r) first.told.lines
-                (begins_of p q first.told.lines first.first new) after.0 (kept_of q r second.told.lines second.first))
-                kept;
-          }
+    -- who tells one of the news
+    pub Becomes-speaks : (p q : Progress R E) (n : News) → Speaks contents failures (telling_of p) (telling_of q) n → Becomes contents failures p q
+    Becomes-speaks p q n speaks =
+        Goes-speaks (telling_of p) (telling_of q) n (has_begun_of p) (whole_of p) speaks
+        (λ new known.
+        let bad : true ≡ false = sym known ∙ new in
+        cc)
+        (λ known. (known, refl))
+
+    -- its line, or none where it isn't known yet how much there is to do
+    pub MayTell-speaks : (p q : Progress R E) (n : News) → Speaks contents failures (telling_of p) (telling_of q) n → MayTell contents failures p q n
+    MayTell-speaks p q n speaks = elim (cases_Bool (has_begun_of p)) [
+      | inl known ↦ inr (λ tells room.
+          let said = speaks.said tells known (omega (arith, room)) in
+          (said.0, said.1, said.2))
+      | inr early ↦ inl (speaks.early early).1
+    ]
+
+    pub Becomes-joins : (p q r : Progress R E) → Becomes contents failures p q → Becomes contents failures q r → Becomes contents failures p r
+    Becomes-joins p q r one two = Goes-joins (telling_of p) (telling_of q) (telling_of r) one two
+
+    pub Becomes-in_order : (p q : Progress R E) → has_begun_of p ≡ false → Becomes contents failures p q
+        → TellsInOrder contents failures (rewrites_of p) (sink_of p) (sink_of q)
+    Becomes-in_order p q new goes = (goes.told, whole_first (has_begun_of q) (tells_of q) (whole_of q) goes.told.lines (goes.first new))

@@ -26,7 +26,7 @@ pub(crate) fn weight_of<B: Geometry>(pair: Pair<B>) -> u64 {
 }
 
 /// How much work is done, and about how long all of it takes.
-#[derive(Clone, Copy, Debug)]
+#[derive(Clone, Copy)]
 pub(crate) struct Estimate {
     // What all entries weigh, and those of the pairs that are done.
     work: u64,

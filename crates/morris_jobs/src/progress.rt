@@ -1,6 +1,6 @@
 //! How far a command is, told line by line.
 ghost use Rattle.std.specs.Prelude.{◌≡◌, ℕ, ◌-◌, ◌^◌, ◌<◌, true, false, length, max};
-ghost use Rattle.morris_jobs.specs.Progress.{Becomes, CountsMore, MayTell, Speaks, TellsLine, at_work_of, has_begun_of, is_passing, lent_of, part_of, rewrites_of, sink_of, tells_of};
+ghost use Rattle.morris_jobs.specs.Progress.{Becomes, CountsMore, MayTell, Speaks, TellsLine, at_work_of, has_begun_of, is_passing, lent_of, part_of, rewrites_of, sink_of, telling_of, tells_of};
 ghost use Rattle.morris_jobs.specs.Sizes.{entries_below};
 
 use crate::estimate::{Estimate, weight_of};
@@ -60,7 +60,7 @@ impl News {
 }
 
 /// One of the news as a line, which on a terminal takes the place of the last one.
-#[derive(Clone, Copy, Debug)]
+#[derive(Clone, Copy)]
 pub(crate) struct Line {
     pub(crate) news: News,
     pub(crate) rewrites: bool,
@@ -171,7 +171,8 @@ impl<'a, R: Clock, E: Sink> Progress<'a, R, E> {
     /// Tells one of the news, and nothing more after a write that failed. Nothing is told before it
     /// is known how much there is to do.
     fn tell(&mut self, news: News)
-        ensures { Speaks E.contents E.failures self.old self.new news }
+        ensures told { Speaks E.contents E.failures (telling_of self.old) (telling_of self.new) news }
+        ensures part { part_of self.new ≡ part_of self.old }
     {
         if !self.tells || !self.has_begun {
             return;

@@ -1,8 +1,6 @@
 use Rattle.std.proofs.Common.{◌≡◌, ◌∙◌, false, sym, true}
 use Rattle.morris_board.proofs.PrinterLaws.{Takes-nil, and_then}
 use Rattle.morris_jobs.specs.Progress.{is_passing}
-use Rattle.std.proofs.Common.{arith}
-use Rattle.morris_jobs.proofs.LengthLaws.{news_line_few}
 use Rattle.morris_jobs.proofs.print_progress.LinePrinted.put_into.Goals as goal
 
 -- a line of its own
@@ -21,12 +19,3 @@ returns-clause-takes g c =
     let stays : is_passing c.args.self.now.news ≡ false = sym c.is_passing.ensures ∙ c.if-is_passing.false in
     rw (c.if-not-rewrites.false, stays)
     (and_then (and_then (and_then c.put-2.ensures c.put_news-2.ensures) c.put-3.ensures) c.put-4.ensures)
-
-pub returns-then-not-rewrites-clause-few : goal.returns-then-not-rewrites-clause-few
-returns-then-not-rewrites-clause-few g c = λ short. omega (arith, news_line_few c.args.self.now.rewrites c.args.self.now.news)
-
-pub returns-then-is_passing-clause-few : goal.returns-then-is_passing-clause-few
-returns-then-is_passing-clause-few g c = λ short. omega (arith, news_line_few c.args.self.now.rewrites c.args.self.now.news)
-
-pub returns-clause-few : goal.returns-clause-few
-returns-clause-few g c = λ short. omega (arith, news_line_few c.args.self.now.rewrites c.args.self.now.news)

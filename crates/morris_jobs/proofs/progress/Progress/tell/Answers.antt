@@ -2,14 +2,12 @@
 use Rattle.std.proofs.Common.{◌≡◌, ◌∙◌, true, false, refl, sym, arith}
 use Rattle.morris_jobs.proofs.progress.Progress.tell.Goals as goal
 
-pub returns : goal.returns
-returns g c = record {
+pub returns-clause-told : goal.returns-clause-told
+returns-clause-told g c = record {
   same = refl;
   rewrites = refl;
   begun = refl;
   whole = refl;
-  done = refl;
-  part = refl;
   silent = λ e.
       let bad : true ≡ false = sym c.if-not-self.false ∙ e in
       cc;

@@ -8,7 +8,7 @@ returns-then-second-self g c = record { told = Becomes-stays g.E.Sink.contents g
 
 pub returns : goal.returns
 returns g c = record {
-  told = Becomes-speaks g.E.Sink.contents g.E.Sink.failures c.args.self.now _ c.tell.new.self _ refl refl refl refl refl refl c.tell.ensures;
+  told = Becomes-speaks g.E.Sink.contents g.E.Sink.failures c.args.self.now c.tell.new.self _ c.tell.ensures.told;
   part = c.tell.ensures.part;
-  line = MayTell-speaks g.E.Sink.contents g.E.Sink.failures c.args.self.now _ c.tell.new.self _ refl refl refl c.tell.ensures;
+  line = MayTell-speaks g.E.Sink.contents g.E.Sink.failures c.args.self.now c.tell.new.self _ c.tell.ensures.told;
 }

@@ -1,7 +1,5 @@
-use Rattle.std.proofs.Common.{refl}
 use Rattle.morris_jobs.specs.ProgressLaws.{Becomes-speaks}
 use Rattle.morris_jobs.proofs.progress.ProgressTeller.end_pair.Goals as goal
 
 pub returns-clause-told : goal.returns-clause-told
-returns-clause-told g c =
-    Becomes-speaks g.E.Sink.contents g.E.Sink.failures c.args.self.now _ c.tell.new.self _ refl refl refl refl refl refl c.tell.ensures
+returns-clause-told g c = Becomes-speaks g.E.Sink.contents g.E.Sink.failures c.args.self.now c.tell.new.self _ c.tell.ensures.told

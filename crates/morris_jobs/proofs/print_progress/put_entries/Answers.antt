@@ -1,6 +1,0 @@
-use Rattle.morris_board.proofs.PrinterLaws.{and_then}
-use Rattle.morris_jobs.proofs.print_progress.put_entries.Goals as goal
-
-pub returns : goal.returns
-returns g c =
-    and_then (and_then (and_then c.put_count.ensures c.put_count-2.ensures) (rw c.percent.ensures at c.put_count-3.ensures)) c.put.ensures
