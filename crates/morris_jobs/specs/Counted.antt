@@ -15,10 +15,6 @@ use Rattle.morris_jobs.specs.Faults.{Prints}
 
 -- ---- lines of text
 
--- `a-b S positions`, where S is how many positions the pair has
-abbrev pub pair_line : ℕ → Counts → List ℕ
-pair_line n pair = pair_text pair ++ (codes " " ++ decimal (size_of n pair)) ++ codes " positions\n"
-
 -- an even depth is lost, an odd one won
 abbrev pub depth_label : ℕ → List ℕ
 depth_label depth = if nat_eq (depth % 2) 0 then codes "lost in " else codes "won in "
@@ -32,19 +28,15 @@ depth_line depth count =
 unfoldable pub depth_lines : List ℕ → List ℕ
 depth_lines counts = flat_map (λ depth. depth_line depth (slice_index counts depth)) (range_with_len 0 (length counts))
 
--- `draw: K`, also where K is 0
-abbrev pub draw_line : ℕ → List ℕ
-draw_line count = number_line (codes "draw: ") count
-
 -- All of it, where `tallies` says how many positions have each code, from 0 up: the code 0 is a
--- draw, and any other code is one more than the depth.
+-- draw, and any other code is one more than the depth. First `a-b S positions`, where S is how many
+-- positions the pair has; then the depths; at last `draw: K`, also where K is 0.
 unfoldable pub stats_text : ℕ → Counts → List ℕ → List ℕ
-stats_text n pair tallies = pair_line n pair ++ depth_lines (drop 1 tallies) ++ draw_line (slice_index tallies 0)
+stats_text n pair tallies =
+    pair_text pair ++ (codes " " ++ decimal (size_of n pair)) ++ codes " positions\n" ++ depth_lines (drop 1 tallies)
+    ++ number_line (codes "draw: ") (slice_index tallies 0)
 
 -- ---- lines of fields
-
-abbrev pub csv_head : List ℕ
-csv_head = codes "own,other,result,depth,positions\n"
 
 -- how many stones the player to move has and how many the opponent, with a comma (44) between them,
 -- and a result
@@ -78,9 +70,11 @@ csv_half own other tallies =
 abbrev pub csv_lesser : Counts → List ℕ → List ℕ
 csv_lesser pair tallies = if nat_eq pair.greater pair.lesser then [] else csv_half pair.lesser pair.greater tallies
 
--- all of it: first the lesser number of stones of the player to move, then the greater one
+-- All of it: a line of the fields' names, then the lesser number of stones of the player to move, then
+-- the greater one.
 unfoldable pub csv_text : Counts → List ℕ → List ℕ → List ℕ
-csv_text pair lesser greater = csv_head ++ csv_lesser pair lesser ++ csv_half pair.greater pair.lesser greater
+csv_text pair lesser greater =
+    codes "own,other,result,depth,positions\n" ++ csv_lesser pair lesser ++ csv_half pair.greater pair.lesser greater
 
 -- ---- what is printed of entries
 
@@ -98,15 +92,12 @@ abbrev pub PrintsSome : {T : Type 0} → Shape → Counts → Bool → Option (L
 PrintsSome board pair false old new result = (tallies : List ℕ) × Prints old new (stats_text board.points pair tallies) result
 PrintsSome board pair true old new result = (lesser : List ℕ) × (greater : List ℕ) × Prints old new (csv_text pair lesser greater) result
 
--- what is printed of entries whose codes may be known: the codes that the entries of positions state
-abbrev pub PrintsStated : {T : Type 0} → Shape → CodedEntries → Bool → Option (List ℕ) → Option (List ℕ) → Result T Fault → Type 0
-PrintsStated board entries csv old new result =
-    PrintsSome board entries.pair csv old new result
-    × IfSome entries.stated (λ known. PrintsTallies board entries.pair csv (HasStated board (table_of entries known)) old new result)
-
--- What is answered of them: want of memory, or a code that can't be read, where that may be, with
--- nothing printed; otherwise their counts are printed.
+-- What is answered of entries whose codes may be known: want of memory, or a code that can't be read,
+-- where that may be, with nothing printed. Otherwise their counts are printed, by the codes that the
+-- entries of positions state.
 abbrev pub AnswersStated : {T : Type 0} → Shape → CodedEntries → Bool → Option (List ℕ) → Option (List ℕ) → Result T Fault → Type 0
 AnswersStated board entries csv old new result =
     ((result ≡ Err fault.Memory) × Keeps old new)
-    ⊎ (((result ≡ Err fault.Read) × (entries.unfailing ≡ false) × Keeps old new) ⊎ PrintsStated board entries csv old new result)
+    ⊎ (((result ≡ Err fault.Read) × (entries.unfailing ≡ false) × Keeps old new)
+    ⊎ (PrintsSome board entries.pair csv old new result
+    × IfSome entries.stated (λ known. PrintsTallies board entries.pair csv (HasStated board (table_of entries known)) old new result)))

@@ -1,5 +1,5 @@
 -- How many entries a command has to find.
-use Rattle.std.specs.Prelude.{ℕ, Bool, ◌&&◌, nat_eq, if◌then◌else◌}
+use Rattle.std.specs.Prelude.{ℕ, ◌&&◌, nat_eq, if◌then◌else◌}
 use Rattle.std.specs.List.{sum_by}
 use Rattle.morris_board.specs.Boards.{Shape}
 use Rattle.morris_index.specs.Pairs.{Counts, below_of}
@@ -8,17 +8,12 @@ use Rattle.morris_pairs.specs.Entries.{entry_count}
 use Rattle.morris_jobs.specs.declared.size.Way.{Way}
 use Rattle.morris_jobs.specs.declared.size.Way.TheVariants as way
 
--- two pairs have the same numbers of stones
-abbrev pub is_same : Counts → Counts → Bool
-is_same c d = nat_eq c.greater d.greater && nat_eq c.lesser d.lesser
-
 -- how many entries the table of a pair has in a layout; where the table of one pair is verified,
 -- that one has so many as its file has
 abbrev pub entries_of : Shape → ℕ → Layout → Counts → Way → Counts → ℕ
-entries_of board n l pair (way.Verified team entries) c = if is_same c pair then entries else entry_count board n l c
-entries_of board n l pair way.Swept c = entry_count board n l c
-entries_of board n l pair (way.Built team all) c = entry_count board n l c
-entries_of board n l pair way.Read c = entry_count board n l c
+entries_of board n l pair (way.Verified team entries) c =
+    if nat_eq c.greater pair.greater && nat_eq c.lesser pair.lesser then entries else entry_count board n l c
+entries_of board n l pair _ c = entry_count board n l c
 
 -- those of all pairs below a pair, its own among them
 abbrev pub entries_below : Shape → ℕ → Layout → Counts → Way → ℕ

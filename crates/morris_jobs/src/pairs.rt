@@ -29,6 +29,7 @@ pub fn read_pair<B: Geometry>(text: &str) -> Result<Pair<B>, Fault>
 }
 
 /// Puts numbers of stones, with a hyphen between them, into a buffer.
+#[tactic(auto, using(morris_board::proofs::PrinterLaws::takes_laws))]
 pub fn put_stones<S: Sink>(out: &mut Printer<'_, S>, greater: u8, lesser: u8)
     ensures { Takes S.contents S.failures out.old out.new (stones_text greater lesser) }
 {

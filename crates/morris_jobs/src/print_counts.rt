@@ -1,6 +1,8 @@
 //! How many positions of a pair have each value, printed piece by piece.
+#![tactic(auto, using(morris_board::proofs::PrinterLaws::takes_laws))]
+
 ghost use Rattle.std.specs.Prelude.{◌≡◌, ◌≤◌, length, drop, slice_index};
-ghost use Rattle.morris_jobs.specs.Counted.{csv_depth, csv_depths, csv_draw, csv_front, csv_half, csv_lesser, depth_label, depth_line, depth_lines, pair_line, stats_text};
+ghost use Rattle.morris_jobs.specs.Counted.{csv_depth, csv_depths, csv_draw, csv_front, csv_half, csv_lesser, depth_label, depth_line, depth_lines, stats_text};
 ghost use Rattle.morris_board.specs.Printers.{Takes};
 
 use crate::counts::{Halves, Tallied};
@@ -30,18 +32,11 @@ pub fn put_tallies<B: Geometry, S: Sink>(out: &mut Printer<'_, S>, pair: Pair<B>
     ensures { Takes S.contents S.failures out.old out.new (stats_text B.POINTS pair tallies.now) }
 {
     let (draws, decided) = draws_and_decided(tallies);
-    put_pair_line(out, pair);
-    put_depths(out, decided);
-    put_number_line(out, "draw: ", draws);
-}
-
-/// A pair and how many positions it has.
-fn put_pair_line<B: Geometry, S: Sink>(out: &mut Printer<'_, S>, pair: Pair<B>)
-    ensures { Takes S.contents S.failures out.old out.new (pair_line B.POINTS pair) }
-{
     put_pair(out, pair);
     put_count(out, " ", pair.size());
     out.put(" positions\n");
+    put_depths(out, decided);
+    put_number_line(out, "draw: ", draws);
 }
 
 /// How many positions have a depth, where there are any.
@@ -95,6 +90,7 @@ impl<B: Geometry> Printed for Halves<B> {
 
     ghost is_short = { λ halves. (length halves.lesser.items ≤ 2 ^ 16) × (length halves.greater.items ≤ 2 ^ 16) };
 
+    #[tactic(auto, using(crate::proofs::LengthLaws::csv_few))]
     fn put_into<S: Sink>(&self, out: &mut Printer<'_, S>) {
         out.put("own,other,result,depth,positions\n");
         put_lesser(out, self.pair, self.lesser.as_slice());
@@ -115,6 +111,7 @@ fn put_lesser<B: Geometry, S: Sink>(out: &mut Printer<'_, S>, pair: Pair<B>, tal
 }
 
 /// The lines of the positions with so many stones of the player to move, and of the opponent.
+#[tactic(auto, using(morris_board::proofs::PrinterLaws::takes_laws), unfolding(crate::specs::Counted::csv_half))]
 fn put_half<S: Sink>(out: &mut Printer<'_, S>, own: u8, other: u8, tallies: &[u64])
     ensures { Takes S.contents S.failures out.old out.new (csv_half own other tallies.now) }
 {

@@ -1,4 +1,6 @@
 //! What is printed of a fault.
+#![tactic(auto, using(morris_board::proofs::PrinterLaws::takes_laws))]
+
 ghost use Rattle.std.specs.Prelude.{◌≡◌, ◌≤◌, ◌^◌, length};
 ghost use Rattle.morris_jobs.specs.Faults.{fault_text, fault_words, own_text, said};
 ghost use Rattle.morris_board.specs.Printers.{Takes};
@@ -17,6 +19,7 @@ impl Printed for Fault {
 
     ghost bytes = { λ fault. fault_line fault };
 
+    #[tactic(auto, using(morris_board::proofs::PrinterLaws::takes_laws), unfolding(crate::specs::Faults::fault_line))]
     fn put_into<S: Sink>(&self, out: &mut Printer<'_, S>) {
         put_fault(out, *self);
         out.put("\n");

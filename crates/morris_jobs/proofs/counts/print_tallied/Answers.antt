@@ -1,8 +1,6 @@
 -- The text counts the positions of the pair.
-use Rattle.std.proofs.Common.{Err, false, inr, sym, ap, subst, ◌∙◌}
+use Rattle.std.proofs.Common.{Err, false, inr, ap, ◌∙◌}
 use Rattle.std.proofs.lemmas.Result.{err_from_is_err_and}
-use Rattle.morris_jobs.specs.Counted.{stats_text}
-use Rattle.morris_jobs.specs.Faults.{Prints}
 use Rattle.morris_jobs.proofs.CountedLaws.{refused_stated, some_map}
 use Rattle.morris_jobs.proofs.counts.print_tallied.Goals as goal
 
@@ -10,9 +8,7 @@ pub returns-clause-answer : goal.returns-clause-answer
 returns-clause-answer g c =
     let entries = c.args.entries.now in
     let tallied = c.in_ok-tallied.tallied in
-    let printed =
-    subst (λ n. Prints (g.S.Sink.contents c.args.output.now) (g.S.Sink.contents c.print.new.output) (stats_text n entries.pair tallied.tallies.items) c.print.result)
-    (sym g.met.B.Geometry.point_count) (rw c.in_ok-tallied.ensures.pair at c.print.ensures.shown) in
+    let printed = rw (c.in_ok-tallied.ensures.pair, ← g.met.B.Geometry.point_count) at c.print.ensures.shown in
     inr (inr (
       (tallied.tallies.items, printed),
       some_map entries.stated _ _ (λ known counted. (tallied.tallies.items, counted, printed)) c.in_ok-tallied.ensures.counted,

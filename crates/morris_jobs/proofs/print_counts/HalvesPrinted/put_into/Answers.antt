@@ -1,7 +1,5 @@
 use Rattle.morris_board.proofs.PrinterLaws.{and_then}
 use Rattle.morris_jobs.specs.Counted.{csv_text}
-use Rattle.std.proofs.Common.{arith}
-use Rattle.morris_jobs.proofs.LengthLaws.{csv_few}
 use Rattle.morris_jobs.proofs.print_counts.HalvesPrinted.put_into.Goals as goal
 
 pub returns-clause-takes : goal.returns-clause-takes
@@ -9,8 +7,3 @@ unfolding csv_text
 returns-clause-takes g c =
     let halves = c.args.self.now in
     and_then (and_then c.put.ensures (rw c.as_slice.ensures.value at c.put_lesser.ensures)) (rw (c.as_slice-2.ensures.value, c.greater-own.ensures.value, c.lesser-other.ensures.value) at c.put_half.ensures)
-
-pub returns-clause-few : goal.returns-clause-few
-returns-clause-few g c = λ short.
-    let it = c.args.self.now in
-    omega (arith, csv_few it.pair it.lesser.items it.greater.items short.0 short.1)

@@ -1,6 +1,0 @@
-use Rattle.morris_board.proofs.PrinterLaws.{and_then}
-use Rattle.morris_jobs.proofs.pairs.put_stones.Goals as goal
-
-pub returns : goal.returns
-returns g c =
-    and_then (rw c.from.ensures at c.put_number.ensures) c.put_signed.ensures
