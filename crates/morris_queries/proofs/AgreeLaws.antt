@@ -8,7 +8,7 @@ use Rattle.morris_board.specs.Positions.{Sides}
 use Rattle.morris_moves.specs.declared.step.Move.{Move}
 use Rattle.morris_moves.specs.Rules.{moves_of, result_of}
 use Rattle.morris_moves.specs.Values.{is_lost, is_won}
-use Rattle.morris_moves.proofs.ListLaws.{all_contained, contained_any, Contains-head, Contains-tail, Contains-cons_cases}
+use Rattle.morris_moves.proofs.ListLaws.{all_contained, contained_any, Contains-head, Contains-tail, Contains-cons_cases, Contains-map, Contains-map_cases}
 use Rattle.morris_moves.proofs.ValueLaws.{never_both}
 use Rattle.morris_pairs.specs.declared.value.Value.{Value}
 use Rattle.morris_pairs.specs.declared.value.Value.TheVariants.{Draw, Won, Lost}
@@ -130,21 +130,6 @@ module _ (board : Shape) (s : Sides) where
   at_most m c (Lost e) (Lost d) there here = absurd (never_both board s d (suc e) here.lost (won_by e m c there.lost))
 
   module _ (os : List Outcome) (listed : map (λ (o : Outcome). o.step) os ≡ moves_of board s) (lead : (o : Outcome) → Contains os o → LeadsTo board s o) where
-    step_of : (ps : List Outcome) (o : Outcome) → Contains ps o → Contains (map (λ (p : Outcome). p.step) ps) o.step
-    step_of [] o c = absurd (omega (arith, c.1))
-    step_of (p ∷ ps) o c = elim (Contains-cons_cases p ps o c) [
-      | inl is ↦
-          subst (λ (q : Outcome). Contains (p.step ∷ map (λ (x : Outcome). x.step) ps) q.step) is (Contains-head p.step (map (λ (x : Outcome). x.step) ps))
-      | inr later ↦ Contains-tail p.step (map (λ (x : Outcome). x.step) ps) o.step (step_of ps o later)
-    ]
-
-    of_step : (ps : List Outcome) (m : Move) → Contains (map (λ (p : Outcome). p.step) ps) m → (o : Outcome) × Contains ps o × (o.step ≡ m)
-    of_step [] m c = absurd (omega (arith, c.1))
-    of_step (p ∷ ps) m c = elim (Contains-cons_cases p.step (map (λ (x : Outcome). x.step) ps) m c) [
-      | inl is ↦ (p, Contains-head p ps, is)
-      | inr later ↦ let r = of_step ps m later in (r.0, Contains-tail p ps r.0 r.1, r.2)
-    ]
-
     -- the value follows from what the moves lead to
     pub follows : (value : Value) → IsValue board s value → HasValues board s (moves_of board s) → value_from os ≡ value
     unfolding is_lost
@@ -152,7 +137,7 @@ module _ (board : Shape) (s : Sides) where
         best_is value (Lost 0) os (least-lost value)
         (λ o c.
         let next = lead o c in
-        subst (λ v. AtMost v value) (sym next.2) (at_most o.step (subst (λ ms. Contains ms o.step) listed (step_of os o c)) next.0 value next.1 here))
+        subst (λ v. AtMost v value) (sym next.2) (at_most o.step (subst (λ ms. Contains ms o.step) listed (Contains-map (λ (p : Outcome). p.step) os o c)) next.0 value next.1 here))
         (some (moves_of board s) refl)
       where
         some : (ms : List Move) → moves_of board s ≡ ms → (Lost 0 ≡ value) ⊎ ((o : Outcome) × Contains os o × (o.value ≡ value))
@@ -162,7 +147,7 @@ module _ (board : Shape) (s : Sides) where
             inl (one_value board s (Lost 0) value over here)
         some (m ∷ ms) are =
             let b = some_best board s value here known m (subst (λ xs. Contains xs m) (sym are) (Contains-head m ms)) in
-            let o = of_step os b.0 (subst (λ xs. Contains xs b.0) (sym listed) b.1) in
+            let o = Contains-map_cases (λ (p : Outcome). p.step) os b.0 (subst (λ xs. Contains xs b.0) (sym listed) b.1) in
             let next = lead o.0 o.1 in
             let there : IsValue board (result_of s b.0) next.0 = subst (λ x. IsValue board (result_of s x) next.0) o.2 next.1 in
             let same : next.0 ≡ b.2.0 = one_value board (result_of s b.0) next.0 b.2.0 there b.2.2 in

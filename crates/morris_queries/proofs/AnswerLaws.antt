@@ -1,17 +1,17 @@
 -- What an answer is, and how what went out of one text, and then of the next, makes up what went
 -- out of both.
-use Rattle.std.proofs.Common.{◌≡◌, ℕ, ◌+◌, ◌-◌, ◌^◌, ◌<◌, ◌≤◌, min, List, [], ◌∷◌, ◌++◌, Bor, get_or, take, map, length, Option, Some, Result, Ok, Err, refl, sym, ap, subst, ◌∙◌, inl, inr, arith, length-append, append-nil, append_assoc}
-use Rattle.std.specs.Prelude.{IfOk, MatchResult, is_err, if◌then◌else◌}
+use Rattle.std.proofs.Common.{◌≡◌, ℕ, ◌+◌, ◌^◌, ◌<◌, ◌≤◌, List, [], ◌∷◌, ◌++◌, Bor, get_or, take, map, length, Option, Some, Result, Ok, Err, refl, sym, ap, subst, ◌∙◌, inl, inr, arith, length-append, append-nil, append_assoc}
+use Rattle.std.specs.Prelude.{IfOk, is_err, if◌then◌else◌}
 use Rattle.std.specs.Io.KnownBytes.{Appends}
 use Rattle.std.specs.List.{flat_map}
 use Rattle.std.proofs.KnownBytes.{Appends-trans}
 use Rattle.std.proofs.Math.Seq.{take-append-add}
-use Rattle.std.proofs.lemmas.List.{take-append-le, take_more, get_or-map, length-map}
+use Rattle.std.proofs.lemmas.List.{take_more, get_or-map, length-map, map-append}
 use Rattle.std.proofs.lemmas.Grind.{flat_map-append}
 use Rattle.std.proofs.lemmas.List.Elements.{Contains-push_cases}
 use Rattle.morris_board.specs.Boards.{Shape}
 use Rattle.morris_board.specs.Positions.{Sides, read_of}
-use Rattle.morris_board.specs.Streams.{AllSent, PartSent, HasSent, CountsFailure}
+use Rattle.morris_board.specs.Streams.{CountsFailure}
 use Rattle.morris_board.specs.declared.faults.TextFault.{TextFault}
 use Rattle.morris_board.specs.Printers.{WentOut}
 use Rattle.morris_files.specs.Files.{Files}
@@ -22,7 +22,8 @@ use Rattle.morris_queries.specs.declared.show.Show.TheVariants as show
 use Rattle.morris_jobs.specs.declared.fault.Fault.{Fault}
 use Rattle.morris_jobs.specs.declared.fault.Fault.TheVariants as fault
 use Rattle.morris_queries.specs.declared.texts.Tally.{Tally}
-use Rattle.morris_queries.specs.Answers.{Answer, IsAnswer, IsExactAnswer, Given, AreGiven, AreOut, ArePartOut, AnswersText, AnswersTexts, Begins, WentIn, IsTallied, counted_to, printed_of, refused_in}
+use Rattle.morris_queries.specs.Answers.{Answer, IsAnswer, IsExactAnswer, Given, AreGiven, AreOut, AnswersText, AnswersTexts, Begins, WentIn, IsTallied, counted_to, printed_of, refused_in}
+use Rattle.morris_queries.specs.LineAnswers.{StopsIn}
 use Rattle.morris_queries.specs.Printing.{answer_text, head_text}
 use Rattle.morris_queries.specs.Exactness.{AreExactIn}
 use Rattle.morris_queries.specs.Telling.{Agrees, IsListed, told_to, told_text, told_shown}
@@ -58,49 +59,9 @@ answer_told board name known show text s answer e legal told exact = record {
 
 -- ---- what went out
 
-none_before : (n : ℕ) → n - 0 ≡ n
-none_before n = omega arith
-
--- by the count of its bytes, where none were before
-pub sent_whole : (old new : Option (List ℕ)) (text : List ℕ) (r : Result ℕ ℕ) → WentOut old new text r → IfOk r (λ sent. sent ≡ length text) → HasSent old new 0 text r
-sent_whole old new text (Ok sent) out whole =
-    let all : sent ≡ length text = whole in
-    record { count = omega (arith, all); appended = out }
-sent_whole old new text (Err sent) out whole = record {
-  more = omega arith;
-  short = omega (arith, out.0);
-  appended = subst (λ n. Appends old new (take n text)) (sym (none_before sent)) out.1;
-}
-
-pub few_sent : (old new : Option (List ℕ)) (text : List ℕ) (r : Result ℕ ℕ) → WentOut old new text r → IfOk r (λ sent. sent ≡ length text) → length text < 2 ^ 63
-    → MatchResult r (λ sent. sent < 2 ^ 63) (λ sent. sent < 2 ^ 64)
-few_sent old new text (Ok sent) out whole few =
-    let all : sent ≡ length text = whole in
-    omega (arith, all, few)
-few_sent old new text (Err sent) out whole few = omega (arith, out.0, few)
-
--- one whole text, and then a part of the next
-pub part_more : (old mid new : Option (List ℕ)) (t u : List ℕ) (a b total : ℕ) → AllSent old mid 0 a t → PartSent mid new 0 b u
-    → total ≡ min (a + b) (2 ^ 64 - 1) → WentIn old new (t ++ u) total
-part_more old mid new t u a b total first second is =
-    let part : Appends mid new (take b u) = subst (λ n. Appends mid new (take n u)) (none_before b) second.appended in
-    let count : a ≡ length t = omega (arith, first.count) in (
-      length t + b,
-      omega (arith, length-append t u, second.short),
-      subst (Appends old new) (sym (take-append-add t u b)) (Appends-trans old mid new t (take b u) first.appended part),
-      is ∙ ap (λ n. min (n + b) (2 ^ 64 - 1)) count,
-    )
-
--- a part of the first alone
-pub part_first : (old new : Option (List ℕ)) (t u : List ℕ) (a : ℕ) → PartSent old new 0 a t → a < 2 ^ 64 → WentIn old new (t ++ u) a
-part_first old new t u a part low =
-    let within : a ≤ length t = omega (arith, part.short) in
-    let front : Appends old new (take a t) = subst (λ n. Appends old new (take n t)) (none_before a) part.appended in (
-      a,
-      omega (arith, length-append t u, part.short),
-      subst (Appends old new) (sym (take-append-le a t u within)) front,
-      omega (arith, low),
-    )
+-- the first bytes of a text, of which there are few enough to be counted
+pub went_in : (old new : Option (List ℕ)) (text : List ℕ) (sent : ℕ) → WentOut {T = ℕ} old new text (Err sent) → length text < 2 ^ 63 → WentIn old new text sent
+went_in old new text sent out few = (sent, out.0, out.1, omega (arith, out.0, few))
 
 -- ---- texts that were answered
 
@@ -130,16 +91,12 @@ module _ (board : Shape) (name : List ℕ) (known : Option Files) (show : Show) 
   given_more : (texts : List (List ℕ)) (text : List ℕ) (given : Given) (answer : Answer) → AreGiven board name known show texts given
       → IsAnswer board name known show text answer → AreGiven board name known show (texts ++ text ∷ []) (given ++ (text, answer) ∷ [])
   given_more texts text given answer are is = record {
-    listed = texts_of given ∙ ap (λ ts. ts ++ text ∷ []) are.listed;
+    listed = map-append (λ (g : List ℕ × Answer). g.0) given ((text, answer) ∷ []) ∙ ap (λ ts. ts ++ text ∷ []) are.listed;
     each = λ g c. elim (Contains-push_cases given (text, answer) g c) [
       | inl earlier ↦ are.each g earlier
       | inr same ↦ subst (λ (h : List ℕ × Answer). IsAnswer board name known show h.0 h.1) same is
     ];
   }
-    where
-      texts_of : (gs : Given) → map (λ (g : List ℕ × Answer). g.0) (gs ++ (text, answer) ∷ []) ≡ map (λ (g : List ℕ × Answer). g.0) gs ++ text ∷ []
-      texts_of [] = refl
-      texts_of (g ∷ gs) = ap (λ ts. g.0 ∷ ts) (texts_of gs)
 
   printed_more : (given : Given) (text : List ℕ) (answer : Answer)
       → printed_of board show (given ++ (text, answer) ∷ []) ≡ printed_of board show given ++ answer_text board show text answer
@@ -157,10 +114,49 @@ module _ (board : Shape) (name : List ℕ) (known : Option Files) (show : Show) 
   counts : (was n one m now : ℕ) → was ≡ counted_to n → now ≡ counted_to (was + one) → m ≡ n + one → now ≡ counted_to m
   counts was n one m now was_is now_is m_is = omega (arith, was_is, now_is, m_is)
 
-  pub out_more : (texts : List (List ℕ)) (text : List ℕ) (old mid new : Option (List ℕ)) (before after : Tally) (done : Answered) (result : Result (Unit {0}) Fault)
-      → AreOut board name known show texts old mid before → AnswersText board name known show text mid new (Ok done) → IsTallied before after (Ok done) result
-      → AreOut board name known show (texts ++ text ∷ []) old new after
-  out_more texts text old mid new before after done result all next tallied =
+  -- where a write of the next answer failed, it stops among texts that begin with these
+  pub texts_stopped : (all texts : List (List ℕ)) (n : ℕ) (text : List ℕ) (old mid new : Option (List ℕ)) (before after : Tally) (answered : Result Answered ℕ) (refusal : Fault)
+      → AreOut board name known show texts old mid before → AnswersText board name known show text mid new answered
+      → IsTallied before after answered (Err refusal) → take n all ≡ texts ++ text ∷ [] → StopsIn board name known show all old new refusal
+  texts_stopped all texts n text old mid new before after (Ok done) refusal out next tallied step = let no : Err refusal ≡ Ok tt = tallied.0 in cc
+  texts_stopped all texts n text old mid new before after (Err sent) refusal out next tallied step =
+      let answer : Answer = next.0 in
+      let whole : List ℕ = answer_text board show text answer in
+      let given : Given = out.given ++ (text, answer) ∷ [] in
+      let printed : List ℕ = printed_of board show out.given in
+      let went : ℕ = next.2.0 in
+      let is : fault.Write (counted_to (before.sent + sent)) ≡ refusal = cc in
+      let more : length (printed_of board show given) ≡ length printed + length whole = ap length (printed_more out.given text answer) ∙ length-append printed whole in
+      subst (StopsIn board name known show all old new) is (
+        n,
+        given,
+        subst (λ ts. AreGiven board name known show ts given) (sym step) (given_more texts text out.given answer out.are next.1),
+        (
+          length printed + went,
+          omega (arith, more, next.2.1),
+          subst (λ ys. Appends old new (take (length printed + went) ys)) (sym (printed_more out.given text answer))
+              (subst (Appends old new) (sym (take-append-add printed whole went)) (Appends-trans old mid new printed (take went whole) out.out next.2.2)),
+          omega (arith, out.sent, next.2.3),
+        ),
+      )
+
+  -- what stops among texts is answered of them
+  pub stopped_texts : (texts : List (List ℕ)) (old new : Option (List ℕ)) (refusal : Fault) → StopsIn board name known show texts old new refusal
+      → AnswersTexts board name known show texts old new (Err refusal)
+  stopped_texts texts old new (fault.Write sent) h = h
+  stopped_texts texts old new _ h = absurd h
+
+  -- the answers to all texts went out
+  pub all_out : (texts : List (List ℕ)) (old new : Option (List ℕ)) (tally : Tally) → AreOut board name known show texts old new tally
+      → AnswersTexts board name known show texts old new (Ok tally.refused)
+  all_out texts old new tally h = (h.given, h.are, h.out, h.refused)
+
+  -- where none failed, the answers to one text more are out
+  pub texts_more : (texts : List (List ℕ)) (text : List ℕ) (old mid new : Option (List ℕ)) (before after : Tally) (answered : Result Answered ℕ)
+      → AreOut board name known show texts old mid before → AnswersText board name known show text mid new answered
+      → IsTallied before after answered (Ok tt) → AreOut board name known show (texts ++ text ∷ []) old new after
+  texts_more texts text old mid new before after (Err sent) all next tallied = cc
+  texts_more texts text old mid new before after (Ok done) all next tallied =
       let answer : Answer = next.0 in
       let whole : List ℕ = answer_text board show text answer in
       record {
@@ -173,46 +169,6 @@ module _ (board : Shape) (name : List ℕ) (known : Option Files) (show : Show) 
             counts (before.refused) (refused_in all.given) (if is_err answer then 1 else 0) (refused_in (all.given ++ (text, answer) ∷ [])) after.refused all.refused now
             (refused_more all.given text answer);
       }
-
-  pub out_failed : (texts : List (List ℕ)) (text : List ℕ) (old mid new : Option (List ℕ)) (before : Tally) (sent : ℕ)
-      → AreOut board name known show texts old mid before → AnswersText board name known show text mid new (Err sent)
-      → ArePartOut board name known show (texts ++ text ∷ []) old new (counted_to (before.sent + sent))
-  out_failed texts text old mid new before sent all next =
-      let answer : Answer = next.0 in
-      let whole : List ℕ = answer_text board show text answer in
-      let printed : List ℕ = printed_of board show all.given in
-      let went : ℕ = next.2.0 in
-      let more : length (printed_of board show (all.given ++ (text, answer) ∷ [])) ≡ length printed + length whole =
-      ap length (printed_more all.given text answer) ∙ length-append printed whole in (
-        all.given ++ (text, answer) ∷ [],
-        given_more texts text all.given answer all.are next.1,
-        (
-          length printed + went,
-          omega (arith, more, next.2.1),
-          subst (λ ys. Appends old new (take (length printed + went) ys)) (sym (printed_more all.given text answer))
-              (subst (Appends old new) (sym (take-append-add printed whole went)) (Appends-trans old mid new printed (take went whole) all.out next.2.2)),
-          omega (arith, all.sent, next.2.3),
-        ),
-      )
-
-  -- where the calls for the texts end at a write that failed
-  pub texts_stopped : (texts : List (List ℕ)) (i : ℕ) (text : List ℕ) (old mid new : Option (List ℕ)) (before after : Tally) (answered : Result Answered ℕ) (refusal : Fault)
-      → AreOut board name known show (take i texts) old mid before → AnswersText board name known show text mid new answered
-      → IsTallied before after answered (Err refusal) → take (i + 1) texts ≡ take i texts ++ text ∷ []
-      → AnswersTexts board name known show texts old new (Err refusal)
-  texts_stopped texts i text old mid new before after (Ok done) refusal all next tallied step = let no : Err refusal ≡ Ok tt = tallied.0 in cc
-  texts_stopped texts i text old mid new before after (Err sent) refusal all next tallied step =
-      let is : fault.Write (counted_to (before.sent + sent)) ≡ refusal = cc in
-      let part : ArePartOut board name known show (take (i + 1) texts) old new (counted_to (before.sent + sent)) =
-      subst (λ ts. ArePartOut board name known show ts old new (counted_to (before.sent + sent))) (sym step) (out_failed (take i texts) text old mid new before sent all next) in
-      subst (λ r. AnswersTexts board name known show texts old new (Err r)) is (i + 1, part.0, part.1, part.2)
-
-  -- and where they go on
-  pub texts_more : (texts : List (List ℕ)) (text : List ℕ) (old mid new : Option (List ℕ)) (before after : Tally) (answered : Result Answered ℕ)
-      → AreOut board name known show texts old mid before → AnswersText board name known show text mid new answered
-      → IsTallied before after answered (Ok tt) → AreOut board name known show (texts ++ text ∷ []) old new after
-  texts_more texts text old mid new before after (Ok done) all next tallied = out_more texts text old mid new before after done (Ok tt) all next tallied
-  texts_more texts text old mid new before after (Err sent) all next tallied = cc
 
 -- the failures of the sink, after what was counted of the next text
 pub counts_stopped : (T : Type 0) (old mid new : ℕ) (before after : Tally) (answered : Result Answered ℕ) (refusal : Fault) → mid ≡ old → CountsFailure mid new answered

@@ -14,18 +14,18 @@ use Rattle.morris_queries.specs.declared.ask.Question.TheVariants.{Counts as Cou
 use Rattle.morris_queries.specs.declared.library.Unfound.{Unfound}
 use Rattle.morris_queries.specs.declared.library.Unfound.TheVariants as unfound
 use Rattle.morris_queries.specs.Libraries.{find_fault}
-use Rattle.morris_queries.specs.Telling.{IsRefusal, table_in}
+use Rattle.morris_queries.specs.Telling.{Agrees, table_in}
 
 -- that it is refused by the file, or memory was refused
 pub file_refused : {T : Type 0} (board : Shape) (name : List ℕ) (known : Option Files) (pair : Counts) (question : Question) (output : Option (List ℕ))
     (r : Result T Fault) (refused : Fault) → r ≡ Err refused
-    → ((files : Files) → known ≡ Some files → IsRefusal refused (table_in board name files pair)) → AnswersFrom board name known pair question output output r
+    → ((files : Files) → known ≡ Some files → Agrees (Err refused) (table_in board name files pair)) → AnswersFrom board name known pair question output output r
 file_refused board name None pair question output r refused is why =
     inr (inr (inl (refused, is, (λ files same. let bad : None ≡ Some files = same in cc), Keeps-refl output)))
 file_refused board name (Some files) pair question output r refused is why =
     elim (why files refl) [
       | inl found ↦ inr (inr (inl (refused, is, (λ other same. let here : files ≡ other = cc in rw (← here) found), Keeps-refl output)))
-      | inr memory ↦ inr (inl (rw memory at is, Keeps-refl output))
+      | inr e ↦ let memory : refused ≡ fault.Memory = cc in inr (inl (rw memory at is, Keeps-refl output))
     ]
 
 -- memory was refused before anything was printed

@@ -14,28 +14,23 @@ use Rattle.morris_board.proofs.LengthLaws.{flat_map_few}
 use Rattle.morris_board.proofs.PrinterLaws.{all_counted, all_told, ends}
 use Rattle.morris_index.specs.Pairs.{IsPair}
 use Rattle.morris_pairs.specs.Counting.{AreTallies, AreTalliesOf, CodedEntries, table_of}
-use Rattle.morris_pairs.specs.Entries.{entry_count, entry_index}
+use Rattle.morris_pairs.specs.Entries.{entry_count}
 use Rattle.morris_pairs.specs.declared.counting.CountFault.{CountFault}
 use Rattle.morris_pairs.specs.declared.counting.CountFault.TheVariants as count
 use Rattle.morris_probe.specs.Lines.{line, number_line}
 use Rattle.morris_probe.proofs.LengthLaws.{text_few}
 use Rattle.morris_jobs.specs.declared.fault.Fault.{Fault}
 use Rattle.morris_jobs.specs.declared.fault.Fault.TheVariants as fault
-use Rattle.morris_jobs.specs.Faults.{Prints, count_fault}
+use Rattle.morris_jobs.specs.Faults.{CountsWrites, Prints, count_fault}
 use Rattle.morris_jobs.proofs.CountedLaws.{both_some, some_map}
 use Rattle.morris_queries.specs.declared.find.Shown.{Shown}
 use Rattle.morris_queries.specs.declared.find.Shown.TheVariants.{Count, Texts}
 use Rattle.morris_queries.specs.declared.wanted.Kind.{Kind}
 use Rattle.morris_queries.specs.declared.wanted.Wanted.{Wanted}
 use Rattle.morris_queries.specs.declared.wanted.Wanted.TheVariants.{Deepest, Every}
-use Rattle.morris_queries.specs.Found.{AnswersFind, AreFoundTo, AreKinds, AreOfBoth, IsStated, PrintsBefore, PutsKinds, found_text, has_shown, kind_sum}
+use Rattle.morris_queries.specs.Found.{AnswersFind, AreKinds, PrintsBefore, PutsKinds, ended, found_text, has_shown, kind_sum}
 use Rattle.morris_queries.specs.Wanted.{AreKindsBy}
-use Rattle.morris_queries.proofs.FoundLaws.{Takes-failed, many_both, tallied_shown, to_all, to_some}
-
-not_ok : (T E P : Type 0) (failed : E) → IsOk {T = T} (Err failed) → P
-not_ok T E P failed ok =
-    let bad : false ≡ true = ok in
-    cc
+use Rattle.morris_queries.proofs.FoundLaws.{Takes-failed, many_both, not_ok, tallied_shown}
 
 -- why positions aren't counted: want of memory, or a code that can't be read
 pub refused_find : {T A : Type 0} (board : Shape) (entries : CodedEntries) (all : Bool) (wanted : Wanted) (shown : Shown) (output : Option (List ℕ)) (r : Result T Fault)
@@ -89,15 +84,18 @@ well_told : (failed : Bool) (n sent : ℕ) → ◌≡◌ {A = Result ℕ ℕ} (i
 well_told false n sent is = refl
 well_told true n sent is = cc
 
+-- what was counted of the writes
+pub ended_counted : (old new : ℕ) (told : Result ℕ ℕ) (read : Result (Unit {0}) Failed) → CountsFailure old new told → CountsWrites old new (ended told read)
+ended_counted old new (Err sent) read h = h
+ended_counted old new (Ok sent) (Err why) h = h
+ended_counted old new (Ok sent) (Ok done) h = h
+
 module _ {S : Type 0} (contents : S → Option (List ℕ)) (failures : S → ℕ) (board : Shape) (points : board.points ≤ 24) (entries : CodedEntries) (all : Bool)
-    (wanted : Wanted) (kinds : Option Kind × Option Kind) (most : ℕ) {U : Type 0} (r : Result U Failed) (a m b : Printer S) (new : IsNew a)
+    (wanted : Wanted) (kinds : Option Kind × Option Kind) (most : ℕ) (r : Result (Unit {0}) Failed) (a m b : Printer S) (new : IsNew a)
     (are : IfSome entries.stated (λ known. AreKinds (has_shown board (table_of entries known) all) wanted kinds))
     (put : PutsKinds contents failures board entries all kinds most a m r) (last : Takes contents failures m b []) (empty : held_of b ≡ []) where
   abbrev text : List ℕ
   text = found_text board put.positions
-
-  abbrev of_both : List ℕ → ℕ → List Sides → Type 0
-  of_both known n ps = AreOfBoth (IsStated board (table_of entries known) all) (entry_index board board.points entries.layout entries.pair) n kinds ps
 
   went : (told : Result ℕ ℕ) → told ≡ told_of b → WentOut (contents (sink_of a)) (contents (sink_of b)) text told
   went told is =
@@ -112,59 +110,32 @@ module _ {S : Type 0} (contents : S → Option (List ℕ)) (failures : S → ℕ
     | inr well ↦ well
   ]
 
-  -- all that are found went out
-  pub texts_answered : {T : Type 0} (done : T) (found : U) (sent : ℕ) → r ≡ Ok found → Ok sent ≡ told_of b
-      → AnswersFind board entries all wanted (Texts most) (contents (sink_of a)) (contents (sink_of b)) (Ok done)
-  texts_answered done found sent whole is =
-      let out = went (Ok sent) is in
-      inr (inr (
-        (put.positions, out),
-        both_some entries.stated _ _ _
-            (λ known of both. (
-              kinds,
-              most,
-              put.positions,
-              of,
-              omega arith,
-              (λ ok. refl),
-              to_all (of_both known) most put.positions found (failed_of m) (unfailed sent is)
-                  (subst (λ (q : Result U Failed). AreFoundTo (of_both known) most put.positions q (failed_of m)) whole both),
-              out,
-            )) are put.found,
-      ))
+  abbrev Answered : Result (Unit {0}) Fault → Type 0
+  Answered result = AnswersFind board entries all wanted (Texts most) (contents (sink_of a)) (contents (sink_of b)) result
 
-  -- those went out that were found before a code that can't be read
-  pub read_answered : {T : Type 0} (sent : ℕ) → (entries.unfailing ≡ true → ⊥) → Ok sent ≡ told_of b
-      → AnswersFind {T = T} board entries all wanted (Texts most) (contents (sink_of a)) (contents (sink_of b)) (Err fault.Read)
-  read_answered sent sure is =
-      inr (inl (
+  -- the texts of all that are found, or the first bytes of these
+  printed : (result : Result (Unit {0}) Fault) → Prints (contents (sink_of a)) (contents (sink_of b)) text result → (IsOk result → IsOk r × (failed_of m ≡ false)) → Answered result
+  printed result out whole = inr (inr (
+    (put.positions, out),
+    both_some entries.stated _ _ _
+        (λ known of part. (kinds, part.0, put.positions, of, part.1, (λ ok. let all_read = whole ok in part.2 all_read.0 all_read.1), part.3, out)) are put.found,
+  ))
+
+  -- what is answered, where a code can't be read only if a read may fail
+  pub texts_answered : (told : Result ℕ ℕ) → told ≡ told_of b → (entries.unfailing ≡ true → IsOk r) → Answered (ended told r)
+  texts_answered told is sure = by told r is refl
+    where
+      by : (q : Result ℕ ℕ) (p : Result (Unit {0}) Failed) → q ≡ told_of b → r ≡ p → Answered (ended q p)
+      by (Err sent) p is same = printed (Err (fault.Write sent)) (went (Err sent) is) (λ ok. not_ok (Unit {0}) Fault _ (fault.Write sent) ok)
+      by (Ok sent) (Err why) is same = inr (inl (
         refl,
-        false_from_ne_true entries.unfailing sure,
-        inr (
-          put.positions,
-          went (Ok sent) is,
-          both_some entries.stated _ _ _
-              (λ known of both.
-              let part = to_some (of_both known) most put.positions r (failed_of m) both in
-              (kinds, part.0, of, part.1, part.2)) are put.found,
-        ),
+        false_from_ne_true entries.unfailing (λ unfailing. not_ok (Unit {0}) Failed _ why (subst (λ p. IsOk p) same (sure unfailing))),
+        inr (put.positions, went (Ok sent) is, both_some entries.stated _ _ _ (λ known of part. (kinds, part.0, of, part.1, part.3)) are put.found),
       ))
+      by (Ok sent) (Ok done) is same = printed (Ok tt) (went (Ok sent) is) (λ ok. (subst (λ p. IsOk p) (sym same) refl, unfailed sent is))
 
-  -- the first bytes of what is found went out
-  pub write_answered : {T : Type 0} (sent : ℕ) → Err sent ≡ told_of b
-      → AnswersFind {T = T} board entries all wanted (Texts most) (contents (sink_of a)) (contents (sink_of b)) (Err (fault.Write sent))
-  write_answered {T} sent is =
-      let out = went (Err sent) is in
-      inr (inr (
-        (put.positions, out),
-        both_some entries.stated _ _ _
-            (λ known of both.
-            let part = to_some (of_both known) most put.positions r (failed_of m) both in
-            (kinds, part.0, put.positions, of, part.1, not_ok T Fault _ (fault.Write sent), part.2, out)) are put.found,
-      ))
-
-  -- a write that failed is counted
-  pub told_counted : (told : Result ℕ ℕ) → failures (sink_of a) < 2 ^ 64 - 1 → told ≡ told_of b → CountsFailure (failures (sink_of a)) (failures (sink_of b)) told
-  told_counted told room is =
-      subst (λ (q : Result ℕ ℕ). CountsFailure (failures (sink_of a)) (failures (sink_of b)) q) (sym is)
-      (all_counted contents failures a b text new empty room (ends put.takes last))
+  pub texts_counted : (told : Result ℕ ℕ) → failures (sink_of a) < 2 ^ 64 - 1 → told ≡ told_of b → CountsWrites (failures (sink_of a)) (failures (sink_of b)) (ended told r)
+  texts_counted told room is =
+      ended_counted (failures (sink_of a)) (failures (sink_of b)) told r
+      (subst (λ (q : Result ℕ ℕ). CountsFailure (failures (sink_of a)) (failures (sink_of b)) q) (sym is)
+      (all_counted contents failures a b text new empty room (ends put.takes last)))

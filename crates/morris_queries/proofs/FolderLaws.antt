@@ -49,7 +49,7 @@ module _ {B L F : Type 0} (board : Shape) (files_of : L → Option Files) where
           named = name ∙ m.named;
           found = ap files_of library ∙ m.found;
           opened =
-              of_more board n known known mid.tables.now new.tables.now file refl m.opened
+              of_more board n known mid.tables.now new.tables.now file m.opened
               (λ files is. this n files (known_as n known files old is of)) here others;
         };
   }

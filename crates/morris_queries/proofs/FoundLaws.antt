@@ -1,10 +1,10 @@
 -- The positions that are found, entry by entry, and how many there are, code by code.
-use Rattle.std.proofs.Common.{◌≡◌, ◌≢◌, ◌↔◌, ◌⊎◌, ℕ, ◌+◌, ◌-◌, ◌<◌, ◌≤◌, zero, suc, Bool, true, false, List, [], ◌∷◌, ◌++◌, length, take, drop, get_or, refl, sym, ap, append-nil, append_assoc, Option, Some, None, Result, Ok, Err, ◌∙◌, subst, inl, inr, arith}
+use Rattle.std.proofs.Common.{◌≡◌, ◌≢◌, ◌↔◌, ◌⊎◌, ℕ, ◌+◌, ◌-◌, ◌<◌, ◌≤◌, zero, suc, Bool, true, false, List, [], ◌∷◌, ◌++◌, length, take, drop, get_or, refl, sym, ap, append-nil, Option, Some, None, Result, Ok, Err, ◌∙◌, subst, inl, inr, arith}
 use Rattle.std.specs.List.{AllPairs, Contains, flat_map, range_with_len, sum_by}
-use Rattle.std.specs.Prelude.{IfSome, if◌then◌else◌}
+use Rattle.std.specs.Prelude.{IfSome, IsOk, if◌then◌else◌}
 use Rattle.std.proofs.lemmas.Bool.{cases_Bool, cases_eq, cases_lt}
 use Rattle.std.proofs.lemmas.Grind.{flat_map-append}
-use Rattle.std.proofs.lemmas.List.{get_or_append_left, get_or_past, length-append, length-drop, length-take, take-append-drop, take-append-le, take_all}
+use Rattle.std.proofs.lemmas.List.{get_or_append_left, get_or_past, length-append, length-drop, length-take, take-append-drop, take_all}
 use Rattle.std.proofs.lemmas.List.Elements.{Contains-append_cases, Contains-append_left, Contains-append_right, Contains-get_or, Contains-push, Contains-push_cases}
 use Rattle.std.proofs.lemmas.List.FromFn.{sum_by-map-range_with_len_more}
 use Rattle.std.proofs.lemmas.List.Sums.{sum-map}
@@ -198,54 +198,10 @@ pub found_text-append : (board : Shape) (ps qs : List Sides) → found_text boar
 unfolding found_text
 found_text-append board ps qs = flat_map-append (λ s. line (text_of board s)) ps qs
 
--- as many of a list as there may be, where there are more than those so far
-take_push : {X : Type 0} (most : ℕ) (ys : List X) (x : X) (rest : List X) → length ys < most
-    → take most (ys ++ (x ∷ rest)) ≡ ys ++ (x ∷ take (most - (length ys + 1)) rest)
-take_push zero ys x rest low = absurd (omega (arith, low))
-take_push (suc m) [] x rest low =
-    let left : m ≡ suc m - 1 = omega arith in
-    ap (λ k. x ∷ take k rest) left
-take_push (suc m) (y ∷ ys) x rest low =
-    let left : m - (length ys + 1) ≡ suc m - (suc (length ys) + 1) = omega arith in
-    ap (λ zs. y ∷ zs) (take_push m ys x rest (omega (arith, low)) ∙ ap (λ k. ys ++ (x ∷ take k rest)) left)
-
--- their texts are those of the ones so far, of the next one, and of the others
-pub falls_split : (board : Shape) (most : ℕ) (ys : List Sides) (x : Sides) (rest : List Sides) → length ys < most
-    → found_text board (take most (ys ++ (x ∷ rest)))
-    ≡ found_text board (take most ys) ++ line (text_of board x) ++ found_text board (take (most - (length ys + 1)) rest)
+-- of some and one more
+pub found_text-push : (board : Shape) (ps : List Sides) (p : Sides) → found_text board (ps ++ p ∷ []) ≡ found_text board ps ++ line (text_of board p)
 unfolding found_text
-falls_split board most ys x rest low =
-    let others : List Sides = take (most - (length ys + 1)) rest in
-    ap (found_text board) (take_push most ys x rest low)
-    ∙ (found_text-append board ys (x ∷ others)
-    ∙ (sym (append_assoc (found_text board ys) (line (text_of board x)) (found_text board others))
-    ∙ ap (λ ps. found_text board ps ++ line (text_of board x) ++ found_text board others) (sym (take_all most ys (omega (arith, low))))))
-
-pub falls_more : (board : Shape) (most : ℕ) (ys : List Sides) (x : Sides) → length ys < most
-    → found_text board (take most ys) ++ line (text_of board x) ≡ found_text board (take most (ys ++ (x ∷ [])))
-unfolding found_text
-falls_more board most ys x low =
-    let others : List Sides = take (most - (length ys + 1)) [] in
-    let none : length others ≡ 0 = omega (arith, length-take {A = Sides} (most - (length ys + 1)) []) in
-    sym (falls_split board most ys x [] low ∙ no_more others none)
-  where
-    no_more : (zs : List Sides) → length zs ≡ 0
-        → found_text board (take most ys) ++ line (text_of board x) ++ found_text board zs ≡ found_text board (take most ys) ++ line (text_of board x)
-    no_more [] none = append-nil (found_text board (take most ys) ++ line (text_of board x))
-    no_more (z ∷ zs) none = absurd (omega (arith, none))
-
--- no position, no text
-pub no_texts : (board : Shape) (most : ℕ) → found_text board (take most []) ≡ []
-unfolding found_text
-no_texts board most = nothing (take most []) (omega (arith, length-take {A = Sides} most []))
-  where
-    nothing : (zs : List Sides) → length zs ≡ 0 → flat_map (λ s. line (text_of board s)) zs ≡ []
-    nothing [] none = refl
-    nothing (z ∷ zs) none = absurd (omega (arith, none))
-
--- where there are enough, they are the first of all
-pub falls_enough : (board : Shape) (most : ℕ) (ys rest : List Sides) → most ≤ length ys → found_text board (take most (ys ++ rest)) ≡ found_text board (take most ys)
-falls_enough board most ys rest full = ap (found_text board) (take-append-le most ys rest full)
+found_text-push board ps p = found_text-append board ps (p ∷ []) ∙ ap (λ text. found_text board ps ++ text) (append-nil (line (text_of board p)))
 
 -- the position that has an entry for its own is the only one that is shown, where no other is asked
 -- for or each has an entry of its own
@@ -447,16 +403,11 @@ module _ (asked : Kind → Sides → Type 0) (entry : Sides → ℕ) where
   }
 
   module _ (kinds : Option Kind × Option Kind) (most : ℕ) where
-    pub both_whole : (ps qs : List Sides) → AreOf asked entry most kinds.0 ps → AreOf asked entry (most - length ps) kinds.1 qs
-        → AreOfBoth asked entry most kinds (ps ++ qs)
-    both_whole ps qs first second = record { first = ps; second = qs; split = refl; of_first = first; of_second = second }
-
     -- some of the first kind alone
-    pub both_first : (n : ℕ) (ps : List Sides) → n ≤ most → AreOf asked entry n kinds.0 ps → (m : ℕ) × (m ≤ most) × AreOfBoth asked entry m kinds ps
+    pub both_first : (n : ℕ) (ps : List Sides) → n ≤ most → AreOf asked entry n kinds.0 ps → (length ps ≤ most) × AreOfBoth asked entry (length ps) kinds ps
     both_first n ps less h =
         let few : length ps ≤ n = are_few kinds.0 n ps h in
         let none : 0 ≡ length ps - length ps = omega arith in (
-          length ps,
           omega (arith, few, less),
           record {
             first = ps;
@@ -469,11 +420,10 @@ module _ (asked : Kind → Sides → Type 0) (entry : Sides → ℕ) where
 
     -- all of the first kind, and some of the second
     pub both_part : (n : ℕ) (ps qs : List Sides) → AreOf asked entry most kinds.0 ps → n ≤ most - length ps → AreOf asked entry n kinds.1 qs
-        → (m : ℕ) × (m ≤ most) × AreOfBoth asked entry m kinds (ps ++ qs)
+        → (length ps + n ≤ most) × AreOfBoth asked entry (length ps + n) kinds (ps ++ qs)
     both_part n ps qs first less second =
         let few : length ps ≤ most = are_few kinds.0 most ps first in
         let left : n ≡ length ps + n - length ps = omega arith in (
-          length ps + n,
           omega (arith, few, less),
           record {
             first = ps;
@@ -486,26 +436,17 @@ module _ (asked : Kind → Sides → Type 0) (entry : Sides → ℕ) where
 
 -- ---- as many as there may be, or the first of them
 
-module _ {T : Type 0} (are : ℕ → List Sides → Type 0) (most : ℕ) (ps : List Sides) where
-  -- all of them, whether or not a write failed
-  pub all_to : (done : T) (failed : Bool) → are most ps → AreFoundTo are most ps (Ok done) failed
-  all_to done false h = h
-  all_to done true h = (most, omega arith, h)
+pub not_ok : (T E P : Type 0) (failed : E) → IsOk {T = T} (Err failed) → P
+not_ok T E P failed ok =
+    let bad : false ≡ true = ok in
+    cc
 
-  -- the first of them, where one failed
-  pub some_to : (r : Result T Failed) (failed : Bool) → failed ≡ true → (n : ℕ) × (n ≤ most) × are n ps → AreFoundTo are most ps r failed
-  some_to (Ok done) false is h = cc
-  some_to (Ok done) true is h = h
-  some_to (Err why) failed is h = h
+module _ {T : Type 0} (are : ℕ → List Sides → Type 0) (most : ℕ) (ps : List Sides) (done : T) (failed : Bool) where
+  pub all_to : are most ps → AreFoundTo are most ps (Ok done) failed
+  all_to h = (most, omega arith, (λ ok well. refl), h)
 
-  pub to_all : (done : T) (failed : Bool) → failed ≡ false → AreFoundTo are most ps (Ok done) failed → are most ps
-  to_all done false is h = h
-  to_all done true is h = cc
-
-  pub to_some : (r : Result T Failed) (failed : Bool) → AreFoundTo are most ps r failed → (n : ℕ) × (n ≤ most) × are n ps
-  to_some (Ok done) false h = (most, omega arith, h)
-  to_some (Ok done) true h = h
-  to_some (Err why) failed h = h
+  pub to_all : failed ≡ false → AreFoundTo are most ps (Ok done) failed → are most ps
+  to_all well h = subst (λ n. are n ps) (h.2 refl well) h.3
 
 -- ---- after a write that failed
 
@@ -542,82 +483,62 @@ module _ {S : Type 0} (contents : S → Option (List ℕ)) (failures : S → ℕ
   abbrev place_in : Sides → ℕ
   place_in s = entry_index board board.points entries.layout entries.pair s
 
-  -- so many of a kind, or of both
+  -- so many of a kind
   abbrev of_one : List ℕ → Option Kind → ℕ → List Sides → Type 0
   of_one known kind n ps = AreOf (asked_in known) place_in n kind ps
-
-  abbrev of_both : List ℕ → ℕ → List Sides → Type 0
-  of_both known n ps = AreOfBoth (asked_in known) place_in n kinds ps
 
   -- no code of the first kind's could be read
   pub puts_first : {T : Type 0} (old new : Printer S) (why reason : Failed) → PutsKind contents failures board entries all kinds.0 most old new (Err why)
       → PutsKinds contents failures board {T = T} entries all kinds most old new (Err reason)
-  puts_first old new why reason h = record {
+  puts_first {T} old new why reason h = record {
     positions = h.positions;
     few = omega (arith, h.few);
     takes = h.takes;
     found =
-        some_map entries.stated _ _ (λ known part. both_first (asked_in known) place_in kinds most part.0 h.positions part.1 part.2) h.found;
+        some_map entries.stated _ _
+        (λ known part.
+        let both = both_first (asked_in known) place_in kinds most part.0 h.positions part.1 part.3 in
+        (length h.positions, both.0, (λ ok. not_ok T Failed _ reason ok), both.1)) h.found;
   }
 
   module _ (old middle new : Printer S) (left : ℕ) (first : PutsKind contents failures board entries all kinds.0 most old middle (Ok left)) where
-    left_is : left ≡ most - length first.positions
-    left_is = first.rest
-
     -- a write failed among those of the first kind
     puts_cut : {T : Type 0} (r : Result T Failed) (text : List ℕ) → failed_of middle ≡ true → Takes contents failures middle new text
         → PutsKinds contents failures board entries all kinds most old new r
-    puts_cut r text failed takes = record {
-      positions = first.positions;
-      few = omega (arith, first.few);
-      takes = ends first.takes (Takes-none contents failures middle new text [] failed takes);
-      found =
-          some_map entries.stated _ _
-          (λ known whole.
-          let part = to_some (of_one known kinds.0) most first.positions (Ok left) (failed_of middle) whole in
-          some_to (of_both known) most first.positions r (failed_of new) (Takes-failed contents failures middle new text failed takes)
-          (both_first (asked_in known) place_in kinds most part.0 first.positions part.1 part.2))
-          first.found;
-    }
+    puts_cut r text failed takes =
+        let still : failed_of new ≡ true = Takes-failed contents failures middle new text failed takes in
+        record {
+          positions = first.positions;
+          few = omega (arith, first.few);
+          takes = ends first.takes (Takes-none contents failures middle new text [] failed takes);
+          found =
+              some_map entries.stated _ _
+              (λ known part.
+              let both = both_first (asked_in known) place_in kinds most part.0 first.positions part.1 part.3 in
+              (length first.positions, both.0, (λ ok well. cc), both.1)) first.found;
+        }
 
-    -- both kinds were looked for
-    both_to : (known : List ℕ) {T : Type 0} (done : T) (rest : ℕ) (qs : List Sides) (failed : Bool) → of_one known kinds.0 most first.positions
-        → AreFoundTo (of_one known kinds.1) left qs (Ok rest) failed → AreFoundTo (of_both known) most (first.positions ++ qs) (Ok done) failed
-    both_to known done rest qs false whole end =
-        both_whole (asked_in known) place_in kinds most first.positions qs whole (subst (λ n. of_one known kinds.1 n qs) left_is end)
-    both_to known done rest qs true whole end =
-        both_part (asked_in known) place_in kinds most end.0 first.positions qs whole (omega (arith, end.1, left_is)) end.2
-
-    -- no code of the second kind's could be read
-    pub puts_second : {T : Type 0} (why reason : Failed) → PutsKind contents failures board entries all kinds.1 left middle new (Err why)
-        → PutsKinds contents failures board {T = T} entries all kinds most old new (Err reason)
-    puts_second why reason second = elim (cases_Bool (failed_of middle)) [
-      | inl failed ↦ puts_cut (Err reason) (found_text board second.positions) failed second.takes
-      | inr unfailed ↦ record {
-        positions = first.positions ++ second.positions;
-        few = omega (arith, length-append first.positions second.positions, first.few, second.few);
-        takes = and_then_as (found_text-append board first.positions second.positions) first.takes second.takes;
-        found =
-            both_some entries.stated _ _ _
-            (λ known whole part.
-            both_part (asked_in known) place_in kinds most part.0 first.positions second.positions
-            (to_all (of_one known kinds.0) most first.positions left (failed_of middle) unfailed whole) (omega (arith, part.1, left_is)) part.2) first.found second.found;
-      }
-    ]
-
-    -- both came to their end
-    pub puts_whole : {T : Type 0} (done : T) (rest : ℕ) → PutsKind contents failures board entries all kinds.1 left middle new (Ok rest)
-        → PutsKinds contents failures board entries all kinds most old new (Ok done)
-    puts_whole done rest second = elim (cases_Bool (failed_of middle)) [
-      | inl failed ↦ puts_cut (Ok done) (found_text board second.positions) failed second.takes
-      | inr unfailed ↦ record {
-        positions = first.positions ++ second.positions;
-        few = omega (arith, length-append first.positions second.positions, first.few, second.few);
-        takes = and_then_as (found_text-append board first.positions second.positions) first.takes second.takes;
-        found =
-            both_some entries.stated _ _ _
-            (λ known whole end.
-            both_to known done rest second.positions (failed_of new)
-            (to_all (of_one known kinds.0) most first.positions left (failed_of middle) unfailed whole) end) first.found second.found;
-      }
+    -- the first kind came to its end, and so did the second, or a code couldn't be read
+    pub puts_second : {T : Type 0} (q : Result ℕ Failed) (r : Result T Failed) → (IsOk r → IsOk q) → PutsKind contents failures board entries all kinds.1 left middle new q
+        → PutsKinds contents failures board entries all kinds most old new r
+    puts_second q r whole second = elim (cases_Bool (failed_of middle)) [
+      | inl failed ↦ puts_cut r (found_text board second.positions) failed second.takes
+      | inr unfailed ↦
+          let ps : List Sides = first.positions in
+          let rest : left ≡ most - length ps = first.rest in
+          record {
+            positions = ps ++ second.positions;
+            few = omega (arith, length-append ps second.positions, first.few, second.few);
+            takes = and_then_as (found_text-append board ps second.positions) first.takes second.takes;
+            found =
+                both_some entries.stated _ _ _
+                (λ known one part.
+                let of_first = to_all (of_one known kinds.0) most ps left (failed_of middle) unfailed one in
+                let both = both_part (asked_in known) place_in kinds most part.0 ps second.positions of_first (omega (arith, part.1, rest)) part.3 in (
+                  length ps + part.0,
+                  both.0,
+                  (λ ok well. omega (arith, part.2 (whole ok) well, rest, are_few (asked_in known) place_in kinds.0 most ps of_first)),
+                  both.1,
+                )) first.found second.found;
+          }
     ]

@@ -3,7 +3,7 @@ use Rattle.std.proofs.Common.{◌≡◌, ◌≢◌, ◌⊎◌, ℕ, ◌+◌, ◌
 use Rattle.std.specs.Prelude.{is_err, nat_eq, nat_le}
 use Rattle.std.specs.List.{flat_map}
 use Rattle.std.specs.Io.KnownBytes.{Consumes, Keeps}
-use Rattle.std.proofs.KnownBytes.{Consumes-kept, Consumes-trans}
+use Rattle.std.proofs.KnownBytes.{Consumes-kept}
 use Rattle.std.proofs.lemmas.Bool.{cases_lt, lt-leb, ne_eqb}
 use Rattle.std.proofs.lemmas.List.{length-take, take-append-le, take-take, take_all, take_min, take_more}
 use Rattle.morris_board.specs.Boards.{Shape}
@@ -18,12 +18,12 @@ use Rattle.morris_jobs.specs.declared.fault.Fault.TheVariants as fault
 use Rattle.morris_queries.specs.declared.show.Show.{Show}
 use Rattle.morris_queries.specs.declared.show.Show.TheVariants as show
 use Rattle.morris_queries.specs.declared.texts.Tally.{Tally}
-use Rattle.morris_queries.specs.Answers.{Answer, AnswersText, AnswersTexts, AreGiven, AreOut, ArePartOut, GoesOut, IsAnswer, IsTallied, counted_to}
-use Rattle.morris_queries.specs.InputLines.{begun_after, is_passed_over, text_in, texts_ended, whole_lines}
+use Rattle.morris_queries.specs.Answers.{Answer, AnswersText, AreGiven, AreOut, GoesOut, IsAnswer, IsTallied}
+use Rattle.morris_queries.specs.InputLines.{begun_after, is_passed_over, text_in, texts_ended, texts_in, whole_lines}
 use Rattle.morris_queries.specs.LineAnswers.{AnswersFound, AnswersLines, IsReadTo, StopsIn}
 use Rattle.morris_queries.specs.Printing.{answer_text, csv_line, csv_value, first_line, shown_byte, shown_text, told_text}
 use Rattle.morris_queries.specs.Telling.{Agrees, Telling, told_to, told_text as told_of_text}
-use Rattle.morris_queries.proofs.AnswerLaws.{out_failed, texts_more}
+use Rattle.morris_queries.proofs.AnswerLaws.{all_out, texts_more, texts_stopped}
 use Rattle.morris_queries.proofs.LineLaws.{begun_after-byte, begun_after-feed, passed_over-start, text_in-start, texts_ended-append, texts_ended-byte, texts_ended-feed, texts_ended-passed}
 
 -- ---- the first 25 bytes of a text tell its answer
@@ -90,9 +90,10 @@ module _ (board : Shape) (few : board.points ≤ 24) (k t : List ℕ) (start : t
       (h.0, is_answer name known show h.0 h.1, subst (λ whole. GoesOut old new whole (is_err h.0) result) (answer_same show h.0) h.2)
 
 -- what is answered to the text of the first bytes of a line is answered to the line's text
-pub answers_line : (board : Shape) → board.points ≤ 24 → (line : List ℕ) (name : List ℕ) (known : Option Files) (show : Show) (old new : Option (List ℕ)) (result : Result Answered ℕ)
-    → AnswersText board name known show (text_in (take 26 line)) old new result → AnswersText board name known show (text_in line) old new result
-answers_line board few line = answers_same board few (text_in (take 26 line)) (text_in line) (text_in-start line)
+answers_line : (board : Shape) → board.points ≤ 24 → (line kept name : List ℕ) (known : Option Files) (show : Show) (old new : Option (List ℕ)) (result : Result Answered ℕ)
+    → kept ≡ take 26 line → AnswersText board name known show (text_in kept) old new result → AnswersText board name known show (text_in line) old new result
+answers_line board few line kept name known show old new result is h =
+    answers_same board few (text_in kept) (text_in line) (ap (λ l. take 25 (text_in l)) is ∙ text_in-start line) name known show old new result h
 
 -- ---- from byte to byte
 
@@ -129,37 +130,27 @@ module _ (board : Shape) (name : List ℕ) (known : Option Files) (show : Show) 
   }
 
   -- a line feed, and the answer to its line
-  pub read_feed : (read : List ℕ) (old mid new : Option (List ℕ)) (line more : List ℕ) (before after : Tally) (answered : Result Answered ℕ)
-      → is_passed_over (text_in line) ≡ false
-      → ((whole : List ℕ) → line ≡ take 26 whole → AnswersText board name known show (text_in whole) mid new answered)
+  pub read_feed : board.points ≤ 24 → (read : List ℕ) (old mid new : Option (List ℕ)) (line more : List ℕ) (before after : Tally) (answered : Result Answered ℕ)
+      → is_passed_over (text_in line) ≡ false → AnswersText board name known show (text_in line) mid new answered
       → IsTallied before after answered (Ok tt) → more ≡ [] → ReadTo read old mid line before
       → ReadTo (read ++ 10 ∷ []) old new more after
-  read_feed read old mid new line more before after answered asked answers tallied empty h = record {
+  read_feed few read old mid new line more before after answered asked answers tallied empty h = record {
     kept = empty ∙ ap (take 26) (sym (begun_after-feed read));
     out =
         subst (λ ts. AreOut board name known show ts old new after) (sym (texts_ended-feed read (begun_passed read line false h.kept asked)))
         (texts_more board name known show (texts_ended read) (text_in (begun_after [] read)) old mid new before after answered h.out
-        (answers (begun_after [] read) h.kept) tallied);
+        (answers_line board few (begun_after [] read) line name known show mid new answered h.kept answers) tallied);
   }
 
-  -- a part of the answers to some texts went out
-  part_stops : (texts : List (List ℕ)) (old new : Option (List ℕ)) (sent : ℕ) → ArePartOut board name known show texts old new sent
-      → StopsIn board name known show texts old new (fault.Write sent)
-  part_stops texts old new sent part =
-      (length texts, part.0, subst (λ ts. AreGiven board name known show ts part.0) (sym (take_all (length texts) texts (omega arith))) part.1, part.2)
-
-  pub feed_stops : (read : List ℕ) (old mid new : Option (List ℕ)) (line : List ℕ) (before after : Tally) (answered : Result Answered ℕ) (refusal : Fault)
-      → is_passed_over (text_in line) ≡ false
-      → ((whole : List ℕ) → line ≡ take 26 whole → AnswersText board name known show (text_in whole) mid new answered)
+  pub feed_stops : board.points ≤ 24 → (read : List ℕ) (old mid new : Option (List ℕ)) (line : List ℕ) (before after : Tally) (answered : Result Answered ℕ) (refusal : Fault)
+      → is_passed_over (text_in line) ≡ false → AnswersText board name known show (text_in line) mid new answered
       → IsTallied before after answered (Err refusal) → ReadTo read old mid line before
       → StopsIn board name known show (texts_ended (read ++ 10 ∷ [])) old new refusal
-  feed_stops read old mid new line before after (Ok done) refusal asked answers tallied h = let no : Err refusal ≡ Ok tt = tallied.0 in cc
-  feed_stops read old mid new line before after (Err sent) refusal asked answers tallied h =
-      let is : fault.Write (counted_to (before.sent + sent)) ≡ refusal = cc in
-      let part = out_failed board name known show (texts_ended read) (text_in (begun_after [] read)) old mid new before sent h.out (answers (begun_after [] read) h.kept) in
-      let stops = part_stops (texts_ended read ++ text_in (begun_after [] read) ∷ []) old new (counted_to (before.sent + sent)) part in
+  feed_stops few read old mid new line before after answered refusal asked answers tallied h =
+      let text : List ℕ = text_in (begun_after [] read) in
       subst (λ ts. StopsIn board name known show ts old new refusal) (sym (texts_ended-feed read (begun_passed read line false h.kept asked)))
-      (subst (StopsIn board name known show (texts_ended read ++ text_in (begun_after [] read) ∷ []) old new) is stops)
+      (texts_stopped board name known show (texts_ended read ++ text ∷ []) (texts_ended read) (length (texts_ended read ++ text ∷ [])) text old mid new before after answered refusal h.out
+      (answers_line board few (begun_after [] read) line name known show mid new answered h.kept answers) tallied (take_all _ (texts_ended read ++ text ∷ []) (omega arith)))
 
   -- what stopped among some texts stopped among more
   stops_longer : (texts more : List (List ℕ)) (old new : Option (List ℕ)) (refusal : Fault) → StopsIn board name known show texts old new refusal
@@ -176,25 +167,17 @@ module _ (board : Shape) (name : List ℕ) (known : Option Files) (show : Show) 
       subst (λ ts. StopsIn board name known show ts old new refusal) (sym (texts_ended-append read more))
       (stops_longer (texts_ended read) _ old new refusal h)
 
-  -- ---- at the end of the input
-
-  -- the answers to all texts went out
-  pub all_out : (texts : List (List ℕ)) (old new : Option (List ℕ)) (tally : Tally) → AreOut board name known show texts old new tally
-      → AnswersTexts board name known show texts old new (Ok tally.refused)
-  all_out texts old new tally h = (h.given, h.are, h.out, h.refused)
-
   -- ---- the answer to the whole input
 
-  pub lines_stopped : (before mid after : Option (List ℕ)) (old new : Option (List ℕ)) (read more : List ℕ) (refusal : Fault) → Consumes before mid read → Consumes mid after more
-      → StopsIn board name known show (texts_ended (read ++ more)) old new refusal → AnswersLines board name known show before after old new (Err refusal)
-  lines_stopped before mid after old new read more (fault.Write sent) got next stops =
-      (read ++ more, Consumes-trans before mid after read more got next, stops_later (read ++ more) (10 ∷ []) old new (fault.Write sent) stops)
-  lines_stopped before mid after old new read more _ got next stops = absurd stops
+  pub lines_stopped : (before after old new : Option (List ℕ)) (read : List ℕ) (refusal : Fault) → Consumes before after read
+      → StopsIn board name known show (texts_in read) old new refusal → AnswersLines board name known show before after old new (Err refusal)
+  lines_stopped before after old new read (fault.Write sent) got stops = (read, got, stops)
+  lines_stopped before after old new read _ got stops = absurd stops
 
   pub lines_unread : (before mid after : Option (List ℕ)) (old new : Option (List ℕ)) (read line : List ℕ) (tally : Tally) → Consumes before mid read → Keeps mid after
       → ReadTo read old new line tally → AnswersLines board name known show before after old new (Err fault.Read)
   lines_unread before mid after old new read line tally got kept here =
-      (read, Consumes-kept before mid after read got kept, (tally.refused, all_out (texts_ended read) old new tally here.out))
+      (read, Consumes-kept before mid after read got kept, (tally.refused, all_out board name known show (texts_ended read) old new tally here.out))
 
   -- ---- where the place of the files was found
 

@@ -18,7 +18,7 @@ use Rattle.morris_files.specs.Names.{name_of}
 use Rattle.morris_jobs.specs.declared.fault.Fault.{Fault}
 use Rattle.morris_jobs.specs.Faults.{needs_fault}
 use Rattle.morris_queries.specs.Libraries.{IsFound, Opens}
-use Rattle.morris_queries.specs.Telling.{Agrees, IsRefusal, AreOf, followed, same_counts, framed_as, opened_as, table_in, stated_in, value_at, told_value}
+use Rattle.morris_queries.specs.Telling.{Agrees, AreOf, followed, same_counts, framed_as, opened_as, table_in, stated_in, value_at, told_value}
 use Rattle.morris_queries.proofs.TellingLaws.{refusal_followed}
 
 -- ---- pairs
@@ -51,19 +51,19 @@ opened_named board name files c path answer is h = subst (λ p. Agrees answer (o
 
 module _ (board : Shape) (name : List ℕ) where
   -- one file more
-  pub of_more : (known after : Option Files) (old new : OpenFiles) (file : OpenFile) → after ≡ known → AreOf board name known old
+  pub of_more : (known : Option Files) (old new : OpenFiles) (file : OpenFile) → AreOf board name known old
       → ((files : Files) → known ≡ Some files → table_in board name files file.pair ≡ Ok file) → file_for new file.pair ≡ Some file
-      → ((c : Counts) → c ≢ file.pair → file_for new c ≡ file_for old c) → AreOf board name after new
-  of_more known after old new file kept are this here others files there c found e = elim (cases_Bool (same_counts c file.pair)) [
+      → ((c : Counts) → c ≢ file.pair → file_for new c ≡ file_for old c) → AreOf board name known new
+  of_more known old new file are this here others files there c found e = elim (cases_Bool (same_counts c file.pair)) [
     | inl alike ↦
         let parts = and_parts (eqb c.greater file.pair.greater) (eqb c.lesser file.pair.lesser) alike in
         let pair : c ≡ file.pair = ap₂ counts (eqb-true c.greater file.pair.greater parts.0) (eqb-true c.lesser file.pair.lesser parts.1) in
         let both : Some file ≡ Some found = sym here ∙ ap (file_for new) (sym pair) ∙ e in
         let one : file ≡ found = cc in
-        ap (table_in board name files) pair ∙ this files (sym kept ∙ there) ∙ ap (λ f. Ok f) one
+        ap (table_in board name files) pair ∙ this files there ∙ ap (λ f. Ok f) one
     | inr apart ↦
         let ne : c ≢ file.pair = λ pair. differ (same_counts c file.pair) (counts_alike c file.pair pair) apart in
-        are files (sym kept ∙ there) c found (sym (others c ne) ∙ e)
+        are files there c found (sym (others c ne) ∙ e)
   ]
     where
       differ : (b : Bool) → b ≡ true → b ≡ false → ⊥
@@ -135,8 +135,8 @@ module _ (board : Shape) (name : List ℕ) where
 
   -- why there is no value where the file of the pair is refused
   pub value_refused : {T : Type 0} (files : Files) (s : Sides) (c : Counts) → pair_of s ≡ Some c → (answer : Result T Fault)
-      → IfErr answer (λ refused. IsRefusal refused (table_in board name files c)) → IfErr answer (λ refused. IsRefusal refused (told_value board name files s))
+      → IfErr answer (λ refused. Agrees (Err refused) (table_in board name files c)) → IfErr answer (λ refused. Agrees (Err refused) (told_value board name files s))
   unfolding told_value
   value_refused files s c of (Ok done) h = tt
   value_refused files s c of (Err refused) h =
-      subst (λ o. IsRefusal refused (value_at board name files s o)) (sym of) (refusal_followed refused (table_in board name files c) (λ file. Ok (stated_in board s file)) h)
+      subst (λ o. Agrees (Err refused) (value_at board name files s o)) (sym of) (refusal_followed refused (table_in board name files c) (λ file. Ok (stated_in board s file)) h)

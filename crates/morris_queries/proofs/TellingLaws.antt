@@ -1,14 +1,16 @@
 -- How the steps of an answer follow one another.
-use Rattle.std.proofs.Common.{◌≡◌, ℕ, suc, ◌≤◌, true, false, List, [], ◌∷◌, ◌++◌, map, length, Option, Some, None, Result, Ok, Err, refl, sym, ap, ap₂, subst, ◌∙◌, inl, inr, arith, append_assoc, append-nil}
+use Rattle.std.proofs.Common.{◌≡◌, ℕ, suc, ◌≤◌, Bool, true, false, filter, List, [], ◌∷◌, ◌++◌, map, length, Option, Some, None, Result, Ok, Err, refl, sym, ap, ap₂, subst, ◌∙◌, inl, inr, arith, append_assoc, append-nil}
 use Rattle.std.specs.List.{Contains}
 use Rattle.std.specs.Prelude.{IfSome, slice_get}
 use Rattle.std.proofs.lemmas.Bool.{cases_Bool}
+use Rattle.std.proofs.lemmas.List.{length-map, map-append}
 use Rattle.morris_board.specs.Boards.{Shape}
 use Rattle.morris_board.specs.Positions.{Sides}
 use Rattle.morris_files.specs.Files.{Files}
 use Rattle.morris_moves.specs.declared.step.Move.{Move}
 use Rattle.morris_moves.specs.Rules.{moves_of, result_of}
-use Rattle.morris_moves.proofs.ListLaws.{Contains-head, Contains-tail, Contains-cons_cases}
+use Rattle.morris_moves.proofs.ListLaws.{Contains-map, Contains-map_cases}
+use Rattle.morris_pairs.specs.FilterLaws.{filter-contains, length-filter_le}
 use Rattle.morris_pairs.specs.declared.value.Value.{Value}
 use Rattle.morris_lookup.proofs.OutcomeLaws.{first_some}
 use Rattle.morris_lookup.specs.declared.outcomes.Outcome.{Outcome}
@@ -16,37 +18,22 @@ use Rattle.morris_lookup.specs.Lookups.{depth_of}
 use Rattle.morris_lookup.specs.Outcomes.{best_among, same_value, turned}
 use Rattle.morris_jobs.specs.declared.fault.Fault.{Fault}
 use Rattle.morris_jobs.specs.declared.fault.Fault.TheVariants as fault
-use Rattle.morris_queries.specs.Telling.{followed, Agrees, IsRefusal, IsListed, Played, played, Telling, telling, outcome, value_from, told_from, told_value, told_outcome, told_outcomes, told_of, told_line, shown_line, told_shown}
+use Rattle.morris_queries.specs.Telling.{followed, Agrees, IsListed, Played, played, Telling, telling, outcome, value_from, told_from, told_value, told_outcome, told_outcomes, told_of, told_line, shown_line, told_shown}
 use Rattle.morris_queries.specs.declared.show.Show.{Show}
 use Rattle.morris_queries.specs.declared.show.Show.TheVariants as show
 
 -- ---- refusals, and what was found
 
-pub refusal_followed : {A B : Type 0} (refused : Fault) (wanted : Result A Fault) (next : A → Result B Fault) → IsRefusal refused wanted → IsRefusal refused (followed wanted next)
+pub refusal_followed : {A B : Type 0} (refused : Fault) (wanted : Result A Fault) (next : A → Result B Fault) → Agrees (Err refused) wanted → Agrees (Err refused) (followed wanted next)
 refusal_followed refused wanted next h = elim h [
   | inl e ↦ inl (ap (λ r. followed r next) e)
-  | inr e ↦ inr e
+  | inr e ↦ let memory : refused ≡ fault.Memory = cc in inr (ap (λ f. Err f) memory)
 ]
 
 -- a refusal of what comes after what was found
-pub refusal_after : {A B : Type 0} (refused : Fault) (wanted : Result A Fault) (found : A) (next : A → Result B Fault) → wanted ≡ Ok found → IsRefusal refused (next found)
-    → IsRefusal refused (followed wanted next)
-refusal_after refused wanted found next is h = elim h [
-  | inl e ↦ inl (ap (λ r. followed r next) is ∙ e)
-  | inr e ↦ inr e
-]
-
-pub refusal_from : {A : Type 0} (refused : Fault) (wanted : Result A Fault) → Agrees (Err refused) wanted → IsRefusal refused wanted
-refusal_from refused wanted h = elim h [
-  | inl e ↦ inl e
-  | inr e ↦ inr (cc)
-]
-
-pub agrees_from : {A : Type 0} (refused : Fault) (wanted : Result A Fault) → IsRefusal refused wanted → Agrees (Err refused) wanted
-agrees_from refused wanted h = elim h [
-  | inl e ↦ inl e
-  | inr e ↦ inr (ap (λ f. Err f) e)
-]
+pub refusal_after : {A B : Type 0} (refused : Fault) (wanted : Result A Fault) (found : A) (next : A → Result B Fault) → wanted ≡ Ok found → Agrees (Err refused) (next found)
+    → Agrees (Err refused) (followed wanted next)
+refusal_after refused wanted found next is h = subst (λ r. Agrees (Err refused) (followed r next)) (sym is) h
 
 -- what agrees and isn't a refusal is what was wanted
 pub agreed : {A : Type 0} (found : A) (wanted : Result A Fault) → Agrees (Ok found) wanted → wanted ≡ Ok found
@@ -70,8 +57,8 @@ pub prepended-more : {X : Type 0} (xs : List X) (x : X) (rest : Result (List X) 
 prepended-more xs x (Ok ys) = ap (λ l. Ok l) (sym (append_assoc xs (x ∷ []) ys))
 prepended-more xs x (Err refused) = refl
 
-pub refusal_prepended : {X : Type 0} (refused : Fault) (xs : List X) (all rest : Result (List X) Fault) → all ≡ prepended xs rest → IsRefusal refused rest → IsRefusal refused all
-refusal_prepended refused xs all rest is h = subst (IsRefusal refused) (sym is) (refusal_followed refused rest (λ ys. Ok (xs ++ ys)) h)
+pub refusal_prepended : {X : Type 0} (refused : Fault) (xs : List X) (all rest : Result (List X) Fault) → all ≡ prepended xs rest → Agrees (Err refused) rest → Agrees (Err refused) all
+refusal_prepended refused xs all rest is h = subst (Agrees (Err refused)) (sym is) (refusal_followed refused rest (λ ys. Ok (xs ++ ys)) h)
 
 -- ---- what each of the moves leads to
 
@@ -80,7 +67,7 @@ module _ (board : Shape) (name : List ℕ) (files : Files) (s : Sides) (items : 
   here : all ≡ prepended items (told_outcomes board name files s (m ∷ rest))
   here = subst (λ ms. all ≡ prepended items (told_outcomes board name files s ms)) split so_far
 
-  pub outcomes_refused : (refused : Fault) → IsRefusal refused (told_value board name files (result_of s m)) → IsRefusal refused all
+  pub outcomes_refused : (refused : Fault) → Agrees (Err refused) (told_value board name files (result_of s m)) → Agrees (Err refused) all
   unfolding told_outcomes
   outcomes_refused refused h =
       refusal_prepended refused items all (told_outcomes board name files s (m ∷ rest)) here
@@ -107,11 +94,7 @@ outcomes_all board name files s items left all so_far none =
 pub steps_more : (outcomes pushed : List Outcome) (seen : List Move) (m : Move) (value : Value) → map (λ (o : Outcome). o.step) outcomes ≡ seen
     → pushed ≡ outcomes ++ outcome m value ∷ [] → map (λ (o : Outcome). o.step) pushed ≡ seen ++ m ∷ []
 steps_more outcomes pushed seen m value so_far one =
-    ap (map (λ (o : Outcome). o.step)) one ∙ mapped outcomes ∙ ap (λ ms. ms ++ m ∷ []) so_far
-  where
-    mapped : (os : List Outcome) → map (λ (o : Outcome). o.step) (os ++ outcome m value ∷ []) ≡ map (λ (o : Outcome). o.step) os ++ m ∷ []
-    mapped [] = refl
-    mapped (o ∷ os) = ap (λ ms. o.step ∷ ms) (mapped os)
+    ap (map (λ (o : Outcome). o.step)) one ∙ map-append (λ (o : Outcome). o.step) outcomes (outcome m value ∷ []) ∙ ap (λ ms. ms ++ m ∷ []) so_far
 
 -- ---- what is told of a position
 
@@ -131,13 +114,13 @@ from_told value os t e = elim (cases_Bool (same_value value (value_from os))) [
 ]
 
 module _ (board : Shape) (name : List ℕ) (files : Files) (s : Sides) where
-  pub told_refused_value : (refused : Fault) → IsRefusal refused (told_value board name files s) → IsRefusal refused (told_of board name files s)
+  pub told_refused_value : (refused : Fault) → Agrees (Err refused) (told_value board name files s) → Agrees (Err refused) (told_of board name files s)
   unfolding told_of
   told_refused_value refused h =
       refusal_followed refused (told_value board name files s) (λ value. followed (told_outcomes board name files s (moves_of board s)) (told_from value)) h
 
   pub told_refused_outcomes : (refused : Fault) (value : Value) → told_value board name files s ≡ Ok value
-      → IsRefusal refused (told_outcomes board name files s (moves_of board s)) → IsRefusal refused (told_of board name files s)
+      → Agrees (Err refused) (told_outcomes board name files s (moves_of board s)) → Agrees (Err refused) (told_of board name files s)
   unfolding told_of
   told_refused_outcomes refused value found h =
       refusal_after refused (told_value board name files s) value (λ v. followed (told_outcomes board name files s (moves_of board s)) (told_from v)) found
@@ -158,25 +141,15 @@ module _ (board : Shape) (name : List ℕ) (files : Files) (s : Sides) where
     told_disagrees other = told_both ∙ from_other value os other
 
 pub best_few : (value : Value) (os : List Outcome) → length (best_among value os) ≤ length os
-best_few value [] = omega arith
-best_few value (o ∷ os) = elim (cases_Bool (same_value o.value value)) [
-  | inl same ↦ rw same (omega (arith, best_few value os))
-  | inr other ↦ rw other (omega (arith, best_few value os))
-]
+best_few value os =
+    let leads : Outcome → Bool = λ o. same_value o.value value in
+    omega (arith, length-map (filter leads os) (λ (o : Outcome). o.step), length-filter_le leads os)
 
 best_listed : (value : Value) (os : List Outcome) (m : Move) → Contains (best_among value os) m → Contains (map (λ (o : Outcome). o.step) os) m
-best_listed value [] m c = c
-best_listed value (o ∷ os) m c = elim (cases_Bool (same_value o.value value)) [
-  | inl same ↦
-      let there : Contains (o.step ∷ best_among value os) m = rw same at c in
-      elim (Contains-cons_cases o.step (best_among value os) m there) [
-        | inl is ↦ subst (λ x. Contains (o.step ∷ map (λ (p : Outcome). p.step) os) x) is (Contains-head o.step (map (λ (p : Outcome). p.step) os))
-        | inr later ↦ Contains-tail o.step (map (λ (p : Outcome). p.step) os) m (best_listed value os m later)
-      ]
-  | inr other ↦
-      let there : Contains (best_among value os) m = rw other at c in
-      Contains-tail o.step (map (λ (p : Outcome). p.step) os) m (best_listed value os m there)
-]
+best_listed value os m c =
+    let leads : Outcome → Bool = λ o. same_value o.value value in
+    let o = Contains-map_cases (λ (p : Outcome). p.step) (filter leads os) m c in
+    subst (Contains (map (λ (p : Outcome). p.step) os)) o.2 (Contains-map (λ (p : Outcome). p.step) os o.0 (filter-contains leads os o.0 o.1).0)
 
 -- the first best move, if there is one, is legal
 pub first_legal : (board : Shape) (s : Sides) (t : Telling) → IsListed board s t → IfSome (slice_get t.best 0) (Contains (moves_of board s))
@@ -210,7 +183,7 @@ module _ (board : Shape) (name : List ℕ) (files : Files) (s : Sides) (items : 
       unfolding told_line
       by_move = ply_here (Some m) there ∙ ap (λ p. prepended items (followed (told_of board name files p) (and_on m p))) (sym leads)
 
-      pub line_refused : (refused : Fault) → IsRefusal refused (told_of board name files next) → IsRefusal refused all
+      pub line_refused : (refused : Fault) → Agrees (Err refused) (told_of board name files next) → Agrees (Err refused) all
       line_refused refused h =
           refusal_prepended refused items all (followed (told_of board name files next) (and_on m next)) by_move
           (refusal_followed refused (told_of board name files next) (and_on m next) h)
@@ -242,14 +215,14 @@ module _ (board : Shape) (name : List ℕ) (files : Files) (s : Sides) where
   unfolding told_of
   told_of-line t e = no_line (told_value board name files s) (told_outcomes board name files s (moves_of board s)) t e
 
-  pub shown_refused : (what : Show) (refused : Fault) → IsRefusal refused (told_of board name files s) → IsRefusal refused (told_shown board name files what s)
+  pub shown_refused : (what : Show) (refused : Fault) → Agrees (Err refused) (told_of board name files s) → Agrees (Err refused) (told_shown board name files what s)
   unfolding told_shown
   shown_refused what refused h =
       refusal_followed refused (told_of board name files s)
       (λ t. followed (shown_line board name files what t s) (λ line. Ok (telling t.value t.best t.outcomes line))) h
 
-  pub shown_line_refused : (t : Telling) (refused : Fault) → told_of board name files s ≡ Ok t → IsRefusal refused (told_line board name files (depth_of t.value) s (slice_get t.best 0))
-      → IsRefusal refused (told_shown board name files show.Line s)
+  pub shown_line_refused : (t : Telling) (refused : Fault) → told_of board name files s ≡ Ok t → Agrees (Err refused) (told_line board name files (depth_of t.value) s (slice_get t.best 0))
+      → Agrees (Err refused) (told_shown board name files show.Line s)
   unfolding told_shown
   shown_line_refused t refused found h =
       refusal_after refused (told_of board name files s) t

@@ -87,10 +87,6 @@ abbrev pub Begins : Show → Option (List ℕ) → Option (List ℕ) → Result 
 Begins show old new (Ok tally) = Appends old new (head_text show) × (tally.sent ≡ length (head_text show)) × (tally.refused ≡ 0)
 Begins show old new (Err sent) = WentIn old new (head_text show) sent
 
--- the answers to these texts are those that a part went out of
-abbrev pub ArePartOut : Shape → List ℕ → Option Files → Show → List (List ℕ) → Option (List ℕ) → Option (List ℕ) → ℕ → Type 0
-ArePartOut board name known show texts old new sent = (given : Given) × AreGiven board name known show texts given × WentIn old new (printed_of board show given) sent
-
 -- What is counted after the next text: the bytes that went out, and whether it was a fault; or the
 -- bytes that went out until a write failed.
 abbrev pub IsTallied : Tally → Tally → Result Answered ℕ → Result (Unit {0}) Fault → Type 0

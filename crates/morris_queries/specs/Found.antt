@@ -146,9 +146,13 @@ kind_sum (Some kind) tallies =
 -- These positions are what is found: as many as there may be; or, where a read or a write failed, the
 -- first of them.
 abbrev pub AreFoundTo : {T : Type 0} → (ℕ → List Sides → Type 0) → ℕ → List Sides → Result T Failed → Bool → Type 0
-AreFoundTo are most positions (Ok done) false = are most positions
-AreFoundTo are most positions (Ok done) true = (n : ℕ) × (n ≤ most) × are n positions
-AreFoundTo are most positions (Err why) failed = (n : ℕ) × (n ≤ most) × are n positions
+AreFoundTo are most positions result failed = (n : ℕ) × (n ≤ most) × (IsOk result → failed ≡ false → n ≡ most) × are n positions
+
+-- what is answered by what went out and by whether all codes were read: of a write that failed first
+abbrev pub ended : Result ℕ ℕ → Result (Unit {0}) Failed → Result (Unit {0}) Fault
+ended (Err sent) read = Err (fault.Write sent)
+ended (Ok sent) (Err why) = Err fault.Read
+ended (Ok sent) (Ok done) = Ok tt
 
 module _ {S : Type 0} (contents : S → Option (List ℕ)) (failures : S → ℕ) (board : Shape) where
   -- The texts of the positions of an entry went in, so many of them at most, and the answer is how

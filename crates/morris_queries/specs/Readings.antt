@@ -4,9 +4,8 @@ use Rattle.morris_board.specs.Boards.{Shape}
 use Rattle.morris_files.specs.Files.{Files}
 use Rattle.morris_jobs.specs.declared.fault.Fault.{Fault}
 use Rattle.morris_queries.specs.declared.lines.Reading.{Reading}
-use Rattle.morris_queries.specs.Answers.{AnswersTexts}
 use Rattle.morris_queries.specs.Folders.{IsOf, Stays}
-use Rattle.morris_queries.specs.InputLines.{texts_ended, texts_in}
+use Rattle.morris_queries.specs.InputLines.{texts_ended}
 use Rattle.morris_queries.specs.LineAnswers.{IsReadTo, StopsIn}
 
 module _ {B L O F : Type 0} (board : Shape) (files_of : L → Option Files) where
@@ -30,10 +29,3 @@ module _ {B L O F : Type 0} (board : Shape) (files_of : L → Option Files) wher
         → Stands name known start read old → Stands name known start (read ++ bytes) new
     Takes old new bytes (Err refusal) = (name : List ℕ) (known : Option Files) (start : Option (List ℕ)) (read : List ℕ)
         → Stands name known start read old → StopsIn board name known old.show (texts_ended (read ++ bytes)) start (contents new.output.now) refusal
-
-    -- It is the end: the answers to all lines went out; or a write failed, of those answers.
-    abbrev pub Ends : Reading B L O F → Reading B L O F → Result ℕ Fault → Type 0
-    Ends old new (Ok refused) = (name : List ℕ) (known : Option Files) (start : Option (List ℕ)) (read : List ℕ)
-        → Stands name known start read old → AnswersTexts board name known old.show (texts_in read) start (contents new.output.now) (Ok refused)
-    Ends old new (Err refusal) = (name : List ℕ) (known : Option Files) (start : Option (List ℕ)) (read : List ℕ)
-        → Stands name known start read old → StopsIn board name known old.show (texts_in read) start (contents new.output.now) refusal

@@ -35,14 +35,10 @@ followed (Err refused) next = Err refused
 abbrev pub Agrees : {A : Type 0} → Result A Fault → Result A Fault → Type 0
 Agrees found wanted = (wanted ≡ found) ⊎ (found ≡ Err fault.Memory)
 
--- why a step was refused: it was to be, or memory ran out on the way
-abbrev pub IsRefusal : {A : Type 0} → Fault → Result A Fault → Type 0
-IsRefusal refused wanted = (wanted ≡ Err refused) ⊎ (refused ≡ fault.Memory)
-
 -- what was found, seen as the value that it stands for, is what is to be found; or it was refused
 abbrev pub Gives : {T A : Type 0} → Result T Fault → (T → A) → Result A Fault → Type 0
 Gives (Ok found) seen wanted = wanted ≡ Ok (seen found)
-Gives (Err refused) seen wanted = IsRefusal refused wanted
+Gives (Err refused) seen wanted = Agrees (Err refused) wanted
 
 -- ---- the file of a pair
 

@@ -1,21 +1,20 @@
 //! The answer to one text.
-ghost use Rattle.std.specs.Prelude.{◌-◌, ◌^◌, ◌<◌, ◌≤◌, ◌++◌, ℕ, List, Option, codes, true, false, IfOk};
+ghost use Rattle.std.specs.Prelude.{◌-◌, ◌^◌, ◌<◌, ℕ, List, Option, IfOk};
 ghost use Rattle.morris_board.specs.Streams.{CountsFailure};
-ghost use Rattle.morris_jobs.specs.Faults.{fault_line};
 ghost use Rattle.morris_files.specs.Files.{Files};
 ghost use Rattle.morris_queries.specs.Answers.{AnswersText, IsAnswer, GoesOut};
 ghost use Rattle.morris_queries.specs.Folders.{IsOf, Stays};
-ghost use Rattle.morris_queries.specs.Printing.{shown_text, told_text, IsShort};
+ghost use Rattle.morris_queries.specs.Printing.{IsShort};
 
 use crate::library::Library;
-use crate::print::{Before, ToldOf};
-use crate::send::send;
+use crate::print::{Refused, ToldOf};
 use crate::show::Show;
 use crate::told::Told;
 use crate::values::Folder;
 use morris_board::board::Geometry;
 use morris_board::position::Position;
 use morris_board::streams::Sink;
+use morris_board::streams::printed::{Printed, send};
 use morris_jobs::fault::Fault;
 
 /// An answer that went out.
@@ -67,48 +66,32 @@ pub fn answer_text<B: Geometry, L: Library, O: Sink>(
     ensures counted { CountsFailure (O.failures output.old) (O.failures output.new) result }
 {
     match answer(folder, text, show) {
-        Ok(told) => send_told(text, show, &told, output),
-        Err(fault) => send_fault(B::POINTS, text, fault, output),
+        Ok(told) => {
+            let told = &told;
+            send_answer(&ToldOf { text, show, told }, false, output)
+        }
+        Err(fault) => {
+            let refused = Refused {
+                text,
+                points: B::POINTS,
+                fault,
+            };
+            send_answer(&refused, true, output)
+        }
     }
 }
 
-/// Sends what is told of a position.
-fn send_told<B: Geometry, O: Sink>(
-    text: &[u8],
-    show: Show,
-    told: &Told<B>,
+/// Sends an answer.
+fn send_answer<P: Printed, O: Sink>(
+    answer: &P,
+    is_refused: bool,
     output: &mut O,
 ) -> Result<Answered, u64>
+    requires short { P.is_short answer.now }
     requires failures { O.failures output.old < 2 ^ 64 - 1 }
-    requires short { IsShort told.now }
-    ensures sent { GoesOut (O.contents output.old) (O.contents output.new) (told_text B.shape show text.now told.now) false result }
+    ensures sent { GoesOut (O.contents output.old) (O.contents output.new) (P.bytes answer.now) is_refused result }
     ensures counted { CountsFailure (O.failures output.old) (O.failures output.new) result }
 {
-    let sent = send(&ToldOf { text, show, told }, output)?;
-    Ok(Answered {
-        sent,
-        is_refused: false,
-    })
-}
-
-/// Sends the line of a fault after the text.
-fn send_fault<O: Sink>(
-    points: u8,
-    text: &[u8],
-    fault: Fault,
-    output: &mut O,
-) -> Result<Answered, u64>
-    requires failures { O.failures output.old < 2 ^ 64 - 1 }
-    requires points { points ≤ 24 }
-    ensures sent { GoesOut (O.contents output.old) (O.contents output.new) (shown_text points text.now ++ codes ": " ++ fault_line fault) true result }
-    ensures counted { CountsFailure (O.failures output.old) (O.failures output.new) result }
-{
-    let before = send(&Before { text, points }, output)?;
-    match send(&fault, output) {
-        Ok(sent) => Ok(Answered {
-            sent: before + sent,
-            is_refused: true,
-        }),
-        Err(sent) => Err(before.saturating_add(sent)),
-    }
+    let sent = send(answer, output)?;
+    Ok(Answered { sent, is_refused })
 }

@@ -4,7 +4,7 @@ ghost use Rattle.morris_pairs.specs.Counting.{table_of};
 ghost use Rattle.morris_pairs.specs.Entries.{entry_count};
 ghost use Rattle.morris_jobs.specs.Faults.{CountsWrites};
 ghost use Rattle.morris_board.specs.Printers.{Takes};
-ghost use Rattle.morris_queries.specs.Found.{AnswersFind, AreKinds, PutsEntry, PutsKind, PutsKinds, found_text, has_shown, kind_sum};
+ghost use Rattle.morris_queries.specs.Found.{AnswersFind, AreKinds, PutsEntry, PutsKind, PutsKinds, ended, found_text, has_shown, kind_sum};
 
 use crate::wanted::{Kind, Wanted, kinds_by};
 use morris_board::board::Geometry;
@@ -132,8 +132,15 @@ fn print_texts<B: Geometry, C: Coded, S: Sink>(
 {
     let kinds = kinds_of(alloc, entries, search)?;
     let mut out = Printer::new(output);
-    let put = put_kinds(entries, kinds, search.all, most, &mut out);
-    match (out.finish(), put) {
+    let read = put_kinds(entries, kinds, search.all, most, &mut out);
+    ended(out.finish(), read)
+}
+
+/// What is answered by what went out and by whether all codes were read.
+fn ended(sent: Result<u64, u64>, read: Result<(), Failed>) -> Result<(), Fault>
+    ensures { result ≡ ended sent read }
+{
+    match (sent, read) {
         (Err(sent), _) => Err(Fault::Write(sent)),
         (Ok(_), Err(Failed)) => Err(Fault::Read),
         (Ok(_), Ok(())) => Ok(()),

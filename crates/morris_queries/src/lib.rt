@@ -12,7 +12,6 @@ pub mod lines;
 pub mod lookup;
 pub mod pages;
 pub mod print;
-mod send;
 pub mod show;
 pub mod system;
 pub mod texts;

@@ -1,15 +1,13 @@
 //! The answers to the lines of an input.
-ghost use Rattle.std.specs.Prelude.{◌≡◌, ℕ, ◌-◌, ◌^◌, ◌<◌, ◌∷◌, [], List, Option, Err, take};
-ghost use Rattle.morris_board.specs.Streams.{CountsFailure};
+ghost use Rattle.std.specs.Prelude.{◌≡◌, ℕ, ◌-◌, ◌^◌, ◌<◌, ◌∷◌, [], List, Option, Err};
 ghost use Rattle.morris_files.specs.Files.{Files};
 ghost use Rattle.morris_jobs.specs.Faults.{CountsWrites};
-ghost use Rattle.morris_queries.specs.Answers.{AnswersText, AreOut};
-ghost use Rattle.morris_queries.specs.Folders.{IsOf, Stays};
-ghost use Rattle.morris_queries.specs.InputLines.{text_in};
+ghost use Rattle.morris_queries.specs.Answers.{AreOut};
+ghost use Rattle.morris_queries.specs.Folders.{IsOf};
 ghost use Rattle.morris_queries.specs.LineAnswers.{AnswersFound, AnswersLines, CountsReads};
-ghost use Rattle.morris_queries.specs.Readings.{Ends, Stands, StaysOf, Takes};
+ghost use Rattle.morris_queries.specs.Readings.{Stands, StaysOf, Takes};
 
-use crate::answer::{Answered, answer_text};
+use crate::answer::answer_text;
 use crate::library::Library;
 use crate::line::{KEPT, is_passed_over, take_in, text_of};
 use crate::show::Show;
@@ -92,9 +90,9 @@ impl<'n, 'l, 't, 'o, B: Geometry, L: Library, O: Sink> Reading<'n, 'l, 't, 'o, B
         ensures taken { Takes B.shape L.files O.contents self.old self.new (10 ∷ []) result }
         ensures counted { CountsWrites (O.failures self.old.output.now) (O.failures self.new.output.now) result }
     {
-        let line = self.line.as_slice();
-        if !is_passed_over(text_of(line)) {
-            let answered = answer_line(&mut self.folder, line, self.show, self.output);
+        let text = text_of(self.line.as_slice());
+        if !is_passed_over(text) {
+            let answered = answer_text(&mut self.folder, text, self.show, self.output);
             self.tally.take(answered)?;
         }
         self.line.clear();
@@ -117,20 +115,6 @@ impl<'n, 'l, 't, 'o, B: Geometry, L: Library, O: Sink> Reading<'n, 'l, 't, 'o, B
         Ok(())
     }
 
-    /// Ends the reading, and with it the last line. Answers how many of the answers were faults.
-    ///
-    /// # Errors
-    /// Those of [`take_byte`](Reading::take_byte).
-    fn end(&mut self) -> Result<u64, Fault>
-        requires { O.failures self.old.output.now < 2 ^ 64 - 1 }
-        ensures stays { StaysOf B.shape L.files self.old self.new }
-        ensures ended { Ends B.shape L.files O.contents self.old self.new result }
-        ensures counted { CountsWrites (O.failures self.old.output.now) (O.failures self.new.output.now) result }
-    {
-        self.end_line()?;
-        Ok(self.tally.refused)
-    }
-
     /// Reads an input to its end, and answers its lines. Answers how many of the answers were
     /// faults.
     ///
@@ -149,29 +133,16 @@ impl<'n, 'l, 't, 'o, B: Geometry, L: Library, O: Sink> Reading<'n, 'l, 't, 'o, B
         for _ in 0..u64::MAX {
             let mut piece = [0; PIECE];
             match input.read(&mut piece) {
-                Ok(0) => return self.end(),
+                Ok(0) => {
+                    self.end_line()?;
+                    return Ok(self.tally.refused);
+                }
                 Ok(count) => self.take_bytes(&piece[..count])?,
                 Err(Failed) => return Err(Fault::Read),
             }
         }
         Err(Fault::Read)
     }
-}
-
-/// Answers a line of which these are the first bytes.
-fn answer_line<B: Geometry, L: Library, O: Sink>(
-    folder: &mut Folder<'_, '_, '_, B, L>,
-    line: &[u8],
-    show: Show,
-    output: &mut O,
-) -> Result<Answered, u64>
-    requires { O.failures output.old < 2 ^ 64 - 1 }
-    ensures stays { Stays B.shape L.files folder.old folder.new }
-    ensures answer { (name : List ℕ) (known : Option Files) (whole : List ℕ) → IsOf B.shape L.files name known folder.old → line.now ≡ take 26 whole
-        → AnswersText B.shape name known show (text_in whole) (O.contents output.old) (O.contents output.new) result }
-    ensures counted { CountsFailure (O.failures output.old) (O.failures output.new) result }
-{
-    answer_text(folder, text_of(line), show, output)
 }
 
 /// Answers the lines of an input, each as [`answer_text`] answers its text, and counts those that

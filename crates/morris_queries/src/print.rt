@@ -2,78 +2,32 @@
 ghost use Rattle.std.specs.Prelude.{ℕ, ◌∷◌, ◌++◌, [], List, codes};
 ghost use Rattle.std.specs.List.{flat_map};
 ghost use Rattle.hex.specs.Hex.{encode_lower};
-ghost use Rattle.morris_board.specs.Positions.{text_of};
-ghost use Rattle.morris_moves.specs.MoveText.{move_text};
-ghost use Rattle.morris_queries.specs.Printing.{best_text, csv_line, csv_value, first_line, outcome_line, ply_line, shown_byte, shown_text, spaced, told_text, value_text};
+ghost use Rattle.morris_queries.specs.Printing.{best_text, csv_line, csv_value, first_line, outcome_line, ply_line, shown_byte, shown_text, spaced, value_text};
 ghost use Rattle.morris_board.specs.Printers.{Takes};
 
 use crate::show::Show;
 use crate::told::{Ply, Told};
 use hex::encode_to_slice;
 use morris_board::board::Geometry;
-use morris_board::position::Position;
 use morris_board::streams::Sink;
 use morris_board::streams::printed::Printed;
 use morris_board::streams::printer::Printer;
+use morris_jobs::fault::Fault;
+use morris_jobs::print_fault::put_fault;
 use morris_lookup::outcomes::Outcome;
 use morris_moves::step::Move;
 use morris_pairs::value::Value;
 use morris_probe::print::{put_count, put_move, put_number_line, put_text};
 
-/// What is printed as a word.
-trait Word {
-    // Its text.
-    ghost text: { Self → List ℕ };
-
-    /// Puts the word in.
-    fn put_word<S: Sink>(&self, out: &mut Printer<'_, S>)
-        ensures { Takes S.contents S.failures out.old out.new (text self.now) };
-}
-
-impl Word for Move {
-    ghost text = { move_text };
-
-    fn put_word<S: Sink>(&self, out: &mut Printer<'_, S>) {
-        put_move(out, *self);
-    }
-}
-
-/// `draw`, `won in D` or `lost in D`, with the depth D in plies.
-impl Word for Value {
-    ghost text = { value_text };
-
-    fn put_word<S: Sink>(&self, out: &mut Printer<'_, S>) {
-        match *self {
-            Value::Draw => out.put("draw"),
-            Value::Won(depth) => put_count(out, "won in ", u64::from(depth)),
-            Value::Lost(depth) => put_count(out, "lost in ", u64::from(depth)),
-        }
-    }
-}
-
-impl<B: Geometry> Word for Position<B> {
-    ghost text = { text_of B.shape };
-
-    fn put_word<S: Sink>(&self, out: &mut Printer<'_, S>) {
-        put_text(out, self);
-    }
-}
-
-/// A blank and a word.
-fn put_spaced<W: Word, S: Sink>(out: &mut Printer<'_, S>, word: &W)
-    ensures { Takes S.contents S.failures out.old out.new (codes " " ++ W.text word.now) }
+/// A blank and the value: `draw`, `won in D` or `lost in D`, with the depth D in plies.
+fn put_value<S: Sink>(out: &mut Printer<'_, S>, value: Value)
+    ensures { Takes S.contents S.failures out.old out.new (codes " " ++ value_text value) }
 {
-    out.put(" ");
-    word.put_word(out);
-}
-
-/// The beginning of the line of a move: two blanks, the move, and a word that goes with it.
-fn put_begun<W: Word, S: Sink>(out: &mut Printer<'_, S>, m: Move, word: &W)
-    ensures { Takes S.contents S.failures out.old out.new (codes "  " ++ move_text m ++ (codes " " ++ W.text word.now)) }
-{
-    out.put("  ");
-    put_move(out, m);
-    put_spaced(out, word);
+    match value {
+        Value::Draw => out.put(" draw"),
+        Value::Won(depth) => put_count(out, " won in ", u64::from(depth)),
+        Value::Lost(depth) => put_count(out, " lost in ", u64::from(depth)),
+    }
 }
 
 /// What is printed in a list.
@@ -115,7 +69,8 @@ impl Listed for Move {
     ghost text = { spaced };
 
     fn put_listed<S: Sink>(&self, out: &mut Printer<'_, S>) {
-        put_spaced(out, self);
+        out.put(" ");
+        put_move(out, *self);
     }
 }
 
@@ -124,7 +79,23 @@ impl Listed for Outcome {
     ghost text = { outcome_line };
 
     fn put_listed<S: Sink>(&self, out: &mut Printer<'_, S>) {
-        put_begun(out, self.step, &self.value);
+        out.put("  ");
+        put_move(out, self.step);
+        put_value(out, self.value);
+        out.put("\n");
+    }
+}
+
+/// In a line of play.
+impl<B: Geometry> Listed for Ply<B> {
+    ghost text = { ply_line B.shape };
+
+    fn put_listed<S: Sink>(&self, out: &mut Printer<'_, S>) {
+        out.put("  ");
+        put_move(out, self.step);
+        out.put(" ");
+        put_text(out, &self.position);
+        put_value(out, self.value);
         out.put("\n");
     }
 }
@@ -135,24 +106,6 @@ fn put_list<T: Listed, S: Sink>(out: &mut Printer<'_, S>, list: &[T])
 {
     for item in list {
         item.put_listed(out);
-    }
-}
-
-/// A ply of a line of play, as a line.
-fn put_ply<B: Geometry, S: Sink>(out: &mut Printer<'_, S>, ply: &Ply<B>)
-    ensures { Takes S.contents S.failures out.old out.new (ply_line B.shape ply.now) }
-{
-    put_begun(out, ply.step, &ply.position);
-    put_spaced(out, &ply.value);
-    out.put("\n");
-}
-
-/// The plies of a line of play, one after the other.
-fn put_plies<B: Geometry, S: Sink>(out: &mut Printer<'_, S>, line: &[Ply<B>])
-    ensures { Takes S.contents S.failures out.old out.new (flat_map (ply_line B.shape) line.now) }
-{
-    for ply in line {
-        put_ply(out, ply);
     }
 }
 
@@ -197,7 +150,7 @@ fn put_first_line<B: Geometry, S: Sink>(out: &mut Printer<'_, S>, text: &[u8], t
     ensures { Takes S.contents S.failures out.old out.new (first_line B.POINTS text.now told.now) }
 {
     put_shown(out, B::POINTS, text);
-    put_spaced(out, &told.value());
+    put_value(out, told.value());
     put_best(out, told.best());
     out.put("\n");
 }
@@ -232,25 +185,6 @@ fn put_csv<S: Sink>(out: &mut Printer<'_, S>, points: u8, text: &[u8], outcomes:
     }
 }
 
-/// What is told of a position.
-#[tactic(auto, using(morris_board::proofs::PrinterLaws::takes_laws), unfolding(crate::specs::Printing::told_text))]
-fn put_told<B: Geometry, S: Sink>(out: &mut Printer<'_, S>, text: &[u8], show: Show, told: &Told<B>)
-    ensures { Takes S.contents S.failures out.old out.new (told_text B.shape show text.now told.now) }
-{
-    match show {
-        Show::Best => put_first_line(out, text, told),
-        Show::Moves => {
-            put_first_line(out, text, told);
-            put_list(out, told.outcomes());
-        }
-        Show::Line => {
-            put_first_line(out, text, told);
-            put_plies(out, told.line());
-        }
-        Show::Csv => put_csv(out, B::POINTS, text, told.outcomes()),
-    }
-}
-
 /// What is told of a position, with the text that was asked about.
 #[derive(Drop)]
 pub(crate) struct ToldOf<'a, B: Geometry> {
@@ -262,7 +196,7 @@ pub(crate) struct ToldOf<'a, B: Geometry> {
     pub(crate) told: &'a Told<B>,
 }
 
-#[tactic(auto, unfolding(crate::specs::Printing::told_text))]
+#[tactic(auto, using(morris_board::proofs::PrinterLaws::takes_laws), unfolding(crate::specs::Printing::told_text))]
 impl<B: Geometry> Printed for ToldOf<'_, B> {
     ghost use Rattle.morris_queries.specs.Printing.{told_text, IsShort};
 
@@ -271,30 +205,45 @@ impl<B: Geometry> Printed for ToldOf<'_, B> {
     ghost is_short = { λ answer. IsShort answer.told.now };
 
     fn put_into<S: Sink>(&self, out: &mut Printer<'_, S>) {
-        put_told(out, self.text, self.show, self.told);
+        match self.show {
+            Show::Best => put_first_line(out, self.text, self.told),
+            Show::Moves => {
+                put_first_line(out, self.text, self.told);
+                put_list(out, self.told.outcomes());
+            }
+            Show::Line => {
+                put_first_line(out, self.text, self.told);
+                put_list(out, self.told.line());
+            }
+            Show::Csv => put_csv(out, B::POINTS, self.text, self.told.outcomes()),
+        }
     }
 }
 
-/// The text that was asked about and a colon, before a fault.
+/// The line of a fault after the text that was asked about.
 #[derive(Drop)]
-pub(crate) struct Before<'a> {
+pub(crate) struct Refused<'a> {
     /// The text.
     pub(crate) text: &'a [u8],
     /// How many points the board has.
     pub(crate) points: u8,
+    /// The fault.
+    pub(crate) fault: Fault,
 }
 
-#[tactic(auto, using(morris_board::proofs::PrinterLaws::takes_laws))]
-impl Printed for Before<'_> {
+impl Printed for Refused<'_> {
     ghost use Rattle.std.specs.Prelude.{◌≤◌, ◌++◌, codes};
+    ghost use Rattle.morris_jobs.specs.Faults.{fault_line};
     ghost use Rattle.morris_queries.specs.Printing.{shown_text};
 
-    ghost bytes = { λ before. shown_text before.points before.text.now ++ codes ": " };
+    ghost bytes = { λ answer. shown_text answer.points answer.text.now ++ codes ": " ++ fault_line answer.fault };
 
-    ghost is_short = { λ before. before.points ≤ 24 };
+    ghost is_short = { λ answer. answer.points ≤ 24 };
 
     fn put_into<S: Sink>(&self, out: &mut Printer<'_, S>) {
         put_shown(out, self.points, self.text);
         out.put(": ");
+        put_fault(out, self.fault);
+        out.put("\n");
     }
 }

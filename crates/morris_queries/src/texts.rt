@@ -9,11 +9,11 @@ ghost use Rattle.morris_queries.specs.Printing.{head_text};
 
 use crate::answer::{Answered, answer_text};
 use crate::library::Library;
-use crate::send::send;
 use crate::show::Show;
 use crate::values::{Folder, no_files};
 use morris_board::board::Geometry;
 use morris_board::streams::Sink;
+use morris_board::streams::printed::send;
 use morris_jobs::fault::Fault;
 use std::alloc::Global;
 

@@ -1,12 +1,12 @@
 //! The value of any position, from files that are opened when a position first needs them.
-ghost use Rattle.std.specs.Prelude.{◌≡◌, ◌≤◌, ℕ, List, Option, None, Some, false, IfErr, IfOk, IsSome, OnOk};
+ghost use Rattle.std.specs.Prelude.{◌≡◌, ◌≤◌, ℕ, List, Option, None, Some, Err, false, IfErr, IfOk, IsSome, OnOk};
 ghost use Rattle.morris_lookup.specs.FileSets.{file_for, missing_file};
 ghost use Rattle.morris_lookup.specs.Lookups.{depth_of};
 ghost use Rattle.morris_files.specs.Files.{Files};
 ghost use Rattle.morris_jobs.specs.Faults.{is_write};
 ghost use Rattle.morris_queries.specs.Folders.{IsOf, Stays, Tells, lent_of, library_of};
 ghost use Rattle.morris_queries.specs.Libraries.{IsFound};
-ghost use Rattle.morris_queries.specs.Telling.{Agrees, AreOf, IsRefusal, opened_as, table_in, told_value};
+ghost use Rattle.morris_queries.specs.Telling.{Agrees, AreOf, opened_as, table_in, told_value};
 
 use crate::library::Library;
 use morris_board::board::Geometry;
@@ -82,7 +82,7 @@ impl<'n, 'l, 't, B: Geometry, L: Library> Folder<'n, 'l, 't, B, L> {
     pub(crate) fn make_ready(&mut self, pair: Pair<B>) -> Result<(), Fault>
         ensures stays { Stays B.shape L.files self.old self.new }
         ensures ready { OnOk result (IsSome (file_for self.new.tables.now pair)) }
-        ensures refused { Tells B.shape L.files self.old (λ name files. IfErr result (λ refused. IsRefusal refused (table_in B.shape name files pair))) }
+        ensures refused { Tells B.shape L.files self.old (λ name files. IfErr result (λ refused. Agrees (Err refused) (table_in B.shape name files pair))) }
         ensures unwritten { IfErr result (λ refused. is_write refused ≡ false) }
     {
         if self.tables.get(pair).is_none() {
@@ -99,7 +99,7 @@ impl<'n, 'l, 't, B: Geometry, L: Library> Folder<'n, 'l, 't, B, L> {
     fn make_ready_for(&mut self, position: &Position<B>) -> Result<(), Fault>
         ensures stays { Stays B.shape L.files self.old self.new }
         ensures ready { OnOk result (missing_file self.new.tables.now position.now ≡ None) }
-        ensures refused { Tells B.shape L.files self.old (λ name files. IfErr result (λ refused. IsRefusal refused (told_value B.shape name files position.now))) }
+        ensures refused { Tells B.shape L.files self.old (λ name files. IfErr result (λ refused. Agrees (Err refused) (told_value B.shape name files position.now))) }
     {
         match Pair::of(position) {
             None => Ok(()),

@@ -1,10 +1,10 @@
-use Rattle.std.proofs.Common.{◌≡◌, ◌≤◌, ◌∙◌, Err, ap, sym, arith, false, true}
+use Rattle.std.proofs.Common.{◌≡◌, ◌≤◌, ◌∙◌, Err, ap, sym, arith}
 use Rattle.std.proofs.lemmas.Result.{err_from_is_err_and}
 use Rattle.morris_board.specs.Boards.{Shape}
 use Rattle.morris_pairs.specs.Counting.{CodedEntries}
 use Rattle.morris_board.specs.Printers.{sink_of}
 use Rattle.morris_queries.specs.declared.find.Shown.TheVariants.{Texts}
-use Rattle.morris_queries.proofs.FindLaws.{read_answered, refused_find, texts_answered, told_counted, write_answered}
+use Rattle.morris_queries.proofs.FindLaws.{refused_find, texts_answered, texts_counted}
 use Rattle.morris_queries.proofs.find.print_texts.Goals as goal
 
 -- nothing is printed where memory is refused, or where a code can't be read for the deepest kinds
@@ -14,82 +14,28 @@ returns-in_err-kinds-clause-answer g c =
     refused_find g.B.Geometry.shape c.args.entries.now c.args.search.all c.args.search.wanted (Texts c.args.most) (g.S.Sink.contents c.args.output.now) c.from_residual.result
     c.in_err-kinds.field-0.0 (failed.1 ∙ ap Err failed.2) c.in_err-kinds.ensures.sure
 
--- a write failed: the output is what the printer went out into
-pub returns-in-Err-default-clause-answer : goal.returns-in-Err-default-clause-answer
-returns-in-Err-default-clause-answer g c =
+-- the output is what the printer went out into
+pub returns-clause-answer : goal.returns-clause-answer
+returns-clause-answer g c =
     let board : Shape = g.B.Geometry.shape in
     let points : board.points ≤ 24 = omega (arith, g.met.B.Geometry.few, g.met.B.Geometry.point_count) in
-    let put = rw c.in_ok-kinds.ensures.stays at c.put_kinds-put.ensures.put in
+    let put = rw c.in_ok-kinds.ensures.stays at c.put_kinds-read.ensures.put in
     let there : c.output-1.given.0 ≡ sink_of c.finish.new.self =
     c.output-1.given.1 (sym (c.finish.ensures.takes.same ∙ (put.takes.same ∙ c.new-out.ensures.lent))) in
-    rw (there, ← c.new-out.ensures.sink)
-    (write_answered g.S.Sink.contents g.S.Sink.failures board points c.args.entries.now c.args.search.all c.args.search.wanted c.in_ok-kinds.kinds c.args.most
-    c.put_kinds-put.result c.new-out.result c.put_kinds-put.new.out c.finish.new.self c.new-out.ensures.new c.in_ok-kinds.ensures.kinds put
-    c.finish.ensures.takes c.finish.ensures.empty c.in-Err-default.sent c.in-Err-default.ensures.told)
-
-pub returns-in-Err-default-clause-counted : goal.returns-in-Err-default-clause-counted
-returns-in-Err-default-clause-counted g c =
-    let board : Shape = g.B.Geometry.shape in
-    let points : board.points ≤ 24 = omega (arith, g.met.B.Geometry.few, g.met.B.Geometry.point_count) in
-    let put = rw c.in_ok-kinds.ensures.stays at c.put_kinds-put.ensures.put in
-    let there : c.output-1.given.0 ≡ sink_of c.finish.new.self =
-    c.output-1.given.1 (sym (c.finish.ensures.takes.same ∙ (put.takes.same ∙ c.new-out.ensures.lent))) in
-    rw (there, ← c.new-out.ensures.sink)
-    (told_counted g.S.Sink.contents g.S.Sink.failures board points c.args.entries.now c.args.search.all c.args.search.wanted c.in_ok-kinds.kinds c.args.most
-    c.put_kinds-put.result c.new-out.result c.put_kinds-put.new.out c.finish.new.self c.new-out.ensures.new c.in_ok-kinds.ensures.kinds put
-    c.finish.ensures.takes c.finish.ensures.empty _ (rw c.new-out.ensures.sink c.requires) c.in-Err-default.ensures.told)
-
--- a code can't be read
-pub returns-in-Ok-Err-clause-answer : goal.returns-in-Ok-Err-clause-answer
-returns-in-Ok-Err-clause-answer g c =
-    let board : Shape = g.B.Geometry.shape in
-    let points : board.points ≤ 24 = omega (arith, g.met.B.Geometry.few, g.met.B.Geometry.point_count) in
-    let put = rw c.in_ok-kinds.ensures.stays at c.put_kinds-put.ensures.put in
-    let there : c.output-1.given.0 ≡ sink_of c.finish.new.self =
-    c.output-1.given.1 (sym (c.finish.ensures.takes.same ∙ (put.takes.same ∙ c.new-out.ensures.lent))) in
-    rw (there, ← c.new-out.ensures.sink)
-    (read_answered g.S.Sink.contents g.S.Sink.failures board points c.args.entries.now c.args.search.all c.args.search.wanted c.in_ok-kinds.kinds c.args.most
-    c.put_kinds-put.result c.new-out.result c.put_kinds-put.new.out c.finish.new.self c.new-out.ensures.new c.in_ok-kinds.ensures.kinds put
-    c.finish.ensures.takes c.finish.ensures.empty _
-    (λ unfailing.
-    let ok = c.put_kinds-put.ensures.sure (ap (λ (e : CodedEntries). e.unfailing) c.in_ok-kinds.ensures.stays ∙ unfailing) in
-    let bad : false ≡ true = rw c.in-Ok-Err.is-1 at ok in
-    cc)
-    c.in-Ok-Err.ensures.told)
-
-pub returns-in-Ok-Err-clause-counted : goal.returns-in-Ok-Err-clause-counted
-returns-in-Ok-Err-clause-counted g c =
-    let board : Shape = g.B.Geometry.shape in
-    let points : board.points ≤ 24 = omega (arith, g.met.B.Geometry.few, g.met.B.Geometry.point_count) in
-    let put = rw c.in_ok-kinds.ensures.stays at c.put_kinds-put.ensures.put in
-    let there : c.output-1.given.0 ≡ sink_of c.finish.new.self =
-    c.output-1.given.1 (sym (c.finish.ensures.takes.same ∙ (put.takes.same ∙ c.new-out.ensures.lent))) in
-    rw (there, ← c.new-out.ensures.sink)
-    (told_counted g.S.Sink.contents g.S.Sink.failures board points c.args.entries.now c.args.search.all c.args.search.wanted c.in_ok-kinds.kinds c.args.most
-    c.put_kinds-put.result c.new-out.result c.put_kinds-put.new.out c.finish.new.self c.new-out.ensures.new c.in_ok-kinds.ensures.kinds put
-    c.finish.ensures.takes c.finish.ensures.empty _ (rw c.new-out.ensures.sink c.requires) c.in-Ok-Err.ensures.told)
-
--- all was read and printed
-pub returns-in-Ok-Ok-clause-answer : goal.returns-in-Ok-Ok-clause-answer
-returns-in-Ok-Ok-clause-answer g c =
-    let board : Shape = g.B.Geometry.shape in
-    let points : board.points ≤ 24 = omega (arith, g.met.B.Geometry.few, g.met.B.Geometry.point_count) in
-    let put = rw c.in_ok-kinds.ensures.stays at c.put_kinds-put.ensures.put in
-    let there : c.output-1.given.0 ≡ sink_of c.finish.new.self =
-    c.output-1.given.1 (sym (c.finish.ensures.takes.same ∙ (put.takes.same ∙ c.new-out.ensures.lent))) in
-    rw (there, ← c.new-out.ensures.sink)
+    rw (there, ← c.new-out.ensures.sink, c.ended.ensures)
     (texts_answered g.S.Sink.contents g.S.Sink.failures board points c.args.entries.now c.args.search.all c.args.search.wanted c.in_ok-kinds.kinds c.args.most
-    c.put_kinds-put.result c.new-out.result c.put_kinds-put.new.out c.finish.new.self c.new-out.ensures.new c.in_ok-kinds.ensures.kinds put
-    c.finish.ensures.takes c.finish.ensures.empty (tt {0}) _ _ c.in-Ok-Ok.is-1 c.in-Ok-Ok.ensures.told)
+    c.put_kinds-read.result c.new-out.result c.put_kinds-read.new.out c.finish.new.self c.new-out.ensures.new c.in_ok-kinds.ensures.kinds put
+    c.finish.ensures.takes c.finish.ensures.empty c.finish.result c.finish.ensures.told
+    (λ unfailing. c.put_kinds-read.ensures.sure (ap (λ (e : CodedEntries). e.unfailing) c.in_ok-kinds.ensures.stays ∙ unfailing)))
 
-pub returns-in-Ok-Ok-clause-counted : goal.returns-in-Ok-Ok-clause-counted
-returns-in-Ok-Ok-clause-counted g c =
+pub returns-clause-counted : goal.returns-clause-counted
+returns-clause-counted g c =
     let board : Shape = g.B.Geometry.shape in
     let points : board.points ≤ 24 = omega (arith, g.met.B.Geometry.few, g.met.B.Geometry.point_count) in
-    let put = rw c.in_ok-kinds.ensures.stays at c.put_kinds-put.ensures.put in
+    let put = rw c.in_ok-kinds.ensures.stays at c.put_kinds-read.ensures.put in
     let there : c.output-1.given.0 ≡ sink_of c.finish.new.self =
     c.output-1.given.1 (sym (c.finish.ensures.takes.same ∙ (put.takes.same ∙ c.new-out.ensures.lent))) in
-    rw (there, ← c.new-out.ensures.sink)
-    (told_counted g.S.Sink.contents g.S.Sink.failures board points c.args.entries.now c.args.search.all c.args.search.wanted c.in_ok-kinds.kinds c.args.most
-    c.put_kinds-put.result c.new-out.result c.put_kinds-put.new.out c.finish.new.self c.new-out.ensures.new c.in_ok-kinds.ensures.kinds put
-    c.finish.ensures.takes c.finish.ensures.empty _ (rw c.new-out.ensures.sink c.requires) c.in-Ok-Ok.ensures.told)
+    rw (there, ← c.new-out.ensures.sink, c.ended.ensures)
+    (texts_counted g.S.Sink.contents g.S.Sink.failures board points c.args.entries.now c.args.search.all c.args.search.wanted c.in_ok-kinds.kinds c.args.most
+    c.put_kinds-read.result c.new-out.result c.put_kinds-read.new.out c.finish.new.self c.new-out.ensures.new c.in_ok-kinds.ensures.kinds put
+    c.finish.ensures.takes c.finish.ensures.empty c.finish.result (rw c.new-out.ensures.sink c.requires) c.finish.ensures.told)

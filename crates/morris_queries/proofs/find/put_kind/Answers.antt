@@ -1,8 +1,9 @@
-use Rattle.std.proofs.Common.{◌≡◌, ℕ, ◌+◌, ◌<◌, ◌≤◌, ◌∙◌, Bool, false, true, List, [], ◌++◌, Option, Ok, length, take, refl, sym, ap, subst, arith, length-append}
+use Rattle.std.proofs.Common.{◌≡◌, ℕ, ◌+◌, ◌<◌, ◌≤◌, ◌∙◌, Bool, false, true, List, [], ◌++◌, Option, length, take, refl, sym, ap, subst, arith, length-append}
 use Rattle.std.proofs.lemmas.List.{length-take}
 use Rattle.std.proofs.lemmas.Result.{err_from_is_err_and}
 use Rattle.morris_board.specs.Boards.{Shape}
 use Rattle.morris_board.specs.Positions.{Sides}
+use Rattle.morris_board.specs.declared.streams.Failed.{Failed}
 use Rattle.morris_index.specs.Pairs.{IsPair}
 use Rattle.morris_pairs.specs.Counting.{CodedEntries, table_of}
 use Rattle.morris_pairs.specs.Entries.{entry_count, entry_index}
@@ -12,7 +13,7 @@ use Rattle.morris_board.specs.Printers.{failed_of}
 use Rattle.morris_board.proofs.PrinterLaws.{Takes-nil, and_then_as}
 use Rattle.morris_queries.specs.Found.{AreFound, AreOf, IsStated, found_text}
 use Rattle.morris_queries.specs.declared.wanted.Kind.{Kind}
-use Rattle.morris_queries.proofs.FoundLaws.{all_to, asked_below, found_all, found_enough, found_first, found_more, found_none, found_same, found_text-append, none_stated, some_to, stated_inside, stated_of}
+use Rattle.morris_queries.proofs.FoundLaws.{all_to, asked_below, found_all, found_enough, found_first, found_more, found_none, found_same, found_text-append, none_stated, not_ok, stated_inside, stated_of}
 use Rattle.morris_queries.proofs.find.put_kind.Goals as goal
 use Rattle.morris_queries.proofs.find.put_kind.Goals.{then-left-eq0-via-then-left-eq0, then-left-eq0-via-else-left-eq0+then-has_failed}
 
@@ -111,9 +112,10 @@ returns-then-left-eq0-clause-put g c =
             | then-left-eq0-via-then-left-eq0 w ↦ all_to (are board entries c.args.all c.args.kind known) c.args.most found.0 c.loop-entry.left (failed_of c.loop-entry.out) (rw c.in-Some.is
                 (found_enough (IsStated board (table_of entries known) c.args.all c.in-Some.kind) at c.args.most c.loop-entry.entry found.0
                 (omega (arith, found.3, here.few, w.if-left-eq0.true)) here))
-            | then-left-eq0-via-else-left-eq0+then-has_failed w ↦ some_to (are board entries c.args.all c.args.kind known) c.args.most found.0 (Ok c.loop-entry.left) (failed_of c.loop-entry.out) (sym w.has_failed.ensures ∙ w.if-has_failed.true) (
+            | then-left-eq0-via-else-left-eq0+then-has_failed w ↦ (
               length found.0,
               here.few,
+              (λ ok well. let failed : failed_of c.loop-entry.out ≡ true = sym w.has_failed.ensures ∙ w.if-has_failed.true in cc),
               rw c.in-Some.is
                   (found_first (IsStated board (table_of entries known) c.args.all c.in-Some.kind) at c.args.most c.loop-entry.entry found.0 here),
             )
@@ -138,6 +140,7 @@ returns-in_err-code-clause-put g c =
           (λ known here. (
             length found.0,
             here.few,
+            not_ok ℕ Failed _ failed.0,
             rw c.in-Some.is
                 (found_first (IsStated board (table_of entries known) c.args.all c.in-Some.kind) at c.args.most c.loop-entry.entry found.0 here),
           )) found.4;

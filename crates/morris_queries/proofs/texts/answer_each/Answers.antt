@@ -1,9 +1,8 @@
-use Rattle.std.proofs.Common.{Bor, List, ℕ, arith, map, take, refl, sym, subst}
+use Rattle.std.proofs.Common.{Bor, List, ℕ, ◌+◌, arith, map, take, refl, sym, subst}
 use Rattle.std.proofs.lemmas.Result.{err_from_is_err_and}
 use Rattle.morris_queries.specs.Answers.{AreOut}
-use Rattle.morris_queries.proofs.AnswerLaws.{texts_stopped, texts_more, counts_stopped, counts_on, text_next}
+use Rattle.morris_queries.proofs.AnswerLaws.{all_out, stopped_texts, texts_stopped, texts_more, counts_stopped, counts_on, text_next}
 use Rattle.std.proofs.lemmas.List.{length-map, take_all}
-use Rattle.morris_queries.proofs.LineAnswerLaws.{all_out}
 use Rattle.morris_queries.proofs.FolderLaws.{stays_here, stays_on}
 use Rattle.morris_queries.proofs.texts.answer_each.Goals as goal
 
@@ -20,12 +19,14 @@ returns-in_err-take-clause-stays g c = stays_on g.B.Geometry.shape g.L.Library.f
 pub returns-in_err-take-clause-answer : goal.returns-in_err-take-clause-answer
 returns-in_err-take-clause-answer g c = λ name known start of begun.
     let failed = err_from_is_err_and c.from_residual.result c.from_residual.ensures.1 in
+    let all = map (λ (t : Bor (List ℕ)). t.now) c.args.texts.now in
+    let new = g.O.Sink.contents c.answer_text-answered.new.output in
     rw (failed.1, failed.2)
-    (texts_stopped g.B.Geometry.shape name known c.args.show (map (λ (t : Bor (List ℕ)). t.now) c.args.texts.now) c.loop-text.text-index
-    c.as_bytes.result.now start (g.O.Sink.contents c.loop-text.output) (g.O.Sink.contents c.answer_text-answered.new.output)
-    c.loop-text.tally c.take.new.self c.answer_text-answered.result c.in_err-take.field-0.0 (c.loop-text.invariant.out name known start of begun)
-    (c.answer_text-answered.ensures.answer name known (c.loop-text.invariant.stays.still name known of)) c.in_err-take.ensures
-    (text_next c.args.texts.now c.loop-text.text-index _ c.as_bytes.result.now c.loop-text-test.true c.as_bytes.ensures.value))
+    (stopped_texts g.B.Geometry.shape name known c.args.show all start new c.in_err-take.field-0.0
+    (texts_stopped g.B.Geometry.shape name known c.args.show all (take c.loop-text.text-index all) (c.loop-text.text-index + 1) c.as_bytes.result.now start
+    (g.O.Sink.contents c.loop-text.output) new c.loop-text.tally c.take.new.self c.answer_text-answered.result c.in_err-take.field-0.0
+    (c.loop-text.invariant.out name known start of begun) (c.answer_text-answered.ensures.answer name known (c.loop-text.invariant.stays.still name known of)) c.in_err-take.ensures
+    (text_next c.args.texts.now c.loop-text.text-index _ c.as_bytes.result.now c.loop-text-test.true c.as_bytes.ensures.value)))
 
 pub returns-in_err-take-clause-counted : goal.returns-in_err-take-clause-counted
 returns-in_err-take-clause-counted g c =

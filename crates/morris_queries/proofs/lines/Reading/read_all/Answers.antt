@@ -1,11 +1,18 @@
-use Rattle.std.proofs.Common.{◌∙◌, ◌++◌, ◌<◌, [], ℕ, arith, inl, inr, length, length-append, refl, subst, take}
+use Rattle.std.proofs.Common.{◌≡◌, ◌∙◌, ◌∷◌, ◌++◌, ◌<◌, [], ℕ, List, Option, append-nil, arith, inl, inr, length, length-append, refl, subst, take}
 use Rattle.std.specs.Io.KnownBytes.{Consumes}
 use Rattle.std.proofs.KnownBytes.{Consumes-nil, Consumes-trans, Keeps-refl}
 use Rattle.std.proofs.lemmas.List.{length-take-le}
 use Rattle.std.proofs.lemmas.Result.{err_from_is_err_and}
-use Rattle.morris_queries.proofs.LineAnswerLaws.{lines_stopped, lines_unread}
-use Rattle.morris_queries.proofs.ReadingLaws.{ended_reads, reading_here, reading_on, reading_ended, stopped_reads}
+use Rattle.morris_queries.specs.InputLines.{texts_in}
+use Rattle.morris_queries.proofs.AnswerLaws.{all_out}
+use Rattle.morris_queries.proofs.LineAnswerLaws.{lines_stopped, lines_unread, stops_later}
+use Rattle.morris_queries.proofs.ReadingLaws.{reading_here, reading_on, stopped_reads}
 use Rattle.morris_queries.proofs.lines.Reading.read_all.Goals as goal
+
+-- the last read gave nothing
+consumed_all : (before mid after : Option (List ℕ)) (read piece : List ℕ) (n : ℕ) → Consumes before mid read → n ≡ 0 → Consumes mid after (take n piece) → Consumes before after read
+consumed_all before mid after read piece n got none last =
+    subst (Consumes before after) (append-nil read) (Consumes-trans before mid after read [] got (subst (λ k. Consumes mid after (take k piece)) none last))
 
 pub loop-init : goal.loop-init
 loop-init g c = record {
@@ -15,19 +22,36 @@ loop-init g c = record {
   read = λ name known start here. ([], Consumes-nil (g.I.Source.remaining c.args.input.now), here, omega arith);
 }
 
+-- the input is at its end, which ends its last line: a write of the answer failed, or all went out
+pub returns-in_err-end_line-in-Ok-eq0-clause-stays : goal.returns-in_err-end_line-in-Ok-eq0-clause-stays
+returns-in_err-end_line-in-Ok-eq0-clause-stays g c =
+    reading_on g.B.Geometry.shape g.L.Library.files c.args.self.now c.loop.self _ c.loop.invariant.stays c.in_err-end_line-in-Ok-eq0.ensures.stays
+
+pub returns-in_err-end_line-in-Ok-eq0-clause-answer : goal.returns-in_err-end_line-in-Ok-eq0-clause-answer
+returns-in_err-end_line-in-Ok-eq0-clause-answer g c = λ name known start here.
+    let failed = err_from_is_err_and c.from_residual.result c.from_residual.ensures.1 in
+    let so_far = c.loop.invariant.read name known start here in
+    let stops = rw c.loop.invariant.stays.show at (c.in_err-end_line-in-Ok-eq0.ensures.taken name known start so_far.0 so_far.2) in
+    rw (failed.1, failed.2)
+    (lines_stopped g.B.Geometry.shape name known c.args.self.now.show (g.I.Source.remaining c.args.input.now) (g.I.Source.remaining c.read.new.self)
+    start (g.O.Sink.contents c.end_line.new.self.output.now) so_far.0 c.in_err-end_line-in-Ok-eq0.field-0.0
+    (consumed_all _ (g.I.Source.remaining c.loop.input) _ so_far.0 c.read.new.buffer _ so_far.1 c.in-Ok-eq0.field-0-test c.in-Ok-eq0.ensures.bytes.0) stops)
+
 pub returns-in-Ok-eq0-clause-stays : goal.returns-in-Ok-eq0-clause-stays
-returns-in-Ok-eq0-clause-stays g c = reading_on g.B.Geometry.shape g.L.Library.files c.args.self.now c.loop.self _ c.loop.invariant.stays c.end.ensures.stays
+returns-in-Ok-eq0-clause-stays g c =
+    reading_on g.B.Geometry.shape g.L.Library.files c.args.self.now c.loop.self _ c.loop.invariant.stays c.in_ok-end_line-in-Ok-eq0.ensures.stays
 
 pub returns-in-Ok-eq0-clause-answer : goal.returns-in-Ok-eq0-clause-answer
 returns-in-Ok-eq0-clause-answer g c = λ name known start here.
-    let mid = g.I.Source.remaining c.loop.input in
-    let after = g.I.Source.remaining c.read.new.self in
-    let nothing : Consumes mid after [] = subst (λ (n : ℕ). Consumes mid after (take n c.read.new.buffer)) c.in-Ok-eq0.field-0-test c.in-Ok-eq0.ensures.bytes.0 in
     let room : 0 < length c.read.new.buffer = omega (arith, c.read.auto.buffer) in
     let so_far = c.loop.invariant.read name known start here in
-    rw (← c.loop.invariant.stays.show)
-    (reading_ended g.B.Geometry.shape g.L.Library.files g.O.Sink.contents name known (g.I.Source.remaining c.args.input.now) mid after start so_far.0 c.loop.self c.end.new.self c.end.result
-    so_far.1 nothing (c.in-Ok-eq0.ensures.bytes.1 c.in-Ok-eq0.field-0-test room) so_far.2 c.end.ensures.ended)
+    let ended = c.in_ok-end_line-in-Ok-eq0.ensures.taken name known start so_far.0 so_far.2 in (
+      so_far.0,
+      consumed_all _ (g.I.Source.remaining c.loop.input) _ so_far.0 c.read.new.buffer _ so_far.1 c.in-Ok-eq0.field-0-test c.in-Ok-eq0.ensures.bytes.0,
+      c.in-Ok-eq0.ensures.bytes.1 c.in-Ok-eq0.field-0-test room,
+      all_out g.B.Geometry.shape name known c.args.self.now.show (texts_in so_far.0) start (g.O.Sink.contents c.end_line.new.self.output.now) c.end_line.new.self.tally
+          (rw (c.in_ok-end_line-in-Ok-eq0.ensures.stays.show, c.loop.invariant.stays.show) at ended.to.out),
+    )
 
 pub returns-in_err-take_bytes-in-Ok-clause-stays : goal.returns-in_err-take_bytes-in-Ok-clause-stays
 returns-in_err-take_bytes-in-Ok-clause-stays g c =
@@ -35,13 +59,15 @@ returns-in_err-take_bytes-in-Ok-clause-stays g c =
 
 pub returns-in_err-take_bytes-in-Ok-clause-answer : goal.returns-in_err-take_bytes-in-Ok-clause-answer
 returns-in_err-take_bytes-in-Ok-clause-answer g c = λ name known start here.
-    let failed = err_from_is_err_and c.from_residual.result c.from_residual.ensures.1 in
+    let failed = err_from_is_err_and c.from_residual-in_err-take_bytes-in-Ok.result c.from_residual-in_err-take_bytes-in-Ok.ensures.1 in
     let so_far = c.loop.invariant.read name known start here in
     let stops = rw c.loop.invariant.stays.show at (c.in_err-take_bytes-in-Ok.ensures.taken name known start so_far.0 so_far.2) in
     rw (failed.1, failed.2)
-    (lines_stopped g.B.Geometry.shape name known c.args.self.now.show (g.I.Source.remaining c.args.input.now) (g.I.Source.remaining c.loop.input) (g.I.Source.remaining c.read.new.self)
-    start (g.O.Sink.contents c.take_bytes.new.self.output.now) so_far.0 (take c.in-Ok.count c.read.new.buffer) c.in_err-take_bytes-in-Ok.field-0.0
-    so_far.1 c.in-Ok.ensures.bytes.0 stops)
+    (lines_stopped g.B.Geometry.shape name known c.args.self.now.show (g.I.Source.remaining c.args.input.now) (g.I.Source.remaining c.read.new.self)
+    start (g.O.Sink.contents c.take_bytes.new.self.output.now) (so_far.0 ++ take c.in-Ok.count c.read.new.buffer) c.in_err-take_bytes-in-Ok.field-0.0
+    (Consumes-trans (g.I.Source.remaining c.args.input.now) (g.I.Source.remaining c.loop.input) (g.I.Source.remaining c.read.new.self) so_far.0 _ so_far.1 c.in-Ok.ensures.bytes.0)
+    (stops_later g.B.Geometry.shape name known c.args.self.now.show (so_far.0 ++ take c.in-Ok.count c.read.new.buffer) (10 ∷ []) start
+    (g.O.Sink.contents c.take_bytes.new.self.output.now) c.in_err-take_bytes-in-Ok.field-0.0 stops))
 
 pub returns-in-Err-clause-answer : goal.returns-in-Err-clause-answer
 returns-in-Err-clause-answer g c = λ name known start here.
@@ -82,16 +108,17 @@ returns-clause-answer g c = λ name known start here.
 
 -- ---- the reads
 
-pub returns-in-Ok-eq0-clause-reads : goal.returns-in-Ok-eq0-clause-reads
-returns-in-Ok-eq0-clause-reads g c = λ name known start here.
+pub returns-in_err-end_line-in-Ok-eq0-clause-reads : goal.returns-in_err-end_line-in-Ok-eq0-clause-reads
+returns-in_err-end_line-in-Ok-eq0-clause-reads g c = λ name known start here.
+    let failed = err_from_is_err_and c.from_residual.result c.from_residual.ensures.1 in
     let so_far = c.loop.invariant.read name known start here in
-    ended_reads g.B.Geometry.shape g.L.Library.files g.O.Sink.contents name known (g.I.Source.remaining c.args.input.now) (g.I.Source.remaining c.loop.input)
-    (g.I.Source.remaining c.read.new.self) start so_far.0 c.loop.self c.end.new.self c.end.result so_far.2 c.end.ensures.ended _ _
-    (c.in-Ok-eq0.ensures.counted ∙ c.loop.invariant.unread)
+    rw (failed.1, failed.2)
+    (stopped_reads g.B.Geometry.shape name known _ _ start _ (g.I.Source.remaining c.args.input.now) (g.I.Source.remaining c.read.new.self) c.in_err-end_line-in-Ok-eq0.field-0.0
+    (c.in_err-end_line-in-Ok-eq0.ensures.taken name known start so_far.0 so_far.2) _ _ (c.in-Ok-eq0.ensures.counted ∙ c.loop.invariant.unread))
 
 pub returns-in_err-take_bytes-in-Ok-clause-reads : goal.returns-in_err-take_bytes-in-Ok-clause-reads
 returns-in_err-take_bytes-in-Ok-clause-reads g c = λ name known start here.
-    let failed = err_from_is_err_and c.from_residual.result c.from_residual.ensures.1 in
+    let failed = err_from_is_err_and c.from_residual-in_err-take_bytes-in-Ok.result c.from_residual-in_err-take_bytes-in-Ok.ensures.1 in
     let so_far = c.loop.invariant.read name known start here in
     rw (failed.1, failed.2)
     (stopped_reads g.B.Geometry.shape name known _ _ start _ (g.I.Source.remaining c.args.input.now) (g.I.Source.remaining c.read.new.self) c.in_err-take_bytes-in-Ok.field-0.0

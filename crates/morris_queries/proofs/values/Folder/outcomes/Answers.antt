@@ -3,7 +3,7 @@ use Rattle.std.proofs.lemmas.Result.{err_from_is_err_and}
 use Rattle.morris_moves.specs.Rules.{moves_of}
 use Rattle.morris_queries.specs.Telling.{told_outcomes}
 use Rattle.morris_queries.proofs.FolderLaws.{stays_here, stays_on}
-use Rattle.morris_queries.proofs.TellingLaws.{refusal_from, agreed, outcomes_refused, outcomes_more, outcomes_all, prepended-nil, steps_more}
+use Rattle.morris_queries.proofs.TellingLaws.{agreed, outcomes_refused, outcomes_more, outcomes_all, prepended-nil, steps_more}
 use Rattle.morris_queries.proofs.values.Folder.outcomes.Goals as goal
 
 pub loop-m-init : goal.loop-m-init
@@ -24,7 +24,7 @@ returns-in_err-value-clause-told g c = λ name files of.
     (outcomes_refused g.B.Geometry.shape name files c.args.position.now c.loop-m.outcomes.items c.loop-m.m-iterator c.next.new.self c.in-Some.m
     (told_outcomes g.B.Geometry.shape name files c.args.position.now (moves_of g.B.Geometry.shape c.args.position.now)) (c.loop-m.invariant.told name files of)
     c.in-Some.ensures.steps c.in_err-value.field-0.0
-    (refusal_from _ _ (rw c.play.ensures at (c.in_err-value.ensures.told name files (c.loop-m.invariant.stays.still name (Some files) of)))))
+    (rw c.play.ensures at (c.in_err-value.ensures.told name files (c.loop-m.invariant.stays.still name (Some files) of))))
 
 pub returns-in_err-keep-clause-stays : goal.returns-in_err-keep-clause-stays
 returns-in_err-keep-clause-stays g c = stays_on g.B.Geometry.shape g.L.Library.files c.args.self.now c.loop-m.self _ c.loop-m.invariant.stays c.in_ok-value.ensures.stays

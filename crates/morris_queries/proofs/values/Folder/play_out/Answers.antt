@@ -5,7 +5,7 @@ use Rattle.std.proofs.lemmas.Result.{err_from_is_err_and}
 use Rattle.morris_moves.specs.Rules.{moves_of}
 use Rattle.morris_queries.specs.Telling.{told_line}
 use Rattle.morris_queries.proofs.FolderLaws.{stays_here, stays_on}
-use Rattle.morris_queries.proofs.TellingLaws.{refusal_from, agreed, first_legal, line_refused, line_ends, line_more, line_all, prepended-nil}
+use Rattle.morris_queries.proofs.TellingLaws.{agreed, first_legal, line_refused, line_ends, line_more, line_all, prepended-nil}
 use Rattle.morris_queries.proofs.values.Folder.play_out.Goals as goal
 
 pub loop-init : goal.loop-init
@@ -42,7 +42,7 @@ returns-in_err-told-clause-told g c = λ name files of.
     (line_refused g.B.Geometry.shape name files c.loop.here c.loop.line.items (c.args.plies - c.loop.counter) (c.args.plies - (c.loop.counter + 1)) c.loop.next
     (told_line g.B.Geometry.shape name files c.args.plies c.args.position.now c.args.first) (c.loop.invariant.told name files of) (omega arith)
     c.in-Some.m c.play-here.result c.in-Some.is c.play-here.ensures c.in_err-told.field-0.0
-    (refusal_from _ _ (c.in_err-told.ensures.told name files (c.loop.invariant.stays.still name (Some files) of))))
+    (c.in_err-told.ensures.told name files (c.loop.invariant.stays.still name (Some files) of)))
 
 pub returns-in_err-keep-clause-stays : goal.returns-in_err-keep-clause-stays
 returns-in_err-keep-clause-stays g c = stays_on g.B.Geometry.shape g.L.Library.files c.args.self.now c.loop.self _ c.loop.invariant.stays c.in_ok-told.ensures.stays

@@ -5,15 +5,15 @@ use Rattle.std.proofs.lemmas.Result.{err_from_is_err_and}
 use Rattle.morris_moves.specs.Rules.{moves_of}
 use Rattle.morris_queries.specs.Telling.{Telling, telling, told_of}
 use Rattle.morris_queries.proofs.FolderLaws.{stays_on}
-use Rattle.morris_queries.proofs.TellingLaws.{refusal_from, agrees_from, agreed, first_legal, shown_refused, shown_line_refused, shown_with_line, shown_without}
+use Rattle.morris_queries.proofs.TellingLaws.{agreed, first_legal, shown_refused, shown_line_refused, shown_with_line, shown_without}
 use Rattle.morris_queries.proofs.values.Folder.tell.Goals as goal
 
 pub returns-in_err-told-clause-told : goal.returns-in_err-told-clause-told
 returns-in_err-told-clause-told g c = λ name files of.
     let failed = err_from_is_err_and c.from_residual.result c.from_residual.ensures.1 in
     rw (failed.1, failed.2)
-    (agrees_from _ _ (shown_refused g.B.Geometry.shape name files c.args.position.now c.args.show c.in_err-told.field-0.0
-    (refusal_from _ _ (c.in_err-told.ensures.told name files of))))
+    (shown_refused g.B.Geometry.shape name files c.args.position.now c.args.show c.in_err-told.field-0.0
+    (c.in_err-told.ensures.told name files of))
 
 pub play_out-requires : goal.play_out-requires
 play_out-requires g c =
@@ -37,8 +37,8 @@ returns-in_err-line-in-Line-clause-told g c = λ name files of.
     let first : c.copied-first.result ≡ slice_get t.best 0 =
     c.copied-first.ensures ∙ (c.first.ensures.value ∙ ap (λ ms. slice_get ms 0) (c.best.ensures ∙ ap (λ (u : Telling). u.best) (sym c.told.view_is))) in
     rw (failed.1, failed.2, c.in-Line.is)
-    (agrees_from _ _ (shown_line_refused g.B.Geometry.shape name files c.args.position.now t c.in_err-line-in-Line.field-0.0 found
-    (rw (c.depth_of.ensures, first) at (c.in_err-line-in-Line.ensures.told name files (c.in_ok-told.ensures.stays.still name (Some files) of)))))
+    (shown_line_refused g.B.Geometry.shape name files c.args.position.now t c.in_err-line-in-Line.field-0.0 found
+    (rw (c.depth_of.ensures, first) at (c.in_err-line-in-Line.ensures.told name files (c.in_ok-told.ensures.stays.still name (Some files) of))))
 
 pub returns-in_ok-line-in-Line-clause-stays : goal.returns-in_ok-line-in-Line-clause-stays
 returns-in_ok-line-in-Line-clause-stays g c =

@@ -3,15 +3,15 @@ use Rattle.std.proofs.lemmas.Result.{err_from_is_err_and}
 use Rattle.morris_lookup.specs.Outcomes.{best_among, same_value}
 use Rattle.morris_queries.specs.Telling.{value_from}
 use Rattle.morris_queries.proofs.FolderLaws.{stays_on}
-use Rattle.morris_queries.proofs.TellingLaws.{refusal_from, agrees_from, agreed, told_refused_value, told_refused_outcomes, told_found, told_disagrees, best_few}
+use Rattle.morris_queries.proofs.TellingLaws.{agreed, told_refused_value, told_refused_outcomes, told_found, told_disagrees, best_few}
 use Rattle.morris_queries.proofs.values.Folder.tell_best.Goals as goal
 
 pub returns-in_err-value-clause-told : goal.returns-in_err-value-clause-told
 returns-in_err-value-clause-told g c = λ name files of.
     let failed = err_from_is_err_and c.from_residual.result c.from_residual.ensures.1 in
     rw (failed.1, failed.2)
-    (agrees_from _ _ (told_refused_value g.B.Geometry.shape name files c.args.position.now c.in_err-value.field-0.0
-    (refusal_from _ _ (c.in_err-value.ensures.told name files of))))
+    (told_refused_value g.B.Geometry.shape name files c.args.position.now c.in_err-value.field-0.0
+    (c.in_err-value.ensures.told name files of))
 
 pub returns-in_err-outcomes-clause-stays : goal.returns-in_err-outcomes-clause-stays
 returns-in_err-outcomes-clause-stays g c =
@@ -21,8 +21,8 @@ pub returns-in_err-outcomes-clause-told : goal.returns-in_err-outcomes-clause-to
 returns-in_err-outcomes-clause-told g c = λ name files of.
     let failed = err_from_is_err_and c.from_residual-in_err-outcomes.result c.from_residual-in_err-outcomes.ensures.1 in
     rw (failed.1, failed.2)
-    (agrees_from _ _ (told_refused_outcomes g.B.Geometry.shape name files c.args.position.now c.in_err-outcomes.field-0.0 c.in_ok-value.value
-    (agreed _ _ (c.in_ok-value.ensures.told name files of)) (c.in_err-outcomes.ensures.told name files (c.in_ok-value.ensures.stays.still name (Some files) of))))
+    (told_refused_outcomes g.B.Geometry.shape name files c.args.position.now c.in_err-outcomes.field-0.0 c.in_ok-value.value
+    (agreed _ _ (c.in_ok-value.ensures.told name files of)) (c.in_err-outcomes.ensures.told name files (c.in_ok-value.ensures.stays.still name (Some files) of)))
 
 pub returns-in_err-best-clause-stays : goal.returns-in_err-best-clause-stays
 returns-in_err-best-clause-stays g c =

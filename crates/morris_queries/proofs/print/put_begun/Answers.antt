@@ -1,6 +1,0 @@
-use Rattle.morris_board.proofs.PrinterLaws.{and_then}
-use Rattle.morris_queries.proofs.print.put_begun.Goals as goal
-
-pub returns : goal.returns
-returns g c =
-    and_then (and_then c.put.ensures c.put_move.ensures) c.put_spaced.ensures
