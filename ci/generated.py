@@ -16,6 +16,7 @@ A part stands between a mark `<!-- from KIND WORDS -->`, of one line or more, an
     options COMMAND           the options of a command, as its help lists them
     pairs FILE                what bench/pairs put into docs/FILE, as a table
     picture FILE              the same as a picture, by bench/picture.py
+    took FILE                 what bench/whole put into docs/FILE, as a table
 """
 
 import csv
@@ -209,6 +210,22 @@ def picture(_, file):
     return drawing.picture(read(f"docs/{file}").splitlines())
 
 
+def took(_, file):
+    """What the build and the verification of each pair took, as a table, and of all together."""
+    rows = list(csv.DictReader(read(f"docs/{file}").splitlines()))
+    found = {it: [float(row[it]) for row in rows] for it in rows[0] if it != "pair"}
+    whole = {it: max(has) if it.endswith("bytes") else sum(has) for it, has in found.items()}
+    made = ["| pair | build | processors | memory | verification | processors | memory |"]
+    made += ["|---|---|---|---|---|---|---|"]
+    for row in [*rows, {"pair": "all", **whole}]:
+        shown = [row["pair"]]
+        for name in found:
+            is_size, value = name.endswith("bytes"), float(row[name])
+            shown.append(f"{value / 1e6:,.0f} MB" if is_size else f"{value:,.1f} s")
+        made.append(f"| {' | '.join(shown)} |")
+    return made
+
+
 MAKERS = {
     "definitions": definitions,
     "source": source,
@@ -217,6 +234,7 @@ MAKERS = {
     "options": options,
     "pairs": pairs,
     "picture": picture,
+    "took": took,
 }
 
 
