@@ -125,7 +125,7 @@ flaw_told (flaw.Differs index) = (14, codes "entry " ++ decimal index ++ codes "
 abbrev pub unanswered_text : ℕ → List ℕ
 unanswered_text count = if count == 1 then codes "1 line has no answer" else decimal count ++ codes " lines have no answer"
 
--- the number of a fault, and its text but for the file in which it was met
+-- the number of a fault, and its text without the file in which it was met
 abbrev pub fault_told : Fault → ℕ × List ℕ
 fault_told fault.Length = (1, codes "text is not one character per point")
 fault_told (fault.Character place) = (2, codes "bad character at " ++ decimal place)

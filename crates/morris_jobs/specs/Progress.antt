@@ -156,7 +156,7 @@ module _ {E : Type 0} (contents : E → Option (List ℕ)) (failures : E → ℕ
   -- What telling makes of who tells: of the same sink, which was told some lines, or nothing where it
   -- isn't told anything. Nothing more is told after a write that failed, and nothing before how much
   -- there is to do, which stays what it is once it is known.
-  pub record Goes (old new : Telling E) : Type 0 where
+  pub record Continues (old new : Telling E) : Type 0 where
     pub same : new.lent ≡ old.lent
     pub silent : old.tells ≡ false → (new.tells ≡ false) × (new.sink ≡ old.sink)
     pub rewrites : new.rewrites ≡ old.rewrites
@@ -166,7 +166,7 @@ module _ {E : Type 0} (contents : E → Option (List ℕ)) (failures : E → ℕ
     pub kept : old.has_begun ≡ true → (new.has_begun ≡ true) × (new.whole ≡ old.whole)
 
   abbrev pub Becomes : {R : Type 0} → Progress R E → Progress R E → Type 0
-  Becomes old new = Goes (telling_of old) (telling_of new)
+  Becomes old new = Continues (telling_of old) (telling_of new)
 
   -- What telling one of the news makes of who tells: what it was, where it isn't told anything or it
   -- isn't known how much there is to do. Else its line went out, or its first bytes up to the write

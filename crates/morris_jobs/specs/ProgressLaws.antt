@@ -6,7 +6,7 @@ use Rattle.morris_jobs.specs.declared.progress.News.TheVariants as news
 use Rattle.morris_jobs.specs.declared.progress.Progress.{Progress}
 use Rattle.morris_board.specs.Streams.{CountsFailure}
 use Rattle.morris_board.specs.Printers.{WentOut}
-use Rattle.morris_jobs.specs.Progress.{Becomes, BeginsWithWhole, Goes, GoesOn, IsWholeFirst, MayTell, Speaks, Telling, Tells, TellsInOrder, Told, has_begun_of, news_line, rewrites_of, sink_of, telling_of, tells_of, whole_of}
+use Rattle.morris_jobs.specs.Progress.{Becomes, BeginsWithWhole, Continues, GoesOn, IsWholeFirst, MayTell, Speaks, Telling, Tells, TellsInOrder, Told, has_begun_of, news_line, rewrites_of, sink_of, telling_of, tells_of, whole_of}
 
 -- failures only rise, and by one at most
 counts_up : (old new : ℕ) (sent : Result (Unit {0}) ℕ) → CountsFailure old new sent → (old ≤ new) × (new ≤ old + 1)
@@ -67,10 +67,10 @@ then_more a b t u whole more (n ∷ lines) rest h kept begins = absurd h
 module _ {E : Type 0} (contents : E → Option (List ℕ)) (failures : E → ℕ) where
   -- Who is told of by no line: how much there is to do isn't known yet, or is known as before, or
   -- nothing more is told.
-  Goes-silent : (a b : Telling E) → b.lent ≡ a.lent → b.rewrites ≡ a.rewrites → b.sink ≡ a.sink → (a.tells ≡ false → b.tells ≡ false)
+  Continues-silent : (a b : Telling E) → b.lent ≡ a.lent → b.rewrites ≡ a.rewrites → b.sink ≡ a.sink → (a.tells ≡ false → b.tells ≡ false)
       → (a.has_begun ≡ false → b.has_begun ≡ true → b.tells ≡ false) → (a.has_begun ≡ true → (b.has_begun ≡ true) × (b.whole ≡ a.whole))
-      → Goes contents failures a b
-  Goes-silent a b lent rewrites sink tells first kept = record {
+      → Continues contents failures a b
+  Continues-silent a b lent rewrites sink tells first kept = record {
     same = lent;
     silent = λ e. (tells e, sink);
     rewrites = rewrites;
@@ -91,18 +91,18 @@ module _ {E : Type 0} (contents : E → Option (List ℕ)) (failures : E → ℕ
 
   -- Who tells one of the news, before which it may come to be known how much there is to do, goes on
   -- where its line went out.
-  pub Goes-speaks : (a b : Telling E) (n : News) (begun : Bool) (whole : ℕ) → Speaks contents failures (knowing a begun whole) b n
+  pub Continues-speaks : (a b : Telling E) (n : News) (begun : Bool) (whole : ℕ) → Speaks contents failures (knowing a begun whole) b n
       → (a.has_begun ≡ false → begun ≡ true → BeginsWithWhole b.has_begun b.tells b.whole (n ∷ []))
-      → (a.has_begun ≡ true → (begun ≡ true) × (whole ≡ a.whole)) → Goes contents failures a b
+      → (a.has_begun ≡ true → (begun ≡ true) × (whole ≡ a.whole)) → Continues contents failures a b
   unfolding Tells-line
-  Goes-speaks a b n begun whole speaks first kept = elim (cases_Bool a.tells) [
+  Continues-speaks a b n begun whole speaks first kept = elim (cases_Bool a.tells) [
     | inr none ↦
         let s = speaks.silent none in
-        Goes-silent a b speaks.same speaks.rewrites s.1 (λ e. s.0) (λ new known. s.0) keeps
+        Continues-silent a b speaks.same speaks.rewrites s.1 (λ e. s.0) (λ new known. s.0) keeps
     | inl tells ↦ elim (cases_Bool begun) [
       | inr early ↦
           let s = speaks.early early in
-          Goes-silent a b speaks.same speaks.rewrites s.1 (λ e. s.0 ∙ e)
+          Continues-silent a b speaks.same speaks.rewrites s.1 (λ e. s.0 ∙ e)
           (λ new known.
           let bad : true ≡ false = sym known ∙ (speaks.begun ∙ early) in
           cc)
@@ -123,7 +123,7 @@ module _ {E : Type 0} (contents : E → Option (List ℕ)) (failures : E → ℕ
             }
         | inr full ↦
             let s = speaks.cramped tells known (omega (arith, full)) in
-            Goes-silent a b speaks.same speaks.rewrites s.1 (λ e. s.0) (λ new known. s.0) keeps
+            Continues-silent a b speaks.same speaks.rewrites s.1 (λ e. s.0) (λ new known. s.0) keeps
       ]
     ]
   ]
@@ -136,8 +136,8 @@ module _ {E : Type 0} (contents : E → Option (List ℕ)) (failures : E → ℕ
       uncounted (Err part) e h = cc
 
   -- after a first call and then another
-  Goes-joins : (a b c : Telling E) → Goes contents failures a b → Goes contents failures b c → Goes contents failures a c
-  Goes-joins a b c one two = elim (cases_Bool b.tells) [
+  Continues-joins : (a b c : Telling E) → Continues contents failures a b → Continues contents failures b c → Continues contents failures a c
+  Continues-joins a b c one two = elim (cases_Bool b.tells) [
     | inl tells ↦ record {
       same = two.same ∙ one.same;
       silent = λ none.
@@ -191,7 +191,7 @@ module _ {E : Type 0} (contents : E → Option (List ℕ)) (failures : E → ℕ
     -- who tells nothing is what they were
     pub Becomes-stays : (p : Progress R E) → Becomes contents failures p p
     Becomes-stays p =
-        Goes-silent (telling_of p) (telling_of p) refl refl refl (λ e. e)
+        Continues-silent (telling_of p) (telling_of p) refl refl refl (λ e. e)
         (λ new known.
         let bad : true ≡ false = sym known ∙ new in
         cc)
@@ -200,7 +200,7 @@ module _ {E : Type 0} (contents : E → Option (List ℕ)) (failures : E → ℕ
     -- who tells one of the news
     pub Becomes-speaks : (p q : Progress R E) (n : News) → Speaks contents failures (telling_of p) (telling_of q) n → Becomes contents failures p q
     Becomes-speaks p q n speaks =
-        Goes-speaks (telling_of p) (telling_of q) n (has_begun_of p) (whole_of p) speaks
+        Continues-speaks (telling_of p) (telling_of q) n (has_begun_of p) (whole_of p) speaks
         (λ new known.
         let bad : true ≡ false = sym known ∙ new in
         cc)
@@ -216,7 +216,7 @@ module _ {E : Type 0} (contents : E → Option (List ℕ)) (failures : E → ℕ
     ]
 
     pub Becomes-joins : (p q r : Progress R E) → Becomes contents failures p q → Becomes contents failures q r → Becomes contents failures p r
-    Becomes-joins p q r one two = Goes-joins (telling_of p) (telling_of q) (telling_of r) one two
+    Becomes-joins p q r one two = Continues-joins (telling_of p) (telling_of q) (telling_of r) one two
 
     pub Becomes-in_order : (p q : Progress R E) → has_begun_of p ≡ false → Becomes contents failures p q
         → TellsInOrder contents failures (rewrites_of p) (sink_of p) (sink_of q)

@@ -118,7 +118,7 @@ impl Fault {
         self.told().0
     }
 
-    /// The number of the fault, and its words but for the file in which it was met.
+    /// The number of the fault, and its words without the file in which it was met.
     pub fn told(&self) -> (u8, Words)
         ensures number { result.0 ≡ fault_number self.now }
         ensures text { said result.1 ≡ own_text self.now }

@@ -66,8 +66,8 @@ fn class_half_size<B: Geometry>(list: &[u32], own: u8, other: u8) -> u64
     list.len() as u64 * binomial(B::POINTS - own, other)
 }
 
-/// The number of a position's entry among those with as many stones of either player, by the list of
-/// the representatives for those of the player to move and by words that may lead these.
+/// The number of a position's entry among those with as many stones of either player, by the list
+/// of the representatives for those of the player to move and by words that may lead these.
 fn class_half_index<B: Geometry>(list: &[u32], leads: &[u32], position: &Position<B>) -> u64
     requires few { length list.now < 2 ^ 32 }
     ensures value { list.now ≡ representatives_of B.shape (count_of position.now.own) → LeadAll B.shape (count_of position.now.own) leads.now → result ≡ class_half_index B.shape B.POINTS position.now }

@@ -26,19 +26,13 @@ pub(crate) fn class_by<B: Geometry>(
     ensures few { result.0 < 2 ^ 32 }
     ensures one { result.1 < B.SYMMETRIES }
 {
-    if leads.is_empty() {
-        return class_of::<B>(representatives, set);
+    if !leads.is_empty()
+        && let Some((class, symmetry)) = lead_at(leads, rank(set))
+        && symmetry < B::SYMMETRIES
+    {
+        return (class, symmetry);
     }
-    match lead_at(leads, rank(set)) {
-        None => class_of::<B>(representatives, set),
-        Some((class, symmetry)) => {
-            if symmetry < B::SYMMETRIES {
-                (class, symmetry)
-            } else {
-                class_of::<B>(representatives, set)
-            }
-        }
-    }
+    class_of::<B>(representatives, set)
 }
 
 /// The class and the symmetry that the word at a place says, where there is one.

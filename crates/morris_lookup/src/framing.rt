@@ -15,8 +15,8 @@ use morris_pairs::reading::DIGEST;
 /// bytes there are.
 ///
 /// # Errors
-/// `Short` where there are fewer bytes than a header has; `Magic`, `Version`, `BoardId`, `Counts` and
-/// `Crowded` for the header; and `Read` where they can't be read.
+/// `Short` where there are fewer bytes than a header has; `Magic`, `Version`, `BoardId`, `Counts`
+/// and `Crowded` for the header; and `Read` where they can't be read.
 pub(crate) fn heading_of<B: Geometry, S: Storage>(
     storage: &S,
 ) -> Result<(Layout, Pair<B>, u64, u64), ReadFault>

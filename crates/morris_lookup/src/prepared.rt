@@ -49,8 +49,8 @@ fn set_count<B: Geometry>(count: u8) -> usize
 }
 
 /// Fills the first words with the prepared ones, and answers how many these are; `None` where there
-/// are fewer words than [`prepared_count`] says, of which some may have changed then. It goes through
-/// the sets of points as [`prepared_count`] does, and takes no memory.
+/// are fewer words than [`prepared_count`] says, of which some may have changed then. It goes
+/// through the sets of points as [`prepared_count`] does, and takes no memory.
 pub fn prepare<B: Geometry>(words: &mut [u32]) -> Option<usize>
     ensures prepared { IfSome result (λ _. IsPrepared B.shape words.new) }
     ensures count { IfSome result (λ count. count ≡ prepared_count B.shape) }
@@ -152,9 +152,9 @@ fn lists_for<B: Geometry>(words: &[u32], count: u8) -> Result<(&[u32], &[u32]), 
     Ok((list, leads))
 }
 
-/// What the entries of a pair go by in a layout, in words that may be prepared ones: the lists of the
-/// representatives of the classes of sets of its greater and of its lesser number of points, each
-/// with the words that lead the sets.
+/// What the entries of a pair go by in a layout, in words that may be prepared ones: the lists of
+/// the representatives of the classes of sets of its greater and of its lesser number of points,
+/// each with the words that lead the sets.
 ///
 /// # Errors
 /// [`ViewFault::Words`] in layout `Classes` where the words aren't prepared ones, as far as that is

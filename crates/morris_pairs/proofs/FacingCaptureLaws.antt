@@ -2,7 +2,7 @@
 use Rattle.std.proofs.Common.{◌≡◌, ℕ, ◌<◌, ◌≤◌, Bool, true, false, not, ◌&&◌, ltb, eqb, List, [], ◌∷◌, ◌++◌, map, filter, replicate, Some, is_none, refl, sym, ap, subst, ◌∙◌, inl, inr, arith, append_assoc}
 use Rattle.std.proofs.Math.Bool.{and_assoc}
 use Rattle.std.proofs.lemmas.Bool.{cases_eq, both_ways, eq-eqb, or_right, lt-ltb, ltb-true, and_parts, and_from, not-true}
-use Rattle.std.proofs.lemmas.List.{flat_map_more, map-append}
+use Rattle.std.proofs.lemmas.List.{flat_map_more}
 use Rattle.std.proofs.lemmas.List.Elements.{All-replicate}
 use Rattle.std.specs.List.{All, Contains, flat_map}
 use Rattle.morris_board.specs.Boards.{Shape}

@@ -4,17 +4,16 @@ use Rattle.std.proofs.Common.{◌≡◌, ℕ, ◌+◌, ◌-◌, ◌<◌, ◌≤�
 use Rattle.std.proofs.lemmas.Bool.{cases_lt}
 use Rattle.std.proofs.lemmas.List.{length-take-le, get_or-take, get_or_append_left, get_or-append_right}
 use Rattle.morris_board.specs.Boards.{Shape, is_board}
-use Rattle.morris_board.specs.Positions.{Sides, IsPosition}
+use Rattle.morris_board.specs.Positions.{Sides}
 use Rattle.morris_board.specs.Symmetries.{HasSymmetries}
 use Rattle.morris_index.specs.ClassPairs.{class_half_size}
-use Rattle.morris_index.specs.Pairs.{Counts, IsPair, is_of}
-use Rattle.morris_wave.specs.Nets.{Net}
+use Rattle.morris_index.specs.Pairs.{Counts, IsPair}
 use Rattle.morris_wave.specs.Values.{HasCode}
 use Rattle.morris_pairs.specs.Codes.{IsCodeOf}
 use Rattle.morris_pairs.specs.EntryLaws.{laid_in}
 use Rattle.morris_pairs.specs.Graphs.{HasValuesIn}
 use Rattle.morris_pairs.specs.NetLaws.{points_few}
-use Rattle.morris_pairs.specs.Orders.{Classes, Rows, is_ahead, count_in, index_in, own_in}
+use Rattle.morris_pairs.specs.Orders.{Classes, Rows, is_ahead, count_in, index_in}
 use Rattle.morris_pairs.specs.PairNets.{level_in, net_at}
 use Rattle.morris_pairs.specs.RowGraphs.{IsEntryCode, AreCodesFrom}
 use Rattle.morris_pairs.proofs.GraphLaws.{size_at}

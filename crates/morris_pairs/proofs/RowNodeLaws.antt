@@ -1,9 +1,8 @@
 -- The nodes of a pair of two different numbers by rows: their positions, and which moves lead to
 -- them.
-use Rattle.std.proofs.Common.{◌≡◌, ◌≢◌, ℕ, zero, suc, ◌+◌, ◌^◌, ◌<◌, ◌≤◌, Bool, true, false, ◌&&◌, eqb, leb, List, [], ◌∷◌, ◌++◌, map, filter, refl, sym, ap, ap₂, subst, ◌∙◌, inl, inr, arith, append_assoc}
+use Rattle.std.proofs.Common.{◌≡◌, ◌≢◌, ℕ, zero, suc, ◌+◌, ◌^◌, ◌<◌, ◌≤◌, Bool, true, false, eqb, leb, [], ◌∷◌, map, filter, refl, sym, ap, ap₂, subst, ◌∙◌, inl, inr, arith}
 use Rattle.std.specs.List.{range_with_len}
 use Rattle.std.proofs.lemmas.Bool.{cases_Bool, both_ways, eq-eqb, eqb-true, ne_eqb, le-leb, lt-leb, and_parts, and_from, false_from_ne_true}
-use Rattle.std.proofs.lemmas.List.{map-append}
 use Rattle.morris_board.specs.Boards.{Shape, is_board}
 use Rattle.morris_board.specs.Sets.{count_of}
 use Rattle.morris_board.specs.Positions.{Sides, sides, IsPosition}
@@ -18,7 +17,6 @@ use Rattle.morris_index.specs.Pairs.{Counts, IsPair, is_of}
 use Rattle.morris_index.proofs.ClassLaws.{image_none, image_within, led_least, representative_symmetry, representative_twice}
 use Rattle.morris_index.proofs.ClassPairLaws.{class_below, class_index-lt, index-first, index-second}
 use Rattle.morris_index.proofs.FacingLaws.{turned_of}
-use Rattle.morris_index.proofs.RankLaws.{passing-yes, passing-no}
 use Rattle.morris_pairs.specs.Backward.{rows_before}
 use Rattle.morris_pairs.specs.EntryLaws.{laid_in, ahead-yes, ahead-no, ahead_cases, is_ahead-image, row_size-two, row_index-ahead, row_index-behind}
 use Rattle.morris_pairs.specs.Orders.{Rows, is_ahead, ahead, row_size_of, row_index_of, own_in}

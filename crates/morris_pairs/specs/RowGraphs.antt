@@ -1,5 +1,5 @@
 -- The graph of a pair by rows.
-use Rattle.std.specs.Prelude.{◌≡◌, ℕ, ◌+◌, ◌<◌, true, List, length, slice_index}
+use Rattle.std.specs.Prelude.{◌≡◌, ℕ, ◌+◌, ◌<◌, true, List, slice_index}
 use Rattle.morris_board.specs.Boards.{Shape}
 use Rattle.morris_board.specs.Positions.{Sides, IsPosition}
 use Rattle.morris_index.specs.Pairs.{Counts, IsPair, is_of}
@@ -30,7 +30,8 @@ IsEntryCode board n c nodes entry code =
     (s : Sides) → IsPosition board s → is_of c s ≡ true → own_in board Classes s ≡ true
     → index_in board n Classes c s ≡ entry → code ≡ slice_index nodes (index_in board n Rows c s)
 
--- The codes of so many entries of a pair by classes, on n points, from `first` on, among those of its nodes.
+-- The codes of so many entries of a pair by classes, on n points, from `first` on, among those of
+-- its nodes by rows.
 abbrev pub AreCodesFrom : Shape → ℕ → Counts → List ℕ → ℕ → ℕ → List ℕ → Type 0
 AreCodesFrom board n c nodes first many entries =
     (k : ℕ) → k < many → IsEntryCode board n c nodes (first + k) (slice_index entries k)

@@ -10,21 +10,22 @@ use Rattle.morris_queries.specs.Folders.{IsOf, Stays, lent_of, library_of}
 use Rattle.morris_queries.specs.Telling.{AreOf, table_in}
 use Rattle.morris_queries.proofs.OpenLaws.{of_more}
 
-module _ {B L F : Type 0} (board : Shape) (files_of : L → Option Files) where
-  pub known_as : (name : List ℕ) (known : Option Files) (files : Files) (folder : Folder B L F) → known ≡ Some files → IsOf board files_of name known folder
+module _ {B L F : Type 0} {board : Shape} {files_of : L → Option Files} where
+  pub known_as : {name : List ℕ} {known : Option Files} {files : Files} {folder : Folder B L F} → known ≡ Some files → IsOf board files_of name known folder
       → IsOf board files_of name (Some files) folder
-  known_as name known files folder is of = subst (λ k. IsOf board files_of name k folder) is of
+  known_as {name = name} {folder = folder} is of = subst (λ k. IsOf board files_of name k folder) is of
 
-  pub stays_here : (folder : Folder B L F) → Stays board files_of folder folder
-  stays_here folder = record { same = refl; kept = refl; still = λ name known of. of }
+  pub stays_here : {folder : Folder B L F} → Stays board files_of folder folder
+  stays_here = record { same = refl; kept = refl; still = λ name known of. of }
 
-  pub stays_on : (a b c : Folder B L F) → Stays board files_of a b → Stays board files_of b c → Stays board files_of a c
-  stays_on a b c first next = record {
+  pub stays_on : {a b c : Folder B L F} → Stays board files_of a b → Stays board files_of b c → Stays board files_of a c
+  stays_on first next = record {
     same = next.same ∙ first.same;
     kept = next.kept ∙ first.kept;
     still = λ name known of. next.still name known (first.still name known of);
   }
 
+module _ {B L F : Type 0} (board : Shape) (files_of : L → Option Files) where
   -- a file was looked for
   pub stays_asked : (old new : Folder B L F) → lent_of new ≡ lent_of old → new.board.now ≡ old.board.now → new.tables.now ≡ old.tables.now
       → files_of (library_of new) ≡ files_of (library_of old) → Stays board files_of old new
@@ -50,7 +51,7 @@ module _ {B L F : Type 0} (board : Shape) (files_of : L → Option Files) where
           found = ap files_of library ∙ m.found;
           opened =
               of_more board n known mid.tables.now new.tables.now file m.opened
-              (λ files is. this n files (known_as n known files old is of)) here others;
+              (λ files is. this n files (known_as is of)) here others;
         };
   }
 

@@ -10,16 +10,12 @@ use Rattle.morris_queries.specs.LineAnswers.{CountsReads, StopsIn}
 use Rattle.morris_queries.specs.Readings.{StaysOf}
 use Rattle.morris_queries.proofs.FolderLaws.{stays_here, stays_on}
 
-module _ {B L O F : Type 0} (board : Shape) (files_of : L → Option Files) where
-  pub reading_here : (r : Reading B L O F) → StaysOf board files_of r r
-  reading_here r = record { folder = stays_here board files_of r.folder; output = refl; show = refl }
+module _ {B L O F : Type 0} {board : Shape} {files_of : L → Option Files} where
+  pub reading_here : {r : Reading B L O F} → StaysOf board files_of r r
+  reading_here = record { folder = stays_here; output = refl; show = refl }
 
-  pub reading_on : (a b c : Reading B L O F) → StaysOf board files_of a b → StaysOf board files_of b c → StaysOf board files_of a c
-  reading_on a b c first next = record {
-    folder = stays_on board files_of a.folder b.folder c.folder first.folder next.folder;
-    output = next.output ∙ first.output;
-    show = next.show ∙ first.show;
-  }
+  pub reading_on : {a b c : Reading B L O F} → StaysOf board files_of a b → StaysOf board files_of b c → StaysOf board files_of a c
+  reading_on first next = record { folder = stays_on first.folder next.folder; output = next.output ∙ first.output; show = next.show ∙ first.show }
 
 -- a write that stops it is no read
 pub stopped_reads : (board : Shape) (name : List ℕ) (known : Option Files) (show : Show) (texts : List (List ℕ)) (start out before after : Option (List ℕ))

@@ -23,16 +23,16 @@ module _ (board : Shape) (few : board.points ≤ 24) (y : HasSymmetries board) (
 pub rank-requires-clause-board : goal.rank-requires-clause-board
 rank-requires-clause-board g c = within_24 c.args.set g.B.Geometry.POINTS c.requires.within g.met.B.Geometry.few
 
-pub returns-then-symmetry-SYMMETRIES-clause-class : goal.returns-then-symmetry-SYMMETRIES-clause-class
-returns-then-symmetry-SYMMETRIES-clause-class g c = λ listed lead.
+pub returns-clause-class : goal.returns-clause-class
+returns-clause-class g c = λ listed lead.
     let few : g.B.Geometry.shape.points ≤ 24 = omega (arith, g.met.B.Geometry.few, g.met.B.Geometry.point_count) in
     let most : g.B.Geometry.shape.symmetries ≤ 16 = omega (arith, g.met.B.Geometry.few_symmetries, g.met.B.Geometry.symmetry_count) in
     let small : c.args.set < 2 ^ g.B.Geometry.shape.points = subst (λ n. c.args.set < 2 ^ n) (sym g.met.B.Geometry.point_count) c.requires.within in
     c.in-Some.ensures.class
     ∙ (parts g.B.Geometry.shape few g.met.B.Geometry.has_symmetries most c.args.leads.now c.args.set c.rank.result lead small c.rank.ensures.value c.in-Some.ensures.inside).0
 
-pub returns-then-symmetry-SYMMETRIES-clause-symmetry : goal.returns-then-symmetry-SYMMETRIES-clause-symmetry
-returns-then-symmetry-SYMMETRIES-clause-symmetry g c = λ lead.
+pub returns-clause-symmetry : goal.returns-clause-symmetry
+returns-clause-symmetry g c = λ lead.
     let few : g.B.Geometry.shape.points ≤ 24 = omega (arith, g.met.B.Geometry.few, g.met.B.Geometry.point_count) in
     let most : g.B.Geometry.shape.symmetries ≤ 16 = omega (arith, g.met.B.Geometry.few_symmetries, g.met.B.Geometry.symmetry_count) in
     let small : c.args.set < 2 ^ g.B.Geometry.shape.points = subst (λ n. c.args.set < 2 ^ n) (sym g.met.B.Geometry.point_count) c.requires.within in

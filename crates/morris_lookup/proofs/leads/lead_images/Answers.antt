@@ -7,7 +7,14 @@ use Rattle.morris_index.specs.Numbering.{rank_of}
 use Rattle.morris_index.proofs.ClassLaws.{image_within, image_count}
 use Rattle.morris_index.proofs.IndexLaws.{within_24}
 use Rattle.morris_lookup.proofs.LeadLaws.{AreLedBy, led_more, led_all, rank_inside}
+use Rattle.morris_lookup.proofs.leads.lead_images.Given.{Over}
 use Rattle.morris_lookup.proofs.leads.lead_images.Goals as goal
+
+few : (g : Over) → g.B.Geometry.shape.points ≤ 24
+few g = omega (arith, g.met.B.Geometry.few, g.met.B.Geometry.point_count)
+
+within : (g : Over) (set : ℕ) → set < 2 ^ g.B.Geometry.POINTS → set < 2 ^ g.B.Geometry.shape.points
+within g set small = subst (λ n. set < 2 ^ n) (sym g.met.B.Geometry.point_count) small
 
 -- the image that is led
 module _ (board : Shape) (few : board.points ≤ 24) (y : HasSymmetries board) (count s r x : ℕ) (low : s < board.symmetries) (small : r < 2 ^ board.points)
@@ -24,37 +31,29 @@ module _ (board : Shape) (few : board.points ≤ 24) (y : HasSymmetries board) (
 pub rank-requires-clause-board : goal.rank-requires-clause-board
 rank-requires-clause-board g c =
     let board = g.B.Geometry.shape in
-    let few : board.points ≤ 24 = omega (arith, g.met.B.Geometry.few, g.met.B.Geometry.point_count) in
-    let small : c.args.representative < 2 ^ board.points = subst (λ n. c.args.representative < 2 ^ n) (sym g.met.B.Geometry.point_count) c.requires.within in
     let low : c.SYMMETRIES.result - 1 - c.loop-k.k < board.symmetries = omega (arith, g.met.B.Geometry.symmetry_count, c.SYMMETRIES.ensures, c.SYMMETRIES-k-end.ensures, c.loop-k-test.true) in
-    within_24 _ board.points (image_in board few g.met.B.Geometry.has_symmetries c.args.count _ c.args.representative _ low small c.requires.counted
-    (c.image_of-set.ensures ∙ ap (λ i. image_of (board.image i) c.args.representative) c.inverse.ensures)) few
+    within_24 _ board.points (image_in board (few g) g.met.B.Geometry.has_symmetries c.args.count _ c.args.representative _ low (within g c.args.representative c.requires.within) c.requires.counted
+    (c.image_of-set.ensures ∙ ap (λ i. image_of (board.image i) c.args.representative) c.inverse.ensures)) (few g)
 
 pub rank-requires-clause-few : goal.rank-requires-clause-few
 rank-requires-clause-few g c =
     let board = g.B.Geometry.shape in
-    let few : board.points ≤ 24 = omega (arith, g.met.B.Geometry.few, g.met.B.Geometry.point_count) in
-    let small : c.args.representative < 2 ^ board.points = subst (λ n. c.args.representative < 2 ^ n) (sym g.met.B.Geometry.point_count) c.requires.within in
     let low : c.SYMMETRIES.result - 1 - c.loop-k.k < board.symmetries = omega (arith, g.met.B.Geometry.symmetry_count, c.SYMMETRIES.ensures, c.SYMMETRIES-k-end.ensures, c.loop-k-test.true) in
-    let counted = image_counted board few g.met.B.Geometry.has_symmetries c.args.count _ c.args.representative _ low small c.requires.counted
+    let counted = image_counted board (few g) g.met.B.Geometry.has_symmetries c.args.count _ c.args.representative _ low (within g c.args.representative c.requires.within) c.requires.counted
     (c.image_of-set.ensures ∙ ap (λ i. image_of (board.image i) c.args.representative) c.inverse.ensures) in
     omega (arith, counted, c.requires.few)
 
 pub bounds-words-place : goal.bounds-words-place
 bounds-words-place g c =
     let board = g.B.Geometry.shape in
-    let few : board.points ≤ 24 = omega (arith, g.met.B.Geometry.few, g.met.B.Geometry.point_count) in
-    let small : c.args.representative < 2 ^ board.points = subst (λ n. c.args.representative < 2 ^ n) (sym g.met.B.Geometry.point_count) c.requires.within in
     let low : c.SYMMETRIES.result - 1 - c.loop-k.k < board.symmetries = omega (arith, g.met.B.Geometry.symmetry_count, c.SYMMETRIES.ensures, c.SYMMETRIES-k-end.ensures, c.loop-k-test.true) in
-    let ranked = image_ranked board few g.met.B.Geometry.has_symmetries c.args.count _ c.args.representative _ low small c.requires.counted
+    let ranked = image_ranked board (few g) g.met.B.Geometry.has_symmetries c.args.count _ c.args.representative _ low (within g c.args.representative c.requires.within) c.requires.counted
     (c.image_of-set.ensures ∙ ap (λ i. image_of (board.image i) c.args.representative) c.inverse.ensures) in
     omega (arith, ranked, c.rank.ensures.value, ap (λ n. choose n c.args.count) g.met.B.Geometry.point_count, c.requires.room, c.loop-k.auto.words)
 
 pub loop-k-preserved : goal.loop-k-preserved
 loop-k-preserved g c =
     let board = g.B.Geometry.shape in
-    let few : board.points ≤ 24 = omega (arith, g.met.B.Geometry.few, g.met.B.Geometry.point_count) in
-    let small : c.args.representative < 2 ^ board.points = subst (λ n. c.args.representative < 2 ^ n) (sym g.met.B.Geometry.point_count) c.requires.within in
     let s : ℕ = c.SYMMETRIES.result - 1 - c.loop-k.k in
     let last : s + (c.loop-k.k + 1) ≡ board.symmetries = omega (arith, g.met.B.Geometry.symmetry_count, c.SYMMETRIES.ensures, c.SYMMETRIES-k-end.ensures, c.loop-k-test.true) in
     let room : c.args.start + choose board.points c.args.count ≤ length c.loop-k.words =
@@ -62,16 +61,14 @@ loop-k-preserved g c =
     let at : c.rank.result ≡ rank_of (members (image_of (board.image (inverse_of s)) c.args.representative)) =
     c.rank.ensures.value ∙ ap (λ x. rank_of (members x)) (c.image_of-set.ensures ∙ ap (λ i. image_of (board.image i) c.args.representative) c.inverse.ensures) in
     rw at
-    (led_more board few g.met.B.Geometry.has_symmetries c.args.count c.args.start c.args.class c.args.representative small c.requires.counted c.requires.least
+    (led_more board (few g) g.met.B.Geometry.has_symmetries c.args.count c.args.start c.args.class c.args.representative (within g c.args.representative c.requires.within) c.requires.counted c.requires.least
     c.loop-k.k s last c.loop-k.words c.args.words.now c.loop-k.invariant room _ (omega (arith, c.from.ensures)))
 
 pub returns-clause-led : goal.returns-clause-led
 returns-clause-led g c =
     let board = g.B.Geometry.shape in
-    let few : board.points ≤ 24 = omega (arith, g.met.B.Geometry.few, g.met.B.Geometry.point_count) in
-    let small : c.args.representative < 2 ^ board.points = subst (λ n. c.args.representative < 2 ^ n) (sym g.met.B.Geometry.point_count) c.requires.within in
     let end : c.loop-k.k ≡ board.symmetries =
     omega (arith, g.met.B.Geometry.symmetry_count, c.SYMMETRIES-k-end.ensures, c.loop-k-test.false, c.loop-k.auto.k-end) in
-    led_all board few g.met.B.Geometry.has_symmetries c.args.count c.args.start c.args.class c.args.representative small c.requires.counted c.requires.least
+    led_all board (few g) g.met.B.Geometry.has_symmetries c.args.count c.args.start c.args.class c.args.representative (within g c.args.representative c.requires.within) c.requires.counted c.requires.least
     c.loop-k.words c.args.words.now
     (subst (λ k. AreLedBy board c.args.count c.args.start c.args.class c.args.representative k c.loop-k.words c.args.words.now) end c.loop-k.invariant)

@@ -5,7 +5,11 @@ use Rattle.morris_lookup.specs.Representatives.{representatives_of}
 use Rattle.morris_lookup.proofs.ListLaws.{representatives-few}
 use Rattle.morris_lookup.proofs.StretchLaws.{few_masks}
 use Rattle.morris_lookup.proofs.LeadLaws.{AreSetsLed, IsListed, listed_at, sets_none, sets_more, sets_all}
+use Rattle.morris_lookup.proofs.leads.lead_sets.Given.{Over}
 use Rattle.morris_lookup.proofs.leads.lead_sets.Goals as goal
+
+few : (g : Over) → g.B.Geometry.shape.points ≤ 24
+few g = omega (arith, g.met.B.Geometry.few, g.met.B.Geometry.point_count)
 
 -- the representative that stands in the words
 module _ (board : Shape) (few : board.points ≤ 24) (y : HasSymmetries board) (count list classes start class r : ℕ) (words old : List ℕ)
@@ -22,10 +26,9 @@ module _ (board : Shape) (few : board.points ≤ 24) (y : HasSymmetries board) (
 
 pub overflow_cast-class : goal.overflow_cast-class
 overflow_cast-class g c =
-    let few : g.B.Geometry.shape.points ≤ 24 = omega (arith, g.met.B.Geometry.few, g.met.B.Geometry.point_count) in
     omega (
       arith,
-      small_class g.B.Geometry.shape few g.met.B.Geometry.has_symmetries c.args.count c.args.list c.args.classes c.args.start c.loop-class.class _ c.loop-class.words c.args.words.now
+      small_class g.B.Geometry.shape (few g) g.met.B.Geometry.has_symmetries c.args.count c.args.list c.args.classes c.args.start c.loop-class.class _ c.loop-class.words c.args.words.now
           c.requires.before c.requires.classes c.requires.listed c.loop-class.invariant c.loop-class-test.true c.from_mask-representative.ensures,
     )
 
@@ -33,27 +36,24 @@ pub lead_images-requires-clause-class : goal.lead_images-requires-clause-class
 lead_images-requires-clause-class g c = omega (
   arith,
   overflow_cast-class g c,
-  small_class g.B.Geometry.shape (omega (arith, g.met.B.Geometry.few, g.met.B.Geometry.point_count)) g.met.B.Geometry.has_symmetries c.args.count c.args.list c.args.classes c.args.start c.loop-class.class _ c.loop-class.words c.args.words.now
+  small_class g.B.Geometry.shape (few g) g.met.B.Geometry.has_symmetries c.args.count c.args.list c.args.classes c.args.start c.loop-class.class _ c.loop-class.words c.args.words.now
       c.requires.before c.requires.classes c.requires.listed c.loop-class.invariant c.loop-class-test.true c.from_mask-representative.ensures,
 )
 
 pub lead_images-requires-clause-within : goal.lead_images-requires-clause-within
 lead_images-requires-clause-within g c =
-    let few : g.B.Geometry.shape.points ≤ 24 = omega (arith, g.met.B.Geometry.few, g.met.B.Geometry.point_count) in
     subst (λ n. c.from_mask-representative.result < 2 ^ n) g.met.B.Geometry.point_count
-    (stands g.B.Geometry.shape few g.met.B.Geometry.has_symmetries c.args.count c.args.list c.args.classes c.args.start c.loop-class.class _ c.loop-class.words c.args.words.now
+    (stands g.B.Geometry.shape (few g) g.met.B.Geometry.has_symmetries c.args.count c.args.list c.args.classes c.args.start c.loop-class.class _ c.loop-class.words c.args.words.now
     c.requires.before c.requires.classes c.requires.listed c.loop-class.invariant c.loop-class-test.true c.from_mask-representative.ensures).within
 
 pub lead_images-requires-clause-counted : goal.lead_images-requires-clause-counted
 lead_images-requires-clause-counted g c =
-    let few : g.B.Geometry.shape.points ≤ 24 = omega (arith, g.met.B.Geometry.few, g.met.B.Geometry.point_count) in
-    (stands g.B.Geometry.shape few g.met.B.Geometry.has_symmetries c.args.count c.args.list c.args.classes c.args.start c.loop-class.class _ c.loop-class.words c.args.words.now
+    (stands g.B.Geometry.shape (few g) g.met.B.Geometry.has_symmetries c.args.count c.args.list c.args.classes c.args.start c.loop-class.class _ c.loop-class.words c.args.words.now
     c.requires.before c.requires.classes c.requires.listed c.loop-class.invariant c.loop-class-test.true c.from_mask-representative.ensures).counted
 
 pub lead_images-requires-clause-least : goal.lead_images-requires-clause-least
 lead_images-requires-clause-least g c =
-    let few : g.B.Geometry.shape.points ≤ 24 = omega (arith, g.met.B.Geometry.few, g.met.B.Geometry.point_count) in
-    (stands g.B.Geometry.shape few g.met.B.Geometry.has_symmetries c.args.count c.args.list c.args.classes c.args.start c.loop-class.class _ c.loop-class.words c.args.words.now
+    (stands g.B.Geometry.shape (few g) g.met.B.Geometry.has_symmetries c.args.count c.args.list c.args.classes c.args.start c.loop-class.class _ c.loop-class.words c.args.words.now
     c.requires.before c.requires.classes c.requires.listed c.loop-class.invariant c.loop-class-test.true c.from_mask-representative.ensures).own
 
 pub loop-class-init : goal.loop-class-init
@@ -61,16 +61,14 @@ loop-class-init g c = sets_none g.B.Geometry.shape c.args.count c.args.start c.a
 
 pub loop-class-preserved : goal.loop-class-preserved
 loop-class-preserved g c =
-    let few : g.B.Geometry.shape.points ≤ 24 = omega (arith, g.met.B.Geometry.few, g.met.B.Geometry.point_count) in
-    let there = stands g.B.Geometry.shape few g.met.B.Geometry.has_symmetries c.args.count c.args.list c.args.classes c.args.start c.loop-class.class _ c.loop-class.words c.args.words.now
+    let there = stands g.B.Geometry.shape (few g) g.met.B.Geometry.has_symmetries c.args.count c.args.list c.args.classes c.args.start c.loop-class.class _ c.loop-class.words c.args.words.now
     c.requires.before c.requires.classes c.requires.listed c.loop-class.invariant c.loop-class-test.true c.from_mask-representative.ensures in
-    sets_more g.B.Geometry.shape few g.met.B.Geometry.has_symmetries c.args.count c.args.start c.loop-class.class c.from_mask-representative.result c.loop-class.words c.lead_images.new.words c.args.words.now
+    sets_more g.B.Geometry.shape (few g) g.met.B.Geometry.has_symmetries c.args.count c.args.start c.loop-class.class c.from_mask-representative.result c.loop-class.words c.lead_images.new.words c.args.words.now
     there c.loop-class.invariant c.lead_images.ensures.led c.lead_images.ensures.others c.lead_images.ensures.before
 
 pub returns-clause-led : goal.returns-clause-led
 returns-clause-led g c =
-    let few : g.B.Geometry.shape.points ≤ 24 = omega (arith, g.met.B.Geometry.few, g.met.B.Geometry.point_count) in
     let end : c.loop-class.class ≡ length (representatives_of g.B.Geometry.shape c.args.count) =
     omega (arith, c.loop-class-test.false, c.loop-class.auto.class-end, c.requires.classes) in
-    sets_all g.B.Geometry.shape few g.met.B.Geometry.has_symmetries c.args.count c.args.start c.loop-class.words c.args.words.now
+    sets_all g.B.Geometry.shape (few g) g.met.B.Geometry.has_symmetries c.args.count c.args.start c.loop-class.words c.args.words.now
     (subst (λ k. AreSetsLed g.B.Geometry.shape c.args.count c.args.start k c.loop-class.words c.args.words.now) end c.loop-class.invariant)

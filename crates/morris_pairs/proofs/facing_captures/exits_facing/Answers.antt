@@ -1,4 +1,4 @@
-use Rattle.std.proofs.Common.{◌<◌, ◌≤◌, ℕ, sym, ap, subst, ◌∙◌, arith}
+use Rattle.std.proofs.Common.{◌<◌, sym, ap, subst, ◌∙◌, arith}
 use Rattle.morris_wave.specs.Exits.{exits_of}
 use Rattle.morris_pairs.specs.FacingCaptures.{codes_facing}
 use Rattle.morris_pairs.proofs.CaptureLaws.{closing_in}

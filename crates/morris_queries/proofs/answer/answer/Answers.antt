@@ -6,7 +6,7 @@ use Rattle.morris_queries.proofs.FolderLaws.{known_as, stays_here}
 use Rattle.morris_queries.proofs.answer.answer.Goals as goal
 
 pub returns-in_err-position-clause-stays : goal.returns-in_err-position-clause-stays
-returns-in_err-position-clause-stays g c = stays_here g.B.Geometry.shape g.L.Library.files c.args.folder.now
+returns-in_err-position-clause-stays g c = stays_here
 
 pub returns-in_err-position-clause-answer : goal.returns-in_err-position-clause-answer
 returns-in_err-position-clause-answer g c = λ name known of.
@@ -19,6 +19,6 @@ returns-clause-answer g c = λ name known of.
     let few : g.B.Geometry.shape.points ≤ 24 = omega (arith, g.met.B.Geometry.point_count, g.met.B.Geometry.few) in
     answer_told g.B.Geometry.shape name known c.args.show c.args.text.now c.in_ok-position.position c.tell.result
     (sym c.in_ok-position.ensures.answer) c.tell.ensures.listed
-    (λ files is. c.tell.ensures.told name files (known_as g.B.Geometry.shape g.L.Library.files name known files c.args.folder.now is of))
+    (λ files is. c.tell.ensures.told name files (known_as is of))
     (λ files is exact. game_told g.B.Geometry.shape few g.met.B.Geometry.has_symmetries name files c.args.show c.in_ok-position.position
-    c.own.ensures.lawful exact c.tell.result (c.tell.ensures.told name files (known_as g.B.Geometry.shape g.L.Library.files name known files c.args.folder.now is of)))
+    c.own.ensures.lawful exact c.tell.result (c.tell.ensures.told name files (known_as is of)))

@@ -8,13 +8,13 @@ use Rattle.morris_queries.proofs.texts.answer_each.Goals as goal
 
 pub loop-text-init : goal.loop-text-init
 loop-text-init g c = record {
-  stays = stays_here g.B.Geometry.shape g.L.Library.files c.args.folder.now;
+  stays = stays_here;
   unfailed = refl;
   out = λ name known start of begun. begun;
 }
 
 pub returns-in_err-take-clause-stays : goal.returns-in_err-take-clause-stays
-returns-in_err-take-clause-stays g c = stays_on g.B.Geometry.shape g.L.Library.files c.args.folder.now c.loop-text.folder _ c.loop-text.invariant.stays c.answer_text-answered.ensures.stays
+returns-in_err-take-clause-stays g c = stays_on c.loop-text.invariant.stays c.answer_text-answered.ensures.stays
 
 pub returns-in_err-take-clause-answer : goal.returns-in_err-take-clause-answer
 returns-in_err-take-clause-answer g c = λ name known start of begun.
@@ -37,7 +37,7 @@ returns-in_err-take-clause-counted g c =
 
 pub loop-text-preserved : goal.loop-text-preserved
 loop-text-preserved g c = record {
-  stays = stays_on g.B.Geometry.shape g.L.Library.files c.args.folder.now c.loop-text.folder _ c.loop-text.invariant.stays c.answer_text-answered.ensures.stays;
+  stays = stays_on c.loop-text.invariant.stays c.answer_text-answered.ensures.stays;
   unfailed =
       counts_on (g.O.Sink.failures c.args.output.now) (g.O.Sink.failures c.loop-text.output) (g.O.Sink.failures c.answer_text-answered.new.output)
       c.loop-text.tally c.take.new.self c.answer_text-answered.result c.loop-text.invariant.unfailed c.answer_text-answered.ensures.counted c.in_ok-take.ensures;

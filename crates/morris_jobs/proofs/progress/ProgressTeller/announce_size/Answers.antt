@@ -2,7 +2,7 @@
 -- again.
 use Rattle.std.proofs.Common.{◌≡◌, ◌∙◌, true, false, sym}
 use Rattle.morris_jobs.specs.Progress.{telling_of}
-use Rattle.morris_jobs.specs.ProgressLaws.{Becomes-stays, Goes-speaks}
+use Rattle.morris_jobs.specs.ProgressLaws.{Becomes-stays, Continues-speaks}
 use Rattle.morris_jobs.proofs.progress.ProgressTeller.announce_size.Goals as goal
 
 pub returns-then-not-self-clause-told : goal.returns-then-not-self-clause-told
@@ -11,7 +11,7 @@ returns-then-not-self-clause-told g c = Becomes-stays g.E.Sink.contents g.E.Sink
 pub returns-clause-told : goal.returns-clause-told
 returns-clause-told g c =
     let told = c.tell.ensures.told in
-    Goes-speaks g.E.Sink.contents g.E.Sink.failures (telling_of c.args.self.now) (telling_of c.tell.new.self) _ true _ told
+    Continues-speaks g.E.Sink.contents g.E.Sink.failures (telling_of c.args.self.now) (telling_of c.tell.new.self) _ true _ told
     (λ new known. (told.begun, sym told.whole))
     (λ known.
     let bad : true ≡ false = sym known ∙ c.if-self.false in

@@ -1,4 +1,4 @@
-use Rattle.std.proofs.Common.{◌≡◌, ℕ, ◌≤◌, ◌++◌, ◌&&◌, [], true, not, ltb, List, refl, sym, ap, ap₂, subst, ◌∙◌, arith}
+use Rattle.std.proofs.Common.{◌≡◌, ℕ, ◌≤◌, ◌++◌, ◌&&◌, [], true, not, List, refl, sym, ap, ap₂, subst, ◌∙◌, arith}
 use Rattle.std.proofs.lemmas.List.{append-nil, flat_map_more}
 use Rattle.morris_board.specs.Boards.{Shape}
 use Rattle.morris_board.specs.Sets.{has, members}
@@ -6,7 +6,7 @@ use Rattle.morris_board.specs.Positions.{Sides}
 use Rattle.morris_wave.specs.Exits.{exits_of}
 use Rattle.morris_pairs.specs.FacingCaptures.{codes_by, codes_at}
 use Rattle.morris_pairs.specs.KeptCaptures.{open_ends, closers_at}
-use Rattle.morris_pairs.specs.Rows.{may_close, is_closing_end}
+use Rattle.morris_pairs.specs.Rows.{is_closing_end}
 use Rattle.morris_pairs.proofs.BackLawsLoops.{end_of, next_points}
 use Rattle.morris_pairs.proofs.FacingCaptureLaws.{closers_of, ends_of, open_closes, open_low, facings_suffice}
 use Rattle.morris_pairs.proofs.graph.PairGraph.exits_by_facing.Goals as goal

@@ -1,4 +1,4 @@
-use Rattle.std.proofs.Common.{◌≡◌, ℕ, drop, length, ◌∙◌, arith}
+use Rattle.std.proofs.Common.{◌≡◌, drop, length, ◌∙◌, arith}
 use Rattle.morris_index.specs.ClassPairs.{class_half_size}
 use Rattle.morris_index.specs.Pairs.{Counts}
 use Rattle.morris_pairs.proofs.ReorderLaws.{code-in_stretch}

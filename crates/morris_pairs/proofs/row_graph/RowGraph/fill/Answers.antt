@@ -1,4 +1,4 @@
-use Rattle.std.proofs.Common.{◌≡◌, ℕ, ◌+◌, ◌-◌, ◌<◌, ◌≤◌, length, get_or, sym, subst, ◌∙◌, arith}
+use Rattle.std.proofs.Common.{◌≡◌, ℕ, ◌+◌, ◌-◌, ◌≤◌, length, get_or, subst, ◌∙◌, arith}
 use borrow.Rule.Slice.PartMut.{put_mid, same_len_mid}
 use Rattle.morris_board.specs.Boards.{Shape}
 use Rattle.morris_index.specs.ClassPairs.{class_half_size}

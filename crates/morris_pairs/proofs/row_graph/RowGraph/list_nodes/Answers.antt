@@ -1,9 +1,8 @@
-use Rattle.std.proofs.Common.{◌≡◌, ℕ, ◌+◌, ◌<◌, ◌^◌, true, length, slice_set, refl, sym, ap, subst, ◌∙◌, inl, inr, arith}
+use Rattle.std.proofs.Common.{◌≡◌, ℕ, ◌+◌, ◌<◌, ◌^◌, true, length, refl, sym, ap, subst, ◌∙◌, inl, inr, arith}
 use Rattle.std.proofs.lemmas.Bool.{cases_eq, eqb-true}
 use Rattle.std.proofs.lemmas.Grind.{get_or-set_at}
 use Rattle.std.proofs.lemmas.List.{length-set, get_or-set_other}
 use Rattle.morris_board.specs.Boards.{Shape}
-use Rattle.morris_board.specs.Positions.{Sides}
 use Rattle.morris_index.specs.ClassPairs.{led, class_index_of}
 use Rattle.morris_index.specs.Pairs.{is_of}
 use Rattle.morris_index.proofs.ClassPairLaws.{led_itself}

@@ -2,11 +2,11 @@ use Rattle.std.proofs.Common.{◌≡◌, ℕ, ◌-◌, ◌<◌, ◌+◌, true, s
 use Rattle.morris_board.specs.Boards.{Shape}
 use Rattle.morris_board.specs.Positions.{Sides}
 use Rattle.morris_index.specs.Facing.{turned}
-use Rattle.morris_index.specs.Pairs.{Counts, is_of}
+use Rattle.morris_index.specs.Pairs.{is_of}
 use Rattle.morris_index.proofs.FacingLaws.{turned_of}
 use Rattle.morris_pairs.specs.Orders.{Rows, row_index_of, own_in}
 use Rattle.morris_pairs.specs.RowGraphs.{IsRowGraph}
-use Rattle.morris_pairs.proofs.RowNodeLaws.{node_low, split_is, of_here, ahead_here, node_first, node_second, own-ahead, own-turned}
+use Rattle.morris_pairs.proofs.RowNodeLaws.{node_low, ahead_here, node_first, node_second, own-ahead, own-turned}
 use Rattle.morris_pairs.proofs.row_graph.RowGraph.position.Goals as goal
 
 pub position-requires-else-node-split : goal.position-requires-else-node-split

@@ -1,6 +1,6 @@
-use Rattle.std.proofs.Common.{◌≡◌, ℕ, ◌%◌, ◌<◌, slice_index, refl, sym, ap, subst, ◌∙◌, arith}
+use Rattle.std.proofs.Common.{◌≡◌, ℕ, ◌%◌, slice_index, refl, ap, ◌∙◌, arith}
 use Rattle.morris_pairs.specs.NumberedRows.{count_at}
-use Rattle.morris_pairs.specs.Rows.{arrivals, IsRow}
+use Rattle.morris_pairs.specs.Rows.{arrivals}
 use Rattle.morris_pairs.proofs.NumberedLaws.{counts_none}
 use Rattle.morris_pairs.proofs.SetLaws.{counted_more, none_more}
 use Rattle.morris_pairs.proofs.set_moves.SetMoves.of.Goals as goal

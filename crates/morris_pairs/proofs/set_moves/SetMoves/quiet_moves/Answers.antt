@@ -1,9 +1,7 @@
-use Rattle.std.proofs.Common.{◌≡◌, ℕ, ◌+◌, ◌≤◌, length, filter, sym, ap, ◌∙◌, arith}
+use Rattle.std.proofs.Common.{ap, arith}
 use Rattle.std.specs.List.{sum_by}
 use Rattle.morris_board.specs.Sets.{members}
-use Rattle.morris_moves.specs.Rules.{moves_of}
 use Rattle.morris_pairs.specs.NumberedRows.{count_at}
-use Rattle.morris_pairs.specs.PairNets.{is_quiet}
 use Rattle.morris_pairs.proofs.SetLaws.{quiet_by_set}
 use Rattle.morris_pairs.proofs.set_moves.SetMoves.quiet_moves.Goals as goal
 

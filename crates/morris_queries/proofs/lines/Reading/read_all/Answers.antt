@@ -16,7 +16,7 @@ consumed_all before mid after read piece n got none last =
 
 pub loop-init : goal.loop-init
 loop-init g c = record {
-  stays = reading_here g.B.Geometry.shape g.L.Library.files c.args.self.now;
+  stays = reading_here;
   unread = refl;
   unfailed = refl;
   read = λ name known start here. ([], Consumes-nil (g.I.Source.remaining c.args.input.now), here, omega arith);
@@ -24,8 +24,7 @@ loop-init g c = record {
 
 -- the input is at its end, which ends its last line: a write of the answer failed, or all went out
 pub returns-in_err-end_line-in-Ok-eq0-clause-stays : goal.returns-in_err-end_line-in-Ok-eq0-clause-stays
-returns-in_err-end_line-in-Ok-eq0-clause-stays g c =
-    reading_on g.B.Geometry.shape g.L.Library.files c.args.self.now c.loop.self _ c.loop.invariant.stays c.in_err-end_line-in-Ok-eq0.ensures.stays
+returns-in_err-end_line-in-Ok-eq0-clause-stays g c = reading_on c.loop.invariant.stays c.in_err-end_line-in-Ok-eq0.ensures.stays
 
 pub returns-in_err-end_line-in-Ok-eq0-clause-answer : goal.returns-in_err-end_line-in-Ok-eq0-clause-answer
 returns-in_err-end_line-in-Ok-eq0-clause-answer g c = λ name known start here.
@@ -38,8 +37,7 @@ returns-in_err-end_line-in-Ok-eq0-clause-answer g c = λ name known start here.
     (consumed_all _ (g.I.Source.remaining c.loop.input) _ so_far.0 c.read.new.buffer _ so_far.1 c.in-Ok-eq0.field-0-test c.in-Ok-eq0.ensures.bytes.0) stops)
 
 pub returns-in-Ok-eq0-clause-stays : goal.returns-in-Ok-eq0-clause-stays
-returns-in-Ok-eq0-clause-stays g c =
-    reading_on g.B.Geometry.shape g.L.Library.files c.args.self.now c.loop.self _ c.loop.invariant.stays c.in_ok-end_line-in-Ok-eq0.ensures.stays
+returns-in-Ok-eq0-clause-stays g c = reading_on c.loop.invariant.stays c.in_ok-end_line-in-Ok-eq0.ensures.stays
 
 pub returns-in-Ok-eq0-clause-answer : goal.returns-in-Ok-eq0-clause-answer
 returns-in-Ok-eq0-clause-answer g c = λ name known start here.
@@ -54,8 +52,7 @@ returns-in-Ok-eq0-clause-answer g c = λ name known start here.
     )
 
 pub returns-in_err-take_bytes-in-Ok-clause-stays : goal.returns-in_err-take_bytes-in-Ok-clause-stays
-returns-in_err-take_bytes-in-Ok-clause-stays g c =
-    reading_on g.B.Geometry.shape g.L.Library.files c.args.self.now c.loop.self _ c.loop.invariant.stays c.in_err-take_bytes-in-Ok.ensures.stays
+returns-in_err-take_bytes-in-Ok-clause-stays g c = reading_on c.loop.invariant.stays c.in_err-take_bytes-in-Ok.ensures.stays
 
 pub returns-in_err-take_bytes-in-Ok-clause-answer : goal.returns-in_err-take_bytes-in-Ok-clause-answer
 returns-in_err-take_bytes-in-Ok-clause-answer g c = λ name known start here.
@@ -80,7 +77,7 @@ pub loop-preserved : goal.loop-preserved
 loop-preserved g c =
     let bytes = take c.in-Ok.count c.read.new.buffer in
     record {
-      stays = reading_on g.B.Geometry.shape g.L.Library.files c.args.self.now c.loop.self _ c.loop.invariant.stays c.in_ok-take_bytes-in-Ok.ensures.stays;
+      stays = reading_on c.loop.invariant.stays c.in_ok-take_bytes-in-Ok.ensures.stays;
       unread = c.in-Ok.ensures.counted ∙ c.loop.invariant.unread;
       unfailed = c.in_ok-take_bytes-in-Ok.ensures.counted ∙ c.loop.invariant.unfailed;
       read = λ name known start here.

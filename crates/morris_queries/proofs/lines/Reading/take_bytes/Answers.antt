@@ -10,13 +10,13 @@ use Rattle.morris_queries.proofs.lines.Reading.take_bytes.Goals as goal
 
 pub loop-byte-init : goal.loop-byte-init
 loop-byte-init g c = record {
-  stays = reading_here g.B.Geometry.shape g.L.Library.files c.args.self.now;
+  stays = reading_here;
   unfailed = refl;
   read = λ name known start read here. subst (λ (bs : List ℕ). Stands g.B.Geometry.shape g.L.Library.files g.O.Sink.contents name known start bs c.args.self.now) (sym (append-nil read)) here;
 }
 
 pub returns-in_err-take_byte-clause-stays : goal.returns-in_err-take_byte-clause-stays
-returns-in_err-take_byte-clause-stays g c = reading_on g.B.Geometry.shape g.L.Library.files c.args.self.now c.loop-byte.self _ c.loop-byte.invariant.stays c.in_err-take_byte.ensures.stays
+returns-in_err-take_byte-clause-stays g c = reading_on c.loop-byte.invariant.stays c.in_err-take_byte.ensures.stays
 
 pub returns-in_err-take_byte-clause-taken : goal.returns-in_err-take_byte-clause-taken
 returns-in_err-take_byte-clause-taken g c =
@@ -36,7 +36,7 @@ returns-in_err-take_byte-clause-taken g c =
 
 pub loop-byte-preserved : goal.loop-byte-preserved
 loop-byte-preserved g c = record {
-  stays = reading_on g.B.Geometry.shape g.L.Library.files c.args.self.now c.loop-byte.self _ c.loop-byte.invariant.stays c.in_ok-take_byte.ensures.stays;
+  stays = reading_on c.loop-byte.invariant.stays c.in_ok-take_byte.ensures.stays;
   unfailed = c.in_ok-take_byte.ensures.counted ∙ c.loop-byte.invariant.unfailed;
   read = λ name known start read here.
       subst (λ (bs : List ℕ). Stands g.B.Geometry.shape g.L.Library.files g.O.Sink.contents name known start bs c.take_byte.new.self)

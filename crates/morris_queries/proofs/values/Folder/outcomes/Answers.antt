@@ -10,12 +10,12 @@ pub loop-m-init : goal.loop-m-init
 loop-m-init g c = record {
   listed = search rules;
   steps = search rules;
-  stays = stays_here g.B.Geometry.shape g.L.Library.files c.args.self.now;
+  stays = stays_here;
   told = λ name files of. search (rules, prepended-nil);
 }
 
 pub returns-in_err-value-clause-stays : goal.returns-in_err-value-clause-stays
-returns-in_err-value-clause-stays g c = stays_on g.B.Geometry.shape g.L.Library.files c.args.self.now c.loop-m.self _ c.loop-m.invariant.stays c.in_err-value.ensures.stays
+returns-in_err-value-clause-stays g c = stays_on c.loop-m.invariant.stays c.in_err-value.ensures.stays
 
 pub returns-in_err-value-clause-told : goal.returns-in_err-value-clause-told
 returns-in_err-value-clause-told g c = λ name files of.
@@ -27,13 +27,13 @@ returns-in_err-value-clause-told g c = λ name files of.
     (rw c.play.ensures at (c.in_err-value.ensures.told name files (c.loop-m.invariant.stays.still name (Some files) of))))
 
 pub returns-in_err-keep-clause-stays : goal.returns-in_err-keep-clause-stays
-returns-in_err-keep-clause-stays g c = stays_on g.B.Geometry.shape g.L.Library.files c.args.self.now c.loop-m.self _ c.loop-m.invariant.stays c.in_ok-value.ensures.stays
+returns-in_err-keep-clause-stays g c = stays_on c.loop-m.invariant.stays c.in_ok-value.ensures.stays
 
 pub loop-m-preserved : goal.loop-m-preserved
 loop-m-preserved g c = record {
   listed = append_assoc c.loop-m.yielded (c.in-Some.m ∷ []) c.next.new.self ∙ (ap (λ rest. c.loop-m.yielded ++ rest) (sym c.in-Some.ensures.steps) ∙ c.loop-m.invariant.listed);
   steps = steps_more c.loop-m.outcomes.items c.keep.new.list.items c.loop-m.yielded c.in-Some.m c.turned.result c.loop-m.invariant.steps c.in_ok-keep.ensures;
-  stays = stays_on g.B.Geometry.shape g.L.Library.files c.args.self.now c.loop-m.self _ c.loop-m.invariant.stays c.in_ok-value.ensures.stays;
+  stays = stays_on c.loop-m.invariant.stays c.in_ok-value.ensures.stays;
   told = λ name files of.
       outcomes_more g.B.Geometry.shape name files c.args.position.now c.loop-m.outcomes.items c.loop-m.m-iterator c.next.new.self c.in-Some.m
       (told_outcomes g.B.Geometry.shape name files c.args.position.now (moves_of g.B.Geometry.shape c.args.position.now)) (c.loop-m.invariant.told name files of)

@@ -11,7 +11,7 @@ use Rattle.morris_queries.proofs.values.Folder.play_out.Goals as goal
 pub loop-init : goal.loop-init
 loop-init g c = record {
   few = omega (arith, ap length c.new-line.ensures.items);
-  stays = stays_here g.B.Geometry.shape g.L.Library.files c.args.self.now;
+  stays = stays_here;
   legal = c.requires.legal;
   told = λ name files of.
       let all : c.args.plies - 0 ≡ c.args.plies = omega arith in
@@ -33,7 +33,7 @@ pub play-here-requires : goal.play-here-requires
 play-here-requires g c = subst (λ o. IfSome o (Contains (moves_of g.B.Geometry.shape c.loop.here))) c.in-Some.is c.loop.invariant.legal
 
 pub returns-in_err-told-clause-stays : goal.returns-in_err-told-clause-stays
-returns-in_err-told-clause-stays g c = stays_on g.B.Geometry.shape g.L.Library.files c.args.self.now c.loop.self _ c.loop.invariant.stays c.in_err-told.ensures.stays
+returns-in_err-told-clause-stays g c = stays_on c.loop.invariant.stays c.in_err-told.ensures.stays
 
 pub returns-in_err-told-clause-told : goal.returns-in_err-told-clause-told
 returns-in_err-told-clause-told g c = λ name files of.
@@ -45,7 +45,7 @@ returns-in_err-told-clause-told g c = λ name files of.
     (c.in_err-told.ensures.told name files (c.loop.invariant.stays.still name (Some files) of)))
 
 pub returns-in_err-keep-clause-stays : goal.returns-in_err-keep-clause-stays
-returns-in_err-keep-clause-stays g c = stays_on g.B.Geometry.shape g.L.Library.files c.args.self.now c.loop.self _ c.loop.invariant.stays c.in_ok-told.ensures.stays
+returns-in_err-keep-clause-stays g c = stays_on c.loop.invariant.stays c.in_ok-told.ensures.stays
 
 pub loop-preserved : goal.loop-preserved
 loop-preserved g c =
@@ -53,7 +53,7 @@ loop-preserved g c =
     c.copied-next.ensures ∙ (c.first.ensures.value ∙ ap (λ ms. slice_get ms 0) c.best.ensures) in
     record {
       few = omega (arith, ap length c.in_ok-keep.ensures, length-append c.loop.line.items (c.ply_to.result ∷ []), c.loop.invariant.few);
-      stays = stays_on g.B.Geometry.shape g.L.Library.files c.args.self.now c.loop.self _ c.loop.invariant.stays c.in_ok-told.ensures.stays;
+      stays = stays_on c.loop.invariant.stays c.in_ok-told.ensures.stays;
       legal =
           subst (λ o. IfSome o (Contains (moves_of g.B.Geometry.shape c.play-here.result))) (sym first)
           (first_legal g.B.Geometry.shape c.play-here.result c.in_ok-told.told c.in_ok-told.ensures.listed);

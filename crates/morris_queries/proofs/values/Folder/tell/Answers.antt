@@ -26,8 +26,7 @@ play_out-requires g c =
     }
 
 pub returns-in_err-line-in-Line-clause-stays : goal.returns-in_err-line-in-Line-clause-stays
-returns-in_err-line-in-Line-clause-stays g c =
-    stays_on g.B.Geometry.shape g.L.Library.files c.args.self.now _ _ c.in_ok-told.ensures.stays c.in_err-line-in-Line.ensures.stays
+returns-in_err-line-in-Line-clause-stays g c = stays_on c.in_ok-told.ensures.stays c.in_err-line-in-Line.ensures.stays
 
 pub returns-in_err-line-in-Line-clause-told : goal.returns-in_err-line-in-Line-clause-told
 returns-in_err-line-in-Line-clause-told g c = λ name files of.
@@ -41,8 +40,7 @@ returns-in_err-line-in-Line-clause-told g c = λ name files of.
     (rw (c.depth_of.ensures, first) at (c.in_err-line-in-Line.ensures.told name files (c.in_ok-told.ensures.stays.still name (Some files) of))))
 
 pub returns-in_ok-line-in-Line-clause-stays : goal.returns-in_ok-line-in-Line-clause-stays
-returns-in_ok-line-in-Line-clause-stays g c =
-    stays_on g.B.Geometry.shape g.L.Library.files c.args.self.now _ _ c.in_ok-told.ensures.stays c.in_ok-line-in-Line.ensures.stays
+returns-in_ok-line-in-Line-clause-stays g c = stays_on c.in_ok-told.ensures.stays c.in_ok-line-in-Line.ensures.stays
 
 pub returns-in_ok-line-in-Line-clause-told : goal.returns-in_ok-line-in-Line-clause-told
 returns-in_ok-line-in-Line-clause-told g c = λ name files of.

@@ -14,8 +14,7 @@ returns-in_err-value-clause-told g c = λ name files of.
     (c.in_err-value.ensures.told name files of))
 
 pub returns-in_err-outcomes-clause-stays : goal.returns-in_err-outcomes-clause-stays
-returns-in_err-outcomes-clause-stays g c =
-    stays_on g.B.Geometry.shape g.L.Library.files c.args.self.now _ _ c.in_ok-value.ensures.stays c.in_err-outcomes.ensures.stays
+returns-in_err-outcomes-clause-stays g c = stays_on c.in_ok-value.ensures.stays c.in_err-outcomes.ensures.stays
 
 pub returns-in_err-outcomes-clause-told : goal.returns-in_err-outcomes-clause-told
 returns-in_err-outcomes-clause-told g c = λ name files of.
@@ -25,12 +24,10 @@ returns-in_err-outcomes-clause-told g c = λ name files of.
     (agreed _ _ (c.in_ok-value.ensures.told name files of)) (c.in_err-outcomes.ensures.told name files (c.in_ok-value.ensures.stays.still name (Some files) of)))
 
 pub returns-in_err-best-clause-stays : goal.returns-in_err-best-clause-stays
-returns-in_err-best-clause-stays g c =
-    stays_on g.B.Geometry.shape g.L.Library.files c.args.self.now _ _ c.in_ok-value.ensures.stays c.in_ok-outcomes.ensures.stays
+returns-in_err-best-clause-stays g c = stays_on c.in_ok-value.ensures.stays c.in_ok-outcomes.ensures.stays
 
 pub returns-clause-stays : goal.returns-clause-stays
-returns-clause-stays g c =
-    stays_on g.B.Geometry.shape g.L.Library.files c.args.self.now _ _ c.in_ok-value.ensures.stays c.in_ok-outcomes.ensures.stays
+returns-clause-stays g c = stays_on c.in_ok-value.ensures.stays c.in_ok-outcomes.ensures.stays
 
 pub returns-then-not-is_same-clause-told : goal.returns-then-not-is_same-clause-told
 returns-then-not-is_same-clause-told g c = λ name files of.
