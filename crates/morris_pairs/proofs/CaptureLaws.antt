@@ -1,12 +1,13 @@
 -- The captures of a position, from what is kept of its own stones.
-use Rattle.std.proofs.Common.{◌≡◌, ℕ, ◌<◌, ◌≤◌, ◌^◌, true, false, not, ◌&&◌, ltb, eqb, List, [], ◌∷◌, ◌++◌, length, map, slice_index, Option, Some, None, is_none, filter, refl, sym, ap, subst, ◌∙◌, inl, inr, arith, append_assoc}
+use Rattle.std.proofs.Common.{◌≡◌, ℕ, ◌<◌, ◌≤◌, ◌^◌, true, false, not, ◌&&◌, ltb, eqb, Bool, List, [], ◌∷◌, ◌++◌, length, map, slice_index, Option, Some, None, is_none, filter, refl, sym, ap, subst, ◌∙◌, inl, inr, arith, append_assoc}
+use Rattle.std.proofs.Math.Bool.{and_assoc}
 use Rattle.std.proofs.lemmas.Bool.{cases_Bool, cases_eq, both_ways, lt-ltb, and_parts, and_from, ltb-true, eqb-false, not-true, false_from_ne_true}
 use Rattle.std.proofs.lemmas.List.{flat_map_more, map-append, append-nil}
 use Rattle.std.specs.List.{Contains, flat_map, list_any}
 use Rattle.morris_board.specs.Sets.{has, members, count_of}
 use Rattle.morris_board.specs.Boards.{Shape}
 use Rattle.morris_board.specs.Positions.{Sides, IsPosition}
-use Rattle.morris_board.proofs.PointsLaws.{has-none, first_is, members-none}
+use Rattle.morris_board.proofs.PointsLaws.{has-none, has-set_where, same_points, first_is, members-none}
 use Rattle.morris_moves.specs.declared.step.Move.{Move}
 use Rattle.morris_moves.specs.Rules.{closes, goes, reach, is_vacant, takable, free_stones, is_legal, move, moves_of, result_of, takes_rightly}
 use Rattle.morris_moves.proofs.ListLaws.{any_contained, contained_any, Contains-head, Contains-tail, Contains-map, Contains-map_cases, Contains-flat_map, Contains-flat_map_cases}
@@ -20,6 +21,7 @@ use Rattle.morris_pairs.specs.declared.rows.Row.{Row}
 use Rattle.morris_pairs.specs.Codes.{IsCodeOf, code_to}
 use Rattle.morris_pairs.specs.PairNets.{is_capture, capture_codes}
 use Rattle.morris_pairs.specs.Graphs.{exits_by}
+use Rattle.morris_pairs.specs.KeptCaptures.{open_ends, closers_at}
 use Rattle.morris_pairs.specs.Rows.{may_close, is_closing_end, IsRow}
 use Rattle.morris_pairs.specs.Captured.{IsClosing, captures_at, captures_to}
 use Rattle.morris_pairs.specs.FilterLaws.{filter-contains, contained-filter}
@@ -122,136 +124,151 @@ module _ (b : Shape) (n : ℕ) (points : b.points ≡ n) (low : n ≤ 24) (s : S
         ∙ contained_any (λ w. goes b (count_of s.own) w v && closes b s.own w v) (members s.own) u
         (member-has s.own u (omega (arith, point_lt s.own b.points u lawful.stones.own_within h.own, points)) h.own) (and_from _ _ goes_there h.shuts)
 
--- ---- the points at which a mill may be closed
+  -- ---- the stones that close a mill at a point, and the points at which one may be closed
 
-module _ (b : Shape) (n : ℕ) (points : b.points ≡ n) (low : n ≤ 24) (s : Sides) (lawful : IsPosition b s) (row : Row) (own : row.own ≡ s.own) (is : IsRow b n row) where
-  -- where a stone closes a mill, one may
-  opens : (u v : ℕ) → IsClosing b s u v → (has row.closing v ≡ true) × (has s.other v ≡ false)
-  opens u v h =
-      let inside : v < n = closing_in b n points low s lawful u v h in (
-        is.closing v ∙ (ap (λ x. x && may_close b row.own v) (lt-ltb v n inside) ∙ (ap (λ o. may_close b o v) own ∙ closing_may b n points low s lawful u v h)),
-        closing_free b n points low s lawful u v h,
-      )
+  pub closers_of : (closers v : ℕ) → ((u : ℕ) → has closers u ≡ (has s.own u && is_closing_end b s.own u v)) → closers ≡ closers_at b s.own v
+  unfolding closers_at
+  closers_of closers v each = same_points _ _ (λ u. each u
+      ∙ (within (has s.own u) (is_closing_end b s.own u v) (ltb u b.points) (λ h. lt-ltb u b.points (point_lt s.own b.points u lawful.stones.own_within h))
+      ∙ sym (has-set_where b.points (λ x. has s.own x && is_closing_end b s.own x v) u)))
+    where
+      within : (x y z : Bool) → (x ≡ true → z ≡ true) → (x && y) ≡ (z && (x && y))
+      within true y z h = rw (h refl) refl
+      within false y true h = refl
+      within false y false h = refl
 
-  record Closer (v : ℕ) : Type 0 where
-    from : ℕ
-    capture : IsClosing b s from v
+  pub closing_closer : (u v : ℕ) → IsClosing b s u v → has (closers_at b s.own v) u ≡ true
+  unfolding closers_at
+  closing_closer u v h =
+      has-set_where b.points (λ x. has s.own x && is_closing_end b s.own x v) u
+      ∙ and_from _ _ (lt-ltb u b.points (point_lt s.own b.points u lawful.stones.own_within h.own)) (closing_end u v h)
 
-  closer : (v : ℕ) → has row.closing v ≡ true → has s.other v ≡ false → Closer v
-  unfolding may_close
-  closer v here free =
-      let parts = and_parts (ltb v n) (may_close b s.own v) (rw (← own) (sym (is.closing v) ∙ here)) in
-      let inside : v < n = ltb-true v n parts.0 in
-      let more = and_parts (not (has s.own v)) (list_any (λ u. goes b (count_of s.own) u v && closes b s.own u v) (members s.own)) parts.1 in
-      let apart : has s.own v ≡ false = not-true (has s.own v) more.0 in
-      let one = any_contained (λ u. goes b (count_of s.own) u v && closes b s.own u v) (members s.own) more.1 in
-      let both = and_parts (goes b (count_of s.own) one.0 v) (closes b s.own one.0 v) one.2 in
-      let vacant : is_vacant s v ≡ true = rw (apart, free) refl in
-      record {
-        from = one.0;
-        capture = record {
-          own = has-member s.own one.0 one.1;
-          goes = has_reach b s n points (omega arith) one.0 v inside ∙ and_from _ _ vacant both.0;
-          shuts = both.1;
-        };
-      }
+  abbrev pub ends : ℕ
+  ends = open_ends b s.own s.other
 
-  some_capture : (v : ℕ) → has row.closing v ≡ true → has s.other v ≡ false → list_any is_capture (moves_of b s) ≡ true
-  some_capture v here free =
-      let one = closer v here free in
-      let taken = first_is (takable b s.other) (takable_some b s lawful) (takable-lt b s (omega (arith, points)) lawful) in
-      contained_any is_capture (moves_of b s) (move one.from v (Some _))
-      (legal_is_listed b s (omega (arith, points)) lawful.stones _ (capture_is_legal b s one.from v _ one.capture.own one.capture.goes one.capture.shuts taken.here)) refl
+  end_is : (v : ℕ) → has ends v ≡ (ltb v b.points && (may_close b s.own v && not (has s.other v)))
+  unfolding open_ends
+  end_is v = has-set_where b.points (λ x. may_close b s.own x && not (has s.other x)) v
 
-  pub some_closing : list_any is_capture (moves_of b s) ≡ true → (v : ℕ) × (has row.closing v ≡ true) × (has s.other v ≡ false)
-  some_closing h =
+  pub ends_of : (set : ℕ) → ((v : ℕ) → has set v ≡ ((ltb v n && may_close b s.own v) && not (has s.other v))) → set ≡ ends
+  ends_of set each = same_points _ _ (λ v. each v
+      ∙ ap (λ k. (ltb v k && may_close b s.own v) && not (has s.other v)) (sym points)
+      ∙ and_assoc (ltb v b.points) (may_close b s.own v) (not (has s.other v))
+      ∙ sym (end_is v))
+
+  pub closing_open : (u v : ℕ) → IsClosing b s u v → has ends v ≡ true
+  closing_open u v h =
+      end_is v
+      ∙ and_from _ _ (lt-ltb v b.points (omega (arith, points, closing_in u v h)))
+      (and_from _ _ (closing_may u v h) (ap not (closing_free u v h)))
+
+  module _ (v : ℕ) (here : has ends v ≡ true) where
+    within_board : (ltb v b.points ≡ true) × ((may_close b s.own v && not (has s.other v)) ≡ true)
+    within_board = and_parts (ltb v b.points) _ (sym (end_is v) ∙ here)
+
+    end_parts : (may_close b s.own v ≡ true) × (not (has s.other v) ≡ true)
+    end_parts = and_parts (may_close b s.own v) (not (has s.other v)) within_board.1
+
+    pub open_low : v < n
+    open_low = omega (arith, points, ltb-true v b.points within_board.0)
+
+    pub open_closes : (u : ℕ) → has (closers_at b s.own v) u ≡ true → IsClosing b s u v
+    unfolding closers_at
+    open_closes u closer =
+        closing_there u v open_low (not-true (has s.other v) end_parts.1)
+        (and_parts (ltb u b.points) (has s.own u && is_closing_end b s.own u v) (sym (has-set_where b.points (λ x. has s.own x && is_closing_end b s.own x v) u) ∙ closer)).1
+
+    -- some stone closes one there
+    some_closer : (u : ℕ) × IsClosing b s u v
+    unfolding may_close is_closing_end
+    some_closer =
+        let f : ℕ → Bool = λ u. goes b (count_of s.own) u v && closes b s.own u v in
+        let parts = and_parts (not (has s.own v)) (list_any f (members s.own)) end_parts.0 in
+        let one = any_contained f (members s.own) parts.1 in
+        (one.0, closing_there one.0 v open_low (not-true (has s.other v) end_parts.1) (and_from _ _ (has-member s.own one.0 one.1) (and_from _ _ parts.0 one.2)))
+
+  few : b.points ≤ 24
+  few = omega (arith, points)
+
+  pub captures_some : 0 < ends → list_any is_capture (moves_of b s) ≡ true
+  captures_some some =
+      let v = first_is ends some (lt_from_points ends 32 (λ p here. omega (arith, low, open_low p here))) in
+      let one = some_closer _ v.here in
+      let taken = first_is (takable b s.other) (takable_some b s lawful) (takable-lt b s few lawful) in
+      contained_any is_capture (moves_of b s) (move one.0 _ (Some _))
+      (legal_is_listed b s few lawful.stones _ (capture_is_legal b s one.0 _ _ one.1.own one.1.goes one.1.shuts taken.here)) refl
+
+  -- a capture closes a mill
+  capture_closes : list_any is_capture (moves_of b s) ≡ true → (u : ℕ) × (v : ℕ) × IsClosing b s u v
+  capture_closes h =
       let m = any_contained is_capture (moves_of b s) h in
-      let there = opens m.0.from m.0.to (legal_capture b s m.0 (listed_is_legal b s (omega (arith, points)) lawful.stones m.0 m.1) m.2) in
-      (m.0.to, there.0, there.1)
+      (m.0.from, m.0.to, legal_capture b s m.0 (listed_is_legal b s few lawful.stones m.0 m.1) m.2)
 
-  module _ (open_ : ℕ) (each : (p : ℕ) → has open_ p ≡ (has row.closing p && not (has s.other p))) where
-    open_-lt : open_ < 2 ^ 32
-    open_-lt = lt_from_points open_ 32 (λ p here.
-        let closing = and_parts (has row.closing p) (not (has s.other p)) (sym (each p) ∙ here) in
-        let inside = and_parts (ltb p n) (may_close b row.own p) (sym (is.closing p) ∙ closing.0) in
-        omega (arith, ltb-true p n inside.0))
+  pub captures_none : ends ≡ 0 → list_any is_capture (moves_of b s) ≡ false
+  captures_none none = false_from_ne_true (list_any is_capture (moves_of b s)) (λ e.
+      let m = capture_closes e in
+      both_ways (has ends m.1) (ap (λ t. has t m.1) none ∙ has-none m.1) (closing_open m.0 m.1 m.2))
 
-    pub captures_some : 0 < open_ → true ≡ list_any is_capture (moves_of b s)
-    captures_some some =
-        let v = first_is open_ some open_-lt in
-        let parts = and_parts (has row.closing _) (not (has s.other _)) (sym (each _) ∙ v.here) in
-        sym (some_capture _ parts.0 (not-true (has s.other _) parts.1))
+  -- ---- the captures that are found by a row
 
-    pub captures_none : open_ ≡ 0 → false ≡ list_any is_capture (moves_of b s)
-    captures_none none = sym (false_from_ne_true (list_any is_capture (moves_of b s)) (λ e.
-        let v = some_closing e in
-        let here : has open_ v.0 ≡ true = each v.0 ∙ and_from _ _ v.1 (ap not v.2) in
-        both_ways (has open_ v.0) (ap (λ t. has t v.0) none ∙ has-none v.0) here))
+  module _ (row : Row) (own : row.own ≡ s.own) (is : IsRow b n row) where
+    pub row_ends : (v : ℕ) → has row.closing v ≡ (ltb v n && may_close b s.own v)
+    row_ends v = is.closing v ∙ ap (λ o. ltb v n && may_close b o v) own
 
-  -- ---- the captures that are kept
+    pub some_closing : list_any is_capture (moves_of b s) ≡ true → (v : ℕ) × (has row.closing v ≡ true) × (has s.other v ≡ false)
+    some_closing h =
+        let m = capture_closes h in (
+          m.1,
+          row_ends m.1 ∙ and_from _ _ (lt-ltb m.1 n (closing_in m.0 m.1 m.2)) (closing_may m.0 m.1 m.2),
+          closing_free m.0 m.1 m.2,
+        )
 
-  closer_is : (u v : ℕ) → v < n → has (slice_index row.closers v) u ≡ (has s.own u && is_closing_end b s.own u v)
-  closer_is u v h = is.closers v h u ∙ ap (λ o. has o u && is_closing_end b o u v) own
+    pub closers_are : (v : ℕ) → v < n → slice_index row.closers v ≡ closers_at b s.own v
+    closers_are v inside = closers_of (slice_index row.closers v) v (λ u. is.closers v inside u ∙ ap (λ o. has o u && is_closing_end b o u v) own)
 
-  pub closers_close : (u v : ℕ) → has row.closing v ≡ true → has s.other v ≡ false → has (slice_index row.closers v) u ≡ true → IsClosing b s u v
-  closers_close u v closing free here =
-      let inside : v < n = ltb-true v n (and_parts (ltb v n) (may_close b row.own v) (sym (is.closing v) ∙ closing)).0 in
-      closing_there b n points low s lawful u v inside free (sym (closer_is u v inside) ∙ here)
-
-  closing_kept : (u v : ℕ) → IsClosing b s u v → has (slice_index row.closers v) u ≡ true
-  closing_kept u v h = closer_is u v (closing_in b n points low s lawful u v h) ∙ closing_end b n points low s lawful u v h
-
-  module _ (ends : ℕ) (each : (v : ℕ) → has ends v ≡ (has row.closing v && not (has s.other v))) where
-    pub end_is : (v : ℕ) → has ends v ≡ true → (has row.closing v ≡ true) × (has s.other v ≡ false)
-    end_is v h =
-        let parts = and_parts (has row.closing v) (not (has s.other v)) (sym (each v) ∙ h) in
-        (parts.0, not-true (has s.other v) parts.1)
-
-    pub end_low : (v : ℕ) → has ends v ≡ true → v < n
-    end_low v h = ltb-true v n (and_parts (ltb v n) (may_close b row.own v) (sym (is.closing v) ∙ (end_is v h).0)).0
+    pub closers_close : (u v : ℕ) → has ends v ≡ true → has (slice_index row.closers v) u ≡ true → IsClosing b s u v
+    closers_close u v here h = open_closes v here u (subst (λ k. has k u ≡ true) (closers_are v (open_low v here)) h)
 
     kept_legal : (m : Move) → Contains (kept_captures row ends (members (takable b s.other))) m → is_legal b s m ≡ true
     kept_legal m c =
         let of_taken = Contains-flat_map_cases (λ t. captures_to row.closers t (members ends)) (members (takable b s.other)) m c in
         let to_end = Contains-flat_map_cases (λ v. captures_at of_taken.0 (slice_index row.closers v) v) (members ends) m of_taken.2 in
         let by = Contains-map_cases (λ u. move u to_end.0 (Some of_taken.0)) (members (slice_index row.closers to_end.0)) m to_end.2 in
-        let end = end_is to_end.0 (has-member ends to_end.0 to_end.1) in
-        let closing = closers_close by.0 to_end.0 end.0 end.1 (has-member (slice_index row.closers to_end.0) by.0 by.1) in
+        let closing = closers_close by.0 to_end.0 (has-member ends to_end.0 to_end.1) (has-member (slice_index row.closers to_end.0) by.0 by.1) in
         subst (λ k. is_legal b s k ≡ true) by.2
         (capture_is_legal b s by.0 to_end.0 of_taken.0 closing.own closing.goes closing.shuts (has-member (takable b s.other) of_taken.0 of_taken.1))
 
     legal_kept : (m : Move) → is_legal b s m ≡ true → is_capture m ≡ true → Contains (kept_captures row ends (members (takable b s.other))) m
     legal_kept m legal takes =
         let closing = legal_capture b s m legal takes in
-        let end = opens m.from m.to closing in
-        let here : has ends m.to ≡ true = each m.to ∙ and_from _ _ end.0 (ap not end.1) in
+        let inside : m.to < n = closing_in m.from m.to closing in
+        let closer = subst (λ k. has k m.from ≡ true) (sym (closers_are m.to inside)) (closing_closer m.from m.to closing) in
         let t = is_none-false m.taken (not-true (is_none m.taken) takes) in
-        let reachable = reached b s m.from m.to closing.goes in
         let taken : has (takable b s.other) t.0 ≡ true = legal_takes b s m t.0 t.1 legal in
         let same : move m.from m.to (Some t.0) ≡ m = ap (λ o. move m.from m.to o) (sym t.1) in
         subst (Contains (kept_captures row ends (members (takable b s.other)))) same
         (Contains-flat_map (λ t. captures_to row.closers t (members ends)) (members (takable b s.other)) t.0 _
         (member-has (takable b s.other) t.0 (omega (arith, points, point_lt s.other b.points t.0 lawful.stones.other_within (takable_is_other b s.other t.0 taken))) taken)
         (Contains-flat_map (λ v. captures_at t.0 (slice_index row.closers v) v) (members ends) m.to _
-        (member-has ends m.to (omega (arith, points, reachable.within)) here)
+        (member-has ends m.to (omega (arith, inside)) (closing_open m.from m.to closing))
         (Contains-map (λ u. move u m.to (Some t.0)) (members (slice_index row.closers m.to)) m.from
         (member-has (slice_index row.closers m.to) m.from
-        (omega (arith, points, point_lt s.own b.points m.from lawful.stones.own_within closing.own)) (closing_kept m.from m.to closing)))))
+        (omega (arith, points, point_lt s.own b.points m.from lawful.stones.own_within closing.own)) closer))))
 
     -- their summary is that of all captures
-    pub kept_suffice : exits_by b s (kept_captures row ends (members (takable b s.other))) ≡ exits_of (capture_codes b s)
+    pub kept_suffice : (set : ℕ) → set ≡ ends → exits_by b s (kept_captures row set (members (takable b s.other))) ≡ exits_of (capture_codes b s)
     unfolding exits_by capture_codes
-    kept_suffice =
+    kept_suffice set e = rw e (
         let code : Move → ℕ = λ m. code_to 65534 b (result_of s m) in
         let kept = kept_captures row ends (members (takable b s.other)) in
         let there : IsAmong (filter is_capture kept) (filter is_capture (moves_of b s)) = λ m c.
         let at = filter-contains is_capture kept m c in
-        contained-filter is_capture (moves_of b s) m (legal_is_listed b s (omega (arith, points)) lawful.stones m (kept_legal m at.0)) at.1 in
+        contained-filter is_capture (moves_of b s) m (legal_is_listed b s few lawful.stones m (kept_legal m at.0)) at.1 in
         let back : IsAmong (filter is_capture (moves_of b s)) (filter is_capture kept) = λ m c.
         let at = filter-contains is_capture (moves_of b s) m c in
-        contained-filter is_capture kept m (legal_kept m (listed_is_legal b s (omega (arith, points)) lawful.stones m at.0) at.1) at.1 in
+        contained-filter is_capture kept m (legal_kept m (listed_is_legal b s few lawful.stones m at.0) at.1) at.1 in
         exits_of-same (map code (filter is_capture kept)) (map code (filter is_capture (moves_of b s)))
-        (images_among code _ _ there) (images_among code _ _ back)
+        (images_among code _ _ there) (images_among code _ _ back))
 
 -- ---- a summary that goes on
 

@@ -1,14 +1,12 @@
 -- The captures of a position, by the stones that the opponent faces after them.
-use Rattle.std.proofs.Common.{◌≡◌, ℕ, ◌<◌, ◌≤◌, Bool, true, false, not, ◌&&◌, ltb, eqb, List, [], ◌∷◌, ◌++◌, map, filter, replicate, Some, is_none, refl, sym, ap, subst, ◌∙◌, inl, inr, arith, append_assoc}
-use Rattle.std.proofs.Math.Bool.{and_assoc}
-use Rattle.std.proofs.lemmas.Bool.{cases_eq, both_ways, eq-eqb, or_right, lt-ltb, ltb-true, and_parts, and_from, not-true}
+use Rattle.std.proofs.Common.{◌≡◌, ℕ, ◌<◌, ◌≤◌, eqb, List, [], ◌∷◌, ◌++◌, map, filter, Some, is_none, refl, sym, ap, subst, ◌∙◌, inl, inr, arith, append_assoc}
+use Rattle.std.proofs.lemmas.Bool.{cases_eq, both_ways, eq-eqb, or_right, not-true}
 use Rattle.std.proofs.lemmas.List.{flat_map_more}
-use Rattle.std.proofs.lemmas.List.Elements.{All-replicate}
-use Rattle.std.specs.List.{All, Contains, flat_map}
+use Rattle.std.specs.List.{Contains, flat_map}
 use Rattle.morris_board.specs.Boards.{Shape}
 use Rattle.morris_board.specs.Sets.{has, members, without_point}
 use Rattle.morris_board.specs.Positions.{Sides, sides, IsPosition}
-use Rattle.morris_board.proofs.PointsLaws.{has-none, has-with, has-set_where, same_points}
+use Rattle.morris_board.proofs.PointsLaws.{has-none, has-with}
 use Rattle.morris_moves.specs.declared.step.Move.{Move}
 use Rattle.morris_moves.specs.Rules.{moved, move, takable, moves_of, result_of}
 use Rattle.morris_moves.proofs.LegalLaws.{takable_is_other, listed_is_legal, legal_is_listed}
@@ -16,22 +14,15 @@ use Rattle.morris_moves.proofs.ListLaws.{Contains-map, Contains-map_cases, Conta
 use Rattle.morris_moves.proofs.SetLaws.{point_lt, has-member, member-has}
 use Rattle.morris_wave.specs.declared.network.Exits.{Exits}
 use Rattle.morris_wave.specs.Exits.{exits_of}
-use Rattle.morris_pairs.specs.declared.facing_captures.FacingSlot.{FacingSlot}
 use Rattle.morris_pairs.specs.Captured.{IsClosing}
 use Rattle.morris_pairs.specs.Codes.{code_to}
-use Rattle.morris_pairs.specs.FacingCaptures.{codes_facing, codes_by, codes_at, IsFacingKept}
+use Rattle.morris_pairs.specs.FacingCaptures.{codes_facing, codes_by, codes_at}
 use Rattle.morris_pairs.specs.FilterLaws.{filter-contains, contained-filter}
 use Rattle.morris_pairs.specs.KeptCaptures.{open_ends, closers_at}
 use Rattle.morris_pairs.specs.NetLaws.{is_none-false}
 use Rattle.morris_pairs.specs.PairNets.{is_capture, capture_codes}
-use Rattle.morris_pairs.specs.Rows.{may_close, is_closing_end}
-use Rattle.morris_pairs.proofs.CaptureLaws.{capture_is_legal, legal_capture, legal_takes, closing_there, closing_in, closing_free, closing_end, closing_may}
+use Rattle.morris_pairs.proofs.CaptureLaws.{capture_is_legal, legal_capture, legal_takes, closing_in, closing_closer, closing_open, open_closes}
 use Rattle.morris_pairs.proofs.SummaryLaws.{exits_of-same}
-
--- ---- empty slots
-
-pub no_facings : (b : Shape) (n : ℕ) (empty : FacingSlot) → empty.facing ≡ 0 → All (IsFacingKept b) (replicate n empty)
-no_facings b n empty none = All-replicate (IsFacingKept b) n empty (λ some. absurd (omega (arith, some, none)))
 
 -- some stone moved, and stands there
 pub some_facing : (own u v : ℕ) → v < 32 → 0 < moved own u v
@@ -51,65 +42,14 @@ codes_more f codes exits part both v vs before is joined =
     joined (codes ++ flat_map f vs) (f v) before is
     ∙ ap exits_of (append_assoc codes (flat_map f vs) (f v) ∙ ap (λ xs. codes ++ xs) (flat_map_more f [] vs v))
 
+-- ---- all captures
+
 module _ (b : Shape) (n : ℕ) (points : b.points ≡ n) (low : n ≤ 24) (s : Sides) (lawful : IsPosition b s) where
   few : b.points ≤ 24
   few = omega (arith, points)
 
-  -- ---- the stones that close a mill at a point
-
-  pub closers_of : (closers v : ℕ) → ((u : ℕ) → has closers u ≡ (has s.own u && is_closing_end b s.own u v)) → closers ≡ closers_at b s.own v
-  unfolding closers_at
-  closers_of closers v each = same_points _ _ (λ u. each u
-      ∙ (within (has s.own u) (is_closing_end b s.own u v) (ltb u b.points) (λ h. lt-ltb u b.points (point_lt s.own b.points u lawful.stones.own_within h))
-      ∙ sym (has-set_where b.points (λ x. has s.own x && is_closing_end b s.own x v) u)))
-    where
-      within : (x y z : Bool) → (x ≡ true → z ≡ true) → (x && y) ≡ (z && (x && y))
-      within true y z h = rw (h refl) refl
-      within false y true h = refl
-      within false y false h = refl
-
-  closer_closes : (u v : ℕ) → v < n → has s.other v ≡ false → has (closers_at b s.own v) u ≡ true → IsClosing b s u v
-  unfolding closers_at
-  closer_closes u v inside free here =
-      closing_there b n points low s lawful u v inside free
-      (and_parts (ltb u b.points) (has s.own u && is_closing_end b s.own u v) (sym (has-set_where b.points (λ x. has s.own x && is_closing_end b s.own x v) u) ∙ here)).1
-
-  closing_closer : (u v : ℕ) → IsClosing b s u v → has (closers_at b s.own v) u ≡ true
-  unfolding closers_at
-  closing_closer u v h =
-      has-set_where b.points (λ x. has s.own x && is_closing_end b s.own x v) u
-      ∙ and_from _ _ (lt-ltb u b.points (point_lt s.own b.points u lawful.stones.own_within h.own)) (closing_end b n points low s lawful u v h)
-
-  -- ---- the points at which a mill may be closed
-
   abbrev ends : ℕ
   ends = open_ends b s.own s.other
-
-  end_is : (v : ℕ) → has ends v ≡ (ltb v b.points && (may_close b s.own v && not (has s.other v)))
-  unfolding open_ends
-  end_is v = has-set_where b.points (λ x. may_close b s.own x && not (has s.other x)) v
-
-  pub ends_of : (set : ℕ) → ((v : ℕ) → has set v ≡ ((ltb v n && may_close b s.own v) && not (has s.other v))) → set ≡ open_ends b s.own s.other
-  ends_of set each = same_points _ _ (λ v. each v
-      ∙ ap (λ k. (ltb v k && may_close b s.own v) && not (has s.other v)) (sym points)
-      ∙ and_assoc (ltb v b.points) (may_close b s.own v) (not (has s.other v))
-      ∙ sym (end_is v))
-
-  pub open_low : (v : ℕ) → has (open_ends b s.own s.other) v ≡ true → v < n
-  open_low v here = omega (arith, points, ltb-true v b.points (and_parts (ltb v b.points) _ (sym (end_is v) ∙ here)).0)
-
-  pub open_closes : (u v : ℕ) → has (open_ends b s.own s.other) v ≡ true → has (closers_at b s.own v) u ≡ true → IsClosing b s u v
-  open_closes u v here closer =
-      let more = and_parts (may_close b s.own v) (not (has s.other v)) (and_parts (ltb v b.points) _ (sym (end_is v) ∙ here)).1 in
-      closer_closes u v (open_low v here) (not-true (has s.other v) more.1) closer
-
-  closing_open : (u v : ℕ) → IsClosing b s u v → has ends v ≡ true
-  closing_open u v h =
-      end_is v
-      ∙ and_from _ _ (lt-ltb v b.points (omega (arith, points, closing_in b n points low s lawful u v h)))
-      (and_from _ _ (closing_may b n points low s lawful u v h) (ap not (closing_free b n points low s lawful u v h)))
-
-  -- ---- all captures
 
   codes_there : (x : ℕ) → Contains (codes_at b s (members ends)) x → Contains (capture_codes b s) x
   unfolding capture_codes codes_facing result_of
@@ -119,7 +59,7 @@ module _ (b : Shape) (n : ℕ) (points : b.points ≡ n) (low : n ≤ 24) (s : S
       let from = Contains-flat_map_cases (λ u. codes_facing b s.other (moved s.own u v)) (members (closers_at b s.own v)) x to.2 in
       let u : ℕ = from.0 in
       let taken = Contains-map_cases (λ t. code_to 65534 b (sides (without_point s.other t) (moved s.own u v))) (members (takable b s.other)) x from.2 in
-      let closing : IsClosing b s u v = open_closes u v (has-member ends v to.1) (has-member (closers_at b s.own v) u from.1) in
+      let closing : IsClosing b s u v = open_closes b n points low s lawful v (has-member ends v to.1) u (has-member (closers_at b s.own v) u from.1) in
       let m : Move = move u v (Some taken.0) in
       let legal = capture_is_legal b s u v taken.0 closing.own closing.goes closing.shuts (has-member (takable b s.other) taken.0 taken.1) in
       subst (Contains (map (λ k. code_to 65534 b (result_of s k)) (filter is_capture (moves_of b s)))) taken.2
@@ -140,9 +80,9 @@ module _ (b : Shape) (n : ℕ) (points : b.points ≡ n) (low : n ≤ 24) (s : S
       let same : code_to 65534 b (sides (without_point s.other t.0) (moved s.own m.from m.to)) ≡ x =
       ap (λ k. code_to 65534 b (result_of s k)) (ap (λ o. move m.from m.to o) (sym t.1)) ∙ by.2 in
       subst (Contains (codes_at b s (members ends))) same
-      (Contains-flat_map (λ v. codes_by b s v (members (closers_at b s.own v))) (members ends) m.to _ (member-has ends m.to (omega (arith, inside)) (closing_open m.from m.to closing))
+      (Contains-flat_map (λ v. codes_by b s v (members (closers_at b s.own v))) (members ends) m.to _ (member-has ends m.to (omega (arith, inside)) (closing_open b n points low s lawful m.from m.to closing))
       (Contains-flat_map (λ u. codes_facing b s.other (moved s.own u m.to)) (members (closers_at b s.own m.to)) m.from _
-      (member-has (closers_at b s.own m.to) m.from (omega (arith, few, point_lt s.own b.points m.from lawful.stones.own_within closing.own)) (closing_closer m.from m.to closing))
+      (member-has (closers_at b s.own m.to) m.from (omega (arith, few, point_lt s.own b.points m.from lawful.stones.own_within closing.own)) (closing_closer b n points low s lawful m.from m.to closing))
       (Contains-map (λ k. code_to 65534 b (sides (without_point s.other k) (moved s.own m.from m.to))) (members (takable b s.other)) t.0
       (member-has (takable b s.other) t.0 (omega (arith, few, point_lt s.other b.points t.0 lawful.stones.other_within (takable_is_other b s.other t.0 taken))) taken))))
 

@@ -1,6 +1,6 @@
 -- The summaries of captures that are kept by the stones that are left.
 use Rattle.std.proofs.Common.{◌≡◌, ℕ, ◌<◌, ◌≤◌, Bool, true, false, not, ◌&&◌, ltb, List, [], ◌∷◌, ◌++◌, map, slice_index, filter, replicate, Some, refl, sym, ap, ◌∙◌, inl, inr, arith}
-use Rattle.std.proofs.lemmas.Bool.{cases_eq, both_ways, ne_eqb, lt-ltb}
+use Rattle.std.proofs.lemmas.Bool.{cases_eq, both_ways, ne_eqb}
 use Rattle.std.proofs.lemmas.List.{flat_map_more, map-append}
 use Rattle.std.proofs.lemmas.List.Elements.{filter-append, All-replicate}
 use Rattle.std.specs.List.{All, Contains, flat_map}
@@ -20,16 +20,16 @@ use Rattle.morris_pairs.specs.declared.rows.Row.{Row}
 use Rattle.morris_pairs.specs.Codes.{code_to}
 use Rattle.morris_pairs.specs.PairNets.{is_capture}
 use Rattle.morris_pairs.specs.Graphs.{exits_by}
-use Rattle.morris_pairs.specs.Rows.{may_close, is_closing_end, IsRow}
+use Rattle.morris_pairs.specs.Rows.{may_close, IsRow}
 use Rattle.morris_pairs.specs.Captured.{captures_at, captures_to}
 use Rattle.morris_pairs.specs.declared.kept_captures.Slot.{Slot}
 use Rattle.morris_pairs.specs.KeptCaptures.{open_ends, closers_at, codes_left, IsKept}
-use Rattle.morris_pairs.proofs.CaptureLaws.{kept_captures, end_low, empty_count}
+use Rattle.morris_pairs.proofs.CaptureLaws.{kept_captures, row_ends, closers_are, open_low, empty_count}
 
 -- ---- empty slots
 
-pub none_kept : (b : Shape) (own n : ℕ) (empty : Slot) → empty.left ≡ 0 → All (IsKept b own) (replicate n empty)
-none_kept b own n empty none = All-replicate (IsKept b own) n empty (λ some. absurd (omega (arith, some, none)))
+pub none_kept : (codes : ℕ → ℕ → List ℕ) (n : ℕ) (empty : Slot) → empty.after ≡ 0 → All (IsKept codes) (replicate n empty)
+none_kept codes n empty none = All-replicate (IsKept codes) n empty (λ some. absurd (omega (arith, some, none)))
 
 -- ---- summaries of two lists of moves
 
@@ -79,64 +79,42 @@ module _ (b : Shape) (s : Sides) (taken : ℕ) where
       ∙ (ap (λ xs. xs ++ map code (filter is_capture later)) (coded_at v (members (slice_index closers v)))
       ∙ ap (λ xs. map (code_by v) (members (slice_index closers v)) ++ xs) (coded_to closers vs)))
 
-module _ (b : Shape) (n : ℕ) (points : b.points ≡ n) (low : n ≤ 24) (s : Sides) (lawful : IsPosition b s) (row : Row) (own : row.own ≡ s.own) (is : IsRow b n row) where
-  closers_are : (v : ℕ) → v < n → slice_index row.closers v ≡ closers_at b s.own v
-  unfolding closers_at
-  closers_are v inside = same_points _ _ (λ u. is.closers v inside u
-      ∙ (ap (λ o. has o u && is_closing_end b o u v) own
-      ∙ (within (has s.own u) (is_closing_end b s.own u v) (ltb u b.points) (λ h. lt-ltb u b.points (point_lt s.own b.points u lawful.stones.own_within h))
-      ∙ sym (has-set_where b.points (λ x. has s.own x && is_closing_end b s.own x v) u))))
-    where
-      within : (x y z : Bool) → (x ≡ true → z ≡ true) → (x && y) ≡ (z && (x && y))
-      within true y z h = rw (h refl) refl
-      within false y true h = refl
-      within false y false h = refl
+module _ (b : Shape) (n : ℕ) (points : b.points ≡ n) (low : n ≤ 24) (s : Sides) (lawful : IsPosition b s) (taken : ℕ) where
+  pub some_left : has (takable b s.other) taken ≡ true → 0 < without_point s.other taken
+  some_left here =
+      let there : has s.other taken ≡ true = takable_is_other b s.other taken here in
+      let few : taken < 32 = omega (arith, points, point_lt s.other b.points taken lawful.stones.other_within there) in
+      let three = other_count s lawful.sized in
+      elim (cases_eq (without_point s.other taken) 0) [
+        | inl e ↦ absurd (omega (arith, count_of-without s.other taken few there, empty_count (without_point s.other taken) e, three.0))
+        | inr d ↦ omega arith
+      ]
 
-  module _ (taken : ℕ) (here : has (takable b s.other) taken ≡ true) where
-    pub some_left : 0 < without_point s.other taken
-    some_left =
-        let there : has s.other taken ≡ true = takable_is_other b s.other taken here in
-        let few : taken < 32 = omega (arith, points, point_lt s.other b.points taken lawful.stones.other_within there) in
-        let three = other_count s lawful.sized in
-        elim (cases_eq (without_point s.other taken) 0) [
-          | inl e ↦ absurd (omega (arith, count_of-without s.other taken few there, empty_count (without_point s.other taken) e, three.0))
-          | inr d ↦ omega arith
+  module _ (row : Row) (own : row.own ≡ s.own) (is : IsRow b n row) (apart : has row.closing taken ≡ false) where
+    ends_are : open_ends b s.own s.other ≡ open_ends b s.own (without_point s.other taken)
+    unfolding open_ends
+    ends_are = same_points _ _ (λ v.
+        has-set_where b.points (λ x. may_close b s.own x && not (has s.other x)) v
+        ∙ elim (cases_eq v taken) [
+          | inl e ↦ rw e (closed (ltb taken b.points) (may_close b s.own taken) _ _ (ap (λ k. ltb taken k && may_close b s.own taken) points ∙ sym (row_ends b n points low s lawful row own is taken) ∙ apart))
+          | inr d ↦ ap (λ x. ltb v b.points && (may_close b s.own v && not x)) (sym (has-without s.other taken v ∙ rw (ne_eqb v taken d) refl))
         ]
+        ∙ sym (has-set_where b.points (λ x. may_close b s.own x && not (has (without_point s.other taken) x)) v))
+      where
+        closed : (x y z w : Bool) → (x && y) ≡ false → (x && (y && z)) ≡ (x && (y && w))
+        closed true true z w h = absurd (both_ways true h refl)
+        closed true false z w h = refl
+        closed false y z w h = refl
 
-    module _ (apart : has row.closing taken ≡ false) (ends : ℕ) (each : (v : ℕ) → has ends v ≡ (has row.closing v && not (has s.other v))) where
-      ends_are : ends ≡ open_ends b s.own (without_point s.other taken)
-      unfolding open_ends
-      ends_are = same_points _ _ (λ v. each v
-          ∙ (elim (cases_eq v taken) [
-            | inl e ↦ rw (e, apart) (sym (closed (ltb taken b.points) (may_close b s.own taken) _ (sym (closing_is taken) ∙ apart)))
-            | inr d ↦
-                ap (λ x. x && not (has s.other v)) (closing_is v)
-                ∙ (assoc (ltb v b.points) (may_close b s.own v) (not (has s.other v))
-                ∙ ap (λ x. ltb v b.points && (may_close b s.own v && not x)) (sym (has-without s.other taken v ∙ rw (ne_eqb v taken d) refl)))
-          ]
-          ∙ sym (has-set_where b.points (λ x. may_close b s.own x && not (has (without_point s.other taken) x)) v)))
-        where
-          closing_is : (v : ℕ) → has row.closing v ≡ (ltb v b.points && may_close b s.own v)
-          closing_is v = is.closing v ∙ (ap (λ o. ltb v n && may_close b o v) own ∙ ap (λ k. ltb v k && may_close b s.own v) (sym points))
-
-          closed : (x y z : Bool) → (x && y) ≡ false → (x && (y && z)) ≡ false
-          closed true true z h = absurd (both_ways true h refl)
-          closed true false z h = refl
-          closed false y z h = refl
-
-          assoc : (x y z : Bool) → ((x && y) && z) ≡ (x && (y && z))
-          assoc true y z = refl
-          assoc false y z = refl
-
-      -- the summary of the captures of the stone is that of the set that they leave
-      pub left_tells : exits_by b s (captures_to row.closers taken (members ends)) ≡ exits_of (codes_left b s.own (without_point s.other taken))
-      unfolding exits_by codes_left
-      left_tells = ap exits_of (
-          coded_to b s taken row.closers (members ends)
-          ∙ (flat_map_same
-          (λ v. map (λ u. code_to 65534 b (sides (without_point s.other taken) (moved s.own u v))) (members (slice_index row.closers v)))
-          (λ v. map (λ u. code_to 65534 b (sides (without_point s.other taken) (moved s.own u v))) (members (closers_at b s.own v)))
-          (members ends)
-          (λ v c. ap (λ k. map (λ u. code_to 65534 b (sides (without_point s.other taken) (moved s.own u v))) (members k))
-          (closers_are v (end_low b n points low s lawful row own is ends each v (has-member ends v c))))
-          ∙ ap (λ k. flat_map (λ v. map (λ u. code_to 65534 b (sides (without_point s.other taken) (moved s.own u v))) (members (closers_at b s.own v))) (members k)) ends_are))
+    -- the summary of the captures of the stone is that of the set that they leave
+    pub left_tells : (ends : ℕ) → ends ≡ open_ends b s.own s.other → exits_by b s (captures_to row.closers taken (members ends)) ≡ exits_of (codes_left b s.own (without_point s.other taken))
+    unfolding exits_by codes_left
+    left_tells ends e = rw e (ap exits_of (
+        coded_to b s taken row.closers (members (open_ends b s.own s.other))
+        ∙ (flat_map_same
+        (λ v. map (code_by b s taken v) (members (slice_index row.closers v)))
+        (λ v. map (code_by b s taken v) (members (closers_at b s.own v)))
+        (members (open_ends b s.own s.other))
+        (λ v c. ap (λ k. map (code_by b s taken v) (members k))
+        (closers_are b n points low s lawful row own is v (open_low b n points low s lawful v (has-member (open_ends b s.own s.other) v c))))
+        ∙ ap (λ k. flat_map (λ v. map (code_by b s taken v) (members (closers_at b s.own v))) (members k)) ends_are)))

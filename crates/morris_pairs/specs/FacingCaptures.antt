@@ -1,14 +1,11 @@
 -- What captures lead to, by the stones of the side that made them: what the player to move faces
 -- then.
-use Rattle.std.specs.Prelude.{◌≡◌, ℕ, ◌<◌, List, map}
-use Rattle.std.specs.List.{All, flat_map}
+use Rattle.std.specs.Prelude.{ℕ, List, map}
+use Rattle.std.specs.List.{flat_map}
 use Rattle.morris_board.specs.Boards.{Shape}
 use Rattle.morris_board.specs.Sets.{members, without_point}
 use Rattle.morris_board.specs.Positions.{Sides, sides}
 use Rattle.morris_moves.specs.Rules.{moved, takable}
-use Rattle.morris_wave.specs.Exits.{exits_of}
-use Rattle.morris_pairs.specs.declared.facing_captures.FacingSlot.{FacingSlot}
-use Rattle.morris_pairs.specs.declared.facing_captures.KeptFacings.{KeptFacings}
 use Rattle.morris_pairs.specs.Codes.{code_to}
 use Rattle.morris_pairs.specs.KeptCaptures.{closers_at}
 
@@ -24,12 +21,3 @@ codes_by board s v us = flat_map (λ u. codes_facing board s.other (moved s.own 
 -- those of all captures by a move to one of the points vs
 abbrev pub codes_at : Shape → Sides → List ℕ → List ℕ
 codes_at board s vs = flat_map (λ v. codes_by board s v (members (closers_at board s.own v))) vs
-
--- what a slot has is the summary of the captures from its stones after which these face its others;
--- without others it is empty
-abbrev pub IsFacingKept : Shape → FacingSlot → Type 0
-IsFacingKept board slot = 0 < slot.facing → slot.results ≡ exits_of (codes_facing board slot.stones slot.facing)
-
--- each slot has what it is to have
-abbrev pub AreFacingsKept : Shape → KeptFacings → Type 0
-AreFacingsKept board kept = All (IsFacingKept board) kept.slots.items

@@ -1,4 +1,4 @@
--- What captures lead to, by the set of stones that they leave the opponent.
+-- What captures lead to, by the set of stones that they leave the opponent, and what is kept of captures.
 use Rattle.std.specs.Prelude.{◌≡◌, ℕ, ◌<◌, not, ◌&&◌, List, map}
 use Rattle.std.specs.List.{All, flat_map}
 use Rattle.morris_board.specs.Boards.{Shape}
@@ -26,11 +26,11 @@ unfoldable pub codes_left : Shape → ℕ → ℕ → List ℕ
 codes_left board own left =
     flat_map (λ v. map (λ u. code_to 65534 board (sides left (moved own u v))) (members (closers_at board own v))) (members (open_ends board own left))
 
--- what a slot has is the summary of the captures by `own` that leave its stones; without stones it
--- is empty
-abbrev pub IsKept : Shape → ℕ → Slot → Type 0
-IsKept board own slot = 0 < slot.left → slot.results ≡ exits_of (codes_left board own slot.left)
+-- What a slot has is the summary of the captures with its stones before and after them, whose codes
+-- are known. Without stones after them it is empty.
+abbrev pub IsKept : (ℕ → ℕ → List ℕ) → Slot → Type 0
+IsKept codes slot = 0 < slot.after → slot.results ≡ exits_of (codes slot.before slot.after)
 
--- each slot has what it is to have, for the own stones whose captures are kept
-abbrev pub AreKept : Shape → KeptCaptures → Type 0
-AreKept board kept = All (IsKept board kept.own) kept.slots.items
+-- each slot has what it is to have
+abbrev pub AreKept : (ℕ → ℕ → List ℕ) → KeptCaptures → Type 0
+AreKept codes kept = All (IsKept codes) kept.slots.items

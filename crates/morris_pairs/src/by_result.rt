@@ -11,9 +11,12 @@ ghost use Rattle.morris_index.specs.Classes.{representative_of};
 ghost use Rattle.morris_index.specs.Moves.{InPair};
 ghost use Rattle.morris_pairs.specs.Entries.{entry_count};
 ghost use Rattle.morris_pairs.specs.Faces.{code_stated, codes_stated, EntryAgrees, FacesAgree};
+ghost use Rattle.morris_pairs.specs.FacingCaptures.{codes_facing};
+ghost use Rattle.morris_pairs.specs.KeptCaptures.{AreKept};
 
 use crate::agreeing::agrees_after;
 use crate::graph::PairGraph;
+use crate::kept_captures::KeptCaptures;
 use crate::layout::Layout;
 use crate::numbering::Successors;
 use crate::quiet_ends::QuietEnds;
@@ -62,18 +65,27 @@ impl<B: Geometry> OwnSet<B> {
 
     /// Whether the player to move has this set in a position, and `code`, which the table states
     /// for it, agrees.
-    fn agrees(&self, graph: &PairGraph<B>, raw: &Raw<B>, faced: &Faced<'_, B>, code: u16) -> bool
+    fn agrees(
+        &self,
+        graph: &PairGraph<B>,
+        raw: &Raw<B>,
+        faced: &Faced<'_, B>,
+        code: u16,
+        kept: &mut KeptCaptures,
+    ) -> bool
         requires pair { graph.now ≡ raw.now.pair }
         requires layout { raw.now.layout ≡ Layout.Classes }
         requires of { faced.now.pair ≡ raw.now.pair }
         requires code { code ≡ code_stated B.shape raw.now faced.now }
-        ensures { result ≡ true → EntryAgrees B.shape raw.now faced.now }
+        requires kept { AreKept (codes_facing B.shape) kept.old }
+        ensures agrees { result ≡ true → EntryAgrees B.shape raw.now faced.now }
+        ensures kept { AreKept (codes_facing B.shape) kept.new }
     {
         let position = faced.position();
         if position.own() != self.row.own {
             return false;
         }
-        let captures = graph.exits_by_row(&self.row, &position);
+        let captures = graph.exits_by_facing(&position, self.row.closing, kept);
         let successors = Successors::Kept(faced.after());
         agrees_after(raw, code, &successors, &position, &self.ends, captures)
     }
@@ -119,12 +131,21 @@ impl<B: Geometry> OwnSets<B> {
     }
 
     /// Whether the entry of a position is known to agree, for which the table states `code`.
-    fn agree(&self, graph: &PairGraph<B>, raw: &Raw<B>, faced: &Faced<'_, B>, code: u16) -> bool
+    fn agree(
+        &self,
+        graph: &PairGraph<B>,
+        raw: &Raw<B>,
+        faced: &Faced<'_, B>,
+        code: u16,
+        kept: &mut KeptCaptures,
+    ) -> bool
         requires pair { graph.now ≡ raw.now.pair }
         requires layout { raw.now.layout ≡ Layout.Classes }
         requires of { faced.now.pair ≡ raw.now.pair }
         requires code { code ≡ code_stated B.shape raw.now faced.now }
-        ensures { result ≡ true → EntryAgrees B.shape raw.now faced.now }
+        requires kept { AreKept (codes_facing B.shape) kept.old }
+        ensures agrees { result ≡ true → EntryAgrees B.shape raw.now faced.now }
+        ensures kept { AreKept (codes_facing B.shape) kept.new }
     {
         let sets = if faced.position().own().count() == self.count {
             &self.greater
@@ -132,7 +153,7 @@ impl<B: Geometry> OwnSets<B> {
             &self.lesser
         };
         let class = faced.class() as usize;
-        class < sets.len() && sets[class].agrees(graph, raw, faced, code)
+        class < sets.len() && sets[class].agrees(graph, raw, faced, code, kept)
     }
 
     /// Whether the entries of all of some positions are known to agree, for which the table states
@@ -143,15 +164,18 @@ impl<B: Geometry> OwnSets<B> {
         raw: &Raw<B>,
         faces: &[Faced<'_, B>],
         codes: &[u16],
+        kept: &mut KeptCaptures,
     ) -> bool
         requires pair { graph.now ≡ raw.now.pair }
         requires layout { raw.now.layout ≡ Layout.Classes }
         requires of { All (λ (q : InPair). q.pair ≡ raw.now.pair) faces.now }
         requires codes { codes.now ≡ codes_stated B.shape raw.now faces.now }
-        ensures { result ≡ true → All (EntryAgrees B.shape raw.now) faces.now }
+        requires kept { AreKept (codes_facing B.shape) kept.old }
+        ensures agree { result ≡ true → All (EntryAgrees B.shape raw.now) faces.now }
+        ensures kept { AreKept (codes_facing B.shape) kept.new }
     {
         for place in 0..faces.len() {
-            if !self.agree(graph, raw, &faces[place], codes[place]) {
+            if !self.agree(graph, raw, &faces[place], codes[place], kept) {
                 return false;
             }
         }
@@ -186,14 +210,30 @@ pub(crate) struct Lists<'a, B: Geometry> {
     faces: Vec<Faced<'a, B>>,
     /// The codes that the table states for them.
     codes: Vec<u16>,
+    /// What is kept of the captures of these positions.
+    kept: KeptCaptures,
+}
+
+impl<'a, B: Geometry> Model for Lists<'a, B> {
+    ghost use Rattle.std.specs.Prelude.{List};
+    ghost use Rattle.morris_index.specs.Moves.{InPair};
+    ghost use Rattle.morris_pairs.specs.FacingCaptures.{codes_facing};
+    ghost use Rattle.morris_pairs.specs.KeptCaptures.{AreKept};
+
+    ghost Value = { List InPair };
+
+    ghost view = { λ lists. lists.faces.items };
+
+    ghost invariant = { λ lists. AreKept (codes_facing B.shape) lists.kept };
 }
 
 impl<'a, B: Geometry> Lists<'a, B> {
-    /// Empty lists.
+    /// Empty lists, and nothing kept.
     pub(crate) fn new(alloc: Global) -> Lists<'a, B> {
         Lists {
             faces: Vec::new(alloc),
             codes: Vec::new(alloc),
+            kept: KeptCaptures::new(alloc),
         }
     }
 
@@ -219,6 +259,6 @@ impl<'a, B: Geometry> Lists<'a, B> {
     {
         list_faced(classes, first, end, &mut self.faces)?;
         list_codes(raw, &self.faces, &mut self.codes)?;
-        Ok(sets.all_agree(graph, raw, &self.faces, &self.codes))
+        Ok(sets.all_agree(graph, raw, &self.faces, &self.codes, &mut self.kept))
     }
 }

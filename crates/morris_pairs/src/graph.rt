@@ -1,12 +1,12 @@
 //! The graph of a pair.
-ghost use Rattle.std.specs.Prelude.{◌≡◌, ℕ, ◌+◌, ◌*◌, ◌<◌, ◌≤◌, ◌↔◌, ◌&&◌, not, true, false, Some, None, List, ◌++◌, length, slice_index, vec_len, is_some, IfOk, OnOk, IfSome, MatchResult};
+ghost use Rattle.std.specs.Prelude.{◌≡◌, ℕ, ◌+◌, ◌*◌, ◌<◌, ◌≤◌, ◌↔◌, ◌&&◌, not, true, false, Some, None, List, ◌++◌, length, slice_index, vec_len, is_some, nat_lt, IfOk, IfErr, OnOk, IfSome, MatchResult};
 ghost use Rattle.std.specs.Option.{option_copied};
 ghost use Rattle.morris_board.specs.Positions.{IsPosition};
 ghost use Rattle.morris_board.specs.Sets.{has, members, count_of};
 ghost use Rattle.morris_moves.specs.declared.step.Move.{Move};
 ghost use Rattle.morris_moves.specs.Rules.{takable};
 ghost use Rattle.morris_index.specs.Pairs.{IsPair, is_of, less_lesser, less_greater};
-ghost use Rattle.morris_pairs.specs.Rows.{IsRow};
+ghost use Rattle.morris_pairs.specs.Rows.{IsRow, may_close};
 ghost use Rattle.morris_wave.specs.Blocks.{BlockState};
 ghost use Rattle.morris_wave.specs.Solving.{exits_at};
 ghost use Rattle.morris_wave.specs.Exits.{exits_of};
@@ -21,7 +21,7 @@ ghost use Rattle.morris_pairs.specs.Shelves.{table_on, first_missing};
 ghost use Rattle.morris_pairs.specs.Headline.{IsBlockIn, TellsIn};
 ghost use Rattle.morris_pairs.specs.Captured.{captured_pair, IsLeft, IsClosing, captures_at, captures_to};
 ghost use Rattle.morris_pairs.specs.Graphs.{IsTableOf, IsNeeded, exits_by, HasGameValues, HasValuesIn};
-ghost use Rattle.morris_pairs.specs.KeptCaptures.{AreKept};
+ghost use Rattle.morris_pairs.specs.KeptCaptures.{AreKept, codes_left, open_ends};
 
 use crate::backward::{list_before_all, list_entries_before};
 use crate::exact::Exact;
@@ -98,6 +98,33 @@ fn needed_table<'a, B: Geometry>(
     tables.get(need?)
 }
 
+/// The points at which the captures of a position close a mill, from those at which a move does
+/// where they are vacant.
+///
+/// # Errors
+/// The summary of the captures where no table is needed for it: there are none, or the opponent has
+/// three stones, so that any capture leaves two, and so lost.
+pub(crate) fn capture_ends<B: Geometry>(
+    position: &Position<B>,
+    closing: Points,
+) -> Result<Points, Exits>
+    requires lawful { IsPosition B.shape position.now }
+    requires closing { (v : ℕ) → has closing v ≡ (nat_lt v B.POINTS && may_close B.shape position.now.own v) }
+    ensures ends { IfOk result (λ ends. ends ≡ open_ends B.shape position.now.own position.now.other) }
+    ensures above { OnOk result (3 < count_of position.now.other) }
+    ensures known { IfErr result (λ exits. exits ≡ exits_of (capture_codes B.shape position.now)) }
+{
+    let other = position.other();
+    let ends = closing.less(other);
+    if ends == Points::EMPTY {
+        return Err(Exits::NONE);
+    }
+    if other.count() == 3 {
+        return Err(LOST_AT_ONCE);
+    }
+    Ok(ends)
+}
+
 /// Goes on with the summary `known`: each capture of the stone of `standing` by a move of one of
 /// `closers` to `to`.
 fn with_closers<B: Geometry>(
@@ -141,7 +168,7 @@ fn with_captures<B: Geometry>(
     requires own { row.now.own ≡ position.now.own }
     requires lawful { IsPosition B.shape position.now }
     requires taken { has (takable B.shape position.now.other) taken ≡ true }
-    requires ends { (v : ℕ) → has ends v ≡ (has row.now.closing v && not (has position.now.other v)) }
+    requires ends { ends ≡ open_ends B.shape position.now.own position.now.other }
     ensures { (done : List Move) → known ≡ exits_by B.shape position.now done
         → result ≡ exits_by B.shape position.now (done ++ captures_to row.now.closers taken (members ends)) }
 {
@@ -171,23 +198,20 @@ fn captures_of<B: Geometry>(
     requires own { row.now.own ≡ position.now.own }
     requires lawful { IsPosition B.shape position.now }
     requires taken { has (takable B.shape position.now.other) taken ≡ true }
-    requires ends { (v : ℕ) → has ends v ≡ (has row.now.closing v && not (has position.now.other v)) }
-    requires of { kept.old.own ≡ row.now.own }
-    requires kept { AreKept B.shape kept.old }
+    requires ends { ends ≡ open_ends B.shape position.now.own position.now.other }
+    requires kept { AreKept (codes_left B.shape) kept.old }
     ensures value { result ≡ exits_by B.shape position.now (captures_to row.now.closers taken (members ends)) }
-    ensures of { kept.new.own ≡ kept.old.own }
-    ensures kept { AreKept B.shape kept.new }
+    ensures kept { AreKept (codes_left B.shape) kept.new }
 {
     if row.closing.has(taken) {
         return with_captures(table, row, position, taken, ends, Exits::NONE);
     }
-    let other = position.other();
-    let left = other.without(taken);
-    if let Some(results) = kept.get(left) {
+    let left = position.other().without(taken);
+    if let Some(results) = kept.get(row.own, left) {
         return results;
     }
     let results = with_captures(table, row, position, taken, ends, Exits::NONE);
-    kept.put(left, results);
+    kept.put(row.own, left, results);
     results
 }
 
@@ -290,14 +314,10 @@ impl<'a, B: Geometry> PairGraph<'a, B> {
         requires row { IsRow B.shape B.POINTS row.now }
         ensures { result ≡ exits_of (capture_codes B.shape position.now) }
     {
-        let ends = row.closing.less(position.other());
-        if ends == Points::EMPTY {
-            return Exits::NONE;
-        }
-        // Any capture from three stones leaves the opponent two, and so lost.
-        if position.other().count() == 3 {
-            return LOST_AT_ONCE;
-        }
+        let ends = match capture_ends(position, row.closing) {
+            Ok(ends) => ends,
+            Err(known) => return known,
+        };
         let table = self.captured_table(position);
         let mut exits = Exits::NONE;
         for taken in takable::<B>(position.other()).iter() {
@@ -306,8 +326,7 @@ impl<'a, B: Geometry> PairGraph<'a, B> {
         exits
     }
 
-    /// The same, with the summaries of captures that are kept from one position with these own
-    /// stones to the next.
+    /// The same, with the summaries of captures that are kept from position to position.
     pub(crate) fn exits_by_kept(
         &self,
         row: &Row,
@@ -318,20 +337,17 @@ impl<'a, B: Geometry> PairGraph<'a, B> {
         requires lawful { IsPosition B.shape position.now }
         requires own { row.now.own ≡ position.now.own }
         requires row { IsRow B.shape B.POINTS row.now }
-        requires kept { AreKept B.shape kept.old }
+        requires kept { AreKept (codes_left B.shape) kept.old }
         ensures value { result ≡ exits_of (capture_codes B.shape position.now) }
-        ensures kept { AreKept B.shape kept.new }
+        ensures kept { AreKept (codes_left B.shape) kept.new }
     {
-        let other = position.other();
-        let ends = row.closing.less(other);
-        // Nothing is looked up for these, and so nothing is kept.
-        if ends == Points::EMPTY || other.count() == 3 {
-            return self.exits_by_row(row, position);
-        }
-        kept.follow(row.own);
+        let ends = match capture_ends(position, row.closing) {
+            Ok(ends) => ends,
+            Err(known) => return known,
+        };
         let table = self.captured_table(position);
         let mut exits = Exits::NONE;
-        for taken in takable::<B>(other).iter() {
+        for taken in takable::<B>(position.other()).iter() {
             exits = exits.joined(captures_of(table, row, position, taken, ends, kept));
         }
         exits

@@ -16,8 +16,9 @@ ghost use Rattle.morris_wave.specs.Exits.{exits_of};
 ghost use Rattle.morris_wave.specs.Solving.{exits_at};
 ghost use Rattle.morris_wave.specs.Values.{HasCode, IsTooDeep};
 ghost use Rattle.morris_pairs.specs.Entries.{entry_count};
-ghost use Rattle.morris_pairs.specs.FacingCaptures.{AreFacingsKept};
+ghost use Rattle.morris_pairs.specs.FacingCaptures.{codes_facing};
 ghost use Rattle.morris_pairs.specs.Graphs.{HasValuesIn};
+ghost use Rattle.morris_pairs.specs.KeptCaptures.{AreKept};
 ghost use Rattle.morris_pairs.specs.Headline.{IsBlockIn, TellsIn};
 ghost use Rattle.morris_pairs.specs.Known.{IsBeyondCodes};
 ghost use Rattle.morris_pairs.specs.Orders.{Order, Rows, is_ahead, index_in, own_in};
@@ -28,8 +29,8 @@ ghost use Rattle.morris_pairs.specs.Sweeping.{needed_by, is_of_graph};
 
 use crate::build_fault::BuildFault;
 use crate::exact::Exact;
-use crate::facing_captures::KeptFacings;
 use crate::graph::PairGraph;
+use crate::kept_captures::KeptCaptures;
 use crate::layout::Layout;
 use crate::levels::PairLevels;
 use crate::numbering::Numbering;
@@ -197,15 +198,15 @@ impl<'a, B: Geometry> RowGraph<'a, B> {
     fn read_turned_row(
         &self,
         entries: &EntryRow<B>,
-        kept: &mut KeptFacings,
+        kept: &mut KeptCaptures,
         counts: &mut [u16],
         exits: &mut [Exits],
     ) -> usize
         requires pair { entries.now.pair ≡ self.now }
         requires greater { count_of entries.now.own ≡ self.now.greater }
         requires room { length exits.old ≡ length counts.old }
-        requires kept { AreFacingsKept B.shape kept.old }
-        ensures kept { AreFacingsKept B.shape kept.new }
+        requires kept { AreKept (codes_facing B.shape) kept.old }
+        ensures kept { AreKept (codes_facing B.shape) kept.new }
         ensures many { result ≡ min entries.now.len (length counts.old) }
         ensures counts { (k : ℕ) → k < result → slice_index counts.new k
             ≡ length ((net_at B.shape (level_in Rows self.now)).quiet (class_half_size B.shape B.POINTS self.now.greater self.now.lesser + (entries.now.first + k))) }
@@ -235,7 +236,7 @@ impl<'a, B: Geometry> RowGraph<'a, B> {
     {
         // The proof learns here that the entries are few.
         let _ = self.classes.first_half();
-        let mut kept = KeptFacings::new(self.alloc);
+        let mut kept = KeptCaptures::new(self.alloc);
         let mut done = 0;
         while done < counts.len() {
             let entries = row_ahead(&self.classes, first + done as u64);

@@ -3,7 +3,7 @@
 ghost use Rattle.std.specs.Prelude.{◌≡◌, ℕ, ◌+◌, ◌<◌, ◌≤◌, min, length, slice_index};
 ghost use Rattle.morris_index.specs.Pairs.{IsPair};
 ghost use Rattle.morris_pairs.specs.Entries.{entry_count};
-ghost use Rattle.morris_pairs.specs.KeptCaptures.{AreKept};
+ghost use Rattle.morris_pairs.specs.KeptCaptures.{AreKept, codes_left};
 ghost use Rattle.morris_pairs.specs.PairNets.{level_of, net_at};
 ghost use Rattle.morris_wave.specs.Exits.{exits_of};
 ghost use Rattle.morris_wave.specs.Solving.{exits_at};
@@ -31,8 +31,8 @@ fn read_row<B: Geometry>(
     requires pair { entries.now.pair ≡ graph.now }
     requires lawful { IsPair B.POINTS graph.now }
     requires room { length exits.old ≡ length counts.old }
-    requires kept { AreKept B.shape kept.old }
-    ensures kept { AreKept B.shape kept.new }
+    requires kept { AreKept (codes_left B.shape) kept.old }
+    ensures kept { AreKept (codes_left B.shape) kept.new }
     ensures many { result ≡ min entries.now.len (length counts.old) }
     ensures counts { (k : ℕ) → k < result → slice_index counts.new k ≡ length ((net_at B.shape (level_of Layout.Classes graph.now)).quiet (entries.now.first + k)) }
     ensures exits { (k : ℕ) → k < result → exits_at exits.new k ≡ exits_of ((net_at B.shape (level_of Layout.Classes graph.now)).exits (entries.now.first + k)) }

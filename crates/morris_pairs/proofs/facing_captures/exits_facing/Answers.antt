@@ -18,9 +18,9 @@ get-requires g c =
 
 pub returns-in-Some-clause-value : goal.returns-in-Some-clause-value
 returns-in-Some-clause-value g c =
-    c.in-Some.ensures g.B.Geometry.shape c.requires.kept ∙ ap (λ o. exits_of (codes_facing g.B.Geometry.shape o c.args.facing)) c.other-other.ensures.points
+    c.in-Some.ensures (codes_facing g.B.Geometry.shape) c.requires.kept ∙ ap (λ o. exits_of (codes_facing g.B.Geometry.shape o c.args.facing)) c.other-other.ensures.points
 
 pub returns-clause-kept : goal.returns-clause-kept
 returns-clause-kept g c =
-    c.put.ensures g.B.Geometry.shape c.requires.kept
+    c.put.ensures (codes_facing g.B.Geometry.shape) c.requires.kept
     (c.taken_facing-results.ensures ∙ ap (λ o. exits_of (codes_facing g.B.Geometry.shape o c.args.facing)) (sym c.other-other.ensures.points))

@@ -1,8 +1,6 @@
-use Rattle.std.proofs.Common.{◌≡◌, ℕ, ◌≤◌, ◌++◌, List, sym, ap, ◌∙◌, arith}
+use Rattle.std.proofs.Common.{◌≡◌, ℕ, ◌++◌, List, sym, ap, ◌∙◌, arith}
 use Rattle.std.proofs.lemmas.List.{append-nil}
-use Rattle.morris_board.specs.Boards.{Shape}
 use Rattle.morris_board.specs.Sets.{members, with_point, without_point}
-use Rattle.morris_board.specs.Positions.{Sides}
 use Rattle.morris_moves.specs.Rules.{moved}
 use Rattle.morris_moves.proofs.SetLaws.{point_lt}
 use Rattle.morris_wave.specs.Exits.{exits_of}
@@ -11,7 +9,19 @@ use Rattle.morris_pairs.specs.FacingCaptures.{codes_facing, codes_by}
 use Rattle.morris_pairs.proofs.BackLawsLoops.{end_of, next_points}
 use Rattle.morris_pairs.proofs.CaptureLaws.{closing_in}
 use Rattle.morris_pairs.proofs.FacingCaptureLaws.{codes_more}
+use Rattle.morris_pairs.proofs.facing_captures.with_facings.Given as given
 use Rattle.morris_pairs.proofs.facing_captures.with_facings.Goals as goal
+use Rattle.morris_pairs.proofs.facing_captures.with_facings.Goals.{In-Some, After-with-facing}
+
+-- the stone closes a mill
+closing : (g : given.Over) (c : In-Some g) → IsClosing g.B.Geometry.shape c.args.position.now c.in-Some.from c.args.to
+closing g c =
+    c.requires.closers c.in-Some.from (end_of c.args.closers c.loop-from.yielded c.in-Some.from (members c.next.new.self)
+    (ap (λ (zs : List ℕ). c.loop-from.yielded ++ zs) (sym c.in-Some.ensures.steps) ∙ c.loop-from.invariant.points))
+
+facing : (g : given.Over) (c : After-with-facing g) → c.with-facing.result ≡ moved c.args.position.now.own c.in-Some.from c.args.to
+unfolding moved
+facing g c = c.with-facing.ensures ∙ ap (λ o. with_point o c.args.to) (c.without.ensures ∙ ap (λ o. without_point o c.in-Some.from) c.own-own.ensures.points)
 
 pub loop-from-init : goal.loop-from-init
 loop-from-init g c = record {
@@ -22,65 +32,38 @@ loop-from-init g c = record {
 
 pub without-requires : goal.without-requires
 without-requires g c =
-    let b : Shape = g.B.Geometry.shape in
-    let n : ℕ = g.B.Geometry.POINTS in
-    let points = g.met.B.Geometry.point_count in
-    let low : n ≤ 24 = omega (arith, g.met.B.Geometry.few) in
-    let s : Sides = c.args.position.now in
-    let from : ℕ = c.in-Some.from in
-    let closing : IsClosing b s from c.args.to =
-    c.requires.closers from (end_of c.args.closers c.loop-from.yielded from (members c.next.new.self)
-    (ap (λ (zs : List ℕ). c.loop-from.yielded ++ zs) (sym c.in-Some.ensures.steps) ∙ c.loop-from.invariant.points)) in
-    omega (arith, g.met.B.Geometry.few, points, point_lt s.own b.points from c.requires.lawful.stones.own_within closing.own)
+    omega (
+      arith,
+      g.met.B.Geometry.few,
+      g.met.B.Geometry.point_count,
+      point_lt c.args.position.now.own g.B.Geometry.shape.points c.in-Some.from
+          c.requires.lawful.stones.own_within (closing g (goal.at.without-requires g c).In-Some).own,
+    )
 
 pub with-facing-requires : goal.with-facing-requires
 with-facing-requires g c =
-    let b : Shape = g.B.Geometry.shape in
-    let n : ℕ = g.B.Geometry.POINTS in
-    let points = g.met.B.Geometry.point_count in
-    let low : n ≤ 24 = omega (arith, g.met.B.Geometry.few) in
-    let s : Sides = c.args.position.now in
-    let from : ℕ = c.in-Some.from in
-    let closing : IsClosing b s from c.args.to =
-    c.requires.closers from (end_of c.args.closers c.loop-from.yielded from (members c.next.new.self)
-    (ap (λ (zs : List ℕ). c.loop-from.yielded ++ zs) (sym c.in-Some.ensures.steps) ∙ c.loop-from.invariant.points)) in
-    omega (arith, g.met.B.Geometry.few, closing_in b n points low s c.requires.lawful from c.args.to closing)
+    omega (
+      arith,
+      g.met.B.Geometry.few,
+      closing_in g.B.Geometry.shape g.B.Geometry.POINTS g.met.B.Geometry.point_count g.met.B.Geometry.few c.args.position.now
+          c.requires.lawful c.in-Some.from c.args.to (closing g (goal.at.with-facing-requires g c).In-Some),
+    )
 
 pub exits_facing-requires-clause-mover : goal.exits_facing-requires-clause-mover
-unfolding moved
 exits_facing-requires-clause-mover g c =
-    let b : Shape = g.B.Geometry.shape in
-    let n : ℕ = g.B.Geometry.POINTS in
-    let points = g.met.B.Geometry.point_count in
-    let low : n ≤ 24 = omega (arith, g.met.B.Geometry.few) in
-    let s : Sides = c.args.position.now in
-    let from : ℕ = c.in-Some.from in
-    let closing : IsClosing b s from c.args.to =
-    c.requires.closers from (end_of c.args.closers c.loop-from.yielded from (members c.next.new.self)
-    (ap (λ (zs : List ℕ). c.loop-from.yielded ++ zs) (sym c.in-Some.ensures.steps) ∙ c.loop-from.invariant.points)) in
-    let facing : c.with-facing.result ≡ moved s.own from c.args.to =
-    c.with-facing.ensures ∙ ap (λ o. with_point o c.args.to) (c.without.ensures ∙ ap (λ o. without_point o from) c.own-own.ensures.points) in
-    (from, c.args.to, closing, facing)
+    let at = goal.at.exits_facing-requires-clause-mover g c in
+    (c.in-Some.from, c.args.to, closing g at.In-Some, facing g at.After-with-facing)
 
 pub loop-from-preserved : goal.loop-from-preserved
-unfolding moved
 loop-from-preserved g c =
-    let b : Shape = g.B.Geometry.shape in
-    let n : ℕ = g.B.Geometry.POINTS in
-    let points = g.met.B.Geometry.point_count in
-    let low : n ≤ 24 = omega (arith, g.met.B.Geometry.few) in
-    let s : Sides = c.args.position.now in
-    let from : ℕ = c.in-Some.from in
-    let closing : IsClosing b s from c.args.to =
-    c.requires.closers from (end_of c.args.closers c.loop-from.yielded from (members c.next.new.self)
-    (ap (λ (zs : List ℕ). c.loop-from.yielded ++ zs) (sym c.in-Some.ensures.steps) ∙ c.loop-from.invariant.points)) in
-    let facing : c.with-facing.result ≡ moved s.own from c.args.to =
-    c.with-facing.ensures ∙ ap (λ o. with_point o c.args.to) (c.without.ensures ∙ ap (λ o. without_point o from) c.own-own.ensures.points) in
+    let at = goal.at.loop-from-preserved g c in
+    let f : ℕ → List ℕ = λ u. codes_facing g.B.Geometry.shape c.args.position.now.other (moved c.args.position.now.own u c.args.to) in
     record {
-      points = next_points c.loop-from.yielded from c.loop-from.from-iterator c.next.new.self _ c.loop-from.invariant.points c.in-Some.ensures.steps;
+      points = next_points c.loop-from.yielded c.in-Some.from c.loop-from.from-iterator c.next.new.self _ c.loop-from.invariant.points c.in-Some.ensures.steps;
       kept = c.exits_facing.ensures.kept;
-      summed = λ codes e. codes_more (λ u. codes_facing b s.other (moved s.own u c.args.to)) codes c.loop-from.exits c.exits_facing.result c.joined-exits.result from c.loop-from.yielded
-          (c.loop-from.invariant.summed codes e) (c.exits_facing.ensures.value ∙ ap (λ x. exits_of (codes_facing b s.other x)) facing) c.joined-exits.ensures;
+      summed = λ codes e. codes_more f codes c.loop-from.exits c.exits_facing.result c.joined-exits.result c.in-Some.from c.loop-from.yielded
+          (c.loop-from.invariant.summed codes e)
+          (c.exits_facing.ensures.value ∙ ap (λ x. exits_of (codes_facing g.B.Geometry.shape c.args.position.now.other x)) (facing g at.After-with-facing)) c.joined-exits.ensures;
     }
 
 pub returns-clause-value : goal.returns-clause-value

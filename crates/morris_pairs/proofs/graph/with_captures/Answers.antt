@@ -2,25 +2,43 @@ use Rattle.std.proofs.Common.{◌≡◌, ◌++◌, true, List, ℕ, slice_index,
 use Rattle.std.proofs.lemmas.List.{append-nil}
 use Rattle.morris_board.specs.Sets.{has, members, count_of, without_point}
 use Rattle.morris_moves.specs.declared.step.Move.{Move}
-use Rattle.morris_pairs.specs.Captured.{IsStandingIn, captures_at, captures_to}
+use Rattle.morris_pairs.specs.Captured.{IsStandingIn, IsLeft, captures_at, captures_to}
 use Rattle.morris_pairs.specs.Graphs.{exits_by}
+use Rattle.morris_pairs.specs.KeptCaptures.{open_ends}
 use Rattle.morris_pairs.proofs.BackLawsLoops.{end_of, next_points}
-use Rattle.morris_pairs.proofs.CaptureLaws.{GoesOn, goes_none, goes_more, end_is, end_low, closers_close}
+use Rattle.morris_pairs.proofs.CaptureLaws.{GoesOn, goes_none, goes_more, open_low, closers_close}
 use Rattle.morris_pairs.proofs.CapturedLaws.{taken_in, left_within, left_counts}
+use Rattle.morris_pairs.proofs.graph.with_captures.Given as given
 use Rattle.morris_pairs.proofs.graph.with_captures.Goals as goal
+use Rattle.morris_pairs.proofs.graph.with_captures.Goals.{After-standing-standing, In-Some}
+
+-- what is kept of the stones that are left
+left : (g : given.Over) (c : After-standing-standing g) → IsLeft g.B.Geometry.shape g.B.Geometry.POINTS c.args.position.now c.args.table.now c.args.taken c.standing-standing.result
+left g c = record {
+  takes = c.requires.taken;
+  own = c.standing-standing.ensures.own ∙ (c.without-left.ensures ∙ ap (λ o. without_point o c.args.taken) c.other.ensures.points);
+  stands = subst (λ k. IsStandingIn g.B.Geometry.shape g.B.Geometry.POINTS c.args.table.now.layout c.args.table.now.pair k c.standing-standing.result)
+      (c.count.ensures.value ∙ ap count_of c.own.ensures.points) c.standing-standing.ensures.stands;
+}
+
+-- the point is one at which a mill is closed
+here : (g : given.Over) (c : In-Some g) → has (open_ends g.B.Geometry.shape c.args.position.now.own c.args.position.now.other) c.in-Some.to ≡ true
+here g c =
+    subst (λ e. has e c.in-Some.to ≡ true) c.requires.ends (end_of c.args.ends c.loop-to.yielded c.in-Some.to (members c.next.new.self)
+    (ap (λ (zs : List ℕ). c.loop-to.yielded ++ zs) (sym c.in-Some.ensures.steps) ∙ c.loop-to.invariant.points))
 
 pub without-left-requires : goal.without-left-requires
 without-left-requires g c =
-    omega (arith, taken_in g.B.Geometry.shape g.B.Geometry.POINTS g.met.B.Geometry.point_count (omega (arith, g.met.B.Geometry.few)) c.args.position.now c.requires.lawful c.args.taken c.requires.taken)
+    omega (arith, taken_in g.B.Geometry.shape g.B.Geometry.POINTS g.met.B.Geometry.point_count g.met.B.Geometry.few c.args.position.now c.requires.lawful c.args.taken c.requires.taken)
 
 pub standing-standing-requires-clause-within : goal.standing-standing-requires-clause-within
 standing-standing-requires-clause-within g c =
-    rw (c.without-left.ensures, c.other.ensures.points) (left_within g.B.Geometry.shape g.B.Geometry.POINTS g.met.B.Geometry.point_count (omega (arith, g.met.B.Geometry.few)) c.args.position.now c.requires.lawful c.args.taken c.requires.taken)
+    rw (c.without-left.ensures, c.other.ensures.points) (left_within g.B.Geometry.shape g.B.Geometry.POINTS g.met.B.Geometry.point_count g.met.B.Geometry.few c.args.position.now c.requires.lawful c.args.taken c.requires.taken)
 
 pub standing-standing-requires-clause-counts : goal.standing-standing-requires-clause-counts
 standing-standing-requires-clause-counts g c =
     rw (c.without-left.ensures, c.other.ensures.points, c.count.ensures.value, c.own.ensures.points)
-    (left_counts g.B.Geometry.shape g.B.Geometry.POINTS g.met.B.Geometry.point_count (omega (arith, g.met.B.Geometry.few)) c.args.position.now c.requires.lawful c.args.taken c.requires.taken c.args.table.now c.requires.table)
+    (left_counts g.B.Geometry.shape g.B.Geometry.POINTS g.met.B.Geometry.point_count g.met.B.Geometry.few c.args.position.now c.requires.lawful c.args.taken c.requires.taken c.args.table.now c.requires.table)
 
 pub loop-to-init : goal.loop-to-init
 loop-to-init g c = record {
@@ -30,35 +48,21 @@ loop-to-init g c = record {
 
 pub bounds-row-to : goal.bounds-row-to
 bounds-row-to g c =
-    let here : has c.args.ends c.in-Some.to ≡ true = end_of c.args.ends c.loop-to.yielded c.in-Some.to (members c.next.new.self)
-    (ap (λ (zs : List ℕ). c.loop-to.yielded ++ zs) (sym c.in-Some.ensures.steps) ∙ c.loop-to.invariant.points) in
     omega (
       arith,
       c.requires.row.closers_len,
       g.met.B.Geometry.few,
-      end_low g.B.Geometry.shape g.B.Geometry.POINTS g.met.B.Geometry.point_count (omega (arith, g.met.B.Geometry.few)) c.args.position.now c.requires.lawful
-          c.args.row.now c.requires.own c.requires.row c.args.ends c.requires.ends c.in-Some.to here,
+      open_low g.B.Geometry.shape g.B.Geometry.POINTS g.met.B.Geometry.point_count g.met.B.Geometry.few c.args.position.now c.requires.lawful
+          c.in-Some.to (here g (goal.at.bounds-row-to g c).In-Some),
     )
 
 pub with_closers-exits-requires-clause-standing : goal.with_closers-exits-requires-clause-standing
-with_closers-exits-requires-clause-standing g c = (
-  c.args.taken,
-  record {
-    takes = c.requires.taken;
-    own = c.standing-standing.ensures.own ∙ (c.without-left.ensures ∙ ap (λ o. without_point o c.args.taken) c.other.ensures.points);
-    stands = subst (λ k. IsStandingIn g.B.Geometry.shape g.B.Geometry.POINTS c.args.table.now.layout c.args.table.now.pair k c.standing-standing.result)
-        (c.count.ensures.value ∙ ap count_of c.own.ensures.points) c.standing-standing.ensures.stands;
-  },
-)
+with_closers-exits-requires-clause-standing g c = (c.args.taken, left g (goal.at.with_closers-exits-requires-clause-standing g c).After-standing-standing)
 
 pub with_closers-exits-requires-clause-closers : goal.with_closers-exits-requires-clause-closers
 with_closers-exits-requires-clause-closers g c = λ u h.
-    let here : has c.args.ends c.in-Some.to ≡ true = end_of c.args.ends c.loop-to.yielded c.in-Some.to (members c.next.new.self)
-    (ap (λ (zs : List ℕ). c.loop-to.yielded ++ zs) (sym c.in-Some.ensures.steps) ∙ c.loop-to.invariant.points) in
-    let end = end_is g.B.Geometry.shape g.B.Geometry.POINTS g.met.B.Geometry.point_count (omega (arith, g.met.B.Geometry.few)) c.args.position.now c.requires.lawful
-    c.args.row.now c.requires.own c.requires.row c.args.ends c.requires.ends c.in-Some.to here in
-    closers_close g.B.Geometry.shape g.B.Geometry.POINTS g.met.B.Geometry.point_count (omega (arith, g.met.B.Geometry.few)) c.args.position.now c.requires.lawful
-    c.args.row.now c.requires.own c.requires.row u c.in-Some.to end.0 end.1 (ap (λ s. has s u) (sym c.from_mask-closers.ensures) ∙ h)
+    closers_close g.B.Geometry.shape g.B.Geometry.POINTS g.met.B.Geometry.point_count g.met.B.Geometry.few c.args.position.now c.requires.lawful
+    c.args.row.now c.requires.own c.requires.row u c.in-Some.to (here g (goal.at.with_closers-exits-requires-clause-closers g c).In-Some) (ap (λ s. has s u) (sym c.from_mask-closers.ensures) ∙ h)
 
 pub loop-to-preserved : goal.loop-to-preserved
 loop-to-preserved g c = record {
@@ -69,12 +73,7 @@ loop-to-preserved g c = record {
       (subst (λ closers. (done : List Move) → c.loop-to.exits ≡ exits_by g.B.Geometry.shape c.args.position.now done
       → c.with_closers-exits.result ≡ exits_by g.B.Geometry.shape c.args.position.now (done ++ captures_at c.args.taken closers c.in-Some.to))
       c.from_mask-closers.ensures
-      (c.with_closers-exits.ensures c.args.taken (record {
-        takes = c.requires.taken;
-        own = c.standing-standing.ensures.own ∙ (c.without-left.ensures ∙ ap (λ o. without_point o c.args.taken) c.other.ensures.points);
-        stands = subst (λ k. IsStandingIn g.B.Geometry.shape g.B.Geometry.POINTS c.args.table.now.layout c.args.table.now.pair k c.standing-standing.result)
-            (c.count.ensures.value ∙ ap count_of c.own.ensures.points) c.standing-standing.ensures.stands;
-      })));
+      (c.with_closers-exits.ensures c.args.taken (left g (goal.at.loop-to-preserved g c).After-standing-standing)));
 }
 
 pub returns : goal.returns

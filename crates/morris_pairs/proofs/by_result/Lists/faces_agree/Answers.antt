@@ -15,4 +15,4 @@ returns g c =
     let listed : AreFaces board n t.pair c.args.first c.args.end faces =
     subst (λ p. AreFaces board n p c.args.first c.args.end faces) c.requires.classes c.in_ok-list_faced.ensures in
     λ yes. listed-agree board n g.met.B.Geometry.point_count t c.args.first c.args.end faces listed
-    (subst (λ (qs : List InPair). All (EntryAgrees board t) qs) c.deref-2.ensures.value (c.all_agree.ensures yes))
+    (subst (λ (qs : List InPair). All (EntryAgrees board t) qs) c.deref-2.ensures.value (c.all_agree.ensures.agree yes))

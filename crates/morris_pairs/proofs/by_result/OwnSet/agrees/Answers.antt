@@ -19,5 +19,5 @@ agrees_after-requires g c =
       position = c.after.ensures ∙ ap₂ in_pair c.requires.of (sym c.position-position.ensures.value);
       stones = search rules;
       ends = c.self.invariant.ends_kept;
-      captures = c.exits_by_row-captures.ensures;
+      captures = c.exits_by_facing-captures.ensures.value;
     }

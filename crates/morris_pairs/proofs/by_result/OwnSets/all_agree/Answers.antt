@@ -18,10 +18,13 @@ agree-requires-clause-code g c =
 pub loop-place-preserved : goal.loop-place-preserved
 loop-place-preserved g c =
     let P = EntryAgrees g.B.Geometry.shape c.args.raw.now in
-    All-more P c.args.faces.now c.loop-place.place c.index-faces-place.result c.loop-place-test.true c.loop-place.invariant
-    (subst P c.index-faces-place.is (c.agree.ensures c.if-not-agree.false))
+    record {
+      agreed = All-more P c.args.faces.now c.loop-place.place c.index-faces-place.result c.loop-place-test.true c.loop-place.invariant.agreed
+          (subst P c.index-faces-place.is (c.agree.ensures.agrees c.if-not-agree.false));
+      kept = c.agree.ensures.kept;
+    }
 
-pub returns : goal.returns
-returns g c = λ _.
+pub returns-clause-agree : goal.returns-clause-agree
+returns-clause-agree g c = λ _.
     subst (λ (qs : List InPair). All (EntryAgrees g.B.Geometry.shape c.args.raw.now) qs)
-    (take_all c.loop-place.place c.args.faces.now (omega (arith, c.loop-place-test.false))) c.loop-place.invariant
+    (take_all c.loop-place.place c.args.faces.now (omega (arith, c.loop-place-test.false))) c.loop-place.invariant.agreed

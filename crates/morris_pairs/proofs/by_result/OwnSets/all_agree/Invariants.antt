@@ -1,7 +1,12 @@
 use Rattle.std.proofs.Common.{take}
 use Rattle.std.specs.List.{All}
 use Rattle.morris_pairs.specs.Faces.{EntryAgrees}
+use Rattle.morris_pairs.specs.FacingCaptures.{codes_facing}
+use Rattle.morris_pairs.specs.KeptCaptures.{AreKept}
 use Rattle.morris_pairs.proofs.by_result.OwnSets.all_agree.Given as goal
 
 abbrev pub invariant-loop-place : goal.invariant-loop-place
-invariant-loop-place g l = All (EntryAgrees g.B.Geometry.shape l.raw) (take l.place l.faces)
+invariant-loop-place g l = record {
+  agreed : All (EntryAgrees g.B.Geometry.shape l.raw) (take l.place l.faces);
+  kept : AreKept (codes_facing g.B.Geometry.shape) l.kept;
+}

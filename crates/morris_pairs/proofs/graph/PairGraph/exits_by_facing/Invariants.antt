@@ -1,13 +1,13 @@
 use Rattle.std.proofs.Common.{◌≡◌, ◌++◌}
 use Rattle.morris_board.specs.Sets.{members}
 use Rattle.morris_wave.specs.Exits.{exits_of}
-use Rattle.morris_pairs.specs.FacingCaptures.{codes_at, AreFacingsKept}
-use Rattle.morris_pairs.specs.KeptCaptures.{open_ends}
+use Rattle.morris_pairs.specs.FacingCaptures.{codes_at, codes_facing}
+use Rattle.morris_pairs.specs.KeptCaptures.{AreKept, open_ends}
 use Rattle.morris_pairs.proofs.graph.PairGraph.exits_by_facing.Given as goal
 
 abbrev pub invariant-loop-to : goal.invariant-loop-to
 invariant-loop-to g l = record {
   points : l.yielded ++ members l.to-iterator ≡ members (open_ends g.B.Geometry.shape l.position.own l.position.other);
-  kept : AreFacingsKept g.B.Geometry.shape l.kept;
+  kept : AreKept (codes_facing g.B.Geometry.shape) l.kept;
   summed : l.exits ≡ exits_of (codes_at g.B.Geometry.shape l.position l.yielded);
 }

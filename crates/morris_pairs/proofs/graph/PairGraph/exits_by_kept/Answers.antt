@@ -1,20 +1,24 @@
-use Rattle.std.proofs.Common.{◌≡◌, ℕ, ◌++◌, ◌&&◌, not, ◌≤◌, List, sym, ap, ◌∙◌, arith}
+use Rattle.std.proofs.Common.{◌≡◌, ℕ, ◌++◌, List, sym, ap, ◌∙◌}
 use Rattle.std.proofs.lemmas.List.{append-nil}
-use Rattle.morris_board.specs.Sets.{has, members}
+use Rattle.morris_board.specs.Sets.{members}
 use Rattle.morris_moves.specs.Rules.{takable}
 use Rattle.morris_pairs.specs.Graphs.{exits_by}
 use Rattle.morris_pairs.proofs.BackLawsLoops.{end_of, next_points}
 use Rattle.morris_pairs.proofs.GraphLaws.{exits_by-none}
-use Rattle.morris_pairs.proofs.CaptureLaws.{kept_captures, kept_suffice}
+use Rattle.morris_pairs.proofs.CaptureLaws.{kept_captures, kept_suffice, row_ends}
 use Rattle.morris_pairs.proofs.KeptLaws.{kept_joined}
 use Rattle.morris_pairs.proofs.graph.PairGraph.exits_by_kept.Goals as goal
 
+pub capture_ends-requires-clause-closing : goal.capture_ends-requires-clause-closing
+capture_ends-requires-clause-closing g c =
+    row_ends g.B.Geometry.shape g.B.Geometry.POINTS g.met.B.Geometry.point_count g.met.B.Geometry.few c.args.position.now c.requires.lawful
+    c.args.row.now c.requires.own c.requires.row
+
 pub loop-taken-init : goal.loop-taken-init
 loop-taken-init g c = record {
-  points = ap members (c.into_iter-taken-iterator.ensures.into_iter_gives ∙ (c.iter-taken-items.ensures.points ∙ (c.takable.ensures ∙ ap (takable g.B.Geometry.shape) c.other-other.ensures.points)));
+  points = ap members (c.into_iter-taken-iterator.ensures.into_iter_gives ∙ (c.iter-taken-items.ensures.points ∙ (c.takable.ensures ∙ ap (takable g.B.Geometry.shape) c.other.ensures.points)));
   summed = sym (exits_by-none g.B.Geometry.shape c.args.position.now);
-  of = c.follow.ensures.own;
-  kept = c.follow.ensures.kept g.B.Geometry.shape c.requires.kept;
+  kept = c.requires.kept;
 }
 
 pub captures_of-requires-clause-taken : goal.captures_of-requires-clause-taken
@@ -22,26 +26,18 @@ captures_of-requires-clause-taken g c =
     end_of (takable g.B.Geometry.shape c.args.position.now.other) c.loop-taken.yielded c.in-Some.taken (members c.next.new.self)
     (ap (λ (zs : List ℕ). c.loop-taken.yielded ++ zs) (sym c.in-Some.ensures.steps) ∙ c.loop-taken.invariant.points)
 
-pub captures_of-requires-clause-ends : goal.captures_of-requires-clause-ends
-captures_of-requires-clause-ends g c = λ p.
-    c.less-ends.ensures p ∙ ap (λ s. has c.args.row.now.closing p && not (has s p)) c.other-other.ensures.points
-
 pub loop-taken-preserved : goal.loop-taken-preserved
 loop-taken-preserved g c = record {
   points = next_points c.loop-taken.yielded c.in-Some.taken c.loop-taken.taken-iterator c.next.new.self _ c.loop-taken.invariant.points c.in-Some.ensures.steps;
-  summed = kept_joined g.B.Geometry.shape c.args.position.now c.args.row.now c.less-ends.result c.loop-taken.yielded c.in-Some.taken
+  summed = kept_joined g.B.Geometry.shape c.args.position.now c.args.row.now c.in-Ok.ends c.loop-taken.yielded c.in-Some.taken
       c.loop-taken.exits c.captures_of.result c.joined-exits.result c.loop-taken.invariant.summed c.captures_of.ensures.value c.joined-exits.ensures;
-  of = c.captures_of.ensures.of ∙ c.loop-taken.invariant.of;
   kept = c.captures_of.ensures.kept;
 }
 
 pub returns-clause-value : goal.returns-clause-value
 returns-clause-value g c =
-    let few : g.B.Geometry.POINTS ≤ 24 = omega (arith, g.met.B.Geometry.few) in
-    let each : (p : ℕ) → has c.less-ends.result p ≡ (has c.args.row.now.closing p && not (has c.args.position.now.other p)) =
-    λ p. c.less-ends.ensures p ∙ ap (λ s. has c.args.row.now.closing p && not (has s p)) c.other-other.ensures.points in
     let all : c.loop-taken.yielded ≡ members (takable g.B.Geometry.shape c.args.position.now.other) =
     sym (append-nil _) ∙ (ap (λ (zs : List ℕ). c.loop-taken.yielded ++ zs) (sym c.in-None.ensures.steps.0) ∙ c.loop-taken.invariant.points) in
-    c.loop-taken.invariant.summed ∙ (ap (λ ts. exits_by g.B.Geometry.shape c.args.position.now (kept_captures c.args.row.now c.less-ends.result ts)) all
-    ∙ kept_suffice g.B.Geometry.shape g.B.Geometry.POINTS g.met.B.Geometry.point_count few c.args.position.now c.requires.lawful c.args.row.now c.requires.own c.requires.row
-    c.less-ends.result each)
+    c.loop-taken.invariant.summed ∙ (ap (λ ts. exits_by g.B.Geometry.shape c.args.position.now (kept_captures c.args.row.now c.in-Ok.ends ts)) all
+    ∙ kept_suffice g.B.Geometry.shape g.B.Geometry.POINTS g.met.B.Geometry.point_count g.met.B.Geometry.few c.args.position.now c.requires.lawful c.args.row.now c.requires.own c.requires.row
+    c.in-Ok.ends c.in-Ok.ensures.ends)

@@ -5,4 +5,4 @@ use Rattle.morris_pairs.proofs.KeptLaws.{none_kept}
 use Rattle.morris_pairs.proofs.kept_captures.KeptCaptures.new.Goals as goal
 
 pub returns-in-Ok : goal.returns-in-Ok
-returns-in-Ok c = λ board. subst (λ slots. All (IsKept board 0) slots) (sym (c.in-Ok.ensures.items_if_clones_equal (λ y is. is))) (none_kept board 0 4096 _ refl)
+returns-in-Ok c = λ codes. subst (λ slots. All (IsKept codes) slots) (sym (c.in-Ok.ensures.items_if_clones_equal (λ y is. is))) (none_kept codes 4096 _ refl)

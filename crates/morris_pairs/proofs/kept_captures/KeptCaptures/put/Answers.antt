@@ -2,6 +2,6 @@ use Rattle.std.proofs.lemmas.List.Elements.{All-set}
 use Rattle.morris_pairs.specs.KeptCaptures.{IsKept}
 use Rattle.morris_pairs.proofs.kept_captures.KeptCaptures.put.Goals as goal
 
-pub returns-in-Some-clause-kept : goal.returns-in-Some-clause-kept
-returns-in-Some-clause-kept c = λ board kept is.
-    All-set (IsKept board c.args.self.now.own) c.args.self.now.slots.items c.slot_of.result (record { left = c.args.left; results = c.args.results }) (λ _. is) kept
+pub returns-in-Some : goal.returns-in-Some
+returns-in-Some c = λ codes kept is.
+    All-set (IsKept codes) c.args.self.now.slots.items c.slot_of.result (record { before = c.args.before; after = c.args.after; results = c.args.results }) (λ _. is) kept

@@ -34,12 +34,6 @@ exits_by_facing-requires-clause-counts g c =
     subst (λ t. is_of c.self.inside.graph t ≡ true) (sym c.turned-position.ensures.value)
     (turned_of c.self.inside.graph c.position.result (subst (λ k. is_of k c.position.result ≡ true) (c.requires.pair ∙ sym c.self.view_is) c.position.ensures.counts))
 
-pub exits_by_facing-requires-clause-above : goal.exits_by_facing-requires-clause-above
-exits_by_facing-requires-clause-above g c =
-    let here = subst (λ d. IsRowGraph g.B.Geometry.shape g.B.Geometry.POINTS d c.self.inside.classes c.self.inside.sets c.self.inside.moves) c.self.view_is c.self.invariant in
-    let greater : count_of c.position.result.own ≡ c.args.self.now.greater = ap count_of c.position.ensures.own ∙ c.requires.greater in
-    omega (arith, ap (λ (t : Sides). count_of t.other) c.turned-position.ensures.value, greater, here.two, here.lawful.least)
-
 pub exits_by_facing-requires-clause-closing : goal.exits_by_facing-requires-clause-closing
 exits_by_facing-requires-clause-closing g c = λ v.
     c.moves_of-moves.ensures.kept.closing v ∙ ap (λ o. ltb v g.B.Geometry.POINTS && may_close g.B.Geometry.shape o v) (c.moves_of-moves.ensures.own ∙ c.own.ensures.points)

@@ -2,7 +2,8 @@ use Rattle.std.proofs.Common.{◌≡◌, ℕ, ◌+◌, ◌<◌, length, slice_in
 use Rattle.morris_index.specs.ClassPairs.{class_half_size}
 use Rattle.morris_wave.specs.Exits.{exits_of}
 use Rattle.morris_wave.specs.Solving.{exits_at}
-use Rattle.morris_pairs.specs.FacingCaptures.{AreFacingsKept}
+use Rattle.morris_pairs.specs.FacingCaptures.{codes_facing}
+use Rattle.morris_pairs.specs.KeptCaptures.{AreKept}
 use Rattle.morris_pairs.specs.Orders.{Rows}
 use Rattle.morris_pairs.specs.PairNets.{level_in, net_at}
 use Rattle.morris_pairs.proofs.row_graph.RowGraph.read_turned_row.Given as goal
@@ -11,7 +12,7 @@ abbrev pub invariant-loop-place : goal.invariant-loop-place
 invariant-loop-place g l = record {
   counts_len : length l.counts ≡ length l.initial.counts;
   exits_len : length l.exits ≡ length l.initial.exits;
-  kept : AreFacingsKept g.B.Geometry.shape l.kept;
+  kept : AreKept (codes_facing g.B.Geometry.shape) l.kept;
   quiet : (k : ℕ) → k < l.place → slice_index l.counts k ≡ length ((net_at g.B.Geometry.shape (level_in Rows l.fn.self)).quiet (class_half_size g.B.Geometry.shape g.B.Geometry.POINTS l.fn.self.greater l.fn.self.lesser + (l.entries.first + k)));
   outside : (k : ℕ) → k < l.place → exits_at l.exits k ≡ exits_of ((net_at g.B.Geometry.shape (level_in Rows l.fn.self)).exits (class_half_size g.B.Geometry.shape g.B.Geometry.POINTS l.fn.self.greater l.fn.self.lesser + (l.entries.first + k)));
 }
