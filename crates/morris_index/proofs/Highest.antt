@@ -1,5 +1,5 @@
 -- The greatest number of things with at most so many subsets of k, found by a count: the numbers of
--- a column never fall, so it is how many of them after the first are at most that many.
+-- a row of the table never fall, so it is how many of them after the first are at most that many.
 use Rattle.std.proofs.Common.{◌≡◌, ℕ, zero, suc, ◌+◌, ◌<◌, ◌≤◌, ap, inl, inr, arith}
 use Rattle.std.proofs.lemmas.Bool.{cases_eq, cases_lt}
 use Rattle.morris_index.specs.Binomials.{choose}

@@ -10,10 +10,9 @@ use Rattle.morris_index.specs.Binomials.{choose}
 use Rattle.morris_index.specs.Numbering.{number_outside}
 use Rattle.morris_index.specs.Sums.{total, term}
 use Rattle.morris_index.specs.Parts.{squeezed_below, part_rank}
-use Rattle.morris_index.specs.declared.binomials.TheConstants as binomials
 use Rattle.morris_index.specs.declared.part_tables.TheConstants as table
 use Rattle.morris_index.specs.declared.spread_tables.TheConstants as spread
-use Rattle.morris_index.proofs.BinomialTable.{binomial_of}
+use Rattle.morris_index.proofs.BinomialTable.{looked, binomial_of}
 use Rattle.morris_index.proofs.RankLaws.{count_below, count-yes, count-no, number-count}
 use Rattle.morris_index.proofs.Moving.{total-zero, total-suc}
 
@@ -31,9 +30,6 @@ squeezed_at o s o_low s_low =
     eqb-true _ _ (below (is_squeezed o) 64 (below (λ k. list_all (is_squeezed k) (range_with_len 0 64)) 64 squeezed_right o o_low) s s_low)
 
 -- ---- what a part adds to a rank, by look-ups of the binomials
-
-abbrev looked : ℕ → ℕ → ℕ
-looked n k = get_or (get_or binomials.BINOMIALS n []) k 0
 
 unfoldable looked_sum : ℕ → ℕ → ℕ → ℕ → ℕ
 looked_sum part place s zero = 0

@@ -1,54 +1,9 @@
-//! The table of binomial coefficients, by rows and by columns.
+//! The table of binomial coefficients.
 ghost use Rattle.std.specs.Prelude.{◌≡◌, ℕ, ◌+◌, ◌<◌, ◌≤◌, ◌^◌};
 ghost use Rattle.morris_index.specs.Binomials.{choose};
 
-/// Row `n` has the numbers of subsets of 0, 1, .. 10 of `n` things.
-const BINOMIALS: [[u32; 11]; 25] = [
-    [1, 0, 0, 0, 0, 0, 0, 0, 0, 0, 0],
-    [1, 1, 0, 0, 0, 0, 0, 0, 0, 0, 0],
-    [1, 2, 1, 0, 0, 0, 0, 0, 0, 0, 0],
-    [1, 3, 3, 1, 0, 0, 0, 0, 0, 0, 0],
-    [1, 4, 6, 4, 1, 0, 0, 0, 0, 0, 0],
-    [1, 5, 10, 10, 5, 1, 0, 0, 0, 0, 0],
-    [1, 6, 15, 20, 15, 6, 1, 0, 0, 0, 0],
-    [1, 7, 21, 35, 35, 21, 7, 1, 0, 0, 0],
-    [1, 8, 28, 56, 70, 56, 28, 8, 1, 0, 0],
-    [1, 9, 36, 84, 126, 126, 84, 36, 9, 1, 0],
-    [1, 10, 45, 120, 210, 252, 210, 120, 45, 10, 1],
-    [1, 11, 55, 165, 330, 462, 462, 330, 165, 55, 11],
-    [1, 12, 66, 220, 495, 792, 924, 792, 495, 220, 66],
-    [1, 13, 78, 286, 715, 1287, 1716, 1716, 1287, 715, 286],
-    [1, 14, 91, 364, 1001, 2002, 3003, 3432, 3003, 2002, 1001],
-    [1, 15, 105, 455, 1365, 3003, 5005, 6435, 6435, 5005, 3003],
-    [1, 16, 120, 560, 1820, 4368, 8008, 11440, 12870, 11440, 8008],
-    [
-        1, 17, 136, 680, 2380, 6188, 12376, 19448, 24310, 24310, 19448,
-    ],
-    [
-        1, 18, 153, 816, 3060, 8568, 18564, 31824, 43758, 48620, 43758,
-    ],
-    [
-        1, 19, 171, 969, 3876, 11628, 27132, 50388, 75582, 92378, 92378,
-    ],
-    [
-        1, 20, 190, 1140, 4845, 15504, 38760, 77520, 125970, 167960, 184756,
-    ],
-    [
-        1, 21, 210, 1330, 5985, 20349, 54264, 116280, 203490, 293930, 352716,
-    ],
-    [
-        1, 22, 231, 1540, 7315, 26334, 74613, 170544, 319770, 497420, 646646,
-    ],
-    [
-        1, 23, 253, 1771, 8855, 33649, 100947, 245157, 490314, 817190, 1144066,
-    ],
-    [
-        1, 24, 276, 2024, 10626, 42504, 134596, 346104, 735471, 1307504, 1961256,
-    ],
-];
-
 /// Row `k` has the numbers of subsets of `k` of 0, 1, .. 24 things.
-const COLUMNS: [[u32; 25]; 10] = [
+const BINOMIALS: [[u32; 25]; 11] = [
     [
         1, 1, 1, 1, 1, 1, 1, 1, 1, 1, 1, 1, 1, 1, 1, 1, 1, 1, 1, 1, 1, 1, 1, 1, 1,
     ],
@@ -87,6 +42,10 @@ const COLUMNS: [[u32; 25]; 10] = [
         0, 0, 0, 0, 0, 0, 0, 0, 0, 1, 10, 55, 220, 715, 2002, 5005, 11440, 24310, 48620, 92378,
         167960, 293930, 497420, 817190, 1307504,
     ],
+    [
+        0, 0, 0, 0, 0, 0, 0, 0, 0, 0, 1, 11, 66, 286, 1001, 3003, 8008, 19448, 43758, 92378,
+        184756, 352716, 646646, 1144066, 1961256,
+    ],
 ];
 
 /// How many subsets of `k` things a set of `n` things has, for at most 24 things and subsets of at
@@ -97,13 +56,13 @@ pub fn binomial(n: u8, k: u8) -> u64
     ensures value { result ≡ choose n k }
     ensures few { result < 2 ^ 21 }
 {
-    u64::from(BINOMIALS[n as usize][k as usize])
+    u64::from(BINOMIALS[k as usize][n as usize])
 }
 
 /// The highest point of a set of `k` points with this rank, and the rank of its other points: the
 /// greatest `n` up to 24 such that `n` things have at most `rank` subsets of `k`, and what is left
-/// of the rank. The numbers of a column never fall, so `n` is how many of them after the first are
-/// at most `rank`.
+/// of the rank. The numbers of a row never fall, so `n` is how many of them after the first are at
+/// most `rank`.
 pub(crate) fn highest(k: u8, rank: u32) -> (u8, u32)
     requires some { 0 < k }
     requires chosen { k ≤ 9 }
@@ -111,12 +70,12 @@ pub(crate) fn highest(k: u8, rank: u32) -> (u8, u32)
     ensures left { choose result.0 k + result.1 ≡ rank }
     ensures highest { (n : ℕ) → result.0 < n → n ≤ 24 → rank < choose n k }
 {
-    let column = &COLUMNS[k as usize];
+    let choices = &BINOMIALS[k as usize];
     let mut point = 0;
     for n in 1..25_usize {
-        if column[n] <= rank {
+        if choices[n] <= rank {
             point += 1;
         }
     }
-    (point, rank - column[point as usize])
+    (point, rank - choices[point as usize])
 }
