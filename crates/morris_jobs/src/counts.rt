@@ -110,36 +110,9 @@ pub fn print_counts<B: Geometry, C: Coded, S: Sink>(
     ensures counted { CountsWrites (S.failures output.old) (S.failures output.new) result }
 {
     if csv {
-        print_halves(alloc, entries, output)
-    } else {
-        print_tallied(alloc, entries, output)
+        let halves = Halves::of(alloc, entries)?;
+        return print(&halves, output);
     }
-}
-
-/// Prints them as lines of text.
-fn print_tallied<B: Geometry, C: Coded, S: Sink>(
-    alloc: Global,
-    entries: &mut Entries<B, C>,
-    output: &mut S,
-) -> Result<(), Fault>
-    requires { S.failures output.old < 2 ^ 64 - 1 }
-    ensures answer { AnswersStated B.shape entries.old false (S.contents output.old) (S.contents output.new) result }
-    ensures counted { CountsWrites (S.failures output.old) (S.failures output.new) result }
-{
     let tallied = Tallied::of(alloc, entries)?;
     print(&tallied, output)
-}
-
-/// Prints them as lines of fields.
-fn print_halves<B: Geometry, C: Coded, S: Sink>(
-    alloc: Global,
-    entries: &mut Entries<B, C>,
-    output: &mut S,
-) -> Result<(), Fault>
-    requires { S.failures output.old < 2 ^ 64 - 1 }
-    ensures answer { AnswersStated B.shape entries.old true (S.contents output.old) (S.contents output.new) result }
-    ensures counted { CountsWrites (S.failures output.old) (S.failures output.new) result }
-{
-    let halves = Halves::of(alloc, entries)?;
-    print(&halves, output)
 }
