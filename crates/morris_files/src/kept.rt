@@ -1,13 +1,13 @@
 //! The tables that a folder keeps.
-ghost use Rattle.std.specs.Prelude.{◌≡◌, ℕ, ◌+◌, ◌-◌, ◌^◌, ◌<◌, Err, IfErr};
-ghost use Rattle.morris_files.specs.Files.{HasFailed, IsOpened, Keeps};
+ghost use Rattle.std.specs.Prelude.{◌≡◌, ℕ, ◌+◌, ◌-◌, ◌^◌, ◌<◌, List, Option, Err, IfErr};
+ghost use Rattle.morris_files.specs.Files.{Files, HasFailed, IsOpened, IsReaderOf, Keeps};
 ghost use Rattle.morris_files.specs.Kept.{AnswersKept, IsUnopened, failed_opening};
 ghost use Rattle.morris_files.specs.Names.{name_of};
 
 use crate::folder::Folder;
 use crate::names::file_name;
 use morris_board::board::Geometry;
-use morris_board::streams::Failed;
+use morris_board::streams::{Failed, Source};
 use morris_index::pair::Pair;
 use morris_pairs::file_faults::ReadFault;
 use morris_pairs::raw::Raw;
@@ -57,7 +57,26 @@ pub fn read_table_file<B: Geometry, F: Folder>(
     let Some(mut reader) = open_table_file(alloc, folder, board, pair)? else {
         return Ok(None);
     };
-    let raw = match read_table::<B, F::Reader>(alloc, &mut reader) {
+    read_opened(alloc, &mut reader, pair)
+}
+
+/// Reads the table of a pair from a file that was opened, as [`read_table_file`] does.
+///
+/// Fewer than `u64::MAX` calls of the reader may have failed before.
+///
+/// # Errors
+/// Those of [`read_table_file`] but for [`KeptFault::Unopened`], and for want of memory for a name.
+pub fn read_opened<B: Geometry, S: Source>(
+    alloc: Global,
+    reader: &mut S,
+    pair: Pair<B>,
+) -> Result<Option<Raw<B>>, KeptFault>
+    requires { S.failures reader.old < 2 ^ 64 - 1 }
+    ensures answer { (files : Option Files) (name : List ℕ) → IsReaderOf files name (S.remaining reader.old) → AnswersKept B.shape files name pair result }
+    ensures unread { result ≡ Err (KeptFault.Refused ReadFault.Read) → HasFailed S.failures }
+    ensures opened { failed_opening result ≡ 0 }
+{
+    let raw = match read_table::<B, S>(alloc, reader) {
         Ok(raw) => raw,
         Err(refused) => return Err(KeptFault::Refused(refused)),
     };
@@ -70,10 +89,12 @@ pub fn read_table_file<B: Geometry, F: Folder>(
 /// Opens the file that a folder has of a pair's table, under the name of the pair on the board of
 /// this name; `None` where there is no such file.
 ///
+/// Fewer than `u64::MAX` calls of the folder may have failed before.
+///
 /// # Errors
 /// [`KeptFault::Memory`] where memory is refused for the name, else [`KeptFault::Unopened`] where
 /// the file can't be opened.
-pub(crate) fn open_table_file<B: Geometry, F: Folder>(
+pub fn open_table_file<B: Geometry, F: Folder>(
     alloc: Global,
     folder: &mut F,
     board: &str,
