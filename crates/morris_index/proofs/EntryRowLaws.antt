@@ -3,7 +3,7 @@ use Rattle.std.proofs.Common.{◌≡◌, ◌≢◌, ℕ, ◌+◌, ◌-◌, ◌*�
 use Rattle.std.proofs.lemmas.Bool.{cases_Bool, both_ways, eq-eqb, ne_eqb}
 use Rattle.std.proofs.lemmas.Bool.Decides.{nat_tests}
 use Rattle.std.proofs.lemmas.Nat.{div-add-mod'}
-use Rattle.std.proofs.Math.Nat.{mod-lt}
+use Rattle.std.proofs.Math.Nat.{mod-lt, pow-le-pow_right}
 use Rattle.morris_board.specs.Boards.{Shape}
 use Rattle.morris_board.specs.Sets.{has, members, count_of}
 use Rattle.morris_board.specs.Positions.{Sides, sides, is_sized, IsApart, IsPosition}
@@ -21,7 +21,7 @@ use Rattle.morris_index.proofs.ClassPairLaws.{led_itself, led_alone, index-lt, e
 use Rattle.morris_index.proofs.IndexLaws.{number_outside-count}
 use Rattle.morris_index.proofs.NumberLaws.{numbers_end}
 use Rattle.morris_board.proofs.PositionLaws.{from_between}
-use Rattle.morris_index.proofs.Spreading.{spread-ranked, listed-fits, spread_exists}
+use Rattle.morris_index.proofs.Spreading.{IsSpread, spread-ranked, listed-fits, spread_exists}
 
 -- ---- the entries from an index on, by the parts of the index
 
@@ -112,6 +112,9 @@ module _ (board : Shape) (n : ℕ) (few : n ≤ 24) (points : board.points ≡ n
   free : number_outside row.own n ≡ n - count_of row.own
   free = omega (arith, number_outside-count n row.own half.within (omega arith))
 
+  pub own_fits : row.own < 2 ^ 24
+  own_fits = omega (arith, half.within, pow-le-pow_right {n = 2} (omega arith) {i = n} {j = 24} few)
+
   module _ (place : ℕ) (inside : place < row.len) where
     abbrev rank : ℕ
     rank = (index - class_half_start board n row.own other_count) + place
@@ -184,19 +187,19 @@ module _ (board : Shape) (n : ℕ) (few : n ≤ 24) (points : board.points ≡ n
         record { inside = at; led = λ s lawful of entry. row_led (sides row.own other) s at lawful of entry }
 
     -- the free points with these numbers
-    abbrev stones : (set : ℕ) × (set < 2 ^ 24) × ((p : ℕ) → has set p ≡ true → has row.own p ≡ false) × (squeezed_below row.own set 24 ≡ slice_index numbers place)
+    abbrev stones : (set : ℕ) × IsSpread row.own (slice_index numbers place) set
     stones = spread_exists row.own (slice_index numbers place) numbers_fit
 
     pub row_stands : (s : Sides) × StandsIn board n row place s
-    row_stands = (sides row.own stones.0, row_spread stones.0 stones.1 stones.2 stones.3)
+    row_stands = (sides row.own stones.0, row_spread stones.0 stones.1.within stones.1.apart stones.1.squeezed)
 
     pub row_numbers : (s : Sides) → IsInRow board n row place s → slice_index numbers place ≡ squeezed_below row.own s.other n
     row_numbers s at =
         let same : s ≡ sides row.own stones.0 =
-        row_led s s at at.lawful at.counts at.entry ∙ sym ((row_spread stones.0 stones.1 stones.2 stones.3).led s at.lawful at.counts at.entry) in
+        row_led s s at at.lawful at.counts at.entry ∙ sym ((row_spread stones.0 stones.1.within stones.1.apart stones.1.squeezed).led s at.lawful at.counts at.entry) in
         let other_in : s.other < 2 ^ n = subst (λ m. s.other < 2 ^ m) points at.lawful.stones.other_within in
         let whole : (24 - n) + n ≡ 24 = omega arith in
-        sym stones.3
+        sym stones.1.squeezed
         ∙ ap (λ (t : Sides). squeezed_below row.own t.other 24) (sym same)
         ∙ ap (squeezed_below row.own s.other) (sym whole)
         ∙ numbers_end row.own s.other n (24 - n) other_in

@@ -1,19 +1,16 @@
 -- The tables by parts are what they say, by one computation over each.
-use Rattle.std.proofs.Common.{◌&&◌, ◌≡◌, ℕ, zero, suc, ◌+◌, ◌*◌, ◌^◌, ◌<◌, ◌≤◌, Bool, true, false, not, ◌||◌, [], get_or, eqb, leb, ltb, refl, sym, ◌∙◌, inl, inr, cond, arith}
+use Rattle.std.proofs.Common.{◌≡◌, ℕ, zero, suc, ◌+◌, ◌*◌, ◌^◌, ◌<◌, ◌≤◌, Bool, true, false, not, ◌||◌, [], get_or, eqb, leb, ltb, refl, sym, ◌∙◌, inl, inr, cond, arith}
 use Rattle.std.specs.List.{range_with_len, list_all}
-use Rattle.std.proofs.lemmas.Bool.{cases_Bool, eqb-true, lt-ltb, le-leb, ltb-true, and_parts, both_ways}
-use Rattle.std.proofs.Math.Nat.{pow-le-pow_right}
+use Rattle.std.proofs.lemmas.Bool.{cases_Bool, eqb-true, le-leb, ltb-true, both_ways}
 use Rattle.morris_board.specs.Sets.{has}
-use Rattle.morris_board.proofs.SetLaws.{point_lt}
 use Rattle.morris_board.specs.SymmetryLaws.{below}
 use Rattle.morris_index.specs.Binomials.{choose}
 use Rattle.morris_index.specs.Numbering.{number_outside}
 use Rattle.morris_index.specs.Sums.{total, term}
 use Rattle.morris_index.specs.Parts.{squeezed_below, part_rank}
 use Rattle.morris_index.specs.declared.part_tables.TheConstants as table
-use Rattle.morris_index.specs.declared.spread_tables.TheConstants as spread
 use Rattle.morris_index.proofs.BinomialTable.{looked, binomial_of}
-use Rattle.morris_index.proofs.RankLaws.{count_below, count-yes, count-no, number-count}
+use Rattle.morris_index.proofs.RankLaws.{count_below, count-yes, count-no}
 use Rattle.morris_index.proofs.Moving.{total-zero, total-suc}
 
 -- ---- what is left of a part
@@ -107,53 +104,3 @@ ranked_few part place s part_low place_low s_low = ltb-true _ _ tested
         below (is_ranked_few part place) 64
         (below (λ k. list_all (is_ranked_few part k) (range_with_len 0 64)) 10
         (below (λ p. list_all (λ k. list_all (is_ranked_few p k) (range_with_len 0 64)) (range_with_len 0 10)) 4 fits part part_low) place place_low) s s_low
-
--- ---- the points that have numbers
-
--- a part s whose points have the numbers x outside a part o
-pub record IsSpread (o x s : ℕ) : Type 0 where
-  pub squeezed : squeezed_below o s 6 ≡ x
-  pub small : s < 64
-  pub apart : (p : ℕ) → has s p ≡ true → has o p ≡ false
-
-abbrev is_apart : ℕ → ℕ → ℕ → Bool
-is_apart o s p = not (has s p) || not (has o p)
-
-abbrev spread_to : ℕ → ℕ → ℕ
-spread_to o x = get_or (get_or spread.SPREAD o []) x 0
-
-abbrev is_spread : ℕ → ℕ → Bool
-is_spread o x =
-    not (ltb x (2 ^ number_outside o 6))
-    || (eqb (squeezed_below o (spread_to o x) 6) x && (ltb (spread_to o x) 64 && list_all (is_apart o (spread_to o x)) (range_with_len 0 6)))
-
-spread_right : list_all (λ o. list_all (is_spread o) (range_with_len 0 64)) (range_with_len 0 64) ≡ true
-unfolding has squeezed_below total number_outside
-spread_right = refl
-
-pub spread_at : (o x : ℕ) → o < 64 → x < 2 ^ number_outside o 6 → IsSpread o x (spread_to o x)
-spread_at o x o_low x_low = record { squeezed = eqb-true _ _ parts.0; small = small_; apart = apart_ }
-  where
-    x_few : x < 64
-    x_few = omega (arith, x_low, pow-le-pow_right {n = 2} (omega arith) {i = number_outside o 6} {j = 6} (omega (arith, number-count o 6)))
-
-    tested : is_spread o x ≡ true
-    tested = below (is_spread o) 64 (below (λ k. list_all (is_spread k) (range_with_len 0 64)) 64 spread_right o o_low) x x_few
-
-    either : (a b : Bool) → (not a || not b) ≡ true → a ≡ true → b ≡ false
-    either true true h e = absurd (both_ways false refl h)
-    either true false h e = refl
-    either false b h e = absurd (both_ways false refl e)
-
-    parts : (eqb (squeezed_below o (spread_to o x) 6) x ≡ true)
-        × ((ltb (spread_to o x) 64 && list_all (is_apart o (spread_to o x)) (range_with_len 0 6)) ≡ true)
-    parts = and_parts _ _ (chosen (ltb x (2 ^ number_outside o 6)) _ (lt-ltb _ _ x_low) tested)
-
-    rest : (ltb (spread_to o x) 64 ≡ true) × (list_all (is_apart o (spread_to o x)) (range_with_len 0 6) ≡ true)
-    rest = and_parts _ _ parts.1
-
-    small_ : spread_to o x < 64
-    small_ = ltb-true _ _ rest.0
-
-    apart_ : (p : ℕ) → has (spread_to o x) p ≡ true → has o p ≡ false
-    apart_ p h = either (has (spread_to o x) p) (has o p) (below (is_apart o (spread_to o x)) 6 rest.1 p (point_lt (spread_to o x) 6 p small_ h)) h

@@ -1,166 +1,236 @@
--- Numbers outside a set become points again, part by part.
-use Rattle.std.proofs.Common.{◌≡◌, ℕ, zero, suc, ◌+◌, ◌-◌, ◌*◌, ◌/◌, ◌%◌, ◌^◌, ◌<◌, ◌≤◌, true, false, not, ◌&&◌, cond, eqb, map, refl, sym, ◌∙◌, ap, ap₂, subst, inl, inr, arith, lit<}
-use Rattle.std.proofs.lemmas.Bool.{cases_Bool, cases_lt, both_ways}
-use Rattle.std.proofs.lemmas.Nat.{div-add-mod', pow-add, mul-add-lt}
-use Rattle.std.proofs.lemmas.Nat.Bits.{bit_at_cat_low, bit_at_cat_high}
+-- Numbers outside a set become points again: each point of the set, from the least on, moves up what
+-- stands there or past it.
+use Rattle.std.proofs.Common.{◌≡◌, ℕ, zero, suc, ◌+◌, ◌-◌, ◌*◌, ◌/◌, ◌%◌, ◌^◌, ◌<◌, ◌≤◌, true, false, not, ◌&&◌, cond, eqb, map, refl, sym, ◌∙◌, ap, subst, inl, inr, arith}
+use Rattle.std.proofs.lemmas.Bool.{cases_Bool, cases_eq, cases_lt, both_ways, eqb-true, eqb-false}
+use Rattle.std.proofs.lemmas.Nat.{div-add-mod', pow-add, mul-add-lt, shr-shr, shr_high}
+use Rattle.std.proofs.lemmas.Nat.Bits.{bit_at_cat_low}
 use Rattle.std.proofs.Math.Nat.{add-mul, mul_assoc, mul_comm, mod-lt, pow-le-pow_right}
 use Rattle.std.specs.Int.{bit_at}
 use Rattle.morris_board.specs.Sets.{has, members, count_of}
 use Rattle.morris_board.proofs.SetLaws.{point_lt, lt_from_points}
-use Rattle.morris_board.proofs.PointsLaws.{has-none}
+use Rattle.morris_board.proofs.PointsLaws.{has-above}
 use Rattle.morris_index.specs.Numbering.{rank_of, number_outside, IsRanked}
 use Rattle.morris_index.specs.Sums.{total}
 use Rattle.morris_index.specs.Parts.{weight, squeezed_below}
 use Rattle.morris_index.proofs.ChooseLaws.{pow-pos}
-use Rattle.morris_index.proofs.RankLaws.{count_below, number-zero, number-outside, number-inside, number-count}
+use Rattle.morris_index.proofs.RankLaws.{count_below, count-yes, count-no, count_more, number-zero, number-outside, number-inside, number-count}
 use Rattle.morris_index.proofs.Moving.{total-zero, total-suc, alike}
 use Rattle.morris_index.proofs.SetLaws.{count_of-below}
-use Rattle.morris_index.proofs.PartTables.{IsSpread, spread_at}
-use Rattle.morris_index.proofs.Squeezing.{has-part, number-next, squeezed-part, mask-none, squeezed-is, squeezed-rank}
+use Rattle.morris_index.proofs.Squeezing.{mask-none, squeezed-is, squeezed-rank}
 
--- what stands so far: the points of the parts below, and the numbers that are left
-pub record IsSpreading (outside numbers part spread left : ℕ) : Type 0 where
-  pub within : spread < 2 ^ (6 * part)
-  pub apart : (p : ℕ) → has spread p ≡ true → has outside p ≡ false
-  pub split : squeezed_below outside spread (6 * part) + left * 2 ^ number_outside outside (6 * part) ≡ numbers
+-- The points of the set below b are gone through: numbers stand at the free points below b, and the
+-- others follow from b on.
+pub record IsSpreading (outside numbers b x : ℕ) : Type 0 where
+  pub apart : (p : ℕ) → p < b → has x p ≡ true → has outside p ≡ false
+  pub split : squeezed_below outside x b + x / 2 ^ b * 2 ^ number_outside outside b ≡ numbers
 
-pub spreading-start : (outside numbers : ℕ) → IsSpreading outside numbers 0 0 numbers
+pub spreading-start : (outside numbers : ℕ) → IsSpreading outside numbers 0 numbers
 spreading-start outside numbers = record {
-  within = lit< tt;
-  apart = λ p h. absurd (both_ways (has 0 p) (has-none p) h);
+  apart = λ p low h. absurd (omega arith);
   split =
       let none : 2 ^ number_outside outside 0 ≡ 1 = ap (λ k. 2 ^ k) (number-zero outside) in
-      omega (arith, mask-none outside 0, ap (λ k. numbers * k) none);
+      omega (arith, mask-none outside numbers, ap (λ k. numbers / 2 ^ 0 * k) none);
 }
 
-module _ (outside numbers part spread left piece : ℕ) (s : IsSpreading outside numbers part spread left)
-    (is : IsSpread (outside / 2 ^ (6 * part) % 64) (left % 2 ^ (6 - count_below (has (outside / 2 ^ (6 * part) % 64)) 6)) piece) where
-  abbrev n : ℕ
-  n = 6 * part
+bit_yes : (x b : ℕ) → has x b ≡ true → x / 2 ^ b % 2 ≡ 1
+unfolding has
+bit_yes x b h = eqb-true _ _ h
 
-  abbrev o : ℕ
-  o = outside / 2 ^ (6 * part) % 64
+bit_no : (x b : ℕ) → has x b ≡ false → x / 2 ^ b % 2 ≡ 0
+unfolding has
+bit_no x b h = let other = eqb-false (x / 2 ^ b % 2) 1 h in omega arith
 
-  abbrev free : ℕ
-  free = 6 - count_below (has o) 6
+squeezed-suc : (outside x b : ℕ) → squeezed_below outside x (suc b) ≡ squeezed_below outside x b + weight outside x b
+unfolding squeezed_below
+squeezed-suc outside x b = total-suc (weight outside x) b
 
-  abbrev new : ℕ
-  new = spread + piece * 2 ^ n
+twice : (b : ℕ) → 2 ^ suc b ≡ 2 ^ b * 2
+twice b = let e : suc b ≡ b + 1 = omega arith in ap (λ k. 2 ^ k) e ∙ pow-add 2 b 1
 
-  next : n + 6 ≡ 6 * (part + 1)
-  next = omega arith
+module _ (outside numbers b x : ℕ) (s : IsSpreading outside numbers b x) where
+  abbrev rest : ℕ
+  rest = x / 2 ^ b
 
-  new_is : new ≡ piece * 2 ^ n + spread
-  new_is = omega arith
+  abbrev scale : ℕ
+  scale = 2 ^ number_outside outside b
 
-  new_within : new < 2 ^ (6 * (part + 1))
-  new_within =
-      let whole : 2 ^ (6 * (part + 1)) ≡ 2 ^ n * 64 = ap (λ k. 2 ^ k) (sym next) ∙ pow-add 2 n 6 in
-      omega (arith, whole, new_is, mul-add-lt piece (2 ^ n) spread 64 is.small s.within)
-
-  same_low : (p : ℕ) → p < n → has new p ≡ has spread p
-  unfolding has
-  same_low p h = ap (λ k. eqb k 1) (ap (λ k. bit_at k p) new_is ∙ bit_at_cat_low piece n spread p h)
-
-  same_high : (i : ℕ) → has piece i ≡ has new (n + i)
-  unfolding has
-  same_high i =
-      let back : (n + i) - n ≡ i = omega arith in
-      sym (ap (λ k. eqb k 1) (ap (λ k. bit_at k (n + i)) new_is ∙ bit_at_cat_high piece n spread (n + i) s.within (omega arith) ∙ ap (bit_at piece) back))
-
-  new_apart : (p : ℕ) → has new p ≡ true → has outside p ≡ false
-  new_apart p h = elim (cases_lt p n) [
-    | inl l ↦ s.apart p (sym (same_low p l) ∙ h)
-    | inr g ↦
-        let at : n + (p - n) ≡ p = omega (arith, g) in
-        let here : has piece (p - n) ≡ true = same_high (p - n) ∙ ap (has new) at ∙ h in
-        ap (has outside) (sym at) ∙ sym (has-part outside n 6 (p - n) (point_lt piece 6 (p - n) is.small here)) ∙ is.apart (p - n) here
-  ]
-
-  lower : squeezed_below outside new n ≡ squeezed_below outside spread n
-  unfolding squeezed_below
-  lower =
-      omega (
-        arith,
-        alike (weight outside new) (weight outside spread) 0 n (omega arith)
-            (λ p from to. ap (λ b. cond (b && not (has outside p)) (2 ^ number_outside outside p) 0) (same_low p to)),
-        total-zero (weight outside new),
-        total-zero (weight outside spread),
-      )
-
-  squeezed : squeezed_below outside new (6 * (part + 1)) ≡ squeezed_below outside spread n + (left % 2 ^ free) * 2 ^ number_outside outside n
-  squeezed =
-      ap (squeezed_below outside new) (sym next)
-      ∙ squeezed-part outside o n 6 (has-part outside n 6) new piece (λ i l. same_high i) 6 (omega arith)
-      ∙ ap₂ (λ a b. a + b * 2 ^ number_outside outside n) lower is.squeezed
-
-  above : 2 ^ number_outside outside (6 * (part + 1)) ≡ 2 ^ number_outside outside n * 2 ^ free
-  above = ap (λ k. 2 ^ k) (number-next outside part) ∙ pow-add 2 (number_outside outside n) free
-
-  product : left * 2 ^ number_outside outside n
-      ≡ (left / 2 ^ free) * (2 ^ number_outside outside n * 2 ^ free) + (left % 2 ^ free) * 2 ^ number_outside outside n
-  product =
-      ap (λ m. m * 2 ^ number_outside outside n) (sym (div-add-mod' left (2 ^ free)))
-      ∙ add-mul (left / 2 ^ free * 2 ^ free) (left % 2 ^ free) (2 ^ number_outside outside n)
-      ∙ ap (λ m. m + (left % 2 ^ free) * 2 ^ number_outside outside n)
-      (mul_assoc (left / 2 ^ free) (2 ^ free) (2 ^ number_outside outside n) ∙ ap (λ m. (left / 2 ^ free) * m) (mul_comm (2 ^ free) (2 ^ number_outside outside n)))
-
-  pub spreading-next : IsSpreading outside numbers (part + 1) new (left / 2 ^ free)
-  spreading-next = record {
-    within = new_within;
-    apart = new_apart;
-    split = omega (arith, squeezed, ap (λ m. (left / 2 ^ free) * m) above, product, s.split);
+  -- where the point b is free, what stands there stays
+  pub spreading-free : has outside b ≡ false → IsSpreading outside numbers (suc b) x
+  spreading-free free = record {
+    apart = λ p low h. elim (cases_eq p b) [
+      | inl e ↦ ap (has outside) e ∙ free
+      | inr d ↦ s.apart p (omega arith) h
+    ];
+    split =
+        omega (
+          arith,
+          squeezed-suc outside x b,
+          here,
+          ap (λ k. k * 2 ^ number_outside outside (suc b)) half,
+          ap (λ k. (rest / 2) * k) (ap (λ k. 2 ^ k) (number-outside outside b free) ∙ twice (number_outside outside b)),
+          ap (λ k. k * scale) (sym (div-add-mod' rest 2)),
+          add-mul (rest / 2 * 2) (rest % 2) scale,
+          mul_assoc (rest / 2) 2 scale,
+          ap (λ k. (rest / 2) * k) (mul_comm 2 scale),
+          s.split,
+        );
   }
+    where
+      half : x / 2 ^ suc b ≡ rest / 2
+      half = let e : suc b ≡ b + 1 = omega arith in ap (λ k. x / 2 ^ k) e ∙ sym (shr-shr x b 1)
+
+      here : weight outside x b ≡ (rest % 2) * scale
+      here = elim (cases_Bool (has x b)) [
+        | inl y ↦ let w : weight outside x b ≡ scale = rw (y, free) refl in omega (arith, w, ap (λ k. k * scale) (bit_yes x b y))
+        | inr n ↦ let w : weight outside x b ≡ 0 = rw n refl in omega (arith, w, ap (λ k. k * scale) (bit_no x b n))
+      ]
+
+  -- where it is one of the set, what stands there or past it moves up
+  module _ (taken : has outside b ≡ true) where
+    abbrev low : ℕ
+    low = x % 2 ^ b
+
+    abbrev y : ℕ
+    y = x + rest * 2 ^ b
+
+    x_is : x ≡ rest * 2 ^ b + low
+    x_is = sym (div-add-mod' x (2 ^ b))
+
+    y_is : y ≡ rest * 2 ^ suc b + low
+    y_is = omega (arith, x_is, ap (λ k. rest * k) (twice b), mul_assoc rest (2 ^ b) 2)
+
+    low_in : low < 2 ^ b
+    low_in = mod-lt x (pow-pos b)
+
+    above : y / 2 ^ suc b ≡ rest
+    above = ap (λ k. k / 2 ^ suc b) y_is ∙ shr_high rest (suc b) low (omega (arith, low_in, twice b))
+
+    same : (p : ℕ) → p < b → has y p ≡ has x p
+    unfolding has
+    same p h =
+        ap (λ k. eqb k 1) (ap (λ k. bit_at k p) y_is ∙ bit_at_cat_low rest (suc b) low p (omega arith)
+        ∙ sym (ap (λ k. bit_at k p) x_is ∙ bit_at_cat_low rest b low p h))
+
+    gone : has y b ≡ false
+    unfolding has
+    gone = ap (λ k. eqb k 1) (ap (λ k. bit_at k b) y_is ∙ bit_at_cat_low rest (suc b) low b (omega arith)) ∙ has-above low b b low_in (omega arith)
+
+    lower : squeezed_below outside y b ≡ squeezed_below outside x b
+    unfolding squeezed_below
+    lower =
+        omega (
+          arith,
+          alike (weight outside y) (weight outside x) 0 b (omega arith)
+              (λ p from to. ap (λ k. cond (k && not (has outside p)) (2 ^ number_outside outside p) 0) (same p to)),
+          total-zero (weight outside y),
+          total-zero (weight outside x),
+        )
+
+    pub spreading-taken : IsSpreading outside numbers (suc b) y
+    spreading-taken = record {
+      apart = λ p l h. elim (cases_eq p b) [
+        | inl e ↦ absurd (both_ways (has y p) (ap (has y) e ∙ gone) h)
+        | inr d ↦ s.apart p (omega arith) (sym (same p (omega arith)) ∙ h)
+      ];
+      split =
+          let w : weight outside y b ≡ 0 = rw gone refl in
+          omega (
+            arith,
+            squeezed-suc outside y b,
+            w,
+            lower,
+            ap (λ k. k * 2 ^ number_outside outside (suc b)) above,
+            ap (λ k. rest * 2 ^ k) (number-inside outside b taken),
+            s.split,
+          );
+    }
+
+-- up to a number below which no further point of the set stands
+spreading_on : (outside numbers b x : ℕ) → IsSpreading outside numbers b x → (k : ℕ) → count_below (has outside) (k + b) ≡ count_below (has outside) b
+    → IsSpreading outside numbers (k + b) x
+spreading_on outside numbers b x s zero none = let e : b ≡ 0 + b = omega arith in subst (λ m. IsSpreading outside numbers m x) e s
+spreading_on outside numbers b x s (suc k) none =
+    let e : suc (k + b) ≡ suc k + b = omega arith in
+    let whole = ap (count_below (has outside)) e in
+    elim (cases_Bool (has outside (k + b))) [
+      | inl y ↦ absurd (omega (arith, none, whole, count-yes (has outside) (k + b) y, count_more (has outside) b k))
+      | inr free ↦ subst (λ m. IsSpreading outside numbers m x) e
+          (spreading-free outside numbers (k + b) x
+          (spreading_on outside numbers b x s k (omega (arith, none, whole, count-no (has outside) (k + b) free))) free)
+    ]
+
+pub spreading-on : (outside numbers b x m : ℕ) → IsSpreading outside numbers b x → b ≤ m → count_below (has outside) m ≡ count_below (has outside) b
+    → IsSpreading outside numbers m x
+spreading-on outside numbers b x m s from none =
+    let e : (m - b) + b ≡ m = omega arith in
+    subst (λ k. IsSpreading outside numbers k x) e (spreading_on outside numbers b x s (m - b) (ap (count_below (has outside)) e ∙ none))
+
+-- what stands so far fits the board
+pub spreading-within : (outside numbers b x : ℕ) → b ≤ 24 → numbers < 2 ^ number_outside outside 24 → IsSpreading outside numbers b x → x < 2 ^ 24
+spreading-within outside numbers b x board fits s =
+    omega (arith, sym (div-add-mod' x (2 ^ b)), mul-add-lt (x / 2 ^ b) (2 ^ b) (x % 2 ^ b) (2 ^ (24 - b)) few (mod-lt x (pow-pos b)), whole)
+  where
+    back : (24 - b) + b ≡ 24
+    back = omega arith
+
+    whole : 2 ^ b * 2 ^ (24 - b) ≡ 2 ^ 24
+    whole = let e : b + (24 - b) ≡ 24 = omega arith in sym (pow-add 2 b (24 - b)) ∙ ap (λ k. 2 ^ k) e
+
+    numbered : number_outside outside 24 ≤ (24 - b) + number_outside outside b
+    numbered = omega (arith, number-count outside 24, number-count outside b, count_more (has outside) b (24 - b), ap (count_below (has outside)) back)
+
+    most : numbers < 2 ^ (24 - b) * 2 ^ number_outside outside b
+    most = omega (
+      arith,
+      fits,
+      pow-le-pow_right {n = 2} (omega arith) {i = number_outside outside 24} {j = (24 - b) + number_outside outside b} numbered,
+      pow-add 2 (24 - b) (number_outside outside b),
+    )
+
+    few : x / 2 ^ b < 2 ^ (24 - b)
+    few = elim (cases_lt (x / 2 ^ b) (2 ^ (24 - b))) [
+      | inl l ↦ l
+      | inr g ↦
+          let e : x / 2 ^ b ≡ 2 ^ (24 - b) + (x / 2 ^ b - 2 ^ (24 - b)) = omega arith in
+          absurd (omega (
+            arith,
+            most,
+            s.split,
+            ap (λ k. k * 2 ^ number_outside outside b) e,
+            add-mul (2 ^ (24 - b)) (x / 2 ^ b - 2 ^ (24 - b)) (2 ^ number_outside outside b),
+          ))
+    ]
 
 -- ---- the end
 
-no_more : (left k s : ℕ) → s + left * k < k → left ≡ 0
-no_more zero k s h = refl
-no_more (suc left) k s h =
-    let one_more : suc left ≡ left + 1 = omega arith in
-    absurd (omega (arith, h, ap (λ m. m * k) one_more ∙ add-mul left 1 k))
+pub record IsSpread (outside numbers x : ℕ) : Type 0 where
+  pub within : x < 2 ^ 24
+  pub apart : (p : ℕ) → has x p ≡ true → has outside p ≡ false
+  pub squeezed : squeezed_below outside x 24 ≡ numbers
 
-pub spread-end : (outside numbers spread left : ℕ) → numbers < 2 ^ number_outside outside 24 → IsSpreading outside numbers 4 spread left
-    → squeezed_below outside spread 24 ≡ numbers
-spread-end outside numbers spread left low s =
-    let none = no_more left (2 ^ number_outside outside 24) (squeezed_below outside spread 24) (omega (arith, s.split, low)) in
-    omega (arith, s.split, ap (λ k. k * 2 ^ number_outside outside 24) none)
+pub spread-end : (outside numbers x : ℕ) → numbers < 2 ^ number_outside outside 24 → IsSpreading outside numbers 24 x → IsSpread outside numbers x
+spread-end outside numbers x fits s = record {
+  within = inside;
+  apart = λ p h. s.apart p (point_lt x 24 p inside h) h;
+  squeezed = let none : x / 2 ^ 24 ≡ 0 = omega (arith, inside) in omega (arith, s.split, ap (λ k. k * 2 ^ number_outside outside 24) none);
+}
+  where
+    inside : x < 2 ^ 24
+    inside = spreading-within outside numbers 24 x (omega arith) fits s
 
--- ---- each set of numbers is that of some free points
+spreading : (outside numbers b : ℕ) → (x : ℕ) × IsSpreading outside numbers b x
+spreading outside numbers zero = (numbers, spreading-start outside numbers)
+spreading outside numbers (suc b) =
+    let before = spreading outside numbers b in
+    elim (cases_Bool (has outside b)) [
+      | inl y ↦ (before.0 + before.0 / 2 ^ b * 2 ^ b, spreading-taken outside numbers b before.0 before.1 y)
+      | inr free ↦ (before.0, spreading-free outside numbers b before.0 before.1 free)
+    ]
 
--- one part more, of which a piece has the numbers
-spread_by : (outside numbers part spread left piece : ℕ) → IsSpreading outside numbers part spread left
-    → IsSpread (outside / 2 ^ (6 * part) % 64) (left % 2 ^ (6 - count_below (has (outside / 2 ^ (6 * part) % 64)) 6)) piece
-    → (more : ℕ) × (rest : ℕ) × IsSpreading outside numbers (suc part) more rest
-spread_by outside numbers part spread left piece s is =
-    let next : part + 1 ≡ suc part = omega arith in (
-      spread + piece * 2 ^ (6 * part),
-      left / 2 ^ (6 - count_below (has (outside / 2 ^ (6 * part) % 64)) 6),
-      subst (λ k. IsSpreading outside numbers k (spread + piece * 2 ^ (6 * part)) (left / 2 ^ (6 - count_below (has (outside / 2 ^ (6 * part) % 64)) 6))) next
-          (spreading-next outside numbers part spread left piece s is),
-    )
-
-spread_on : (outside numbers part spread left : ℕ) → IsSpreading outside numbers part spread left
-    → (more : ℕ) × (rest : ℕ) × IsSpreading outside numbers (suc part) more rest
-spread_on outside numbers part spread left s =
-    let size : number_outside (outside / 2 ^ (6 * part) % 64) 6 ≡ 6 - count_below (has (outside / 2 ^ (6 * part) % 64)) 6 =
-    omega (arith, number-count (outside / 2 ^ (6 * part) % 64) 6) in
-    let fits : left % 2 ^ (6 - count_below (has (outside / 2 ^ (6 * part) % 64)) 6) < 2 ^ number_outside (outside / 2 ^ (6 * part) % 64) 6 =
-    rw size (mod-lt left (pow-pos (6 - count_below (has (outside / 2 ^ (6 * part) % 64)) 6))) in
-    spread_by outside numbers part spread left _ s
-    (spread_at (outside / 2 ^ (6 * part) % 64) (left % 2 ^ (6 - count_below (has (outside / 2 ^ (6 * part) % 64)) 6)) (mod-lt (outside / 2 ^ (6 * part)) (lit< tt)) fits)
-
-spreading : (outside numbers part : ℕ) → (spread : ℕ) × (left : ℕ) × IsSpreading outside numbers part spread left
-spreading outside numbers zero = (0, numbers, spreading-start outside numbers)
-spreading outside numbers (suc part) =
-    let before = spreading outside numbers part in
-    spread_on outside numbers part before.0 before.1 before.2
-
-pub spread_exists : (outside numbers : ℕ) → numbers < 2 ^ number_outside outside 24
-    → (set : ℕ) × (set < 2 ^ 24) × ((p : ℕ) → has set p ≡ true → has outside p ≡ false) × (squeezed_below outside set 24 ≡ numbers)
-spread_exists outside numbers low =
-    let end = spreading outside numbers 4 in
-    (end.0, end.2.within, end.2.apart, spread-end outside numbers end.0 end.1 low end.2)
+pub spread_exists : (outside numbers : ℕ) → numbers < 2 ^ number_outside outside 24 → (set : ℕ) × IsSpread outside numbers set
+spread_exists outside numbers fits =
+    let end = spreading outside numbers 24 in
+    (end.0, spread-end outside numbers end.0 fits end.1)
 
 -- ---- the rank of what was spread
 

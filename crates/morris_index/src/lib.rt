@@ -22,7 +22,6 @@ mod ranks;
 mod returning;
 mod rings;
 mod set_lists;
-mod spread_tables;
 pub mod standing;
 pub mod successor_entries;
 pub mod successors;

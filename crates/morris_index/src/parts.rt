@@ -1,13 +1,12 @@
 //! Sets of points read part by part, six points at a time.
 //!
 //! A part of a set is a number below 64: bit `i` stands for the part's point `i`.
-ghost use Rattle.std.specs.Prelude.{◌≡◌, ℕ, ◌+◌, ◌*◌, ◌<◌, ◌≤◌, ◌^◌, true, false};
+ghost use Rattle.std.specs.Prelude.{◌≡◌, ◌+◌, ◌*◌, ◌<◌, ◌≤◌, ◌^◌};
 ghost use Rattle.morris_board.specs.Sets.{has};
-ghost use Rattle.morris_index.specs.Numbering.{count_below, number_outside};
+ghost use Rattle.morris_index.specs.Numbering.{count_below};
 ghost use Rattle.morris_index.specs.Parts.{squeezed_below, part_rank};
 
 use crate::part_tables::{RANKS, SQUEEZED};
-use crate::spread_tables::SPREAD;
 use morris_board::points::Points;
 
 /// How many points a part has.
@@ -25,17 +24,6 @@ pub(crate) fn squeezed_part(outside: u32, points: u32) -> u32
     ensures { result ≡ squeezed_below outside points 6 }
 {
     u32::from(SQUEEZED[outside as usize][points as usize])
-}
-
-/// The part outside a part of another set whose points have these numbers there.
-pub(crate) fn spread_part(outside: u32, numbers: u32) -> u32
-    requires outside { outside < 64 }
-    requires numbers { numbers < 2 ^ number_outside outside 6 }
-    ensures squeezed { squeezed_below outside result 6 ≡ numbers }
-    ensures apart { (p : ℕ) → has result p ≡ true → has outside p ≡ false }
-    ensures small { result < 64 }
-{
-    u32::from(SPREAD[outside as usize][numbers as usize])
 }
 
 /// What the points of a part add to a rank, where the part is one of the four of the board, and

@@ -6,7 +6,7 @@ ghost use Rattle.morris_index.specs.Numbering.{rank_of, number_outside, IsRanked
 ghost use Rattle.morris_index.specs.Parts.{squeezed_below};
 
 use crate::binomials::highest;
-use crate::parts::{part_rank, part_size, spread_part, squeezed_part};
+use crate::parts::{part_rank, part_size, squeezed_part};
 use morris_board::points::Points;
 
 /// The rank of `set` among the sets of as many points.
@@ -54,18 +54,16 @@ fn squeezed(set: Points, outside: Points) -> Points
 /// The set of the points outside `outside` that have these numbers there: what [`squeezed`] makes
 /// of it.
 pub(crate) fn spread(numbers: Points, outside: Points) -> Points
-    requires { numbers < 2 ^ number_outside outside 24 }
+    requires board { outside < 2 ^ 24 }
+    requires fits { numbers < 2 ^ number_outside outside 24 }
     ensures within { result < 2 ^ 24 }
     ensures apart { (p : ℕ) → has result p ≡ true → has outside p ≡ false }
     ensures squeezed { squeezed_below outside result 24 ≡ numbers }
 {
-    let mut spread = 0;
-    let mut left = numbers.mask();
-    for part in 0..4_u8 {
-        let taken = (outside.mask() >> (6 * part)) % 64;
-        let free = 6 - part_size(taken);
-        spread += spread_part(taken, left % (1 << free)) << (6 * part);
-        left >>= free;
+    let mut spread = numbers.mask();
+    // Each point of `outside` moves up by one what stands there or past it.
+    for point in outside.iter() {
+        spread += spread >> point << point;
     }
     Points::from_mask(spread)
 }

@@ -1,69 +1,99 @@
--- Each part takes as many of the numbers that are left as it has free points.
-use Rattle.std.proofs.Common.{◌≡◌, ℕ, ◌-◌, ◌*◌, ◌/◌, ◌%◌, ◌^◌, ◌<◌, ◌≤◌, ◌∙◌, sym, ap, subst, arith}
-use Rattle.std.proofs.lemmas.Nat.{mul-add-lt}
-use Rattle.std.proofs.Math.Nat.{mod-lt, mod-eq_of_lt, pow-le-pow_right}
-use Rattle.morris_board.specs.Sets.{has}
-use Rattle.morris_index.specs.Numbering.{number_outside}
-use Rattle.morris_index.specs.Parts.{squeezed_below}
-use Rattle.morris_index.proofs.RankLaws.{count_below, number-count}
-use Rattle.morris_index.proofs.ChooseLaws.{pow-pos}
-use Rattle.morris_index.proofs.PartTables.{IsSpread}
-use Rattle.morris_index.proofs.Spreading.{IsSpreading, spreading-start, spreading-next, spread-end}
+-- Each point of the set moves up what stands there or past it.
+use Rattle.std.proofs.Common.{◌≡◌, ℕ, ◌+◌, ◌*◌, ◌/◌, ◌%◌, ◌^◌, ◌<◌, ◌∙◌, ◌++◌, ◌∷◌, [], suc, ◌-◌, ◌≤◌, sym, ap, arith, length, length-append, List, true, inl, inr}
+use Rattle.std.proofs.Math.Nat.{mod-eq_of_lt}
+use Rattle.std.proofs.lemmas.Nat.{div-add-mod'}
+use Rattle.morris_board.specs.Sets.{has, members}
+use Rattle.morris_board.proofs.ImageTables.{member_lt}
+use Rattle.morris_index.specs.Numbering.{number_outside, count_below}
+use Rattle.morris_index.proofs.CarriedLaws.{split_after}
+use Rattle.std.proofs.lemmas.Bool.{cases_lt}
+use Rattle.morris_index.proofs.RankLaws.{count-none, count-yes, count_more}
+use Rattle.morris_index.proofs.SumLaws.{point_at, all_passed}
+use Rattle.morris_index.proofs.Spreading.{IsSpreading, IsSpread, spreading-start, spreading-taken, spreading-on, spreading-within, spread-end}
 use Rattle.morris_index.proofs.ranks.spread.Goals as goal
+use Rattle.morris_index.proofs.ranks.spread.Goals.{In-Some}
 
--- what a part is read by
-module _ (outside part size : ℕ) (low : part < 4) (is : size ≡ count_below (has (outside / 2 ^ (6 * part) % 64)) 6) where
-  abbrev o : ℕ
-  o = outside / 2 ^ (6 * part) % 64
+-- the point that comes next, of those of the set
+next_here : (s p : ℕ) (before after left : List ℕ) → s < 2 ^ 24 → before ++ left ≡ members s → left ≡ p ∷ after
+    → (p < 24) × (has s p ≡ true) × (count_below (has s) p ≡ length before)
+next_here s p before after left within split step =
+    let cut : before ++ p ∷ after ≡ members s = ap (λ t. before ++ t) (sym step) ∙ split in
+    let stands = point_at s 24 p before after within (omega arith) cut in
+    (member_lt s 24 p before after within cut, stands.0, stands.1)
 
-  pub divisor : 1 * 2 ^ (6 - size) % 4294967296 ≡ 2 ^ (6 - count_below (has o) 6)
-  divisor =
-      let few : 2 ^ (6 - size) ≤ 2 ^ 6 = pow-le-pow_right {n = 2} (omega arith) {i = 6 - size} {j = 6} (omega arith) in
-      mod-eq_of_lt (omega (arith, few)) ∙ omega (arith, ap (λ k. 2 ^ (6 - k)) is)
+at : (c : In-Some) → (c.in-Some.point < 24) × (has c.args.outside c.in-Some.point ≡ true) × (count_below (has c.args.outside) c.in-Some.point ≡ length c.loop-point.yielded)
+at c = next_here c.args.outside c.in-Some.point c.loop-point.yielded _ _ c.requires.board c.loop-point.invariant.split c.in-Some.ensures.steps
 
-  pub fits : (left : ℕ) → left % (1 * 2 ^ (6 - size) % 4294967296) < 2 ^ number_outside o 6
-  fits left =
-      let free : number_outside o 6 ≡ 6 - count_below (has o) 6 = omega (arith, number-count o 6) in
-      rw (divisor, free) (mod-lt left (pow-pos (6 - count_below (has o) 6)))
+here : (c : In-Some) → IsSpreading c.args.outside c.args.numbers c.in-Some.point c.loop-point.spread
+here c = c.loop-point.invariant.passed c.in-Some.point (at c).2
 
-  pub shifted : (piece : ℕ) → piece < 64 → piece * 2 ^ (6 * part) % 4294967296 ≡ piece * 2 ^ (6 * part)
-  shifted piece small =
-      let some : 0 < 2 ^ (6 * part) = pow-pos (6 * part) in
-      mod-eq_of_lt (omega (
-        arith,
-        mul-add-lt piece (2 ^ (6 * part)) 0 64 small some,
-        pow-le-pow_right {n = 2} (omega arith) {i = 6 * part} {j = 18} (omega arith),
-      ))
+small : (c : In-Some) → c.loop-point.spread < 2 ^ 24
+small c = spreading-within c.args.outside c.args.numbers c.in-Some.point c.loop-point.spread (omega (arith, (at c).0)) c.requires.fits (here c)
 
-pub loop-part-init : goal.loop-part-init
-loop-part-init c = rw c.mask-left.ensures (spreading-start c.args.outside c.args.numbers)
+moved : (c : In-Some) → c.loop-point.spread / 2 ^ c.in-Some.point * 2 ^ c.in-Some.point % 4294967296 ≡ c.loop-point.spread / 2 ^ c.in-Some.point * 2 ^ c.in-Some.point
+moved c = mod-eq_of_lt (omega (arith, small c, div-add-mod' c.loop-point.spread (2 ^ c.in-Some.point)))
 
-pub overflow_sub-free : goal.overflow_sub-free
-overflow_sub-free c = omega (arith, c.part_size-free.ensures, number-count (c.mask.result / 2 ^ (6 * c.loop-part.part) % 64) 6)
+next : (c : In-Some) (b : ℕ) → count_below (has c.args.outside) b ≡ length (c.loop-point.yielded ++ c.in-Some.point ∷ [])
+    → IsSpreading c.args.outside c.args.numbers b (c.loop-point.spread + c.loop-point.spread / 2 ^ c.in-Some.point * 2 ^ c.in-Some.point)
+next c b count =
+    spreading-on c.args.outside c.args.numbers (suc c.in-Some.point) _ b
+    (spreading-taken c.args.outside c.args.numbers c.in-Some.point c.loop-point.spread (here c) (at c).1) from
+    (omega (arith, one_more, count-yes (has c.args.outside) c.in-Some.point (at c).1, (at c).2))
+  where
+    one_more : count_below (has c.args.outside) b ≡ length c.loop-point.yielded + 1
+    one_more = omega (arith, count, length-append c.loop-point.yielded (c.in-Some.point ∷ []))
 
-pub spread_part-requires-clause-numbers : goal.spread_part-requires-clause-numbers
-spread_part-requires-clause-numbers c =
-    fits c.mask.result c.loop-part.part c.part_size-free.result (omega arith) c.part_size-free.ensures c.loop-part.left
+    from : suc c.in-Some.point ≤ b
+    from = elim (cases_lt c.in-Some.point b) [
+      | inl l ↦ omega arith
+      | inr g ↦
+          let e : (c.in-Some.point - b) + b ≡ c.in-Some.point = omega arith in
+          absurd (omega (arith, one_more, (at c).2, count_more (has c.args.outside) b (c.in-Some.point - b), ap (count_below (has c.args.outside)) e))
+    ]
 
-pub loop-part-preserved : goal.loop-part-preserved
-loop-part-preserved c =
-    let size : c.part_size-free.result ≡ count_below (has (c.args.outside / 2 ^ (6 * c.loop-part.part) % 64)) 6 =
-    c.part_size-free.ensures ∙ ap (λ m. count_below (has (m / 2 ^ (6 * c.loop-part.part) % 64)) 6) c.mask.ensures in
-    let is : IsSpread (c.args.outside / 2 ^ (6 * c.loop-part.part) % 64) (c.loop-part.left % 2 ^ (6 - count_below (has (c.args.outside / 2 ^ (6 * c.loop-part.part) % 64)) 6)) c.spread_part.result =
+ended : (outside numbers spread : ℕ) (before left : List ℕ) → outside < 2 ^ 24 → before ++ left ≡ members outside → left ≡ [] → numbers < 2 ^ number_outside outside 24
+    → ((b : ℕ) → count_below (has outside) b ≡ length before → IsSpreading outside numbers b spread) → IsSpread outside numbers spread
+ended outside numbers spread before left within split none fits passed =
+    spread-end outside numbers spread fits (passed 24 (all_passed outside before left within split none 24 (omega arith)).1)
+
+pub loop-point-init : goal.loop-point-init
+loop-point-init c = record {
+  split = ap members (c.into_iter-point-iterator.ensures.into_iter_gives ∙ c.iter-point-items.ensures.points);
+  passed = λ b none. rw c.mask-spread.ensures
+      (spreading-on c.args.outside c.args.numbers 0 c.args.numbers b (spreading-start c.args.outside c.args.numbers) (omega arith)
+      (none ∙ sym (count-none (has c.args.outside))));
+}
+
+pub overflow_shr-spread : goal.overflow_shr-spread
+overflow_shr-spread c = omega (arith, (at (goal.at.overflow_shr-spread c).In-Some).0)
+
+pub overflow_shl-spread : goal.overflow_shl-spread
+overflow_shl-spread c = omega (arith, (at (goal.at.overflow_shl-spread c).In-Some).0)
+
+pub overflow_add-spread : goal.overflow_add-spread
+overflow_add-spread c =
+    let i = (goal.at.overflow_add-spread c).In-Some in
+    omega (arith, moved i, small i, div-add-mod' c.loop-point.spread (2 ^ c.in-Some.point))
+
+pub loop-point-preserved : goal.loop-point-preserved
+loop-point-preserved c =
+    let i = (goal.at.loop-point-preserved c).In-Some in
     record {
-      squeezed =
-          ap (λ m. squeezed_below (m / 2 ^ (6 * c.loop-part.part) % 64) c.spread_part.result 6) (sym c.mask.ensures)
-          ∙ c.spread_part.ensures.squeezed
-          ∙ ap (λ d. c.loop-part.left % d) (divisor c.args.outside c.loop-part.part c.part_size-free.result (omega arith) size);
-      small = c.spread_part.ensures.small;
-      apart = rw c.mask.ensures at c.spread_part.ensures.apart;
-    } in
-    rw (shifted c.args.outside c.loop-part.part c.part_size-free.result (omega arith) size c.spread_part.result c.spread_part.ensures.small, size)
-    (spreading-next c.args.outside c.args.numbers c.loop-part.part c.loop-part.spread c.loop-part.left c.spread_part.result c.loop-part.invariant is)
+      split = split_after c.loop-point.yielded _ c.in-Some.point _ _ c.in-Some.ensures.steps c.loop-point.invariant.split;
+      passed = λ b count. rw (moved i) (next i b count);
+    }
+
+pub returns-clause-within : goal.returns-clause-within
+returns-clause-within c =
+    rw c.from_mask.ensures (ended c.args.outside c.args.numbers c.loop-point.spread c.loop-point.yielded (members c.loop-point.point-iterator)
+    c.requires.board c.loop-point.invariant.split c.in-None.ensures.steps.0 c.requires.fits c.loop-point.invariant.passed).within
+
+pub returns-clause-apart : goal.returns-clause-apart
+returns-clause-apart c =
+    rw c.from_mask.ensures (ended c.args.outside c.args.numbers c.loop-point.spread c.loop-point.yielded (members c.loop-point.point-iterator)
+    c.requires.board c.loop-point.invariant.split c.in-None.ensures.steps.0 c.requires.fits c.loop-point.invariant.passed).apart
 
 pub returns-clause-squeezed : goal.returns-clause-squeezed
 returns-clause-squeezed c =
-    let end : c.loop-part.part ≡ 4 = omega arith in
-    rw c.from_mask.ensures
-    (spread-end c.args.outside c.args.numbers c.loop-part.spread c.loop-part.left c.requires
-    (subst (λ k. IsSpreading c.args.outside c.args.numbers k c.loop-part.spread c.loop-part.left) end c.loop-part.invariant))
+    rw c.from_mask.ensures (ended c.args.outside c.args.numbers c.loop-point.spread c.loop-point.yielded (members c.loop-point.point-iterator)
+    c.requires.board c.loop-point.invariant.split c.in-None.ensures.steps.0 c.requires.fits c.loop-point.invariant.passed).squeezed

@@ -1,5 +1,6 @@
 -- The numbers of the points are found by their rank, and then the points that have them.
-use Rattle.std.proofs.Common.{◌≡◌, ℕ, ◌-◌, ◌<◌, ◌≤◌, refl, arith}
+use Rattle.std.proofs.Common.{◌≡◌, ℕ, ◌-◌, ◌^◌, ◌<◌, ◌≤◌, refl, arith}
+use Rattle.std.proofs.Math.Nat.{pow-le-pow_right}
 use Rattle.morris_index.specs.Binomials.{choose}
 use Rattle.morris_index.specs.Numbering.{number_outside, IsRanked}
 use Rattle.morris_index.proofs.BinomialTable.{choose_small}
@@ -49,9 +50,12 @@ found c = elim c.if-left-eq1.branch [
 ]
 
 pub spread-requires : goal.spread-requires
-spread-requires c =
-    listed-fits c.args.points (number_outside c.args.outside c.args.points) c.args.count c.args.rank c.if-left-eq1.numbers c.args.outside c.requires.board refl
-    (found (goal.at.spread-requires c).Joined-left-eq1)
+spread-requires c = record {
+  board = omega (arith, c.requires.within, pow-le-pow_right {n = 2} (omega arith) {i = c.args.points} {j = 24} c.requires.board);
+  fits =
+      listed-fits c.args.points (number_outside c.args.outside c.args.points) c.args.count c.args.rank c.if-left-eq1.numbers c.args.outside c.requires.board refl
+      (found (goal.at.spread-requires c).Joined-left-eq1);
+}
 
 pub returns : goal.returns
 returns c =

@@ -1,7 +1,7 @@
 use Rattle.std.proofs.Common.{◌≡◌, ◌<◌, ◌∙◌, length, slice_index, Ok, refl, arith, rules}
 use Rattle.morris_board.specs.Positions.{sides, made}
 use Rattle.morris_index.specs.EntryRows.{in_row, StandsIn}
-use Rattle.morris_index.proofs.EntryRowLaws.{numbers_fit, row_spread}
+use Rattle.morris_index.proofs.EntryRowLaws.{own_fits, numbers_fit, row_spread}
 use Rattle.morris_index.proofs.entry_rows.EntryRow.position.Given as given
 use Rattle.morris_index.proofs.entry_rows.EntryRow.position.Goals as goal
 use Rattle.morris_index.proofs.entry_rows.EntryRow.position.Goals.{After-new-arg-1}
@@ -20,8 +20,12 @@ pub spread-other-requires : goal.spread-other-requires
 spread-other-requires g c =
     let low : c.args.place < length c.self.inside.numbers.now = rw (← c.self.view_is) at c.requires in
     let read : c.from_mask.result ≡ slice_index c.self.inside.numbers.now c.args.place = search rules in
-    rw read (numbers_fit g.B.Geometry.shape g.B.Geometry.POINTS (omega (arith, g.met.B.Geometry.few)) g.met.B.Geometry.point_count g.met.B.Geometry.has_symmetries
-    (in_row c.self.inside.pair c.self.inside.first c.self.inside.own (length c.self.inside.numbers.now)) c.self.inside.numbers.now c.self.invariant c.args.place low)
+    record {
+      board = own_fits g.B.Geometry.shape g.B.Geometry.POINTS (omega (arith, g.met.B.Geometry.few)) g.met.B.Geometry.point_count g.met.B.Geometry.has_symmetries
+          (in_row c.self.inside.pair c.self.inside.first c.self.inside.own (length c.self.inside.numbers.now)) c.self.inside.numbers.now c.self.invariant;
+      fits = rw read (numbers_fit g.B.Geometry.shape g.B.Geometry.POINTS (omega (arith, g.met.B.Geometry.few)) g.met.B.Geometry.point_count g.met.B.Geometry.has_symmetries
+          (in_row c.self.inside.pair c.self.inside.first c.self.inside.own (length c.self.inside.numbers.now)) c.self.inside.numbers.now c.self.invariant c.args.place low);
+    }
 
 pub new-requires : goal.new-requires
 new-requires g c = (stands g (goal.at.new-requires g c).After-new-arg-1).inside.lawful.stones
