@@ -1,5 +1,5 @@
 -- How long the texts are at most that are printed, so that their bytes can be counted.
-use Rattle.std.proofs.Common.{◌≡◌, ℕ, ◌+◌, ◌*◌, ◌/◌, ◌%◌, ◌^◌, ◌<◌, ◌≤◌, Bool, true, false, List, [], ◌∷◌, ◌++◌, codes, drop, length, slice_index, arith, length-append, length-drop, subst, ap, if◌then◌else◌}
+use Rattle.std.proofs.Common.{◌≡◌, ℕ, ◌+◌, ◌*◌, ◌/◌, ◌%◌, ◌^◌, ◌<◌, ◌≤◌, Bool, true, false, List, [], ◌∷◌, ◌++◌, codes, drop, length, slice_index, Option, None, Some, arith, length-append, length-drop, subst, ap, if◌then◌else◌}
 use Rattle.std.specs.Prelude.{nat_eq, nat_lt}
 use Rattle.std.specs.List.{flat_map, range_with_len}
 use Rattle.std.specs.Fmt.{decimal}
@@ -7,7 +7,7 @@ use Rattle.std.proofs.lemmas.List.FromFn.{length-range_with_len}
 use Rattle.morris_board.proofs.LengthLaws.{by_test, decimal_few, flat_map_few}
 use Rattle.morris_index.specs.Pairs.{Counts, size_of}
 use Rattle.morris_probe.specs.Lines.{number_line}
-use Rattle.morris_jobs.specs.Counted.{csv_depth, csv_depths, csv_draw, csv_front, csv_half, csv_lesser, csv_text, depth_label, depth_line, depth_lines, stats_text}
+use Rattle.morris_jobs.specs.Counted.{csv_depths, csv_half, csv_lesser, csv_line, csv_text, depth_label, depth_line, depth_lines, stats_text}
 use Rattle.morris_jobs.specs.Verified.{verified_text}
 use Rattle.morris_jobs.specs.Faults.{fault_number, fault_text, fault_words, length_around, own_text, said, stones_text}
 use Rattle.morris_jobs.specs.declared.fault.Fault.{Fault}
@@ -47,41 +47,39 @@ stats_few n pair tallies few =
 
 -- ---- counts, as lines of fields
 
-csv_draw_few : (own other count : ℕ) → length (csv_draw own other count) ≤ 201
-csv_draw_few own other count =
-    by_test (nat_eq count 0) 201 [] (csv_front own other (codes ",draw,") ++ number_line (codes ",") count) (omega arith)
+csv_line_few : (own other : ℕ) (result : List ℕ) (depth : Option ℕ) (count : ℕ) → length (csv_line own other result depth count) ≤ 259 + length result
+csv_line_few own other result None count =
+    by_test (nat_eq count 0) (259 + length result) [] (decimal own ++ (44 ∷ decimal other) ++ result ++ [] ++ number_line (codes ",") count) (omega arith)
     (simp length-append (omega (arith, decimal_few own, decimal_few other, decimal_few count)))
-
-csv_depth_few : (own other : ℕ) (result : List ℕ) (depth count : ℕ) → length (csv_depth own other result depth count) ≤ 259 + length result
-csv_depth_few own other result depth count =
-    by_test (nat_eq count 0) (259 + length result) [] (csv_front own other result ++ decimal depth ++ number_line (codes ",") count) (omega arith)
-    (simp length-append (omega (arith, decimal_few own, decimal_few other, decimal_few depth, decimal_few count)))
+csv_line_few own other result (Some depth) count =
+    by_test (nat_eq count 0) (259 + length result) [] (decimal own ++ (44 ∷ decimal other) ++ result ++ decimal depth ++ number_line (codes ",") count)
+    (omega arith) (simp length-append (omega (arith, decimal_few own, decimal_few other, decimal_few depth, decimal_few count)))
 
 csv_depths_few : (own other : ℕ) (result : List ℕ) (odd : ℕ) (counts : List ℕ)
     → length (csv_depths own other result odd counts) ≤ (259 + length result) * length counts
 unfolding csv_depths
 csv_depths_few own other result odd counts =
-    let lines : ℕ → List ℕ = λ depth. if nat_eq (depth % 2) odd then csv_depth own other result depth (slice_index counts depth) else [] in
+    let lines : ℕ → List ℕ = λ depth. if nat_eq (depth % 2) odd then csv_line own other result (Some depth) (slice_index counts depth) else [] in
     subst (λ n. length (flat_map lines (range_with_len 0 (length counts))) ≤ (259 + length result) * n) (length-range_with_len 0 (length counts))
     (flat_map_few lines (259 + length result) (λ depth. by_test (nat_eq (depth % 2) odd) (259 + length result)
-    (csv_depth own other result depth (slice_index counts depth)) [] (csv_depth_few own other result depth (slice_index counts depth)) (omega arith))
+    (csv_line own other result (Some depth) (slice_index counts depth)) [] (csv_line_few own other result (Some depth) (slice_index counts depth)) (omega arith))
     (range_with_len 0 (length counts)))
 
-csv_half_few : (own other : ℕ) (tallies : List ℕ) → length (csv_half own other tallies) ≤ 201 + 600 * length tallies
+csv_half_few : (own other : ℕ) (tallies : List ℕ) → length (csv_half own other tallies) ≤ 265 + 600 * length tallies
 unfolding csv_half
 csv_half_few own other tallies =
     simp length-append
     (omega (
       arith,
-      csv_draw_few own other (slice_index tallies 0),
+      csv_line_few own other (codes ",draw,") None (slice_index tallies 0),
       csv_depths_few own other (codes ",won,") 1 (drop 1 tallies),
       csv_depths_few own other (codes ",lost,") 0 (drop 1 tallies),
       length-drop 1 tallies,
     ))
 
-csv_lesser_few : (pair : Counts) (tallies : List ℕ) → length (csv_lesser pair tallies) ≤ 201 + 600 * length tallies
+csv_lesser_few : (pair : Counts) (tallies : List ℕ) → length (csv_lesser pair tallies) ≤ 265 + 600 * length tallies
 csv_lesser_few pair tallies =
-    by_test (nat_eq pair.greater pair.lesser) (201 + 600 * length tallies) [] (csv_half pair.lesser pair.greater tallies) (omega arith)
+    by_test (nat_eq pair.greater pair.lesser) (265 + 600 * length tallies) [] (csv_half pair.lesser pair.greater tallies) (omega arith)
     (csv_half_few pair.lesser pair.greater tallies)
 
 pub csv_few : (pair : Counts) (lesser greater : List ℕ) → length lesser ≤ 2 ^ 16 → length greater ≤ 2 ^ 16 → length (csv_text pair lesser greater) < 2 ^ 63

@@ -1,7 +1,8 @@
 -- How many positions of a pair have each value, as it is printed: as lines of text, or as lines of
 -- fields with commas between them.
-use Rattle.std.specs.Prelude.{◌≡◌, ◌⊎◌, ℕ, ◌%◌, ◌<◌, Bool, true, false, List, [], ◌∷◌, ◌++◌, nat_eq, length, drop, slice_index, codes, Option, Result, Err, IfSome, if◌then◌else◌}
+use Rattle.std.specs.Prelude.{◌≡◌, ◌⊎◌, ℕ, ◌%◌, ◌<◌, Bool, true, false, List, [], ◌∷◌, ◌++◌, nat_eq, length, drop, slice_index, codes, None, Option, Result, Some, Err, IfSome, if◌then◌else◌}
 use Rattle.std.specs.List.{flat_map, range_with_len}
+use Rattle.std.specs.Option.{option_map_or}
 use Rattle.std.specs.Fmt.{decimal}
 use Rattle.std.specs.Io.KnownBytes.{Keeps}
 use Rattle.morris_board.specs.Boards.{Shape}
@@ -38,32 +39,24 @@ stats_text n pair tallies =
 
 -- ---- lines of fields
 
--- how many stones the player to move has and how many the opponent, with a comma (44) between them,
--- and a result
-abbrev pub csv_front : ℕ → ℕ → List ℕ → List ℕ
-csv_front own other result = decimal own ++ (44 ∷ decimal other) ++ result
-
--- `A,B,draw,,K` where K positions are draws, and nothing where none is
-abbrev pub csv_draw : ℕ → ℕ → ℕ → List ℕ
-csv_draw own other count =
-    if nat_eq count 0 then [] else csv_front own other (codes ",draw,") ++ number_line (codes ",") count
-
--- `A,B,won,D,K` or `A,B,lost,D,K` where K positions have the depth D, and nothing where none has it
-abbrev pub csv_depth : ℕ → ℕ → List ℕ → ℕ → ℕ → List ℕ
-csv_depth own other result depth count =
-    if nat_eq count 0 then [] else csv_front own other result ++ decimal depth ++ number_line (codes ",") count
+-- `A,B,won,D,K` or `A,B,lost,D,K` where K positions have the depth D, `A,B,draw,,K` where K are
+-- draws, and nothing where none is: A stones has the player to move, B the opponent (44 is a comma)
+abbrev pub csv_line : ℕ → ℕ → List ℕ → Option ℕ → ℕ → List ℕ
+csv_line own other result depth count =
+    if nat_eq count 0 then []
+    else decimal own ++ (44 ∷ decimal other) ++ result ++ option_map_or decimal depth [] ++ number_line (codes ",") count
 
 -- the lines of the depths 0, 1, .. that are even, or odd ones
 unfoldable pub csv_depths : ℕ → ℕ → List ℕ → ℕ → List ℕ → List ℕ
 csv_depths own other result odd counts =
-    flat_map (λ depth. if nat_eq (depth % 2) odd then csv_depth own other result depth (slice_index counts depth) else [])
+    flat_map (λ depth. if nat_eq (depth % 2) odd then csv_line own other result (Some depth) (slice_index counts depth) else [])
     (range_with_len 0 (length counts))
 
 -- the lines of the positions in which the player to move has so many stones: draws, then wins, then
 -- losses
 unfoldable pub csv_half : ℕ → ℕ → List ℕ → List ℕ
 csv_half own other tallies =
-    csv_draw own other (slice_index tallies 0) ++ csv_depths own other (codes ",won,") 1 (drop 1 tallies)
+    csv_line own other (codes ",draw,") None (slice_index tallies 0) ++ csv_depths own other (codes ",won,") 1 (drop 1 tallies)
     ++ csv_depths own other (codes ",lost,") 0 (drop 1 tallies)
 
 -- the lines of those with the lesser number of stones of the player to move, where it is another one

@@ -2,7 +2,7 @@
 #![tactic(auto, using(morris_board::proofs::PrinterLaws::takes_laws))]
 
 ghost use Rattle.std.specs.Prelude.{◌≡◌, ◌≤◌, length, drop, slice_index};
-ghost use Rattle.morris_jobs.specs.Counted.{csv_depth, csv_depths, csv_draw, csv_front, csv_half, csv_lesser, depth_label, depth_line, depth_lines, stats_text};
+ghost use Rattle.morris_jobs.specs.Counted.{csv_depths, csv_half, csv_lesser, csv_line, depth_label, depth_line, depth_lines, stats_text};
 ghost use Rattle.morris_board.specs.Printers.{Takes};
 
 use crate::counts::{Halves, Tallied};
@@ -116,7 +116,7 @@ fn put_half<S: Sink>(out: &mut Printer<'_, S>, own: u8, other: u8, tallies: &[u6
     ensures { Takes S.contents S.failures out.old out.new (csv_half own other tallies.now) }
 {
     let (draws, decided) = draws_and_decided(tallies);
-    put_csv_draw(out, own, other, draws);
+    put_csv_line(out, own, other, ",draw,", None, draws);
     put_csv_depths(out, own, other, ",won,", 1, decided);
     put_csv_depths(out, own, other, ",lost,", 0, decided);
 }
@@ -136,45 +136,32 @@ fn put_csv_depths<S: Sink>(
         if depth % 2 != odd {
             continue;
         }
-        put_csv_depth(out, own, other, field, depth as u64, *count);
+        put_csv_line(out, own, other, field, Some(depth as u64), *count);
     }
 }
 
-/// The line of how many positions have a depth, where there are any.
-fn put_csv_depth<S: Sink>(
+/// The line of how many positions have a result, in a depth or as draws, where there are any.
+fn put_csv_line<S: Sink>(
     out: &mut Printer<'_, S>,
     own: u8,
     other: u8,
     field: &str,
-    depth: u64,
+    depth: Option<u64>,
     count: u64,
 )
-    ensures { Takes S.contents S.failures out.old out.new (csv_depth own other field.now depth count) }
+    ensures { Takes S.contents S.failures out.old out.new (csv_line own other field.now depth count) }
 {
     if count == 0 {
         return;
     }
-    put_csv_front(out, own, other, field);
-    out.put_number(depth);
-    put_number_line(out, ",", count);
-}
-
-/// The line of how many positions are draws, where there are any.
-fn put_csv_draw<S: Sink>(out: &mut Printer<'_, S>, own: u8, other: u8, count: u64)
-    ensures { Takes S.contents S.failures out.old out.new (csv_draw own other count) }
-{
-    if count == 0 {
-        return;
-    }
-    put_csv_front(out, own, other, ",draw,");
-    put_number_line(out, ",", count);
-}
-
-/// The numbers of stones, and a result.
-fn put_csv_front<S: Sink>(out: &mut Printer<'_, S>, own: u8, other: u8, field: &str)
-    ensures { Takes S.contents S.failures out.old out.new (csv_front own other field.now) }
-{
     out.put_number(u64::from(own));
     put_signed(out, b',', other);
     out.put(field);
+    match depth {
+        Some(depth) => {
+            out.put_number(depth);
+            put_number_line(out, ",", count);
+        }
+        None => put_number_line(out, ",", count),
+    }
 }

@@ -1,22 +1,22 @@
-use Rattle.std.proofs.Common.{◌≡◌, ℕ, ◌%◌, List, [], ◌++◌, ◌∙◌, length, slice_index, refl, sym, ap, subst, arith, append-nil}
+use Rattle.std.proofs.Common.{◌≡◌, ℕ, ◌%◌, List, [], ◌++◌, ◌∙◌, Some, length, slice_index, refl, sym, ap, subst, arith, append-nil}
 use Rattle.std.specs.List.{flat_map, range_with_len}
 use Rattle.std.specs.Prelude.{nat_eq, if◌then◌else◌}
 use Rattle.std.proofs.lemmas.Bool.{eq-eqb, ne_eqb}
 use Rattle.morris_board.specs.Printers.{Takes}
 use Rattle.morris_board.proofs.PrinterLaws.{and_then_as}
-use Rattle.morris_jobs.specs.Counted.{csv_depth, csv_depths}
+use Rattle.morris_jobs.specs.Counted.{csv_depths, csv_line}
 use Rattle.morris_jobs.proofs.LineLaws.{one_more}
 use Rattle.morris_jobs.proofs.print_counts.put_csv_depths.Goals as goal
 
 -- the line of a depth that is even, or odd
 abbrev lines : ℕ → ℕ → List ℕ → ℕ → List ℕ → ℕ → List ℕ
 lines own other field odd counts depth =
-    if nat_eq (depth % 2) odd then csv_depth own other field depth (slice_index counts depth) else []
+    if nat_eq (depth % 2) odd then csv_line own other field (Some depth) (slice_index counts depth) else []
 
 pub loop-depth-preserved : goal.loop-depth-preserved
 loop-depth-preserved g c =
     let all : ℕ → List ℕ = lines c.args.own c.args.other c.args.field.now c.args.odd c.args.counts.now in
-    and_then_as (one_more all c.loop-depth.depth) c.loop-depth.invariant (rw (eq-eqb _ _ c.if-depth-odd.false) c.put_csv_depth.ensures)
+    and_then_as (one_more all c.loop-depth.depth) c.loop-depth.invariant (rw (eq-eqb _ _ c.if-depth-odd.false) c.put_csv_line.ensures)
 
 -- no line of another depth
 pub loop-depth-preserved-then-depth-odd : goal.loop-depth-preserved-then-depth-odd
