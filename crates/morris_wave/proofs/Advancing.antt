@@ -1,5 +1,5 @@
 -- From a complete wave to the next one, of which nothing is applied: only exits come due.
-use Rattle.std.proofs.Common.{◌≡◌, ℕ, zero, suc, Bool, true, false, not, ◌&&◌, ◌||◌, length, refl, sym, ap, ap₂, ◌∙◌, ⊎_elim}
+use Rattle.std.proofs.Common.{◌≡◌, ℕ, zero, suc, Bool, true, false, not, ◌&&◌, ◌||◌, length, refl, sym, ap, ap₂, ◌∙◌, ⊎_elim, arith}
 use Rattle.std.specs.List.{list_all, list_any}
 use Rattle.std.proofs.lemmas.Bool.{or_parts, cases_Bool, both_ways, cond-true, cond-false, false_from_ne_true}
 use Rattle.std.proofs.lemmas.List.Folds.{list_any_none}
@@ -14,8 +14,7 @@ use Rattle.morris_wave.proofs.ExitTests.{or_false}
 use Rattle.morris_wave.proofs.Known.{marked_code, decided_parts, open_same, decided_at_most, decided_at_least}
 
 later : (p q : Bool) → (p ≡ true → q ≡ true) → (p || (true && q)) ≡ q
-later true q h = sym (h refl)
-later false q h = refl
+later p q h = grind arith
 
 pub known_lost_all : (g : Net) (n j : ℕ) → known_lost g n every j ≡ is_lost g n j
 unfolding known_lost is_lost

@@ -2,6 +2,7 @@
 use Rattle.std.proofs.Common.{◌≡◌, ℕ, zero, suc, ◌+◌, Bool, true, false, not, ◌&&◌, ◌||◌, cond, eqb, ltb, refl, sym, ap, ap₂, ◌∙◌, ⊎_elim, arith}
 use Rattle.std.specs.List.{list_any, count_by}
 use Rattle.std.proofs.lemmas.Bool.{false≢true, true≢false, and_from, or_left, or_right, both_ways, eq-eqb, ne_eqb, cases_eq, true_from_ne_false, lt-ltb, and_right}
+use Rattle.std.proofs.lemmas.Bool.Decides.{nat_tests}
 use Rattle.morris_wave.specs.Nets.{Net}
 use Rattle.morris_wave.specs.Exits.{is_odd, exits_of, exits_lost, exits_won}
 use Rattle.morris_wave.specs.Values.{is_lost, is_won}
@@ -13,51 +14,21 @@ use Rattle.morris_wave.proofs.Known.{entry_step, decided_parts, open_same}
 -- `l` and `w`: lost and won before; `l'` and `w'`: lost and won a ply later; then a node is new
 -- where it is decided now and wasn't before
 new_is_lost : (l l' w w' : Bool) → (w ≡ true → w' ≡ true) → (l' ≡ true → w' ≡ true → ⊥) → (w' ≡ true → w ≡ true) → (not (l || w) && (l' || w')) ≡ (not l && l')
-new_is_lost true l' w w' more apart same = refl
-new_is_lost false true true w' more apart same = absurd (apart refl (more refl))
-new_is_lost false false true w' more apart same = refl
-new_is_lost false l' false true more apart same = absurd (false≢true (same refl))
-new_is_lost false true false false more apart same = refl
-new_is_lost false false false false more apart same = refl
+new_is_lost l l' w w' more apart same = grind arith
 
 new_is_won : (l l' w w' : Bool) → (l ≡ true → l' ≡ true) → (l' ≡ true → w' ≡ true → ⊥) → (l' ≡ true → l ≡ true) → (not (l || w) && (l' || w')) ≡ (not w && w')
-new_is_won true l' true w' more apart same = refl
-new_is_won true l' false true more apart same = absurd (apart (more refl) refl)
-new_is_won true l' false false more apart same = refl
-new_is_won false l' true w' more apart same = refl
-new_is_won false true false w' more apart same = absurd (false≢true (same refl))
-new_is_won false false false w' more apart same = refl
+new_is_won l l' w w' more apart same = grind arith
 
 -- one part more, `x`, beside what is applied, `a`
 joined : (l l' a x : Bool) → (l || ((a || x) && l')) ≡ ((l || (a && l')) || (x && (not l && l')))
-joined true l' a x = refl
-joined false true true x = refl
-joined false true false true = refl
-joined false true false false = refl
-joined false false true true = refl
-joined false false true false = refl
-joined false false false true = refl
-joined false false false false = refl
+joined l l' a x = grind arith
 
 unmoved : (w w' a x : Bool) → (w' ≡ true → w ≡ true) → (w || ((a || x) && w')) ≡ (w || (a && w'))
-unmoved true w' a x same = refl
-unmoved false true a x same = absurd (false≢true (same refl))
-unmoved false false true x same = refl
-unmoved false false false true same = refl
-unmoved false false false false same = refl
+unmoved w w' a x same = grind arith
 
 gone : (w w' a x : Bool) → (x ≡ true → a ≡ false)
     → cond {A = ℕ} (not (w || (a && w'))) 1 0 ≡ cond {A = ℕ} (not (w || ((a || x) && w'))) 1 0 + cond {A = ℕ} (x && (not w && w')) 1 0
-gone true w' a true apart = refl
-gone true w' a false apart = refl
-gone false true true true apart = absurd (true≢false (apart refl))
-gone false true true false apart = refl
-gone false true false true apart = refl
-gone false true false false apart = refl
-gone false false true true apart = refl
-gone false false true false apart = refl
-gone false false false true apart = refl
-gone false false false false apart = refl
+gone w w' a x apart = grind arith
 
 module _ (g : Net) (n j : ℕ) where
   -- at an odd code no node is newly won, at an even one none newly lost
@@ -107,37 +78,15 @@ module _ (g : Net) (a x : ℕ → Bool) (j : ℕ) where
       ∙ ap (λ f. cond {A = ℕ} (not (known_won g (suc n) (λ k. a k || x k) j)) 1 0 + cond {A = ℕ} (x j && f) 1 0) (sym (fresh_won g n j even))
 
 swap_ends : (l t s : Bool) → ((l || t) || s) ≡ ((l || s) || t)
-swap_ends true t s = refl
-swap_ends false true true = refl
-swap_ends false true false = refl
-swap_ends false false true = refl
-swap_ends false false false = refl
+swap_ends l t s = grind arith
 
 -- a node with no counter left is lost where its exits are won, and that is new where the counter
 -- fell
 closes : (l x zb za t w : Bool) → zb ≡ (za || (t && zb)) → (l || (x || (zb && w))) ≡ ((l || (x || (za && w))) || (t && (zb && w)))
-closes true x zb za t w h = refl
-closes false true zb za t w h = refl
-closes false false true true true true h = refl
-closes false false true true true false h = refl
-closes false false true true false true h = refl
-closes false false true true false false h = refl
-closes false false true false true true h = refl
-closes false false true false true false h = refl
-closes false false true false false w h = absurd (true≢false h)
-closes false false false true t w h = absurd (false≢true h)
-closes false false false false true w h = refl
-closes false false false false false w h = refl
+closes l x zb za t w h = grind arith
 
 counter_falls : (before after taken : ℕ) → before ≡ after + taken → eqb after 0 ≡ (eqb before 0 || (ltb 0 taken && eqb after 0))
-counter_falls before after taken e =
-    ⊎_elim
-    (λ z. ⊎_elim
-    (λ t. eq-eqb after 0 z ∙ sym (or_left (eqb before 0) (ltb 0 taken && eqb after 0) (eq-eqb before 0 (omega arith))))
-    (λ t. eq-eqb after 0 z ∙ sym (or_right (eqb before 0) (ltb 0 taken && eqb after 0) (and_from (ltb 0 taken) (eqb after 0) (lt-ltb 0 taken (omega arith)) (eq-eqb after 0 z))))
-    (cases_eq taken 0))
-    (λ z. ne_eqb after 0 z ∙ sym (ap₂ (λ p q. p || q) (ne_eqb before 0 (λ b. z (omega arith))) (ap (λ p. ltb 0 taken && p) (ne_eqb after 0 z) ∙ and_right (ltb 0 taken) false refl)))
-    (cases_eq after 0)
+counter_falls before after taken e = grind (arith, nat_tests)
 
 -- The fresh nodes of `x` are applied beside `a`; node i has `taken` places with them among its
 -- quiet results.

@@ -2,6 +2,7 @@
 use Rattle.std.proofs.Common.{◌≡◌, ℕ, suc, ◌+◌, ◌<◌, ◌&&◌, cond, eqb, List, [], ◌∷◌, ◌++◌, length, get_or, refl, sym, ap, ap₂, ◌∙◌, subst, ⊎_elim, arith}
 use Rattle.std.specs.List.{All, count_by, sum_by}
 use Rattle.std.proofs.lemmas.Bool.{cases_eq, cases_lt, eq-eqb, ne_eqb}
+use Rattle.std.proofs.lemmas.Bool.Decides.{nat_tests}
 use Rattle.std.proofs.lemmas.List.{length-map, length-append, map-append, get_or_at, get_or_append_left, get_or_push, length_push}
 use Rattle.std.proofs.lemmas.List.Sums.{sum_by-cons, sum_by-append}
 use Rattle.morris_wave.specs.Nets.{Net, IsNet, times}
@@ -16,11 +17,7 @@ use Rattle.morris_wave.proofs.Blocking.{first_of-le}
 use Rattle.morris_wave.proofs.Cutting.{block_is, is_in_block}
 
 eqb_comm : (a b : ℕ) → eqb a b ≡ eqb b a
-eqb_comm a b =
-    ⊎_elim
-    (λ e. eq-eqb a b e ∙ sym (eq-eqb b a (sym e)))
-    (λ e. ne_eqb a b e ∙ sym (ne_eqb b a (λ z. e (sym z))))
-    (cases_eq a b)
+eqb_comm a b = grind (arith, nat_tests)
 
 sum_same : (p q : ℕ → ℕ) (xs : List ℕ) → All (λ x. p x ≡ q x) xs → sum_by p xs ≡ sum_by q xs
 sum_same p q [] h = refl

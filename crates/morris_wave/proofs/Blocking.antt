@@ -3,6 +3,7 @@ use Rattle.std.proofs.Common.{◌≡◌, ℕ, ◌+◌, ◌-◌, ◌*◌, ◌<◌
 use Rattle.std.specs.List.{count_by, All}
 use Rattle.std.proofs.Math.Nat.{div-lt_iff_lt-mul, mul-le-mul_right}
 use Rattle.std.proofs.lemmas.Bool.{and_parts, or_left, or_right, eqb-true, eq-eqb, ne_eqb, ltb-true, lt-ltb, le-ltb, cases_eq, cases_lt}
+use Rattle.std.proofs.lemmas.Bool.Decides.{nat_tests}
 use Rattle.std.proofs.lemmas.List.{get_or-replicate, length-replicate}
 use Rattle.std.proofs.lemmas.List.Sums.{AllPass-from_list_all}
 use Rattle.morris_wave.specs.Nets.{Net, IsNet, times}
@@ -19,19 +20,7 @@ use Rattle.morris_wave.proofs.Stretches.{take_enough, take_few, due_enough, due_
 
 -- A node is from the end of a piece on or in the piece, exactly where it is from its beginning on.
 one_piece : (j low high : ℕ) → low ≤ high → (not (ltb j high) || is_from_to low high j) ≡ (eqb low 0 || not (ltb j low))
-one_piece j low high le =
-    ⊎_elim
-    (λ l. ap₂ (λ p q. not q || (not p && q)) (lt-ltb j low l) (lt-ltb j high (omega (arith, l, le)))
-    ∙ sym (ap₂ (λ z p. z || not p) (ne_eqb low 0 (λ e. omega (arith, l, e))) (lt-ltb j low l)))
-    (λ l. from l ∙ sym (or_right (eqb low 0) (not (ltb j low)) (ap not (le-ltb j low l))))
-    (cases_lt j low)
-  where
-    from : low ≤ j → (not (ltb j high) || is_from_to low high j) ≡ true
-    from l =
-        ⊎_elim
-        (λ m. ap₂ (λ p q. not q || (not p && q)) (le-ltb j low l) (lt-ltb j high m))
-        (λ m. or_left (not (ltb j high)) (is_from_to low high j) (ap not (le-ltb j high m)))
-        (cases_lt j high)
+one_piece j low high le = grind (arith, nat_tests)
 
 -- a node of the graph is in a block of the cut
 pub block_of-lt : (c : Parts) → IsCut c → (j : ℕ) → j < c.size → block_of c j < c.blocks

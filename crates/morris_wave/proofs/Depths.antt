@@ -3,6 +3,7 @@
 use Rattle.std.proofs.Common.{◌≡◌, ◌≢◌, ℕ, zero, suc, ◌+◌, ◌-◌, ◌<◌, ◌≤◌, ◌%◌, Bool, true, false, not, cond, ltb, leb, List, [], ◌∷◌, refl, sym, ap, ◌∙◌, subst, ⊎_elim, arith, add-suc, add-zero}
 use Rattle.std.specs.List.{list_all, list_any}
 use Rattle.std.proofs.lemmas.Bool.{false≢true, and_parts, and_from, or_cases, or_left, or_right, or_parts, cases_Bool, and_cases, both_ways, cond-true, cond-false, leb-true, leb-false, le-leb, eqb-true, eqb-false, eq-eqb, ne_eqb, false_from_ne_true, not-true}
+use Rattle.std.proofs.lemmas.Bool.Decides.{nat_tests}
 use Rattle.morris_wave.specs.Nets.{Net}
 use Rattle.morris_wave.specs.Exits.{is_odd, is_won_code}
 use Rattle.morris_wave.specs.Values.{is_lost, is_won, is_decided, some_lost, all_won, is_lost_exit, is_won_exit, HasDepth, HasCode, code_within}
@@ -28,13 +29,7 @@ exits_apart n c h k =
 
 -- the next number is odd where this one is even
 pub is_odd-suc : (n : ℕ) → is_odd (suc n) ≡ not (is_odd n)
-is_odd-suc n =
-    ⊎_elim
-    (λ e. let a : n % 2 ≡ 1 = eqb-true (n % 2) 1 e in
-    ne_eqb (suc n % 2) 1 (λ z. omega arith) ∙ sym (ap not e))
-    (λ e. let a : n % 2 ≢ 1 = eqb-false (n % 2) 1 e in
-    eq-eqb (suc n % 2) 1 (omega arith) ∙ sym (ap not e))
-    (cases_Bool (is_odd n))
+is_odd-suc n = grind (arith, nat_tests)
 
 -- a test of both kinds of result gives more where its two parts do
 module _ (g : Net) (i n : ℕ) where

@@ -2,39 +2,21 @@
 use Rattle.std.proofs.Common.{inl, inr, ◌≡◌, ℕ, zero, suc, ◌-◌, ◌<◌, ◌≤◌, min, max, Bool, true, false, not, ◌&&◌, ◌||◌, cond, eqb, ltb, leb, List, [], ◌∷◌, Option, Some, None, is_none, map, refl, sym, ap, ◌∙◌, ⊎_elim, ◌⊎◌, arith}
 use Rattle.std.specs.List.{list_all, list_any, filter}
 use Rattle.std.proofs.lemmas.Bool.{false≢true, and_from, or_left, or_right, or_from, cases_Bool, and_left, and_right, le-leb, lt-leb, eq-eqb, ne_eqb, cases_lt, lt-ltb, le-ltb}
+use Rattle.std.proofs.lemmas.Bool.Decides.{nat_tests}
 use Rattle.morris_wave.specs.Exits.{is_odd, is_won_code, least, greatest, depths, exits_of, some_below, none_from, exits_lost, exits_won}
 use Rattle.morris_wave.specs.Values.{is_lost_exit, is_won_exit}
 
 ltb-min : (n x y : ℕ) → ltb (min x y) n ≡ (ltb x n || ltb y n)
-ltb-min n x y =
-    ⊎_elim
-    (λ a. lt-ltb (min x y) n (omega arith) ∙ sym (or_left (ltb x n) (ltb y n) (lt-ltb x n a)))
-    (λ a. ⊎_elim
-    (λ b. lt-ltb (min x y) n (omega arith) ∙ sym (or_right (ltb x n) (ltb y n) (lt-ltb y n b)))
-    (λ b. le-ltb (min x y) n (omega arith) ∙ sym (or_from (ltb x n) (ltb y n) (le-ltb x n a) (le-ltb y n b)))
-    (cases_below y))
-    (cases_below x)
-  where
-    cases_below : (z : ℕ) → (z < n) ⊎ (n ≤ z)
-    cases_below z = cases_lt z n
+ltb-min n x y = grind (arith, nat_tests)
 
 ltb-max : (n x y : ℕ) → ltb (max x y) n ≡ (ltb x n && ltb y n)
-ltb-max n x y =
-    ⊎_elim
-    (λ a. ⊎_elim
-    (λ b. lt-ltb (max x y) n (omega arith) ∙ sym (and_from (ltb x n) (ltb y n) (lt-ltb x n a) (lt-ltb y n b)))
-    (λ b. le-ltb (max x y) n (omega arith) ∙ sym (and_right (ltb x n) (ltb y n) (le-ltb y n b)))
-    (cases_lt y n))
-    (λ a. le-ltb (max x y) n (omega arith) ∙ sym (and_left (ltb x n) (ltb y n) (le-ltb x n a)))
-    (cases_lt x n)
+ltb-max n x y = grind (arith, nat_tests)
 
 pub or_false : (b : Bool) → b ≡ (b || false)
-or_false true = refl
-or_false false = refl
+or_false b = grind arith
 
 pub and_true : (b : Bool) → b ≡ (b && true)
-and_true true = refl
-and_true false = refl
+and_true b = grind arith
 
 some_below-least : (n x : ℕ) (xs : List ℕ) → some_below n (least (x ∷ xs)) ≡ (ltb x n || some_below n (least xs))
 some_below-least n x xs = at (least xs)
@@ -58,11 +40,7 @@ depths_no p c cs e = ap (λ b. map (λ x. x - 1) (cond b (c ∷ filter p cs) (fi
 
 -- a code above 0 is at most n where its depth is below n
 leb-pred : (c n : ℕ) → 0 < c → leb c n ≡ ltb (c - 1) n
-leb-pred c n pos =
-    ⊎_elim
-    (λ a. le-leb c n (omega arith) ∙ sym (lt-ltb (c - 1) n a))
-    (λ a. lt-leb c n (omega arith) ∙ sym (le-ltb (c - 1) n a))
-    (cases_lt (c - 1) n)
+leb-pred c n pos = grind (arith, nat_tests)
 
 pub odd_above : (c : ℕ) → is_odd c ≡ true → 0 < c
 odd_above zero e = absurd (false≢true e)
@@ -76,10 +54,7 @@ some_exit_lost n (c ∷ cs) = elim (cases_Bool (is_odd c)) [
 ]
 
 shuffle : (a n d w : Bool) → (a && (n && (d && w))) ≡ (n && (d && (a && w)))
-shuffle true n d w = refl
-shuffle false true true w = refl
-shuffle false true false w = refl
-shuffle false false d w = refl
+shuffle a n d w = grind arith
 
 pub each_exit_won : (n : ℕ) (cs : List ℕ) → list_all (is_won_exit n) cs ≡ exits_won n (exits_of cs)
 each_exit_won n [] = refl

@@ -2,6 +2,7 @@
 use Rattle.std.proofs.Common.{◌≡◌, ℕ, suc, ◌+◌, ◌-◌, min, max, Bool, true, false, not, ◌&&◌, ◌||◌, cond, eqb, ltb, List, [], ◌∷◌, Option, Some, None, is_none, refl, sym, ap, ap₂, ◌∙◌, subst, ⊎_elim, arith}
 use Rattle.std.specs.List.{list_all}
 use Rattle.std.proofs.lemmas.Bool.{and_parts, and_from, or_left, or_right, cases_Bool, eq-eqb, eqb-true, ne_eqb, cases_eq, cases_lt, lt-ltb, le-ltb, ltb-true, not-true, not-false, and_left, and_right}
+use Rattle.std.proofs.lemmas.Bool.Decides.{nat_tests}
 use Rattle.morris_wave.specs.declared.network.Exits.{Exits}
 use Rattle.morris_wave.specs.Nets.{Net}
 use Rattle.morris_wave.specs.Exits.{is_odd, is_won_code, least, greatest, depths, exits_of, exits_lost, exits_won, some_below, none_from, due_of}
@@ -11,14 +12,7 @@ use Rattle.morris_wave.proofs.ExitTests.{or_false, odd_above, depths_yes, depths
 
 -- the wave at which exits come due, and whether one of them is lost, by parts
 ltb-suc : (d n : ℕ) → ltb d (suc n) ≡ (ltb d n || eqb (d + 1) (suc n))
-ltb-suc d n =
-    ⊎_elim
-    (λ h. lt-ltb d (suc n) (omega arith) ∙ sym (or_left (ltb d n) (eqb (d + 1) (suc n)) (lt-ltb d n h)))
-    (λ h. ⊎_elim
-    (λ e. lt-ltb d (suc n) (omega arith) ∙ sym (or_right (ltb d n) (eqb (d + 1) (suc n)) (eq-eqb (d + 1) (suc n) (omega arith))))
-    (λ e. le-ltb d (suc n) (omega arith) ∙ sym (ap₂ (λ a b. a || b) (le-ltb d n h) (ne_eqb (d + 1) (suc n) (λ z. e (omega arith)))))
-    (cases_eq d n))
-    (cases_lt d n)
+ltb-suc d n = grind (arith, nat_tests)
 
 lost_at : (n : ℕ) (o w : Option ℕ) (d : Bool)
     → some_below (suc n) o ≡ (some_below n o || (not (is_none o) && eqb (elim o [ None ↦ cond d 0 (due_of w) | Some depth ↦ depth + 1 ]) (suc n)))
@@ -131,8 +125,7 @@ module _ (n : ℕ) (cs : List ℕ) where
       (cases_Bool (eqb (due_wave (exits_of cs)) (suc n)))
     where
       twice : (t : Bool) → t ≡ not (not t)
-      twice true = refl
-      twice false = refl
+      twice t = grind arith
 
   pub odd_lost : is_odd (suc n) ≡ true → exits_lost (suc n) (exits_of cs) ≡ (exits_lost n (exits_of cs) || eqb (due_wave (exits_of cs)) (suc n))
   odd_lost odd = exits_lost_due n (exits_of cs) ∙ ap (λ t. exits_lost n (exits_of cs) || t) (kind true odd)
@@ -151,12 +144,7 @@ module _ (n : ℕ) (cs : List ℕ) where
 
 -- a node that waits for nothing is one that is lost, and no other
 zero_parts : (c : ℕ) (w : Bool) → eqb (c + cond {A = ℕ} w 0 1) 0 ≡ (eqb c 0 && w)
-zero_parts c true =
-    ⊎_elim
-    (λ e. eq-eqb (c + 0) 0 (omega arith) ∙ sym (and_from (eqb c 0) true (eq-eqb c 0 e) refl))
-    (λ e. ne_eqb (c + 0) 0 (λ z. e (omega arith)) ∙ sym (and_left (eqb c 0) true (ne_eqb c 0 e)))
-    (cases_eq c 0)
-zero_parts c false = ne_eqb (c + 1) 0 (λ z. omega arith) ∙ sym (and_right (eqb c 0) false refl)
+zero_parts c w = grind (arith, nat_tests)
 
 pub pending_zero : (g : Net) (n : ℕ) (a : ℕ → Bool) (i : ℕ) → eqb (pending_at g n a i) 0 ≡ (eqb (open_at g n a i) 0 && exits_won n (exits_of (g.exits i)))
 pending_zero g n a i = zero_parts (open_at g n a i) (exits_won n (exits_of (g.exits i)))

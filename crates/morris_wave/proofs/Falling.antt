@@ -1,6 +1,7 @@
 -- Counters of 16 bits that fall, and the nodes that are spent.
 use Rattle.std.proofs.Common.{◌≡◌, ℕ, ◌+◌, ◌-◌, ◌%◌, ◌<◌, ◌≤◌, Bool, true, false, ◌&&◌, ◌||◌, cond, eqb, List, length, get_or, set, take, refl, sym, ap, ap₂, ◌∙◌, subst, ⊎_elim, arith, get_or-set_other, get_or-set_same, length-set}
 use Rattle.std.proofs.lemmas.Bool.{and_left, and_right, cond-true, cond-false, eq-eqb, ne_eqb, cases_eq, cases_lt, le-ltb}
+use Rattle.std.proofs.lemmas.Bool.Decides.{nat_tests}
 use Rattle.std.proofs.lemmas.List.Sums.{sum_by-take-le}
 use Rattle.morris_wave.specs.Nets.{times}
 use Rattle.morris_wave.specs.Solving.{Marks, among}
@@ -87,13 +88,10 @@ module _ (e : ℕ → ℕ) (nodes : List ℕ) (i node place : ℕ) (inside : i <
       (cases_eq place k)) a b
     where
       or_true : (p q : Bool) → ((p || true) && q) ≡ q
-      or_true true q = refl
-      or_true false q = refl
+      or_true p q = grind arith
 
       or_false_and : (p q : Bool) → ((p || false) && q) ≡ ((p && q) || false)
-      or_false_and true true = refl
-      or_false_and true false = refl
-      or_false_and false q = refl
+      or_false_and p q = grind arith
 
 -- one counter more that is small
 pub small_set : (counters : List ℕ) (place now : ℕ) → ((k : ℕ) → k < length counters → get_or counters k 0 < 65536) → now < 65536
@@ -107,11 +105,7 @@ small_set counters place now small fits k l =
 
 -- the place of a node of a block
 pub node_place : (first node : ℕ) → first ≤ node → (k : ℕ) → eqb (node - first) k ≡ eqb node (first + k)
-node_place first node from k =
-    ⊎_elim
-    (λ e. eq-eqb (node - first) k e ∙ sym (eq-eqb node (first + k) (omega arith)))
-    (λ e. ne_eqb (node - first) k e ∙ sym (ne_eqb node (first + k) (λ z. e (omega arith))))
-    (cases_eq (node - first) k)
+node_place first node from k = grind (arith, nat_tests)
 
 -- one node more that is marked whatever its counter
 pub marked_more : (nodes : List ℕ) (i node : ℕ) → i < length nodes → node ≡ get_or nodes i 0 → (first place : ℕ) → ((k : ℕ) → eqb place k ≡ eqb node (first + k))

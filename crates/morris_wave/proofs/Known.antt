@@ -3,6 +3,7 @@
 use Rattle.std.proofs.Common.{◌↔◌, ◌≡◌, ℕ, zero, suc, ◌<◌, Bool, true, false, not, ◌&&◌, ◌||◌, cond, eqb, refl, sym, ap, ap₂, ◌∙◌, subst, ⊎_elim, arith}
 use Rattle.std.specs.List.{list_any, All}
 use Rattle.std.proofs.lemmas.Bool.{false≢true, and_parts, or_cases, or_left, or_right, cases_Bool, both_ways, and_left, cond-true, cond-false, ne_eqb, false_from_ne_true}
+use Rattle.std.proofs.lemmas.Bool.Decides.{nat_tests}
 use Rattle.morris_wave.specs.Nets.{Net}
 use Rattle.morris_wave.specs.Exits.{exits_of, exits_lost, exits_won}
 use Rattle.morris_wave.specs.Values.{is_lost, is_won, is_decided, code_within, HasCode}
@@ -58,7 +59,7 @@ entry_new g n a b i h k =
     code_new g n i before (decided_at_most g n b i k)
 
 pub marked_code : (old code : ℕ) (test : Bool) → 0 < old → marked old test code ≡ old
-marked_code old code test h = cond-false {A = ℕ} (eqb old 0 && test) code old (and_left (eqb old 0) test (ne_eqb old 0 (λ e. omega arith)))
+marked_code old code test h = grind (arith, nat_tests)
 
 -- one part more is applied: an entry changes exactly where the test holds
 pub entry_step : (g : Net) (n : ℕ) (a b : ℕ → Bool) (i : ℕ) (test : Bool) → is_decided_at g n b i ≡ (is_decided_at g n a i || test) → entry_at g n b i ≡ marked (entry_at g n a i) test (suc n)
@@ -97,18 +98,7 @@ entry_open g n a i = (
 )
 
 regroup : (w e l x : Bool) → ((w && e) || (l || x)) ≡ (l || (x || (w && e)))
-regroup true true true x = refl
-regroup true true false true = refl
-regroup true true false false = refl
-regroup true false l x = or_end l x
-  where
-    or_end : (l x : Bool) → (l || x) ≡ (l || (x || false))
-    or_end true x = refl
-    or_end false true = refl
-    or_end false false = refl
-regroup false e true x = refl
-regroup false e false true = refl
-regroup false e false false = refl
+regroup w e l x = grind arith
 
 -- a node is decided by a quiet result that is lost, or by its exits
 pub decided_parts : (g : Net) (n : ℕ) (a : ℕ → Bool) (i : ℕ)

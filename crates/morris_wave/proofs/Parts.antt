@@ -26,21 +26,10 @@ known_lost_cong g (suc n) a b j e = ap (λ t. is_lost g n j || (t && is_lost g (
 
 -- a part that has each fresh node is as good as every part
 covers : (l w l' w' a : Bool) → (l ≡ true → l' ≡ true) → (l' ≡ true → w' ≡ true → ⊥) → ((not (l || w) && (l' || w')) ≡ true → a ≡ true) → (w || (a && w')) ≡ (w || (true && w'))
-covers l true l' w' a more apart has = refl
-covers l false l' false true more apart has = refl
-covers l false l' false false more apart has = refl
-covers l false l' true true more apart has = refl
-covers true false l' true false more apart has = absurd (apart (more refl) refl)
-covers false false true true false more apart has = absurd (false≢true (has refl))
-covers false false false true false more apart has = absurd (false≢true (has refl))
+covers l w l' w' a more apart has = grind arith
 
 covers_lost : (l w l' w' a : Bool) → (w ≡ true → w' ≡ true) → (l' ≡ true → w' ≡ true → ⊥) → ((not (l || w) && (l' || w')) ≡ true → a ≡ true) → (l || (a && l')) ≡ (l || (true && l'))
-covers_lost true w l' w' a more apart has = refl
-covers_lost false w false w' true more apart has = refl
-covers_lost false w false w' false more apart has = refl
-covers_lost false w true w' true more apart has = refl
-covers_lost false true true w' false more apart has = absurd (apart refl (more refl))
-covers_lost false false true w' false more apart has = absurd (false≢true (has refl))
+covers_lost l w l' w' a more apart has = grind arith
 
 pub known_won_covered : (g : Net) (n : ℕ) (a : ℕ → Bool) (j : ℕ) → (is_fresh g n j ≡ true → a j ≡ true) → known_won g n a j ≡ known_won g n every j
 unfolding known_won is_fresh

@@ -2,6 +2,7 @@
 use Rattle.std.proofs.Common.{◌≡◌, ◌≢◌, ℕ, zero, suc, ◌+◌, ◌-◌, ◌<◌, ◌≤◌, Bool, true, false, not, ◌&&◌, cond, eqb, ltb, List, [], ◌∷◌, ◌++◌, length, get_or, set, take, drop, refl, sym, ap, ap₂, ◌∙◌, subst, ⊎_elim, arith, ◌↔◌, replicate, length-take, length-drop, length-append, length-set, get_or-set_same, get_or-set_other}
 use Rattle.std.specs.List.{All, count_by, list_any}
 use Rattle.std.proofs.lemmas.Bool.{cases_eq, cases_lt, cases_Bool, cond-true, cond-false, eq-eqb, ne_eqb, eqb-true, lt-ltb, le-ltb, false_from_ne_true, both_ways, and_parts, and_from, ltb-true, false≢true}
+use Rattle.std.proofs.lemmas.Bool.Decides.{nat_tests}
 use Rattle.std.proofs.lemmas.List.{take_more, get_or_append_left, get_or_push, get_or_default, get_or-take, get_or-drop, drop-take, get_or-replicate, length-replicate}
 use Rattle.std.proofs.lemmas.List.Sums.{get_or-le-sum_by, sum_by-append, sum_by-take-drop}
 use Rattle.std.proofs.lemmas.List.Folds.{Any-from_list_any, list_any_at}
@@ -302,15 +303,7 @@ three_kinds (c ∷ cs) =
     omega (arith, e, f, h, three_kinds cs, one_kind c)
   where
     one_kind : (x : ℕ) → cond {A = ℕ} (is_won_code x) 1 0 + cond {A = ℕ} (is_odd x) 1 0 + cond {A = ℕ} (eqb x 0) 1 0 ≡ 1
-    one_kind zero = refl
-    one_kind (suc x) =
-        ap₂ (λ a z. cond {A = ℕ} (not (is_odd (suc x)) && a) 1 0 + cond {A = ℕ} (is_odd (suc x)) 1 0 + cond {A = ℕ} z 1 0)
-        (lt-ltb 0 (suc x) (omega arith)) (ne_eqb (suc x) 0 (λ z. omega arith))
-        ∙ at (is_odd (suc x))
-      where
-        at : (t : Bool) → cond {A = ℕ} (not t && true) 1 0 + cond {A = ℕ} t 1 0 + 0 ≡ 1
-        at true = refl
-        at false = refl
+    one_kind x = grind (arith, nat_tests)
 
 -- while an entry is open not all nodes are listed
 pub room_left : (codes : List ℕ) (place : ℕ) → place < length codes → get_or codes place 0 ≡ 0 → count_by is_won_code codes + count_by is_odd codes < length codes

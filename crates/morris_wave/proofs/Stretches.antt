@@ -3,6 +3,7 @@ use Rattle.std.proofs.Common.{◌≡◌, ℕ, suc, ◌+◌, ◌-◌, ◌%◌, �
 use Rattle.std.specs.List.{count_by, list_any}
 use Rattle.std.specs.List.Sorted.{IsNonDecreasingBy}
 use Rattle.std.proofs.lemmas.Bool.{and_from, both_ways, not_from_false, cases_Bool, cases_lt, cond-true, cond-false, ne_eqb, lt-ltb, le-ltb, ltb-true}
+use Rattle.std.proofs.lemmas.Bool.Decides.{nat_tests}
 use Rattle.std.proofs.lemmas.List.Folds.{list_any_at}
 use Rattle.std.proofs.lemmas.List.Sums.{count_by-le-length}
 use Rattle.morris_wave.specs.Nets.{Net, IsNet, times}
@@ -34,13 +35,7 @@ few_pending : (g : Net) (n : ℕ) (a : ℕ → Bool) (i : ℕ) → length (g.qui
 few_pending g n a i few = omega (arith, few, count_by-le-length (λ j. not (known_won g n a j)) (g.quiet i), waits-le n (exits_won n (exits_of (g.exits i))))
 
 due_same : (wave n : ℕ) → n ≤ 65534 → 0 < n → eqb (due_within wave) n ≡ eqb wave n
-due_same wave n le pos =
-    ⊎_elim
-    (λ (l : wave < 65535). ap (λ x. eqb x n) (cond-true {A = ℕ} (ltb wave 65535) wave 0 (lt-ltb wave 65535 l)))
-    (λ (l : 65535 ≤ wave).
-    ap (λ x. eqb x n) (cond-false {A = ℕ} (ltb wave 65535) wave 0 (le-ltb wave 65535 l))
-    ∙ (ne_eqb 0 n (λ z. omega (arith, z, pos)) ∙ sym (ne_eqb wave n (λ z. omega (arith, z, l, le)))))
-    (cases_lt wave 65535)
+due_same wave n le pos = grind (arith, nat_tests)
 
 module _ {g : Net} (law : IsNet g) {n : ℕ} {a : ℕ → Bool} {first : ℕ} {codes counters : List ℕ} {due : List (List ℕ)} {last_due : ℕ} (h : StretchHolds g n a first codes counters due last_due) where
   pub due_by : (i : ℕ) → first ≤ i → i < first + length codes → last_due_of (exits_of (g.exits i)) ≤ last_due
@@ -201,8 +196,7 @@ module _ {g : Net} (law : IsNet g) {n first : ℕ} {codes counters : List ℕ} {
       ∙ (ap (ltb 0) (often_due k l) ∙ some_if (eqb (due_wave (exits_of (g.exits (first + k)))) (suc n)))
     where
       some_if : (t : Bool) → ltb 0 (cond {A = ℕ} t 1 0) ≡ t
-      some_if true = lt-ltb 0 1 (omega arith)
-      some_if false = le-ltb 0 0 (omega arith)
+      some_if t = grind (arith, nat_tests)
 
   -- no counter falls more often than it may as exits come due
   due_once : (k : ℕ) → k < length codes → times (first + k) (list_at due (n + 1)) ≤ 1

@@ -6,8 +6,7 @@ use Rattle.std.proofs.lemmas.List.Sums.{sum_by-cons}
 use Rattle.std.proofs.lemmas.List.Elements.{All-head, All-tail}
 
 pub at_most_one : (t : Bool) → cond {A = ℕ} t 1 0 ≤ 1
-at_most_one true = omega arith
-at_most_one false = omega arith
+at_most_one t = grind arith
 
 module _ {X : Type 0} (p q : X → Bool) where
   pub all_mono : ((x : X) → p x ≡ true → q x ≡ true) → (xs : List X) → list_all p xs ≡ true → list_all q xs ≡ true
@@ -120,7 +119,4 @@ module _ {X : Type 0} (p q r : X → Bool) where
   any_or (x ∷ xs) h = ap₂ (λ a b. a || b) (h x) (any_or xs h) ∙ shuffle (q x) (r x) (list_any q xs) (list_any r xs)
     where
       shuffle : (a b c d : Bool) → ((a || b) || (c || d)) ≡ ((a || c) || (b || d))
-      shuffle true b c d = refl
-      shuffle false true true d = refl
-      shuffle false true false d = refl
-      shuffle false false c d = refl
+      shuffle a b c d = grind arith

@@ -1,20 +1,17 @@
 -- Counters of 8 and of 16 bits.
 use Rattle.std.proofs.Common.{◌≡◌, ℕ, ◌<◌, ◌≤◌, eqb, get_or, refl, ⊎_elim, arith}
 use Rattle.std.proofs.lemmas.Bool.{cases_eq, cond-true, cond-false, eq-eqb, ne_eqb}
+use Rattle.std.proofs.lemmas.Bool.Decides.{nat_tests}
 use Rattle.morris_wave.specs.Keeping.{left_of}
 use Rattle.morris_wave.specs.Counts.{FallsLike, left_of_byte, left_at, counts_of, most_of}
 use Rattle.morris_wave.specs.declared.counters.Counters.{Counters}
 use Rattle.morris_wave.specs.declared.counters.Counters.TheVariants.{Bytes, Words}
 
 byte_less : (count : ℕ) → left_of_byte count ≤ left_of count
-byte_less count =
-    ⊎_elim
-    (λ e. omega (arith, cond-true {A = ℕ} (eqb count 0) 0 (left_of count) (eq-eqb count 0 e)))
-    (λ e. omega (arith, cond-false {A = ℕ} (eqb count 0) 0 (left_of count) (ne_eqb count 0 e)))
-    (cases_eq count 0)
+byte_less count = grind (arith, nat_tests)
 
 byte_same : (count : ℕ) → 0 < count → left_of_byte count ≡ left_of count
-byte_same count some = cond-false {A = ℕ} (eqb count 0) 0 (left_of count) (ne_eqb count 0 (λ z. omega (arith, z, some)))
+byte_same count some = grind (arith, nat_tests)
 
 pub bytes_fall : FallsLike left_of_byte
 bytes_fall = record { less = byte_less; same = byte_same }
