@@ -6,7 +6,7 @@ use Rattle.std.proofs.lemmas.List.Sums.{sum_by_push}
 use Rattle.std.proofs.lemmas.List.Elements.{All-push, All-nil}
 use Rattle.morris_wave.specs.Nets.{times}
 use Rattle.morris_wave.specs.Blocks.{Parts, IsIn, block_of}
-use Rattle.std.proofs.lemmas.List.{map-set, get_or-map}
+use Rattle.std.proofs.lemmas.List.{map-append, map-set, get_or-map}
 use Rattle.morris_wave.specs.Lists.{contents, list_at}
 use Rattle.morris_wave.specs.Scattering.{AreSorted, Deals}
 use Rattle.morris_wave.proofs.Marking.{times_more}
@@ -41,11 +41,18 @@ module _ (c : Parts) (nodes : List ℕ) (k node : ℕ) (inside : k < length node
       omega (arith, ap (times i) other, none, times_more nodes k node inside is i, deals i l))
       (cases_eq (block_of c node) (block_of c i))
 
-pub empty_push : (lists : List (List ℕ)) → ((t : ℕ) → list_at lists t ≡ []) → (t : ℕ) → list_at (lists ++ [] ∷ []) t ≡ []
+empty_push : (lists : List (List ℕ)) → ((t : ℕ) → list_at lists t ≡ []) → (t : ℕ) → list_at (lists ++ [] ∷ []) t ≡ []
 empty_push [] h zero = refl
 empty_push [] h (suc t) = refl
 empty_push (xs ∷ lists) h zero = h 0
 empty_push (xs ∷ lists) h (suc t) = empty_push lists (λ k. h (suc k)) t
+
+pub empty_more : {A : Type 0} (items : A → List ℕ) (lists new : List A) (list : A) → new ≡ lists ++ list ∷ [] → items list ≡ []
+    → ((t : ℕ) → list_at (contents items lists) t ≡ []) → (t : ℕ) → list_at (contents items new) t ≡ []
+empty_more items lists new list pushed none h t =
+    ap (λ ls. list_at (contents items ls) t) pushed
+    ∙ (ap (λ ls. list_at ls t) (map-append items lists (list ∷ []) ∙ ap (λ x. contents items lists ++ x ∷ []) none)
+    ∙ empty_push (contents items lists) h t)
 
 pub none_sorted : (c : Parts) (lists : List (List ℕ)) → ((t : ℕ) → list_at lists t ≡ []) → AreSorted c lists
 none_sorted c lists h t l = subst (λ xs. All (IsIn c t) xs) (sym (h t)) (All-nil (IsIn c t))

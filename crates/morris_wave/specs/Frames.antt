@@ -10,7 +10,7 @@ use Rattle.morris_wave.specs.declared.stretch.Stretch.{Stretch}
 -- As entries get their codes at a wave, the nodes stay, and so do the wave and the nodes that were
 -- decided before it.
 pub record SameFrame {L : Type 0} {kind : Ghosts L} (old new : Listed L kind) : Type 0 where
-  pub len : length new.entries.codes ≡ length old.entries.codes
+  pub len : length new.codes ≡ length old.codes
   pub first : new.first ≡ old.first
   pub wave : new.wave ≡ old.wave
   pub before : new.before ≡ old.before
@@ -20,6 +20,6 @@ pub record SameFrame {L : Type 0} {kind : Ghosts L} (old new : Listed L kind) : 
 -- The stretch is the whole graph at its wave, of which the nodes that pass a test are applied.
 pub record IsWhole {L : Type 0} {kind : Ghosts L} (g : Net) (applied : ℕ → Bool) (whole : Stretch L kind) : Type 0 where
   pub first : whole.entries.first ≡ 0
-  pub len : length whole.entries.entries.codes ≡ g.size
+  pub len : length whole.entries.codes ≡ g.size
   pub few : AreFew g 0 g.size (most_of whole.counters)
-  pub holds : StretchHolds g whole.entries.wave applied 0 whole.entries.entries.codes (counts_of whole.counters) whole.due whole.last_due
+  pub holds : StretchHolds g whole.entries.wave applied 0 whole.entries.codes (counts_of whole.counters) whole.due whole.last_due

@@ -79,15 +79,6 @@ impl Codes {
         }
         Ok(())
     }
-
-    // All codes in a list of their own.
-    pub(crate) fn to_words(&self, alloc: Global) -> Result<Vec<u16>, AllocError>
-        ensures { IfOk result (λ v. v.items ≡ self.now) }
-    {
-        let mut words = Vec::with_capacity(alloc, self.len())?;
-        self.add_to(&mut words)?;
-        Ok(words)
-    }
 }
 
 // Puts bytes at the end of a list, for which the compiler takes many at a time.

@@ -136,7 +136,7 @@ impl<N: Levels, L: NodeList> Model for Block<N, L> {
 
     ghost invariant = { λ b. BlockHolds (N.net b.level)
         (record { level = b.level; cut = b.cut; number = b.number; wave = b.kept.entries.wave; applied = b.applied.items; taken_from = b.taken_from.items })
-        b.kept.entries.first b.kept.entries.entries.codes (counts_of b.kept.counters) b.kept.due b.kept.last_due (most_of b.kept.counters) };
+        b.kept.entries.first b.kept.entries.codes (counts_of b.kept.counters) b.kept.due b.kept.last_due (most_of b.kept.counters) };
 }
 
 impl<N: Levels> Batch<N> {
@@ -340,7 +340,7 @@ impl<N: Levels, L: NodeList> Block<N, L> {
         ensures undecided { (result ≡ 0) ↔ (is_decided_at (N.net self.now.level) self.now.wave (in_applied self.now) i ≡ false) }
     {
         let entries = &self.kept.entries;
-        entries.entries.codes.get((i - entries.first) as usize)
+        entries.codes.get((i - entries.first) as usize)
     }
 
     /// How many entries are won, lost and still open.
@@ -351,7 +351,7 @@ impl<N: Levels, L: NodeList> Block<N, L> {
         ensures lost { result.lost ≡ count_by is_odd (entries_of (N.net self.now.level) self.now) }
         ensures undecided { result.undecided ≡ count_by (λ c. c == 0) (entries_of (N.net self.now.level) self.now) }
     {
-        let entries = &self.kept.entries.entries;
+        let entries = &self.kept.entries;
         Tallies {
             won: entries.won,
             lost: entries.lost,

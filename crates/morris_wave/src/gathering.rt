@@ -137,7 +137,7 @@ fn entries_of<N: Levels, L: NodeList>(block: &Block<N, L>) -> &Codes
     ensures codes { is_complete block.now ≡ true → (k : ℕ) → k < count_of block.now
         → slice_index result.now k ≡ code_within (N.net block.now.level) (block.now.wave + 1) (first_node block.now + k) }
 {
-    &block.kept.entries.entries.codes
+    &block.kept.entries.codes
 }
 
 // The entries of all blocks, in the order of their numbers.

@@ -58,13 +58,7 @@ impl Exits {
     pub(crate) fn is_none(self) -> bool
         ensures { result ≡ exits_won 0 self }
     {
-        match self.least_lost {
-            Some(_) => false,
-            None => match self.greatest_won {
-                Some(_) => false,
-                None => !self.drawn,
-            },
-        }
+        self.least_lost.is_none() && self.greatest_won.is_none() && !self.drawn
     }
 
     // The last wave at which an exit comes due, 0 if none does.

@@ -14,9 +14,9 @@ use crate::nodes::NodeList;
 
 // Gives each open node of the list its code.
 fn win_all<L: NodeList, B: NodeList>(entries: &mut Listed<L>, nodes: &B)
-    requires inside { All (λ i. (entries.old.first ≤ i) × (i < entries.old.first + length entries.old.entries.codes)) (B.items nodes.now) }
+    requires inside { All (λ i. (entries.old.first ≤ i) × (i < entries.old.first + length entries.old.codes)) (B.items nodes.now) }
     ensures frame { SameFrame entries.old entries.new }
-    ensures codes { Marks entries.old.entries.codes entries.new.entries.codes
+    ensures codes { Marks entries.old.codes entries.new.codes
         (λ k. among (B.items nodes.now) (entries.old.first + k)) (entries.old.wave + 1) }
 {
     for at in 0..nodes.count() {
@@ -32,8 +32,8 @@ fn lower_all<L: NodeList, B: NodeList, C: CounterList>(
     counters: &mut C,
     nodes: &B,
 )
-    requires inside { All (λ i. (entries.old.first ≤ i) × (i < entries.old.first + length entries.old.entries.codes)) (B.items nodes.now) }
-    requires counters { length (C.counts counters.old) ≡ length entries.old.entries.codes }
+    requires inside { All (λ i. (entries.old.first ≤ i) × (i < entries.old.first + length entries.old.codes)) (B.items nodes.now) }
+    requires counters { length (C.counts counters.old) ≡ length entries.old.codes }
     requires small { (k : ℕ) → k < length (C.counts counters.old) → slice_index (C.counts counters.old) k < 65536 }
     requires falls { FallsLike C.left }
     requires enough { (k : ℕ) → k < length (C.counts counters.old) → times (entries.old.first + k) (B.items nodes.now) ≤ C.left (slice_index (C.counts counters.old) k) }
@@ -41,7 +41,7 @@ fn lower_all<L: NodeList, B: NodeList, C: CounterList>(
     ensures counters_len { length (C.counts counters.new) ≡ length (C.counts counters.old) }
     ensures small { (k : ℕ) → k < length (C.counts counters.new) → slice_index (C.counts counters.new) k < 65536 }
     ensures lowered { LowersBy (λ k. entries.old.first + k) (C.counts counters.old) (C.counts counters.new) (B.items nodes.now) }
-    ensures codes { Marks entries.old.entries.codes entries.new.entries.codes
+    ensures codes { Marks entries.old.codes entries.new.codes
         (λ k. among (B.items nodes.now) (entries.old.first + k) && (slice_index (C.counts counters.new) k == 0)) (entries.old.wave + 1) }
 {
     for at in 0..nodes.count() {
@@ -59,8 +59,8 @@ pub(crate) fn take_in<L: NodeList, B: NodeList>(
     counters: &mut Counters,
     nodes: &B,
 )
-    requires inside { All (λ i. (entries.old.first ≤ i) × (i < entries.old.first + length entries.old.entries.codes)) (B.items nodes.now) }
-    requires counters { length (counts_of counters.old) ≡ length entries.old.entries.codes }
+    requires inside { All (λ i. (entries.old.first ≤ i) × (i < entries.old.first + length entries.old.codes)) (B.items nodes.now) }
+    requires counters { length (counts_of counters.old) ≡ length entries.old.codes }
     requires small { (k : ℕ) → k < length (counts_of counters.old) → slice_index (counts_of counters.old) k < 65536 }
     requires enough { is_odd entries.old.wave ≡ false
         → (k : ℕ) → k < length (counts_of counters.old) → times (entries.old.first + k) (B.items nodes.now) ≤ left_at counters.old k }
@@ -68,7 +68,7 @@ pub(crate) fn take_in<L: NodeList, B: NodeList>(
     ensures counters_len { length (counts_of counters.new) ≡ length (counts_of counters.old) }
     ensures most { most_of counters.new ≡ most_of counters.old }
     ensures small { (k : ℕ) → k < length (counts_of counters.new) → slice_index (counts_of counters.new) k < 65536 }
-    ensures taken { Takes entries.old.wave entries.old.first (B.items nodes.now) entries.old.entries.codes entries.new.entries.codes
+    ensures taken { Takes entries.old.wave entries.old.first (B.items nodes.now) entries.old.codes entries.new.codes
         (counts_of counters.old) (counts_of counters.new) }
 {
     if entries.wave % 2 == 1 {

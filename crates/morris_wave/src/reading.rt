@@ -27,8 +27,8 @@ struct Reading<L: NodeList, C: CounterList> {
     counters: C,
     waves: Vec<u16>,
     last_due: u32,
-    ghost counted: { length (C.counts counters) ≡ length entries.entries.codes },
-    ghost waved: { vec_len waves ≡ length entries.entries.codes },
+    ghost counted: { length (C.counts counters) ≡ length entries.codes },
+    ghost waved: { vec_len waves ≡ length entries.codes },
 }
 
 impl<L: NodeList, C: CounterList> Reading<L, C> {
@@ -38,9 +38,9 @@ impl<L: NodeList, C: CounterList> Reading<L, C> {
         requires short { first + count ≤ L.limit }
         ensures first { IfOk result (λ r. r.entries.first ≡ first) }
         ensures wave { IfOk result (λ r. r.entries.wave ≡ 0) }
-        ensures len { IfOk result (λ r. length r.entries.entries.codes ≡ count) }
+        ensures len { IfOk result (λ r. length r.entries.codes ≡ count) }
         ensures read { IfOk result (λ r. (g : Net) → HasRead g C.most first 0
-            r.entries.entries.codes (C.counts r.counters) r.waves.items r.last_due) }
+            r.entries.codes (C.counts r.counters) r.waves.items r.last_due) }
     {
         // The waves are asked for first. They are let go once the stretch is read, and those of the
         // next stretch take their place. Otherwise their place would go to room that isn't filled,
@@ -59,11 +59,11 @@ impl<L: NodeList, C: CounterList> Reading<L, C> {
     // Takes in what was read of the node at a place: it waits for its quiet results and for its
     // exits, and is lost without any result. Most nodes have no exits, and need no wave.
     fn take(&mut self, place: usize, quiet: u16, exits: Exits)
-        requires inside { place < length self.old.entries.entries.codes }
+        requires inside { place < length self.old.entries.codes }
         requires few { quiet < C.most }
         requires unwritten { slice_index self.old.waves.items place ≡ 0 }
         ensures frame { SameFrame self.old.entries self.new.entries }
-        ensures codes { Marks self.old.entries.entries.codes self.new.entries.entries.codes
+        ensures codes { Marks self.old.entries.codes self.new.entries.codes
             (λ k. (place == k) && ((quiet == 0) && exits_won 0 exits)) (self.old.entries.wave + 1) }
         ensures counters { C.counts self.new.counters ≡ slice_set (C.counts self.old.counters) place ((quiet + waits 0 exits) % 65536) }
         ensures waves { self.new.waves.items ≡ slice_set self.old.waves.items place (due_within (due_wave exits)) }
@@ -96,14 +96,14 @@ fn read_piece<G: Graph, L: NodeList, C: CounterList>(
     exits: &mut [Exits],
 ) -> bool
     requires room { length exits.old ≡ length counts.old }
-    requires inside { from + length counts.old ≤ length reading.old.entries.entries.codes }
-    requires end { reading.old.entries.first + length reading.old.entries.entries.codes ≤ (G.Name.net (G.level graph.now)).size }
+    requires inside { from + length counts.old ≤ length reading.old.entries.codes }
+    requires end { reading.old.entries.first + length reading.old.entries.codes ≤ (G.Name.net (G.level graph.now)).size }
     requires wave { reading.old.entries.wave ≡ 0 }
     requires read { HasRead (G.Name.net (G.level graph.now)) C.most reading.old.entries.first from
-        reading.old.entries.entries.codes (C.counts reading.old.counters) reading.old.waves.items reading.old.last_due }
+        reading.old.entries.codes (C.counts reading.old.counters) reading.old.waves.items reading.old.last_due }
     ensures frame { SameFrame reading.old.entries reading.new.entries }
     ensures read { result ≡ true → HasRead (G.Name.net (G.level graph.now)) C.most reading.old.entries.first (from + length counts.old)
-        reading.new.entries.entries.codes (C.counts reading.new.counters) reading.new.waves.items reading.new.last_due }
+        reading.new.entries.codes (C.counts reading.new.counters) reading.new.waves.items reading.new.last_due }
     ensures wide { 65535 < C.most → result ≡ true }
 {
     graph.read_nodes(reading.entries.first + from as u64, counts, exits);
@@ -127,13 +127,13 @@ fn read_all<G: Graph, L: NodeList, C: CounterList>(
 ) -> bool
     requires counts { length counts.old ≡ 16384 }
     requires exits { length exits.old ≡ 16384 }
-    requires end { reading.old.entries.first + length reading.old.entries.entries.codes ≤ (G.Name.net (G.level graph.now)).size }
+    requires end { reading.old.entries.first + length reading.old.entries.codes ≤ (G.Name.net (G.level graph.now)).size }
     requires wave { reading.old.entries.wave ≡ 0 }
     requires read { HasRead (G.Name.net (G.level graph.now)) C.most reading.old.entries.first 0
-        reading.old.entries.entries.codes (C.counts reading.old.counters) reading.old.waves.items reading.old.last_due }
+        reading.old.entries.codes (C.counts reading.old.counters) reading.old.waves.items reading.old.last_due }
     ensures frame { SameFrame reading.old.entries reading.new.entries }
-    ensures read { result ≡ true → HasRead (G.Name.net (G.level graph.now)) C.most reading.old.entries.first (length reading.old.entries.entries.codes)
-        reading.new.entries.entries.codes (C.counts reading.new.counters) reading.new.waves.items reading.new.last_due }
+    ensures read { result ≡ true → HasRead (G.Name.net (G.level graph.now)) C.most reading.old.entries.first (length reading.old.entries.codes)
+        reading.new.entries.codes (C.counts reading.new.counters) reading.new.waves.items reading.new.last_due }
     ensures wide { 65535 < C.most → result ≡ true }
 {
     let count = reading.waves.len();
@@ -161,10 +161,10 @@ fn read_with<G: Graph, L: NodeList, C: CounterList>(
     requires short { end ≤ L.limit }
     ensures first { IfOk result (λ read. IfSome read (λ s. s.entries.first ≡ first)) }
     ensures wave { IfOk result (λ read. IfSome read (λ s. s.entries.wave ≡ 0)) }
-    ensures len { IfOk result (λ read. IfSome read (λ s. length s.entries.entries.codes ≡ end - first)) }
+    ensures len { IfOk result (λ read. IfSome read (λ s. length s.entries.codes ≡ end - first)) }
     ensures few { IfOk result (λ read. IfSome read (λ s. AreFew (G.Name.net (G.level graph.now)) first (end - first) (most_of s.counters))) }
     ensures holds { IfOk result (λ read. IfSome read (λ s. StretchHolds (G.Name.net (G.level graph.now)) 0 every first
-        s.entries.entries.codes (counts_of s.counters) s.due s.last_due)) }
+        s.entries.codes (counts_of s.counters) s.due s.last_due)) }
     ensures wide { 65535 < C.most → IfOk result (λ read. IsSome read) }
 {
     let mut counts = vec![in alloc; 0u16; PIECE]?;
@@ -203,10 +203,10 @@ impl<L: NodeList> Stretch<L> {
         requires short { end ≤ L.limit }
         ensures first { IfOk result (λ s. s.entries.first ≡ first) }
         ensures wave { IfOk result (λ s. s.entries.wave ≡ 0) }
-        ensures len { IfOk result (λ s. length s.entries.entries.codes ≡ end - first) }
+        ensures len { IfOk result (λ s. length s.entries.codes ≡ end - first) }
         ensures few { IfOk result (λ s. AreFew (G.Name.net (G.level graph.now)) first (end - first) (most_of s.counters)) }
         ensures holds { IfOk result (λ s. StretchHolds (G.Name.net (G.level graph.now)) 0 every first
-            s.entries.entries.codes (counts_of s.counters) s.due s.last_due) }
+            s.entries.codes (counts_of s.counters) s.due s.last_due) }
     {
         if let Some(stretch) = read_with::<G, L, Vec<u8>>(alloc, graph, first, end)? {
             return Ok(stretch);

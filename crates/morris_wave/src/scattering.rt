@@ -90,26 +90,6 @@ fn deal_behind<G: Graph, L: NodeList>(
     Ok(())
 }
 
-// The nodes that lead to one of these, each as often as it leads there, in one list for each block.
-fn behind<G: Graph, L: NodeList>(
-    alloc: Global,
-    graph: &G,
-    cut: &Cut,
-    nodes: &[u64],
-    spare: &mut Vec<L>,
-) -> Result<Vec<L>, AllocError>
-    requires small { cut.now.size ≤ L.limit }
-    requires size { (G.Name.net (G.level graph.now)).size ≡ cut.now.size }
-    requires inside { All (λ j. j < cut.now.size) nodes.now }
-    ensures count { IfOk result (λ v. vec_len v ≡ cut.now.blocks) }
-    ensures sorted { IfOk result (λ v. AreSorted cut.now (contents L.items v.items)) }
-    ensures behind { IfOk result (λ v. LeadTo (G.Name.net (G.level graph.now)) cut.now (contents L.items v.items) nodes.now) }
-{
-    let mut lists = no_lists(alloc, cut.blocks() as usize, spare)?;
-    deal_behind(alloc, graph, cut, nodes, &mut lists)?;
-    Ok(lists)
-}
-
 // The batch of these nodes.
 fn seal<N: Levels, L: NodeList>(fresh: &Fresh<N>, target: u64, nodes: L) -> Batch<N, L>
     requires { BatchHolds (N.net fresh.now.level) (batch_of fresh.now target (L.items nodes)) }
@@ -174,7 +154,8 @@ pub fn scatter_reusing<N: Levels, G: Graph<Name = N>, L: NodeList>(
     ensures batches { IfOk result (λ v. (t : ℕ) (d : BatchState) → t < fresh.now.cut.blocks
         → IsBatchOf (N.net fresh.now.level) fresh.now t (slice_index_or v.items t d)) }
 {
-    let lists = behind(alloc, graph, &fresh.cut, &fresh.nodes, spare)?;
+    let mut lists = no_lists(alloc, fresh.cut.blocks() as usize, spare)?;
+    deal_behind(alloc, graph, &fresh.cut, &fresh.nodes, &mut lists)?;
     let mut batches = Vec::with_capacity(alloc, lists.len())?;
     for nodes in lists {
         let target = batches.len() as u64;

@@ -23,10 +23,10 @@ pub(crate) struct Stretch<L: NodeList> {
     pub(crate) counters: Counters,
     pub(crate) due: Due<L>,
     pub(crate) last_due: u32,
-    ghost counted: { length (counts_of counters) ≡ length entries.entries.codes },
+    ghost counted: { length (counts_of counters) ≡ length entries.codes },
     ghost small: { (k : ℕ) → k < length (counts_of counters) → slice_index (counts_of counters) k < 65536 },
-    ghost inside: { (n : ℕ) → All (λ i. (entries.first ≤ i) × (i < entries.first + length entries.entries.codes)) (list_at due n) },
-    ghost once: { (n k : ℕ) → k < length entries.entries.codes → times (entries.first + k) (list_at due n) ≤ 1 },
+    ghost inside: { (n : ℕ) → All (λ i. (entries.first ≤ i) × (i < entries.first + length entries.codes)) (list_at due n) },
+    ghost once: { (n k : ℕ) → k < length entries.codes → times (entries.first + k) (list_at due n) ≤ 1 },
 }
 
 impl<L: NodeList> Stretch<L> {
@@ -34,15 +34,15 @@ impl<L: NodeList> Stretch<L> {
 
     // Takes in nodes that lead to fresh nodes of the wave, each as often as it leads there.
     pub(crate) fn take_in<B: NodeList>(&mut self, nodes: &B)
-        requires inside { All (λ i. (self.old.entries.first ≤ i) × (i < self.old.entries.first + length self.old.entries.entries.codes)) (B.items nodes.now) }
-        requires enough { is_odd self.old.entries.wave ≡ false → (k : ℕ) → k < length self.old.entries.entries.codes
+        requires inside { All (λ i. (self.old.entries.first ≤ i) × (i < self.old.entries.first + length self.old.entries.codes)) (B.items nodes.now) }
+        requires enough { is_odd self.old.entries.wave ≡ false → (k : ℕ) → k < length self.old.entries.codes
             → times (self.old.entries.first + k) (B.items nodes.now) ≤ left_at self.old.counters k }
         ensures frame { SameFrame self.old.entries self.new.entries }
         ensures due { self.new.due ≡ self.old.due }
         ensures last_due { self.new.last_due ≡ self.old.last_due }
         ensures most { most_of self.new.counters ≡ most_of self.old.counters }
         ensures taken { Takes self.old.entries.wave self.old.entries.first (B.items nodes.now)
-            self.old.entries.entries.codes self.new.entries.entries.codes (counts_of self.old.counters) (counts_of self.new.counters) }
+            self.old.entries.codes self.new.entries.codes (counts_of self.old.counters) (counts_of self.new.counters) }
     {
         propagate::take_in(&mut self.entries, &mut self.counters, nodes);
     }
@@ -50,16 +50,16 @@ impl<L: NodeList> Stretch<L> {
     // Goes on to the next wave, takes in what comes due at it, and lets go of that list.
     pub(crate) fn next_wave(&mut self)
         requires last { self.old.entries.wave < 65534 }
-        requires enough { is_odd (self.old.entries.wave + 1) ≡ false → (k : ℕ) → k < length self.old.entries.entries.codes
+        requires enough { is_odd (self.old.entries.wave + 1) ≡ false → (k : ℕ) → k < length self.old.entries.codes
             → times (self.old.entries.first + k) (list_at self.old.due (self.old.entries.wave + 1)) ≤ left_at self.old.counters k }
-        ensures len { length self.new.entries.entries.codes ≡ length self.old.entries.entries.codes }
+        ensures len { length self.new.entries.codes ≡ length self.old.entries.codes }
         ensures first { self.new.entries.first ≡ self.old.entries.first }
         ensures wave { self.new.entries.wave ≡ self.old.entries.wave + 1 }
         ensures due { self.new.due ≡ slice_set self.old.due (self.old.entries.wave + 1) [] }
         ensures last_due { self.new.last_due ≡ self.old.last_due }
         ensures most { most_of self.new.counters ≡ most_of self.old.counters }
         ensures comes { Takes (self.old.entries.wave + 1) self.old.entries.first (list_at self.old.due (self.old.entries.wave + 1))
-            self.old.entries.entries.codes self.new.entries.entries.codes (counts_of self.old.counters) (counts_of self.new.counters) }
+            self.old.entries.codes self.new.entries.codes (counts_of self.old.counters) (counts_of self.new.counters) }
     {
         self.entries.next_wave();
         let nodes = self.due.at(self.entries.wave);
@@ -70,7 +70,7 @@ impl<L: NodeList> Stretch<L> {
     // Whether all exits are due, and no node got its code at this wave.
     pub(crate) fn is_quiet(&self) -> bool
         ensures { result ≡ (nat_le self.now.last_due self.now.entries.wave
-            && not (list_any (λ c. c == (self.now.entries.wave + 1)) self.now.entries.entries.codes)) }
+            && not (list_any (λ c. c == (self.now.entries.wave + 1)) self.now.entries.codes)) }
     {
         self.last_due <= u32::from(self.entries.wave) && !self.entries.has_news()
     }

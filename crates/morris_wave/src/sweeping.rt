@@ -53,21 +53,6 @@ fn spread<G: Graph, L: NodeList>(
     Ok(())
 }
 
-// Goes on from a complete wave to the next one, and completes it.
-fn next_wave<G: Graph, L: NodeList>(
-    graph: &G,
-    whole: &mut Stretch<L>,
-    back: &mut Vec<u64>,
-) -> Result<(), AllocError>
-    requires wave { whole.old.entries.wave < 65534 }
-    requires start { IsWhole (G.Name.net (G.level graph.now)) every whole.old }
-    ensures wave { whole.new.entries.wave ≡ whole.old.entries.wave + 1 }
-    ensures done { OnOk result (IsWhole (G.Name.net (G.level graph.now)) every whole.new) }
-{
-    whole.next_wave();
-    spread(graph, whole, back)
-}
-
 // Goes from wave to wave until nothing more is to come, and says whether it got so far. The watch
 // is told of each wave before it begins.
 fn run<G: Graph, L: NodeList, W: Watch>(
@@ -80,7 +65,7 @@ fn run<G: Graph, L: NodeList, W: Watch>(
     requires start { IsWhole (G.Name.net (G.level graph.now)) every whole.old }
     ensures done { OnOk result (IsWhole (G.Name.net (G.level graph.now)) every whole.new) }
     ensures quiet { IfOk result (λ quiet. quiet ≡ (nat_le whole.new.last_due whole.new.entries.wave
-        && not (list_any (λ c. c == (whole.new.entries.wave + 1)) whole.new.entries.entries.codes))) }
+        && not (list_any (λ c. c == (whole.new.entries.wave + 1)) whole.new.entries.codes))) }
     ensures last { IfOk result (λ quiet. quiet ≡ false → whole.new.entries.wave ≡ 65534) }
     ensures watched { W.becomes watch.old watch.new }
 {
@@ -90,7 +75,8 @@ fn run<G: Graph, L: NodeList, W: Watch>(
             return Ok(true);
         }
         watch.wave(done + 1);
-        next_wave(graph, whole, &mut back)?;
+        whole.next_wave();
+        spread(graph, whole, &mut back)?;
     }
     Ok(whole.is_quiet())
 }
@@ -112,7 +98,8 @@ fn codes_of<G: Graph, W: Watch>(
     ensures watched { W.becomes watch.old watch.new }
 {
     if run(alloc, graph, whole, watch)? {
-        let codes = whole.entries.entries.codes.to_words(alloc)?;
+        let mut codes = Vec::with_capacity(alloc, whole.entries.codes.len())?;
+        whole.entries.codes.add_to(&mut codes)?;
         Ok(codes)
     } else {
         Err(SweepFault::TooDeep)

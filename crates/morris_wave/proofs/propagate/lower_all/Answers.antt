@@ -18,7 +18,7 @@ loop-at-preserved g c =
     let mid = g.C.CounterList.counts c.loop-at.counters in
     let place = node - c.loop-at.entries.first in
     let at = c.requires.inside i 0 more in
-    let within : (first ≤ node) × (node < first + length c.args.entries.now.entries.codes) = (omega (arith, at.0, c.node-node.ensures), omega (arith, at.1, c.node-node.ensures)) in
+    let within : (first ≤ node) × (node < first + length c.args.entries.now.codes) = (omega (arith, at.0, c.node-node.ensures), omega (arith, at.1, c.node-node.ensures)) in
     let l : place < length old = omega (arith, within.0, within.1, inv.0.first, c.requires.counters) in
     let e = λ (k : ℕ). first + k in
     let at_place : (k : ℕ) → k < length old → eqb place k ≡ eqb node (first + k) = λ k kl. ap (λ (f : ℕ). eqb (node - f) k) inv.0.first ∙ node_place first node within.0 k in
@@ -28,11 +28,11 @@ loop-at-preserved g c =
       ap length c.lower-spent.ensures.lowered ∙ (length-set mid place now ∙ inv.1),
       subst (λ (xs : List ℕ). LowersBy e old xs (take (i + 1) nodes)) (sym c.lower-spent.ensures.lowered)
           (lowers_more e nodes i node place more c.node-node.ensures old mid at_place inv.1 inv.2 l),
-      subst (λ (xs : List ℕ). Marks c.args.entries.now.entries.codes c.mark.new.self.entries.codes (λ k. among (take (i + 1) nodes) (first + k) && eqb (slice_index xs k) 0) (c.args.entries.now.wave + 1)) (sym c.lower-spent.ensures.lowered)
+      subst (λ (xs : List ℕ). Marks c.args.entries.now.codes c.mark.new.self.codes (λ k. among (take (i + 1) nodes) (first + k) && eqb (slice_index xs k) 0) (c.args.entries.now.wave + 1)) (sym c.lower-spent.ensures.lowered)
           (spent_more e nodes i node place more c.node-node.ensures old mid at_place inv.1 inv.2 l
-          c.args.entries.now.entries.codes c.loop-at.entries.entries.codes c.mark.new.self.entries.codes (c.args.entries.now.wave + 1) now c.lower-spent.result
+          c.args.entries.now.codes c.loop-at.entries.codes c.mark.new.self.codes (c.args.entries.now.wave + 1) now c.lower-spent.result
           (omega arith) inv.0.len (omega (arith, c.requires.counters)) enough c.lower-spent.ensures.spent inv.3
-          (subst (λ (w : ℕ). Marks c.loop-at.entries.entries.codes c.mark.new.self.entries.codes (λ k. eqb place k && c.lower-spent.result) (w + 1)) inv.0.wave c.mark.ensures.codes)),
+          (subst (λ (w : ℕ). Marks c.loop-at.entries.codes c.mark.new.self.codes (λ k. eqb place k && c.lower-spent.result) (w + 1)) inv.0.wave c.mark.ensures.codes)),
       subst (λ (xs : List ℕ). (k : ℕ) → k < length xs → slice_index xs k < 65536) (sym c.lower-spent.ensures.lowered) (small_set mid place now inv.4 (omega arith)),
     )
 
@@ -48,7 +48,7 @@ lower-spent-requires-clause-left g c =
     let mid = g.C.CounterList.counts c.loop-at.counters in
     let place = node - c.loop-at.entries.first in
     let at = c.requires.inside i 0 more in
-    let within : (first ≤ node) × (node < first + length c.args.entries.now.entries.codes) = (omega (arith, at.0, c.node-node.ensures), omega (arith, at.1, c.node-node.ensures)) in
+    let within : (first ≤ node) × (node < first + length c.args.entries.now.codes) = (omega (arith, at.0, c.node-node.ensures), omega (arith, at.1, c.node-node.ensures)) in
     let l : place < length old = omega (arith, within.0, within.1, inv.0.first, c.requires.counters) in
     let at_place : (k : ℕ) → k < length old → eqb place k ≡ eqb node (first + k) = λ k kl. ap (λ (f : ℕ). eqb (node - f) k) inv.0.first ∙ node_place first node within.0 k in
     falls_left (λ k. first + k) nodes i node place more c.node-node.ensures old mid at_place inv.1 inv.2 l

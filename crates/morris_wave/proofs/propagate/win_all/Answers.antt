@@ -17,6 +17,6 @@ loop-at-preserved g c =
     let at_place : (k : ℕ) → eqb place k ≡ eqb node (first + k) = λ k. ap (λ (f : ℕ). eqb (node - f) k) inv.0.first ∙ node_place first node from k in (
       frame_joins c.args.entries.now c.loop-at.entries c.mark.new.self inv.0 c.mark.ensures.frame,
       marked_more nodes i node more c.node-node.ensures first place at_place
-          c.args.entries.now.entries.codes c.loop-at.entries.entries.codes c.mark.new.self.entries.codes (c.args.entries.now.wave + 1) (omega arith) inv.0.len inv.1
-          (subst (λ (w : ℕ). Marks c.loop-at.entries.entries.codes c.mark.new.self.entries.codes (λ k. eqb place k && true) (w + 1)) inv.0.wave c.mark.ensures.codes),
+          c.args.entries.now.codes c.loop-at.entries.codes c.mark.new.self.codes (c.args.entries.now.wave + 1) (omega arith) inv.0.len inv.1
+          (subst (λ (w : ℕ). Marks c.loop-at.entries.codes c.mark.new.self.codes (λ k. eqb place k && true) (w + 1)) inv.0.wave c.mark.ensures.codes),
     )

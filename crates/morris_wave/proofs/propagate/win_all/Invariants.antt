@@ -6,4 +6,4 @@ use Rattle.morris_wave.proofs.propagate.win_all.Given as goal
 abbrev pub invariant-loop-at : goal.invariant-loop-at
 invariant-loop-at g l =
     SameFrame l.initial.entries l.entries
-    × Marks l.initial.entries.entries.codes l.entries.entries.codes (λ k. among (take l.at (g.B.NodeList.items l.nodes)) (l.initial.entries.first + k)) (l.initial.entries.wave + 1)
+    × Marks l.initial.entries.codes l.entries.codes (λ k. among (take l.at (g.B.NodeList.items l.nodes)) (l.initial.entries.first + k)) (l.initial.entries.wave + 1)

@@ -13,12 +13,12 @@ loop-piece-preserved g c =
     let old = c.args.reading.now in
     let net = g.G.Name.Levels.net (g.G.Graph.level c.args.graph.now) in
     let most = g.C.CounterList.most in
-    let codes = new.entries.entries.codes in
+    let codes = new.entries.codes in
     let counters = g.C.CounterList.counts new.counters in
     let here = c.loop-piece.piece * 16384 + length (take c.min-len.result c.loop-piece.counts) in
     let counts_taken = length-take c.min-len.result c.loop-piece.counts in
     let exits_taken = length-take c.min-len.result c.loop-piece.exits in
-    let next : here ≡ min ((c.loop-piece.piece + 1) * 16384) (length old.entries.entries.codes) =
+    let next : here ≡ min ((c.loop-piece.piece + 1) * 16384) (length old.entries.codes) =
     omega (arith, counts_taken, inv.counts_len, c.min-len.ensures, c.len-count.ensures, c.loop-piece-test.true, inv.frame.len, c.loop-piece.reading.waved) in
     record {
       frame = frame_joins old.entries c.loop-piece.reading.entries new.entries inv.frame made.frame;

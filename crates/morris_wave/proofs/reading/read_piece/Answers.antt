@@ -14,9 +14,9 @@ loop-place-preserved g c =
     let inv = c.loop-place.invariant in
     let old = c.loop-place.reading in
     let counters = g.C.CounterList.counts old.counters in
-    let codes = old.entries.entries.codes in
+    let codes = old.entries.codes in
     let new = c.take.new.self in
-    let codes' = new.entries.entries.codes in
+    let codes' = new.entries.codes in
     let first = c.args.reading.now.entries.first in
     let place = c.args.from + c.loop-place.place in
     let quiet = slice_index c.read_nodes.new.counts c.loop-place.place in
@@ -56,5 +56,5 @@ returns-clause-read g c = λ _.
     let net = g.G.Name.Levels.net (g.G.Graph.level c.args.graph.now) in
     let now = c.loop-place.reading in
     let all : c.args.from + c.loop-place.place ≡ c.args.from + length c.args.counts.now = omega (arith, c.loop-place-test.false, c.loop-place.auto.place-end, c.read_nodes.auto.counts) in
-    subst (λ (p : ℕ). HasRead net g.C.CounterList.most c.args.reading.now.entries.first p now.entries.entries.codes (g.C.CounterList.counts now.counters) now.waves.items now.last_due) all
+    subst (λ (p : ℕ). HasRead net g.C.CounterList.most c.args.reading.now.entries.first p now.entries.codes (g.C.CounterList.counts now.counters) now.waves.items now.last_due) all
     c.loop-place.invariant.read

@@ -10,17 +10,17 @@ use Rattle.morris_wave.proofs.reading.read_with.Goals as goal
 use Rattle.morris_wave.proofs.reading.read_with.Goals.{After-keep}
 
 -- what was read of all nodes
-read : (g : given.Over) (c : After-keep g) → HasRead (g.G.Name.Levels.net (g.G.Graph.level c.args.graph.now)) g.C.CounterList.most c.args.first (length c.read_all.new.reading.entries.entries.codes)
-    c.read_all.new.reading.entries.entries.codes (g.C.CounterList.counts c.read_all.new.reading.counters) c.read_all.new.reading.waves.items c.read_all.new.reading.last_due
+read : (g : given.Over) (c : After-keep g) → HasRead (g.G.Name.Levels.net (g.G.Graph.level c.args.graph.now)) g.C.CounterList.most c.args.first (length c.read_all.new.reading.entries.codes)
+    c.read_all.new.reading.entries.codes (g.C.CounterList.counts c.read_all.new.reading.counters) c.read_all.new.reading.waves.items c.read_all.new.reading.last_due
 read g c =
     let net = g.G.Name.Levels.net (g.G.Graph.level c.args.graph.now) in
     let most = g.C.CounterList.most in
     let r = c.read_all.new.reading in
-    let codes = r.entries.entries.codes in
+    let codes = r.entries.codes in
     let before = c.in_ok-reading.reading in
-    let len : length before.entries.entries.codes ≡ length codes = omega (arith, c.read_all.ensures.frame.len) in
+    let len : length before.entries.codes ≡ length codes = omega (arith, c.read_all.ensures.frame.len) in
     subst (λ (n : ℕ). HasRead net most c.args.first n codes (g.C.CounterList.counts r.counters) r.waves.items r.last_due) len
-    (subst (λ (f : ℕ). HasRead net most f (length before.entries.entries.codes) codes (g.C.CounterList.counts r.counters) r.waves.items r.last_due) c.in_ok-reading.ensures.first
+    (subst (λ (f : ℕ). HasRead net most f (length before.entries.codes) codes (g.C.CounterList.counts r.counters) r.waves.items r.last_due) c.in_ok-reading.ensures.first
     (c.read_all.ensures.read c.if-not-read_all.false))
 
 -- the lists of the nodes that come due
@@ -33,7 +33,7 @@ invariant_of-result g c =
     let at = (goal.at.invariant_of-result g c).After-keep in
     let r = c.read_all.new.reading in
     let due = listed g at in
-    let many : length r.waves.items ≡ length r.entries.entries.codes = omega (arith, r.waved, r.waves.ok.0) in
+    let many : length r.waves.items ≡ length r.entries.codes = omega (arith, r.waved, r.waves.ok.0) in
     let first : r.entries.first ≡ c.args.first = c.read_all.ensures.frame.first ∙ c.in_ok-reading.ensures.first in
     record {
       counted = ap length c.keep.ensures.counts ∙ r.counted;
@@ -51,7 +51,7 @@ returns-clause-holds g c =
     let at = (goal.at.returns-clause-holds g c).After-keep in
     let net = g.G.Name.Levels.net (g.G.Graph.level c.args.graph.now) in
     let r = c.read_all.new.reading in
-    subst (λ (cs : List ℕ). StretchHolds net 0 every c.args.first r.entries.entries.codes cs c.in_ok-due.due r.last_due) (sym c.keep.ensures.counts)
+    subst (λ (cs : List ℕ). StretchHolds net 0 every c.args.first r.entries.codes cs c.in_ok-due.due r.last_due) (sym c.keep.ensures.counts)
     (read_all (read g at) c.in_ok-due.due
     (omega (arith, c.read_all.ensures.frame.len, c.in_ok-reading.ensures.len, c.requires.end, c.requires.order)) (omega (arith, r.counted)) (omega (arith, r.waved, r.waves.ok.0)) (listed g at))
 
@@ -64,7 +64,7 @@ pub read_all-requires-clause-read : goal.read_all-requires-clause-read
 read_all-requires-clause-read g c κs within =
     let net = g.G.Name.Levels.net (g.G.Graph.level c.args.graph.now) in
     let r = c.in_ok-reading.reading in
-    subst (λ (f : ℕ). HasRead net g.C.CounterList.most f 0 r.entries.entries.codes (g.C.CounterList.counts r.counters) r.waves.items r.last_due) (sym c.in_ok-reading.ensures.first) (c.in_ok-reading.ensures.read net)
+    subst (λ (f : ℕ). HasRead net g.C.CounterList.most f 0 r.entries.codes (g.C.CounterList.counts r.counters) r.waves.items r.last_due) (sym c.in_ok-reading.ensures.first) (c.in_ok-reading.ensures.read net)
 
 pub returns-clause-first : goal.returns-clause-first
 returns-clause-first g c = c.read_all.ensures.frame.first ∙ c.in_ok-reading.ensures.first

@@ -7,8 +7,8 @@ use Rattle.morris_wave.specs.Scattering.{LeadTo, batch_of, IsBatchOf}
 use Rattle.morris_wave.proofs.Batching.{fresh_inside, next_batch, sealed, batches_more}
 use Rattle.morris_wave.proofs.scattering.scatter_reusing.Goals as goal
 
-pub behind-requires-clause-inside : goal.behind-requires-clause-inside
-behind-requires-clause-inside g c κs within =
+pub deal_behind-requires-clause-inside : goal.deal_behind-requires-clause-inside
+deal_behind-requires-clause-inside g c κs within =
     let inside = c.fresh.inside in
     let f : FreshState = record { level = inside.level; cut = inside.cut; wave = inside.wave; source = inside.source; low = inside.low; high = inside.high; nodes = inside.nodes.items } in
     subst (λ (xs : List ℕ). All (λ j. j < inside.cut.size) xs) (sym c.deref.ensures.value) (fresh_inside (g.N.Levels.net inside.level) f c.fresh.invariant)
@@ -18,19 +18,19 @@ seal-requires-after_bounds g c κs within =
     let inside = c.fresh.inside in
     let f : FreshState = record { level = inside.level; cut = inside.cut; wave = inside.wave; source = inside.source; low = inside.low; high = inside.high; nodes = inside.nodes.items } in
     let net = g.N.Levels.net inside.level in
-    let lists = c.in_ok-lists.lists.items in
+    let lists = c.deal_behind.new.lists.items in
     let inv = c.loop-nodes.invariant in
     let same : g.G.Graph.level c.args.graph.now ≡ inside.level = c.requires.level ∙ sym (ap (λ (t : FreshState). t.level) c.fresh.view_is) in
     let lead : LeadTo net inside.cut (contents g.L.NodeList.items lists) inside.nodes.items =
     subst (λ (l : ℕ). LeadTo (g.N.Levels.net l) inside.cut (contents g.L.NodeList.items lists) inside.nodes.items) same
-    (subst (λ (xs : List ℕ). LeadTo (g.N.Levels.net (g.G.Graph.level c.args.graph.now)) inside.cut (contents g.L.NodeList.items lists) xs) c.deref.ensures.value c.in_ok-lists.ensures.behind) in
+    (subst (λ (xs : List ℕ). LeadTo (g.N.Levels.net (g.G.Graph.level c.args.graph.now)) inside.cut (contents g.L.NodeList.items lists) xs) c.deref.ensures.value c.in_ok-deal_behind.ensures.behind) in
     let split : lists ≡ c.loop-nodes.yielded ++ c.in-Some.nodes ∷ c.next.new.self.rest.items =
     sym c.into_iter-nodes-iterator.ensures.into_iter_gives.0
     ∙ (inv.1 ∙ ap (λ (xs : List _). c.loop-nodes.yielded ++ xs) c.in-Some.ensures.steps.0) in
     let target : c.len-target.result ≡ length c.loop-nodes.yielded = omega (arith, c.len-target.ensures, c.loop-nodes.batches.ok.0, inv.0) in
     subst (λ (t : FreshState). BatchHolds (g.N.Levels.net t.level) (batch_of t c.len-target.result (g.L.NodeList.items c.in-Some.nodes))) c.fresh.view_is
     (next_batch g.L.NodeList.items net (g.N.Levels.lawful inside.level) f c.fresh.invariant lists c.loop-nodes.yielded c.next.new.self.rest.items c.in-Some.nodes c.len-target.result
-    (omega (arith, c.in_ok-lists.ensures.count, c.in_ok-lists.lists.ok.0)) split target c.in_ok-lists.ensures.sorted lead)
+    (omega (arith, c.in_ok-deal_behind.ensures.count, c.deal_behind.new.lists.ok.0)) split target c.in_ok-deal_behind.ensures.sorted lead)
 
 pub loop-nodes-preserved : goal.loop-nodes-preserved
 loop-nodes-preserved g c =
@@ -54,7 +54,7 @@ pub returns-clause-count : goal.returns-clause-count
 returns-clause-count g c =
     let inv = c.loop-nodes.invariant in
     let rest = c.loop-nodes.nodes-iterator.rest in
-    let lists = c.in_ok-lists.lists in
+    let lists = c.deal_behind.new.lists in
     let none : length rest.items ≡ 0 = omega (arith, c.in-None.ensures.steps.0, rest.ok.0) in
     omega (
       arith,
@@ -65,7 +65,7 @@ returns-clause-count g c =
       lists.ok.0,
       inv.0,
       c.loop-nodes.batches.ok.0,
-      c.in_ok-lists.ensures.count,
+      c.in_ok-deal_behind.ensures.count,
       ap (λ (t : FreshState). t.cut.blocks) c.fresh.view_is,
     )
 

@@ -18,7 +18,7 @@ fresh_nodes : (g : given.Over) (c : Start g) → ListsFresh (g.G.Name.Levels.net
 fresh_nodes g c =
     let e = c.args.whole.now.entries in
     fresh_listed (g.G.Name.Levels.lawful (g.G.Graph.level c.args.graph.now)) c.requires.start.holds (omega (arith, c.requires.start.len))
-    (g.L.NodeList.items e.decided) e.before e.here (subst (λ (f : ℕ). Ranked g.L.NodeList.keeps f e.wave e.entries.codes (g.L.NodeList.items e.decided) e.before e.here) c.requires.start.first e.ranked)
+    (g.L.NodeList.items e.decided) e.before e.here (subst (λ (f : ℕ). Ranked g.L.NodeList.keeps f e.wave e.codes (g.L.NodeList.items e.decided) e.before e.here) c.requires.start.first e.ranked)
 
 pub loop-place-init : goal.loop-place-init
 loop-place-init g c =
@@ -40,7 +40,7 @@ take_in-requires-clause-enough g c =
     let first0 : c.loop-place.whole.entries.first ≡ 0 = inv.0.first ∙ c.requires.start.first in
     let e = c.args.whole.now.entries in
     let now = c.loop-place.whole in
-    let codes = now.entries.entries.codes in
+    let codes = now.entries.codes in
     let fresh = take (e.here - e.before) (drop e.before (g.L.NodeList.items e.decided)) in
     let i = c.loop-place.place - e.before in
     let listed = fresh_nodes g (goal.at.take_in-requires-clause-enough g c).Start in
@@ -65,7 +65,7 @@ loop-place-preserved g c =
     let first0 : c.loop-place.whole.entries.first ≡ 0 = inv.0.first ∙ c.requires.start.first in
     let e = c.args.whole.now.entries in
     let now = c.loop-place.whole in
-    let codes = now.entries.entries.codes in
+    let codes = now.entries.codes in
     let fresh = take (e.here - e.before) (drop e.before (g.L.NodeList.items e.decided)) in
     let i = c.loop-place.place - e.before in
     let listed = fresh_nodes g (goal.at.loop-place-preserved g c).Start in
@@ -74,7 +74,7 @@ loop-place-preserved g c =
     let is : node ≡ slice_index fresh i = c.node.ensures ∙ at.1 in
     let made = c.take_in.ensures in
     let new = c.take_in.new.self in
-    let codes' = new.entries.entries.codes in
+    let codes' = new.entries.codes in
     let takes : Takes e.wave 0 c.back.new.out.items codes codes' (counts_of now.counters) (counts_of new.counters) =
     subst (λ (w : ℕ). Takes w 0 c.back.new.out.items codes codes' (counts_of now.counters) (counts_of new.counters)) inv.0.wave
     (subst (λ (f : ℕ). Takes now.entries.wave f c.back.new.out.items codes codes' (counts_of now.counters) (counts_of new.counters)) first0 made.taken) in
@@ -98,7 +98,7 @@ returns-clause-done g c =
     let first0 : c.loop-place.whole.entries.first ≡ 0 = inv.0.first ∙ c.requires.start.first in
     let e = c.args.whole.now.entries in
     let now = c.loop-place.whole in
-    let codes = now.entries.entries.codes in
+    let codes = now.entries.codes in
     let fresh = take (e.here - e.before) (drop e.before (g.L.NodeList.items e.decided)) in
     let i = c.loop-place.place - e.before in
     let listed = fresh_nodes g (goal.at.returns-clause-done g c).Start in

@@ -11,5 +11,5 @@ invariant-loop-place g l =
     × (l.initial.whole.entries.before ≤ l.place)
     × StretchHolds (g.G.Name.Levels.net (g.G.Graph.level l.graph)) l.initial.whole.entries.wave
     (among (take (l.place - l.initial.whole.entries.before) (take (l.initial.whole.entries.here - l.initial.whole.entries.before) (drop l.initial.whole.entries.before (g.L.NodeList.items l.initial.whole.entries.decided))))) 0
-    l.whole.entries.entries.codes (counts_of l.whole.counters) l.whole.due l.whole.last_due
+    l.whole.entries.codes (counts_of l.whole.counters) l.whole.due l.whole.last_due
     × (most_of l.whole.counters ≡ most_of l.initial.whole.counters)

@@ -30,5 +30,5 @@ codes_of-requires-clause-start g c = λ _ _.
       first = made.first;
       len = made.len ∙ all;
       few = subst (λ (n : ℕ). AreFew net 0 n (most_of whole.counters)) all made.few;
-      holds = subst (λ (w : ℕ). StretchHolds net w every 0 whole.entries.entries.codes (counts_of whole.counters) whole.due whole.last_due) (sym made.wave) made.holds;
+      holds = subst (λ (w : ℕ). StretchHolds net w every 0 whole.entries.codes (counts_of whole.counters) whole.due whole.last_due) (sym made.wave) made.holds;
     }

@@ -15,7 +15,7 @@ invariant_of-self g c =
     let made = c.next_wave.ensures in
     let complete = ap is_complete c.self.view_is ∙ (sym c.is_complete.ensures ∙ c.if-not-is_complete.false) in
     let early : kept.entries.wave < 65534 = omega (arith, c.self.invariant.wave, c.if-self.false) in
-    let holds = advance_holds (g.N.Levels.lawful inside.level) c.self.invariant complete early after.entries.entries.codes (counts_of after.counters)
+    let holds = advance_holds (g.N.Levels.lawful inside.level) c.self.invariant complete early after.entries.codes (counts_of after.counters)
     (omega (arith, made.len))
     (omega (arith, after.counted, kept.counted, made.len)) after.small made.comes in
     let applied : List Bool = c.fill.new.self.items in
@@ -31,7 +31,7 @@ next_wave-requires-clause-enough g c = λ even k l.
     let law = g.N.Levels.lawful c.self.inside.level in
     let complete = ap is_complete c.self.view_is ∙ (sym c.is_complete.ensures ∙ c.if-not-is_complete.false) in
     let early : kept.entries.wave < 65534 = omega (arith, c.self.invariant.wave, c.if-self.false) in
-    let place : k < length kept.entries.entries.codes = omega (arith, l) in
+    let place : k < length kept.entries.codes = omega (arith, l) in
     left_enough kept.counters k (times (kept.entries.first + k) (list_at kept.due (kept.entries.wave + 1)))
     (advance_enough law c.self.invariant complete early k place)
     (advance_few law c.self.invariant complete early even k place)

@@ -64,7 +64,7 @@ take_in-requires-clause-enough g c =
     let net = g.N.Levels.net c.self.inside.level in
     let law = g.N.Levels.lawful c.self.inside.level in
     let kept = c.self.inside.kept in
-    let codes = kept.entries.entries.codes in
+    let codes = kept.entries.codes in
     λ even k l.
     let place : k < length codes = omega (arith, l) in
     left_enough kept.counters k (times (kept.entries.first + k) (g.B.NodeList.items c.batch.inside.nodes))
@@ -81,6 +81,6 @@ invariant_of-self g c =
     let made = c.take_in.ensures in
     rw (made.frame.wave, made.frame.first, made.due, made.last_due, made.most)
     (apply_holds (g.N.Levels.lawful inside.level) c.self.invariant r.0 r.1 c.if-batch-self-2.false c.if-batch-self-3.false r.2 r.3
-    after.entries.entries.codes (counts_of after.counters)
+    after.entries.codes (counts_of after.counters)
     (omega (arith, made.frame.len))
     (omega (arith, after.counted, kept.counted, made.frame.len)) after.small made.taken)

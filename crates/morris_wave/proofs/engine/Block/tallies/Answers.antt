@@ -6,12 +6,12 @@ use Rattle.morris_wave.proofs.engine.Block.tallies.Goals as goal
 
 pub overflow_sub-result : goal.overflow_sub-result
 overflow_sub-result g c =
-    let entries = c.self.inside.kept.entries.entries in
+    let entries = c.self.inside.kept.entries in
     omega (arith, entries.won_counted, entries.lost_counted, three_kinds entries.codes, c.len.ensures)
 
 pub returns : goal.returns
 returns g c =
-    let entries = c.self.inside.kept.entries.entries in
+    let entries = c.self.inside.kept.entries in
     let same = codes_entries (g.N.Levels.lawful c.self.inside.level) c.self.invariant in
     let all : entries.won + entries.lost + (c.len.result - (entries.won + entries.lost)) ≡ length entries.codes =
     omega (arith, entries.won_counted, entries.lost_counted, three_kinds entries.codes, c.len.ensures) in

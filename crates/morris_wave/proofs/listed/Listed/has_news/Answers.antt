@@ -5,4 +5,4 @@ use Rattle.morris_wave.proofs.listed.Listed.has_news.Goals as goal
 pub returns : goal.returns
 returns g c =
     let s = c.args.self.now in
-    ap (ltb s.here) c.count.ensures ∙ some_this s.first s.wave s.before s.here s.entries.codes (g.L.NodeList.items s.decided) s.ranked
+    ap (ltb s.here) c.count.ensures ∙ some_this s.first s.wave s.before s.here s.codes (g.L.NodeList.items s.decided) s.ranked

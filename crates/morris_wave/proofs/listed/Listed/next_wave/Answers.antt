@@ -6,7 +6,7 @@ use Rattle.morris_wave.proofs.listed.Listed.next_wave.Goals as goal
 pub invariant_of-self-clause-ranked : goal.invariant_of-self-clause-ranked
 invariant_of-self-clause-ranked g c =
     let s = c.args.self.now in
-    let codes = s.entries.codes in
+    let codes = s.codes in
     let all = g.L.NodeList.items s.decided in
     let gone = c.forget-gone.result in
     let rest = c.forget-gone.ensures.items in

@@ -23,8 +23,8 @@ returns-clause-inside g c =
     let inv = c.loop-place.invariant in
     let end : c.loop-place.place ≡ s.here = omega (arith, c.loop-place-test.false, s.ranked.starts) in
     let is : c.loop-place.nodes.items ≡ take (s.here - s.before) (drop s.before (g.L.NodeList.items s.decided)) = inv.1 ∙ ap (λ (p : ℕ). take (p - s.before) (drop s.before (g.L.NodeList.items s.decided))) end in
-    subst (λ (xs : List ℕ). All (λ i. (s.first ≤ i) × (i < s.first + length s.entries.codes)) xs) (sym is)
-    (stretch_inside s.first s.wave s.before s.here s.entries.codes (g.L.NodeList.items s.decided) s.ranked)
+    subst (λ (xs : List ℕ). All (λ i. (s.first ≤ i) × (i < s.first + length s.codes)) xs) (sym is)
+    (stretch_inside s.first s.wave s.before s.here s.codes (g.L.NodeList.items s.decided) s.ranked)
 
 pub returns-clause-once : goal.returns-clause-once
 returns-clause-once g c =
@@ -32,5 +32,5 @@ returns-clause-once g c =
     let inv = c.loop-place.invariant in
     let end : c.loop-place.place ≡ s.here = omega (arith, c.loop-place-test.false, s.ranked.starts) in
     let is : c.loop-place.nodes.items ≡ take (s.here - s.before) (drop s.before (g.L.NodeList.items s.decided)) = inv.1 ∙ ap (λ (p : ℕ). take (p - s.before) (drop s.before (g.L.NodeList.items s.decided))) end in
-    subst (λ (xs : List ℕ). (k : ℕ) → k < length s.entries.codes → times (s.first + k) xs ≡ cond {A = ℕ} (ltb 0 s.wave && eqb (get_or s.entries.codes k 0) s.wave) 1 0) (sym is)
-    (stretch_once s.first s.wave s.before s.here s.entries.codes (g.L.NodeList.items s.decided) s.ranked)
+    subst (λ (xs : List ℕ). (k : ℕ) → k < length s.codes → times (s.first + k) xs ≡ cond {A = ℕ} (ltb 0 s.wave && eqb (get_or s.codes k 0) s.wave) 1 0) (sym is)
+    (stretch_once s.first s.wave s.before s.here s.codes (g.L.NodeList.items s.decided) s.ranked)

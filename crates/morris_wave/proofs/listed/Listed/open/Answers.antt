@@ -13,12 +13,6 @@ none_won count = omega (arith, sum_by-replicate (λ x. cond {A = ℕ} (is_won_co
 none_lost : (count : ℕ) → count_by is_odd (replicate count 0) ≡ 0
 none_lost count = omega (arith, sum_by-replicate (λ x. cond {A = ℕ} (is_odd x) 1 0) count 0)
 
-pub invariant_of-entries : goal.invariant_of-entries
-invariant_of-entries g c = record {
-  won_counted = sym (ap (count_by is_won_code) c.in_ok-codes.ensures ∙ none_won c.args.count);
-  lost_counted = sym (ap (count_by is_odd) c.in_ok-codes.ensures ∙ none_lost c.args.count);
-}
-
 pub invariant_of-result : goal.invariant_of-result
 invariant_of-result g c =
     let codes = c.in_ok-codes.codes in
@@ -30,5 +24,7 @@ invariant_of-result g c =
       ends = omega (arith, len, c.requires.small);
       short = omega (arith, len, c.requires.short);
       last = omega arith;
+      won_counted = sym (ap (count_by is_won_code) c.in_ok-codes.ensures ∙ none_won c.args.count);
+      lost_counted = sym (ap (count_by is_odd) c.in_ok-codes.ensures ∙ none_lost c.args.count);
       counted = omega (arith, ap length empty);
     }

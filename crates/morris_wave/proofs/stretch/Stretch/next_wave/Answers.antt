@@ -11,14 +11,14 @@ take_in-requires-clause-inside g c =
     let s = c.args.self.now in
     let is = c.at-nodes.ensures in
     λ p d l.
-    let w = subst (λ (xs : List ℕ). (p : ℕ) (d : ℕ) → p < length xs → (s.entries.first ≤ slice_index_or xs p d) × (slice_index_or xs p d < s.entries.first + length s.entries.entries.codes)) (sym is) (s.inside c.next_wave.new.self.wave) p d l in
+    let w = subst (λ (xs : List ℕ). (p : ℕ) (d : ℕ) → p < length xs → (s.entries.first ≤ slice_index_or xs p d) × (slice_index_or xs p d < s.entries.first + length s.entries.codes)) (sym is) (s.inside c.next_wave.new.self.wave) p d l in
     (omega (arith, w.0, c.next_wave.ensures.first), omega (arith, w.1, c.next_wave.ensures.first, ap length c.next_wave.ensures.codes))
 
 pub take_in-requires-clause-enough : goal.take_in-requires-clause-enough
 take_in-requires-clause-enough g c = λ even k l.
     let s = c.args.self.now in
     let wave : c.next_wave.new.self.wave ≡ s.entries.wave + 1 = c.next_wave.ensures.wave in
-    let place : k < length s.entries.entries.codes = omega (arith, l, s.counted) in
+    let place : k < length s.entries.codes = omega (arith, l, s.counted) in
     rw (c.at-nodes.ensures, wave, c.next_wave.ensures.first) (c.requires.enough (ap is_odd (sym wave) ∙ even) k place)
 
 pub invariant_of-self : goal.invariant_of-self
@@ -26,13 +26,13 @@ invariant_of-self g c =
     let s = c.args.self.now in
     let made = c.take_in.ensures in
     let first : c.take_in.new.entries.first ≡ s.entries.first = made.frame.first ∙ c.next_wave.ensures.first in
-    let len : length c.take_in.new.entries.entries.codes ≡ length s.entries.entries.codes = made.frame.len ∙ ap length c.next_wave.ensures.codes in
+    let len : length c.take_in.new.entries.codes ≡ length s.entries.codes = made.frame.len ∙ ap length c.next_wave.ensures.codes in
     record {
       counted = omega (arith, made.counters_len, len, s.counted);
       small = made.small;
       inside = λ n.
-          subst (λ (xs : List (List ℕ)). All (λ i. (c.take_in.new.entries.first ≤ i) × (i < c.take_in.new.entries.first + length c.take_in.new.entries.entries.codes)) (list_at xs n)) (sym c.let_go.ensures)
-          (gone_keeps s.due _ (λ xs. All (λ i. (c.take_in.new.entries.first ≤ i) × (i < c.take_in.new.entries.first + length c.take_in.new.entries.entries.codes)) xs)
+          subst (λ (xs : List (List ℕ)). All (λ i. (c.take_in.new.entries.first ≤ i) × (i < c.take_in.new.entries.first + length c.take_in.new.entries.codes)) (list_at xs n)) (sym c.let_go.ensures)
+          (gone_keeps s.due _ (λ xs. All (λ i. (c.take_in.new.entries.first ≤ i) × (i < c.take_in.new.entries.first + length c.take_in.new.entries.codes)) xs)
           (λ p d l. absurd (omega (arith, l))) n
           (λ p d l. let w = s.inside n p d l in (omega (arith, w.0, first), omega (arith, w.1, first, len))));
       once = λ n k l.
