@@ -2,6 +2,7 @@
 use Rattle.std.proofs.Common.{◌≡◌, ℕ, zero, suc, Bool, true, false, not, ◌&&◌, ◌||◌, length, refl, sym, ap, ap₂, ◌∙◌, ⊎_elim, arith}
 use Rattle.std.specs.List.{list_all, list_any}
 use Rattle.std.proofs.lemmas.Bool.{or_parts, cases_Bool, both_ways, cond-true, cond-false, false_from_ne_true}
+use Rattle.std.proofs.lemmas.Bool.Decides.{nat_tests}
 use Rattle.std.proofs.lemmas.List.Folds.{list_any_none}
 use Rattle.morris_wave.specs.Nets.{Net}
 use Rattle.morris_wave.specs.Exits.{exits_of}
@@ -43,11 +44,7 @@ decided_all g n i =
     (any_same (known_lost g n every) (is_lost g n) (g.quiet i) (λ k d l. known_lost_all g n _))
 
 pub entry_all : (g : Net) (n i : ℕ) → entry_at g n every i ≡ code_within g (suc n) i
-entry_all g n i =
-    ⊎_elim
-    (λ e. cond-true {A = ℕ} (is_decided_at g n every i) (code_within g (suc n) i) 0 (decided_all g n i ∙ e))
-    (λ e. cond-false {A = ℕ} (is_decided_at g n every i) (code_within g (suc n) i) 0 (decided_all g n i ∙ e) ∙ sym (code_open g (suc n) i e))
-    (cases_Bool (is_decided g (suc n) i))
+entry_all g n i = grind (arith, nat_tests, decided_all g n i, code_open g (suc n) i)
 
 pub open_next : (g : Net) (n i : ℕ) → open_at g (suc n) none i ≡ open_at g n every i
 open_next g n i = open_same g (suc n) n none every i (λ k d l. known_won_next g n _ ∙ sym (known_won_all g n _))

@@ -1,7 +1,7 @@
 -- What changes when one more part of the fresh nodes is applied.
-use Rattle.std.proofs.Common.{◌≡◌, ℕ, zero, suc, ◌+◌, Bool, true, false, not, ◌&&◌, ◌||◌, cond, eqb, ltb, refl, sym, ap, ap₂, ◌∙◌, ⊎_elim, arith}
+use Rattle.std.proofs.Common.{◌≡◌, ℕ, zero, suc, ◌+◌, Bool, true, false, not, ◌&&◌, ◌||◌, cond, eqb, ltb, refl, sym, ap, ap₂, ◌∙◌, arith}
 use Rattle.std.specs.List.{list_any, count_by}
-use Rattle.std.proofs.lemmas.Bool.{false≢true, true≢false, and_from, or_left, or_right, both_ways, eq-eqb, ne_eqb, cases_eq, true_from_ne_false, lt-ltb, and_right}
+use Rattle.std.proofs.lemmas.Bool.{false≢true, both_ways, true_from_ne_false}
 use Rattle.std.proofs.lemmas.Bool.Decides.{nat_tests}
 use Rattle.morris_wave.specs.Nets.{Net}
 use Rattle.morris_wave.specs.Exits.{is_odd, exits_of, exits_lost, exits_won}

@@ -1,31 +1,23 @@
 -- Lost and won in fewer than n plies: more plies decide more, no node is both, and each has one
 -- depth.
-use Rattle.std.proofs.Common.{◌≡◌, ◌≢◌, ℕ, zero, suc, ◌+◌, ◌-◌, ◌<◌, ◌≤◌, ◌%◌, Bool, true, false, not, cond, ltb, leb, List, [], ◌∷◌, refl, sym, ap, ◌∙◌, subst, ⊎_elim, arith, add-suc, add-zero}
+use Rattle.std.proofs.Common.{◌≡◌, ◌≢◌, ℕ, zero, suc, ◌+◌, ◌-◌, ◌<◌, ◌≤◌, Bool, true, false, not, cond, leb, List, [], ◌∷◌, refl, sym, ap, ◌∙◌, subst, ⊎_elim, arith, add-suc, add-zero}
 use Rattle.std.specs.List.{list_all, list_any}
-use Rattle.std.proofs.lemmas.Bool.{false≢true, and_parts, and_from, or_cases, or_left, or_right, or_parts, cases_Bool, and_cases, both_ways, cond-true, cond-false, leb-true, leb-false, le-leb, eqb-true, eqb-false, eq-eqb, ne_eqb, false_from_ne_true, not-true}
+use Rattle.std.proofs.lemmas.Bool.{false≢true, and_parts, and_from, or_cases, or_left, or_right, or_parts, cases_Bool, and_cases, both_ways, cond-true, cond-false, leb-true, false_from_ne_true}
 use Rattle.std.proofs.lemmas.Bool.Decides.{nat_tests}
 use Rattle.morris_wave.specs.Nets.{Net}
-use Rattle.morris_wave.specs.Exits.{is_odd, is_won_code}
+use Rattle.morris_wave.specs.Exits.{is_odd}
 use Rattle.morris_wave.specs.Values.{is_lost, is_won, is_decided, some_lost, all_won, is_lost_exit, is_won_exit, HasDepth, HasCode, code_within}
 use Rattle.morris_wave.proofs.Tests.{all_mono, any_mono, all_any, all_differ, any_differ}
 
 lost_exit_more : (n c : ℕ) → is_lost_exit n c ≡ true → is_lost_exit (suc n) c ≡ true
-lost_exit_more n c h =
-    let w = and_parts (is_odd c) (leb c n) h in
-    and_from (is_odd c) (leb c (suc n)) w.0 (le-leb c (suc n) (omega (arith, leb-true c n w.1)))
+lost_exit_more n c h = grind (arith, nat_tests)
 
 won_exit_more : (n c : ℕ) → is_won_exit n c ≡ true → is_won_exit (suc n) c ≡ true
-won_exit_more n c h =
-    let w = and_parts (is_won_code c) (leb c n) h in
-    and_from (is_won_code c) (leb c (suc n)) w.0 (le-leb c (suc n) (omega (arith, leb-true c n w.1)))
+won_exit_more n c h = grind (arith, nat_tests)
 
 -- an exit isn't lost and won
 exits_apart : (n c : ℕ) → is_won_exit n c ≡ true → is_lost_exit n c ≡ true → ⊥
-exits_apart n c h k =
-    let w = and_parts (is_won_code c) (leb c n) h in
-    let v = and_parts (not (is_odd c)) (ltb 0 c) w.0 in
-    let l = and_parts (is_odd c) (leb c n) k in
-    both_ways (is_odd c) (not-true (is_odd c) v.0) l.0
+exits_apart n c h k = grind (arith, nat_tests)
 
 -- the next number is odd where this one is even
 pub is_odd-suc : (n : ℕ) → is_odd (suc n) ≡ not (is_odd n)
@@ -73,11 +65,7 @@ mutual
   won_more g (suc n) i h = some_lost_later g i n (is_lost g n) (is_lost g (suc n)) (lost_more g n) h
 
 pub decided_more : (g : Net) (n i : ℕ) → is_decided g n i ≡ true → is_decided g (suc n) i ≡ true
-decided_more g n i h =
-    ⊎_elim
-    (λ a. or_left (is_lost g (suc n) i) (is_won g (suc n) i) (lost_more g n i a))
-    (λ a. or_right (is_lost g (suc n) i) (is_won g (suc n) i) (won_more g n i a))
-    (or_cases (is_lost g n i) (is_won g n i) h)
+decided_more g n i h = grind (arith, lost_more g n i, won_more g n i)
 
 pub decided_from : (g : Net) (n m i : ℕ) → is_decided g n i ≡ true → is_decided g (n + m) i ≡ true
 decided_from g n zero i h = subst (λ x. is_decided g x i ≡ true) (sym (add-zero n)) h
@@ -99,21 +87,11 @@ apart g (suc n) i h k =
     (or_cases (list_any (is_lost g n) (g.quiet i)) (list_any (is_lost_exit n) (g.exits i)) k)
 
 -- an exit that comes due at n has the code suc n
-due_code : (n c : ℕ) → leb c (suc n) ≡ true → leb c n ≡ false → c ≡ suc n
-due_code n c h k = omega (arith, leb-true c (suc n) h, leb-false c n k)
-
 won_exit_new : (n c : ℕ) → is_won_exit (suc n) c ≡ true → is_won_exit n c ≡ false → is_odd (suc n) ≡ false
-won_exit_new n c h k =
-    let w = and_parts (is_won_code c) (leb c (suc n)) h in
-    let v = and_parts (not (is_odd c)) (ltb 0 c) w.0 in
-    let l : leb c n ≡ false = ⊎_elim (λ e. absurd (both_ways (is_won_code c) e w.0)) (λ e. e) (and_cases (is_won_code c) (leb c n) k) in
-    subst (λ x. is_odd x ≡ false) (due_code n c w.1 l) (not-true (is_odd c) v.0)
+won_exit_new n c h k = grind (arith, nat_tests)
 
 lost_exit_new : (n c : ℕ) → is_lost_exit (suc n) c ≡ true → is_lost_exit n c ≡ false → is_odd (suc n) ≡ true
-lost_exit_new n c h k =
-    let w = and_parts (is_odd c) (leb c (suc n)) h in
-    let l : leb c n ≡ false = ⊎_elim (λ e. absurd (both_ways (is_odd c) e w.0)) (λ e. e) (and_cases (is_odd c) (leb c n) k) in
-    subst (λ x. is_odd x ≡ true) (due_code n c w.1 l) w.0
+lost_exit_new n c h k = grind (arith, nat_tests)
 
 -- no exit is lost in fewer than 0 plies
 pub no_lost_exit : (cs : List ℕ) → list_any (is_lost_exit 0) cs ≡ true → ⊥

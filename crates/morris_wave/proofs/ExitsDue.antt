@@ -1,7 +1,7 @@
 -- What comes due of the exits of a node at a wave.
-use Rattle.std.proofs.Common.{◌≡◌, ℕ, suc, ◌+◌, ◌-◌, min, max, Bool, true, false, not, ◌&&◌, ◌||◌, cond, eqb, ltb, List, [], ◌∷◌, Option, Some, None, is_none, refl, sym, ap, ap₂, ◌∙◌, subst, ⊎_elim, arith}
+use Rattle.std.proofs.Common.{◌≡◌, ℕ, suc, ◌+◌, ◌-◌, min, max, Bool, true, false, not, ◌&&◌, ◌||◌, cond, eqb, ltb, List, [], ◌∷◌, Option, Some, None, is_none, refl, sym, ap, ◌∙◌, subst, ⊎_elim, arith}
 use Rattle.std.specs.List.{list_all}
-use Rattle.std.proofs.lemmas.Bool.{and_parts, and_from, or_left, or_right, cases_Bool, eq-eqb, eqb-true, ne_eqb, cases_eq, cases_lt, lt-ltb, le-ltb, ltb-true, not-true, not-false, and_left, and_right}
+use Rattle.std.proofs.lemmas.Bool.{and_parts, and_from, cases_Bool, ne_eqb, cases_lt, le-ltb, ltb-true, not-true, not-false}
 use Rattle.std.proofs.lemmas.Bool.Decides.{nat_tests}
 use Rattle.morris_wave.specs.declared.network.Exits.{Exits}
 use Rattle.morris_wave.specs.Nets.{Net}
@@ -111,21 +111,10 @@ due_parity n cs h =
 -- what comes due at an odd wave is a lost exit
 module _ (n : ℕ) (cs : List ℕ) where
   kind : (b : Bool) → is_odd (suc n) ≡ b → (not (is_none (exits_of cs).least_lost) && eqb (due_wave (exits_of cs)) (suc n)) ≡ (b && eqb (due_wave (exits_of cs)) (suc n))
-  kind b odd =
-      ⊎_elim
-      (λ e. ap (λ t. t && eqb (due_wave (exits_of cs)) (suc n)) (sym (due_parity n cs (eqb-true (due_wave (exits_of cs)) (suc n) e)) ∙ odd))
-      (λ e. ap (λ t. not (is_none (exits_of cs).least_lost) && t) e ∙ (and_right (not (is_none (exits_of cs).least_lost)) false refl ∙ sym (ap (λ t. b && t) e ∙ and_right b false refl)))
-      (cases_Bool (eqb (due_wave (exits_of cs)) (suc n)))
+  kind b odd = grind (arith, nat_tests, due_parity n cs)
 
   other : (b : Bool) → is_odd (suc n) ≡ b → (is_none (exits_of cs).least_lost && eqb (due_wave (exits_of cs)) (suc n)) ≡ (not b && eqb (due_wave (exits_of cs)) (suc n))
-  other b odd =
-      ⊎_elim
-      (λ e. ap (λ t. t && eqb (due_wave (exits_of cs)) (suc n)) (twice (is_none (exits_of cs).least_lost) ∙ ap not (sym (due_parity n cs (eqb-true (due_wave (exits_of cs)) (suc n) e)) ∙ odd)))
-      (λ e. ap (λ t. is_none (exits_of cs).least_lost && t) e ∙ (and_right (is_none (exits_of cs).least_lost) false refl ∙ sym (ap (λ t. not b && t) e ∙ and_right (not b) false refl)))
-      (cases_Bool (eqb (due_wave (exits_of cs)) (suc n)))
-    where
-      twice : (t : Bool) → t ≡ not (not t)
-      twice t = grind arith
+  other b odd = grind (arith, nat_tests, due_parity n cs)
 
   pub odd_lost : is_odd (suc n) ≡ true → exits_lost (suc n) (exits_of cs) ≡ (exits_lost n (exits_of cs) || eqb (due_wave (exits_of cs)) (suc n))
   odd_lost odd = exits_lost_due n (exits_of cs) ∙ ap (λ t. exits_lost n (exits_of cs) || t) (kind true odd)

@@ -46,10 +46,7 @@ module _ (level wave : ℕ) (cut : Parts) where
 
   three_tests : (p q r : Bool) (f d m : GatherFault) → cond {A = Option GatherFault} p (cond {A = Option GatherFault} q (Some d) (cond {A = Option GatherFault} r None (Some m))) (Some f) ≡ None
       → (p ≡ true) × (q ≡ false) × (r ≡ true)
-  three_tests true false true f d m h = (refl, refl, refl)
-  three_tests true false false f d m h = absurd (cc)
-  three_tests true true r f d m h = absurd (cc)
-  three_tests false q r f d m h = absurd (cc)
+  three_tests p q r f d m h = grind arith
 
   fits : (place : ℕ) (came : Bool) (s : BlockState) → complaint level wave cut place came s ≡ None → Fits level wave cut s
   fits place came s h =

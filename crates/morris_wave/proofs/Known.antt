@@ -1,8 +1,8 @@
 -- What is known and decided at a wave: how it grows with each part that is applied, and from wave
 -- to wave.
-use Rattle.std.proofs.Common.{◌↔◌, ◌≡◌, ℕ, zero, suc, ◌<◌, Bool, true, false, not, ◌&&◌, ◌||◌, cond, eqb, refl, sym, ap, ap₂, ◌∙◌, subst, ⊎_elim, arith}
+use Rattle.std.proofs.Common.{◌↔◌, ◌≡◌, ℕ, zero, suc, ◌<◌, Bool, true, false, not, ◌&&◌, ◌||◌, cond, eqb, sym, ap, ap₂, ◌∙◌, subst, ⊎_elim, arith}
 use Rattle.std.specs.List.{list_any, All}
-use Rattle.std.proofs.lemmas.Bool.{false≢true, and_parts, or_cases, or_left, or_right, cases_Bool, both_ways, and_left, cond-true, cond-false, ne_eqb, false_from_ne_true}
+use Rattle.std.proofs.lemmas.Bool.{false≢true, or_cases, or_left, or_right, cases_Bool, both_ways, cond-true, cond-false, false_from_ne_true}
 use Rattle.std.proofs.lemmas.Bool.Decides.{nat_tests}
 use Rattle.morris_wave.specs.Nets.{Net}
 use Rattle.morris_wave.specs.Exits.{exits_of, exits_lost, exits_won}
@@ -16,14 +16,12 @@ use Rattle.morris_wave.proofs.ExitTests.{some_exit_lost, each_exit_won}
 known_lost_at_most : (g : Net) (n : ℕ) (a : ℕ → Bool) (j : ℕ) → known_lost g n a j ≡ true → is_lost g n j ≡ true
 unfolding known_lost
 known_lost_at_most g zero a j h = absurd (false≢true h)
-known_lost_at_most g (suc n) a j h =
-    ⊎_elim (λ e. lost_more g n j e) (λ e. (and_parts (a j) (is_lost g (suc n) j) e).1) (or_cases (is_lost g n j) (a j && is_lost g (suc n) j) h)
+known_lost_at_most g (suc n) a j h = grind (arith, lost_more g n j)
 
 known_won_at_most : (g : Net) (n : ℕ) (a : ℕ → Bool) (j : ℕ) → known_won g n a j ≡ true → is_won g n j ≡ true
 unfolding known_won
 known_won_at_most g zero a j h = absurd (false≢true h)
-known_won_at_most g (suc n) a j h =
-    ⊎_elim (λ e. won_more g n j e) (λ e. (and_parts (a j) (is_won g (suc n) j) e).1) (or_cases (is_won g n j) (a j && is_won g (suc n) j) h)
+known_won_at_most g (suc n) a j h = grind (arith, won_more g n j)
 
 known_lost_at_least : (g : Net) (n : ℕ) (a : ℕ → Bool) (j : ℕ) → is_lost g n j ≡ true → known_lost g (suc n) a j ≡ true
 unfolding known_lost
@@ -64,21 +62,8 @@ marked_code old code test h = grind (arith, nat_tests)
 -- one part more is applied: an entry changes exactly where the test holds
 pub entry_step : (g : Net) (n : ℕ) (a b : ℕ → Bool) (i : ℕ) (test : Bool) → is_decided_at g n b i ≡ (is_decided_at g n a i || test) → entry_at g n b i ≡ marked (entry_at g n a i) test (suc n)
 entry_step g n a b i test h =
-    ⊎_elim
-    (λ e. let eb : is_decided_at g n b i ≡ true = h ∙ or_left (is_decided_at g n a i) test e in
-    let fb : entry_at g n b i ≡ code_within g (suc n) i = cond-true {A = ℕ} (is_decided_at g n b i) (code_within g (suc n) i) 0 eb in
-    let fa : entry_at g n a i ≡ code_within g (suc n) i = cond-true {A = ℕ} (is_decided_at g n a i) (code_within g (suc n) i) 0 e in
-    let pos = (code_is g (suc n) i (decided_at_most g n a i e)).0 in
-    fb ∙ (sym (marked_code (code_within g (suc n) i) (suc n) test pos) ∙ ap (λ x. marked x test (suc n)) (sym fa)))
-    (λ e. let fa : entry_at g n a i ≡ 0 = cond-false {A = ℕ} (is_decided_at g n a i) (code_within g (suc n) i) 0 e in
-    let same : is_decided_at g n b i ≡ test = h ∙ ap (λ x. x || test) e in
-    ⊎_elim
-    (λ t. cond-true {A = ℕ} (is_decided_at g n b i) (code_within g (suc n) i) 0 (same ∙ t)
-    ∙ (entry_new g n a b i e (same ∙ t) ∙ (sym (ap (λ x. marked 0 x (suc n)) t) ∙ ap (λ x. marked x test (suc n)) (sym fa))))
-    (λ t. cond-false {A = ℕ} (is_decided_at g n b i) (code_within g (suc n) i) 0 (same ∙ t)
-    ∙ (sym (ap (λ x. marked 0 x (suc n)) t) ∙ ap (λ x. marked x test (suc n)) (sym fa)))
-    (cases_Bool test))
-    (cases_Bool (is_decided_at g n a i))
+    let some : is_decided_at g n a i ≡ true → 0 < code_within g (suc n) i = λ e. (code_is g (suc n) i (decided_at_most g n a i e)).0 in
+    grind (arith, nat_tests, entry_new g n a b i, some)
 
 -- an entry that is there is the code
 pub entry_code : (g : Net) (n : ℕ) (a : ℕ → Bool) (i : ℕ) → 0 < entry_at g n a i → HasCode g i (entry_at g n a i)

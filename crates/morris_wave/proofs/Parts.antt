@@ -1,6 +1,7 @@
 -- What is known, and the entries, in other words for the parts that are applied.
-use Rattle.std.proofs.Common.{◌≡◌, ℕ, zero, suc, Bool, true, false, not, ◌&&◌, ◌||◌, eqb, ltb, refl, sym, ap, ap₂, ◌∙◌, ⊎_elim, arith}
-use Rattle.std.proofs.lemmas.Bool.{false≢true, and_parts, and_right, not-true, cases_Bool, cond-true, cond-false, eq-eqb, ne_eqb, lt-ltb}
+use Rattle.std.proofs.Common.{◌≡◌, ◌≤◌, ℕ, zero, suc, Bool, true, false, not, ◌&&◌, ◌||◌, eqb, ltb, refl, sym, ap, ◌∙◌, ⊎_elim, arith}
+use Rattle.std.proofs.lemmas.Bool.{and_parts, and_right, not-true, cases_Bool, cond-true, cond-false, ne_eqb, lt-ltb}
+use Rattle.std.proofs.lemmas.Bool.Decides.{nat_tests}
 use Rattle.morris_wave.specs.Nets.{Net}
 use Rattle.morris_wave.specs.Values.{is_lost, is_won, is_decided, code_within, HasDepth}
 use Rattle.morris_wave.specs.Waves.{known_lost, known_won, is_decided_at, entry_at, is_fresh}
@@ -45,14 +46,8 @@ known_lost_covered g (suc n) a j has = covers_lost (is_lost g n j) (is_won g n j
 pub fresh_code : (g : Net) (n i : ℕ) → eqb (code_within g (suc n) i) (suc n) ≡ is_fresh g (suc n) i
 unfolding is_fresh
 fresh_code g n i =
-    ⊎_elim
-    (λ e. ne_eqb (code_within g (suc n) i) (suc n) (λ z. omega (arith, code_kept g n i e, (code_is g n i e).1))
-    ∙ sym (ap (λ t. not t && is_decided g (suc n) i) e))
-    (λ e. ⊎_elim
-    (λ f. eq-eqb (code_within g (suc n) i) (suc n) (code_new g n i e f) ∙ sym (ap₂ (λ s t. not s && t) e f))
-    (λ f. ne_eqb (code_within g (suc n) i) (suc n) (λ z. omega (arith, code_open g (suc n) i f)) ∙ sym (ap₂ (λ s t. not s && t) e f))
-    (cases_Bool (is_decided g (suc n) i)))
-    (cases_Bool (is_decided g n i))
+    let low : is_decided g n i ≡ true → code_within g n i ≤ n = λ e. (code_is g n i e).1 in
+    grind (arith, nat_tests, code_kept g n i, code_new g n i, code_open g (suc n) i, low)
 
 -- the fresh nodes are those whose entry is the wave
 pub fresh_entry : (g : Net) (n : ℕ) (a : ℕ → Bool) (i : ℕ) → (ltb 0 n && eqb (entry_at g n a i) n) ≡ is_fresh g n i

@@ -1,7 +1,8 @@
 -- The pieces of a block's fresh nodes.
-use Rattle.std.proofs.Common.{◌≡◌, ℕ, ◌+◌, ◌<◌, ◌≤◌, not, ◌&&◌, cond, eqb, ltb, List, length, get_or, take, drop, refl, sym, ap, ◌∙◌, ⊎_elim, arith}
+use Rattle.std.proofs.Common.{◌≡◌, ℕ, ◌+◌, ◌<◌, ◌≤◌, ◌&&◌, cond, eqb, List, length, get_or, take, drop, refl, sym, ap, ◌∙◌, ⊎_elim, arith}
 use Rattle.std.specs.List.{All}
-use Rattle.std.proofs.lemmas.Bool.{cases_eq, cases_lt, lt-ltb, le-ltb, eq-eqb, and_left, and_right, cond-false}
+use Rattle.std.proofs.lemmas.Bool.{cases_eq, eq-eqb}
+use Rattle.std.proofs.lemmas.Bool.Decides.{nat_tests}
 use Rattle.std.proofs.lemmas.List.{get_or-take, get_or-drop, get_or_default, length-take, length-drop, drop_more}
 use Rattle.std.proofs.lemmas.List.Elements.{All-take, All-drop}
 use Rattle.std.proofs.lemmas.List.Sorted.{IsNonDecreasingBy-take, IsNonDecreasingBy-drop}
@@ -73,26 +74,10 @@ module _ (g : Net) (f : FreshState) (h : FreshHolds g f) (place : ℕ) (some : 0
       (cases_eq (get_or rest p d) at)
 
   rest_once : (i : ℕ) → IsIn f.cut f.source i → times i rest ≡ cond {A = ℕ} (is_from_to f.low at i && is_fresh g f.wave i) 1 0
-  rest_once i inside =
-      ⊎_elim
-      (λ m. omega (arith, in_both i, absent_above i m)
-      ∙ (h.once i inside
-      ∙ ap (λ t. cond {A = ℕ} ((not (ltb i f.low) && t) && is_fresh g f.wave i) 1 0) (lt-ltb i f.high (omega (arith, m, at_high)) ∙ sym (lt-ltb i at m))))
-      (λ m. absent_below i m
-      ∙ sym (cond-false {A = ℕ} (is_from_to f.low at i && is_fresh g f.wave i) 1 0
-      (and_left (is_from_to f.low at i) (is_fresh g f.wave i) (and_right (not (ltb i f.low)) (ltb i at) (le-ltb i at m)))))
-      (cases_lt i at)
+  rest_once i inside = grind (arith, nat_tests, h.once i inside, in_both i, absent_above i, absent_below i, at_high)
 
   piece_once : (i : ℕ) → IsIn f.cut f.source i → times i piece ≡ cond {A = ℕ} (is_from_to at f.high i && is_fresh g f.wave i) 1 0
-  piece_once i inside =
-      ⊎_elim
-      (λ m. absent_above i m
-      ∙ sym (cond-false {A = ℕ} (is_from_to at f.high i && is_fresh g f.wave i) 1 0
-      (and_left (is_from_to at f.high i) (is_fresh g f.wave i) (and_left (not (ltb i at)) (ltb i f.high) (ap not (lt-ltb i at m))))))
-      (λ m. omega (arith, in_both i, absent_below i m)
-      ∙ (h.once i inside
-      ∙ ap (λ t. cond {A = ℕ} ((not t && ltb i f.high) && is_fresh g f.wave i) 1 0) (le-ltb i f.low (omega (arith, m, at_low)) ∙ sym (le-ltb i at m))))
-      (cases_lt i at)
+  piece_once i inside = grind (arith, nat_tests, h.once i inside, in_both i, absent_above i, absent_below i, at_low)
 
   pub rest_holds : FreshHolds g (rest_of f place)
   rest_holds = record {

@@ -1,7 +1,8 @@
 -- Lost and won in fewer than n + 1 plies is lost and won within n, as the rules of the game count.
 use Rattle.std.proofs.Common.{◌≡◌, ℕ, zero, suc, ◌-◌, ◌<◌, ◌%◌, Bool, true, false, not, ltb, leb, List, [], ◌∷◌, get_or, refl, sym, subst, ⊎_elim, inl, inr, ◌⊎◌, ◌↔◌, arith, add-one, ◌∙◌, ap}
 use Rattle.std.specs.List.{list_all, list_any, Any}
-use Rattle.std.proofs.lemmas.Bool.{false≢true, and_parts, and_from, or_cases, or_left, or_right, leb-true, le-leb, eqb-true, eqb-false, eq-eqb, ne_eqb, ltb-true, lt-ltb, not-true, not_from_false, both_ways, or_parts}
+use Rattle.std.proofs.lemmas.Bool.{false≢true, and_parts, and_from, or_cases, or_left, or_right, leb-true, eqb-true, eqb-false, ltb-true, not-true, both_ways, or_parts}
+use Rattle.std.proofs.lemmas.Bool.Decides.{nat_tests}
 use Rattle.std.proofs.lemmas.List.Sums.{AllPass-from_list_all, list_all-from_AllPass}
 use Rattle.std.proofs.lemmas.List.Folds.{Any-from_list_any, list_any-from_Any}
 use Rattle.morris_wave.specs.Nets.{Net}
@@ -17,10 +18,7 @@ exit_won m c h =
     (omega (arith, even), ltb-true 0 c v.1, omega (arith, leb-true c (suc m) w.1))
 
 exit_won_back : (m c : ℕ) → IsExitWon m c → is_won_exit (suc m) c ≡ true
-exit_won_back m c h =
-    and_from (is_won_code c) (leb c (suc m))
-    (and_from (not (is_odd c)) (ltb 0 c) (not_from_false (is_odd c) (ne_eqb (c % 2) 1 (λ e. omega (arith, h.0)))) (lt-ltb 0 c h.1))
-    (le-leb c (suc m) (omega (arith, h.2)))
+exit_won_back m c h = grind (arith, nat_tests, h.0, h.1, h.2)
 
 exit_lost : (m c : ℕ) → is_lost_exit (suc m) c ≡ true → IsExitLost m c
 exit_lost m c h =
@@ -28,7 +26,7 @@ exit_lost m c h =
     (eqb-true (c % 2) 1 w.0, omega (arith, leb-true c (suc m) w.1))
 
 exit_lost_back : (m c : ℕ) → IsExitLost m c → is_lost_exit (suc m) c ≡ true
-exit_lost_back m c h = and_from (is_odd c) (leb c (suc m)) (eq-eqb (c % 2) 1 h.0) (le-leb c (suc m) (omega (arith, h.1)))
+exit_lost_back m c h = grind (arith, nat_tests, h.0, h.1)
 
 any_weaker : (P Q : ℕ → Type 0) (xs : List ℕ) → ((x : ℕ) → P x → Q x) → Any P xs → Any Q xs
 any_weaker P Q xs f (k, x, l, e, p) = (k, x, l, e, f x p)
@@ -84,11 +82,7 @@ no_quiet (x ∷ xs) h = absurd (false≢true h)
 
 no_exit : (cs : List ℕ) → list_all (is_won_exit 0) cs ≡ true → cs ≡ []
 no_exit [] h = refl
-no_exit (c ∷ cs) h =
-    let w = and_parts (is_won_exit 0 c) (list_all (is_won_exit 0) cs) h in
-    let v = and_parts (is_won_code c) (leb c 0) w.0 in
-    let u = and_parts (not (is_odd c)) (ltb 0 c) v.0 in
-    absurd (omega (arith, ltb-true 0 c u.1, leb-true c 0 v.1))
+no_exit (c ∷ cs) h = absurd (grind (arith, nat_tests))
 
 nothing_left : (g : Net) (n i : ℕ) (p : ℕ → Bool) → HasNoResult g i → all_won g p n i ≡ true
 nothing_left g n i p h =

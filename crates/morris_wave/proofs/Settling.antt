@@ -1,6 +1,6 @@
 -- Once no node has the depth of the wave and all exits are due, no later wave decides anything.
 use Rattle.std.proofs.Common.{◌≡◌, ℕ, zero, suc, ◌+◌, ◌<◌, ◌≤◌, true, false, not, ◌&&◌, ◌||◌, Option, Some, None, is_none, refl, sym, ap, ap₂, ◌∙◌, subst, ⊎_elim, arith, add-suc, add-zero}
-use Rattle.std.proofs.lemmas.Bool.{or_left, or_right, or_cases, and_from, cases_Bool, both_ways, false_from_ne_true, true_from_ne_false, lt-ltb, not_from_false}
+use Rattle.std.proofs.lemmas.Bool.{cases_Bool, both_ways, false_from_ne_true, lt-ltb}
 use Rattle.morris_wave.specs.Nets.{Net, IsNet}
 use Rattle.morris_wave.specs.Exits.{exits_of, exits_lost, exits_won, some_below, none_from, due_of, last_due_of}
 use Rattle.morris_wave.specs.Values.{is_lost, is_won, is_decided, code_within, HasDepth, HasCode, IsTooDeep}
@@ -28,21 +28,13 @@ exits_won_same n m e due le = ap (λ x. is_none e.least_lost && (not e.drawn && 
 module _ (g : Net) (n i : ℕ) (quiet : is_fresh g (suc n) i ≡ false) where
   decided_still : is_decided g (suc n) i ≡ true → is_decided g n i ≡ true
   unfolding is_fresh
-  decided_still h = true_from_ne_false (is_decided g n i) (λ e. both_ways (not (is_decided g n i) && is_decided g (suc n) i) quiet (and_from (not (is_decided g n i)) (is_decided g (suc n) i) (not_from_false (is_decided g n i) e) h))
+  decided_still h = grind arith
 
   lost_still : is_lost g (suc n) i ≡ is_lost g n i
-  lost_still =
-      ⊎_elim
-      (λ e. e ∙ sym (⊎_elim (λ l. l) (λ w. absurd (apart g (suc n) i e (won_more g n i w))) (or_cases (is_lost g n i) (is_won g n i) (decided_still (or_left (is_lost g (suc n) i) (is_won g (suc n) i) e)))))
-      (λ e. e ∙ sym (false_from_ne_true (is_lost g n i) (λ l. both_ways (is_lost g (suc n) i) e (lost_more g n i l))))
-      (cases_Bool (is_lost g (suc n) i))
+  lost_still = grind (arith, apart g (suc n) i, lost_more g n i, won_more g n i, decided_still)
 
   won_still : is_won g (suc n) i ≡ is_won g n i
-  won_still =
-      ⊎_elim
-      (λ e. e ∙ sym (⊎_elim (λ l. absurd (apart g (suc n) i (lost_more g n i l) e)) (λ w. w) (or_cases (is_lost g n i) (is_won g n i) (decided_still (or_right (is_lost g (suc n) i) (is_won g (suc n) i) e)))))
-      (λ e. e ∙ sym (false_from_ne_true (is_won g n i) (λ w. both_ways (is_won g (suc n) i) e (won_more g n i w))))
-      (cases_Bool (is_won g (suc n) i))
+  won_still = grind (arith, apart g (suc n) i, lost_more g n i, won_more g n i, decided_still)
 
 -- no node of depth n is left and every exit is due by n
 pub record IsQuiet (g : Net) (n : ℕ) : Type 0 where

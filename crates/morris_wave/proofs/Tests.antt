@@ -1,7 +1,8 @@
 -- Tests over the elements of a list, and counts of those that pass.
 use Rattle.std.proofs.Common.{◌≡◌, ℕ, ◌+◌, ◌≤◌, Bool, true, false, not, ◌&&◌, ◌||◌, cond, eqb, ltb, List, [], ◌∷◌, length, refl, sym, ap, ap₂, ◌∙◌, ⊎_elim, arith}
 use Rattle.std.specs.List.{list_all, list_any, count_by, All}
-use Rattle.std.proofs.lemmas.Bool.{false≢true, and_parts, and_from, or_cases, or_left, or_right, or_parts, cases_Bool, and_cases, both_ways, and_left, cond-true, cond-false, lt-ltb, ne_eqb}
+use Rattle.std.proofs.lemmas.Bool.{false≢true, and_parts, and_from, or_cases, or_left, or_right, or_parts, and_cases, both_ways, cond-true, cond-false}
+use Rattle.std.proofs.lemmas.Bool.Decides.{nat_tests}
 use Rattle.std.proofs.lemmas.List.Sums.{sum_by-cons}
 use Rattle.std.proofs.lemmas.List.Elements.{All-head, All-tail}
 
@@ -75,11 +76,7 @@ module _ {X : Type 0} (p : X → Bool) where
   -- some element passes exactly where the count is above 0
   pub some_counted : (xs : List X) → ltb 0 (count_by p xs) ≡ list_any p xs
   some_counted [] = refl
-  some_counted (x ∷ xs) =
-      ⊎_elim
-      (λ e. let f = count_yes x xs e in lt-ltb 0 (count_by p (x ∷ xs)) (omega arith) ∙ sym (or_left (p x) (list_any p xs) e))
-      (λ e. ap (ltb 0) (count_no x xs e) ∙ (some_counted xs ∙ sym (ap (λ b. b || list_any p xs) e)))
-      (cases_Bool (p x))
+  some_counted (x ∷ xs) = grind (arith, nat_tests, count-cons x xs, some_counted xs)
 
 module _ {X : Type 0} (p q : X → Bool) where
   pub count_same : (xs : List X) → All (λ x. p x ≡ q x) xs → count_by p xs ≡ count_by q xs
@@ -92,12 +89,7 @@ module _ {X : Type 0} (p q : X → Bool) where
 -- none fails exactly where all pass
 pub none_counted : {X : Type 0} (p : X → Bool) (xs : List X) → eqb (count_by (λ x. not (p x)) xs) 0 ≡ list_all p xs
 none_counted p [] = refl
-none_counted p (x ∷ xs) =
-    ⊎_elim
-    (λ e. ap (λ n. eqb n 0) (count_no (λ y. not (p y)) x xs (ap not e)) ∙ (none_counted p xs ∙ sym (ap (λ b. b && list_all p xs) e)))
-    (λ e. let f = count_yes (λ y. not (p y)) x xs (ap not e) in
-    ne_eqb (count_by (λ y. not (p y)) (x ∷ xs)) 0 (λ z. omega arith) ∙ sym (and_left (p x) (list_all p xs) e))
-    (cases_Bool (p x))
+none_counted p (x ∷ xs) = grind (arith, nat_tests, count-cons (λ y. not (p y)) x xs, none_counted p xs)
 
 -- an element passes the first test exactly where it passes one of the others, and never both of
 -- them

@@ -1,7 +1,8 @@
 -- The waves of a whole graph as one stretch.
 use Rattle.std.proofs.Common.{◌≡◌, ℕ, suc, ◌+◌, ◌-◌, ◌<◌, ◌≤◌, Bool, true, false, ◌&&◌, cond, eqb, List, length, get_or, take, drop, refl, sym, ap, ◌∙◌, subst, ⊎_elim, arith, zero-add, length-take, length-drop}
 use Rattle.std.specs.List.{list_any, count_by}
-use Rattle.std.proofs.lemmas.Bool.{and_from, and_left, cases_eq, cond-true, cond-false, eqb-true, eq-eqb, ne_eqb, lt-ltb, le-ltb, false_from_ne_true, true_from_ne_false}
+use Rattle.std.proofs.lemmas.Bool.{and_from, and_left, cases_eq, cond-true, cond-false, eqb-true, eq-eqb, ne_eqb, lt-ltb, false_from_ne_true, true_from_ne_false}
+use Rattle.std.proofs.lemmas.Bool.Decides.{nat_tests}
 use Rattle.std.proofs.lemmas.List.{get_or-take, get_or-drop}
 use Rattle.std.proofs.lemmas.List.Sums.{sum_by-take-le, get_or-le-sum_by}
 use Rattle.morris_wave.specs.Nets.{Net, IsNet, times}
@@ -52,11 +53,7 @@ module _ {g : Net} {n : ℕ} {fresh : List ℕ} (listed : ListsFresh g n fresh) 
 
   -- it wasn't there before
   not_before : among (take i fresh) node ≡ false
-  not_before =
-      let more = times_more fresh i node inside is node in
-      let le : times node (take (i + 1) fresh) ≤ times node fresh = sum_by-take-le (λ x. cond {A = ℕ} (eqb x node) 1 0) fresh (i + 1) in
-      let once = listed.once node node_in in
-      sym (some_counted (λ x. eqb x node) (take i fresh)) ∙ le-ltb 0 (times node (take i fresh)) (omega (arith, more, at_node, le, once, at_most_one (is_fresh g n node)))
+  not_before = grind (arith, nat_tests, some_counted (λ x. eqb x node) (take i fresh), times_more fresh i node inside is node, sum_by-take-le (λ x. cond {A = ℕ} (eqb x node) 1 0) fresh (i + 1), listed.once node node_in, at_most_one (is_fresh g n node), at_node)
 
   is_new : is_fresh g n node ≡ true
   is_new =

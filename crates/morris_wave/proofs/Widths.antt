@@ -1,6 +1,6 @@
 -- Counters of 8 and of 16 bits.
 use Rattle.std.proofs.Common.{◌≡◌, ℕ, ◌<◌, ◌≤◌, eqb, get_or, refl, ⊎_elim, arith}
-use Rattle.std.proofs.lemmas.Bool.{cases_eq, cond-true, cond-false, eq-eqb, ne_eqb}
+use Rattle.std.proofs.lemmas.Bool.{cases_eq, cond-false, ne_eqb}
 use Rattle.std.proofs.lemmas.Bool.Decides.{nat_tests}
 use Rattle.morris_wave.specs.Keeping.{left_of}
 use Rattle.morris_wave.specs.Counts.{FallsLike, left_of_byte, left_at, counts_of, most_of}
