@@ -1,7 +1,6 @@
 -- From a complete wave to the next one, of which nothing is applied: only exits come due.
-use Rattle.std.proofs.Common.{◌≡◌, ℕ, zero, suc, Bool, true, false, not, ◌&&◌, ◌||◌, length, refl, sym, ap, ap₂, ◌∙◌, ⊎_elim, arith}
+use Rattle.std.proofs.Common.{◌≡◌, ◌<◌, ℕ, zero, suc, Bool, true, false, not, ◌&&◌, ◌||◌, length, refl, sym, ap₂, ◌∙◌, arith}
 use Rattle.std.specs.List.{list_all, list_any}
-use Rattle.std.proofs.lemmas.Bool.{or_parts, cases_Bool, both_ways, cond-true, cond-false, false_from_ne_true}
 use Rattle.std.proofs.lemmas.Bool.Decides.{nat_tests}
 use Rattle.std.proofs.lemmas.List.Folds.{list_any_none}
 use Rattle.morris_wave.specs.Nets.{Net}
@@ -12,7 +11,7 @@ use Rattle.morris_wave.specs.Solving.{every, none}
 use Rattle.morris_wave.proofs.Tests.{any_same, all_same, count_all}
 use Rattle.morris_wave.proofs.Depths.{lost_more, won_more, code_is, code_kept, code_new, code_open, none_decided}
 use Rattle.morris_wave.proofs.ExitTests.{or_false}
-use Rattle.morris_wave.proofs.Known.{marked_code, decided_parts, open_same, decided_at_most, decided_at_least}
+use Rattle.morris_wave.proofs.Known.{decided_parts, open_same, decided_at_most, decided_at_least}
 
 later : (p q : Bool) → (p ≡ true → q ≡ true) → (p || (true && q)) ≡ q
 later p q h = grind arith
@@ -55,31 +54,13 @@ pub entry_next : (g : Net) (n i : ℕ) (test : Bool)
     → (settles (suc n) (open_at g n every i) (exits_of (g.exits i)) ≡ true → settles n (open_at g n every i) (exits_of (g.exits i)) ≡ false → test ≡ true)
     → entry_at g (suc n) none i ≡ marked (entry_at g n every i) test (suc (suc n))
 entry_next g n i test sound whole =
-    ⊎_elim
-    (λ e. let before : is_decided g (suc n) i ≡ true = decided_at_most g n every i e in
-    let is : entry_at g n every i ≡ code_within g (suc n) i = cond-true {A = ℕ} (is_decided_at g n every i) (code_within g (suc n) i) 0 e in
-    cond-true {A = ℕ} (is_decided_at g (suc n) none i) (code_within g (suc (suc n)) i) 0 (decided_at_least g (suc n) none i before)
-    ∙ (code_kept g (suc n) i before
-    ∙ (sym (marked_code (code_within g (suc n) i) (suc (suc n)) test (code_is g (suc n) i before).0)
-    ∙ ap (λ x. marked x test (suc (suc n))) (sym is))))
-    (λ e. let parts = or_parts (list_any (known_lost g n every) (g.quiet i)) (settles n (open_at g n every i) (exits_of (g.exits i))) (sym (decided_parts g n every i) ∙ e) in
-    let is : entry_at g n every i ≡ 0 = cond-false {A = ℕ} (is_decided_at g n every i) (code_within g (suc n) i) 0 e in
-    let now : is_decided_at g (suc n) none i ≡ settles (suc n) (open_at g n every i) (exits_of (g.exits i)) =
+    let now : is_decided_at g (suc n) none i ≡ (list_any (known_lost g n every) (g.quiet i) || settles (suc n) (open_at g n every i) (exits_of (g.exits i))) =
     decided_parts g (suc n) none i
     ∙ ap₂ (λ p q. p || settles (suc n) q (exits_of (g.exits i)))
-    (any_same (known_lost g (suc n) none) (known_lost g n every) (g.quiet i) (λ k d l. known_lost_next g n _ ∙ sym (known_lost_all g n _)) ∙ parts.0)
+    (any_same (known_lost g (suc n) none) (known_lost g n every) (g.quiet i) (λ k d l. known_lost_next g n _ ∙ sym (known_lost_all g n _)))
     (open_next g n i) in
-    let before : is_decided g (suc n) i ≡ false = sym (decided_all g n i) ∙ e in
-    ⊎_elim
-    (λ t. let yes_now : is_decided_at g (suc n) none i ≡ true = now ∙ sound t in
-    cond-true {A = ℕ} (is_decided_at g (suc n) none i) (code_within g (suc (suc n)) i) 0 yes_now
-    ∙ (code_new g (suc n) i before (decided_at_most g (suc n) none i yes_now)
-    ∙ (sym (ap (λ x. marked 0 x (suc (suc n))) t) ∙ ap (λ x. marked x test (suc (suc n))) (sym is))))
-    (λ t. let not_now : is_decided_at g (suc n) none i ≡ false = now ∙ false_from_ne_true (settles (suc n) (open_at g n every i) (exits_of (g.exits i))) (λ s. both_ways test t (whole s parts.1)) in
-    cond-false {A = ℕ} (is_decided_at g (suc n) none i) (code_within g (suc (suc n)) i) 0 not_now
-    ∙ (sym (ap (λ x. marked 0 x (suc (suc n))) t) ∙ ap (λ x. marked x test (suc (suc n))) (sym is)))
-    (cases_Bool test))
-    (cases_Bool (is_decided_at g n every i))
+    let some : is_decided g (suc n) i ≡ true → 0 < code_within g (suc n) i = λ e. (code_is g (suc n) i e).0 in
+    grind (arith, nat_tests, decided_parts g n every i, decided_all g n i, code_kept g (suc n) i, code_new g (suc n) i, decided_at_least g (suc n) none i, decided_at_most g (suc n) none i, some)
 
 none_won : (g : Net) (a : ℕ → Bool) (j : ℕ) → not (known_won g 0 a j) ≡ true
 unfolding known_won
@@ -98,8 +79,4 @@ entry_first g a i =
     let same : is_decided_at g 0 a i ≡ settles 0 (length (g.quiet i)) (exits_of (g.exits i)) =
     decided_parts g 0 a i
     ∙ ap₂ (λ p c. p || settles 0 c (exits_of (g.exits i))) (list_any_none (known_lost g 0 a) (g.quiet i) (λ k d l. none_lost g a _)) (open_first g a i) in
-    ⊎_elim
-    (λ e. cond-true {A = ℕ} (is_decided_at g 0 a i) (code_within g 1 i) 0 e
-    ∙ (code_new g 0 i (none_decided g i) (decided_at_most g 0 a i e) ∙ sym (ap (λ t. marked 0 t 1) (sym same ∙ e))))
-    (λ e. cond-false {A = ℕ} (is_decided_at g 0 a i) (code_within g 1 i) 0 e ∙ sym (ap (λ t. marked 0 t 1) (sym same ∙ e)))
-    (cases_Bool (is_decided_at g 0 a i))
+    grind (arith, nat_tests, code_new g 0 i (none_decided g i), decided_at_most g 0 a i)

@@ -1,6 +1,6 @@
 -- Counters of 16 bits that fall, and the nodes that are spent.
 use Rattle.std.proofs.Common.{◌≡◌, ℕ, ◌+◌, ◌-◌, ◌%◌, ◌<◌, ◌≤◌, Bool, true, false, ◌&&◌, ◌||◌, cond, eqb, List, length, get_or, set, take, refl, sym, ap, ap₂, ◌∙◌, subst, ⊎_elim, arith, get_or-set_other, get_or-set_same, length-set}
-use Rattle.std.proofs.lemmas.Bool.{and_left, and_right, cond-true, cond-false, eq-eqb, ne_eqb, cases_eq, cases_lt, le-ltb}
+use Rattle.std.proofs.lemmas.Bool.{cond-true, cond-false, eq-eqb, ne_eqb, cases_eq, cases_lt}
 use Rattle.std.proofs.lemmas.Bool.Decides.{nat_tests}
 use Rattle.std.proofs.lemmas.List.Sums.{sum_by-take-le}
 use Rattle.morris_wave.specs.Nets.{times}
@@ -35,15 +35,8 @@ module _ (e : ℕ → ℕ) (nodes : List ℕ) (i node place : ℕ) (inside : i <
   -- a counter that fell isn't spent before its last fall
   not_spent : times (e place) nodes ≤ left_of (get_or old place 0) → (among (take i nodes) (e place) && eqb (get_or mid place 0) 0) ≡ false
   not_spent enough =
-      ⊎_elim
-      (λ (some : 0 < times (e place) (take i nodes)).
       let le : times (e place) (take (i + 1) nodes) ≤ times (e place) nodes = sum_by-take-le (λ x. cond {A = ℕ} (eqb x (e place)) 1 0) nodes (i + 1) in
-      and_right (among (take i nodes) (e place)) (eqb (get_or mid place 0) 0)
-      (ne_eqb (get_or mid place 0) 0 (λ z. omega (arith, z, h place l, some, le, times_here, enough))))
-      (λ (none_yet : times (e place) (take i nodes) ≤ 0).
-      and_left (among (take i nodes) (e place)) (eqb (get_or mid place 0) 0)
-      (sym (some_counted (λ x. eqb x (e place)) (take i nodes)) ∙ le-ltb 0 (times (e place) (take i nodes)) none_yet))
-      (cases_lt 0 (times (e place) (take i nodes)))
+      grind (arith, nat_tests, some_counted (λ x. eqb x (e place)) (take i nodes), h place l, times_here)
 
   -- a counter that falls once more has a fall left
   pub falls_left : (left : ℕ → ℕ) → ((count : ℕ) → left count ≤ left_of count) → ((count : ℕ) → 0 < count → left count ≡ left_of count)

@@ -1,10 +1,10 @@
 -- What is known, and the entries, in other words for the parts that are applied.
-use Rattle.std.proofs.Common.{◌≡◌, ◌≤◌, ℕ, zero, suc, Bool, true, false, not, ◌&&◌, ◌||◌, eqb, ltb, refl, sym, ap, ◌∙◌, ⊎_elim, arith}
-use Rattle.std.proofs.lemmas.Bool.{and_parts, and_right, not-true, cases_Bool, cond-true, cond-false, ne_eqb, lt-ltb}
+use Rattle.std.proofs.Common.{◌≡◌, ◌≤◌, ℕ, zero, suc, Bool, true, not, ◌&&◌, ◌||◌, eqb, ltb, refl, ap, arith}
+use Rattle.std.proofs.lemmas.Bool.{and_parts, not-true}
 use Rattle.std.proofs.lemmas.Bool.Decides.{nat_tests}
 use Rattle.morris_wave.specs.Nets.{Net}
 use Rattle.morris_wave.specs.Values.{is_lost, is_won, is_decided, code_within, HasDepth}
-use Rattle.morris_wave.specs.Waves.{known_lost, known_won, is_decided_at, entry_at, is_fresh}
+use Rattle.morris_wave.specs.Waves.{known_lost, known_won, entry_at, is_fresh}
 use Rattle.morris_wave.specs.Solving.{every}
 use Rattle.morris_wave.proofs.Depths.{lost_more, won_more, apart, code_is, code_kept, code_new, code_open}
 use Rattle.morris_wave.proofs.Known.{decided_at_least, decided_at_most}
@@ -54,20 +54,4 @@ pub fresh_entry : (g : Net) (n : ℕ) (a : ℕ → Bool) (i : ℕ) → (ltb 0 n 
 unfolding is_fresh
 fresh_entry g zero a i = refl
 fresh_entry g (suc n) a i =
-    ⊎_elim
-    (λ e. let at : entry_at g (suc n) a i ≡ code_within g (suc n) i =
-    cond-true {A = ℕ} (is_decided_at g (suc n) a i) (code_within g (suc (suc n)) i) 0 (decided_at_least g (suc n) a i e) ∙ code_kept g (suc n) i e in
-    ap (λ x. ltb 0 (suc n) && eqb x (suc n)) at ∙ (ap (λ t. t && eqb (code_within g (suc n) i) (suc n)) (lt-ltb 0 (suc n) (omega arith)) ∙ fresh_code g n i))
-    (λ e. let other : eqb (entry_at g (suc n) a i) (suc n) ≡ false = ne_eqb (entry_at g (suc n) a i) (suc n) (not_this e) in
-    and_right (ltb 0 (suc n)) (eqb (entry_at g (suc n) a i) (suc n)) other ∙ sym (and_right (not (is_decided g n i)) (is_decided g (suc n) i) e))
-    (cases_Bool (is_decided g (suc n) i))
-  where
-    not_this : is_decided g (suc n) i ≡ false → entry_at g (suc n) a i ≡ suc n → ⊥
-    not_this e z =
-        ⊎_elim
-        (λ d. let new : code_within g (suc (suc n)) i ≡ suc (suc n) = code_new g (suc n) i e (decided_at_most g (suc n) a i d) in
-        let at : entry_at g (suc n) a i ≡ code_within g (suc (suc n)) i = cond-true {A = ℕ} (is_decided_at g (suc n) a i) (code_within g (suc (suc n)) i) 0 d in
-        omega (arith, new, at, z))
-        (λ d. let at : entry_at g (suc n) a i ≡ 0 = cond-false {A = ℕ} (is_decided_at g (suc n) a i) (code_within g (suc (suc n)) i) 0 d in
-        omega (arith, at, z))
-        (cases_Bool (is_decided_at g (suc n) a i))
+    grind (arith, nat_tests, decided_at_least g (suc n) a i, decided_at_most g (suc n) a i, code_kept g (suc n) i, code_new g (suc n) i, fresh_code g n i)

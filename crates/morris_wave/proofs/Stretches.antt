@@ -2,7 +2,7 @@
 use Rattle.std.proofs.Common.{◌≡◌, ℕ, suc, ◌+◌, ◌-◌, ◌%◌, ◌<◌, ◌≤◌, ◌↔◌, Bool, true, false, not, ◌&&◌, ◌||◌, cond, eqb, ltb, List, [], length, get_or, set, refl, sym, ap, ap₂, ◌∙◌, subst, ⊎_elim, inl, ◌⊎◌, arith}
 use Rattle.std.specs.List.{count_by, list_any}
 use Rattle.std.specs.List.Sorted.{IsNonDecreasingBy}
-use Rattle.std.proofs.lemmas.Bool.{and_from, both_ways, not_from_false, cases_Bool, cond-true, lt-ltb, ltb-true}
+use Rattle.std.proofs.lemmas.Bool.{and_from, both_ways, not_from_false, cases_Bool, cond-true, lt-ltb}
 use Rattle.std.proofs.lemmas.Bool.Decides.{nat_tests}
 use Rattle.std.proofs.lemmas.List.Folds.{list_any_at}
 use Rattle.std.proofs.lemmas.List.Sums.{count_by-le-length}
@@ -146,17 +146,7 @@ module _ {g : Net} (law : IsNet g) {n : ℕ} {a : ℕ → Bool} {first : ℕ} {c
       spent : is_odd n ≡ false → (k : ℕ) → k < length codes
           → (among nodes (first + k) && eqb (get_or counters' k 0) 0)
           ≡ (ltb 0 (times (first + k) nodes) && eqb (pending_at g n (λ j. a j || x j) (first + k)) 0)
-      spent even k l =
-          ⊎_elim
-          (λ (t : ltb 0 (times (first + k) nodes) ≡ true).
-          let some = ltb-true 0 (times (first + k) nodes) t in
-          let exact : get_or counters' k 0 ≡ pending_at g n (λ j. a j || x j) (first + k) =
-          omega (arith, even_counter even k l, falls even k l, some, pending-le g law n a (first + k) (node_in k l)) in
-          ap₂ (λ p c. p && eqb c 0) (sym (is_behind (first + k))) exact)
-          (λ (t : ltb 0 (times (first + k) nodes) ≡ false).
-          ap (λ p. p && eqb (get_or counters' k 0) 0) (sym (is_behind (first + k)) ∙ t)
-          ∙ sym (ap (λ p. p && eqb (pending_at g n (λ j. a j || x j) (first + k)) 0) t))
-          (cases_Bool (ltb 0 (times (first + k) nodes)))
+      spent even k l = grind (arith, nat_tests, is_behind (first + k), even_counter even k l, falls even k l, pending-le g law n a (first + k) (node_in k l))
 
       even_code : is_odd n ≡ false → (k : ℕ) → k < length codes → get_or codes' k 0 ≡ entry_at g n (λ j. a j || x j) (first + k)
       even_code even k l =
