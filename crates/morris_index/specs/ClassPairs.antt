@@ -1,6 +1,6 @@
 -- The numbering of the positions of a pair by classes. A position is led by the symmetry of the set
 -- of the player to move, so that this set becomes the representative of its class.
-use Rattle.std.specs.Prelude.{◌≡◌, ℕ, ◌+◌, ◌-◌, ◌*◌, ◌^◌, ◌<◌, ◌≤◌, nat_eq, map, if◌then◌else◌}
+use Rattle.std.specs.Prelude.{ℕ, ◌+◌, ◌-◌, ◌*◌, nat_eq, map, if◌then◌else◌}
 use Rattle.morris_board.specs.Boards.{Shape}
 use Rattle.morris_board.specs.Sets.{members, count_of}
 use Rattle.morris_board.specs.Positions.{Sides}
@@ -34,13 +34,3 @@ class_size_of board n c =
 unfoldable pub class_index_of : Shape → ℕ → Counts → Sides → ℕ
 class_index_of board n c s =
     if nat_eq (count_of s.own) c.greater then class_half_index board n s else class_half_size board n c.greater c.lesser + class_half_index board n s
-
--- What is kept of a pair's sizes, on n points: how many entries its first half has, and for a class
--- of either half how many sets of the opponent's stones there are outside the representative.
-pub record AreSizes (board : Shape) (n : ℕ) (c : Counts) (size own_greater own_lesser : ℕ) : Type 0 where
-  pub first : size ≡ class_half_size board n c.greater c.lesser
-  pub few : size ≤ 2 ^ 39
-  pub greater : own_greater ≡ choose (n - c.greater) c.lesser
-  pub greater_few : own_greater < 2 ^ 21
-  pub lesser : own_lesser ≡ choose (n - c.lesser) c.greater
-  pub lesser_few : own_lesser < 2 ^ 21

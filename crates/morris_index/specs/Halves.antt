@@ -1,7 +1,9 @@
 -- The entries of a pair by classes in which the two players have given numbers of stones.
-use Rattle.std.specs.Prelude.{◌≡◌, ℕ, ◌-◌, ◌^◌, ◌<◌, ◌≤◌, nat_eq, true, if◌then◌else◌}
+use Rattle.std.specs.Prelude.{◌≡◌, ℕ, ◌-◌, ◌^◌, ◌<◌, ◌≤◌, nat_eq, true, List, if◌then◌else◌}
 use Rattle.morris_board.specs.Boards.{Shape}
 use Rattle.morris_index.specs.Binomials.{choose}
+use Rattle.morris_index.specs.Carried.{AreReturningKept}
+use Rattle.morris_index.specs.Classes.{class_count}
 use Rattle.morris_index.specs.ClassPairs.{class_half_size}
 use Rattle.morris_index.specs.Pairs.{Counts, IsPair}
 use Rattle.morris_index.specs.Standings.{are_of}
@@ -26,4 +28,16 @@ pub record IsHalfKept (board : Shape) (n : ℕ) (h : HalfOf) (sets ranked start 
   pub first : start ≡ (if nat_eq h.own h.pair.greater then 0 else class_half_size board n h.pair.greater h.pair.lesser)
   pub few : start ≤ 2 ^ 39
   pub choices : each ≡ choose (n - h.own) h.other
+  pub choices_few : each < 2 ^ 21
+
+-- What is kept, on n points, of the sets of `own` points of a pair whose other number is `other`: the
+-- number of points of the sets whose classes are kept, the symmetries that return from the images of
+-- the representatives, the list of those sets among the points that a set of `other` leaves free, by
+-- the number of these and of its own points, and how many sets of `other` there are outside one.
+pub record AreSetsKept (board : Shape) (n own other sets : ℕ) (returning : List ℕ) (points count each : ℕ) : Type 0 where
+  pub classes : sets ≡ own
+  pub returns : AreReturningKept board n own (class_count board own) returning
+  pub points_are : points ≡ n - other
+  pub count_is : count ≡ own
+  pub choices : each ≡ choose (n - own) other
   pub choices_few : each < 2 ^ 21

@@ -5,13 +5,13 @@ ghost use Rattle.morris_board.specs.Sets.{has, members, count_of};
 ghost use Rattle.morris_board.specs.Positions.{Sides, sides, IsPosition};
 ghost use Rattle.morris_index.specs.Numbering.{rank_of, number_outside};
 ghost use Rattle.morris_index.specs.Pairs.{IsPair, IsHalf, is_of};
-ghost use Rattle.morris_index.specs.Classes.{symmetry_of, representative_of, class_count};
+ghost use Rattle.morris_index.specs.Classes.{symmetry_of, representative_of};
 ghost use Rattle.morris_index.specs.ClassPairs.{led, class_half_size, class_size_of, class_index_of};
 ghost use Rattle.morris_index.specs.ClassMoves.{class_start_of};
 ghost use Rattle.morris_index.specs.EntryRows.{row_end};
 ghost use Rattle.morris_index.specs.Falls.{HasEntry, HasPositions, falls_from};
-ghost use Rattle.morris_index.specs.Halves.{half_of};
-ghost use Rattle.morris_index.specs.Carried.{AreReturning, AreReturningKept};
+ghost use Rattle.morris_index.specs.Halves.{half_of, AreSetsKept};
+ghost use Rattle.morris_index.specs.Carried.{AreReturning};
 ghost use Rattle.morris_index.specs.Standings.{are_of};
 
 use crate::binomials::binomial;
@@ -32,68 +32,67 @@ use morris_board::position::Position;
 use std::alloc::{AllocError, Global};
 use std::marker::Model;
 
+/// What is kept of the sets of one of a pair's numbers of stones.
+#[derive(Drop)]
+struct KeptSets<B: Geometry> {
+    /// Their classes.
+    classes: Classes<B>,
+    /// For each class, the symmetries that return from the images of its representative: their
+    /// inverse is the one that leads the image.
+    returning: Vec<Points>,
+    /// The sets among the points that a set of the other number leaves free.
+    free: SetList,
+    /// How many sets of the other number there are among those that one of these leaves free.
+    choices: u64,
+}
+
+impl<B: Geometry> KeptSets<B> {
+    /// What is kept of the sets of `own` points, where the other number is `other`.
+    ///
+    /// # Errors
+    /// [`AllocError`] where memory runs out.
+    fn make(alloc: Global, own: u8, other: u8) -> Result<KeptSets<B>, AllocError>
+        requires { IsHalf B.POINTS own other }
+        ensures { IfOk result (λ kept. AreSetsKept B.shape B.POINTS own other kept.classes kept.returning.items kept.free.points kept.free.count kept.choices) }
+    {
+        let free = SetList::make(alloc, B::POINTS - other, own)?;
+        let classes = Classes::make(alloc, own)?;
+        let returning = keep_returning(alloc, &classes)?;
+        Ok(KeptSets {
+            classes,
+            returning,
+            free,
+            choices: binomial(B::POINTS - own, other),
+        })
+    }
+}
+
 /// A pair, and the classes of the sets of its two numbers of stones. Its entries are numbered so
 /// that positions which a symmetry carries into one another mostly have the same one.
 #[derive(Drop)]
 pub struct ClassPair<B: Geometry> {
     pair: Pair<B>,
-    greater: Classes<B>,
-    lesser: Classes<B>,
-    /// For each class of the greater number, the symmetries that return from the images of its
-    /// representative: their inverse is the one that leads the image.
-    greater_returning: Vec<Points>,
-    /// The same for each class of the lesser number.
-    lesser_returning: Vec<Points>,
+    greater: KeptSets<B>,
+    lesser: KeptSets<B>,
     /// How many entries the first half has, in which the player to move has the greater number.
     first: u64,
-    /// How many sets of the opponent's stones there are for a class of the greater number.
-    greater_choices: u64,
-    /// The same for a class of the lesser number.
-    lesser_choices: u64,
-    /// The sets of the greater number of the points that a set of the lesser number leaves free.
-    greater_sets: SetList,
-    /// The sets of the lesser number of the points that a set of the greater number leaves free.
-    lesser_sets: SetList,
     /// What the halves of sets add to ranks.
     ranks: RankTable,
 }
 
 impl<B: Geometry> Model for ClassPair<B> {
-    ghost use Rattle.std.specs.Prelude.{◌≡◌, ◌-◌};
+    ghost use Rattle.std.specs.Prelude.{◌≡◌, ◌≤◌, ◌^◌};
     ghost use Rattle.morris_index.specs.Pairs.{Counts};
-    ghost use Rattle.morris_index.specs.Classes.{class_count};
-    ghost use Rattle.morris_index.specs.Carried.{AreReturningKept};
-    ghost use Rattle.morris_index.specs.ClassPairs.{AreSizes};
+    ghost use Rattle.morris_index.specs.ClassPairs.{class_half_size};
+    ghost use Rattle.morris_index.specs.Halves.{AreSetsKept};
 
     ghost Value = { Counts };
 
     ghost view = { λ pair. pair.pair };
 
-    ghost invariant = { λ pair. (pair.greater ≡ pair.pair.greater) × (pair.lesser ≡ pair.pair.lesser)
-        × AreReturningKept B.shape B.POINTS pair.pair.greater (class_count B.shape pair.pair.greater) pair.greater_returning.items
-        × AreReturningKept B.shape B.POINTS pair.pair.lesser (class_count B.shape pair.pair.lesser) pair.lesser_returning.items
-        × AreSizes B.shape B.POINTS pair.pair pair.first pair.greater_choices pair.lesser_choices
-        × (pair.greater_sets.points ≡ B.POINTS - pair.pair.lesser) × (pair.greater_sets.count ≡ pair.pair.greater)
-        × (pair.lesser_sets.points ≡ B.POINTS - pair.pair.greater) × (pair.lesser_sets.count ≡ pair.pair.lesser) };
-}
-
-/// What is kept of the sets of `own` points: their classes, what is kept of the representatives, and
-/// the list of those among the points that a set of `other` points leaves free.
-fn keep_sets<B: Geometry>(
-    alloc: Global,
-    own: u8,
-    other: u8,
-) -> Result<(Classes<B>, Vec<Points>, SetList), AllocError>
-    requires { IsHalf B.POINTS own other }
-    ensures classes { IfOk result (λ kept. kept.0 ≡ own) }
-    ensures returning { IfOk result (λ kept. AreReturningKept B.shape B.POINTS own (class_count B.shape own) kept.1.items) }
-    ensures points { IfOk result (λ kept. kept.2.points ≡ B.POINTS - other) }
-    ensures count { IfOk result (λ kept. kept.2.count ≡ own) }
-{
-    let sets = SetList::make(alloc, B::POINTS - other, own)?;
-    let classes = Classes::make(alloc, own)?;
-    let returning = keep_returning(alloc, &classes)?;
-    Ok((classes, returning, sets))
+    ghost invariant = { λ pair. (pair.first ≡ class_half_size B.shape B.POINTS pair.pair.greater pair.pair.lesser) × (pair.first ≤ 2 ^ 39)
+        × AreSetsKept B.shape B.POINTS pair.pair.greater pair.pair.lesser pair.greater.classes pair.greater.returning.items pair.greater.free.points pair.greater.free.count pair.greater.choices
+        × AreSetsKept B.shape B.POINTS pair.pair.lesser pair.pair.greater pair.lesser.classes pair.lesser.returning.items pair.lesser.free.points pair.lesser.free.count pair.lesser.choices };
 }
 
 impl<B: Geometry> ClassPair<B> {
@@ -104,24 +103,16 @@ impl<B: Geometry> ClassPair<B> {
     pub fn make(alloc: Global, pair: Pair<B>) -> Result<ClassPair<B>, AllocError>
         ensures { IfOk result (λ made. made ≡ pair) }
     {
-        let (more, fewer, points) = (pair.greater(), pair.lesser(), B::POINTS);
+        let (more, fewer) = (pair.greater(), pair.lesser());
         let ranks = RankTable::make(alloc)?;
-        let (greater, greater_returning, greater_sets) = keep_sets::<B>(alloc, more, fewer)?;
-        let (lesser, lesser_returning, lesser_sets) = keep_sets::<B>(alloc, fewer, more)?;
-        let first = class_half_size::<B>(greater.count(), more, fewer);
-        let greater_choices = binomial(points - more, fewer);
-        let lesser_choices = binomial(points - fewer, more);
+        let greater = KeptSets::<B>::make(alloc, more, fewer)?;
+        let lesser = KeptSets::<B>::make(alloc, fewer, more)?;
+        let first = class_half_size::<B>(greater.classes.count(), more, fewer);
         Ok(ClassPair {
             pair,
             greater,
             lesser,
-            greater_returning,
-            lesser_returning,
             first,
-            greater_choices,
-            lesser_choices,
-            greater_sets,
-            lesser_sets,
             ranks,
         })
     }
@@ -145,7 +136,7 @@ impl<B: Geometry> ClassPair<B> {
         if greater == lesser {
             self.first
         } else {
-            self.first + class_half_size::<B>(self.lesser.count(), lesser, greater)
+            self.first + class_half_size::<B>(self.lesser.classes.count(), lesser, greater)
         }
     }
 
@@ -197,12 +188,20 @@ impl<B: Geometry> ClassPair<B> {
     {
         // The proof learns here that the numbers of stones are those of a pair.
         let greater = self.pair.greater();
-        let (classes, first, choices) = if own == greater {
-            (&self.greater, 0, self.greater_choices)
+        let (kept, first) = if own == greater {
+            (&self.greater, 0)
         } else {
-            (&self.lesser, self.first, self.lesser_choices)
+            (&self.lesser, self.first)
         };
-        Half::of(self.pair, own, other, classes, &self.ranks, first, choices)
+        Half::of(
+            self.pair,
+            own,
+            other,
+            &kept.classes,
+            &self.ranks,
+            first,
+            kept.choices,
+        )
     }
 
     /// The entry that comes as many after `start` as the rank of `set` is among the sets of as many
@@ -227,12 +226,13 @@ impl<B: Geometry> ClassPair<B> {
         // The proof learns here that the numbers of stones are those of a pair.
         let greater = self.pair.greater();
         let count = own.count();
-        let rows = self.ranks.rows(count);
-        if count == greater {
-            returning_of(&self.greater, &rows, &self.greater_returning, own)
+        let kept = if count == greater {
+            &self.greater
         } else {
-            returning_of(&self.lesser, &rows, &self.lesser_returning, own)
-        }
+            &self.lesser
+        };
+        let rows = self.ranks.rows(count);
+        returning_of(&kept.classes, &rows, &kept.returning, own)
     }
 
     /// The position of an entry, below [`ClassPair::size`]: the one to which all positions with
@@ -282,8 +282,8 @@ impl<B: Geometry> ClassPair<B> {
         let (greater, lesser) = (self.pair.greater(), self.pair.lesser());
         if index < self.first {
             let (own, numbers) = class_half_row(
-                &self.greater,
-                &self.lesser_sets,
+                &self.greater.classes,
+                &self.lesser.free,
                 greater,
                 lesser,
                 index,
@@ -291,8 +291,8 @@ impl<B: Geometry> ClassPair<B> {
             EntryRow::of(self.pair, index, own, numbers)
         } else {
             let (own, numbers) = class_half_row(
-                &self.lesser,
-                &self.greater_sets,
+                &self.lesser.classes,
+                &self.greater.free,
                 lesser,
                 greater,
                 index - self.first,
@@ -331,11 +331,11 @@ impl<B: Geometry> ClassPair<B> {
         ensures value { result ≡ falls_from B.shape position 0 }
         ensures few { length result ≤ B.SYMMETRIES }
     {
-        let classes = if position.own().count() == self.pair.greater() {
+        let kept = if position.own().count() == self.pair.greater() {
             &self.greater
         } else {
             &self.lesser
         };
-        FallsOn::of(classes, position)
+        FallsOn::of(&kept.classes, position)
     }
 }

@@ -12,18 +12,18 @@ of-requires g c =
 
 pub class_half_row-own-requires-else-index-self-clause-small : goal.class_half_row-own-requires-else-index-self-clause-small
 class_half_row-own-requires-else-index-self-clause-small g c =
-    let past = rw c.self.invariant.4.first at c.if-index-self.false in
-    rw (c.self.invariant.4.first, c.greater-greater.ensures.value, c.lesser-lesser.ensures.value)
+    let past = rw c.self.invariant.0 at c.if-index-self.false in
+    rw (c.self.invariant.0, c.greater-greater.ensures.value, c.lesser-lesser.ensures.value)
     (second_half g.B.Geometry.shape g.B.Geometry.POINTS (omega (arith, g.met.B.Geometry.few)) g.met.B.Geometry.point_count g.met.B.Geometry.has_symmetries c.self.inside.pair c.args.index (rw (← c.self.view_is) at c.requires) past).1
 
 pub of-requires-else-index-self : goal.of-requires-else-index-self
 of-requires-else-index-self g c =
     let past : class_half_size g.B.Geometry.shape g.B.Geometry.POINTS c.self.inside.pair.greater c.self.inside.pair.lesser ≤ c.args.index =
-    rw c.self.invariant.4.first at c.if-index-self.false in
+    rw c.self.invariant.0 at c.if-index-self.false in
     let differ = (second_half g.B.Geometry.shape g.B.Geometry.POINTS (omega (arith, g.met.B.Geometry.few)) g.met.B.Geometry.point_count g.met.B.Geometry.has_symmetries c.self.inside.pair c.args.index (rw (← c.self.view_is) at c.requires) past).0 in
     second_row g.B.Geometry.shape g.B.Geometry.POINTS c.self.inside.pair c.greater-greater.ensures.lawful c.args.index c.class_half_row-own-else-index-self.result.0 c.class_half_row-own-else-index-self.result.1.now
     differ (c.class_half_row-own-else-index-self.ensures.count ∙ c.lesser-lesser.ensures.value) past
-    (rw (c.self.invariant.4.first, c.greater-greater.ensures.value) at c.class_half_row-own-else-index-self.ensures.row)
+    (rw (c.self.invariant.0, c.greater-greater.ensures.value) at c.class_half_row-own-else-index-self.ensures.row)
 
 pub returns-then-index-self-clause-inside : goal.returns-then-index-self-clause-inside
 returns-then-index-self-clause-inside g c =
@@ -36,10 +36,10 @@ returns-then-index-self-clause-inside g c =
 pub returns-else-index-self-clause-inside : goal.returns-else-index-self-clause-inside
 returns-else-index-self-clause-inside g c =
     let past : class_half_size g.B.Geometry.shape g.B.Geometry.POINTS c.self.inside.pair.greater c.self.inside.pair.lesser ≤ c.args.index =
-    rw c.self.invariant.4.first at c.if-index-self.false in
+    rw c.self.invariant.0 at c.if-index-self.false in
     let differ = (second_half g.B.Geometry.shape g.B.Geometry.POINTS (omega (arith, g.met.B.Geometry.few)) g.met.B.Geometry.point_count g.met.B.Geometry.has_symmetries c.self.inside.pair c.args.index (rw (← c.self.view_is) at c.requires) past).0 in
     let row =
     second_row g.B.Geometry.shape g.B.Geometry.POINTS c.self.inside.pair c.greater-greater.ensures.lawful c.args.index c.class_half_row-own-else-index-self.result.0 c.class_half_row-own-else-index-self.result.1.now
     differ (c.class_half_row-own-else-index-self.ensures.count ∙ c.lesser-lesser.ensures.value) past
-    (rw (c.self.invariant.4.first, c.greater-greater.ensures.value) at c.class_half_row-own-else-index-self.ensures.row) in
+    (rw (c.self.invariant.0, c.greater-greater.ensures.value) at c.class_half_row-own-else-index-self.ensures.row) in
     rw (c.of-else-index-self.ensures, ← c.self.view_is) (row_inside g.B.Geometry.shape g.B.Geometry.POINTS (omega (arith, g.met.B.Geometry.few)) g.met.B.Geometry.point_count g.met.B.Geometry.has_symmetries _ _ row)
