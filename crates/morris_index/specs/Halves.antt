@@ -31,13 +31,13 @@ pub record IsHalfKept (board : Shape) (n : ℕ) (h : HalfOf) (sets ranked start 
   pub choices_few : each < 2 ^ 21
 
 -- What is kept, on n points, of the sets of `own` points of a pair whose other number is `other`: the
--- number of points of the sets whose classes are kept, the symmetries that return from the images of
--- the representatives, the list of those sets among the points that a set of `other` leaves free, by
--- the number of these and of its own points, and how many sets of `other` there are outside one.
+-- number of points of the sets whose classes are kept; the symmetries that return from the images of
+-- the representatives; and of the list of the sets of `other` points that one of these leaves room
+-- for, of how many points they are taken, how many each has, and how many they are.
 pub record AreSetsKept (board : Shape) (n own other sets : ℕ) (returning : List ℕ) (points count each : ℕ) : Type 0 where
   pub classes : sets ≡ own
   pub returns : AreReturningKept board n own (class_count board own) returning
-  pub points_are : points ≡ n - other
-  pub count_is : count ≡ own
+  pub left_free : points ≡ n - own
+  pub others : count ≡ other
   pub choices : each ≡ choose (n - own) other
   pub choices_few : each < 2 ^ 21

@@ -40,9 +40,9 @@ struct KeptSets<B: Geometry> {
     /// For each class, the symmetries that return from the images of its representative: their
     /// inverse is the one that leads the image.
     returning: Vec<Points>,
-    /// The sets among the points that a set of the other number leaves free.
-    free: SetList,
-    /// How many sets of the other number there are among those that one of these leaves free.
+    /// The sets of the other number among the points that one of these leaves free.
+    others: SetList,
+    /// How many those are.
     choices: u64,
 }
 
@@ -53,15 +53,15 @@ impl<B: Geometry> KeptSets<B> {
     /// [`AllocError`] where memory runs out.
     fn make(alloc: Global, own: u8, other: u8) -> Result<KeptSets<B>, AllocError>
         requires { IsHalf B.POINTS own other }
-        ensures { IfOk result (λ kept. AreSetsKept B.shape B.POINTS own other kept.classes kept.returning.items kept.free.points kept.free.count kept.choices) }
+        ensures { IfOk result (λ kept. AreSetsKept B.shape B.POINTS own other kept.classes kept.returning.items kept.others.points kept.others.count kept.choices) }
     {
-        let free = SetList::make(alloc, B::POINTS - other, own)?;
+        let others = SetList::make(alloc, B::POINTS - own, other)?;
         let classes = Classes::make(alloc, own)?;
         let returning = keep_returning(alloc, &classes)?;
         Ok(KeptSets {
             classes,
             returning,
-            free,
+            others,
             choices: binomial(B::POINTS - own, other),
         })
     }
@@ -91,8 +91,8 @@ impl<B: Geometry> Model for ClassPair<B> {
     ghost view = { λ pair. pair.pair };
 
     ghost invariant = { λ pair. (pair.first ≡ class_half_size B.shape B.POINTS pair.pair.greater pair.pair.lesser) × (pair.first ≤ 2 ^ 39)
-        × AreSetsKept B.shape B.POINTS pair.pair.greater pair.pair.lesser pair.greater.classes pair.greater.returning.items pair.greater.free.points pair.greater.free.count pair.greater.choices
-        × AreSetsKept B.shape B.POINTS pair.pair.lesser pair.pair.greater pair.lesser.classes pair.lesser.returning.items pair.lesser.free.points pair.lesser.free.count pair.lesser.choices };
+        × AreSetsKept B.shape B.POINTS pair.pair.greater pair.pair.lesser pair.greater.classes pair.greater.returning.items pair.greater.others.points pair.greater.others.count pair.greater.choices
+        × AreSetsKept B.shape B.POINTS pair.pair.lesser pair.pair.greater pair.lesser.classes pair.lesser.returning.items pair.lesser.others.points pair.lesser.others.count pair.lesser.choices };
 }
 
 impl<B: Geometry> ClassPair<B> {
@@ -283,7 +283,7 @@ impl<B: Geometry> ClassPair<B> {
         if index < self.first {
             let (own, numbers) = class_half_row(
                 &self.greater.classes,
-                &self.lesser.free,
+                &self.greater.others,
                 greater,
                 lesser,
                 index,
@@ -292,7 +292,7 @@ impl<B: Geometry> ClassPair<B> {
         } else {
             let (own, numbers) = class_half_row(
                 &self.lesser.classes,
-                &self.greater.free,
+                &self.lesser.others,
                 lesser,
                 greater,
                 index - self.first,
