@@ -1,23 +1,76 @@
 //! The half of a pair by classes: the positions in which the player to move and the opponent have
 //! given numbers of stones, and the player to move stands on the representative of a class.
-ghost use Rattle.std.specs.Prelude.{◌≡◌, ◌-◌, ◌<◌, ◌≤◌, ◌^◌};
+ghost use Rattle.std.specs.Prelude.{◌≡◌, ◌<◌, ◌≤◌, ◌^◌, IfOk};
 ghost use Rattle.morris_board.specs.Sets.{count_of};
 ghost use Rattle.morris_index.specs.Classes.{representative_of, class_of, AreLeading};
 ghost use Rattle.morris_index.specs.ClassPairs.{class_half_size};
 ghost use Rattle.morris_index.specs.ClassMoves.{class_start_of};
 ghost use Rattle.morris_index.specs.EntryRows.{IsHalfRow};
-ghost use Rattle.morris_index.specs.Halves.{half_of, IsHalfKept};
+ghost use Rattle.morris_index.specs.Halves.{half_of, IsHalfKept, AreSetsKept};
 ghost use Rattle.morris_index.specs.Pairs.{IsHalf, IsPair};
 
 use crate::binomials::binomial;
 use crate::classes::Classes;
 use crate::pair::Pair;
 use crate::rank_tables::{RankRows, RankTable};
+use crate::returning::keep_returning;
 use crate::rings::Outside;
 use crate::set_lists::SetList;
 use morris_board::board::Geometry;
 use morris_board::points::Points;
+use std::alloc::{AllocError, Global};
 use std::marker::Model;
+
+/// What is kept of the sets of one of a pair's numbers of stones.
+#[derive(Drop)]
+pub(crate) struct KeptSets<B: Geometry> {
+    /// Their classes.
+    pub(crate) classes: Classes<B>,
+    /// For each class, the symmetries that return from the images of its representative: their
+    /// inverse is the one that leads the image.
+    pub(crate) returning: Vec<Points>,
+    /// The sets of the other number among the points that one of these leaves free.
+    others: SetList,
+    /// How many those are.
+    pub(crate) choices: u64,
+}
+
+impl<B: Geometry> KeptSets<B> {
+    /// What is kept of the sets of `own` points, where the other number is `other`.
+    ///
+    /// # Errors
+    /// [`AllocError`] where memory runs out.
+    pub(crate) fn make(alloc: Global, own: u8, other: u8) -> Result<KeptSets<B>, AllocError>
+        requires { IsHalf B.POINTS own other }
+        ensures { IfOk result (λ kept. AreSetsKept B.shape B.POINTS own other kept.classes kept.returning.items kept.others.points kept.others.count kept.choices) }
+    {
+        let others = SetList::make(alloc, B::POINTS - own, other)?;
+        let classes = Classes::make(alloc, own)?;
+        let returning = keep_returning(alloc, &classes)?;
+        Ok(KeptSets {
+            classes,
+            returning,
+            others,
+            choices: binomial(B::POINTS - own, other),
+        })
+    }
+
+    /// The stones of the player to move in the entry with this number among those with `own` stones
+    /// of the player to move and `other` of the opponent; and the masks of the opponent's sets in it
+    /// and in the further entries with these stones, as numbers of the points that are free.
+    pub(crate) fn row(&self, own: u8, other: u8, index: u64) -> (Points, &[u32])
+        requires half { IsHalf B.POINTS own other }
+        requires kept { AreSetsKept B.shape B.POINTS own other self.now.classes self.now.returning.items self.now.others.points self.now.others.count self.now.choices }
+        requires small { index < class_half_size B.shape B.POINTS own other }
+        ensures count { count_of result.0 ≡ own }
+        ensures row { IsHalfRow B.shape B.POINTS result.0 other index result.1.now }
+    {
+        // The proof learns here that a class fits 32 bits.
+        let _ = self.classes.count();
+        let own_points = self.classes.representative((index / self.choices) as u32);
+        (own_points, self.others.sets_from(index % self.choices))
+    }
+}
 
 /// The entries of a pair in which the two players have given numbers of stones, and what is kept so
 /// that the class of the stones of the player to move is looked up for many of them.
@@ -92,29 +145,4 @@ impl<'a, B: Geometry> Half<'a, B> {
         let start = self.first + u64::from(class) * self.choices;
         (start, representative, symmetries, class)
     }
-}
-
-/// The stones of the player to move in the entry with this number among those with `own` stones of
-/// the player to move and `other` of the opponent; and the masks of the opponent's sets in it and
-/// in the further entries with these stones, as numbers of the points that are free.
-pub(crate) fn class_half_row<'a, B: Geometry>(
-    classes: &Classes<B>,
-    sets: &'a SetList,
-    own: u8,
-    other: u8,
-    index: u64,
-) -> (Points, &'a [u32])
-    requires half { IsHalf B.POINTS own other }
-    requires classes { classes.now ≡ own }
-    requires points { sets.now.points ≡ B.POINTS - own }
-    requires count { sets.now.count ≡ other }
-    requires small { index < class_half_size B.shape B.POINTS own other }
-    ensures count { count_of result.0 ≡ own }
-    ensures row { IsHalfRow B.shape B.POINTS result.0 other index result.1.now }
-{
-    // The proof learns here that a class fits 32 bits.
-    let _ = classes.count();
-    let choices = binomial(B::POINTS - own, other);
-    let own_points = classes.representative((index / choices) as u32);
-    (own_points, sets.sets_from(index % choices))
 }

@@ -4,68 +4,31 @@ ghost use Rattle.std.specs.List.{AllPairs, Contains};
 ghost use Rattle.morris_board.specs.Sets.{has, members, count_of};
 ghost use Rattle.morris_board.specs.Positions.{Sides, sides, IsPosition};
 ghost use Rattle.morris_index.specs.Numbering.{rank_of, number_outside};
-ghost use Rattle.morris_index.specs.Pairs.{IsPair, IsHalf, is_of};
+ghost use Rattle.morris_index.specs.Pairs.{IsPair, is_of};
 ghost use Rattle.morris_index.specs.Classes.{symmetry_of, representative_of};
 ghost use Rattle.morris_index.specs.ClassPairs.{led, class_half_size, class_size_of, class_index_of};
 ghost use Rattle.morris_index.specs.ClassMoves.{class_start_of};
 ghost use Rattle.morris_index.specs.EntryRows.{row_end};
 ghost use Rattle.morris_index.specs.Falls.{HasEntry, HasPositions, falls_from};
-ghost use Rattle.morris_index.specs.Halves.{half_of, AreSetsKept};
+ghost use Rattle.morris_index.specs.Halves.{half_of};
 ghost use Rattle.morris_index.specs.Carried.{AreReturning};
 ghost use Rattle.morris_index.specs.Standings.{are_of};
 
-use crate::binomials::binomial;
-use crate::class_halves::{Half, class_half_row};
+use crate::class_halves::{Half, KeptSets};
 use crate::class_sizes::class_half_size;
-use crate::classes::{Classes, first_leading};
+use crate::classes::first_leading;
 use crate::entry_rows::EntryRow;
 use crate::falls::FallsOn;
 use crate::halves::next_of_own;
 use crate::pair::Pair;
 use crate::rank_tables::RankTable;
-use crate::returning::{keep_returning, returning_of};
+use crate::returning::returning_of;
 use crate::rings::Outside;
-use crate::set_lists::SetList;
 use morris_board::board::Geometry;
 use morris_board::points::Points;
 use morris_board::position::Position;
 use std::alloc::{AllocError, Global};
 use std::marker::Model;
-
-/// What is kept of the sets of one of a pair's numbers of stones.
-#[derive(Drop)]
-struct KeptSets<B: Geometry> {
-    /// Their classes.
-    classes: Classes<B>,
-    /// For each class, the symmetries that return from the images of its representative: their
-    /// inverse is the one that leads the image.
-    returning: Vec<Points>,
-    /// The sets of the other number among the points that one of these leaves free.
-    others: SetList,
-    /// How many those are.
-    choices: u64,
-}
-
-impl<B: Geometry> KeptSets<B> {
-    /// What is kept of the sets of `own` points, where the other number is `other`.
-    ///
-    /// # Errors
-    /// [`AllocError`] where memory runs out.
-    fn make(alloc: Global, own: u8, other: u8) -> Result<KeptSets<B>, AllocError>
-        requires { IsHalf B.POINTS own other }
-        ensures { IfOk result (λ kept. AreSetsKept B.shape B.POINTS own other kept.classes kept.returning.items kept.others.points kept.others.count kept.choices) }
-    {
-        let others = SetList::make(alloc, B::POINTS - own, other)?;
-        let classes = Classes::make(alloc, own)?;
-        let returning = keep_returning(alloc, &classes)?;
-        Ok(KeptSets {
-            classes,
-            returning,
-            others,
-            choices: binomial(B::POINTS - own, other),
-        })
-    }
-}
 
 /// A pair, and the classes of the sets of its two numbers of stones. Its entries are numbered so
 /// that positions which a symmetry carries into one another mostly have the same one.
@@ -281,22 +244,10 @@ impl<B: Geometry> ClassPair<B> {
     {
         let (greater, lesser) = (self.pair.greater(), self.pair.lesser());
         if index < self.first {
-            let (own, numbers) = class_half_row(
-                &self.greater.classes,
-                &self.greater.others,
-                greater,
-                lesser,
-                index,
-            );
+            let (own, numbers) = self.greater.row(greater, lesser, index);
             EntryRow::of(self.pair, index, own, numbers)
         } else {
-            let (own, numbers) = class_half_row(
-                &self.lesser.classes,
-                &self.lesser.others,
-                lesser,
-                greater,
-                index - self.first,
-            );
+            let (own, numbers) = self.lesser.row(lesser, greater, index - self.first);
             EntryRow::of(self.pair, index, own, numbers)
         }
     }
