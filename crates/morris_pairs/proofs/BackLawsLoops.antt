@@ -104,12 +104,17 @@ unfolding leading_in
 leading_by_index b n c p v [] = refl
 leading_by_index b n c p v (u ∷ us) = ap (λ (xs : List ℕ). index_of n c (taken_back p u v) ∷ xs) (leading_by_index b n c p v us)
 
--- a step of the loop over the stones
-pub next_points : (ys : List ℕ) (v old new : ℕ) (xs : List ℕ) → ys ++ members old ≡ xs → members old ≡ v ∷ members new → (ys ++ v ∷ []) ++ members new ≡ xs
-next_points ys v old new xs h e = append_assoc ys (v ∷ []) (members new) ∙ (ap (λ zs. ys ++ zs) (sym e) ∙ h)
+-- ---- going through the points of a set: a point of it, those so far with it, and all of them
 
-pub end_of : (s : ℕ) (ys : List ℕ) (v : ℕ) (zs : List ℕ) → ys ++ v ∷ zs ≡ members s → has s v ≡ true
-end_of s ys v zs e = has-member s v (subst (λ xs. Contains xs v) e (Contains-append_right ys (v ∷ zs) v (Contains-head v zs)))
+pub end_of : (s v : ℕ) (ys rest left : List ℕ) → ys ++ left ≡ members s → left ≡ v ∷ rest → has s v ≡ true
+end_of s v ys rest left split step =
+    has-member s v (subst (λ xs. Contains xs v) (ap (λ zs. ys ++ zs) (sym step) ∙ split) (Contains-append_right ys (v ∷ rest) v (Contains-head v rest)))
+
+pub next_points : (ys : List ℕ) (v : ℕ) (rest left whole : List ℕ) → ys ++ left ≡ whole → left ≡ v ∷ rest → (ys ++ v ∷ []) ++ rest ≡ whole
+next_points ys v rest left whole split step = append_assoc ys (v ∷ []) rest ∙ (ap (λ zs. ys ++ zs) (sym step) ∙ split)
+
+pub none_left : (ys left whole : List ℕ) → ys ++ left ≡ whole → left ≡ [] → ys ≡ whole
+none_left ys left whole split none = sym (append-nil ys) ∙ (ap (λ zs. ys ++ zs) (sym none) ∙ split)
 
 -- its end: no stone is left
 pub all_leading : (o : Order) (b : Shape) (n : ℕ) → b.points ≡ n → n ≤ 24 → HasSymmetries b → (c : Counts) → IsPair n c → (p : Sides) → IsPosition b p → is_of c p ≡ true
@@ -117,5 +122,5 @@ pub all_leading : (o : Order) (b : Shape) (n : ℕ) → b.points ≡ n → n ≤
     → (ys : List ℕ) (rest : ℕ) → ys ++ members rest ≡ members p.other → members rest ≡ []
     → AreLeading o b n c p (leading_in o b n c p (moves_before b p n ys))
 all_leading o b n e small y c pair p h of own ys rest points none =
-    let each : ys ≡ members p.other = sym (append-nil ys) ∙ (ap (λ zs. ys ++ zs) (sym none) ∙ points) in
+    let each = none_left ys (members rest) _ points none in
     subst (λ zs. AreLeading o b n c p (leading_in o b n c p (moves_before b p n zs))) (sym each) (are_leading o b n e small y c pair p h of own)

@@ -16,9 +16,8 @@ use Rattle.morris_wave.specs.declared.network.Exits.{Exits}
 use Rattle.morris_wave.specs.Exits.{exits_of}
 use Rattle.morris_pairs.specs.Captured.{IsClosing}
 use Rattle.morris_pairs.specs.Codes.{code_to}
-use Rattle.morris_pairs.specs.FacingCaptures.{codes_facing, codes_by, codes_at}
 use Rattle.morris_pairs.specs.FilterLaws.{filter-contains, contained-filter}
-use Rattle.morris_pairs.specs.KeptCaptures.{open_ends, closers_at}
+use Rattle.morris_pairs.specs.KeptCaptures.{open_ends, closers_at, codes_facing, codes_by, codes_at}
 use Rattle.morris_pairs.specs.NetLaws.{is_none-false}
 use Rattle.morris_pairs.specs.PairNets.{is_capture, capture_codes}
 use Rattle.morris_pairs.proofs.CaptureLaws.{capture_is_legal, legal_capture, legal_takes, closing_in, closing_closer, closing_open, open_closes}

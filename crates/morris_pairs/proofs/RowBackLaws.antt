@@ -83,9 +83,6 @@ module _ (b : Shape) (n : ℕ) (few : n ≤ 24) (points : b.points ≡ n) (y : H
     pub row_own_greater : count_of s.own ≡ c.greater
     row_own_greater = ap count_of own ∙ greater
 
-    pub row_least : representative_of b row.own ≡ row.own → representative_of b s.own ≡ s.own
-    row_least least = subst (λ t. representative_of b t ≡ t) (sym own) least
-
     entry_here : class_index_of b n c s ≡ row.first + place
     entry_here = subst (λ d. class_index_of b n d s ≡ row.first + place) of_pair entry
 

@@ -34,7 +34,7 @@ use Rattle.morris_pairs.specs.Orders.{Rows, is_ahead}
 use Rattle.morris_pairs.proofs.BackLawsLoops.{all_leading}
 use Rattle.morris_pairs.proofs.RowNodeLaws.{leading_test, prior_of, prior_ahead, image_index, before-carried, own-turned}
 use Rattle.morris_pairs.specs.declared.row_steps.RowStep.{RowStep}
-use Rattle.morris_pairs.specs.RowSteps.{may_have_come, carries_to, Carry, carry, carries_from, carries_among, carries_at, carries_into, carried_node, comes_free, nodes_by, carry_of, IsStepKept, AreStepsKept, AddsSteps}
+use Rattle.morris_pairs.specs.RowSteps.{may_have_come, carries_to, Carry, carry, carries_from, carries_at, carries_into, carried_node, comes_free, nodes_by, carry_of, IsStepKept, AreStepsKept, AddsSteps}
 use Rattle.morris_pairs.proofs.RowStepLists.{flat_map-contained, flat_map-twice, through_joins, flat_map-mapped, filter-mapped, map-mapped, same_joins, filter-none, filter-same, filter-const, map-cond, same_where}
 
 -- ---- the nodes of moves that are joined
@@ -211,7 +211,8 @@ carried_not b stones v u k fails =
     ∙ ap (carried_below b stones v u) (let e : suc k ≡ k + 1 = omega arith in e)
 
 -- the moves to a point from some of the points from which they may have come
-pub among_more : (b : Shape) (stones v : ℕ) (us : List ℕ) (u : ℕ) → carries_among b stones v us ++ carries_from b stones v u ≡ carries_among b stones v (us ++ u ∷ [])
+pub among_more : (b : Shape) (stones v : ℕ) (us : List ℕ) (u : ℕ)
+    → flat_map (carries_from b stones v) us ++ carries_from b stones v u ≡ flat_map (carries_from b stones v) (us ++ u ∷ [])
 among_more b stones v us u = flat_map_more (carries_from b stones v) [] us u
 
 pub into_more : (b : Shape) (stones : ℕ) (vs : List ℕ) (v : ℕ) → flat_map (carries_at b stones) vs ++ carries_at b stones v ≡ flat_map (carries_at b stones) (vs ++ v ∷ [])
@@ -255,7 +256,7 @@ module _ (b : Shape) (n : ℕ) (few : n ≤ 24) (points : b.points ≡ n) (stone
   pub source_vacant : (u : ℕ) → has from u ≡ true → has stones u ≡ false
   source_vacant u here = not-true (has stones u) ((and_parts _ _ (and_parts (ltb u b.points) _ (sym (source_is u) ∙ here)).1)).0
 
-  pub at_sources : carries_at b stones v ≡ carries_among b stones v (members from)
+  pub at_sources : carries_at b stones v ≡ flat_map (carries_from b stones v) (members from)
   unfolding carries_at
   at_sources =
       let below : from < 2 ^ b.points = lt_from_points from b.points (λ u here. subst (λ k. u < k) (sym points) (source_lt u here)) in
@@ -294,9 +295,6 @@ module _ (b : Shape) (n : ℕ) (few : n ≤ 24) (points : b.points ≡ n) (y : H
 
   behind : is_ahead (turned s) ≡ false
   behind = is_behind_turned n c pair two s of greater
-
-  pub waiting_within : s.other < 2 ^ n
-  waiting_within = subst (λ k. s.other < 2 ^ k) points h.stones.other_within
 
   module _ (step : RowStep) (kept : IsStepKept b n c s.own c.lesser step) where
     low_symmetry : step.symmetry < b.symmetries

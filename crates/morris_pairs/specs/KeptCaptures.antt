@@ -1,10 +1,10 @@
--- What captures lead to, by the set of stones that they leave the opponent, and what is kept of captures.
+-- What captures lead to, by the set of stones that they leave the opponent, and what is kept of it.
 use Rattle.std.specs.Prelude.{◌≡◌, ℕ, ◌<◌, not, ◌&&◌, List, map}
 use Rattle.std.specs.List.{All, flat_map}
 use Rattle.morris_board.specs.Boards.{Shape}
-use Rattle.morris_board.specs.Sets.{has, members, set_where}
-use Rattle.morris_board.specs.Positions.{sides}
-use Rattle.morris_moves.specs.Rules.{moved}
+use Rattle.morris_board.specs.Sets.{has, members, set_where, without_point}
+use Rattle.morris_board.specs.Positions.{Sides, sides}
+use Rattle.morris_moves.specs.Rules.{moved, takable}
 use Rattle.morris_wave.specs.Exits.{exits_of}
 use Rattle.morris_pairs.specs.declared.kept_captures.KeptCaptures.{KeptCaptures}
 use Rattle.morris_pairs.specs.declared.kept_captures.Slot.{Slot}
@@ -25,6 +25,19 @@ closers_at board own v = set_where board.points (λ u. has own u && is_closing_e
 unfoldable pub codes_left : Shape → ℕ → ℕ → List ℕ
 codes_left board own left =
     flat_map (λ v. map (λ u. code_to 65534 board (sides left (moved own u v))) (members (closers_at board own v))) (members (open_ends board own left))
+
+-- The codes of what the captures from `stones` lead to after which these face `facing`: one for
+-- each stone that may be taken.
+unfoldable pub codes_facing : Shape → ℕ → ℕ → List ℕ
+codes_facing board stones facing = map (λ t. code_to 65534 board (sides (without_point stones t) facing)) (members (takable board stones))
+
+-- those of the captures of a position by a move to v of each of the stones us
+abbrev pub codes_by : Shape → Sides → ℕ → List ℕ → List ℕ
+codes_by board s v us = flat_map (λ u. codes_facing board s.other (moved s.own u v)) us
+
+-- those of all captures by a move to one of the points vs
+abbrev pub codes_at : Shape → Sides → List ℕ → List ℕ
+codes_at board s vs = flat_map (λ v. codes_by board s v (members (closers_at board s.own v))) vs
 
 -- What a slot has is the summary of the captures with its stones before and after them, whose codes
 -- are known. Without stones after them it is empty.

@@ -33,6 +33,5 @@ pub mod Verifying
 pub mod Headline
 pub mod Building
 pub mod SetMoves
-pub mod FacingCaptures
 pub mod RowSteps
 pub mod RowBacks

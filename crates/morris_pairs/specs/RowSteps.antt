@@ -38,10 +38,6 @@ carry v u s = record { from = u; to = v; symmetry = s }
 unfoldable pub carries_from : Shape → ℕ → ℕ → ℕ → List Carry
 carries_from board stones v u = map (carry v u) (filter (carries_to board stones (moved stones v u)) (range_with_len 0 board.symmetries))
 
--- those to v from each of these points
-abbrev pub carries_among : Shape → ℕ → ℕ → List ℕ → List Carry
-carries_among board stones v points = flat_map (carries_from board stones v) points
-
 -- the moves to v that led to `stones`, in order of the point from which the stone came
 unfoldable pub carries_at : Shape → ℕ → ℕ → List Carry
 carries_at board stones v = flat_map (carries_from board stones v) (filter (may_have_come board stones v) (range_with_len 0 board.points))

@@ -3,16 +3,15 @@
 //! The quiet moves of a position lead to positions in which the opponent's stones are those of the
 //! player to move, and the entries of these stand together. So the positions that face one set of
 //! the opponent's are looked at together: what is read of the table for their results is then near
-//! what was read before. Their own entries lie far apart. These are read in a pass of their own, in
-//! which no entry has to wait for another.
+//! what was read before, and what their captures lead to is kept. Their own entries lie far apart.
+//! These are read in a pass of their own, in which no entry has to wait for another.
 ghost use Rattle.std.specs.Prelude.{◌≡◌, ℕ, ◌<◌, ◌≤◌, ◌^◌, true, IfOk, OnOk};
 ghost use Rattle.std.specs.List.{All};
 ghost use Rattle.morris_index.specs.Classes.{representative_of};
 ghost use Rattle.morris_index.specs.Moves.{InPair};
 ghost use Rattle.morris_pairs.specs.Entries.{entry_count};
 ghost use Rattle.morris_pairs.specs.Faces.{code_stated, codes_stated, EntryAgrees, FacesAgree};
-ghost use Rattle.morris_pairs.specs.FacingCaptures.{codes_facing};
-ghost use Rattle.morris_pairs.specs.KeptCaptures.{AreKept};
+ghost use Rattle.morris_pairs.specs.KeptCaptures.{AreKept, codes_facing};
 
 use crate::agreeing::agrees_after;
 use crate::graph::PairGraph;
@@ -217,8 +216,7 @@ pub(crate) struct Lists<'a, B: Geometry> {
 impl<'a, B: Geometry> Model for Lists<'a, B> {
     ghost use Rattle.std.specs.Prelude.{List};
     ghost use Rattle.morris_index.specs.Moves.{InPair};
-    ghost use Rattle.morris_pairs.specs.FacingCaptures.{codes_facing};
-    ghost use Rattle.morris_pairs.specs.KeptCaptures.{AreKept};
+    ghost use Rattle.morris_pairs.specs.KeptCaptures.{AreKept, codes_facing};
 
     ghost Value = { List InPair };
 

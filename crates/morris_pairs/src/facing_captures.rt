@@ -7,9 +7,8 @@ ghost use Rattle.morris_moves.specs.Rules.{moved};
 ghost use Rattle.morris_index.specs.Pairs.{is_of};
 ghost use Rattle.morris_wave.specs.Exits.{exits_of};
 ghost use Rattle.morris_pairs.specs.Captured.{captured_pair, IsClosing};
-ghost use Rattle.morris_pairs.specs.FacingCaptures.{codes_facing, codes_by};
 ghost use Rattle.morris_pairs.specs.Graphs.{IsTableOf};
-ghost use Rattle.morris_pairs.specs.KeptCaptures.{AreKept};
+ghost use Rattle.morris_pairs.specs.KeptCaptures.{AreKept, codes_facing, codes_by};
 ghost use Rattle.morris_pairs.specs.PairNets.{capture_codes};
 ghost use Rattle.morris_pairs.specs.Rows.{may_close};
 
@@ -23,25 +22,8 @@ use morris_board::position::Position;
 use morris_moves::rules::takable;
 use morris_wave::Exits;
 
-/// The summary of the captures of a position by the move from `from` to `to`, after which the
-/// opponent, who is to move then, faces `facing`: one for each stone that may be taken.
-fn taken_facing<B: Geometry>(table: &Exact<B>, position: &Position<B>, facing: Points) -> Exits
-    requires table { IsTableOf B.shape (captured_pair position.now) table.now }
-    requires lawful { IsPosition B.shape position.now }
-    requires mover { (u : ℕ) × (v : ℕ) × IsClosing B.shape position.now u v × (facing ≡ moved position.now.own u v) }
-    ensures { result ≡ exits_of (codes_facing B.shape position.now.other facing) }
-{
-    let other = position.other();
-    let many = position.own().count();
-    let mut exits = Exits::NONE;
-    for taken in takable::<B>(other).iter() {
-        let standing = table.standing(other.without(taken), many);
-        exits = exits.with(table.code_at(&standing, facing));
-    }
-    exits
-}
-
-/// The same, where it is kept, or kept from now on.
+/// The summary of the captures of a position by a move after which the opponent, who is to move
+/// then, faces `facing`: one for each stone that may be taken. It is kept from now on.
 fn exits_facing<B: Geometry>(
     table: &Exact<B>,
     position: &Position<B>,
@@ -59,9 +41,14 @@ fn exits_facing<B: Geometry>(
     if let Some(results) = kept.get(other, facing) {
         return results;
     }
-    let results = taken_facing(table, position, facing);
-    kept.put(other, facing, results);
-    results
+    let many = position.own().count();
+    let mut exits = Exits::NONE;
+    for taken in takable::<B>(other).iter() {
+        let standing = table.standing(other.without(taken), many);
+        exits = exits.with(table.code_at(&standing, facing));
+    }
+    kept.put(other, facing, exits);
+    exits
 }
 
 /// Goes on with the summary `known`: the captures by the moves to `to` of the stones `closers`.

@@ -43,7 +43,7 @@ pub(crate) struct KeptCaptures {
     pub(crate) slots: Vec<Slot>,
 }
 
-/// The place of the slot of the captures after which a player has these stones: a hash of their set.
+/// The place of the slot of the captures after which these stones are left: a hash of their set.
 fn slot_of(after: Points) -> usize
     ensures { result < 4096 }
 {

@@ -8,7 +8,7 @@ ghost use Rattle.morris_index.specs.Facing.{turned};
 ghost use Rattle.morris_index.specs.Pairs.{is_of};
 ghost use Rattle.morris_pairs.specs.Backward.{AddsBeforeIn};
 ghost use Rattle.morris_pairs.specs.Orders.{Rows};
-ghost use Rattle.morris_pairs.specs.RowSteps.{carries_to, carries_from, carries_among, carries_at, AddsSteps, AreStepsKept};
+ghost use Rattle.morris_pairs.specs.RowSteps.{carries_to, carries_from, carries_at, AddsSteps, AreStepsKept};
 
 use morris_board::board::Geometry;
 use morris_board::points::Points;
@@ -100,28 +100,6 @@ fn add_steps_from<B: Geometry>(
     Ok(())
 }
 
-/// Adds the quiet moves to `to` from each of `sources` that led to `stones`, in order of the sources.
-fn add_steps_among<B: Geometry>(
-    classes: &ClassPair<B>,
-    sets: &Classes<B>,
-    stones: Points,
-    to: u8,
-    sources: Points,
-    steps: &mut Vec<RowStep>,
-) -> Result<(), AllocError>
-    requires sets { sets.now ≡ classes.now.greater }
-    requires stones { stones < 2 ^ B.POINTS }
-    requires count { count_of stones ≡ classes.now.greater }
-    requires end { has stones to ≡ true }
-    requires sources { (p : ℕ) → has sources p ≡ true → (p < B.POINTS) × (has stones p ≡ false) }
-    ensures { OnOk result (AddsSteps B.shape B.POINTS classes.now stones classes.now.lesser (carries_among B.shape stones to (members sources)) steps.old.items steps.new.items) }
-{
-    for from in sources.iter() {
-        add_steps_from(classes, sets, stones, to, from, steps)?;
-    }
-    Ok(())
-}
-
 /// Adds the quiet moves to `to` that led to `stones`, which are more than three: they don't jump.
 fn add_steps_to<B: Geometry>(
     classes: &ClassPair<B>,
@@ -143,7 +121,9 @@ fn add_steps_to<B: Geometry>(
         return Ok(());
     }
     let sources = B::neighbours(to).less(stones);
-    add_steps_among(classes, sets, stones, to, sources, steps)?;
+    for from in sources.iter() {
+        add_steps_from(classes, sets, stones, to, from, steps)?;
+    }
     Ok(())
 }
 

@@ -152,16 +152,7 @@ impl<B: Board, R: Threads + Sync> Claim<'_, B, R> {
 fn all_true(found: &[Result<bool, AllocError>]) -> bool
     ensures { result ≡ true → All (λ r. r ≡ Ok true) found.now }
 {
-    for each in found {
-        let known = match each {
-            Ok(known) => *known,
-            Err(_) => false,
-        };
-        if !known {
-            return false;
-        }
-    }
-    true
+    found.iter().all(|each| matches!(each, Ok(true)))
 }
 
 impl<'a, B: Geometry, R> Faces<'a, B, R> {
@@ -170,17 +161,7 @@ impl<'a, B: Geometry, R> Faces<'a, B, R> {
     ///
     /// # Errors
     /// [`AllocError`] where memory is refused.
-    fn share_agrees(&self, first: u64, end: u64, worker: u64) -> Result<bool, AllocError>
-        requires inside { end ≤ entry_count B.shape B.POINTS self.now.claim.now.raw.now.layout self.now.claim.now.raw.now.pair }
-        requires worker { worker < self.now.claim.now.workers }
-        ensures { IfOk result (λ yes. yes ≡ true → ShareAgrees B.shape self.now.claim.now.raw.now first end self.now.claim.now.workers worker) }
-    {
-        let mut lists = Lists::new(self.claim.alloc);
-        self.stretches_agree(&mut lists, first, end, worker)
-    }
-
-    /// [`share_agrees`](Faces::share_agrees), with the lists to go through the entries with.
-    fn stretches_agree(
+    fn share_agrees(
         &self,
         lists: &mut Lists<'a, B>,
         first: u64,
@@ -237,7 +218,10 @@ impl<B: Board, R: Threads + Sync> Faces<'_, B, R> {
                 requires { (end ≤ entry_count B.shape B.POINTS self.now.claim.now.raw.now.layout self.now.claim.now.raw.now.pair) × (worker < self.now.claim.now.workers) }
                 ensures { IfOk result (λ yes. yes ≡ true
                     → ShareAgrees B.shape self.entry.now.claim.now.raw.now first end self.entry.now.claim.now.workers worker) }
-            { self.share_agrees(first, end, worker as u64) },
+            {
+                let mut lists = Lists::new(self.claim.alloc);
+                self.share_agrees(&mut lists, first, end, worker as u64)
+            },
         )
     }
 

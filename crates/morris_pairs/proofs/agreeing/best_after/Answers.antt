@@ -1,11 +1,10 @@
-use Rattle.std.proofs.Common.{◌≡◌, ℕ, ◌++◌, List, true, sym, ap, ◌∙◌, arith}
-use Rattle.std.proofs.lemmas.List.{append-nil}
+use Rattle.std.proofs.Common.{◌≡◌, ℕ, List, true, sym, ap, ◌∙◌, arith}
 use Rattle.morris_board.specs.Sets.{has, members}
 use Rattle.morris_moves.specs.Rules.{moves_from}
 use Rattle.morris_moves.proofs.SetLaws.{point_lt}
 use Rattle.morris_pairs.specs.Agreement.{quiet_codes}
 use Rattle.morris_pairs.specs.Worths.{best_of, worth_of, code_of_worth}
-use Rattle.morris_pairs.proofs.BackLawsLoops.{end_of, next_points}
+use Rattle.morris_pairs.proofs.BackLawsLoops.{end_of, next_points, none_left}
 use Rattle.morris_pairs.proofs.AgreementLaws.{quiet_codes-none, codes_by, codes_by-more, codes_by-all, best-all, small_codes}
 use Rattle.morris_pairs.proofs.WorthLaws.{best_of-none, best_of-append}
 use Rattle.morris_pairs.proofs.agreeing.best_after.Goals as goal
@@ -19,14 +18,12 @@ loop-from-init g c = record {
 
 pub from-requires-clause-start : goal.from-requires-clause-start
 from-requires-clause-start g c =
-    end_of c.args.position.now.own c.loop-from.yielded c.in-Some.from (members c.next.new.self)
-    (ap (λ (zs : List ℕ). c.loop-from.yielded ++ zs) (sym c.in-Some.ensures.steps) ∙ c.loop-from.invariant.points)
+    end_of c.args.position.now.own c.in-Some.from c.loop-from.yielded _ _ c.loop-from.invariant.points c.in-Some.ensures.steps
 
 pub from-requires-clause-inside : goal.from-requires-clause-inside
 from-requires-clause-inside g c =
     let here : has c.args.position.now.own c.in-Some.from ≡ true =
-    end_of c.args.position.now.own c.loop-from.yielded c.in-Some.from (members c.next.new.self)
-    (ap (λ (zs : List ℕ). c.loop-from.yielded ++ zs) (sym c.in-Some.ensures.steps) ∙ c.loop-from.invariant.points) in
+    end_of c.args.position.now.own c.in-Some.from c.loop-from.yielded _ _ c.loop-from.invariant.points c.in-Some.ensures.steps in
     omega (
       arith,
       g.met.B.Geometry.point_count,
@@ -35,14 +32,12 @@ from-requires-clause-inside g c =
 
 pub best_from-best-requires-clause-start : goal.best_from-best-requires-clause-start
 best_from-best-requires-clause-start g c =
-    end_of c.args.position.now.own c.loop-from.yielded c.in-Some.from (members c.next.new.self)
-    (ap (λ (zs : List ℕ). c.loop-from.yielded ++ zs) (sym c.in-Some.ensures.steps) ∙ c.loop-from.invariant.points)
+    end_of c.args.position.now.own c.in-Some.from c.loop-from.yielded _ _ c.loop-from.invariant.points c.in-Some.ensures.steps
 
 pub best_from-best-requires-clause-inside : goal.best_from-best-requires-clause-inside
 best_from-best-requires-clause-inside g c =
     let here : has c.args.position.now.own c.in-Some.from ≡ true =
-    end_of c.args.position.now.own c.loop-from.yielded c.in-Some.from (members c.next.new.self)
-    (ap (λ (zs : List ℕ). c.loop-from.yielded ++ zs) (sym c.in-Some.ensures.steps) ∙ c.loop-from.invariant.points) in
+    end_of c.args.position.now.own c.in-Some.from c.loop-from.yielded _ _ c.loop-from.invariant.points c.in-Some.ensures.steps in
     omega (
       arith,
       g.met.B.Geometry.point_count,
@@ -53,7 +48,7 @@ pub loop-from-preserved : goal.loop-from-preserved
 loop-from-preserved g c =
     let more : List ℕ = quiet_codes g.B.Geometry.shape c.args.raw.now c.args.position.now (moves_from g.B.Geometry.shape c.args.position.now c.in-Some.from) in
     record {
-      points = next_points c.loop-from.yielded c.in-Some.from c.loop-from.from-iterator c.next.new.self _ c.loop-from.invariant.points c.in-Some.ensures.steps;
+      points = next_points c.loop-from.yielded c.in-Some.from _ _ _ c.loop-from.invariant.points c.in-Some.ensures.steps;
       best = c.best_from-best.ensures
           ∙ ap (λ best. best_of best more) c.loop-from.invariant.best
           ∙ sym (best_of-append (worth_of c.args.captures) (codes_by g.B.Geometry.shape c.args.raw.now c.args.position.now c.loop-from.yielded) more)
@@ -62,8 +57,7 @@ loop-from-preserved g c =
 
 pub returns : goal.returns
 returns g c =
-    let each : c.loop-from.yielded ≡ members c.args.position.now.own =
-    sym (append-nil _) ∙ (ap (λ (zs : List ℕ). c.loop-from.yielded ++ zs) (sym c.in-None.ensures.steps.0) ∙ c.loop-from.invariant.points) in
+    let each = none_left c.loop-from.yielded _ _ c.loop-from.invariant.points c.in-None.ensures.steps.0 in
     ap code_of_worth
     (c.loop-from.invariant.best
     ∙ ap (λ (us : List ℕ). best_of (worth_of c.args.captures) (codes_by g.B.Geometry.shape c.args.raw.now c.args.position.now us)) each

@@ -1,11 +1,11 @@
-use Rattle.std.proofs.Common.{◌≡◌, ℕ, ◌∷◌, [], ◌++◌, List, true, not, map, max, None, sym, ap, ap₂, ◌∙◌}
+use Rattle.std.proofs.Common.{◌≡◌, ℕ, ◌∷◌, [], List, true, not, map, max, None, sym, ap, ap₂, ◌∙◌}
 use Rattle.std.proofs.lemmas.Bool.{and_parts, not-true}
-use Rattle.std.proofs.lemmas.List.{append-nil, map-append}
+use Rattle.std.proofs.lemmas.List.{map-append}
 use Rattle.morris_board.specs.Sets.{has, members}
 use Rattle.morris_moves.specs.Rules.{closes, reach, move}
 use Rattle.morris_pairs.specs.Worths.{best_of, worth}
 use Rattle.morris_pairs.proofs.AgreementLaws.{quiet_listed, stated_at}
-use Rattle.morris_pairs.proofs.BackLawsLoops.{end_of, next_points}
+use Rattle.morris_pairs.proofs.BackLawsLoops.{end_of, next_points, none_left}
 use Rattle.morris_pairs.proofs.EndLaws.{code_to, codes_by_ends}
 use Rattle.morris_pairs.proofs.WorthLaws.{best_of-none, best_of-more}
 use Rattle.morris_pairs.proofs.agreeing.best_from.Goals as goal
@@ -19,8 +19,7 @@ loop-to-init g c = record {
 pub entry_after-requires-clause-listed : goal.entry_after-requires-clause-listed
 entry_after-requires-clause-listed g c =
     let here : has c.args.ends c.in-Some.to ≡ true =
-    end_of c.args.ends c.loop-to.yielded c.in-Some.to (members c.next.new.self)
-    (ap (λ (zs : List ℕ). c.loop-to.yielded ++ zs) (sym c.in-Some.ensures.steps) ∙ c.loop-to.invariant.points) in
+    end_of c.args.ends c.in-Some.to c.loop-to.yielded _ _ c.loop-to.invariant.points c.in-Some.ensures.steps in
     let both = and_parts (has (reach g.B.Geometry.shape c.args.position.now c.args.from) c.in-Some.to)
     (not (closes g.B.Geometry.shape c.args.position.now.own c.args.from c.in-Some.to)) (sym (c.requires.ends c.in-Some.to) ∙ here) in
     quiet_listed g.B.Geometry.shape g.met.B.Geometry.is_lawful c.args.position.now c.own.ensures.lawful c.args.from c.in-Some.to c.requires.start both.0
@@ -32,7 +31,7 @@ loop-to-preserved g c =
     c.entry_after.result c.code.result c.entry_after.ensures.entry c.code.ensures in
     let state : ℕ → ℕ = code_to g.B.Geometry.shape c.args.raw.now c.args.position.now c.args.from in
     record {
-      points = next_points c.loop-to.yielded c.in-Some.to c.loop-to.to-iterator c.next.new.self _ c.loop-to.invariant.points c.in-Some.ensures.steps;
+      points = next_points c.loop-to.yielded c.in-Some.to _ _ _ c.loop-to.invariant.points c.in-Some.ensures.steps;
       best = c.max-best.ensures
           ∙ ap₂ max c.loop-to.invariant.best (c.worth.ensures ∙ ap worth stated)
           ∙ sym (best_of-more c.args.known (map state c.loop-to.yielded) (state c.in-Some.to))
@@ -41,8 +40,7 @@ loop-to-preserved g c =
 
 pub returns : goal.returns
 returns g c =
-    let each : c.loop-to.yielded ≡ members c.args.ends =
-    sym (append-nil _) ∙ (ap (λ (zs : List ℕ). c.loop-to.yielded ++ zs) (sym c.in-None.ensures.steps.0) ∙ c.loop-to.invariant.points) in
+    let each = none_left c.loop-to.yielded _ _ c.loop-to.invariant.points c.in-None.ensures.steps.0 in
     c.loop-to.invariant.best
     ∙ ap (λ (vs : List ℕ). best_of c.args.known (map (code_to g.B.Geometry.shape c.args.raw.now c.args.position.now c.args.from) vs)) each
     ∙ ap (best_of c.args.known) (codes_by_ends g.B.Geometry.shape c.args.raw.now c.args.position.now c.args.from c.args.ends c.requires.ends)

@@ -18,14 +18,12 @@ loop-to-init g c = record {
 
 pub sources-requires : goal.sources-requires
 sources-requires g c =
-    end_of c.args.position.now.other c.loop-to.yielded c.in-Some.to (members c.next.new.self)
-    (ap (λ (zs : List ℕ). c.loop-to.yielded ++ zs) (sym c.in-Some.ensures.steps) ∙ c.loop-to.invariant.points)
+    end_of c.args.position.now.other c.in-Some.to c.loop-to.yielded _ _ c.loop-to.invariant.points c.in-Some.ensures.steps
 
 pub add-requires-clause-end : goal.add-requires-clause-end
 add-requires-clause-end g c =
     rw c.requires.position
-    (end_of c.args.position.now.other c.loop-to.yielded c.in-Some.to (members c.next.new.self)
-    (ap (λ (zs : List ℕ). c.loop-to.yielded ++ zs) (sym c.in-Some.ensures.steps) ∙ c.loop-to.invariant.points))
+    (end_of c.args.position.now.other c.in-Some.to c.loop-to.yielded _ _ c.loop-to.invariant.points c.in-Some.ensures.steps)
 
 pub add-requires-clause-sources : goal.add-requires-clause-sources
 add-requires-clause-sources g c =
@@ -46,8 +44,7 @@ loop-to-preserved g c =
       ← c.requires.position,
     ) c.in_ok-add.ensures in
     record {
-      points = next_points c.loop-to.yielded c.in-Some.to c.loop-to.to-iterator c.next.new.self (members c.args.position.now.other) c.loop-to.invariant.points
-          c.in-Some.ensures.steps;
+      points = next_points c.loop-to.yielded c.in-Some.to _ _ _ c.loop-to.invariant.points c.in-Some.ensures.steps;
       listed = leading
           ∙ (ap (λ (xs : List ℕ). xs ++ entries_leading (layout_before c.args.before.now) g.B.Geometry.shape g.B.Geometry.POINTS (position_after c.args.before.now).pair
           c.args.position.now (moves_into g.B.Geometry.shape c.args.position.now c.in-Some.to g.B.Geometry.POINTS)) c.loop-to.invariant.listed

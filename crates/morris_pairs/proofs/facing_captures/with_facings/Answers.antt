@@ -5,8 +5,8 @@ use Rattle.morris_moves.specs.Rules.{moved}
 use Rattle.morris_moves.proofs.SetLaws.{point_lt}
 use Rattle.morris_wave.specs.Exits.{exits_of}
 use Rattle.morris_pairs.specs.Captured.{IsClosing}
-use Rattle.morris_pairs.specs.FacingCaptures.{codes_facing, codes_by}
-use Rattle.morris_pairs.proofs.BackLawsLoops.{end_of, next_points}
+use Rattle.morris_pairs.specs.KeptCaptures.{codes_facing, codes_by}
+use Rattle.morris_pairs.proofs.BackLawsLoops.{end_of, next_points, none_left}
 use Rattle.morris_pairs.proofs.CaptureLaws.{closing_in}
 use Rattle.morris_pairs.proofs.FacingCaptureLaws.{codes_more}
 use Rattle.morris_pairs.proofs.facing_captures.with_facings.Given as given
@@ -16,8 +16,7 @@ use Rattle.morris_pairs.proofs.facing_captures.with_facings.Goals.{In-Some, Afte
 -- the stone closes a mill
 closing : (g : given.Over) (c : In-Some g) → IsClosing g.B.Geometry.shape c.args.position.now c.in-Some.from c.args.to
 closing g c =
-    c.requires.closers c.in-Some.from (end_of c.args.closers c.loop-from.yielded c.in-Some.from (members c.next.new.self)
-    (ap (λ (zs : List ℕ). c.loop-from.yielded ++ zs) (sym c.in-Some.ensures.steps) ∙ c.loop-from.invariant.points))
+    c.requires.closers c.in-Some.from (end_of c.args.closers c.in-Some.from c.loop-from.yielded _ _ c.loop-from.invariant.points c.in-Some.ensures.steps)
 
 facing : (g : given.Over) (c : After-with-facing g) → c.with-facing.result ≡ moved c.args.position.now.own c.in-Some.from c.args.to
 unfolding moved
@@ -59,7 +58,7 @@ loop-from-preserved g c =
     let at = goal.at.loop-from-preserved g c in
     let f : ℕ → List ℕ = λ u. codes_facing g.B.Geometry.shape c.args.position.now.other (moved c.args.position.now.own u c.args.to) in
     record {
-      points = next_points c.loop-from.yielded c.in-Some.from c.loop-from.from-iterator c.next.new.self _ c.loop-from.invariant.points c.in-Some.ensures.steps;
+      points = next_points c.loop-from.yielded c.in-Some.from _ _ _ c.loop-from.invariant.points c.in-Some.ensures.steps;
       kept = c.exits_facing.ensures.kept;
       summed = λ codes e. codes_more f codes c.loop-from.exits c.exits_facing.result c.joined-exits.result c.in-Some.from c.loop-from.yielded
           (c.loop-from.invariant.summed codes e)
@@ -68,6 +67,5 @@ loop-from-preserved g c =
 
 pub returns-clause-value : goal.returns-clause-value
 returns-clause-value g c = λ codes e.
-    let all : c.loop-from.yielded ≡ members c.args.closers =
-    sym (append-nil _) ∙ (ap (λ (zs : List ℕ). c.loop-from.yielded ++ zs) (sym c.in-None.ensures.steps.0) ∙ c.loop-from.invariant.points) in
+    let all = none_left c.loop-from.yielded _ _ c.loop-from.invariant.points c.in-None.ensures.steps.0 in
     c.loop-from.invariant.summed codes e ∙ ap (λ us. exits_of (codes ++ codes_by g.B.Geometry.shape c.args.position.now c.args.to us)) all

@@ -1,8 +1,7 @@
 use Rattle.std.proofs.Common.{◌≡◌, ℕ, ◌++◌, List}
 use Rattle.morris_board.specs.Sets.{members}
 use Rattle.morris_wave.specs.Exits.{exits_of}
-use Rattle.morris_pairs.specs.FacingCaptures.{codes_by, codes_facing}
-use Rattle.morris_pairs.specs.KeptCaptures.{AreKept}
+use Rattle.morris_pairs.specs.KeptCaptures.{AreKept, codes_by, codes_facing}
 use Rattle.morris_pairs.proofs.facing_captures.with_facings.Given as goal
 
 abbrev pub invariant-loop-from : goal.invariant-loop-from

@@ -1,11 +1,10 @@
-use Rattle.std.proofs.Common.{◌≡◌, ◌++◌, true, List, ℕ, slice_index, sym, ap, subst, ◌∙◌, arith}
-use Rattle.std.proofs.lemmas.List.{append-nil}
+use Rattle.std.proofs.Common.{◌≡◌, ◌++◌, true, List, slice_index, sym, ap, subst, ◌∙◌, arith}
 use Rattle.morris_board.specs.Sets.{has, members, count_of, without_point}
 use Rattle.morris_moves.specs.declared.step.Move.{Move}
 use Rattle.morris_pairs.specs.Captured.{IsStandingIn, IsLeft, captures_at, captures_to}
 use Rattle.morris_pairs.specs.Graphs.{exits_by}
 use Rattle.morris_pairs.specs.KeptCaptures.{open_ends}
-use Rattle.morris_pairs.proofs.BackLawsLoops.{end_of, next_points}
+use Rattle.morris_pairs.proofs.BackLawsLoops.{end_of, next_points, none_left}
 use Rattle.morris_pairs.proofs.CaptureLaws.{GoesOn, goes_none, goes_more, open_low, closers_close}
 use Rattle.morris_pairs.proofs.CapturedLaws.{taken_in, left_within, left_counts}
 use Rattle.morris_pairs.proofs.graph.with_captures.Given as given
@@ -24,8 +23,7 @@ left g c = record {
 -- the point is one at which a mill is closed
 here : (g : given.Over) (c : In-Some g) → has (open_ends g.B.Geometry.shape c.args.position.now.own c.args.position.now.other) c.in-Some.to ≡ true
 here g c =
-    subst (λ e. has e c.in-Some.to ≡ true) c.requires.ends (end_of c.args.ends c.loop-to.yielded c.in-Some.to (members c.next.new.self)
-    (ap (λ (zs : List ℕ). c.loop-to.yielded ++ zs) (sym c.in-Some.ensures.steps) ∙ c.loop-to.invariant.points))
+    subst (λ e. has e c.in-Some.to ≡ true) c.requires.ends (end_of c.args.ends c.in-Some.to c.loop-to.yielded _ _ c.loop-to.invariant.points c.in-Some.ensures.steps)
 
 pub without-left-requires : goal.without-left-requires
 without-left-requires g c =
@@ -66,7 +64,7 @@ with_closers-exits-requires-clause-closers g c = λ u h.
 
 pub loop-to-preserved : goal.loop-to-preserved
 loop-to-preserved g c = record {
-  points = next_points c.loop-to.yielded c.in-Some.to c.loop-to.to-iterator c.next.new.self _ c.loop-to.invariant.points c.in-Some.ensures.steps;
+  points = next_points c.loop-to.yielded c.in-Some.to _ _ _ c.loop-to.invariant.points c.in-Some.ensures.steps;
   summed = goes_more g.B.Geometry.shape c.args.position.now c.args.known
       (λ v. captures_at c.args.taken (slice_index c.args.row.now.closers v) v)
       c.loop-to.exits c.with_closers-exits.result c.in-Some.to c.loop-to.yielded c.loop-to.invariant.summed
@@ -78,7 +76,6 @@ loop-to-preserved g c = record {
 
 pub returns : goal.returns
 returns g c =
-    let each : c.loop-to.yielded ≡ members c.args.ends =
-    sym (append-nil _) ∙ (ap (λ (zs : List ℕ). c.loop-to.yielded ++ zs) (sym c.in-None.ensures.steps.0) ∙ c.loop-to.invariant.points) in
+    let each = none_left c.loop-to.yielded _ _ c.loop-to.invariant.points c.in-None.ensures.steps.0 in
     subst (λ vs. GoesOn g.B.Geometry.shape c.args.position.now c.args.known c.loop-to.exits (captures_to c.args.row.now.closers c.args.taken vs)) each
     c.loop-to.invariant.summed

@@ -1,5 +1,4 @@
-use Rattle.std.proofs.Common.{◌≡◌, ◌++◌, ◌<◌, List, ℕ, Some, map, sym, ap, subst, ◌∙◌, arith}
-use Rattle.std.proofs.lemmas.List.{append-nil}
+use Rattle.std.proofs.Common.{◌≡◌, ◌<◌, ℕ, Some, map, ap, subst, ◌∙◌, arith}
 use Rattle.morris_board.specs.Sets.{members, with_point, without_point}
 use Rattle.morris_board.specs.Boards.{Shape}
 use Rattle.morris_board.specs.Positions.{Sides, IsPosition}
@@ -7,7 +6,7 @@ use Rattle.morris_moves.specs.Rules.{move}
 use Rattle.morris_moves.proofs.LegalLaws.{reached}
 use Rattle.morris_moves.proofs.SetLaws.{point_lt}
 use Rattle.morris_pairs.specs.Captured.{IsClosing}
-use Rattle.morris_pairs.proofs.BackLawsLoops.{end_of, next_points}
+use Rattle.morris_pairs.proofs.BackLawsLoops.{end_of, next_points, none_left}
 use Rattle.morris_pairs.proofs.CaptureLaws.{GoesOn, goes_none, goes_capture}
 use Rattle.morris_pairs.proofs.CapturedLaws.{left_stands, led_to, left_code}
 use Rattle.morris_pairs.proofs.graph.with_closers.Given as given
@@ -17,8 +16,7 @@ use Rattle.morris_pairs.proofs.graph.with_closers.Goals.{In-Some, After-with-fac
 -- the stone closes a mill
 closing : (g : given.Over) (c : In-Some g) → IsClosing g.B.Geometry.shape c.args.position.now c.in-Some.from c.args.to
 closing g c =
-    c.requires.closers c.in-Some.from (end_of c.args.closers c.loop-from.yielded c.in-Some.from (members c.next.new.self)
-    (ap (λ (zs : List ℕ). c.loop-from.yielded ++ zs) (sym c.in-Some.ensures.steps) ∙ c.loop-from.invariant.points))
+    c.requires.closers c.in-Some.from (end_of c.args.closers c.in-Some.from c.loop-from.yielded _ _ c.loop-from.invariant.points c.in-Some.ensures.steps)
 
 facing : (g : given.Over) (c : After-with-facing g) → c.with-facing.result ≡ with_point (without_point c.args.position.now.own c.in-Some.from) c.args.to
 facing g c = c.with-facing.ensures ∙ ap (λ o. with_point o c.args.to) (c.without.ensures ∙ ap (λ o. without_point o c.in-Some.from) c.own-own.ensures.points)
@@ -61,7 +59,7 @@ pub loop-from-preserved : goal.loop-from-preserved
 loop-from-preserved g c =
     let at = goal.at.loop-from-preserved g c in
     record {
-      points = next_points c.loop-from.yielded c.in-Some.from c.loop-from.from-iterator c.next.new.self _ c.loop-from.invariant.points c.in-Some.ensures.steps;
+      points = next_points c.loop-from.yielded c.in-Some.from _ _ _ c.loop-from.invariant.points c.in-Some.ensures.steps;
       summed = λ taken left. rw c.with-exits.ensures.value (goes_capture g.B.Geometry.shape c.args.position.now c.args.known c.loop-from.exits c.in-Some.from c.args.to taken
           c.code_at.result c.loop-from.yielded (c.loop-from.invariant.summed taken left)
           (left_code g.B.Geometry.shape g.B.Geometry.POINTS g.met.B.Geometry.point_count g.met.B.Geometry.few c.args.position.now c.requires.lawful taken
@@ -72,7 +70,6 @@ loop-from-preserved g c =
 
 pub returns : goal.returns
 returns g c = λ taken left.
-    let each : c.loop-from.yielded ≡ members c.args.closers =
-    sym (append-nil _) ∙ (ap (λ (zs : List ℕ). c.loop-from.yielded ++ zs) (sym c.in-None.ensures.steps.0) ∙ c.loop-from.invariant.points) in
+    let each = none_left c.loop-from.yielded _ _ c.loop-from.invariant.points c.in-None.ensures.steps.0 in
     subst (λ us. GoesOn g.B.Geometry.shape c.args.position.now c.args.known c.loop-from.exits (map (λ u. move u c.args.to (Some taken)) us)) each
     (c.loop-from.invariant.summed taken left)

@@ -6,7 +6,7 @@ use Rattle.morris_pairs.specs.declared.layout.Layout.TheVariants.{Classes}
 use Rattle.morris_moves.specs.Rules.{move}
 use Rattle.morris_pairs.specs.Orders.{order_of}
 use Rattle.morris_pairs.specs.Backward.{entries_leading, leads_from}
-use Rattle.morris_pairs.proofs.BackLawsLoops.{end_of, next_points, leading_into_none, leading_into_more}
+use Rattle.morris_pairs.proofs.BackLawsLoops.{end_of, next_points, leading_into_none, leading_into_more, none_left}
 use Rattle.morris_pairs.proofs.numbering.add_carried.Goals as goal
 
 pub loop-from-init : goal.loop-from-init
@@ -20,22 +20,19 @@ loop-from-init g c =
 
 pub add-requires-clause-start : goal.add-requires-clause-start
 add-requires-clause-start g c =
-    let here : has c.args.sources c.in-Some.from ≡ true = end_of c.args.sources c.loop-from.yielded c.in-Some.from (members c.next.new.self)
-    (ap (λ (zs : List ℕ). c.loop-from.yielded ++ zs) (sym c.in-Some.ensures.steps) ∙ c.loop-from.invariant.points) in
+    let here : has c.args.sources c.in-Some.from ≡ true = end_of c.args.sources c.in-Some.from c.loop-from.yielded _ _ c.loop-from.invariant.points c.in-Some.ensures.steps in
     (c.requires.sources c.in-Some.from here).0
 
 pub add-requires-clause-vacant : goal.add-requires-clause-vacant
 add-requires-clause-vacant g c =
-    let here : has c.args.sources c.in-Some.from ≡ true = end_of c.args.sources c.loop-from.yielded c.in-Some.from (members c.next.new.self)
-    (ap (λ (zs : List ℕ). c.loop-from.yielded ++ zs) (sym c.in-Some.ensures.steps) ∙ c.loop-from.invariant.points) in
+    let here : has c.args.sources c.in-Some.from ≡ true = end_of c.args.sources c.in-Some.from c.loop-from.yielded _ _ c.loop-from.invariant.points c.in-Some.ensures.steps in
     (c.requires.sources c.in-Some.from here).1
 
 pub loop-from-preserved : goal.loop-from-preserved
 loop-from-preserved g c =
     let q : InPair = c.args.entries.now in
     record {
-      points = next_points c.loop-from.yielded c.in-Some.from c.loop-from.from-iterator c.next.new.self (members c.args.sources) c.loop-from.invariant.points
-          c.in-Some.ensures.steps;
+      points = next_points c.loop-from.yielded c.in-Some.from _ _ _ c.loop-from.invariant.points c.in-Some.ensures.steps;
       listed = c.in_ok-add.ensures.carried
           ∙ (ap (λ (xs : List ℕ). xs ++ leads_from Classes g.B.Geometry.shape g.B.Geometry.POINTS q.pair q.position c.in-Some.from c.args.to)
           c.loop-from.invariant.listed
@@ -47,7 +44,6 @@ loop-from-preserved g c =
 pub returns : goal.returns
 returns g c =
     let q : InPair = c.args.entries.now in
-    let all : c.loop-from.yielded ≡ members c.args.sources =
-    sym (append-nil _) ∙ (ap (λ (zs : List ℕ). c.loop-from.yielded ++ zs) (sym c.in-None.ensures.steps.0) ∙ c.loop-from.invariant.points) in
+    let all = none_left c.loop-from.yielded _ _ c.loop-from.invariant.points c.in-None.ensures.steps.0 in
     c.loop-from.invariant.listed
     ∙ ap (λ (us : List ℕ). c.args.out.now.items ++ entries_leading Classes g.B.Geometry.shape g.B.Geometry.POINTS q.pair q.position (map (λ u. move u c.args.to None) us)) all

@@ -18,13 +18,11 @@ loop-to-init g c = record {
 
 pub sources-requires : goal.sources-requires
 sources-requires g c =
-    end_of c.args.position.now.other c.loop-to.yielded c.in-Some.to (members c.next.new.self)
-    (ap (λ (zs : List ℕ). c.loop-to.yielded ++ zs) (sym c.in-Some.ensures.steps) ∙ c.loop-to.invariant.points)
+    end_of c.args.position.now.other c.in-Some.to c.loop-to.yielded _ _ c.loop-to.invariant.points c.in-Some.ensures.steps
 
 pub add_into_row-requires-clause-end : goal.add_into_row-requires-clause-end
 add_into_row-requires-clause-end g c =
-    end_of c.args.position.now.other c.loop-to.yielded c.in-Some.to (members c.next.new.self)
-    (ap (λ (zs : List ℕ). c.loop-to.yielded ++ zs) (sym c.in-Some.ensures.steps) ∙ c.loop-to.invariant.points)
+    end_of c.args.position.now.other c.in-Some.to c.loop-to.yielded _ _ c.loop-to.invariant.points c.in-Some.ensures.steps
 
 pub add_into_row-requires-clause-sources : goal.add_into_row-requires-clause-sources
 add_into_row-requires-clause-sources g c = λ p here. (
@@ -41,8 +39,7 @@ loop-to-preserved g c =
     rw (moves_into-sources g.B.Geometry.shape g.B.Geometry.POINTS g.met.B.Geometry.point_count g.met.B.Geometry.few c.args.position.now c.in-Some.to c.sources.result
     c.sources.ensures.come) c.in_ok-add_into_row.ensures in
     record {
-      points = next_points c.loop-to.yielded c.in-Some.to c.loop-to.to-iterator c.next.new.self (members c.args.position.now.other) c.loop-to.invariant.points
-          c.in-Some.ensures.steps;
+      points = next_points c.loop-to.yielded c.in-Some.to _ _ _ c.loop-to.invariant.points c.in-Some.ensures.steps;
       listed = leading
           ∙ (ap (λ (xs : List ℕ). xs ++ leading_in Rows g.B.Geometry.shape g.B.Geometry.POINTS c.args.classes.now
           c.args.position.now (moves_into g.B.Geometry.shape c.args.position.now c.in-Some.to g.B.Geometry.POINTS)) c.loop-to.invariant.listed

@@ -1,9 +1,18 @@
-use Rattle.std.proofs.Common.{◌<◌, List, sym, subst, ◌∙◌, arith}
-use Rattle.morris_board.specs.Sets.{count_of}
+use Rattle.std.proofs.Common.{◌≡◌, List, true, refl, sym, ap, subst, ◌∙◌, arith}
+use Rattle.std.specs.List.{flat_map}
+use Rattle.morris_board.specs.Sets.{has, members}
 use Rattle.morris_board.proofs.SetLaws.{point_lt}
-use Rattle.morris_pairs.specs.RowSteps.{Carry, AddsSteps}
-use Rattle.morris_pairs.proofs.RowStepLaws.{adds_none, at_mill, source_lt, source_vacant, at_sources}
+use Rattle.morris_pairs.specs.RowSteps.{Carry, carries_from, AddsSteps}
+use Rattle.morris_pairs.proofs.BackLawsLoops.{end_of, next_points, none_left}
+use Rattle.morris_pairs.proofs.RowStepLaws.{adds_none, adds_then, among_more, at_mill, source_lt, source_vacant, at_sources}
+use Rattle.morris_pairs.proofs.row_steps.add_steps_to.Given as given
 use Rattle.morris_pairs.proofs.row_steps.add_steps_to.Goals as goal
+use Rattle.morris_pairs.proofs.row_steps.add_steps_to.Goals.{In-Some}
+
+-- the stone may have come from there
+here : (g : given.Over) (c : In-Some g) → has c.less-sources.result c.in-Some.from ≡ true
+here g c =
+    end_of c.less-sources.result c.in-Some.from c.loop-from.yielded _ _ (c.loop-from.invariant.points ∙ ap members (c.into_iter-from-iterator.ensures.into_iter_gives ∙ c.iter-from-items.ensures.points)) c.in-Some.ensures.steps
 
 pub in_mill-requires : goal.in_mill-requires
 in_mill-requires g c = point_lt c.args.stones g.B.Geometry.POINTS c.args.to c.requires.stones c.requires.end
@@ -17,19 +26,39 @@ returns-then-in_mill g c =
 pub neighbours-requires : goal.neighbours-requires
 neighbours-requires g c = point_lt c.args.stones g.B.Geometry.POINTS c.args.to c.requires.stones c.requires.end
 
-pub add_steps_among-requires-clause-sources : goal.add_steps_among-requires-clause-sources
-add_steps_among-requires-clause-sources g c = λ p here.
-    let many : 3 < count_of c.args.stones = omega (arith, c.requires.count, c.requires.two, c.pair.ensures.lawful.least) in (
-      source_lt g.B.Geometry.shape g.B.Geometry.POINTS g.met.B.Geometry.few g.met.B.Geometry.point_count c.args.stones c.args.to c.neighbours.result c.less-sources.result
-          many (sym c.in_mill.ensures ∙ c.if-in_mill.false) c.neighbours.ensures c.less-sources.ensures p here,
-      source_vacant g.B.Geometry.shape g.B.Geometry.POINTS g.met.B.Geometry.few g.met.B.Geometry.point_count c.args.stones c.args.to c.neighbours.result c.less-sources.result
-          many (sym c.in_mill.ensures ∙ c.if-in_mill.false) c.neighbours.ensures c.less-sources.ensures p here,
-    )
+pub loop-from-init : goal.loop-from-init
+loop-from-init g c = record {
+  points = refl;
+  adds = adds_none g.B.Geometry.shape g.B.Geometry.POINTS c.args.classes.now c.args.stones c.args.classes.now.lesser c.args.steps.now.items;
+}
+
+pub add_steps_from-requires-clause-start : goal.add_steps_from-requires-clause-start
+add_steps_from-requires-clause-start g c =
+    source_lt g.B.Geometry.shape g.B.Geometry.POINTS g.met.B.Geometry.few g.met.B.Geometry.point_count c.args.stones c.args.to c.neighbours.result c.less-sources.result
+    (omega (arith, c.requires.count, c.requires.two, c.pair.ensures.lawful.least)) (sym c.in_mill.ensures ∙ c.if-in_mill.false) c.neighbours.ensures c.less-sources.ensures
+    c.in-Some.from (here g (goal.at.add_steps_from-requires-clause-start g c).In-Some)
+
+pub add_steps_from-requires-clause-vacant : goal.add_steps_from-requires-clause-vacant
+add_steps_from-requires-clause-vacant g c =
+    source_vacant g.B.Geometry.shape g.B.Geometry.POINTS g.met.B.Geometry.few g.met.B.Geometry.point_count c.args.stones c.args.to c.neighbours.result c.less-sources.result
+    (omega (arith, c.requires.count, c.requires.two, c.pair.ensures.lawful.least)) (sym c.in_mill.ensures ∙ c.if-in_mill.false) c.neighbours.ensures c.less-sources.ensures
+    c.in-Some.from (here g (goal.at.add_steps_from-requires-clause-vacant g c).In-Some)
+
+pub loop-from-preserved : goal.loop-from-preserved
+loop-from-preserved g c = record {
+  points = next_points c.loop-from.yielded c.in-Some.from _ _ _ c.loop-from.invariant.points c.in-Some.ensures.steps;
+  adds = subst (λ (xs : List Carry). AddsSteps g.B.Geometry.shape g.B.Geometry.POINTS c.args.classes.now c.args.stones c.args.classes.now.lesser xs c.args.steps.now.items c.add_steps_from.new.steps.items)
+      (among_more g.B.Geometry.shape c.args.stones c.args.to c.loop-from.yielded c.in-Some.from)
+      (adds_then g.B.Geometry.shape g.B.Geometry.POINTS c.args.classes.now c.args.stones c.args.classes.now.lesser
+      (flat_map (carries_from g.B.Geometry.shape c.args.stones c.args.to) c.loop-from.yielded) (carries_from g.B.Geometry.shape c.args.stones c.args.to c.in-Some.from)
+      c.args.steps.now.items c.loop-from.steps.items c.add_steps_from.new.steps.items c.loop-from.invariant.adds c.in_ok-add_steps_from.ensures);
+}
 
 pub returns : goal.returns
 returns g c =
-    let many : 3 < count_of c.args.stones = omega (arith, c.requires.count, c.requires.two, c.pair.ensures.lawful.least) in
-    subst (λ (xs : List Carry). AddsSteps g.B.Geometry.shape g.B.Geometry.POINTS c.args.classes.now c.args.stones c.args.classes.now.lesser xs c.args.steps.now.items c.add_steps_among.new.steps.items)
-    (sym (at_sources g.B.Geometry.shape g.B.Geometry.POINTS g.met.B.Geometry.few g.met.B.Geometry.point_count c.args.stones c.args.to c.neighbours.result c.less-sources.result
-    many (sym c.in_mill.ensures ∙ c.if-in_mill.false) c.neighbours.ensures c.less-sources.ensures))
-    c.in_ok-add_steps_among.ensures
+    let all = none_left c.loop-from.yielded _ _ (c.loop-from.invariant.points ∙ ap members (c.into_iter-from-iterator.ensures.into_iter_gives ∙ c.iter-from-items.ensures.points)) c.in-None.ensures.steps.0 in
+    subst (λ (xs : List Carry). AddsSteps g.B.Geometry.shape g.B.Geometry.POINTS c.args.classes.now c.args.stones c.args.classes.now.lesser xs c.args.steps.now.items c.loop-from.steps.items)
+    (ap (flat_map (carries_from g.B.Geometry.shape c.args.stones c.args.to)) all
+    ∙ sym (at_sources g.B.Geometry.shape g.B.Geometry.POINTS g.met.B.Geometry.few g.met.B.Geometry.point_count c.args.stones c.args.to c.neighbours.result c.less-sources.result
+    (omega (arith, c.requires.count, c.requires.two, c.pair.ensures.lawful.least)) (sym c.in_mill.ensures ∙ c.if-in_mill.false) c.neighbours.ensures c.less-sources.ensures))
+    c.loop-from.invariant.adds

@@ -1,8 +1,7 @@
-use Rattle.std.proofs.Common.{◌≡◌, ℕ, ◌++◌, List, [], sym, ap, subst, ◌∙◌}
-use Rattle.std.proofs.lemmas.List.{append-nil}
+use Rattle.std.proofs.Common.{ℕ, List, [], sym, ap, subst, ◌∙◌}
 use Rattle.std.specs.List.{flat_map}
 use Rattle.morris_board.specs.Sets.{members}
-use Rattle.morris_pairs.proofs.BackLawsLoops.{end_of, next_points}
+use Rattle.morris_pairs.proofs.BackLawsLoops.{end_of, next_points, none_left}
 use Rattle.morris_pairs.specs.declared.row_steps.RowStep.{RowStep}
 use Rattle.morris_pairs.specs.RowSteps.{Carry, carries_at, carries_into, AddsSteps}
 use Rattle.morris_pairs.proofs.RowStepLaws.{adds_none, adds_then, into_more, kept_at_end}
@@ -17,12 +16,11 @@ loop-to-init g c = record {
 
 pub add_steps_to-requires-clause-end : goal.add_steps_to-requires-clause-end
 add_steps_to-requires-clause-end g c =
-    end_of c.args.stones c.loop-to.yielded c.in-Some.to (members c.next.new.self)
-    (ap (λ (zs : List ℕ). c.loop-to.yielded ++ zs) (sym c.in-Some.ensures.steps) ∙ c.loop-to.invariant.points)
+    end_of c.args.stones c.in-Some.to c.loop-to.yielded _ _ c.loop-to.invariant.points c.in-Some.ensures.steps
 
 pub loop-to-preserved : goal.loop-to-preserved
 loop-to-preserved g c = record {
-  points = next_points c.loop-to.yielded c.in-Some.to c.loop-to.to-iterator c.next.new.self (members c.args.stones) c.loop-to.invariant.points c.in-Some.ensures.steps;
+  points = next_points c.loop-to.yielded c.in-Some.to _ _ _ c.loop-to.invariant.points c.in-Some.ensures.steps;
   adds = subst (λ (xs : List Carry). AddsSteps g.B.Geometry.shape g.B.Geometry.POINTS c.args.classes.now c.args.stones c.args.classes.now.lesser xs [] c.add_steps_to.new.steps.items)
       (into_more g.B.Geometry.shape c.args.stones c.loop-to.yielded c.in-Some.to)
       (adds_then g.B.Geometry.shape g.B.Geometry.POINTS c.args.classes.now c.args.stones c.args.classes.now.lesser
@@ -33,8 +31,7 @@ loop-to-preserved g c = record {
 pub returns : goal.returns
 unfolding carries_into
 returns g c =
-    let all : c.loop-to.yielded ≡ members c.args.stones =
-    sym (append-nil _) ∙ (ap (λ (zs : List ℕ). c.loop-to.yielded ++ zs) (sym c.in-None.ensures.steps.0) ∙ c.loop-to.invariant.points) in
+    let all = none_left c.loop-to.yielded _ _ c.loop-to.invariant.points c.in-None.ensures.steps.0 in
     kept_at_end g.B.Geometry.shape g.B.Geometry.POINTS c.args.classes.now c.args.stones c.args.classes.now.lesser c.loop-to.steps.items
     (subst (λ (vs : List ℕ). AddsSteps g.B.Geometry.shape g.B.Geometry.POINTS c.args.classes.now c.args.stones c.args.classes.now.lesser
     (flat_map (carries_at g.B.Geometry.shape c.args.stones) vs) [] c.loop-to.steps.items) all c.loop-to.invariant.adds)

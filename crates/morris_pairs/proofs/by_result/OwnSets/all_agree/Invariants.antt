@@ -1,8 +1,7 @@
 use Rattle.std.proofs.Common.{take}
 use Rattle.std.specs.List.{All}
 use Rattle.morris_pairs.specs.Faces.{EntryAgrees}
-use Rattle.morris_pairs.specs.FacingCaptures.{codes_facing}
-use Rattle.morris_pairs.specs.KeptCaptures.{AreKept}
+use Rattle.morris_pairs.specs.KeptCaptures.{AreKept, codes_facing}
 use Rattle.morris_pairs.proofs.by_result.OwnSets.all_agree.Given as goal
 
 abbrev pub invariant-loop-place : goal.invariant-loop-place

@@ -1,11 +1,10 @@
-use Rattle.std.proofs.Common.{◌≡◌, ℕ, ◌++◌, ◌&&◌, [], true, List, refl, sym, ap, subst, ◌∙◌}
-use Rattle.std.proofs.lemmas.List.{append-nil, flat_map_more}
+use Rattle.std.proofs.Common.{◌≡◌, ◌++◌, ◌&&◌, [], true, refl, ap, subst, ◌∙◌}
+use Rattle.std.proofs.lemmas.List.{flat_map_more}
 use Rattle.morris_board.specs.Sets.{has, members}
 use Rattle.morris_wave.specs.Exits.{exits_of}
-use Rattle.morris_pairs.specs.FacingCaptures.{codes_by, codes_at}
-use Rattle.morris_pairs.specs.KeptCaptures.{open_ends, closers_at}
+use Rattle.morris_pairs.specs.KeptCaptures.{open_ends, closers_at, codes_by, codes_at}
 use Rattle.morris_pairs.specs.Rows.{is_closing_end}
-use Rattle.morris_pairs.proofs.BackLawsLoops.{end_of, next_points}
+use Rattle.morris_pairs.proofs.BackLawsLoops.{end_of, next_points, none_left}
 use Rattle.morris_pairs.proofs.CaptureLaws.{closers_of, open_closes, open_low}
 use Rattle.morris_pairs.proofs.FacingCaptureLaws.{facings_suffice}
 use Rattle.morris_pairs.proofs.graph.PairGraph.exits_by_facing.Given as given
@@ -15,8 +14,7 @@ use Rattle.morris_pairs.proofs.graph.PairGraph.exits_by_facing.Goals.{In-Some, A
 -- the point is one at which a mill is closed
 here : (g : given.Over) (c : In-Some g) → has (open_ends g.B.Geometry.shape c.args.position.now.own c.args.position.now.other) c.in-Some.to ≡ true
 here g c =
-    end_of (open_ends g.B.Geometry.shape c.args.position.now.own c.args.position.now.other) c.loop-to.yielded c.in-Some.to (members c.next.new.self)
-    (ap (λ (zs : List ℕ). c.loop-to.yielded ++ zs) (sym c.in-Some.ensures.steps) ∙ c.loop-to.invariant.points)
+    end_of (open_ends g.B.Geometry.shape c.args.position.now.own c.args.position.now.other) c.in-Some.to c.loop-to.yielded _ _ c.loop-to.invariant.points c.in-Some.ensures.steps
 
 -- the stones that close it
 closers : (g : given.Over) (c : After-arriving-closers g) → c.arriving-closers.result.1 ≡ closers_at g.B.Geometry.shape c.args.position.now.own c.in-Some.to
@@ -50,7 +48,7 @@ loop-to-preserved g c =
     let b = g.B.Geometry.shape in
     let s = c.args.position.now in
     record {
-      points = next_points c.loop-to.yielded c.in-Some.to c.loop-to.to-iterator c.next.new.self _ c.loop-to.invariant.points c.in-Some.ensures.steps;
+      points = next_points c.loop-to.yielded c.in-Some.to _ _ _ c.loop-to.invariant.points c.in-Some.ensures.steps;
       kept = c.with_facings-exits.ensures.kept;
       summed = c.with_facings-exits.ensures.value (codes_at b s c.loop-to.yielded) c.loop-to.invariant.summed
           ∙ ap (λ x. exits_of (codes_at b s c.loop-to.yielded ++ codes_by b s c.in-Some.to (members x))) (closers g (goal.at.loop-to-preserved g c).After-arriving-closers)
@@ -60,8 +58,7 @@ loop-to-preserved g c =
 pub returns-clause-value : goal.returns-clause-value
 returns-clause-value g c =
     let s = c.args.position.now in
-    let all : c.loop-to.yielded ≡ members (open_ends g.B.Geometry.shape s.own s.other) =
-    sym (append-nil _) ∙ (ap (λ (zs : List ℕ). c.loop-to.yielded ++ zs) (sym c.in-None.ensures.steps.0) ∙ c.loop-to.invariant.points) in
+    let all = none_left c.loop-to.yielded _ _ c.loop-to.invariant.points c.in-None.ensures.steps.0 in
     c.loop-to.invariant.summed ∙ ap (λ vs. exits_of (codes_at g.B.Geometry.shape s vs)) all
     ∙ facings_suffice g.B.Geometry.shape g.B.Geometry.POINTS g.met.B.Geometry.point_count g.met.B.Geometry.few s c.requires.lawful
 

@@ -1,8 +1,7 @@
 use Rattle.std.proofs.Common.{◌≡◌, ◌++◌}
 use Rattle.morris_board.specs.Sets.{members}
 use Rattle.morris_wave.specs.Exits.{exits_of}
-use Rattle.morris_pairs.specs.FacingCaptures.{codes_at, codes_facing}
-use Rattle.morris_pairs.specs.KeptCaptures.{AreKept, open_ends}
+use Rattle.morris_pairs.specs.KeptCaptures.{AreKept, open_ends, codes_at, codes_facing}
 use Rattle.morris_pairs.proofs.graph.PairGraph.exits_by_facing.Given as goal
 
 abbrev pub invariant-loop-to : goal.invariant-loop-to

@@ -2,8 +2,7 @@ use Rattle.std.proofs.Common.{◌≡◌, ℕ, ◌+◌, ◌<◌, length, slice_in
 use Rattle.morris_index.specs.ClassPairs.{class_half_size}
 use Rattle.morris_wave.specs.Exits.{exits_of}
 use Rattle.morris_wave.specs.Solving.{exits_at}
-use Rattle.morris_pairs.specs.FacingCaptures.{codes_facing}
-use Rattle.morris_pairs.specs.KeptCaptures.{AreKept}
+use Rattle.morris_pairs.specs.KeptCaptures.{AreKept, codes_facing}
 use Rattle.morris_pairs.specs.Orders.{Rows}
 use Rattle.morris_pairs.specs.PairNets.{level_in, net_at}
 use Rattle.morris_pairs.proofs.row_graph.RowGraph.read_turned_row.Given as goal

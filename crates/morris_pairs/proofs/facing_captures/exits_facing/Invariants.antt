@@ -4,7 +4,7 @@ use Rattle.morris_board.specs.Positions.{sides}
 use Rattle.morris_moves.specs.Rules.{takable}
 use Rattle.morris_wave.specs.Exits.{exits_of}
 use Rattle.morris_pairs.specs.Codes.{code_to}
-use Rattle.morris_pairs.proofs.facing_captures.taken_facing.Given as goal
+use Rattle.morris_pairs.proofs.facing_captures.exits_facing.Given as goal
 
 abbrev pub invariant-loop-taken : goal.invariant-loop-taken
 invariant-loop-taken g l = record {

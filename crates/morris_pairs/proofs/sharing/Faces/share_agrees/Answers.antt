@@ -1,8 +1,8 @@
 use Rattle.std.proofs.Common.{◌+◌, ◌*◌, ap, arith}
 use Rattle.morris_pairs.specs.Faces.{FacesAgree}
 use Rattle.morris_pairs.proofs.SharingLaws.{stretch-agrees, stretch-passed}
-use Rattle.morris_pairs.proofs.sharing.Faces.stretches_agree.Goals as goal
-use Rattle.morris_pairs.proofs.sharing.Faces.stretches_agree.Goals.{then-stretch-workers+in_ok-faces_agree+else-not-branch, else-stretch-workers}
+use Rattle.morris_pairs.proofs.sharing.Faces.share_agrees.Goals as goal
+use Rattle.morris_pairs.proofs.sharing.Faces.share_agrees.Goals.{then-stretch-workers+in_ok-faces_agree+else-not-branch, else-stretch-workers}
 
 pub loop-stretch-init : goal.loop-stretch-init
 loop-stretch-init g c = λ k from inside low mine. let never : ⊥ = omega (arith, from, low) in absurd never
