@@ -73,15 +73,9 @@ found_line board head label None = none_line head
 found_line board head label (Some deep) = deep_line board head label deep.position deep.depth
 
 -- `deepest win: POSITION won in D` or `deepest win: none`, and the same of losses
-abbrev pub win_line : {B : Type 0} → Shape → Option (Deep B) → List ℕ
-win_line board win = found_line board (codes "deepest win: ") (codes " won in ") win
-
-abbrev pub loss_line : {B : Type 0} → Shape → Option (Deep B) → List ℕ
-loss_line board loss = found_line board (codes "deepest loss: ") (codes " lost in ") loss
-
--- both lines
 abbrev pub deepest_lines : {B : Type 0} → Shape → Deepest B → List ℕ
-deepest_lines board deepest = win_line board deepest.win ++ loss_line board deepest.loss
+deepest_lines board deepest =
+    found_line board (codes "deepest win: ") (codes " won in ") deepest.win ++ found_line board (codes "deepest loss: ") (codes " lost in ") deepest.loss
 
 -- a line shows a deepest position of the pair with the outcome and its depth, or that no position
 -- has the outcome

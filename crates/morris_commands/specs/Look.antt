@@ -25,17 +25,12 @@ value_line n (Lost d) = number_line (codes "lost in ") d
 value_line n (Won d) = number_line (codes "won in ") d
 value_line n Unknown = number_line (codes "unknown within ") n
 
--- the position's text and the numbers of stones
-abbrev pub head_text : Shape → Sides → List ℕ
-head_text board s = line (text_of board s) ++ counts_line s
-
--- each legal move, in order, and how many there are
-abbrev pub list_text : Shape → Sides → List ℕ
-list_text board s = flat_map move_line (moves_of board s) ++ number_line (codes "moves ") (length (moves_of board s))
-
--- all of it: the position, its legal moves, and its value as far as n plies show it
+-- all of it: the position and the numbers of stones; each legal move, in order, and how many there
+-- are; and its value as far as n plies show it
 unfoldable pub look_text : Shape → Sides → ℕ → Within → List ℕ
-look_text board s n found = head_text board s ++ list_text board s ++ value_line n found
+look_text board s n found =
+    line (text_of board s) ++ counts_line s ++ flat_map move_line (moves_of board s) ++ number_line (codes "moves ") (length (moves_of board s))
+    ++ value_line n found
 
 -- `look` prints that text of the value that the search to n plies answers
 abbrev pub PrintsLook : {T : Type 0} → Shape → Sides → ℕ → Option (List ℕ) → Option (List ℕ) → Result T Fault → Type 0

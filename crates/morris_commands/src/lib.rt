@@ -5,7 +5,6 @@
 pub mod build;
 pub mod deepest;
 pub mod look;
-mod print_deepest;
 mod print_look;
 pub mod print_stats;
 pub mod probe;

@@ -3,7 +3,7 @@ ghost use Rattle.std.specs.Prelude.{◌≡◌, length};
 ghost use Rattle.std.specs.List.{flat_map};
 ghost use Rattle.morris_moves.specs.Rules.{moves_of};
 ghost use Rattle.morris_probe.specs.Lines.{move_line};
-ghost use Rattle.morris_commands.specs.Look.{counts_line, value_line, head_text, list_text};
+ghost use Rattle.morris_commands.specs.Look.{counts_line, value_line};
 ghost use Rattle.morris_board.specs.Printers.{Takes};
 
 use morris_board::board::Geometry;
@@ -33,8 +33,10 @@ impl<B: Geometry> Printed for Looked<B> {
     ghost bytes = { λ looked. look_text B.shape looked.position looked.plies looked.found };
 
     fn put_into<S: Sink>(&self, out: &mut Printer<'_, S>) {
-        put_head(out, &self.position);
-        put_list(out, &self.position);
+        put_position(out, &self.position);
+        put_counts(out, &self.position);
+        put_moves(out, &self.position);
+        put_number_line(out, "moves ", move_count(&self.position));
         put_within(out, self.plies, self.found);
     }
 }
@@ -66,22 +68,6 @@ fn put_within<S: Sink>(out: &mut Printer<'_, S>, plies: u8, found: Within)
         Within::Won(depth) => put_number_line(out, "won in ", u64::from(depth)),
         Within::Unknown => put_number_line(out, "unknown within ", u64::from(plies)),
     }
-}
-
-/// A position and how many stones each side has.
-fn put_head<B: Geometry, S: Sink>(out: &mut Printer<'_, S>, position: &Position<B>)
-    ensures { Takes S.contents S.failures out.old out.new (head_text B.shape position.now) }
-{
-    put_position(out, position);
-    put_counts(out, position);
-}
-
-/// The legal moves and how many there are.
-fn put_list<B: Geometry, S: Sink>(out: &mut Printer<'_, S>, position: &Position<B>)
-    ensures { Takes S.contents S.failures out.old out.new (list_text B.shape position.now) }
-{
-    put_moves(out, position);
-    put_number_line(out, "moves ", move_count(position));
 }
 
 /// How many legal moves there are.

@@ -7,7 +7,8 @@ use Rattle.morris_commands.proofs.print_look.LookedPrinted.put_into.Goals as goa
 pub returns-clause-takes : goal.returns-clause-takes
 unfolding look_text
 returns-clause-takes g c =
-    and_then (and_then c.put_head.ensures c.put_list.ensures) c.put_within.ensures
+    let moves = and_then (and_then c.put_position.ensures c.put_counts.ensures) c.put_moves.ensures in
+    and_then (and_then moves (rw c.move_count.ensures at c.put_number_line.ensures)) c.put_within.ensures
 
 pub returns-clause-few : goal.returns-clause-few
 returns-clause-few g c = λ short.

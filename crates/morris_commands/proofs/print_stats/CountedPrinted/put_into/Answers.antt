@@ -4,7 +4,7 @@ use Rattle.morris_commands.proofs.print_stats.CountedPrinted.put_into.Goals as g
 
 pub returns-clause-takes : goal.returns-clause-takes
 returns-clause-takes g c =
-    and_then (rw c.as_slice.ensures.value at c.put_tallies.ensures) c.put_deepest.ensures
+    and_then (rw c.as_slice.ensures.value at c.put_tallies.ensures) (and_then c.put_found.ensures c.put_found-2.ensures)
 
 pub returns-clause-few : goal.returns-clause-few
 returns-clause-few g c = λ short.
