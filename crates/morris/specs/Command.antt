@@ -22,8 +22,7 @@ use Rattle.morris_words.specs.declared.request.Task.TheVariants as task
 use Rattle.morris_words.specs.declared.request.Verify.{Verify}
 use Rattle.morris_jobs.specs.BoardNames.{board_of}
 use Rattle.morris_commands.specs.Look.{Looks}
-use Rattle.morris_commands.specs.Stats.{AnswersStats}
-use Rattle.morris_commands.specs.StatsByClasses.{AnswersByClasses}
+use Rattle.morris_commands.specs.Stats.{AnswersByClasses, AnswersStats}
 use Rattle.morris_commands.specs.Build.{AnswersBuild}
 use Rattle.morris_jobs.specs.Orders.{layout_asked}
 use Rattle.morris_folder_commands.specs.Bundle.{AnswersBundle}

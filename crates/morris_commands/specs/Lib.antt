@@ -2,6 +2,5 @@ pub mod Look
 pub mod Deepest
 pub mod Build
 pub mod Stats
-pub mod StatsByClasses
 pub mod Verify
 pub mod Probe

@@ -9,8 +9,7 @@ ghost use Rattle.morris_jobs.specs.Faults.{CountsWrites};
 ghost use Rattle.morris_jobs.specs.BoardNames.{board_of};
 ghost use Rattle.morris_jobs.specs.Orders.{HasExactAt, IsUnbuiltAt};
 ghost use Rattle.morris_commands.specs.Build.{IsUnbuiltBefore, RestsOnTooDeep};
-ghost use Rattle.morris_commands.specs.Stats.{AnswersCounts, AnswersOn, AnswersStats};
-ghost use Rattle.morris_commands.specs.StatsByClasses.{AnswersByClasses, AnswersByClassesOn};
+ghost use Rattle.morris_commands.specs.Stats.{AnswersByClasses, AnswersByClassesOn, AnswersCounts, AnswersOn, AnswersStats};
 
 use crate::build::build_before;
 use crate::deepest::Deepest;
