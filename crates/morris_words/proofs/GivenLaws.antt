@@ -1,5 +1,5 @@
 -- Whether words gave an argument, by where its value came from, and which number they gave.
-use Rattle.std.proofs.Common.{◌≡◌, ◌∙◌, ◌≤◌, ◌<◌, ◌^◌, ℕ, Bool, true, false, List, Option, Some, None, Result, ap, refl, sym, subst, is_some}
+use Rattle.std.proofs.Common.{◌≡◌, ◌∙◌, ◌≤◌, ◌<◌, ◌^◌, ℕ, Bool, true, false, List, Option, Some, None, Result, refl, sym, subst, is_some}
 use Rattle.std.specs.Option.{option_map_or}
 use Rattle.std.specs.Prelude.{Ok, option_and_then, pos}
 use Rattle.std.specs.Str.Parse.{ParsesUnsigned}
@@ -20,32 +20,23 @@ use Rattle.morris_words.specs.Words.{number_of}
 abbrev source_of : Option MatchedArg → Option ValueSource
 source_of found = option_and_then (λ (a : MatchedArg). a.source) found
 
-abbrev is_there : Option MatchedArg → Bool
-is_there found = option_map_or (λ (a : MatchedArg). explicit_source a.source) found false
+-- whether words gave a value from there, where it is known whether there is one
+abbrev given_from : Option ValueSource → Bool → Bool
+given_from None there = there
+given_from (Some DefaultValue) there = false
+given_from (Some CommandLine) there = true
 
-by_default : (found : Option MatchedArg) → source_of found ≡ Some DefaultValue → is_there found ≡ false
-by_default None is = cc
-by_default (Some a) is = ap explicit_source is
+pub given_by : (f : Found) (name : Text) → given_from (source_of (matched_of f name)) (is_some (matched_of f name)) ≡ is_given name (rows_of f)
+given_by f name = found (matched_of f name) ∙ present_row f name
+  where
+    there : (source : Option ValueSource) → given_from source true ≡ explicit_source source
+    there None = refl
+    there (Some DefaultValue) = refl
+    there (Some CommandLine) = refl
 
-by_words : (found : Option MatchedArg) → source_of found ≡ Some CommandLine → is_there found ≡ true
-by_words None is = cc
-by_words (Some a) is = ap explicit_source is
-
-from_nowhere : (found : Option MatchedArg) → source_of found ≡ None → is_some found ≡ is_there found
-from_nowhere None is = refl
-from_nowhere (Some a) is = sym (ap explicit_source is)
-
--- it wasn't given where its value is the default
-pub default_given : (f : Found) (name : Text) → source_of (matched_of f name) ≡ Some DefaultValue → is_given name (rows_of f) ≡ false
-default_given f name is = sym (present_row f name) ∙ by_default (matched_of f name) is
-
--- it was given where its value is of the words
-pub words_given : (f : Found) (name : Text) → source_of (matched_of f name) ≡ Some CommandLine → is_given name (rows_of f) ≡ true
-words_given f name is = sym (present_row f name) ∙ by_words (matched_of f name) is
-
--- else it was given where it is there
-pub there_given : (f : Found) (name : Text) → source_of (matched_of f name) ≡ None → is_some (matched_of f name) ≡ is_given name (rows_of f)
-there_given f name is = from_nowhere (matched_of f name) is ∙ present_row f name
+    found : (o : Option MatchedArg) → given_from (source_of o) (is_some o) ≡ option_map_or (λ (a : MatchedArg). explicit_source a.source) o false
+    found None = refl
+    found (Some a) = there a.source
 
 -- what is read of a text in a range, by a reader of numbers of so many bits
 pub read_number : {E : Type 0} (G : List ℕ → Result ℕ E → Type 0) (bits low high : ℕ) (t : List ℕ) (r : Option ℕ)

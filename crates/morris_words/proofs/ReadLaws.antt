@@ -1,13 +1,12 @@
 -- What a command takes, and what it reads of the values that its words gave.
-use Rattle.std.proofs.Common.{◌≡◌, ◌∙◌, ◌||◌, ℕ, Bool, true, false, ap, ap₂, inl, inr, refl, subst, sym, List, [], ◌∷◌, Option, Some, None, Result, codes, is_some, option_map}
-use Rattle.std.specs.Box.{box_value}
+use Rattle.std.proofs.Common.{◌≡◌, ◌∙◌, ◌||◌, ℕ, Bool, true, false, ap, ap₂, inl, refl, subst, sym, List, [], ◌∷◌, Option, Some, None, Result, codes, is_some, option_map}
 use Rattle.std.specs.Option.{option_zip}
 use Rattle.std.specs.Result.{result_ok}
 use Rattle.std.specs.Prelude.{Err, IfOk, Ok}
-use Rattle.std.specs.Prelude.{Box, find, if◌then◌else◌, option_and_then, slice_get}
+use Rattle.std.specs.Prelude.{find, if◌then◌else◌, option_and_then, slice_get}
 use Rattle.std.specs.Str.{bytes_eq}
 use Rattle.clap.proofs.WalkLemmas.{one_text-rows}
-use Rattle.clap.specs.Words.{AddsArg, AddsInTurn, AddsSubcommand, App, Rule, app_of, subcommand_rows, with_rule, with_subcommand}
+use Rattle.clap.specs.Words.{AddsArg, AddsInTurn, AddsSubcommand, App, Rule, app_of, with_rule, with_subcommand}
 use Rattle.clap.specs.declared.builder.arg.Arg.{Arg}
 use Rattle.clap.specs.declared.builder.command.Command.{Command}
 use Rattle.clap.specs.Matches.{one_text}
@@ -16,14 +15,9 @@ use Rattle.clap.specs.Values.{bool_text}
 use Rattle.clap.specs.Values.{read_as}
 use Rattle.clap.specs.declared.builder.value_parser.Reading.{Reading}
 use Rattle.clap.specs.Walk.{Row, Text, first_of, one_of, row_text, rows_of}
-use Rattle.clap.specs.Words.{found_of, subcommand_name_of, subcommand_rows_of}
-use Rattle.std.specs.Borrow.{Bor}
-use Rattle.clap.specs.declared.parser.matches.ArgMatches.{ArgMatches}
-use Rattle.clap.specs.declared.parser.matches.ArgMatches.TheViews.{out-SubCommand}
 use Rattle.clap.specs.declared.parser.matches.Found.{Found}
-use Rattle.clap.specs.declared.parser.matches.SubCommand.{SubCommand}
 use Rattle.clap.specs.declared.error.kind.ErrorKind.TheVariants.{ArgumentConflict}
-use Rattle.morris_words.specs.Words.{AreArgs, HasBuildValues, HasFindValues, HasLookValues, HasLookupValues, HasProbeValues, HasStatsValues, HasVerifyValues, Is, IsAnswerTo, IsAnswerToOneOf, IsArg, IsLimit, NamesCommand, clashes, has_clash, is_on, with_rules}
+use Rattle.morris_words.specs.Words.{AreArgs, Is, IsAnswerTo, IsAnswerToOneOf, IsArg, IsLimit, clashes, has_clash, is_on, with_rules}
 use Rattle.morris_words.specs.declared.words.Refusal.{Refusal}
 use Rattle.morris_words.specs.declared.words.Refusal.TheVariants.{Memory, Help, Version, Wrong}
 
@@ -110,25 +104,6 @@ limit_given rows None some is =
     cc
 limit_given rows (Some most) some is = is.0
 
--- the name and the rows of a subcommand, each of which is known
-pub named_rows : {Z : Type 0} (o : Option (Box SubCommand Z)) (name : Text) (rows : List Row)
-    → option_map (λ b. (out-SubCommand (box_value b)).name.now) o ≡ Some name → option_map (λ p. p.1) (subcommand_rows o) ≡ Some rows
-    → subcommand_rows o ≡ Some (name, rows)
-named_rows None name rows is has = cc
-named_rows (Some b) name rows is has = rw (inside _ _ is, inside _ _ has) refl
-  where
-    inside : {X : Type 0} (x y : X) → Some x ≡ Some y → x ≡ y
-    inside x y same = cc
-
--- what was named, where a subcommand was found that has this name
-pub named_here : (m : ArgMatches) (o : Option (Bor Text × Bor ArgMatches)) (found : Bor Text × Bor ArgMatches) (name : Text)
-    → option_map (λ p. p.0.now) o ≡ subcommand_name_of m
-    → option_map (λ p. rows_of (found_of p.1.now)) o ≡ option_map (λ p. p.1) (subcommand_rows_of m) → o ≡ Some found → found.0.now ≡ name
-    → subcommand_rows_of m ≡ Some (name, rows_of (found_of found.1.now))
-named_here m o found name names has is same =
-    named_rows _ name (rows_of (found_of found.1.now)) (sym names ∙ (ap (option_map (λ p. p.0.now)) is ∙ ap (λ n. Some n) same))
-    (sym has ∙ ap (option_map (λ p. rows_of (found_of p.1.now))) is)
-
 -- an argument without a first value has no text to read
 pub no_text : (name : Text) (rows : List Row) → is_some (first_of name rows) ≡ false → one_of name rows ≡ None
 no_text name rows none = go (find (λ (r : Row). bytes_eq r.id name) rows) none
@@ -142,30 +117,3 @@ no_text name rows none = go (find (λ (r : Row). bytes_eq r.id name) rows) none
     go : (o : Option Row) → is_some (option_and_then (λ (r : Row). slice_get r.values 0) o) ≡ false → option_and_then row_text o ≡ None
     go None none = refl
     go (Some r) none = empty r.reading r.values none
-
--- the values of which a command makes its request, by its name
-abbrev Either : Bool → Type 0 → Type 0 → Type 0
-Either true A B = A
-Either false A B = B
-
-abbrev pub HasValues : Text → List Row → Type 0
-HasValues name rows =
-    Either (bytes_eq name (codes "look")) (HasLookValues rows)
-    (Either (bytes_eq name (codes "stats")) (HasStatsValues rows)
-    (Either (bytes_eq name (codes "build")) (HasBuildValues rows)
-    (Either (bytes_eq name (codes "verify")) (HasVerifyValues rows)
-    (Either (bytes_eq name (codes "probe")) (HasProbeValues rows)
-    (Either (bytes_eq name (codes "lookup")) (HasLookupValues rows) (HasFindValues rows))))))
-
-pub has_values : (name : Text) (rows : List Row) → NamesCommand (name, rows) → HasValues name rows
-has_values name rows named =
-    let at : Text → Type 0 = λ n. HasValues n rows in
-    elim named [
-      | inl has ↦ subst at (sym has.0) has.1
-      | inr (inl has) ↦ subst at (sym has.0) has.1
-      | inr (inr (inl has)) ↦ subst at (sym has.0) has.1
-      | inr (inr (inr (inl has))) ↦ subst at (sym has.0) has.1
-      | inr (inr (inr (inr (inl has)))) ↦ subst at (sym has.0) has.1
-      | inr (inr (inr (inr (inr (inl has))))) ↦ subst at (sym has.0) has.1
-      | inr (inr (inr (inr (inr (inr has))))) ↦ subst at (sym has.0) has.1
-    ]

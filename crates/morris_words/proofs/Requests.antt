@@ -1,10 +1,11 @@
 -- Where `clap` finds no mistake in the words, they name a command of the program, with the values
 -- that its request wants.
-use Rattle.std.proofs.Common.{◌≡◌, ◌∙◌, ℕ, ◌&&◌, ◌||◌, ◌⊎◌, Bool, true, false, not, refl, length, map, sym, ap, subst, inl, inr, List, [], ◌∷◌, Option, Some, None, is_some, codes}
+use Rattle.std.proofs.Common.{◌≡◌, ◌∙◌, ◌++◌, ℕ, ◌&&◌, ◌||◌, ◌⊎◌, arith, Bool, true, false, not, refl, length, map, sym, ap, subst, inl, inr, List, [], ◌∷◌, Option, Some, None, is_some, codes}
 use Rattle.std.specs.Prelude.{find, fold, nat_lt, option_map, pos}
 use Rattle.std.specs.List.{list_all, list_any}
 use Rattle.std.specs.Option.{option_map_or}
 use Rattle.std.specs.Str.{bytes_eq}
+use Rattle.std.proofs.lemmas.Bool.{ne_eqb}
 use Rattle.std.proofs.lemmas.Slice.Eq.{bytes_eq-Decides}
 use Rattle.clap.proofs.ValueTestLemmas.{accepts-Accepts}
 use Rattle.clap.proofs.WalkLemmas.{both}
@@ -14,11 +15,12 @@ use Rattle.clap.specs.ValueTests.{accepts}
 use Rattle.clap.specs.Facts.{unwrap_or_range}
 use Rattle.clap.specs.Values.{bool_text, is_request}
 use Rattle.clap.specs.Walk.{Row, Rule, Text, action_of, answers_to, arg_by_id, finished, first_of, has_row, is_empty, nothing_held, rows_after, settled, stop_after, walk, with_default}
-use Rattle.clap.specs.Simple.{App, Shape, argument_words, built, built_leaf, entered, filled, inherited, label_of, marked_built, names_of, new_shape, rows_at, with_index, with_leaf_noted, with_subcommand}
+use Rattle.clap.specs.Simple.{App, Shape, argument_words, built, built_leaf, entered, help_rule, inherited, label_of, marked_built, names_of, new_shape, rows_at, with_leaf_noted, with_subcommand}
 use Rattle.clap.specs.declared.builder.action.ArgAction.{ArgAction}
 use Rattle.clap.specs.declared.builder.action.ArgAction.TheVariants.{Append, Set, SetTrue}
+use Rattle.clap.specs.declared.builder.value_parser.ValueParser.{ValueParser}
 use Rattle.clap.specs.declared.builder.value_parser.ValueParser.TheVariants as parser
-use Rattle.morris_words.specs.Words.{HasBuildValues, HasFindValues, HasFlag, HasLookValues, HasLookupValues, HasNumber, HasProbeValues, HasStatsValues, HasVerifyValues, NamesRequest, build_rules, command_app, commands, find_rules, flag_rule, limit_rule, look_rules, lookup_rules, morris_app, named_by, number_rule, option_rule, probe_rules, program, required_option_rule, required_rule, stats_rules, verify_rules}
+use Rattle.morris_words.specs.Words.{HasFlag, HasNumber, HasValueBy, HasValues, NamesRequest, build_rules, command_app, commands, find_rules, look_rules, lookup_rules, morris_app, named_by, probe_rules, program, stats_rules, verify_rules}
 use Rattle.morris_words.proofs.Parsed.{Each, Each-find, HasValue, IsNotHelp, IsPlainRule, Passing, arguments_there, default_fills, default_keeps, given_value, level_passes, row_value, subcommand_there, text_given}
 
 -- ---- arguments that have a value where they are left out
@@ -45,11 +47,6 @@ have_rows (a ∷ rest) rows = (default_stays a a.defaults rest rows refl, have_r
 
 -- ---- plain arguments
 
-heads : {X : Type 0} (x y : X) (xs ys : List X) → x ∷ xs ≡ y ∷ ys → (x ≡ y) × (xs ≡ ys)
-heads x y xs ys same =
-    let head : x ≡ y = cc in
-    let tail : xs ≡ ys = cc in (head, tail)
-
 -- whether an argument takes a value at least, stands for one, or asks for help or for the version
 abbrev is_plain : ArgAction → Rule → Bool
 is_plain Set a = nat_lt 0 (unwrap_or_range a.range).start_inclusive
@@ -67,9 +64,10 @@ all_plain : (c rules : List Rule) → map (λ a. arg_by_id c a.id) rules ≡ map
     → Each (IsPlainRule c) rules
 all_plain c [] known plain = tt
 all_plain c (a ∷ rest) known plain =
-    let ids = heads (arg_by_id c a.id) (Some a) (map (λ x. arg_by_id c x.id) rest) (map (λ x. Some x) rest) known in
+    let here : arg_by_id c a.id ≡ Some a = cc in
+    let later : map (λ x. arg_by_id c x.id) rest ≡ map (λ x. Some x) rest = cc in
     let kinds = both (is_plain (action_of a) a) (list_all (λ x. is_plain (action_of x) x) rest) plain in
-    (plain_rule c a (action_of a) ids.0 refl kinds.0, all_plain c rest ids.1 kinds.1)
+    (plain_rule c a (action_of a) here refl kinds.0, all_plain c rest later kinds.1)
 
 -- ---- what is known of each argument
 
@@ -104,61 +102,82 @@ all_served c rows passes (a ∷ rest) plain none has =
       all_served c rows passes rest plain.1 parts.1 has.1,
     )
 
-record AreServed (rules : List Rule) (rows : List Row) : Type 0 where
-  each : Each (IsServed rows) rules
-
 unneeded : (negates lacks : Bool) → (not (negates && false) && lacks) ≡ false → lacks ≡ false
 unneeded true lacks none = none
 unneeded false lacks none = none
 
--- of a command in whose words there is no mistake
-served : (s : Shape) (words : List Text) → map (λ a. arg_by_id s.rules a.id) s.rules ≡ map (λ a. Some a) s.rules
-    → list_all (λ a. is_plain (action_of a) a) s.rules ≡ true → level_fault s [] nothing_held words false [] ≡ []
-    → AreServed s.rules (rows_after s.rules [] words)
-served s words known kinds none =
-    let plain = all_plain s.rules s.rules known kinds in
-    let level = level_passes s [] words false [] plain none in
-    let rows = rows_after s.rules [] words in
-    let start = (settled s.rules (walk s.rules [] nothing_held words).held).rows in
-    record {
-      each = all_served s.rules rows level.rows s.rules plain (unneeded s.subcommand_negates_reqs (list_any (λ a. a.required && not (is_given a.id rows)) s.rules) (arguments_there s rows false level.checked)) (have_rows s.rules start);
-    }
+-- ---- what a request finds
 
--- the flag of a name, and the option of a name whose value is a number, as they are built
-abbrev flag : Text → Rule
-flag name = filled (flag_rule name)
-
-abbrev number : Text → ℕ → ℕ → Text → Rule
-number name low high default = filled (number_rule name low high (default ∷ []))
+-- a flag has a default that says true or false, and another argument with a default is a number
+abbrev has_kind : Option ArgAction → Option ValueParser → List Text → Bool
+has_kind (Some SetTrue) (Some parser.Bool) (v ∷ vs) = true
+has_kind (Some SetTrue) _ _ = false
+has_kind _ (Some (parser.Signed (pos low) (pos high))) _ = true
+has_kind _ _ [] = true
+has_kind _ _ (v ∷ vs) = false
 
 -- a text that passed the parser of a flag says true or false
-says_bool : (t : Text) → accepts false parser.Bool t ≡ true → (b : Bool) × (t ≡ bool_text b)
-says_bool t pass = go (bytes_eq t (codes "true")) refl
+says_bool : (i : Bool) (t : Text) → accepts i parser.Bool t ≡ true → (b : Bool) × (t ≡ bool_text b)
+says_bool i t pass = go (bytes_eq t (codes "true")) refl
   where
     go : (b : Bool) → bytes_eq t (codes "true") ≡ b → (b : Bool) × (t ≡ bool_text b)
     go true e = (true, (bytes_eq-Decides t (codes "true")).0 e)
     go false e = (false, (bytes_eq-Decides t (codes "false")).0 (rw e at pass))
 
-module _ {rules : List Rule} {rows : List Row} (are : AreServed rules rows) where
-  argument : (a : Rule) → arg_by_id rules a.id ≡ Some a → IsServed rows a
-  argument a known = (Each-find (IsServed rows) (λ x. bytes_eq x.id a.id) rules a are.each known).0
+module _ (rows : List Row) (a : Rule) (is : IsServed rows a) where
+  some_default : (v : Text) (vs : List Text) → a.defaults ≡ v ∷ vs → is_empty a.defaults ≡ false
+  some_default v vs e = ap is_empty e ∙ ne_eqb _ _ (λ same. omega arith)
 
-  -- the text of an argument that has to be given
-  has_text : (a : Rule) → arg_by_id rules a.id ≡ Some a → a.required ≡ true → is_some (first_of a.id rows) ≡ true
-  has_text a known is = ap is_some ((argument a known).when_required is).is_first
+  is_flag : a.parser ≡ Some parser.Bool → HasValue rows a → HasFlag a.id rows
+  is_flag e value =
+      let said = says_bool a.ignore_case value.first (rw e at value.passes) in
+      (said.0, (rw e at value.read) ∙ ap (λ t. Some t) said.1)
 
-  -- what a flag says
-  has_flag : (name : Text) → arg_by_id rules name ≡ Some (flag name) → HasFlag name rows
-  has_flag name known =
-      let value : HasValue rows (flag name) = (argument (flag name) known).when_left_out refl in
-      let said = says_bool value.first value.passes in
-      (said.0, value.read ∙ ap (λ t. Some t) said.1)
+  is_number : (low high : ℕ) → a.parser ≡ Some (parser.Signed (pos low) (pos high)) → HasValue rows a → HasNumber a.id low high rows
+  is_number low high e value = record {
+    text = value.first;
+    read = rw e at value.read;
+    in_range = accepts-Accepts a.ignore_case (parser.Signed (pos low) (pos high)) value.first (rw e at value.passes);
+  }
 
-  -- a number that stands for one where it is left out
-  has_number : (name : Text) (low high : ℕ) (default : Text) → arg_by_id rules name ≡ Some (number name low high default) → HasNumber name low high rows
-  has_number name low high default known =
-      let value : HasValue rows (number name low high default) = (argument (number name low high default) known).when_left_out refl in
-      record { text = value.first; read = value.read; in_range = accepts-Accepts false (parser.Signed (pos low) (pos high)) value.first value.passes }
+  found_by : (required : Bool) (taken : Option ArgAction) (parsed : Option ValueParser) (default : List Text) → a.required ≡ required → a.parser ≡ parsed
+      → a.defaults ≡ default → has_kind taken parsed default ≡ true → HasValueBy required taken parsed default a.id rows
+  found_by true taken parsed default needed parses stands kind = ap is_some (is.when_required needed).is_first
+  found_by false (Some SetTrue) (Some parser.Bool) (v ∷ vs) needed parses stands kind =
+      is_flag parses (is.when_left_out (some_default v vs stands))
+  found_by false (Some SetTrue) parsed default needed parses stands kind = cc
+  found_by false taken (Some (parser.Signed (pos low) (pos high))) [] needed parses stands kind =
+      record { there = is.as_given (ap is_empty stands); number = λ given. is_number low high parses (is.when_given given) }
+  found_by false taken (Some (parser.Signed (pos low) (pos high))) (v ∷ vs) needed parses stands kind =
+      is_number low high parses (is.when_left_out (some_default v vs stands))
+  found_by false taken parsed [] needed parses stands kind = is.as_given (ap is_empty stands)
+  found_by false taken parsed (v ∷ vs) needed parses stands kind = cc
+
+all_found : (rows : List Row) (rules : List Rule) → Each (IsServed rows) rules → list_all (λ a. has_kind a.action a.parser a.defaults) rules ≡ true
+    → HasValues rules rows
+all_found rows [] is kinds = tt
+all_found rows (a ∷ rest) is kinds =
+    let parts = both (has_kind a.action a.parser a.defaults) (list_all (λ x. has_kind x.action x.parser x.defaults) rest) kinds in
+    (found_by rows a is.0 a.required a.action a.parser a.defaults refl refl refl parts.0, all_found rows rest is.1 parts.1)
+
+-- of a command in whose words there is no mistake
+served : (s : Shape) (words : List Text) → map (λ a. arg_by_id s.rules a.id) s.rules ≡ map (λ a. Some a) s.rules
+    → list_all (λ a. is_plain (action_of a) a) s.rules ≡ true → list_all (λ a. has_kind a.action a.parser a.defaults) s.rules ≡ true
+    → level_fault s [] nothing_held words false [] ≡ [] → HasValues s.rules (rows_after s.rules [] words)
+served s words known plain_kinds kinds none =
+    let plain = all_plain s.rules s.rules known plain_kinds in
+    let level = level_passes s [] words false [] plain none in
+    let rows = rows_after s.rules [] words in
+    let start = (settled s.rules (walk s.rules [] nothing_held words).held).rows in
+    let needed = list_any (λ a. a.required && not (is_given a.id rows)) s.rules in
+    all_found rows s.rules
+    (all_served s.rules rows level.rows s.rules plain (unneeded s.subcommand_negates_reqs needed (arguments_there s rows false level.checked)) (have_rows s.rules start))
+    kinds
+
+-- the first of some arguments
+front : (rules more : List Rule) (rows : List Row) → HasValues (rules ++ more) rows → HasValues rules rows
+front [] more rows h = tt
+front (r ∷ rules) more rows h = (h.0, front rules more rows h.1)
 
 -- ---- the commands, as they are built
 
@@ -175,145 +194,8 @@ whole = with_tops program commands
 abbrev built_of : Text → List Rule → Shape
 built_of name rules = built_leaf (inherited (with_leaf_noted (marked_built whole.top)) (top_of name rules))
 
--- the arguments that several have, in their places
-abbrev board : Rule
-board = with_index 1 (filled (required_rule (codes "BOARD")))
-
-abbrev position : Rule
-position = with_index 2 (filled (required_rule (codes "TEXT")))
-
-abbrev pair : Rule
-pair = with_index 2 (filled (required_rule (codes "PAIR")))
-
-abbrev from : Rule
-from = filled (option_rule (codes "from"))
-
-abbrev folder : Rule
-folder = filled (required_option_rule (codes "from"))
-
--- ---- `look`
-
-abbrev look : Shape
-look = built_of (codes "look") look_rules
-
-look_fits : (words : List Text) → level_fault look [] nothing_held words false [] ≡ [] → HasLookValues (rows_after look.rules [] words)
-look_fits words none =
-    let are = served look words refl refl none in
-    record { board = has_text are board refl refl; text = has_text are position refl refl; depth = has_number are (codes "depth") 0 6 (codes "2") refl }
-
--- ---- `stats`
-
-abbrev stats : Shape
-stats = built_of (codes "stats") stats_rules
-
-stats_fits : (words : List Text) → level_fault stats [] nothing_held words false [] ≡ [] → HasStatsValues (rows_after stats.rules [] words)
-stats_fits words none =
-    let are = served stats words refl refl none in
-    record {
-      board = has_text are board refl refl;
-      pair = has_text are pair refl refl;
-      classes = has_flag are (codes "classes") refl;
-      workers = has_number are (codes "workers") 1 64 (codes "2") refl;
-      blocks = has_number are (codes "blocks") 1 1024 (codes "16") refl;
-      deepest = has_flag are (codes "deepest") refl;
-      from = (argument are from refl).as_given refl;
-      csv = has_flag are (codes "csv") refl;
-      progress = has_flag are (codes "progress") refl;
-    }
-
--- ---- `build`
-
-abbrev into : Rule
-into = filled (option_rule (codes "into"))
-
-abbrev build : Shape
-build = built_of (codes "build") build_rules
-
-build_fits : (words : List Text) → level_fault build [] nothing_held words false [] ≡ [] → HasBuildValues (rows_after build.rules [] words)
-build_fits words none =
-    let are = served build words refl refl none in
-    record {
-      board = has_text are board refl refl;
-      pair = has_text are pair refl refl;
-      workers = has_number are (codes "workers") 1 64 (codes "2") refl;
-      blocks = has_number are (codes "blocks") 1 1024 (codes "16") refl;
-      all = has_flag are (codes "all") refl;
-      into = (argument are into refl).as_given refl;
-      classes = has_flag are (codes "classes") refl;
-      progress = has_flag are (codes "progress") refl;
-    }
-
--- ---- `verify`
-
-abbrev verify : Shape
-verify = built_of (codes "verify") verify_rules
-
-verify_fits : (words : List Text) → level_fault verify [] nothing_held words false [] ≡ [] → HasVerifyValues (rows_after verify.rules [] words)
-verify_fits words none =
-    let are = served verify words refl refl none in
-    record {
-      board = has_text are board refl refl;
-      all = has_flag are (codes "all") refl;
-      from = (argument are from refl).as_given refl;
-      workers = has_number are (codes "workers") 1 64 (codes "2") refl;
-      progress = has_flag are (codes "progress") refl;
-    }
-
--- ---- `probe`
-
-abbrev probe : Shape
-probe = built_of (codes "probe") probe_rules
-
-probe_fits : (words : List Text) → level_fault probe [] nothing_held words false [] ≡ [] → HasProbeValues (rows_after probe.rules [] words)
-probe_fits words none =
-    let are = served probe words refl refl none in
-    record { board = has_text are board refl refl; text = has_text are position refl refl; progress = has_flag are (codes "progress") refl }
-
--- ---- `lookup`
-
-abbrev lookup : Shape
-lookup = built_of (codes "lookup") lookup_rules
-
-lookup_fits : (words : List Text) → level_fault lookup [] nothing_held words false [] ≡ [] → HasLookupValues (rows_after lookup.rules [] words)
-lookup_fits words none =
-    let are = served lookup words refl refl none in
-    record {
-      board = has_text are board refl refl;
-      from = has_text are folder refl refl;
-      moves = has_flag are (codes "moves") refl;
-      line = has_flag are (codes "line") refl;
-      csv = has_flag are (codes "csv") refl;
-    }
-
--- ---- `find`
-
-abbrev value : Rule
-value = with_index 3 (filled (required_rule (codes "VALUE")))
-
-abbrev limit : Rule
-limit = filled limit_rule
-
-abbrev find_built : Shape
-find_built = built_of (codes "find") find_rules
-
-find_fits : (words : List Text) → level_fault find_built [] nothing_held words false [] ≡ [] → HasFindValues (rows_after find_built.rules [] words)
-find_fits words none =
-    let are = served find_built words refl refl none in
-    let most = argument are limit refl in
-    record {
-      board = has_text are board refl refl;
-      pair = has_text are pair refl refl;
-      value = has_text are value refl refl;
-      from = has_text are folder refl refl;
-      all = has_flag are (codes "all") refl;
-      limit = record {
-        there = most.as_given refl;
-        number = λ there.
-            let given = most.when_given there in
-            record { text = given.first; read = given.read; in_range = accepts-Accepts false (parser.Signed (pos 1) (pos 4294967295)) given.first given.passes };
-      };
-      count = has_flag are (codes "count") refl;
-    }
+abbrev rows_of : Text → List Rule → List Text → List Row
+rows_of name rules words = rows_after (built_of name rules).rules [] words
 
 -- ---- the program
 
@@ -329,18 +211,21 @@ Serves s = ((words : List Text) → level_fault s [] nothing_held words false []
 
 all_serve : Each Serves (built whole).subs
 all_serve = (
-  inl (λ words none. inl (refl, look_fits words none)),
+  inl (λ words none. front look_rules (help_rule ∷ []) (rows_of (codes "look") look_rules words) (served (built_of (codes "look") look_rules) words refl refl refl none)),
   (
-    inl (λ words none. inr (inl (refl, stats_fits words none))),
+    inl (λ words none. front stats_rules (help_rule ∷ []) (rows_of (codes "stats") stats_rules words) (served (built_of (codes "stats") stats_rules) words refl refl refl none)),
     (
-      inl (λ words none. inr (inr (inl (refl, build_fits words none)))),
+      inl (λ words none. front build_rules (help_rule ∷ []) (rows_of (codes "build") build_rules words) (served (built_of (codes "build") build_rules) words refl refl refl none)),
       (
-        inl (λ words none. inr (inr (inr (inl (refl, verify_fits words none))))),
+        inl (λ words none. front verify_rules (help_rule ∷ []) (rows_of (codes "verify") verify_rules words) (served (built_of (codes "verify") verify_rules) words refl refl refl none)),
         (
-          inl (λ words none. inr (inr (inr (inr (inl (refl, probe_fits words none)))))),
+          inl (λ words none. front probe_rules (help_rule ∷ []) (rows_of (codes "probe") probe_rules words) (served (built_of (codes "probe") probe_rules) words refl refl refl none)),
           (
-            inl (λ words none. inr (inr (inr (inr (inr (inl (refl, lookup_fits words none))))))),
-            (inl (λ words none. inr (inr (inr (inr (inr (inr (refl, find_fits words none))))))), (inr (refl, refl), tt)),
+            inl (λ words none. front lookup_rules (help_rule ∷ []) (rows_of (codes "lookup") lookup_rules words) (served (built_of (codes "lookup") lookup_rules) words refl refl refl none)),
+            (
+              inl (λ words none. front find_rules (help_rule ∷ []) (rows_of (codes "find") find_rules words) (served (built_of (codes "find") find_rules) words refl refl refl none)),
+              (inr (refl, refl), tt),
+            ),
           ),
         ),
       ),

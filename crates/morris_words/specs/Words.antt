@@ -1,6 +1,6 @@
 -- The command line, as `clap` reads it, and what its words ask for.
-use Rattle.std.specs.Prelude.{◌≡◌, ◌≢◌, ◌≤◌, ◌⊎◌, ◌&&◌, ◌||◌, ⊤, ℕ, Bool, true, false, List, [], ◌∷◌, Option, Some, None}
-use Rattle.std.specs.Prelude.{IsSomeAnd, codes, if◌then◌else◌, is_some, map, not, option_map, pos, unwrap_or}
+use Rattle.std.specs.Prelude.{◌≡◌, ◌≢◌, ◌≤◌, ◌&&◌, ◌||◌, ⊤, ℕ, Bool, true, false, List, [], ◌∷◌, Option, Some, None}
+use Rattle.std.specs.Prelude.{IsSomeAnd, codes, find, if◌then◌else◌, is_some, map, not, option_map, pos, unwrap_or}
 use Rattle.std.specs.Borrow.{Bor}
 use Rattle.std.specs.Option.{option_map_or}
 use Rattle.std.specs.Str.{bytes_eq}
@@ -12,10 +12,12 @@ use Rattle.clap.specs.Words.{App, IsAmong, IsSignedIn, Kinds, Row, Rule, Text, a
 use Rattle.clap.specs.Words.{new_app, new_rule, one_of, subcommand_of, with_rule, with_subcommand}
 use Rattle.clap.specs.Words.{without_minus}
 use Rattle.clap.specs.Values.{bool_text}
+use Rattle.clap.specs.declared.builder.action.ArgAction.{ArgAction}
 use Rattle.clap.specs.declared.builder.action.ArgAction.TheVariants as action
 use Rattle.clap.specs.declared.builder.arg.Arg.{Arg}
 use Rattle.clap.specs.declared.builder.command.Command.{Command}
 use Rattle.clap.specs.declared.builder.command.Command.TheViews.{out-Command}
+use Rattle.clap.specs.declared.builder.value_parser.ValueParser.{ValueParser}
 use Rattle.clap.specs.declared.builder.value_parser.ValueParser.TheVariants as parser
 use Rattle.clap.specs.declared.error.kind.ErrorKind.{ErrorKind}
 use Rattle.clap.specs.declared.error.kind.ErrorKind.TheVariants as kind
@@ -294,92 +296,29 @@ HasFlag name rows = (b : Bool) × (one_of name rows ≡ Some (bool_text b))
 abbrev pub HasOption : Text → List Row → Type 0
 HasOption name rows = is_given name rows ≡ is_some (first_of name rows)
 
--- the values of which `look` makes its request: board and text are there, and so is a depth from 0
--- to 6
-pub record HasLookValues (rows : List Row) : Type 0 where
-  pub board : is_some (first_of (codes "BOARD") rows) ≡ true
-  pub text : is_some (first_of (codes "TEXT") rows) ≡ true
-  pub depth : HasNumber (codes "depth") 0 6 rows
+-- a text is there of an option exactly where it was given, and is then a number from `low` to `high`
+pub record HasNumberIfGiven (name : Text) (low high : ℕ) (rows : List Row) : Type 0 where
+  pub there : HasOption name rows
+  pub number : is_given name rows ≡ true → HasNumber name low high rows
 
--- the values of which `stats` makes its request: board and pair are there, and so are a number of
--- workers from 1 to 64, one of blocks from 1 to 1,024, the values of its flags, and a folder where
--- one was given
-pub record HasStatsValues (rows : List Row) : Type 0 where
-  pub board : is_some (first_of (codes "BOARD") rows) ≡ true
-  pub pair : is_some (first_of (codes "PAIR") rows) ≡ true
-  pub classes : HasFlag (codes "classes") rows
-  pub workers : HasNumber (codes "workers") 1 64 rows
-  pub blocks : HasNumber (codes "blocks") 1 1024 rows
-  pub deepest : HasFlag (codes "deepest") rows
-  pub from : HasOption (codes "from") rows
-  pub csv : HasFlag (codes "csv") rows
-  pub progress : HasFlag (codes "progress") rows
+-- what a request finds of an argument, by what that takes: a text, where it has to be given; what a
+-- flag says; a number in range, where one is given or stands for it; or an option's text
+abbrev pub HasValueBy : Bool → Option ArgAction → Option ValueParser → List Text → Text → List Row → Type 0
+HasValueBy true taken parsed default name rows = is_some (first_of name rows) ≡ true
+HasValueBy false (Some action.SetTrue) parsed default name rows = HasFlag name rows
+HasValueBy false taken (Some (parser.Signed (pos low) (pos high))) [] name rows = HasNumberIfGiven name low high rows
+HasValueBy false taken (Some (parser.Signed (pos low) (pos high))) (one ∷ more) name rows = HasNumber name low high rows
+HasValueBy false _ _ default name rows = HasOption name rows
 
--- the values of which `build` makes its request: board and pair are there, and so are a number of
--- workers from 1 to 64, one of blocks from 1 to 1,024, the values of its flags, and a folder where
--- one was given
-pub record HasBuildValues (rows : List Row) : Type 0 where
-  pub board : is_some (first_of (codes "BOARD") rows) ≡ true
-  pub pair : is_some (first_of (codes "PAIR") rows) ≡ true
-  pub workers : HasNumber (codes "workers") 1 64 rows
-  pub blocks : HasNumber (codes "blocks") 1 1024 rows
-  pub all : HasFlag (codes "all") rows
-  pub into : HasOption (codes "into") rows
-  pub classes : HasFlag (codes "classes") rows
-  pub progress : HasFlag (codes "progress") rows
+-- so it does of each of these arguments
+abbrev pub HasValues : List Rule → List Row → Type 0
+HasValues [] rows = ⊤
+HasValues (r ∷ rules) rows = HasValueBy r.required r.action r.parser r.defaults r.id rows × HasValues rules rows
 
--- the values of which `verify` makes its request: a board is there, and so are a number of workers
--- from 1 to 64, the values of its flags, and a folder where one was given
-pub record HasVerifyValues (rows : List Row) : Type 0 where
-  pub board : is_some (first_of (codes "BOARD") rows) ≡ true
-  pub all : HasFlag (codes "all") rows
-  pub from : HasOption (codes "from") rows
-  pub workers : HasNumber (codes "workers") 1 64 rows
-  pub progress : HasFlag (codes "progress") rows
-
--- the values of which `probe` makes its request: board and text are there, and so is the value of
--- its flag
-pub record HasProbeValues (rows : List Row) : Type 0 where
-  pub board : is_some (first_of (codes "BOARD") rows) ≡ true
-  pub text : is_some (first_of (codes "TEXT") rows) ≡ true
-  pub progress : HasFlag (codes "progress") rows
-
--- the values of which `lookup` makes its request: board and folder are there, and so are the values
--- of its flags
-pub record HasLookupValues (rows : List Row) : Type 0 where
-  pub board : is_some (first_of (codes "BOARD") rows) ≡ true
-  pub from : is_some (first_of (codes "from") rows) ≡ true
-  pub moves : HasFlag (codes "moves") rows
-  pub line : HasFlag (codes "line") rows
-  pub csv : HasFlag (codes "csv") rows
-
--- a number from 1 on is there of the limit exactly where it was given
-pub record HasLimit (rows : List Row) : Type 0 where
-  pub there : is_given (codes "limit") rows ≡ is_some (first_of (codes "limit") rows)
-  pub number : is_given (codes "limit") rows ≡ true → HasNumber (codes "limit") 1 4294967295 rows
-
--- the values of which `find` makes its request: board, pair, value and folder are there, and so are
--- the values of its flags, and a limit where one was given
-pub record HasFindValues (rows : List Row) : Type 0 where
-  pub board : is_some (first_of (codes "BOARD") rows) ≡ true
-  pub pair : is_some (first_of (codes "PAIR") rows) ≡ true
-  pub value : is_some (first_of (codes "VALUE") rows) ≡ true
-  pub from : is_some (first_of (codes "from") rows) ≡ true
-  pub all : HasFlag (codes "all") rows
-  pub limit : HasLimit rows
-  pub count : HasFlag (codes "count") rows
-
--- a name and values: of a command of the program, and those of which it makes its request
+-- a command of this name was named, with the values of which it makes its request
 abbrev pub NamesCommand : Text × List Row → Type 0
-NamesCommand named =
-    ((named.0 ≡ codes "look") × HasLookValues named.1)
-    ⊎ (((named.0 ≡ codes "stats") × HasStatsValues named.1)
-    ⊎ (((named.0 ≡ codes "build") × HasBuildValues named.1)
-    ⊎ (((named.0 ≡ codes "verify") × HasVerifyValues named.1)
-    ⊎ (((named.0 ≡ codes "probe") × HasProbeValues named.1)
-    ⊎ (((named.0 ≡ codes "lookup") × HasLookupValues named.1) ⊎ ((named.0 ≡ codes "find") × HasFindValues named.1))))))
+NamesCommand (name, rows) = IsSomeAnd (find (λ c. bytes_eq name c.0) commands) (λ c. HasValues c.1 rows)
 
--- such a command was named
 abbrev pub NamesRequest : Option (Text × List Row) → Type 0
 NamesRequest named = IsSomeAnd named NamesCommand
 

@@ -4,9 +4,9 @@ ghost use Rattle.clap.specs.Takes.{is_given};
 ghost use Rattle.clap.specs.Values.{bool_text};
 ghost use Rattle.clap.specs.Words.{App, FailsBy, Rule, all_of, app_of, fault_of, first_of, found_of, kind_of, one_of, rows_of, subcommand_rows_of, with_subcommand};
 ghost use Rattle.clap.specs.declared.error.kind.ErrorKind.TheVariants.{ArgumentConflict};
-ghost use Rattle.morris_words.specs.Words.{AreArgs, AsksFor, HasBuildValues, HasFindValues, HasFlag, HasLimit, HasLookValues, HasLookupValues, HasNumber, HasOption, HasProbeValues};
-ghost use Rattle.morris_words.specs.Words.{HasStatsValues, HasVerifyValues, Is, IsAnswerTo, IsAnswerToOneOf, IsArg, IsInRange, IsLimit, IsOption, IsRequestOf, IsShown};
-ghost use Rattle.morris_words.specs.Words.{NamesRequest, blocks_rule, build_rules, clashes, command_app, depth_rule, faults_of, find_rules, flag_rule, has_clash, limit_rule, look_rules};
+ghost use Rattle.morris_words.specs.Words.{AreArgs, AsksFor, HasFlag, HasNumber, HasNumberIfGiven, HasOption, HasValues};
+ghost use Rattle.morris_words.specs.Words.{Is, IsAnswerTo, IsAnswerToOneOf, IsArg, IsInRange, IsLimit, IsOption, IsRequestOf, IsShown};
+ghost use Rattle.morris_words.specs.Words.{NamesCommand, NamesRequest, blocks_rule, build_rules, clashes, command_app, depth_rule, faults_of, find_rules, flag_rule, has_clash, limit_rule, look_rules};
 ghost use Rattle.morris_words.specs.Words.{lookup_rules, morris_app, named_by, number_of, option_rule, probe_rules, program, required_option_rule, required_rule};
 ghost use Rattle.morris_words.specs.Words.{several_rule, stats_rules, verify_rules, workers_rule};
 
@@ -64,6 +64,8 @@ const POSITION_HELP: &str = "The position: for each point X own, O other or . va
 
 const PAIR_HELP: &str = "The numbers of stones of the two players: 3-3, 4-3, ..";
 
+const BLOCKS_HELP: &str = "Into how many blocks the positions are cut, 1 to 1024";
+
 const ALL_HELP: &str = "Write the files of the pairs below it too, one after the other";
 
 const INTO_HELP: &str = "Write each pair's file into this folder, under a name of its own";
@@ -107,7 +109,7 @@ const DEFAULT_WORKERS: &str = "2";
 
 const DEFAULT_BLOCKS: &str = "16";
 
-// The program, with its commands: each is one `with_command` here, and one arm of `request_of`.
+// The program, with its commands: each is one `with_command` here, and one arm of `request_named`.
 fn morris_command<'a>(alloc: Global) -> Result<Command<'a>, AllocError>
     ensures { IfOk result (λ c. app_of c ≡ morris_app) }
 {
@@ -275,44 +277,32 @@ fn required_arg<'a>(alloc: Global, name: &'a str, help: &'a str) -> Arg<'a>
 fn depth_arg<'a>(alloc: Global) -> Arg<'a>
     ensures { IsArg depth_rule result }
 {
-    Arg::new(alloc, "depth")
-        .long("depth")
-        .value_name("N")
+    option_arg(alloc, "depth", "N", "How many plies to look ahead, 0 to 6")
         .value_parser(value_parser!(u16).range(0..=6))
         .default_value("2")
-        .help("How many plies to look ahead, 0 to 6")
 }
 
 fn workers_arg<'a>(alloc: Global) -> Arg<'a>
     ensures { IsArg workers_rule result }
 {
-    Arg::new(alloc, "workers")
-        .long("workers")
-        .value_name("W")
+    option_arg(alloc, "workers", "W", "How many threads work, 1 to 64")
         .value_parser(value_parser!(u16).range(1..=64))
         .default_value(DEFAULT_WORKERS)
-        .help("How many threads work, 1 to 64")
 }
 
 fn blocks_arg<'a>(alloc: Global) -> Arg<'a>
     ensures { IsArg blocks_rule result }
 {
-    Arg::new(alloc, "blocks")
-        .long("blocks")
-        .value_name("K")
+    option_arg(alloc, "blocks", "K", BLOCKS_HELP)
         .value_parser(value_parser!(u16).range(1..=1024))
         .default_value(DEFAULT_BLOCKS)
-        .help("Into how many blocks the positions are cut, 1 to 1024")
 }
 
 fn limit_arg<'a>(alloc: Global) -> Arg<'a>
     ensures { IsArg limit_rule result }
 {
-    Arg::new(alloc, "limit")
-        .long("limit")
-        .value_name("N")
-        .value_parser(value_parser!(u32).range(1..=4_294_967_295))
-        .help("Show at most N positions")
+    let numbers = value_parser!(u32).range(1..=4_294_967_295);
+    option_arg(alloc, "limit", "N", "Show at most N positions").value_parser(numbers)
 }
 
 fn flag_arg<'a>(alloc: Global, name: &'a str, help: &'a str) -> Arg<'a>
@@ -350,20 +340,36 @@ fn request_of<'a>(alloc: Global, matches: &ArgMatches<'a>) -> Result<Request<'a>
     ensures request { IfOk result (IsRequestOf (subcommand_rows_of matches.now)) }
     ensures refused { IfErr result (IsAnswerToOneOf (clashes (subcommand_rows_of matches.now))) }
 {
-    match matches.subcommand() {
-        Some(("look", found)) => Ok(look_request(found)),
-        Some(("stats", found)) => stats_request(alloc, found),
-        Some(("build", found)) => build_request(alloc, found),
-        Some(("verify", found)) => verify_request(alloc, found),
-        Some(("probe", found)) => Ok(probe_request(found)),
-        Some(("lookup", found)) => lookup_request(alloc, found),
-        Some(("find", found)) => find_request(alloc, found),
+    let Some((name, found)) = matches.subcommand() else {
+        unreachable!()
+    };
+    request_named(alloc, name, found)
+}
+
+/// The request for the command of a name, by the values of its arguments.
+fn request_named<'a>(
+    alloc: Global,
+    name: &str,
+    found: &ArgMatches<'a>,
+) -> Result<Request<'a>, Refusal>
+    requires { NamesCommand (name.now, rows_of (found_of found.now)) }
+    ensures request { IfOk result (IsRequestOf (Some (name.now, rows_of (found_of found.now)))) }
+    ensures refused { IfErr result (IsAnswerToOneOf (clashes (Some (name.now, rows_of (found_of found.now))))) }
+{
+    match name {
+        "look" => Ok(look_request(found)),
+        "stats" => stats_request(alloc, found),
+        "build" => build_request(alloc, found),
+        "verify" => verify_request(alloc, found),
+        "probe" => Ok(probe_request(found)),
+        "lookup" => lookup_request(alloc, found),
+        "find" => find_request(alloc, found),
         _ => unreachable!(),
     }
 }
 
 fn look_request<'a>(found: &ArgMatches<'a>) -> Request<'a>
-    requires { HasLookValues (rows_of (found_of found.now)) }
+    requires { HasValues look_rules (rows_of (found_of found.now)) }
     ensures { IsRequestOf (Some (codes "look", rows_of (found_of found.now))) result }
 {
     Request {
@@ -377,7 +383,7 @@ fn look_request<'a>(found: &ArgMatches<'a>) -> Request<'a>
 }
 
 fn stats_request<'a>(alloc: Global, found: &ArgMatches<'a>) -> Result<Request<'a>, Refusal>
-    requires { HasStatsValues (rows_of (found_of found.now)) }
+    requires { HasValues stats_rules (rows_of (found_of found.now)) }
     ensures request { IfOk result (IsRequestOf (Some (codes "stats", rows_of (found_of found.now)))) }
     ensures refused { IfErr result (IsAnswerToOneOf (clashes (Some (codes "stats", rows_of (found_of found.now))))) }
 {
@@ -402,7 +408,7 @@ fn stats_request<'a>(alloc: Global, found: &ArgMatches<'a>) -> Result<Request<'a
 
 /// Two arguments of `stats` that exclude each other, where there are any.
 fn stats_clash(found: &ArgMatches<'_>) -> Option<(&'static str, &'static str)>
-    requires { HasStatsValues (rows_of (found_of found.now)) }
+    requires { HasValues stats_rules (rows_of (found_of found.now)) }
     ensures { is_some result ≡ has_clash (codes "stats") (rows_of (found_of found.now)) }
 {
     let (csv, deepest) = (flag(found, "csv"), flag(found, "deepest"));
@@ -429,7 +435,7 @@ fn stats_clash(found: &ArgMatches<'_>) -> Option<(&'static str, &'static str)>
 }
 
 fn build_request<'a>(alloc: Global, found: &ArgMatches<'a>) -> Result<Request<'a>, Refusal>
-    requires { HasBuildValues (rows_of (found_of found.now)) }
+    requires { HasValues build_rules (rows_of (found_of found.now)) }
     ensures request { IfOk result (IsRequestOf (Some (codes "build", rows_of (found_of found.now)))) }
     ensures refused { IfErr result (IsAnswerToOneOf (clashes (Some (codes "build", rows_of (found_of found.now))))) }
 {
@@ -452,7 +458,7 @@ fn build_request<'a>(alloc: Global, found: &ArgMatches<'a>) -> Result<Request<'a
 }
 
 fn verify_request<'a>(alloc: Global, found: &ArgMatches<'a>) -> Result<Request<'a>, Refusal>
-    requires { HasVerifyValues (rows_of (found_of found.now)) }
+    requires { HasValues verify_rules (rows_of (found_of found.now)) }
     ensures request { IfOk result (IsRequestOf (Some (codes "verify", rows_of (found_of found.now)))) }
     ensures refused { IfErr result (IsAnswerToOneOf (clashes (Some (codes "verify", rows_of (found_of found.now))))) }
 {
@@ -472,7 +478,7 @@ fn verify_request<'a>(alloc: Global, found: &ArgMatches<'a>) -> Result<Request<'
 }
 
 fn probe_request<'a>(found: &ArgMatches<'a>) -> Request<'a>
-    requires { HasProbeValues (rows_of (found_of found.now)) }
+    requires { HasValues probe_rules (rows_of (found_of found.now)) }
     ensures { IsRequestOf (Some (codes "probe", rows_of (found_of found.now))) result }
 {
     Request {
@@ -485,7 +491,7 @@ fn probe_request<'a>(found: &ArgMatches<'a>) -> Request<'a>
 }
 
 fn lookup_request<'a>(alloc: Global, found: &ArgMatches<'a>) -> Result<Request<'a>, Refusal>
-    requires { HasLookupValues (rows_of (found_of found.now)) }
+    requires { HasValues lookup_rules (rows_of (found_of found.now)) }
     ensures request { IfOk result (IsRequestOf (Some (codes "lookup", rows_of (found_of found.now)))) }
     ensures refused { IfErr result (IsAnswerToOneOf (clashes (Some (codes "lookup", rows_of (found_of found.now))))) }
 {
@@ -508,7 +514,7 @@ fn lookup_request<'a>(alloc: Global, found: &ArgMatches<'a>) -> Result<Request<'
 }
 
 fn find_request<'a>(alloc: Global, found: &ArgMatches<'a>) -> Result<Request<'a>, Refusal>
-    requires { HasFindValues (rows_of (found_of found.now)) }
+    requires { HasValues find_rules (rows_of (found_of found.now)) }
     ensures request { IfOk result (IsRequestOf (Some (codes "find", rows_of (found_of found.now)))) }
     ensures refused { IfErr result (IsAnswerToOneOf (clashes (Some (codes "find", rows_of (found_of found.now))))) }
 {
@@ -532,7 +538,7 @@ fn find_request<'a>(alloc: Global, found: &ArgMatches<'a>) -> Result<Request<'a>
 
 /// What `lookup` is to show; or one of its flags, and which other doesn't go or is missing with it.
 fn shown(found: &ArgMatches<'_>) -> Result<Show, (&'static str, &'static str)>
-    requires { HasLookupValues (rows_of (found_of found.now)) }
+    requires { HasValues lookup_rules (rows_of (found_of found.now)) }
     ensures show { IfOk result (IsShown (rows_of (found_of found.now))) }
     ensures clash { IfErr result (λ why. has_clash (codes "lookup") (rows_of (found_of found.now)) ≡ true) }
 {
@@ -582,7 +588,7 @@ fn was_given(found: &ArgMatches<'_>, name: &str) -> bool
 
 /// How many positions there are to be at most, where the words say so.
 fn limit_of(found: &ArgMatches<'_>) -> Option<u32>
-    requires { HasLimit (rows_of (found_of found.now)) }
+    requires { HasNumberIfGiven (codes "limit") 1 4294967295 (rows_of (found_of found.now)) }
     ensures { IsLimit (rows_of (found_of found.now)) result }
 {
     found.get_one::<u32>("limit")

@@ -6,22 +6,22 @@ use Rattle.morris_words.proofs.ReadLaws.{clash_answered, flag_on}
 use Rattle.morris_words.proofs.words.build_request.Goals as goal
 
 pub number-requires : goal.number-requires
-number-requires c = (1, 64, omega arith, c.requires.workers)
+number-requires c = (1, 64, omega arith, c.requires.1.1.0)
 
 pub number-requires-2 : goal.number-requires-2
-number-requires-2 c = (1, 1024, omega arith, c.requires.blocks)
+number-requires-2 c = (1, 1024, omega arith, c.requires.1.1.1.0)
 
 pub overflow_cast-result : goal.overflow_cast-result
 overflow_cast-result c =
-    let range = c.number.ensures.range 1 64 (omega arith) c.requires.workers in
+    let range = c.number.ensures.range 1 64 (omega arith) c.requires.1.1.0 in
     omega (arith, range.1)
 
 pub returns-clause-request : goal.returns-clause-request
 returns-clause-request c =
     let rows = rows_of (found_of c.args.found.now) in
     let free : clashes (Some (codes "build", rows)) ≡ [] = search rules in
-    let workers = c.number.ensures.range 1 64 (omega arith) c.requires.workers in
-    let blocks = c.number-2.ensures.range 1 1024 (omega arith) c.requires.blocks in
+    let workers = c.number.ensures.range 1 64 (omega arith) c.requires.1.1.0 in
+    let blocks = c.number-2.ensures.range 1 1024 (omega arith) c.requires.1.1.1.0 in
     (free, ((refl, c.given.ensures, c.given-2.ensures, c.number.ensures.value, c.number-2.ensures.value, c.flag-all.ensures, c.optional-into.ensures, c.flag.ensures), c.flag-2.ensures), (workers, blocks))
 
 pub returns-then-is_some-clause-refused : goal.returns-then-is_some-clause-refused

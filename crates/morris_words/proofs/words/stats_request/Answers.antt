@@ -5,22 +5,22 @@ use Rattle.morris_words.proofs.ReadLaws.{clash_answered, free_of_clash, is_clash
 use Rattle.morris_words.proofs.words.stats_request.Goals as goal
 
 pub number-requires : goal.number-requires
-number-requires c = (1, 64, omega arith, c.requires.workers)
+number-requires c = (1, 64, omega arith, c.requires.1.1.1.0)
 
 pub number-requires-2 : goal.number-requires-2
-number-requires-2 c = (1, 1024, omega arith, c.requires.blocks)
+number-requires-2 c = (1, 1024, omega arith, c.requires.1.1.1.1.0)
 
 pub overflow_cast-result : goal.overflow_cast-result
 overflow_cast-result c =
-    let range = c.number.ensures.range 1 64 (omega arith) c.requires.workers in
+    let range = c.number.ensures.range 1 64 (omega arith) c.requires.1.1.1.0 in
     omega (arith, range.1)
 
 pub returns-clause-request : goal.returns-clause-request
 returns-clause-request c =
     let rows = rows_of (found_of c.args.found.now) in
     let free : clashes (Some (codes "stats", rows)) ≡ [] = free_of_clash (codes "stats") rows c.stats_clash.result c.in_default.is c.stats_clash.ensures in
-    let workers = c.number.ensures.range 1 64 (omega arith) c.requires.workers in
-    let blocks = c.number-2.ensures.range 1 1024 (omega arith) c.requires.blocks in (
+    let workers = c.number.ensures.range 1 64 (omega arith) c.requires.1.1.1.0 in
+    let blocks = c.number-2.ensures.range 1 1024 (omega arith) c.requires.1.1.1.1.0 in (
       free,
       (
         (

@@ -6,18 +6,18 @@ use Rattle.morris_words.proofs.ReadLaws.{clash_answered, flag_on}
 use Rattle.morris_words.proofs.words.verify_request.Goals as goal
 
 pub number-requires : goal.number-requires
-number-requires c = (1, 64, omega arith, c.requires.workers)
+number-requires c = (1, 64, omega arith, c.requires.1.1.1.0)
 
 pub overflow_cast-result : goal.overflow_cast-result
 overflow_cast-result c =
-    let range = c.number.ensures.range 1 64 (omega arith) c.requires.workers in
+    let range = c.number.ensures.range 1 64 (omega arith) c.requires.1.1.1.0 in
     omega (arith, range.1)
 
 pub returns-clause-request : goal.returns-clause-request
 returns-clause-request c =
     let rows = rows_of (found_of c.args.found.now) in
     let free : clashes (Some (codes "verify", rows)) ≡ [] = search rules in
-    let workers = c.number.ensures.range 1 64 (omega arith) c.requires.workers in
+    let workers = c.number.ensures.range 1 64 (omega arith) c.requires.1.1.1.0 in
     (free, ((refl, c.given.ensures, c.flag-all.ensures, c.optional-from.ensures, c.number.ensures.value), c.flag.ensures), workers)
 
 pub returns-then-is_some-clause-refused : goal.returns-then-is_some-clause-refused
