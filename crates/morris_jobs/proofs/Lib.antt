@@ -6,3 +6,4 @@ pub mod BundleLaws
 pub mod LengthLaws
 pub mod LineLaws
 pub mod CountedLaws
+pub mod SpeakLaws

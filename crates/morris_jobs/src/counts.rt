@@ -1,6 +1,6 @@
 //! How many positions of a pair have each value, as it is counted from the codes of entries and
 //! printed.
-ghost use Rattle.std.specs.Prelude.{◌≡◌, ◌≢◌, ◌-◌, ◌^◌, ◌<◌, ◌≤◌, Err, true, false, length, IfOk, IfSome};
+ghost use Rattle.std.specs.Prelude.{◌≡◌, ◌≢◌, ◌-◌, ◌^◌, ◌<◌, ◌≤◌, Err, true, length, IfOk, IfSome};
 ghost use Rattle.morris_pairs.specs.Counting.{AreTallies, HasStated, table_of, with_own};
 ghost use Rattle.morris_pairs.specs.declared.counting.CountFault.TheVariants as fault;
 ghost use Rattle.morris_jobs.specs.Counted.{AnswersStated};

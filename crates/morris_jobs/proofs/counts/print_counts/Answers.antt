@@ -1,5 +1,5 @@
--- What is printed counts the positions of the pair, as lines of fields by the stones of the player to
--- move.
+-- What is printed counts the positions of the pair, as lines of fields by the stones of the player
+-- to move.
 use Rattle.std.proofs.Common.{Err, inr, ap, ◌∙◌}
 use Rattle.std.proofs.lemmas.Result.{err_from_is_err_and}
 use Rattle.morris_jobs.proofs.CountedLaws.{both_some, refused_stated, some_map}

@@ -1,4 +1,5 @@
-use Rattle.morris_jobs.specs.ProgressLaws.{Becomes-speaks, Becomes-stays}
+use Rattle.morris_jobs.specs.ProgressLaws.{Becomes-stays}
+use Rattle.morris_jobs.proofs.SpeakLaws.{Becomes-speaks}
 use Rattle.morris_jobs.proofs.progress.Progress.clear.Goals as goal
 
 pub returns-then-self-clause-told : goal.returns-then-self-clause-told

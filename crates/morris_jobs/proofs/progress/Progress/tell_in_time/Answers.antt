@@ -1,6 +1,7 @@
 -- Nothing changes before the next second.
 use Rattle.std.proofs.Common.{refl, inl}
-use Rattle.morris_jobs.specs.ProgressLaws.{Becomes-speaks, Becomes-stays, MayTell-speaks}
+use Rattle.morris_jobs.specs.ProgressLaws.{Becomes-stays}
+use Rattle.morris_jobs.proofs.SpeakLaws.{Becomes-speaks, MayTell-speaks}
 use Rattle.morris_jobs.proofs.progress.Progress.tell_in_time.Goals as goal
 
 pub returns-then-second-self : goal.returns-then-second-self

@@ -2,7 +2,8 @@
 -- again.
 use Rattle.std.proofs.Common.{◌≡◌, ◌∙◌, true, false, sym}
 use Rattle.morris_jobs.specs.Progress.{telling_of}
-use Rattle.morris_jobs.specs.ProgressLaws.{Becomes-stays, Continues-speaks}
+use Rattle.morris_jobs.specs.ProgressLaws.{Becomes-stays}
+use Rattle.morris_jobs.proofs.SpeakLaws.{Continues-speaks}
 use Rattle.morris_jobs.proofs.progress.ProgressTeller.announce_size.Goals as goal
 
 pub returns-then-not-self-clause-told : goal.returns-then-not-self-clause-told

@@ -1,4 +1,4 @@
-use Rattle.morris_jobs.specs.ProgressLaws.{Becomes-speaks}
+use Rattle.morris_jobs.proofs.SpeakLaws.{Becomes-speaks}
 use Rattle.morris_jobs.proofs.progress.ProgressTeller.end_pair.Goals as goal
 
 pub returns-clause-told : goal.returns-clause-told
