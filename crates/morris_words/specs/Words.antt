@@ -296,7 +296,8 @@ HasFlag name rows = (b : Bool) × (one_of name rows ≡ Some (bool_text b))
 abbrev pub HasOption : Text → List Row → Type 0
 HasOption name rows = is_given name rows ≡ is_some (first_of name rows)
 
--- a text is there of an option exactly where it was given, and is then a number from `low` to `high`
+-- a text is there of an option exactly where it was given, and then is a number from `low` to
+-- `high`
 pub record HasNumberIfGiven (name : Text) (low high : ℕ) (rows : List Row) : Type 0 where
   pub there : HasOption name rows
   pub number : is_given name rows ≡ true → HasNumber name low high rows
