@@ -18,7 +18,7 @@ mod parts;
 pub mod predecessor_entries;
 pub mod predecessors;
 mod rank_tables;
-mod ranks;
+pub mod ranks;
 mod returning;
 mod rings;
 mod set_lists;

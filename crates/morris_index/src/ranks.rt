@@ -10,7 +10,7 @@ use crate::parts::{part_rank, part_size, squeezed_part};
 use morris_board::points::Points;
 
 /// The rank of `set` among the sets of as many points.
-pub(crate) fn rank(set: Points) -> u64
+pub fn rank(set: Points) -> u64
     requires board { set < 2 ^ 24 }
     requires few { count_of set ≤ 9 }
     ensures { result ≡ rank_of (map (number_outside 0) (members set)) }
@@ -26,7 +26,7 @@ pub(crate) fn rank(set: Points) -> u64
 }
 
 /// The rank of `set` among the sets of as many points that have none in common with `outside`.
-pub(crate) fn rank_outside(set: Points, outside: Points) -> u64
+pub fn rank_outside(set: Points, outside: Points) -> u64
     requires board { set < 2 ^ 24 }
     requires few { count_of set ≤ 9 }
     requires apart { (p : ℕ) → has set p ≡ true → has outside p ≡ false }

@@ -12,5 +12,4 @@ pub mod FoundLaws
 pub mod ViewLaws
 pub mod ExactLaws
 pub mod ListingLaws
-pub mod SetRanks
 pub mod LeadLaws

@@ -7,11 +7,11 @@ ghost use Rattle.morris_lookup.specs.Prepared.{LeadAll};
 ghost use Rattle.morris_lookup.specs.Representatives.{representatives_of};
 
 use crate::classes::class_by;
-use crate::ranks::rank_outside;
 use morris_board::board::Geometry;
 use morris_board::position::Position;
 use morris_index::binomials::binomial;
 use morris_index::pair::Pair;
+use morris_index::ranks::rank_outside;
 
 /// How many entries a pair has by classes, where the representatives of the classes of sets of its
 /// greater and of its lesser number of points are listed.

@@ -5,9 +5,9 @@ ghost use Rattle.morris_index.specs.Classes.{symmetry_of, representative_of, cla
 ghost use Rattle.morris_lookup.specs.Prepared.{LeadAll};
 ghost use Rattle.morris_lookup.specs.Representatives.{representatives_of};
 
-use crate::ranks::rank;
 use morris_board::board::Geometry;
 use morris_board::points::Points;
+use morris_index::ranks::rank;
 
 /// The class of a set of points, and the least symmetry that leads the set to the representative:
 /// by its word where there are words that lead all sets of as many points, and else by the list of
@@ -32,7 +32,10 @@ pub(crate) fn class_by<B: Geometry>(
     {
         return (class, symmetry);
     }
-    class_of::<B>(representatives, set)
+    let (least, symmetry) = least_image::<B>(set);
+    let mask = least.mask();
+    let class = representatives.partition_point(|other| *other < mask);
+    (class, symmetry)
 }
 
 /// The class and the symmetry that the word at a place says, where there is one.
@@ -45,22 +48,6 @@ pub(crate) fn lead_at(words: &[u32], place: u64) -> Option<(usize, u8)>
 {
     let lead = words.get(place as usize)?;
     Some(((*lead / 16) as usize, (*lead % 16) as u8))
-}
-
-/// The class of a set of points, where the representatives of the classes of sets of as many points
-/// are listed in ascending order of their masks; and the least symmetry that leads the set to that
-/// of its class. By another list the class is any number up to its length.
-pub(crate) fn class_of<B: Geometry>(representatives: &[u32], set: Points) -> (usize, u8)
-    requires { set < 2 ^ B.POINTS }
-    ensures class { representatives.now ≡ representatives_of B.shape (count_of set) → result.0 ≡ class_of B.shape set }
-    ensures few { result.0 ≤ length representatives.now }
-    ensures symmetry { result.1 ≡ symmetry_of B.shape set }
-    ensures one { result.1 < B.SYMMETRIES }
-{
-    let (least, symmetry) = least_image::<B>(set);
-    let mask = least.mask();
-    let class = representatives.partition_point(|other| *other < mask);
-    (class, symmetry)
 }
 
 /// The image of a set with the least mask, and the least symmetry that leads to it.

@@ -6,10 +6,10 @@ ghost use Rattle.morris_index.specs.Classes.{representative_of};
 ghost use Rattle.morris_lookup.specs.Prepared.{AreLed, AreLedTo, LeadAll, OthersStay, StayBefore};
 ghost use Rattle.morris_lookup.specs.Representatives.{representatives_of};
 
-use crate::ranks::rank;
 use morris_board::board::Geometry;
 use morris_board::points::Points;
 use morris_index::binomials::binomial;
+use morris_index::ranks::rank;
 use std::alloc::{AllocError, Global};
 
 /// The greatest number of points of sets that have a word each.

@@ -16,7 +16,6 @@ mod numbering;
 pub mod opened;
 pub mod outcomes;
 pub mod prepared;
-mod ranks;
 pub mod records;
 mod representatives;
 pub mod storage;

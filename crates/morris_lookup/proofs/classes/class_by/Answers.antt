@@ -1,13 +1,15 @@
-use Rattle.std.proofs.Common.{◌≡◌, ◌/◌, ◌%◌, ◌<◌, ◌≤◌, ◌^◌, ℕ, List, length, get_or, refl, sym, ap, ◌∙◌, subst, zero-add, arith}
+use Rattle.std.proofs.Common.{◌≡◌, ◌/◌, ◌%◌, ◌<◌, ◌≤◌, ◌^◌, ℕ, List, length, get_or, refl, sym, ap, ◌∙◌, subst, ltb, zero-add, arith, rules}
+use Rattle.std.proofs.lemmas.List.Sorted.{IsPartitionPoint-from_clause}
 use Rattle.morris_board.specs.Boards.{Shape}
 use Rattle.morris_board.specs.Sets.{members, count_of}
 use Rattle.morris_board.specs.Symmetries.{HasSymmetries}
 use Rattle.morris_index.specs.Numbering.{rank_of}
-use Rattle.morris_index.specs.Classes.{class_of, symmetry_of}
+use Rattle.morris_index.specs.Classes.{class_of, representative_of, symmetry_of}
 use Rattle.morris_index.proofs.ClassLaws.{symmetry_within}
 use Rattle.morris_index.proofs.IndexLaws.{within_24}
 use Rattle.morris_lookup.specs.Prepared.{lead_of, LeadAll}
-use Rattle.morris_lookup.proofs.LeadLaws.{lead_parts}
+use Rattle.morris_lookup.proofs.LeadLaws.{lead_parts, rank_is}
+use Rattle.morris_lookup.proofs.ListLaws.{partitioned, class_is}
 use Rattle.morris_lookup.proofs.classes.class_by.Goals as goal
 
 -- what the word of a set says
@@ -29,7 +31,7 @@ returns-clause-class g c = λ listed lead.
     let most : g.B.Geometry.shape.symmetries ≤ 16 = omega (arith, g.met.B.Geometry.few_symmetries, g.met.B.Geometry.symmetry_count) in
     let small : c.args.set < 2 ^ g.B.Geometry.shape.points = subst (λ n. c.args.set < 2 ^ n) (sym g.met.B.Geometry.point_count) c.requires.within in
     c.in-Some.ensures.class
-    ∙ (parts g.B.Geometry.shape few g.met.B.Geometry.has_symmetries most c.args.leads.now c.args.set c.rank.result lead small c.rank.ensures.value c.in-Some.ensures.inside).0
+    ∙ (parts g.B.Geometry.shape few g.met.B.Geometry.has_symmetries most c.args.leads.now c.args.set c.rank.result lead small (c.rank.ensures ∙ sym (rank_is c.args.set)) c.in-Some.ensures.inside).0
 
 pub returns-clause-symmetry : goal.returns-clause-symmetry
 returns-clause-symmetry g c = λ lead.
@@ -37,4 +39,14 @@ returns-clause-symmetry g c = λ lead.
     let most : g.B.Geometry.shape.symmetries ≤ 16 = omega (arith, g.met.B.Geometry.few_symmetries, g.met.B.Geometry.symmetry_count) in
     let small : c.args.set < 2 ^ g.B.Geometry.shape.points = subst (λ n. c.args.set < 2 ^ n) (sym g.met.B.Geometry.point_count) c.requires.within in
     c.in-Some.ensures.symmetry
-    ∙ (parts g.B.Geometry.shape few g.met.B.Geometry.has_symmetries most c.args.leads.now c.args.set c.rank.result lead small c.rank.ensures.value c.in-Some.ensures.inside).1
+    ∙ (parts g.B.Geometry.shape few g.met.B.Geometry.has_symmetries most c.args.leads.now c.args.set c.rank.result lead small (c.rank.ensures ∙ sym (rank_is c.args.set)) c.in-Some.ensures.inside).1
+
+pub returns-2-clause-class : goal.returns-2-clause-class
+returns-2-clause-class g c = λ listed lead.
+    let board = g.B.Geometry.shape in
+    let few : board.points ≤ 24 = omega (arith, g.met.B.Geometry.few, g.met.B.Geometry.point_count) in
+    let small : c.args.set < 2 ^ board.points = subst (λ n. c.args.set < 2 ^ n) (sym g.met.B.Geometry.point_count) c.requires.within in
+    let mask : c.mask-mask.result ≡ representative_of board c.args.set = c.mask-mask.ensures ∙ c.least_image-least.ensures.image in
+    let point = IsPartitionPoint-from_clause (λ k. ltb k c.mask-mask.result) c.args.representatives.now c.partition_point-class.result c.partition_point-class.ensures.partitioned
+    (partitioned board few g.met.B.Geometry.has_symmetries c.args.set small c.args.representatives.now listed c.mask-mask.result mask) (λ a r q k. search rules) in
+    class_is board few g.met.B.Geometry.has_symmetries c.args.set small c.args.representatives.now listed c.mask-mask.result mask c.partition_point-class.result c.partition_point-class.ensures.bound point
