@@ -51,8 +51,6 @@ pub fn look_up<B: Geometry>(
         Ok(position) => position,
         Err(fault) => return mask_status(fault),
     };
-    // The proof learns the rules of a position where its stones are read.
-    let _ = position.own();
     match value(files, words, &position) {
         Ok(value) => {
             *out = value_record(value);
@@ -77,8 +75,6 @@ pub fn list_moves<B: Geometry>(
         Ok(position) => position,
         Err(fault) => return mask_status(fault),
     };
-    // The proof learns the rules of a position where its stones are read.
-    let _ = position.own();
     match outcomes(files, words, &position, out) {
         Ok(done) => {
             *count = done;

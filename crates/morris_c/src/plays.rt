@@ -27,8 +27,6 @@ pub fn list_legal_moves<B: Geometry>(
         Ok(position) => position,
         Err(fault) => return mask_status(fault),
     };
-    // The proof learns the rules of a position where its stones are read.
-    let _ = position.own();
     match write_moves(&position, out) {
         Some(done) => {
             *count = done;
@@ -71,8 +69,6 @@ pub fn play_move<B: Geometry>(
         Ok(position) => position,
         Err(fault) => return mask_status(fault),
     };
-    // The proof learns the rules of a position where its stones are read.
-    let _ = position.own();
     let m = move_named(played);
     if !is_legal(&position, m) {
         return ILLEGAL;

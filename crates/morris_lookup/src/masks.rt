@@ -1,6 +1,6 @@
 //! Positions from masks.
 ghost use Rattle.std.specs.Prelude.{◌≡◌, ◌≤◌, ◌^◌, IfOk, IfErr};
-ghost use Rattle.morris_board.specs.Positions.{sides};
+ghost use Rattle.morris_board.specs.Positions.{sides, IsPosition};
 ghost use Rattle.morris_lookup.specs.Masks.{IsMaskRefusal};
 
 use crate::fault::MaskFault;
@@ -15,6 +15,7 @@ use morris_board::position::Position;
 /// The first of `OffBoard`, `Overlap` and `Stones` that applies.
 pub fn position_of<B: Geometry>(own: u32, other: u32) -> Result<Position<B>, MaskFault>
     ensures made { IfOk result (λ position. position ≡ sides own other) }
+    ensures lawful { IfOk result (IsPosition B.shape) }
     ensures refused { IfErr result (IsMaskRefusal B.shape (sides own other)) }
 {
     let end = set_count::<B>();
@@ -25,7 +26,11 @@ pub fn position_of<B: Geometry>(own: u32, other: u32) -> Result<Position<B>, Mas
     match own.common(other).first() {
         Some(_) => Err(MaskFault::Overlap),
         None => match Position::new(own, other) {
-            Ok(position) => Ok(position),
+            Ok(position) => {
+                // The proof learns the rules of a position where its stones are read.
+                let _ = position.own();
+                Ok(position)
+            }
             Err(_) => Err(MaskFault::Stones),
         },
     }

@@ -37,7 +37,7 @@ returns-in-Ok-outcomes g c =
     subst (λ s. ListsMoves g.B.Geometry.shape c.args.words.now (contents c.args.files.now) s (pos 0) c.args.out.now c.outcomes.new.out c.args.count.now c.in-Ok-outcomes.done)
     c.in-Ok.ensures.made
     (record {
-      refused = λ fault r. absurd (no_fault g.B.Geometry.shape c.in-Ok.position fault c.own.ensures.lawful r);
+      refused = λ fault r. absurd (no_fault g.B.Geometry.shape c.in-Ok.position fault c.in-Ok.ensures.lawful r);
       room = λ position less. absurd (never c.in-Ok-outcomes.done (c.in-Ok-outcomes.ensures.room less));
       said = λ position serve fits.
           subst (λ r. TellsMoves r (pos 0) c.outcomes.new.out c.in-Ok-outcomes.done) (sym (c.in-Ok-outcomes.ensures.said serve fits)) (refl, refl);
@@ -54,7 +54,7 @@ returns-in-Err-outcomes g c =
     c.args.count.now)
     c.in-Ok.ensures.made
     (record {
-      refused = λ fault r. absurd (no_fault g.B.Geometry.shape c.in-Ok.position fault c.own.ensures.lawful r);
+      refused = λ fault r. absurd (no_fault g.B.Geometry.shape c.in-Ok.position fault c.in-Ok.ensures.lawful r);
       room = λ position less. kept ∙ ap (λ f. pos (view_status f)) (same c.in-Err-outcomes.fault (c.in-Err-outcomes.ensures.room less));
       said = λ position serve fits.
           subst (λ r. TellsMoves r (to_z w32 (of_z w32 c.view_status.result)) c.outcomes.new.out c.args.count.now) (sym (c.in-Err-outcomes.ensures.refused serve fits)) kept;

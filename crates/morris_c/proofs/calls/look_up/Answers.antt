@@ -27,7 +27,7 @@ pub returns-in-Ok-value : goal.returns-in-Ok-value
 returns-in-Ok-value g c =
     subst (λ s. LooksUp g.B.Geometry.shape c.args.words.now (contents c.args.files.now) s (pos 0) c.args.out.now c.value_record.result) c.in-Ok.ensures.made
     (record {
-      refused = λ fault r. absurd (no_fault g.B.Geometry.shape c.in-Ok.position fault c.own.ensures.lawful r);
+      refused = λ fault r. absurd (no_fault g.B.Geometry.shape c.in-Ok.position fault c.in-Ok.ensures.lawful r);
       said = λ position serve.
           subst (λ r. TellsValue r (pos 0) c.args.out.now c.value_record.result) (c.in-Ok-value.ensures.said serve) (refl, c.value_record.ensures);
       exact = λ position serve exact done. (c.in-Ok-value.value, c.in-Ok-value.ensures.exact serve exact, c.value_record.ensures);
@@ -40,7 +40,7 @@ returns-in-Err-value g c =
     let kept : to_z w32 (of_z w32 c.view_status.result) ≡ pos (view_status c.in-Err-value.fault) = to_z-of_z w32 c.view_status.result fits ∙ c.view_status.ensures in
     subst (λ s. LooksUp g.B.Geometry.shape c.args.words.now (contents c.args.files.now) s (to_z w32 (of_z w32 c.view_status.result)) c.args.out.now c.args.out.now) c.in-Ok.ensures.made
     (record {
-      refused = λ fault r. absurd (no_fault g.B.Geometry.shape c.in-Ok.position fault c.own.ensures.lawful r);
+      refused = λ fault r. absurd (no_fault g.B.Geometry.shape c.in-Ok.position fault c.in-Ok.ensures.lawful r);
       said = λ position serve.
           subst (λ r. TellsValue r (to_z w32 (of_z w32 c.view_status.result)) c.args.out.now c.args.out.now) (c.in-Err-value.ensures.said serve) (kept, refl);
       exact = λ position serve exact done. absurd (not_done _ (view_some c.in-Err-value.fault) _ kept done);

@@ -26,7 +26,7 @@ pub returns-in-Some : goal.returns-in-Some
 returns-in-Some g c =
     subst (λ s. ListsLegalMoves g.B.Geometry.shape s (pos 0) c.args.out.now c.write_moves.new.out c.args.count.now c.in-Some.done) c.in-Ok.ensures.made
     (record {
-      refused = λ fault r. absurd (no_fault g.B.Geometry.shape c.in-Ok.position fault c.own.ensures.lawful r);
+      refused = λ fault r. absurd (no_fault g.B.Geometry.shape c.in-Ok.position fault c.in-Ok.ensures.lawful r);
       room = λ position less. absurd (omega (arith, less, c.in-Some.ensures.room));
       listed = λ position enough. (refl, c.in-Some.ensures.listed);
       counted = λ done. c.in-Some.ensures.count;
@@ -37,7 +37,7 @@ pub returns-in-None : goal.returns-in-None
 returns-in-None g c =
     subst (λ s. ListsLegalMoves g.B.Geometry.shape s (pos 7) c.args.out.now c.write_moves.new.out c.args.count.now c.args.count.now) c.in-Ok.ensures.made
     (record {
-      refused = λ fault r. absurd (no_fault g.B.Geometry.shape c.in-Ok.position fault c.own.ensures.lawful r);
+      refused = λ fault r. absurd (no_fault g.B.Geometry.shape c.in-Ok.position fault c.in-Ok.ensures.lawful r);
       room = λ position less. (refl, c.in-None.ensures.room.1);
       listed = λ position enough. absurd (omega (arith, enough, c.in-None.ensures.room.0));
       counted = λ done. absurd (not_done 7 (omega arith) _ refl done);

@@ -26,7 +26,7 @@ returns-then-not-is_legal g c =
     subst (λ s. PlaysMove g.B.Geometry.shape s (move_named c.args.played.now) (pos 19) (sides c.args.next_own.now c.args.next_other.now) (sides c.args.next_own.now c.args.next_other.now))
     c.in-Ok.ensures.made
     (record {
-      refused = λ fault r. absurd (no_fault g.B.Geometry.shape c.in-Ok.position fault c.own.ensures.lawful r);
+      refused = λ fault r. absurd (no_fault g.B.Geometry.shape c.in-Ok.position fault c.in-Ok.ensures.lawful r);
       illegal = λ position wrong. refl;
       played = λ position legal.
           let listed : Contains (moves_of g.B.Geometry.shape c.in-Ok.position) c.move_named-m.result = subst (λ m. Contains (moves_of g.B.Geometry.shape c.in-Ok.position) m) (sym c.move_named-m.ensures) legal in
@@ -40,11 +40,11 @@ play-next-requires g c = c.is_legal.ensures.listed.0 c.if-not-is_legal.false
 pub returns : goal.returns
 returns g c =
     let there : sides c.mask.result c.mask-2.result ≡ result_of c.in-Ok.position (move_named c.args.played.now) =
-    ap₂ sides (c.mask.ensures ∙ c.own-2.ensures.points) (c.mask-2.ensures ∙ c.other.ensures.points) ∙ (c.play-next.ensures ∙ ap (result_of c.in-Ok.position) c.move_named-m.ensures) in
+    ap₂ sides (c.mask.ensures ∙ c.own.ensures.points) (c.mask-2.ensures ∙ c.other.ensures.points) ∙ (c.play-next.ensures ∙ ap (result_of c.in-Ok.position) c.move_named-m.ensures) in
     subst (λ s. PlaysMove g.B.Geometry.shape s (move_named c.args.played.now) (pos 0) (sides c.args.next_own.now c.args.next_other.now) (sides c.mask.result c.mask-2.result))
     c.in-Ok.ensures.made
     (record {
-      refused = λ fault r. absurd (no_fault g.B.Geometry.shape c.in-Ok.position fault c.own.ensures.lawful r);
+      refused = λ fault r. absurd (no_fault g.B.Geometry.shape c.in-Ok.position fault c.in-Ok.ensures.lawful r);
       illegal = λ position wrong. absurd (wrong (subst (λ m. Contains (moves_of g.B.Geometry.shape c.in-Ok.position) m) c.move_named-m.ensures (c.is_legal.ensures.listed.0 c.if-not-is_legal.false)));
       played = λ position legal. (refl, there);
       kept = λ other. absurd (other refl);
