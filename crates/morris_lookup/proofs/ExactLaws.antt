@@ -17,8 +17,8 @@ use Rattle.morris_pairs.proofs.FileLaws.{file_of-parts, IsRaw-from_exact}
 use Rattle.morris_lookup.proofs.OpeningLaws.{framed_file}
 use Rattle.morris_lookup.proofs.FileLookups.{code_at-file}
 use Rattle.morris_lookup.specs.declared.fault.ViewFault.{ViewFault}
-use Rattle.morris_lookup.specs.Views.{names_pair}
-use Rattle.morris_lookup.specs.Views.{value_by_kind, value_of_bytes, IsExactFile}
+use Rattle.morris_lookup.specs.Views.{names_pair, value_of_bytes, IsExactFile}
+use Rattle.morris_lookup.proofs.ViewLaws.{said_by_kind}
 
 -- the numbers of stones stand in the header of a table's file
 numbers_stand : (board : Shape) (t : Table) → (get_or (file_of board t) 6 0 ≡ t.pair.greater) × (get_or (file_of board t) 7 0 ≡ t.pair.lesser)
@@ -49,9 +49,8 @@ module _ (board : Shape) (low : board.points ≤ 24) (y : HasSymmetries board) (
     entry_low = omega (arith, exact.counted, (laid board low y t.layout t.pair exact.lawful).below s position of_table)
 
     says : value_of_bytes board s (file_of board t) ≡ Ok (value_in (get_or t.codes entry 0))
-    unfolding value_of_bytes
     says =
-        ap (value_by_kind board s (file_of board t)) (framed_file board low y t (IsRaw-from_exact board t exact))
+        sym (said_by_kind board s (file_of board t) (Ok (t.layout, t.pair)) (framed_file board low y t (IsRaw-from_exact board t exact)))
         ∙ ap (λ code. Ok (value_in code)) (code_at-file board t entry exact.small entry_low)
 
     pub table_says : IfOk (value_of_bytes board s (file_of board t)) (IsValue board s)

@@ -2,7 +2,7 @@
 use Rattle.std.proofs.Common.{◌≡◌, ◌≢◌, zero, suc, true, false, map, List, [], ◌∷◌, ◌++◌, Option, Some, None, Result, Ok, Err, refl, sym, ap, ap₂, subst, ◌∙◌, inl, inr, append_assoc, append-nil}
 use Rattle.std.specs.List.{AllPairs, Contains}
 use Rattle.std.proofs.lemmas.Bool.{both_ways, cases_Bool, eq-eqb, eqb-true}
-use Rattle.std.specs.Prelude.{slice_get}
+use Rattle.std.specs.Prelude.{slice_get, IfSome}
 use Rattle.morris_moves.proofs.ListLaws.{Contains-cons_cases, Contains-head, Contains-map, Contains-map_cases, Contains-tail}
 use Rattle.morris_moves.proofs.OrderLaws.{moves_in_order}
 use Rattle.morris_moves.specs.Order.{Precedes}
@@ -20,7 +20,7 @@ use Rattle.morris_probe.proofs.BestLaws.{AreBestOf, best_more, best_none, best_s
 use Rattle.morris_probe.proofs.SomeBest.{HasValues}
 use Rattle.morris_lookup.specs.declared.outcomes.Outcome.{Outcome}
 use Rattle.morris_lookup.specs.FileSets.{AreExactAfter, Files, IsExactAt, missing_file, said_of, IsValueRefusal}
-use Rattle.morris_lookup.specs.Outcomes.{best_among, same_value, turned, ArePicked, IsOutcome, IsOutcomeRefusal, MayLead, MayNotLead}
+use Rattle.morris_lookup.specs.Outcomes.{best_among, same_value, turned, ArePicked, IsOutcome, IsOutcomeRefusal}
 use Rattle.morris_lookup.specs.declared.fault.LookFault.{LookFault}
 use Rattle.morris_lookup.specs.declared.fault.LookFault.TheVariants as fault
 use Rattle.morris_lookup.specs.Lines.{Falls}
@@ -122,11 +122,11 @@ module _ (board : Shape) (files : Files) (s : Sides) (value : Value) where
     next_said : (next : Value) → said_of board files (result_of s o.step) ≡ Some next → o.value ≡ turned next
     next_said next e = h.turned_round ∙ ap turned (h.said next e)
 
-    may_lead : o.value ≡ value → (said : Option Value) → said_of board files (result_of s o.step) ≡ said → MayLead value said
+    may_lead : o.value ≡ value → (said : Option Value) → said_of board files (result_of s o.step) ≡ said → IfSome said (λ next. turned next ≡ value)
     may_lead is None e = tt
     may_lead is (Some next) e = sym (next_said next e) ∙ is
 
-    may_not_lead : o.value ≢ value → (said : Option Value) → said_of board files (result_of s o.step) ≡ said → MayNotLead value said
+    may_not_lead : o.value ≢ value → (said : Option Value) → said_of board files (result_of s o.step) ≡ said → IfSome said (λ next. turned next ≢ value)
     may_not_lead other None e = tt
     may_not_lead other (Some next) e = λ same. other (next_said next e ∙ same)
 

@@ -2,23 +2,26 @@
 use Rattle.std.proofs.Common.{◌≡◌, ℕ, ◌+◌, Bool, true, false, List, length, take, get_or, Some, None, Result, Ok, Err, refl, sym, ap, ap₂, subst, ◌∙◌, inl, inr, arith}
 use Rattle.std.specs.Prelude.{nat_eq, nat_le, IfOk}
 use Rattle.std.specs.Str.{bytes_eq}
+use Rattle.std.specs.Result.{result_map_both}
 use Rattle.std.proofs.lemmas.Bool.{cases_Bool, eqb-true, and_parts, false≢true}
 use Rattle.morris_board.specs.Boards.{Shape}
 use Rattle.morris_board.specs.Positions.{Sides}
 use Rattle.morris_index.specs.Pairs.{Counts, counts, pair_of}
-use Rattle.morris_lookup.specs.Checking.{header_by, header_said}
+use Rattle.morris_lookup.specs.Checking.{header_record, header_said}
 use Rattle.morris_pairs.specs.declared.value.Value.TheVariants.{Lost}
 use Rattle.morris_pairs.specs.declared.layout.Layout.{Layout}
 use Rattle.morris_pairs.specs.declared.file_faults.ReadFault.{ReadFault}
 use Rattle.morris_pairs.specs.declared.file_faults.ReadFault.TheVariants as fault
 use Rattle.morris_pairs.specs.declared.layout.Layout.TheVariants.{Full, Classes}
+use Rattle.morris_pairs.specs.Codes.{value_in}
+use Rattle.morris_pairs.specs.Entries.{entry_index}
 use Rattle.morris_pairs.specs.TableFiles.{magic}
 use Rattle.morris_pairs.specs.declared.header.Header.{Header}
 use Rattle.morris_pairs.specs.FileReading.{unless, are_counts, is_version, header_at, layout_in, kind_in}
 use Rattle.morris_lookup.specs.Opening.{framed_in, IsHeaded}
 use Rattle.morris_lookup.specs.declared.fault.ViewFault.TheVariants as view
-use Rattle.morris_lookup.specs.Views.{is_by_classes, value_by_kind, value_of_bytes, value_said, needs_words, IsExactAt, IsExactFile}
-use Rattle.morris_lookup.specs.Views.{names_pair, file_of_pair}
+use Rattle.morris_lookup.specs.Views.{is_by_classes, value_of_bytes, value_said, needs_words, names_pair, file_of_pair, IsExactAt, IsExactFile}
+use Rattle.morris_lookup.specs.Lookups.{code_at}
 use Rattle.std.proofs.lemmas.List.{get_or-take}
 
 -- ---- what the header of a named file says
@@ -105,11 +108,11 @@ module _ (board : Shape) (files : List (List ℕ)) (s : Sides) where
 -- ---- what is said of bytes by the steps of opening
 
 pub said_by_kind : (board : Shape) (s : Sides) (bytes : List ℕ) (found : Result (Layout × Counts) ReadFault) → framed_in board bytes ≡ found
-    → value_by_kind board s bytes found ≡ value_of_bytes board s bytes
+    → result_map_both (λ (kind : Layout × Counts). value_in (code_at bytes (entry_index board board.points kind.0 kind.1 s))) view.File found ≡ value_of_bytes board s bytes
 unfolding value_of_bytes
-said_by_kind board s bytes found e = ap (value_by_kind board s bytes) (sym e)
+said_by_kind board s bytes found e = rw e refl
 
 pub header_by_kind : (board : Shape) (bytes : List ℕ) (found : Result (Layout × Counts) ReadFault) → framed_in board bytes ≡ found
-    → header_by board found ≡ header_said board bytes
+    → result_map_both (header_record board) (λ refusal. refusal) found ≡ header_said board bytes
 unfolding header_said
-header_by_kind board bytes found e = ap (header_by board) (sym e)
+header_by_kind board bytes found e = rw e refl

@@ -1,5 +1,6 @@
 -- What the header of a table file says.
-use Rattle.std.specs.Prelude.{ℕ, List, Result, Ok, Err}
+use Rattle.std.specs.Prelude.{ℕ, List, Result}
+use Rattle.std.specs.Result.{result_map_both}
 use Rattle.morris_board.specs.Boards.{Shape}
 use Rattle.morris_index.specs.Pairs.{Counts}
 use Rattle.morris_pairs.specs.declared.layout.Layout.{Layout}
@@ -20,9 +21,5 @@ header_record board kind = record {
 }
 
 -- what the steps of the header and of the number of bytes find in any bytes
-abbrev pub header_by : Shape → Result (Layout × Counts) ReadFault → Result HeaderRecord ReadFault
-header_by board (Ok kind) = Ok (header_record board kind)
-header_by board (Err refusal) = Err refusal
-
 unfoldable pub header_said : Shape → List ℕ → Result HeaderRecord ReadFault
-header_said board bytes = header_by board (framed_in board bytes)
+header_said board bytes = result_map_both (header_record board) (λ refusal. refusal) (framed_in board bytes)

@@ -1,5 +1,6 @@
 -- A set of open files, one for each pair at most, and what they say of positions.
-use Rattle.std.specs.Prelude.{◌≡◌, ⊤, ℕ, List, length, slice_index_or, Option, Some, None, IfSome, is_some, if◌then◌else◌}
+use Rattle.std.specs.Prelude.{◌≡◌, List, length, slice_index_or, Option, Some, None, IfSome, is_some, option_map, if◌then◌else◌}
+use Rattle.std.specs.Option.{option_and_then}
 use Rattle.std.specs.List.{Contains}
 use Rattle.morris_board.specs.Boards.{Shape}
 use Rattle.morris_board.specs.Positions.{Sides}
@@ -29,43 +30,29 @@ pub record AreFiles (board : Shape) (files : Files) : Type 0 where
   pub right : (c : Counts) → IfSome (file_for files c) (λ file. (file.pair ≡ c) × IsOpen board file)
 
 -- the open file that tells of a position, where there is one, is that of an exact table
-abbrev pub IsExactFor : Shape → Files → Option Counts → Type 0
-IsExactFor board files None = ⊤
-IsExactFor board files (Some c) = IfSome (file_for files c) (IsExactFile board)
-
 abbrev pub IsExactAt : Shape → Files → Sides → Type 0
-IsExactAt board files s = IsExactFor board files (pair_of s)
+IsExactAt board files s = IfSome (pair_of s) (λ c. IfSome (file_for files c) (IsExactFile board))
 
 -- so are those that tell of the positions after its legal moves
 abbrev pub AreExactAfter : Shape → Files → Sides → Type 0
 AreExactAfter board files s = (m : Move) → Contains (moves_of board s) m → IsExactAt board files (result_of s m)
 
 -- what a file says of a position of its pair, where its bytes are known
-abbrev pub said_in : Shape → OpenFile → Sides → Option (List ℕ) → Option Value
-said_in board file s None = None
-said_in board file s (Some bytes) = Some (value_in (code_for board file bytes s))
-
-abbrev pub said_by : Shape → Sides → Option OpenFile → Option Value
-said_by board s None = None
-said_by board s (Some file) = said_in board file s file.bytes
+abbrev pub said_by : Shape → Sides → OpenFile → Option Value
+said_by board s file = option_map (λ bytes. value_in (code_for board file bytes s)) file.bytes
 
 -- What the files say of a position: what that of its pair says. A position whose player to move has
 -- two stones is of no pair: it is lost at once, and no file is needed.
 abbrev pub said_at : Shape → Files → Sides → Option Counts → Option Value
 said_at board files s None = Some (Lost 0)
-said_at board files s (Some c) = said_by board s (file_for files c)
+said_at board files s (Some c) = option_and_then (said_by board s) (file_for files c)
 
 abbrev pub said_of : Shape → Files → Sides → Option Value
 said_of board files s = said_at board files s (pair_of s)
 
--- the pair, where there is one and no file of it is open
-abbrev pub without_file : Files → Option Counts → Option Counts
-without_file files None = None
-without_file files (Some c) = if is_some (file_for files c) then None else Some c
-
 -- the pair of a position, where no file of it is open
 abbrev pub missing_file : Files → Sides → Option Counts
-missing_file files s = without_file files (pair_of s)
+missing_file files s = option_and_then (λ c. if is_some (file_for files c) then None else Some c) (pair_of s)
 
 -- why there is no value of a position: its file isn't open; or it couldn't be read, which is only
 -- where its bytes aren't known

@@ -1,5 +1,6 @@
 -- What files say of each legal move of a position, for the player who makes it.
 use Rattle.std.specs.Prelude.{◌≡◌, ℕ, List, [], ◌∷◌, Result, Ok, Err}
+use Rattle.std.specs.Result.{result_map_both}
 use Rattle.morris_board.specs.Boards.{Shape}
 use Rattle.morris_board.specs.Positions.{Sides}
 use Rattle.morris_moves.specs.declared.step.Move.{Move}
@@ -14,12 +15,8 @@ use Rattle.morris_lookup.specs.Views.{value_said}
 
 -- a move with the value of the position after it, turned round: where the opponent has then lost in
 -- d plies, a win in d + 1, and so on
-abbrev pub outcome_by : Move → Result Value ViewFault → Result MoveRecord ViewFault
-outcome_by m (Ok next) = Ok (move_record m (turned next))
-outcome_by m (Err refusal) = Err refusal
-
 unfoldable pub outcome_of : Shape → List (List ℕ) → Sides → Move → Result MoveRecord ViewFault
-outcome_of board files s m = outcome_by m (value_said board files (result_of s m))
+outcome_of board files s m = result_map_both (λ next. move_record m (turned next)) (λ refusal. refusal) (value_said board files (result_of s m))
 
 -- those of many moves in turn: the first that is refused refuses all
 abbrev pub with_first : Result MoveRecord ViewFault → Result (List MoveRecord) ViewFault → Result (List MoveRecord) ViewFault

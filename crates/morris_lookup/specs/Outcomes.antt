@@ -1,5 +1,5 @@
 -- What each legal move leads to, for the player who makes it.
-use Rattle.std.specs.Prelude.{◌≡◌, ◌≢◌, ◌⊎◌, ⊤, suc, Bool, true, false, nat_eq, List, [], ◌∷◌, ◌++◌, map, filter, Option, Some, None}
+use Rattle.std.specs.Prelude.{◌≡◌, ◌≢◌, ◌⊎◌, ⊤, suc, Bool, true, false, nat_eq, List, [], ◌∷◌, ◌++◌, map, filter, Some, None, IfSome}
 use Rattle.std.specs.List.{Contains}
 use Rattle.morris_board.specs.Boards.{Shape}
 use Rattle.morris_board.specs.Positions.{Sides}
@@ -61,22 +61,13 @@ same_value _ _ = false
 abbrev pub best_among : Value → List Outcome → List Move
 best_among value outcomes = map (λ o. o.step) (filter (λ o. same_value o.value value) outcomes)
 
--- by what the files say of its result, where they say a value, a move leads to this value; or it
--- doesn't
-abbrev pub MayLead : Value → Option Value → Type 0
-MayLead value None = ⊤
-MayLead value (Some next) = turned next ≡ value
-
-abbrev pub MayNotLead : Value → Option Value → Type 0
-MayNotLead value None = ⊤
-MayNotLead value (Some next) = turned next ≢ value
-
--- Of moves in turn, those that lead to this value, in order, and no others, by what the files say.
+-- Of moves in turn, those that lead to this value, in order, and no others, by what the files say
+-- of their results, where they say a value.
 abbrev pub ArePicked : Shape → Files → Sides → Value → List Move → List Move → Type 0
 ArePicked board files s value [] best = best ≡ []
 ArePicked board files s value (m ∷ moves) best =
-    (MayNotLead value (said_of board files (result_of s m)) × ArePicked board files s value moves best)
-    ⊎ ((rest : List Move) × (best ≡ m ∷ rest) × MayLead value (said_of board files (result_of s m)) × ArePicked board files s value moves rest)
+    (IfSome (said_of board files (result_of s m)) (λ next. turned next ≢ value) × ArePicked board files s value moves best)
+    ⊎ ((rest : List Move) × (best ≡ m ∷ rest) × IfSome (said_of board files (result_of s m)) (λ next. turned next ≡ value) × ArePicked board files s value moves rest)
 
 -- The list has the legal moves that lead to the value of the position, which is the one that the
 -- files say, where they say one.

@@ -1,5 +1,5 @@
 -- Values and moves as records of numbers.
-use Rattle.std.specs.Prelude.{ℕ, Option, Some, None}
+use Rattle.std.specs.Prelude.{unwrap_or}
 use Rattle.morris_moves.specs.declared.step.Move.{Move}
 use Rattle.morris_pairs.specs.declared.value.Value.{Value}
 use Rattle.morris_pairs.specs.declared.value.Value.TheVariants.{Draw, Won, Lost}
@@ -12,10 +12,6 @@ value_record Draw = record { kind = 0; depth = 0 }
 value_record (Won depth) = record { kind = 1; depth = depth }
 value_record (Lost depth) = record { kind = 2; depth = depth }
 
--- the point of the stone that is taken, and 255 where none is
-abbrev pub taken_number : Option ℕ → ℕ
-taken_number None = 255
-taken_number (Some point) = point
-
+-- a move; the point of the stone that is taken is 255 where none is
 abbrev pub move_record : Move → Value → MoveRecord
-move_record m value = record { from = m.from; to = m.to; taken = taken_number m.taken; pad = 0; value = value_record value }
+move_record m value = record { from = m.from; to = m.to; taken = unwrap_or m.taken 255; pad = 0; value = value_record value }

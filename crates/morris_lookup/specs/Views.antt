@@ -1,6 +1,8 @@
 -- What table files in memory say of positions.
-use Rattle.std.specs.Prelude.{◌≡◌, ⊤, ℕ, Bool, true, false, ◌&&◌, nat_eq, nat_le, List, length, map, slice_index, Option, Some, None, IfSome, Result, Ok, Err}
+use Rattle.std.specs.Prelude.{◌≡◌, ℕ, Bool, true, false, ◌&&◌, nat_eq, nat_le, List, length, map, slice_index, Option, Some, None, IfSome, Result, Ok, Err}
 use Rattle.std.specs.List.{Contains, find}
+use Rattle.std.specs.Option.{option_map_or}
+use Rattle.std.specs.Result.{result_map_both}
 use Rattle.morris_board.specs.Boards.{Shape}
 use Rattle.morris_board.specs.Positions.{Sides}
 use Rattle.morris_index.specs.Pairs.{Counts, pair_of}
@@ -9,7 +11,6 @@ use Rattle.morris_moves.specs.Rules.{moves_of, result_of}
 use Rattle.morris_pairs.specs.declared.layout.Layout.{Layout}
 use Rattle.morris_pairs.specs.declared.value.Value.{Value}
 use Rattle.morris_pairs.specs.declared.value.Value.TheVariants.{Lost}
-use Rattle.morris_pairs.specs.declared.file_faults.ReadFault.{ReadFault}
 use Rattle.morris_pairs.specs.Codes.{value_in}
 use Rattle.morris_pairs.specs.Entries.{entry_index}
 use Rattle.morris_pairs.specs.Tables.{Table, IsTable}
@@ -39,24 +40,17 @@ file_of_pair files c = find (names_pair c) files
 
 -- what the bytes of a file say of a position of its pair, where their header and their number are
 -- right: the value of the code that stands at its entry
-abbrev pub value_by_kind : Shape → Sides → List ℕ → Result (Layout × Counts) ReadFault → Result Value ViewFault
-value_by_kind board s bytes (Ok kind) = Ok (value_in (code_at bytes (entry_index board board.points kind.0 kind.1 s)))
-value_by_kind board s bytes (Err refusal) = Err (fault.File refusal)
-
 unfoldable pub value_of_bytes : Shape → Sides → List ℕ → Result Value ViewFault
-value_of_bytes board s bytes = value_by_kind board s bytes (framed_in board bytes)
+value_of_bytes board s bytes =
+    result_map_both (λ (kind : Layout × Counts). value_in (code_at bytes (entry_index board board.points kind.0 kind.1 s))) fault.File (framed_in board bytes)
 
 -- ---- many files
-
-abbrev pub value_by : Shape → Sides → Option (List ℕ) → Result Value ViewFault
-value_by board s None = Err fault.NoFile
-value_by board s (Some bytes) = value_of_bytes board s bytes
 
 -- What files say of a position: what that of its pair says. A position whose player to move has two
 -- stones is of no pair: it is lost at once, and no file is needed.
 abbrev pub value_of_pair : Shape → List (List ℕ) → Sides → Option Counts → Result Value ViewFault
 value_of_pair board files s None = Ok (Lost 0)
-value_of_pair board files s (Some c) = value_by board s (file_of_pair files c)
+value_of_pair board files s (Some c) = option_map_or (value_of_bytes board s) (file_of_pair files c) (Err fault.NoFile)
 
 unfoldable pub value_said : Shape → List (List ℕ) → Sides → Result Value ViewFault
 value_said board files s = value_of_pair board files s (pair_of s)
@@ -73,28 +67,16 @@ abbrev pub ServeAll : Shape → List ℕ → List (List ℕ) → Type 0
 ServeAll board words files = (bytes : List ℕ) → Contains files bytes → Serves board words bytes
 
 -- whether the value of a position is read in a file by classes
-abbrev pub is_read_by_classes : Option (List ℕ) → Bool
-is_read_by_classes None = false
-is_read_by_classes (Some bytes) = is_by_classes bytes
-
-abbrev pub pair_needs_words : List (List ℕ) → Option Counts → Bool
-pair_needs_words files None = false
-pair_needs_words files (Some c) = is_read_by_classes (file_of_pair files c)
-
 abbrev pub needs_words : List (List ℕ) → Sides → Bool
-needs_words files s = pair_needs_words files (pair_of s)
+needs_words files s = option_map_or (λ c. option_map_or is_by_classes (file_of_pair files c) false) (pair_of s) false
 
 -- the file is that of an exact table
 abbrev pub IsExactFile : Shape → List ℕ → Type 0
 IsExactFile board bytes = (t : Table) × IsTable board t × (bytes ≡ file_of board t)
 
 -- the file that tells of a position, where there is one, is that of an exact table
-abbrev pub IsExactFor : Shape → List (List ℕ) → Option Counts → Type 0
-IsExactFor board files None = ⊤
-IsExactFor board files (Some c) = IfSome (file_of_pair files c) (IsExactFile board)
-
 abbrev pub IsExactAt : Shape → List (List ℕ) → Sides → Type 0
-IsExactAt board files s = IsExactFor board files (pair_of s)
+IsExactAt board files s = IfSome (pair_of s) (λ c. IfSome (file_of_pair files c) (IsExactFile board))
 
 -- so are those that tell of the positions after its legal moves
 abbrev pub AreExactAfter : Shape → List (List ℕ) → Sides → Type 0

@@ -35,7 +35,7 @@ use Rattle.morris_files.specs.Names.{name_of}
 use Rattle.morris_jobs.specs.declared.fault.Fault.{Fault}
 use Rattle.morris_jobs.specs.declared.fault.Fault.TheVariants as fault
 use Rattle.morris_queries.specs.Answers.{IsExactAnswer}
-use Rattle.morris_queries.specs.Exactness.{AreExactIn, AreExactNear, AreExactWithin, IsExactAt, IsExactBytes, IsExactFor, LeadsTo, IsBestLine, HasLine, IsGame}
+use Rattle.morris_queries.specs.Exactness.{AreExactIn, AreExactNear, AreExactWithin, IsExactAt, IsExactBytes, LeadsTo, IsBestLine, HasLine, IsGame}
 use Rattle.morris_queries.specs.declared.show.Show.{Show}
 use Rattle.morris_queries.specs.declared.show.Show.TheVariants as show
 use Rattle.morris_queries.specs.Telling.{followed, with_first, Agrees, played, Telling, telling, value_from, outcome, told_from, told_of, told_line, told_shown, shown_line, told_value, told_outcome, told_outcomes, value_at, opened_as, table_in, stated_in}
@@ -115,7 +115,7 @@ module _ (board : Shape) (few : board.points ≤ 24) (y : HasSymmetries board) (
   unfolding told_value
   sound_value s position exact = at_pair (pair_of s) refl exact
     where
-      at_pair : (o : Option Counts) → pair_of s ≡ o → IsExactFor board name files o → IsSound (IsValue board s) (value_at board name files s o)
+      at_pair : (o : Option Counts) → pair_of s ≡ o → IfSome o (λ c. IfSome (files (name_of name c)) (IsExactBytes board c)) → IsSound (IsValue board s) (value_at board name files s o)
       at_pair None is right = lost_with_two board s is
       at_pair (Some c) is right = of_pair s position c (of_its_pair s c is) right
 

@@ -1,6 +1,7 @@
 -- What is opened for a pair, and what open files tell, where the files of the folder are known.
 use Rattle.std.proofs.Common.{◌≡◌, ◌≢◌, ℕ, Bool, true, false, eqb, List, [], Option, Some, None, is_some, Result, Ok, Err, refl, sym, ap, ap₂, subst, ◌∙◌, inl, inr}
-use Rattle.std.specs.Prelude.{IfErr, unwrap_or, if◌then◌else◌}
+use Rattle.std.specs.Prelude.{IfErr, option_map, unwrap_or, if◌then◌else◌}
+use Rattle.std.specs.Option.{option_and_then}
 use Rattle.std.proofs.lemmas.Bool.{eq-eqb, eqb-true, and_from, and_parts, cases_Bool}
 use Rattle.morris_board.specs.Boards.{Shape}
 use Rattle.morris_board.specs.Positions.{Sides}
@@ -10,7 +11,7 @@ use Rattle.morris_pairs.specs.declared.file_faults.ReadFault.{ReadFault}
 use Rattle.morris_pairs.specs.declared.value.Value.{Value}
 use Rattle.morris_pairs.specs.declared.value.Value.TheVariants.{Lost}
 use Rattle.morris_pairs.specs.Codes.{value_in}
-use Rattle.morris_lookup.specs.FileSets.{Files as OpenFiles, file_for, said_of, said_at, said_by, said_in, missing_file, without_file}
+use Rattle.morris_lookup.specs.FileSets.{Files as OpenFiles, file_for, said_of, said_at, said_by, missing_file}
 use Rattle.morris_lookup.specs.Lookups.{code_for}
 use Rattle.morris_lookup.specs.Opening.{OpenFile, open_file, framed_in}
 use Rattle.morris_files.specs.Files.{Files}
@@ -94,7 +95,7 @@ module _ (board : Shape) (name : List ℕ) where
   said_told files opened s are none = at_pair (pair_of s) none
     where
       with_bytes : (c : Counts) (file : OpenFile) (o : Option (List ℕ)) (bytes : List ℕ) → file.bytes ≡ o → o ≡ Some bytes → table_in board name files c ≡ Ok file
-          → (value : Value) × (said_in board file s o ≡ Some value) × (value_at board name files s (Some c) ≡ Ok value)
+          → (value : Value) × (option_map (λ b. value_in (code_for board file b s)) o ≡ Some value) × (value_at board name files s (Some c) ≡ Ok value)
       with_bytes c file None bytes is e found = cc
       with_bytes c file (Some b) bytes is e found = (
         value_in (code_for board file b s),
@@ -103,14 +104,14 @@ module _ (board : Shape) (name : List ℕ) where
       )
 
       with_file : (c : Counts) (o : Option OpenFile) → file_for opened c ≡ o → (if is_some o then None else Some c) ≡ None
-          → (value : Value) × (said_by board s o ≡ Some value) × (value_at board name files s (Some c) ≡ Ok value)
+          → (value : Value) × (option_and_then (said_by board s) o ≡ Some value) × (value_at board name files s (Some c) ≡ Ok value)
       with_file c None is e = cc
       with_file c (Some file) is e =
           let found : table_in board name files c ≡ Ok file = are c file is in
           let bytes = table_bytes files c file found in
           with_bytes c file file.bytes bytes.0 refl bytes.1 found
 
-      at_pair : (o : Option Counts) → without_file opened o ≡ None → (value : Value) × (said_at board opened s o ≡ Some value) × (value_at board name files s o ≡ Ok value)
+      at_pair : (o : Option Counts) → option_and_then (λ c. if is_some (file_for opened c) then None else Some c) o ≡ None → (value : Value) × (said_at board opened s o ≡ Some value) × (value_at board name files s o ≡ Ok value)
       at_pair None e = (Lost 0, refl, refl)
       at_pair (Some c) e = with_file c (file_for opened c) refl e
 

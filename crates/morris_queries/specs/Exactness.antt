@@ -1,6 +1,6 @@
 -- What is told where the files of a folder are those of exact tables: the game's own values, best
 -- moves and lines of play.
-use Rattle.std.specs.Prelude.{◌≡◌, ⊤, ℕ, zero, suc, List, [], ◌∷◌, Option, Some, None, IfSome}
+use Rattle.std.specs.Prelude.{◌≡◌, ℕ, zero, suc, List, [], ◌∷◌, Some, IfSome}
 use Rattle.std.specs.List.{Contains}
 use Rattle.morris_board.specs.Boards.{Shape}
 use Rattle.morris_board.specs.Positions.{Sides}
@@ -27,12 +27,8 @@ abbrev pub IsExactBytes : Shape → Counts → List ℕ → Type 0
 IsExactBytes board c bytes = (t : Table) × IsTable board t × (t.pair ≡ c) × (bytes ≡ file_of board t)
 
 -- so it is where the value of a position is told, if something stands there
-abbrev pub IsExactFor : Shape → List ℕ → Files → Option Counts → Type 0
-IsExactFor board name files None = ⊤
-IsExactFor board name files (Some c) = IfSome (files (name_of name c)) (IsExactBytes board c)
-
 abbrev pub IsExactAt : Shape → List ℕ → Files → Sides → Type 0
-IsExactAt board name files s = IsExactFor board name files (pair_of s)
+IsExactAt board name files s = IfSome (pair_of s) (λ c. IfSome (files (name_of name c)) (IsExactBytes board c))
 
 -- and where the values of the positions after its legal moves are
 pub record AreExactNear (board : Shape) (name : List ℕ) (files : Files) (s : Sides) : Type 0 where
