@@ -1,5 +1,5 @@
 //! Which entries of a table agree with the entries that their moves lead to.
-ghost use Rattle.std.specs.Prelude.{◌≡◌, ℕ, ◌+◌, ◌<◌, ◌≤◌, ◌↔◌, ◌&&◌, true, not, None, slice_index, IfSome, IsTrue, MatchOption};
+ghost use Rattle.std.specs.Prelude.{◌≡◌, ℕ, ◌<◌, ◌≤◌, ◌↔◌, ◌&&◌, true, not, None, slice_index, IfSome, IsTrue, MatchOption};
 ghost use Rattle.std.specs.List.{Contains};
 ghost use Rattle.morris_board.specs.Sets.{has};
 ghost use Rattle.morris_board.specs.Positions.{IsPosition};
@@ -18,7 +18,7 @@ use crate::graph::PairGraph;
 use crate::numbering::{Numbering, Successors};
 use crate::quiet_ends::QuietEnds;
 use crate::raw::Raw;
-use crate::rows::{Row, advance};
+use crate::rows::Row;
 use crate::worths::{code_of_worth, worth, worth_of};
 use morris_board::board::Geometry;
 use morris_board::points::Points;
@@ -201,7 +201,8 @@ pub(crate) fn first_in<B: Geometry>(
             return Some(index);
         }
         if index + 1 < end {
-            advance(numbering, &mut position, &mut row, index + 1);
+            position = numbering.following(&position, index + 1);
+            row.follow(&position);
             ends.follow(&position);
         }
     }

@@ -59,7 +59,7 @@ impl<'a, B: Geometry> ClassGraph<'a, B> {
     /// # Errors
     /// `Needs` with the first of the pairs that the pair needs whose table isn't on the shelf,
     /// before `Memory`, where memory for the classes is refused. Other calls take memory for the
-    /// lists that are asked for; while nodes are read, also some 64 KiB for the captures that are
+    /// lists that are asked for; while nodes are read, also some 80 KiB for the captures that are
     /// kept, and where these are refused, nodes are read without.
     pub fn new(
         alloc: Global,

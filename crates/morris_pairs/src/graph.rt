@@ -1,5 +1,5 @@
 //! The graph of a pair.
-ghost use Rattle.std.specs.Prelude.{◌≡◌, ℕ, ◌+◌, ◌*◌, ◌<◌, ◌≤◌, ◌↔◌, ◌&&◌, not, true, false, Some, None, List, ◌++◌, length, slice_index, vec_len, is_some, nat_lt, IfOk, IfErr, OnOk, IfSome, MatchResult};
+ghost use Rattle.std.specs.Prelude.{◌≡◌, ℕ, ◌+◌, ◌*◌, ◌<◌, ◌↔◌, ◌&&◌, true, Some, None, List, ◌++◌, slice_index, vec_len, is_some, nat_lt, IfOk, IfErr, OnOk, IfSome, MatchResult};
 ghost use Rattle.std.specs.Option.{option_copied};
 ghost use Rattle.morris_board.specs.Positions.{IsPosition};
 ghost use Rattle.morris_board.specs.Sets.{has, members, count_of};
@@ -8,10 +8,8 @@ ghost use Rattle.morris_moves.specs.Rules.{takable};
 ghost use Rattle.morris_index.specs.Pairs.{IsPair, is_of, less_lesser, less_greater};
 ghost use Rattle.morris_pairs.specs.Rows.{IsRow, may_close};
 ghost use Rattle.morris_wave.specs.Blocks.{BlockState};
-ghost use Rattle.morris_wave.specs.Solving.{exits_at};
 ghost use Rattle.morris_wave.specs.Exits.{exits_of};
 ghost use Rattle.morris_wave.specs.Values.{HasCode, IsTooDeep};
-ghost use Rattle.morris_pairs.specs.Entries.{entry_count};
 ghost use Rattle.morris_pairs.specs.Numberings.{layout_of, pair_of};
 ghost use Rattle.morris_pairs.specs.Orders.{Order};
 ghost use Rattle.morris_pairs.specs.PairNets.{capture_codes, level_in, level_of, net_at};
@@ -29,7 +27,7 @@ use crate::kept_captures::KeptCaptures;
 use crate::layout::Layout;
 use crate::levels::PairLevels;
 use crate::numbering::Numbering;
-use crate::rows::{Row, advance};
+use crate::rows::Row;
 use crate::shelf::{Needs, Shelf};
 use crate::table_set::TableSet;
 use morris_board::board::{Board, Geometry};
@@ -361,38 +359,6 @@ impl<'a, B: Geometry> PairGraph<'a, B> {
     {
         self.exits_by_row(&Row::of::<B>(position.own()), position)
     }
-
-    /// Reads the positions of the entries from `first` on, as many as there is room for: their
-    /// numbers of quiet moves, and the summaries of what their captures lead to.
-    pub(crate) fn read_nodes_from(
-        &self,
-        numbering: &Numbering<B>,
-        first: u64,
-        counts: &mut [u16],
-        exits: &mut [Exits],
-    )
-        requires pair { pair_of numbering.now ≡ self.now }
-        requires room { length exits.old ≡ length counts.old }
-        requires inside { first + length counts.old ≤ entry_count B.shape B.POINTS (layout_of numbering.now) self.now }
-        ensures counts { (k : ℕ) → k < length counts.old → slice_index counts.new k ≡ length ((net_at B.shape (level_of (layout_of numbering.now) self.now)).quiet (first + k)) }
-        ensures exits { (k : ℕ) → k < length exits.old → exits_at exits.new k ≡ exits_of ((net_at B.shape (level_of (layout_of numbering.now) self.now)).exits (first + k)) }
-    {
-        // The proof learns here what the pair's numbers are, and that its entries are few.
-        let _ = &self.pair;
-        let _ = numbering.count();
-        if counts.is_empty() {
-            return;
-        }
-        let mut position = numbering.position(first);
-        let mut row = Row::of::<B>(position.own());
-        for place in 0..counts.len() {
-            counts[place] = row.quiet_moves(&position);
-            exits[place] = self.exits_by_row(&row, &position);
-            if place + 1 < counts.len() {
-                advance(numbering, &mut position, &mut row, first + place as u64 + 1);
-            }
-        }
-    }
 }
 
 impl<'a, B: Board> Graph for PairGraph<'a, B> {
@@ -421,9 +387,21 @@ impl<'a, B: Board> Graph for PairGraph<'a, B> {
     }
 
     fn read_nodes(&self, first: u64, counts: &mut [u16], exits: &mut [Exits]) {
-        // The proof learns here that the graph's numbers of stones are those of a pair.
-        let _ = &self.pair;
-        self.read_nodes_from(&Numbering::Full(self.pair), first, counts, exits)
+        // The proof learns here that there are few nodes.
+        let _ = self.pair.size();
+        if counts.is_empty() {
+            return;
+        }
+        let mut position = self.pair.position(first);
+        let mut row = Row::of::<B>(position.own());
+        for place in 0..counts.len() {
+            counts[place] = row.quiet_moves(&position);
+            exits[place] = self.exits_by_row(&row, &position);
+            if place + 1 < counts.len() {
+                position = self.pair.following(&position, first + place as u64 + 1);
+                row.follow(&position);
+            }
+        }
     }
 
     fn back(&self, i: u64, out: &mut Vec<u64>) -> Result<(), AllocError> {

@@ -1,7 +1,7 @@
 //! The quiet moves that led to the stones of the side with more stones, kept for all positions of a
 //! row.
-ghost use Rattle.std.specs.Prelude.{◌≡◌, ℕ, ◌<◌, ◌^◌, nat_eq, true, false, OnOk};
-ghost use Rattle.morris_board.specs.Sets.{has, members, count_of};
+ghost use Rattle.std.specs.Prelude.{◌≡◌, ◌<◌, ◌^◌, nat_eq, true, false, OnOk};
+ghost use Rattle.morris_board.specs.Sets.{has, count_of};
 ghost use Rattle.morris_board.specs.Symmetries.{image_of, inverse_of};
 ghost use Rattle.morris_index.specs.Classes.{symmetry_of, representative_of};
 ghost use Rattle.morris_index.specs.Facing.{turned};

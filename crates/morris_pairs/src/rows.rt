@@ -1,16 +1,11 @@
 //! What the moves of the stones of one player are, whatever the opponent has.
-ghost use Rattle.std.specs.Prelude.{◌≡◌, ℕ, ◌+◌, ◌<◌, ◌^◌, ◌&&◌, true, false, length, filter};
+ghost use Rattle.std.specs.Prelude.{◌≡◌, ℕ, ◌<◌, ◌^◌, ◌&&◌, false, length, filter};
 ghost use Rattle.morris_board.specs.Sets.{has, count_of, is_within};
 ghost use Rattle.morris_moves.specs.Rules.{closes, goes, moved, moves_of};
-ghost use Rattle.morris_index.specs.Pairs.{is_of};
-ghost use Rattle.morris_board.specs.Positions.{IsPosition};
-ghost use Rattle.morris_pairs.specs.Entries.{entry_count, entry_index, has_own_entry};
-ghost use Rattle.morris_pairs.specs.Numberings.{layout_of, pair_of};
 ghost use Rattle.morris_pairs.specs.PairNets.{is_quiet};
 ghost use Rattle.morris_pairs.specs.QuietEnds.{is_quiet_end};
 ghost use Rattle.morris_pairs.specs.Rows.{is_closing_end, IsRow};
 
-use crate::numbering::Numbering;
 use morris_board::board::Geometry;
 use morris_board::points::Points;
 use morris_board::position::Position;
@@ -140,28 +135,4 @@ impl Row {
             *self = Row::of::<B>(own);
         }
     }
-}
-
-/// Goes on to the position that has the next entry for its own, and to what is kept of its own
-/// stones.
-pub(crate) fn advance<B: Geometry>(
-    numbering: &Numbering<B>,
-    position: &mut Position<B>,
-    row: &mut Row,
-    index: u64,
-)
-    requires counts { is_of (pair_of numbering.now) position.old ≡ true }
-    requires own { has_own_entry B.shape (layout_of numbering.now) position.old ≡ true }
-    requires before { entry_index B.shape B.POINTS (layout_of numbering.now) (pair_of numbering.now) position.old + 1 ≡ index }
-    requires inside { index < entry_count B.shape B.POINTS (layout_of numbering.now) (pair_of numbering.now) }
-    requires row { IsRow B.shape B.POINTS row.old }
-    ensures entry { entry_index B.shape B.POINTS (layout_of numbering.now) (pair_of numbering.now) position.new ≡ index }
-    ensures counts { is_of (pair_of numbering.now) position.new ≡ true }
-    ensures lawful { IsPosition B.shape position.new }
-    ensures own_entry { has_own_entry B.shape (layout_of numbering.now) position.new ≡ true }
-    ensures row { IsRow B.shape B.POINTS row.new }
-    ensures own { row.new.own ≡ position.new.own }
-{
-    *position = numbering.following(position, index);
-    row.follow(position);
 }
