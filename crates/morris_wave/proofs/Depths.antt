@@ -2,7 +2,7 @@
 -- depth.
 use Rattle.std.proofs.Common.{◌≡◌, ◌≢◌, ℕ, zero, suc, ◌+◌, ◌-◌, ◌<◌, ◌≤◌, Bool, true, false, not, cond, leb, List, [], ◌∷◌, refl, sym, ap, ◌∙◌, subst, ⊎_elim, arith, add-suc, add-zero}
 use Rattle.std.specs.List.{list_all, list_any}
-use Rattle.std.proofs.lemmas.Bool.{false≢true, and_parts, and_from, or_cases, or_left, or_right, or_parts, cases_Bool, and_cases, both_ways, cond-true, cond-false, leb-true, false_from_ne_true}
+use Rattle.std.proofs.lemmas.Bool.{false≢true, and_parts, or_cases, or_parts, cases_Bool, and_cases, both_ways, cond-true, cond-false, leb-true, false_from_ne_true}
 use Rattle.std.proofs.lemmas.Bool.Decides.{nat_tests}
 use Rattle.morris_wave.specs.Nets.{Net}
 use Rattle.morris_wave.specs.Exits.{is_odd}
@@ -27,18 +27,11 @@ is_odd-suc n = grind (arith, nat_tests)
 module _ (g : Net) (i n : ℕ) where
   some_mono : (p q : ℕ → Bool) (m : ℕ) → ((j : ℕ) → p j ≡ true → q j ≡ true) → ((c : ℕ) → is_lost_exit n c ≡ true → is_lost_exit m c ≡ true)
       → some_lost g p n i ≡ true → some_lost g q m i ≡ true
-  some_mono p q m f e h =
-      ⊎_elim
-      (λ a. or_left (list_any q (g.quiet i)) (list_any (is_lost_exit m) (g.exits i)) (any_mono p q f (g.quiet i) a))
-      (λ a. or_right (list_any q (g.quiet i)) (list_any (is_lost_exit m) (g.exits i)) (any_mono (is_lost_exit n) (is_lost_exit m) e (g.exits i) a))
-      (or_cases (list_any p (g.quiet i)) (list_any (is_lost_exit n) (g.exits i)) h)
+  some_mono p q m f e h = grind (arith, any_mono p q f (g.quiet i), any_mono (is_lost_exit n) (is_lost_exit m) e (g.exits i))
 
   all_won_mono : (p q : ℕ → Bool) (m : ℕ) → ((j : ℕ) → p j ≡ true → q j ≡ true) → ((c : ℕ) → is_won_exit n c ≡ true → is_won_exit m c ≡ true)
       → all_won g p n i ≡ true → all_won g q m i ≡ true
-  all_won_mono p q m f e h =
-      let w = and_parts (list_all p (g.quiet i)) (list_all (is_won_exit n) (g.exits i)) h in
-      and_from (list_all q (g.quiet i)) (list_all (is_won_exit m) (g.exits i))
-      (all_mono p q f (g.quiet i) w.0) (all_mono (is_won_exit n) (is_won_exit m) e (g.exits i) w.1)
+  all_won_mono p q m f e h = grind (arith, all_mono p q f (g.quiet i), all_mono (is_won_exit n) (is_won_exit m) e (g.exits i))
 
 -- what a later number of plies decides, an earlier one may
 pub some_lost_mono : (g : Net) (i n : ℕ) (p q : ℕ → Bool) → ((j : ℕ) → p j ≡ true → q j ≡ true) → some_lost g p n i ≡ true → some_lost g q n i ≡ true

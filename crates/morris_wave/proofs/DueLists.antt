@@ -1,7 +1,8 @@
 -- One node more in the lists of what comes due, and a list that is let go.
-use Rattle.std.proofs.Common.{◌≡◌, ℕ, ◌+◌, ◌<◌, ◌≤◌, false, ◌&&◌, cond, eqb, ltb, List, [], ◌∷◌, ◌++◌, length, set, refl, sym, ap, ap₂, ◌∙◌, subst, ⊎_elim, arith, get_or-set_same, get_or-set_other, length-set}
+use Rattle.std.proofs.Common.{◌≡◌, ℕ, ◌+◌, ◌<◌, ◌≤◌, false, ◌&&◌, cond, eqb, ltb, List, [], ◌∷◌, ◌++◌, length, set, sym, ap, ◌∙◌, subst, ⊎_elim, arith, get_or-set_same, get_or-set_other, length-set}
 use Rattle.std.specs.List.{All}
-use Rattle.std.proofs.lemmas.Bool.{cases_eq, cases_lt, and_left, and_right, and_from, cond-true, cond-false, eq-eqb, ne_eqb, lt-ltb, le-ltb}
+use Rattle.std.proofs.lemmas.Bool.{cases_eq, cases_lt, and_right, cond-false, ne_eqb}
+use Rattle.std.proofs.lemmas.Bool.Decides.{nat_tests}
 use Rattle.std.proofs.lemmas.List.{get_or_past}
 use Rattle.std.proofs.lemmas.List.Elements.{All-push, All-nil}
 use Rattle.std.proofs.lemmas.List.Sums.{sum_by_push}
@@ -38,11 +39,7 @@ module _ (f : ℕ → ℕ) (first count : ℕ) (due : List (List ℕ)) (h : List
   }
     where
       not_due : (n : ℕ) → (ltb 0 n && eqb (f count) n) ≡ false
-      not_due n =
-          ⊎_elim
-          (λ z. and_left (ltb 0 n) (eqb (f count) n) (le-ltb 0 n (omega (arith, z))))
-          (λ z. and_right (ltb 0 n) (eqb (f count) n) (ne_eqb (f count) n (λ e. z (omega (arith, e, never)))))
-          (cases_eq n 0)
+      not_due n = grind (arith, nat_tests)
 
   -- one that does, put at the end of its wave's list
   pub due_more : 0 < f count → f count < length due → ListsDue f 0 first (count + 1) (set due (f count) (list_at due (f count) ++ (first + count) ∷ []))
@@ -81,15 +78,7 @@ module _ (f : ℕ → ℕ) (first count : ℕ) (due : List (List ℕ)) (h : List
 
       here : (k : ℕ) → k < count + 1 → times (first + k) (list_at new (f count)) ≡ cond {A = ℕ} (ltb 0 (f count) && eqb (f k) (f count)) 1 0
       here k l =
-          ap (times (first + k)) same
-          ∙ (pushed k
-          ∙ ⊎_elim
-          (λ e. subst (λ x. times (first + x) (list_at due (f count)) + cond {A = ℕ} (eqb (first + count) (first + x)) 1 0 ≡ cond {A = ℕ} (ltb 0 (f count) && eqb (f x) (f count)) 1 0) e
-          (ap₂ (λ a b. a + b) (past first count (list_at due (f count)) (h.inside (f count))) (cond-true {A = ℕ} (eqb (first + count) (first + count)) 1 0 (eq-eqb (first + count) (first + count) refl))
-          ∙ sym (cond-true {A = ℕ} (ltb 0 (f count) && eqb (f count) (f count)) 1 0 (and_from (ltb 0 (f count)) (eqb (f count) (f count)) (lt-ltb 0 (f count) some) (eq-eqb (f count) (f count) refl)))))
-          (λ e. let nothing : cond {A = ℕ} (eqb (first + count) (first + k)) 1 0 ≡ 0 = cond-false {A = ℕ} (eqb (first + count) (first + k)) 1 0 (ne_eqb (first + count) (first + k) (λ z. e (omega (arith, z)))) in
-          omega (arith, nothing, h.once (f count) k (omega arith) (omega (arith, l, e))))
-          (cases_eq count k))
+          grind (arith, nat_tests, ap (times (first + k)) same, pushed k, past first count (list_at due (f count)) (h.inside (f count)), h.once (f count) k (omega arith))
 
 -- the list of a wave is let go
 module _ (due : List (List ℕ)) (t : ℕ) where

@@ -2,12 +2,12 @@
 -- to wave.
 use Rattle.std.proofs.Common.{◌↔◌, ◌≡◌, ℕ, zero, suc, ◌<◌, Bool, true, false, not, ◌&&◌, ◌||◌, cond, eqb, sym, ap, ap₂, ◌∙◌, subst, ⊎_elim, arith}
 use Rattle.std.specs.List.{list_any, All}
-use Rattle.std.proofs.lemmas.Bool.{false≢true, or_cases, or_left, or_right, cases_Bool, both_ways, cond-true, cond-false, false_from_ne_true}
+use Rattle.std.proofs.lemmas.Bool.{false≢true, or_left, cases_Bool, both_ways, cond-true, cond-false, false_from_ne_true}
 use Rattle.std.proofs.lemmas.Bool.Decides.{nat_tests}
 use Rattle.morris_wave.specs.Nets.{Net}
 use Rattle.morris_wave.specs.Exits.{exits_of, exits_lost, exits_won}
 use Rattle.morris_wave.specs.Values.{is_lost, is_won, is_decided, code_within, HasCode}
-use Rattle.morris_wave.specs.Waves.{known_lost, known_won, is_won_at, is_lost_at, is_decided_at, entry_at, open_at, settles, marked}
+use Rattle.morris_wave.specs.Waves.{known_lost, known_won, is_decided_at, entry_at, open_at, settles, marked}
 use Rattle.morris_wave.proofs.Tests.{any_same, count_same, none_counted}
 use Rattle.morris_wave.proofs.Depths.{lost_more, won_more, all_won_mono_at, some_lost_mono, all_won_later, some_lost_later, code_is, code_new, none_decided}
 use Rattle.morris_wave.proofs.ExitTests.{some_exit_lost, each_exit_won}
@@ -36,28 +36,23 @@ known_won_at_least g n a j h = or_left (is_won g n j) (a j && is_won g (suc n) j
 pub decided_at_most : (g : Net) (n : ℕ) (a : ℕ → Bool) (i : ℕ) → is_decided_at g n a i ≡ true → is_decided g (suc n) i ≡ true
 unfolding is_lost is_won
 decided_at_most g n a i h =
-    ⊎_elim
-    (λ e. or_left (is_lost g (suc n) i) (is_won g (suc n) i) (all_won_mono_at g i n (known_won g n a) (is_won g n) (known_won_at_most g n a) e))
-    (λ e. or_right (is_lost g (suc n) i) (is_won g (suc n) i) (some_lost_mono g i n (known_lost g n a) (is_lost g n) (known_lost_at_most g n a) e))
-    (or_cases (is_lost_at g n a i) (is_won_at g n a i) h)
+    grind (arith, all_won_mono_at g i n (known_won g n a) (is_won g n) (known_won_at_most g n a), some_lost_mono g i n (known_lost g n a) (is_lost g n) (known_lost_at_most g n a))
 
 pub decided_at_least : (g : Net) (n : ℕ) (a : ℕ → Bool) (i : ℕ) → is_decided g n i ≡ true → is_decided_at g n a i ≡ true
 unfolding is_lost is_won
 decided_at_least g zero a i h = absurd (both_ways (is_decided g zero i) (none_decided g i) h)
 decided_at_least g (suc n) a i h =
-    ⊎_elim
-    (λ e. or_left (is_lost_at g (suc n) a i) (is_won_at g (suc n) a i) (all_won_later g i n (is_won g n) (known_won g (suc n) a) (known_won_at_least g n a) e))
-    (λ e. or_right (is_lost_at g (suc n) a i) (is_won_at g (suc n) a i) (some_lost_later g i n (is_lost g n) (known_lost g (suc n) a) (known_lost_at_least g n a) e))
-    (or_cases (is_lost g (suc n) i) (is_won g (suc n) i) h)
+    grind (
+      arith,
+      all_won_later g i n (is_won g n) (known_won g (suc n) a) (known_won_at_least g n a),
+      some_lost_later g i n (is_lost g n) (known_lost g (suc n) a) (known_lost_at_least g n a),
+    )
 
 -- a decided node that has no smaller depth has depth n
 pub entry_new : (g : Net) (n : ℕ) (a b : ℕ → Bool) (i : ℕ) → is_decided_at g n a i ≡ false → is_decided_at g n b i ≡ true → code_within g (suc n) i ≡ suc n
 entry_new g n a b i h k =
     let before : is_decided g n i ≡ false = false_from_ne_true (is_decided g n i) (λ e. both_ways (is_decided_at g n a i) h (decided_at_least g n a i e)) in
     code_new g n i before (decided_at_most g n b i k)
-
-pub marked_code : (old code : ℕ) (test : Bool) → 0 < old → marked old test code ≡ old
-marked_code old code test h = grind (arith, nat_tests)
 
 -- one part more is applied: an entry changes exactly where the test holds
 pub entry_step : (g : Net) (n : ℕ) (a b : ℕ → Bool) (i : ℕ) (test : Bool) → is_decided_at g n b i ≡ (is_decided_at g n a i || test) → entry_at g n b i ≡ marked (entry_at g n a i) test (suc n)

@@ -1,5 +1,5 @@
 -- Lost and won in fewer than n + 1 plies is lost and won within n, as the rules of the game count.
-use Rattle.std.proofs.Common.{◌≡◌, ℕ, zero, suc, ◌-◌, ◌<◌, ◌%◌, Bool, true, false, not, ltb, leb, List, [], ◌∷◌, get_or, refl, sym, subst, ⊎_elim, inl, inr, ◌⊎◌, ◌↔◌, arith, add-one, ◌∙◌, ap}
+use Rattle.std.proofs.Common.{◌≡◌, ℕ, zero, suc, ◌-◌, ◌<◌, ◌%◌, Bool, true, false, not, ltb, leb, List, [], ◌∷◌, get_or, refl, sym, subst, ⊎_elim, inl, inr, ◌⊎◌, ◌↔◌, arith, add-one}
 use Rattle.std.specs.List.{list_all, list_any, Any}
 use Rattle.std.proofs.lemmas.Bool.{false≢true, and_parts, and_from, or_cases, or_left, or_right, leb-true, eqb-true, eqb-false, ltb-true, not-true, both_ways, or_parts}
 use Rattle.std.proofs.lemmas.Bool.Decides.{nat_tests}
@@ -129,18 +129,10 @@ module _ (g : Net) (i depth : ℕ) (h : HasDepth g i depth) where
   neither = or_parts (is_lost g depth i) (is_won g depth i) h.not_before
 
   even_lost : is_odd depth ≡ false → LostWithin g depth i
-  even_lost even =
-      ⊎_elim
-      (λ e. lost_within g depth i e)
-      (λ e. absurd (both_ways (is_odd (suc depth)) (won_parity g depth i e neither.1) (is_odd-suc depth ∙ ap not even)))
-      (or_cases (is_lost g (suc depth) i) (is_won g (suc depth) i) h.reached)
+  even_lost even = lost_within g depth i (grind (arith, h.reached, neither, won_parity g depth i, is_odd-suc depth))
 
   odd_won : is_odd depth ≡ true → WonWithin g depth i
-  odd_won odd =
-      ⊎_elim
-      (λ e. absurd (both_ways (is_odd (suc depth)) (is_odd-suc depth ∙ ap not odd) (lost_parity g depth i e neither.0)))
-      (λ e. won_within g depth i e)
-      (or_cases (is_lost g (suc depth) i) (is_won g (suc depth) i) h.reached)
+  odd_won odd = won_within g depth i (grind (arith, h.reached, neither, lost_parity g depth i, is_odd-suc depth))
 
   none_before : (n : ℕ) → n < depth → (LostWithin g n i ⊎ WonWithin g n i) → ⊥
   none_before n l e = both_ways (is_decided g depth i) h.not_before (decided_by_then g (suc n) depth i (omega (arith, l)) (within_decided g n i e))

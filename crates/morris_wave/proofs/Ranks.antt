@@ -275,10 +275,7 @@ module _ {all : Bool} (first wave before here : ℕ) (codes decided : List ℕ) 
 pub ranked_once : (first wave before here : ℕ) (codes decided : List ℕ) → Ranked true first wave codes decided before here → (k : ℕ) → k < length codes → (test : Bool)
     → (get_or codes k 0 ≡ 0) ↔ (test ≡ false) → times (first + k) decided ≡ cond {A = ℕ} test 1 0
 ranked_once first wave before here codes decided h k l test e =
-    ⊎_elim
-    (λ t. h.once k l (λ f _. absurd (false≢true (sym f))) ∙ (cond-false {A = ℕ} (eqb (get_or codes k 0) 0) 0 1 (ne_eqb (get_or codes k 0) 0 (λ z. both_ways test (e.0 z) t)) ∙ sym (cond-true {A = ℕ} test 1 0 t)))
-    (λ t. h.once k l (λ f _. absurd (false≢true (sym f))) ∙ (cond-true {A = ℕ} (eqb (get_or codes k 0) 0) 0 1 (eq-eqb (get_or codes k 0) 0 (e.1 t)) ∙ sym (cond-false {A = ℕ} test 1 0 t)))
-    (cases_Bool test)
+    grind (arith, nat_tests, h.once k l (λ f _. absurd (false≢true (sym f))), e.0, e.1)
 
 -- before the first wave nothing is decided
 pub ranked_none : (first count : ℕ) (codes : List ℕ) → codes ≡ replicate count 0 → (all : Bool) → Ranked all first 0 codes [] 0 0

@@ -2,7 +2,7 @@
 use Rattle.std.proofs.Common.{◌≡◌, ℕ, suc, ◌+◌, ◌-◌, ◌%◌, ◌<◌, ◌≤◌, ◌↔◌, Bool, true, false, not, ◌&&◌, ◌||◌, cond, eqb, ltb, List, [], length, get_or, set, refl, sym, ap, ap₂, ◌∙◌, subst, ⊎_elim, inl, ◌⊎◌, arith}
 use Rattle.std.specs.List.{count_by, list_any}
 use Rattle.std.specs.List.Sorted.{IsNonDecreasingBy}
-use Rattle.std.proofs.lemmas.Bool.{and_from, both_ways, not_from_false, cases_Bool, cond-true, lt-ltb}
+use Rattle.std.proofs.lemmas.Bool.{and_from, both_ways, not_from_false, cases_Bool, lt-ltb}
 use Rattle.std.proofs.lemmas.Bool.Decides.{nat_tests}
 use Rattle.std.proofs.lemmas.List.Folds.{list_any_at}
 use Rattle.std.proofs.lemmas.List.Sums.{count_by-le-length}
@@ -223,24 +223,17 @@ module _ {g : Net} (law : IsNet g) {n first : ℕ} {codes counters : List ℕ} {
         closes : is_odd (n + 1) ≡ false → (among (list_at due (n + 1)) (first + k) && eqb (get_or counters' k 0) 0)
             ≡ (eqb (due_wave (exits_of (g.exits (first + k)))) (suc n) && eqb (pending_at g (suc n) none (first + k)) 0)
         closes even =
-            ⊎_elim
-            (λ t. let one = often_due k l ∙ cond-true {A = ℕ} (eqb (due_wave (exits_of (g.exits (first + k)))) (suc n)) 1 0 t in
-            let fell = even_pending_next g n (first + k) (odd_suc false even) in
-            let exact : get_or counters' k 0 ≡ pending_at g (suc n) none (first + k) =
-            omega (
+            grind (
               arith,
-              one,
-              fell,
-              cond-true {A = ℕ} (eqb (due_wave (exits_of (g.exits (first + k)))) (suc n)) 1 0 t,
+              nat_tests,
+              is_due k l,
+              often_due k l,
+              even_pending_next g n (first + k) (odd_suc false even),
               (comes.even even).0 k (omega (arith, h.counters_len, l)),
               h.counters_are k l,
               small k (omega (arith, counters_len, h.counters_len, l)),
               pending-le g law n every (first + k) (omega (arith, h.in_graph, l)),
-            ) in
-            ap₂ (λ p c. p && eqb c 0) (is_due k l) exact)
-            (λ t. ap (λ p. p && eqb (get_or counters' k 0) 0) (is_due k l ∙ t)
-            ∙ sym (ap (λ p. p && eqb (pending_at g (suc n) none (first + k)) 0) t))
-            (cases_Bool (eqb (due_wave (exits_of (g.exits (first + k)))) (suc n)))
+            )
 
     new_counter : (k : ℕ) → k < length codes → get_or counters' k 0 ≡ pending_at g (suc n) none (first + k) % 65536
     new_counter k l =

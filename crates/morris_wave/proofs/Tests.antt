@@ -1,7 +1,7 @@
 -- Tests over the elements of a list, and counts of those that pass.
 use Rattle.std.proofs.Common.{◌≡◌, ℕ, ◌+◌, ◌≤◌, Bool, true, false, not, ◌&&◌, ◌||◌, cond, eqb, ltb, List, [], ◌∷◌, length, refl, sym, ap, ap₂, ◌∙◌, ⊎_elim, arith}
 use Rattle.std.specs.List.{list_all, list_any, count_by, All}
-use Rattle.std.proofs.lemmas.Bool.{false≢true, and_parts, and_from, or_cases, or_left, or_right, or_parts, and_cases, both_ways, cond-true, cond-false}
+use Rattle.std.proofs.lemmas.Bool.{false≢true, and_parts, or_cases, or_left, or_right, or_parts, and_cases, both_ways, cond-true, cond-false}
 use Rattle.std.proofs.lemmas.Bool.Decides.{nat_tests}
 use Rattle.std.proofs.lemmas.List.Sums.{sum_by-cons}
 use Rattle.std.proofs.lemmas.List.Elements.{All-head, All-tail}
@@ -12,9 +12,7 @@ at_most_one t = grind arith
 module _ {X : Type 0} (p q : X → Bool) where
   pub all_mono : ((x : X) → p x ≡ true → q x ≡ true) → (xs : List X) → list_all p xs ≡ true → list_all q xs ≡ true
   all_mono gives [] h = refl
-  all_mono gives (x ∷ xs) h =
-      let w = and_parts (p x) (list_all p xs) h in
-      and_from (q x) (list_all q xs) (gives x w.0) (all_mono gives xs w.1)
+  all_mono gives (x ∷ xs) h = grind (arith, gives x, all_mono gives xs)
 
   pub any_mono : ((x : X) → p x ≡ true → q x ≡ true) → (xs : List X) → list_any p xs ≡ true → list_any q xs ≡ true
   any_mono gives [] h = absurd (false≢true h)
@@ -108,7 +106,4 @@ module _ {X : Type 0} (p q r : X → Bool) where
 module _ {X : Type 0} (p q r : X → Bool) where
   pub any_or : (xs : List X) → ((x : X) → p x ≡ (q x || r x)) → list_any p xs ≡ (list_any q xs || list_any r xs)
   any_or [] h = refl
-  any_or (x ∷ xs) h = ap₂ (λ a b. a || b) (h x) (any_or xs h) ∙ shuffle (q x) (r x) (list_any q xs) (list_any r xs)
-    where
-      shuffle : (a b c d : Bool) → ((a || b) || (c || d)) ≡ ((a || c) || (b || d))
-      shuffle a b c d = grind arith
+  any_or (x ∷ xs) h = grind (arith, h x, any_or xs h)

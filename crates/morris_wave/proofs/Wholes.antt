@@ -1,7 +1,7 @@
 -- The waves of a whole graph as one stretch.
-use Rattle.std.proofs.Common.{◌≡◌, ℕ, suc, ◌+◌, ◌-◌, ◌<◌, ◌≤◌, Bool, true, false, ◌&&◌, cond, eqb, List, length, get_or, take, drop, refl, sym, ap, ◌∙◌, subst, ⊎_elim, arith, zero-add, length-take, length-drop}
+use Rattle.std.proofs.Common.{◌≡◌, ℕ, suc, ◌+◌, ◌-◌, ◌<◌, ◌≤◌, Bool, true, false, ◌&&◌, cond, eqb, List, length, get_or, take, drop, refl, sym, ap, ◌∙◌, subst, arith, zero-add, length-take, length-drop}
 use Rattle.std.specs.List.{list_any, count_by}
-use Rattle.std.proofs.lemmas.Bool.{and_from, and_left, cases_eq, cond-true, cond-false, eqb-true, eq-eqb, ne_eqb, lt-ltb, false_from_ne_true, true_from_ne_false}
+use Rattle.std.proofs.lemmas.Bool.{cond-true, cond-false, eqb-true, eq-eqb, lt-ltb, false_from_ne_true, true_from_ne_false}
 use Rattle.std.proofs.lemmas.Bool.Decides.{nat_tests}
 use Rattle.std.proofs.lemmas.List.{get_or-take, get_or-drop}
 use Rattle.std.proofs.lemmas.List.Sums.{sum_by-take-le, get_or-le-sum_by}
@@ -70,11 +70,7 @@ module _ {g : Net} {n : ℕ} {fresh : List ℕ} (listed : ListsFresh g n fresh) 
     counted k l = behind k l ∙ count_same (λ y. eqb y node) (λ j. eqb node j && is_fresh g n j) (g.quiet k) (λ p d h. at (get_or (g.quiet k) p d))
       where
         at : (y : ℕ) → eqb y node ≡ (eqb node y && is_fresh g n y)
-        at y =
-            ⊎_elim
-            (λ e. eq-eqb y node (sym e) ∙ sym (and_from (eqb node y) (is_fresh g n y) (eq-eqb node y e) (subst (λ x. is_fresh g n x ≡ true) e is_new)))
-            (λ e. ne_eqb y node (λ z. e (sym z)) ∙ sym (and_left (eqb node y) (is_fresh g n y) (ne_eqb node y e)))
-            (cases_eq node y)
+        at y = grind (arith, nat_tests, is_new)
 
     module _ (law : IsNet g) {first : ℕ} {codes counters : List ℕ} {due : List (List ℕ)} {last_due : ℕ} (h : StretchHolds g n (among (take i fresh)) first codes counters due last_due) where
       taken : (k : ℕ) → k < length codes → times (first + k) nodes ≡ count_by (λ j. eqb node j && is_fresh g n j) (g.quiet (first + k))
