@@ -1,5 +1,5 @@
 -- Counters of 16 bits that fall, and the nodes that are spent.
-use Rattle.std.proofs.Common.{◌≡◌, ℕ, ◌+◌, ◌-◌, ◌%◌, ◌<◌, ◌≤◌, Bool, true, false, ◌&&◌, ◌||◌, cond, eqb, List, length, get_or, set, take, refl, sym, ap, ap₂, ◌∙◌, subst, ⊎_elim, arith, get_or-set_other, get_or-set_same, length-set}
+use Rattle.std.proofs.Common.{◌≡◌, ℕ, ◌+◌, ◌-◌, ◌%◌, ◌<◌, ◌≤◌, Bool, true, false, ◌&&◌, ◌||◌, cond, eqb, List, length, get_or, set, take, refl, sym, ap, ◌∙◌, subst, ⊎_elim, arith, get_or-set_other, get_or-set_same, length-set}
 use Rattle.std.proofs.lemmas.Bool.{cond-true, cond-false, eq-eqb, ne_eqb, cases_eq, cases_lt}
 use Rattle.std.proofs.lemmas.Bool.Decides.{nat_tests}
 use Rattle.std.proofs.lemmas.List.Sums.{sum_by-take-le}
@@ -64,27 +64,17 @@ module _ (e : ℕ → ℕ) (nodes : List ℕ) (i node place : ℕ) (inside : i <
   spent_more codes mcodes ncodes code now ready pos clen olen enough q a b =
       marks_twice codes mcodes ncodes (λ k. among (take i nodes) (e k) && eqb (get_or mid k 0) 0) (λ k. eqb place k && ready)
       (λ k. among (take (i + 1) nodes) (e k) && eqb (get_or (set mid place now) k 0) 0) code pos clen
-      (λ k kl. ap (λ t. t && eqb (get_or (set mid place now) k 0) 0) (among_more nodes i node inside is (e k) ∙ ap (λ t. among (take i nodes) (e k) || t) (sym (at_place k (omega (arith, kl, olen)))))
-      ∙ ⊎_elim
-      (λ (z : place ≡ k).
-      let same : eqb (get_or (set mid place now) k 0) 0 ≡ ready =
-      ap (λ x. eqb x 0) (subst (λ x. get_or (set mid place now) x 0 ≡ now) z (get_or-set_same mid place now 0 (omega arith))) ∙ sym q in
-      let before : (among (take i nodes) (e k) && eqb (get_or mid k 0) 0) ≡ false = subst (λ x. (among (take i nodes) (e x) && eqb (get_or mid x 0) 0) ≡ false) z (not_spent enough) in
-      ap₂ (λ t r. (among (take i nodes) (e k) || t) && r) (eq-eqb place k z) same
-      ∙ (or_true (among (take i nodes) (e k)) ready
-      ∙ sym (ap₂ (λ x t. x || (t && ready)) before (eq-eqb place k z))))
-      (λ (z : place ≡ k → ⊥).
-      let other : get_or (set mid place now) k 0 ≡ get_or mid k 0 = get_or-set_other mid place k now 0 (λ y. z (sym y)) in
-      ap₂ (λ t r. (among (take i nodes) (e k) || t) && r) (ne_eqb place k z) (ap (λ x. eqb x 0) other)
-      ∙ (or_false_and (among (take i nodes) (e k)) (eqb (get_or mid k 0) 0)
-      ∙ sym (ap (λ t. (among (take i nodes) (e k) && eqb (get_or mid k 0) 0) || (t && ready)) (ne_eqb place k z))))
-      (cases_eq place k)) a b
-    where
-      or_true : (p q : Bool) → ((p || true) && q) ≡ q
-      or_true p q = grind arith
-
-      or_false_and : (p q : Bool) → ((p || false) && q) ≡ ((p && q) || false)
-      or_false_and p q = grind arith
+      (λ k kl.
+      grind (
+        arith,
+        nat_tests,
+        among_more nodes i node inside is (e k),
+        at_place k (omega (arith, kl, olen)),
+        get_or-set_same mid place now 0 (omega arith),
+        get_or-set_other mid place k now 0,
+        not_spent enough,
+        q,
+      )) a b
 
 -- one counter more that is small
 pub small_set : (counters : List ℕ) (place now : ℕ) → ((k : ℕ) → k < length counters → get_or counters k 0 < 65536) → now < 65536

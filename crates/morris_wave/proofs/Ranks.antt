@@ -95,26 +95,17 @@ module _ {all : Bool} (first wave before here : ℕ) (codes decided : List ℕ) 
           (omega (arith, e), omega (arith, e, inside, length-set codes place (wave + 1))))
           (cases_lt p (length decided));
       once = λ k l kept.
-          let more = times-append (first + k) decided ((first + place) ∷ []) in
-          let one : times (first + k) ((first + place) ∷ []) ≡ cond {A = ℕ} (eqb (first + place) (first + k)) 1 0 + 0 = count-cons (λ y. eqb y (first + k)) (first + place) [] in
-          let inside_old : k < length codes = omega (arith, l, length-set codes place (wave + 1)) in
-          ⊎_elim
-          (λ (e : place ≡ k).
-          let yes_it : cond {A = ℕ} (eqb (first + place) (first + k)) 1 0 ≡ 1 = cond-true {A = ℕ} (eqb (first + place) (first + k)) 1 0 (eq-eqb (first + place) (first + k) (omega (arith, e))) in
-          let was : get_or codes k 0 ≡ 0 = subst (λ x. get_or codes x 0 ≡ 0) e open_yet in
-          let old = h.once k inside_old (λ _ pos. absurd (omega (arith, was, pos))) in
-          let zero_before : cond {A = ℕ} (eqb (get_or codes k 0) 0) 0 1 ≡ 0 = cond-true {A = ℕ} (eqb (get_or codes k 0) 0) 0 1 (eq-eqb (get_or codes k 0) 0 was) in
-          let now : get_or (set codes place (wave + 1)) k 0 ≡ wave + 1 = subst (λ x. get_or (set codes place (wave + 1)) x 0 ≡ wave + 1) e (get_or-set_same codes place (wave + 1) 0 inside) in
-          let one_now : cond {A = ℕ} (eqb (get_or (set codes place (wave + 1)) k 0) 0) 0 1 ≡ 1 = cond-false {A = ℕ} (eqb (get_or (set codes place (wave + 1)) k 0) 0) 0 1 (ne_eqb (get_or (set codes place (wave + 1)) k 0) 0 (λ z. omega (arith, now, z))) in
-          omega (arith, more, one, old, yes_it, zero_before, one_now))
-          (λ (ne : place ≡ k → ⊥).
-          let not_it : cond {A = ℕ} (eqb (first + place) (first + k)) 1 0 ≡ 0 = cond-false {A = ℕ} (eqb (first + place) (first + k)) 1 0 (ne_eqb (first + place) (first + k) (λ z. ne (omega (arith, z)))) in
-          let code : get_or (set codes place (wave + 1)) k 0 ≡ get_or codes k 0 = get_or-set_other codes place k (wave + 1) 0 (λ z. ne (sym z)) in
-          let same : cond {A = ℕ} (eqb (get_or (set codes place (wave + 1)) k 0) 0) 0 1 ≡ cond {A = ℕ} (eqb (get_or codes k 0) 0) 0 1 =
-          ap (λ x. cond {A = ℕ} (eqb x 0) 0 1) code in
-          let old = h.once k inside_old (λ some pos. let le = kept some (omega (arith, code, pos)) in omega (arith, code, le)) in
-          omega (arith, more, one, old, not_it, same))
-          (cases_eq place k);
+          grind (
+            arith,
+            nat_tests,
+            times-append (first + k) decided ((first + place) ∷ []),
+            count-cons (λ y. eqb y (first + k)) (first + place) [],
+            length-set codes place (wave + 1),
+            get_or-set_same codes place (wave + 1) 0 inside,
+            get_or-set_other codes place k (wave + 1) 0,
+            h.once k,
+            kept,
+          );
       order =
           IsNonDecreasingBy-push (code_of first (set codes place (wave + 1))) decided (first + place)
           (λ i j d le l.

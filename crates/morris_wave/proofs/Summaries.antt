@@ -1,14 +1,13 @@
 -- The summary of two lists of codes together, and of a list and one code more.
-use Rattle.std.proofs.Common.{◌≡◌, ℕ, ◌-◌, min, max, Bool, true, ◌||◌, eqb, List, [], ◌∷◌, ◌++◌, Option, Some, None, map, refl, sym, ap, ◌∙◌, inl, inr, arith}
+use Rattle.std.proofs.Common.{◌≡◌, ℕ, ◌-◌, min, max, Bool, ◌||◌, eqb, List, [], ◌∷◌, ◌++◌, Option, Some, None, map, refl, sym, ap, ◌∙◌, arith}
 use Rattle.std.specs.List.{filter}
 use Rattle.std.proofs.lemmas.List.{map-append}
 use Rattle.std.proofs.lemmas.List.Elements.{filter-append}
 use Rattle.std.proofs.lemmas.List.Folds.{list_any-append}
-use Rattle.std.proofs.lemmas.Bool.{cases_Bool, cases_lt, or_right, eq-eqb, ne_eqb, lt-ltb, le-ltb}
+use Rattle.std.proofs.lemmas.Bool.Decides.{nat_tests}
 use Rattle.morris_wave.specs.declared.network.Exits.{Exits}
 use Rattle.morris_wave.specs.Exits.{is_odd, is_won_code, least, greatest, depths, exits_of}
 use Rattle.morris_wave.specs.Summaries.{least_of, greatest_of, added}
-use Rattle.morris_wave.proofs.ExitTests.{or_false, odd_above}
 
 -- ---- the least and the greatest of two lists together, from those of each
 
@@ -70,13 +69,7 @@ exits_of-joined before after one other is other_is lost won drawn e f g = rw (e,
 -- the summary of one code is added
 both-one : (e : Exits) (code : ℕ) → both e (exits_of (code ∷ [])) ≡ added e code
 unfolding added
-both-one e code = elim (cases_Bool (is_odd code)) [
-  | inl odd ↦ rw (odd, ne_eqb code 0 (λ z. omega (arith, z, odd_above code odd)), ← or_false e.drawn) refl
-  | inr even ↦ elim (cases_lt 0 code) [
-    | inl above ↦ rw (even, lt-ltb 0 code above, ne_eqb code 0 (omega arith), ← or_false e.drawn) refl
-    | inr zero ↦ rw (even, le-ltb 0 code zero, eq-eqb code 0 (omega arith), or_right e.drawn true refl) refl
-  ]
-]
+both-one e code = grind (arith, nat_tests)
 
 pub exits_of-more : (codes : List ℕ) (code : ℕ) → exits_of (codes ++ code ∷ []) ≡ added (exits_of codes) code
 exits_of-more codes code = exits_of-append codes (code ∷ []) ∙ both-one (exits_of codes) code
