@@ -1,5 +1,5 @@
 -- The pairs of a board one after the other, and the files of a folder that are verified so.
-use Rattle.std.proofs.Common.{◌≡◌, ℕ, zero, suc, ◌+◌, ◌<◌, ◌≤◌, Bool, true, false, ◌&&◌, leb, List, [], ◌∷◌, length, drop, get_or, refl, sym, ◌∙◌, ap, subst, inl, inr, arith, Option, Some, None, Result, Ok, Err, MatchResult}
+use Rattle.std.proofs.Common.{◌≡◌, ℕ, zero, suc, ◌+◌, ◌<◌, ◌≤◌, Bool, true, false, ◌&&◌, leb, List, [], ◌∷◌, length, drop, get_or, refl, sym, ◌∙◌, ap, subst, inl, inr, arith, Option, Some, None, Result, Ok, Err, IfSome, MatchResult}
 use Rattle.std.specs.List.{filter, list_all, slice_get}
 use Rattle.std.proofs.lemmas.Bool.{and_parts, cases_Bool, both_ways}
 use Rattle.std.proofs.lemmas.List.{drop_more}
@@ -13,16 +13,17 @@ use Rattle.morris_index.specs.declared.faults.PairFault.TheVariants as pairs
 use Rattle.morris_index.specs.Pairs.{Counts, all_pairs, pair_made}
 use Rattle.morris_pairs.specs.Shelves.{Stored}
 use Rattle.morris_pairs.specs.Tables.{Table}
-use Rattle.morris_files.specs.Files.{Files, HasNone}
+use Rattle.morris_pairs.specs.declared.file_faults.ReadFault.TheVariants as read
+use Rattle.morris_files.specs.Files.{Files, HasFailed, HasNone, IsReaderOf}
 use Rattle.morris_files.specs.Files as folder
-use Rattle.morris_files.specs.Kept.{AnswersKept, HasFile}
+use Rattle.morris_files.specs.Kept.{AnswersKept, HasFile, failed_opening}
 use Rattle.morris_files.specs.Names.{name_of}
 use Rattle.morris_files.specs.declared.kept.KeptFault.{KeptFault}
 use Rattle.morris_files.specs.declared.kept.KeptFault.TheVariants as kept
 use Rattle.morris_jobs.specs.declared.fault.Fault.{Fault}
 use Rattle.morris_jobs.specs.Orders.{KeepsNear}
 use Rattle.morris_folder_commands.specs.From.{TakesIn, Verifies, ended, fits, pairs_of}
-use Rattle.morris_folder_commands.specs.FromSteps.{AnswersFile, place_is}
+use Rattle.morris_folder_commands.specs.FromSteps.{AnswersFile, IsAhead, IsReadAhead, place_is}
 
 -- ---- all pairs
 
@@ -110,11 +111,74 @@ answer_before board old new name c (Err kept.Unopened) kept said = tt
 answer_before board old new name c (Err (kept.Refused refused)) kept said = file_before old new name _ kept said
 answer_before board old new name c (Err kept.OtherPair) kept said = (said.0, said.1, file_before old new name _ kept said.2)
 
+pub reader_before : (old new : Option Files) (name : List ℕ) (remaining : Option (List ℕ)) → folder.Keeps old new → IsReaderOf new name remaining
+    → IsReaderOf old name remaining
+reader_before None new name remaining kept is = tt
+reader_before (Some old) None name remaining kept is = absurd kept
+reader_before (Some old) (Some new) name remaining kept is = (is.0, sym (kept name) ∙ is.1, is.2)
+
+pub kept_as_is : (files : Option Files) → folder.Keeps files files
+kept_as_is None = tt
+kept_as_is (Some files) = λ name. refl
+
 pub kept_on : (a b c : Option Files) → folder.Keeps a b → folder.Keeps b c → folder.Keeps a c
 kept_on None b c p q = tt
 kept_on (Some a) None c p q = absurd p
 kept_on (Some a) (Some b) None p q = absurd q
 kept_on (Some a) (Some b) (Some c) p q = λ name. q name ∙ p name
+
+-- ---- what was read ahead
+
+pub some_on : {A : Type 0} (o : Option A) (P Q : A → Type 0) → ((x : A) → P x → Q x) → IfSome o P → IfSome o Q
+some_on None P Q on p = tt
+some_on (Some x) P Q on p = on x p
+
+module _ {R : Type 0} (reading : R → ℕ) (board : Shape) (files : Option Files) (name : List ℕ) (place : ℕ) where
+  -- the pair of a place is one alone
+  same_pair : (c d : Counts) → place_is board place (Some c) → place_is board place (Some d) → d ≡ c
+  same_pair c d is other =
+      let both : Some d ≡ Some c = sym other.0 ∙ is.0 in
+      cc
+
+  pub ahead_opened : (answer : Option (Result (Option Table) KeptFault)) → IsAhead reading board files name place answer
+      → IfSome answer (λ a. failed_opening a ≡ 0)
+  ahead_opened None ahead = tt
+  ahead_opened (Some a) ahead = ahead.2.1
+
+  pub ahead_unread : (answer : Option (Result (Option Table) KeptFault)) → IsAhead reading board files name place answer
+      → IfSome answer (λ a. a ≡ Err (kept.Refused read.Read) → HasFailed reading)
+  ahead_unread None ahead = tt
+  ahead_unread (Some a) ahead = ahead.2.2
+
+  pub ahead_answer : (c : Counts) → place_is board place (Some c) → (answer : Option (Result (Option Table) KeptFault))
+      → IsAhead reading board files name place answer → IfSome answer (AnswersKept board files (name_of name c) c)
+  ahead_answer c is None ahead = tt
+  ahead_answer c is (Some a) ahead = subst (λ d. AnswersKept board files (name_of name d) d a) (same_pair c ahead.0 is ahead.1) ahead.2.0
+
+  -- nothing is known of a place without a pair of the board
+  pub ahead_passes : place_is board place None → (answer : Option (Result (Option Table) KeptFault)) → IsAhead reading board files name place answer
+      → IsAhead reading board files name (place + 1) answer
+  ahead_passes none None ahead = tt
+  ahead_passes none (Some a) ahead =
+      let both : Some none.0 ≡ Some ahead.0 = sym none.1 ∙ ahead.1.0 in
+      let same : none.0 ≡ ahead.0 = cc in
+      let bad : false ≡ true = sym none.2 ∙ ap (fits board) same ∙ ahead.1.1 in
+      cc
+
+  -- what was read is known, or nothing is
+  pub ahead_read : (c : Counts) → place_is board place (Some c) → (known : Option (Result (Option Table) KeptFault)) (answer : Result (Option Table) KeptFault)
+      → IfSome known (λ k. k ≡ answer) → IsReadAhead reading board files (name_of name c) c answer → IsAhead reading board files name place known
+  ahead_read c is None answer same said = tt
+  ahead_read c is (Some k) answer same said = (c, is, subst (IsReadAhead reading board files (name_of name c) c) (sym same) said)
+
+  pub none_ahead : (known : Option (Result (Option Table) KeptFault)) → known ≡ None → IsAhead reading board files name place known
+  none_ahead known none = subst (IsAhead reading board files name place) (sym none) tt
+
+  pub ahead_before : (later : Option Files) → folder.Keeps files later → (answer : Option (Result (Option Table) KeptFault))
+      → IsAhead reading board later name place answer → IsAhead reading board files name place answer
+  ahead_before later kept None ahead = tt
+  ahead_before later kept (Some a) ahead =
+      (ahead.0, ahead.1, (answer_before board files later (name_of name ahead.0) ahead.0 a kept ahead.2.0, ahead.2.1, ahead.2.2))
 
 -- ---- the pairs one after the other
 
@@ -147,32 +211,28 @@ module _ (board : Shape) (files : Option Files) (name : List ℕ) (start : Optio
       subst (λ ps. Leads ps stock found sent here) (next_fits place c is.0 board is.1) leads
 
   module _ (pairs : List Counts) (c : Counts) (stock : Stored) (found : Bool) (sent : ℕ) (here : Option (List ℕ))
-      (leads : Leads (c ∷ pairs) stock found sent here) (near : Stored) (goes : KeepsNear stock near c) (now : Option Files)
-      (kept : folder.Keeps files now) where
-    before : (answer : Result (Option Table) KeptFault) → AnswersKept board now (name_of name c) c answer → AnswersKept board files (name_of name c) c answer
-    before answer said = answer_before board files now (name_of name c) c answer kept said
-
-    -- a file that isn't had, by what is answered of the folder as it then is
-    pub failed_file : (f : Fault) → AnswersFile board now (name_of name c) c (Err f)
+      (leads : Leads (c ∷ pairs) stock found sent here) (near : Stored) (goes : KeepsNear stock near c) where
+    -- a file that isn't had
+    pub failed_file : (f : Fault) → AnswersFile board files (name_of name c) c (Err f)
         → Verifies board files name (pairs_of board) empty false 0 start here (Err f)
     unfolding Verifies
-    failed_file f said = leads here (Err f) (near, goes, (Err said.0, before (Err said.0) said.2, (ap Err said.1, Keeps-refl here)))
+    failed_file f said = leads here (Err f) (near, goes, (Err said.0, said.2, (ap Err said.1, Keeps-refl here)))
 
     -- no file
-    pub missing_file : AnswersFile board now (name_of name c) c (Ok None) → Leads pairs near found sent here
+    pub missing_file : AnswersFile board files (name_of name c) c (Ok None) → Leads pairs near found sent here
     unfolding Verifies
-    missing_file said = λ after result follows. leads after result (near, goes, (Ok None, before (Ok None) said, follows))
+    missing_file said = λ after result follows. leads after result (near, goes, (Ok None, said, follows))
 
-    module _ (t : Table) (answer : AnswersFile board now (name_of name c) c (Ok (Some t))) (joined : Stored) (after : Option (List ℕ)) where
+    module _ (t : Table) (answer : AnswersFile board files (name_of name c) c (Ok (Some t))) (joined : Stored) (after : Option (List ℕ)) where
       -- a table that isn't taken in, or not told of
       pub taken_wrong : (f : Fault) → TakesIn board near joined t sent here after (Err f)
           → Verifies board files name (pairs_of board) empty false 0 start after (Err f)
       unfolding Verifies
       taken_wrong f takes =
-          leads after (Err f) (near, goes, (Ok (Some t), before (Ok (Some t)) answer, (joined, after, Err f, takes, (refl, Keeps-refl after))))
+          leads after (Err f) (near, goes, (Ok (Some t), answer, (joined, after, Err f, takes, (refl, Keeps-refl after))))
 
       -- one that is
       pub taken_on : (n : ℕ) → TakesIn board near joined t sent here after (Ok n) → Leads pairs joined true n after
       unfolding Verifies
       taken_on n takes = λ last result follows.
-          leads last result (near, goes, (Ok (Some t), before (Ok (Some t)) answer, (joined, after, Ok n, takes, follows)))
+          leads last result (near, goes, (Ok (Some t), answer, (joined, after, Ok n, takes, follows)))

@@ -1,15 +1,23 @@
--- How far the headers of the files were read, and the places that are passed before that.
-use Rattle.std.proofs.Common.{◌≡◌, ℕ, ◌+◌, ◌<◌, ◌≤◌, true, false, sym, ap, subst, ◌∙◌, inl, inr, arith, Some, None}
+-- How far the files can be opened, and the places that are passed before that.
+use Rattle.std.proofs.Common.{◌≡◌, ℕ, ◌+◌, ◌-◌, ◌^◌, ◌<◌, ◌≤◌, true, false, sym, ap, subst, ◌∙◌, inl, inr, arith, Some, None}
 use Rattle.std.specs.List.{slice_get}
 use Rattle.std.proofs.lemmas.Bool.{cases_lt}
 use Rattle.std.proofs.lemmas.Option.{slice_get_within}
 use Rattle.morris_board.specs.Boards.{Shape}
 use Rattle.morris_index.specs.Pairs.{all_pairs}
 use Rattle.morris_folder_commands.specs.From.{fits}
-use Rattle.morris_folder_commands.specs.FromSteps.{EndsAt, place_is}
+use Rattle.morris_folder_commands.specs.FromSteps.{EndsAt, StopsAt, place_is}
 use Rattle.morris_folder_commands.proofs.FromLaws.{length-all_pairs}
 
-module _ (board : Shape) (place end old new : ℕ) (ends : EndsAt board end old new) where
+module _ (board : Shape) (end old new : ℕ) (ends : EndsAt board end old new) where
+  -- whoever read the headers knows how far the files can be opened, and left room for a failure
+  pub stops : StopsAt board end old new
+  stops = elim ends [ inl all ↦ inl all | inr one ↦ inr (one.0, one.1, omega (arith, one.2)) ]
+
+  pub room : old < 2 ^ 64 - 1 → new < 2 ^ 64 - 1
+  room low = elim ends [ inl all ↦ omega (arith, low, all.1) | inr one ↦ one.3 ]
+
+module _ (board : Shape) (place end old new : ℕ) (ends : StopsAt board end old new) where
   -- whoever comes past all places came to no file that wasn't opened
   pub all_opened : place ≤ end → 28 ≤ place → new ≡ old
   all_opened ahead past = elim ends [
@@ -43,5 +51,5 @@ module _ (board : Shape) (place end old new : ℕ) (ends : EndsAt board end old 
   ]
 
 -- a later count of failures that is the same
-pub ends_later : (board : Shape) (end old new later : ℕ) → EndsAt board end old new → later ≡ new → EndsAt board end old later
-ends_later board end old new later ends same = subst (EndsAt board end old) (sym same) ends
+pub stops_later : (board : Shape) (end old new later : ℕ) → StopsAt board end old new → later ≡ new → StopsAt board end old later
+stops_later board end old new later stops same = subst (StopsAt board end old) (sym same) stops

@@ -1,11 +1,14 @@
 -- The steps of `verify --from`.
-use Rattle.std.specs.Prelude.{◌≡◌, ℕ, ◌+◌, ◌-◌, ◌^◌, ◌<◌, ◌⊎◌, List, true, false, slice_get, Option, Some, None, Result, Ok, Err}
+use Rattle.std.specs.Prelude.{◌≡◌, ℕ, ◌+◌, ◌-◌, ◌^◌, ◌<◌, ◌⊎◌, ⊤, List, true, false, slice_get, Option, Some, None, Result, Ok, Err}
 use Rattle.morris_board.specs.Boards.{Shape}
 use Rattle.morris_index.specs.Pairs.{Counts, all_pairs}
 use Rattle.morris_pairs.specs.Tables.{Table}
-use Rattle.morris_files.specs.Files.{Files}
-use Rattle.morris_files.specs.Kept.{AnswersKept}
+use Rattle.morris_pairs.specs.declared.file_faults.ReadFault.TheVariants as read
+use Rattle.morris_files.specs.Files.{Files, HasFailed}
+use Rattle.morris_files.specs.Kept.{AnswersKept, failed_opening}
+use Rattle.morris_files.specs.Names.{name_of}
 use Rattle.morris_files.specs.declared.kept.KeptFault.{KeptFault}
+use Rattle.morris_files.specs.declared.kept.KeptFault.TheVariants as kept
 use Rattle.morris_jobs.specs.declared.fault.Fault.{Fault}
 use Rattle.morris_folder_commands.specs.From.{fits, kept_fault}
 
@@ -21,6 +24,27 @@ abbrev pub EndsAt : Shape → ℕ → ℕ → ℕ → Type 0
 EndsAt board end old new =
     ((end ≡ 28) × (new ≡ old))
     ⊎ ((c : Counts) × place_is board end (Some c) × (new ≡ old + 1) × (new < 2 ^ 64 - 1))
+
+-- How far the files can be opened, as far as is known, by the number of failed calls before and now:
+-- past all 28 places, and no call failed; or to that of a pair of the board whose file wasn't opened,
+-- and some call failed.
+abbrev pub StopsAt : Shape → ℕ → ℕ → ℕ → Type 0
+StopsAt board end old new =
+    ((end ≡ 28) × (new ≡ old))
+    ⊎ ((c : Counts) × place_is board end (Some c) × (old < new))
+
+-- What was read ahead of a file of this name: what its reading answers. It was opened, and a read
+-- that failed was one of a reader.
+abbrev pub IsReadAhead : {R : Type 0} → (R → ℕ) → Shape → Option Files → List ℕ → Counts → Result (Option Table) KeptFault → Type 0
+IsReadAhead reading board files name c answer =
+    AnswersKept board files name c answer × (failed_opening answer ≡ 0)
+    × (answer ≡ Err (kept.Refused read.Read) → HasFailed reading)
+
+-- what is known of the file of the pair at a place before its turn: nothing, or what was read ahead
+abbrev pub IsAhead : {R : Type 0} → (R → ℕ) → Shape → Option Files → List ℕ → ℕ → Option (Result (Option Table) KeptFault) → Type 0
+IsAhead reading board files name place None = ⊤
+IsAhead reading board files name place (Some answer) =
+    (c : Counts) × place_is board place (Some c) × IsReadAhead reading board files (name_of name c) c answer
 
 -- what the reading of the file of a pair answers, with its fault
 abbrev pub AnswersFile : Shape → Option Files → List ℕ → Counts → Result (Option Table) Fault → Type 0

@@ -2,6 +2,7 @@
 //! `verify --from`, and over those of an input `verify --all`.
 #![tactic(auto)]
 
+mod ahead;
 pub mod bundle;
 mod entering;
 pub mod from;

@@ -1,10 +1,17 @@
 -- What the folder holds is verified, once the folder is found.
 use Rattle.std.proofs.Common.{Some, false, inr}
 use Rattle.morris_folder_commands.proofs.CauseLaws.{cause_on}
+use Rattle.morris_folder_commands.proofs.FromLaws.{kept_on}
 use Rattle.morris_folder_commands.proofs.from.from_on.Goals as goal
 
 pub returns-in-Ok-clause-answer : goal.returns-in-Ok-clause-answer
-returns-in-Ok-clause-answer g c = inr (g.F.Folder.files c.find.new.self, c.find.ensures.kept, c.verify_found.ensures.answer)
+returns-in-Ok-clause-answer g c =
+    let said = c.verify_found.ensures.answer in
+    inr (
+      said.0,
+      kept_on (g.F.Folder.files c.args.folder.now) (g.F.Folder.files c.find.new.self) said.0 c.find.ensures.kept said.1,
+      said.2,
+    )
 
 pub returns-in-Ok-clause-caused : goal.returns-in-Ok-clause-caused
 returns-in-Ok-clause-caused g c =

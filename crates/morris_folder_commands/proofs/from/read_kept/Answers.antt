@@ -14,7 +14,7 @@ returns-in-Err-Refused-clause-caused g c =
     let reading = g.F.Reader.Source.failures in
     let writing = g.F.Writer.Sink.failures in
     let old = g.F.Folder.failures c.args.folder.now in
-    let new = g.F.Folder.failures c.read_table_file.new.folder in
+    let new = g.F.Folder.failures c.read_or_known.new.folder in
     let is : c.in_file.result ≡ in_file c.args.pair (read_fault c.in-Err-Refused.refused) = c.in_file.ensures ∙ ap (in_file c.args.pair) c.from.ensures in
     subst (IsCaused reading writing (Some false) ⊥ old new) (sym is)
     (refused_caused reading writing (Some false) ⊥ old new c.args.pair c.in-Err-Refused.refused
