@@ -170,7 +170,13 @@ fn take_in_reading<B: Board, R: Threads + Sync, S: Source + Send, O: Sink, T: Te
 
 /// Takes a table in, as [`take_in`] does, and reads the file that was opened ahead meanwhile, where
 /// one was.
-pub(crate) fn take_in_beside<B: Board, R: Threads + Sync, S: Source + Send + Drop, O: Sink, T: Teller>(
+pub(crate) fn take_in_beside<
+    B: Board,
+    R: Threads + Sync,
+    S: Source + Send + Drop,
+    O: Sink,
+    T: Teller,
+>(
     crew: Crew<'_, R>,
     stock: &mut TableSet<B>,
     raw: Raw<B>,

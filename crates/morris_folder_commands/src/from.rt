@@ -38,8 +38,8 @@ use std::thread::Threads;
 /// the game, over the tables before it. A table rests on those of the pairs that its pair needs,
 /// whose files have to be there; before the file of a pair is read the tables are let go that
 /// neither it needs nor any pair after it. The workers of a team share its entries out among them,
-/// and where they are more than one, the file of the next pair is read meanwhile, by a thread of its
-/// own. What comes of that is told in its turn; where memory is refused for it, it is read then.
+/// and where they are more than one, the file of the next pair is read meanwhile, by a thread of
+/// its own. What comes of that is told in its turn; if memory is refused for it, it is read then.
 /// Where anyone is told, the header of each file is read first, so that it is known how much there
 /// is to do.
 ///
@@ -122,9 +122,7 @@ where
     let mut stock: TableSet<B> = TableSet::new(crew.alloc)?;
     let end = look_ahead::<B, F, T>(crew.alloc, board, folder, teller)?;
     let mut ahead = Ahead { end, answer: None };
-    verify_pairs(
-        crew, board, &mut stock, &mut ahead, folder, output, teller,
-    )
+    verify_pairs(crew, board, &mut stock, &mut ahead, folder, output, teller)
 }
 
 /// Verifies the tables of all pairs, over a stock without tables, where nothing was read ahead.
@@ -178,7 +176,7 @@ pub(crate) fn ended(found: bool) -> Result<(), Fault>
     if found { Ok(()) } else { Err(Fault::NoFiles) }
 }
 
-/// What the reading of the file of a pair answers: what is known of it, or else what it answers now.
+/// What the reading of the file of a pair answers: what is known of it, or what it answers now.
 fn read_or_known<B: Geometry, F: Folder>(
     alloc: Global,
     board: &str,

@@ -1,5 +1,5 @@
 -- What is known of the next file is what was read of it.
-use Rattle.std.proofs.Common.{◌≡◌, ◌-◌, ◌^◌, ◌<◌, arith, ap, rules, subst, sym}
+use Rattle.std.proofs.Common.{◌≡◌, rules}
 use Rattle.morris_files.specs.Files.{IsReaderOf}
 use Rattle.morris_files.specs.Names.{name_of}
 use Rattle.morris_folder_commands.proofs.FromLaws.{ahead_read}

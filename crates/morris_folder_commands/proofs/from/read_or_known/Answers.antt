@@ -1,5 +1,4 @@
 -- What is known, or what is answered of the folder as it is.
-use Rattle.std.proofs.Common.{◌≡◌, arith}
 use Rattle.morris_files.specs.Names.{name_of}
 use Rattle.morris_folder_commands.proofs.FromLaws.{answer_before}
 use Rattle.morris_folder_commands.proofs.from.read_or_known.Goals as goal

@@ -1,5 +1,5 @@
 -- The files are those that the folder has once the headers were read.
-use Rattle.std.proofs.Common.{◌≡◌, ℕ, Some, false, refl, inl, inr}
+use Rattle.std.proofs.Common.{ℕ, refl, inl, inr}
 use Rattle.std.proofs.lemmas.Result.{err_from_is_err_and}
 use Rattle.std.proofs.KnownBytes.{Keeps-refl}
 use Rattle.morris_jobs.specs.Inputs.{MayFail}
@@ -12,7 +12,7 @@ pub verify_pairs-requires-clause-room : goal.verify_pairs-requires-clause-room
 verify_pairs-requires-clause-room g c κs within =
     let new = g.F.Folder.failures c.look_ahead.new.folder in
     let may_fail : MayFail new (g.O.Sink.failures c.args.output.now) =
-        (room g.B.Geometry.shape c.in_ok-end.end (g.F.Folder.failures c.args.folder.now) new c.in_ok-end.ensures.end c.requires.room.0, c.requires.room.1) in
+    (room g.B.Geometry.shape c.in_ok-end.end (g.F.Folder.failures c.args.folder.now) new c.in_ok-end.ensures.end c.requires.room.0, c.requires.room.1) in
     may_fail
 
 pub verify_pairs-requires-clause-stops : goal.verify_pairs-requires-clause-stops
@@ -20,7 +20,7 @@ verify_pairs-requires-clause-stops g c κs within =
     let old = g.F.Folder.failures c.args.folder.now in
     let new = g.F.Folder.failures c.look_ahead.new.folder in
     let some : (before : ℕ) × StopsAt g.B.Geometry.shape c.in_ok-end.end before new =
-        (old, stops g.B.Geometry.shape c.in_ok-end.end old new c.in_ok-end.ensures.end) in
+    (old, stops g.B.Geometry.shape c.in_ok-end.end old new c.in_ok-end.ensures.end) in
     some
 
 pub returns-clause-answer : goal.returns-clause-answer

@@ -97,8 +97,8 @@ returns-in_err-raw-clause-answer g c =
     let leads = take_pair board files name old empty l.place c.in-Some.pair l.stock l.found l.sent out c.in-Some.ensures.pair l.invariant.leads in
     let same_answer : c.take-known.result ≡ l.ahead.answer = search rules in
     let known =
-        subst (λ a. IfSome a (AnswersKept board files (name_of name c.in-Some.pair) c.in-Some.pair)) (sym same_answer)
-        (ahead_answer g.F.Reader.Source.failures board files name l.place c.in-Some.pair c.in-Some.ensures.pair l.ahead.answer l.invariant.known) in
+    subst (λ a. IfSome a (AnswersKept board files (name_of name c.in-Some.pair) c.in-Some.pair)) (sym same_answer)
+    (ahead_answer g.F.Reader.Source.failures board files name l.place c.in-Some.pair c.in-Some.ensures.pair l.ahead.answer l.invariant.known) in
     rw (failed.1, failed.2)
     (failed_file board files name old empty _ c.in-Some.pair l.stock l.found l.sent out leads c.spare.new.stock (c.spare.ensures.gone refl) _
     (c.in_err-raw.ensures.answer files l.invariant.kept known))
@@ -116,8 +116,8 @@ loop-place-preserved-in_default-2 g c =
     let leads = take_pair board files name old empty l.place c.in-Some.pair l.stock l.found l.sent out c.in-Some.ensures.pair l.invariant.leads in
     let same_answer : c.take-known.result ≡ l.ahead.answer = search rules in
     let known =
-        subst (λ a. IfSome a (AnswersKept board files (name_of name c.in-Some.pair) c.in-Some.pair)) (sym same_answer)
-        (ahead_answer g.F.Reader.Source.failures board files name l.place c.in-Some.pair c.in-Some.ensures.pair l.ahead.answer l.invariant.known) in
+    subst (λ a. IfSome a (AnswersKept board files (name_of name c.in-Some.pair) c.in-Some.pair)) (sym same_answer)
+    (ahead_answer g.F.Reader.Source.failures board files name l.place c.in-Some.pair c.in-Some.ensures.pair l.ahead.answer l.invariant.known) in
     record {
       leads =
           missing_file board files name old empty _ c.in-Some.pair l.stock l.found l.sent out leads c.spare.new.stock (c.spare.ensures.gone refl)
@@ -149,8 +149,8 @@ returns-in_err-sent-clause-answer g c =
     let leads = take_pair board files name old empty l.place c.in-Some.pair l.stock l.found l.sent out c.in-Some.ensures.pair l.invariant.leads in
     let same_answer : c.take-known.result ≡ l.ahead.answer = search rules in
     let known =
-        subst (λ a. IfSome a (AnswersKept board files (name_of name c.in-Some.pair) c.in-Some.pair)) (sym same_answer)
-        (ahead_answer g.F.Reader.Source.failures board files name l.place c.in-Some.pair c.in-Some.ensures.pair l.ahead.answer l.invariant.known) in
+    subst (λ a. IfSome a (AnswersKept board files (name_of name c.in-Some.pair) c.in-Some.pair)) (sym same_answer)
+    (ahead_answer g.F.Reader.Source.failures board files name l.place c.in-Some.pair c.in-Some.ensures.pair l.ahead.answer l.invariant.known) in
     rw (failed.1, failed.2)
     (taken_wrong board files name old empty _ c.in-Some.pair l.stock l.found l.sent out leads c.spare.new.stock (c.spare.ensures.gone refl)
     c.in-Some-2.raw (rw c.in-Some-2.is at c.in_ok-raw.ensures.answer files l.invariant.kept known) _ _ _ c.in_err-sent.ensures.taken)
@@ -169,8 +169,8 @@ loop-place-preserved g c =
     let leads = take_pair board files name old empty l.place c.in-Some.pair l.stock l.found l.sent out c.in-Some.ensures.pair l.invariant.leads in
     let same_answer : c.take-known.result ≡ l.ahead.answer = search rules in
     let known =
-        subst (λ a. IfSome a (AnswersKept board files (name_of name c.in-Some.pair) c.in-Some.pair)) (sym same_answer)
-        (ahead_answer reading board files name l.place c.in-Some.pair c.in-Some.ensures.pair l.ahead.answer l.invariant.known) in
+    subst (λ a. IfSome a (AnswersKept board files (name_of name c.in-Some.pair) c.in-Some.pair)) (sym same_answer)
+    (ahead_answer reading board files name l.place c.in-Some.pair c.in-Some.ensures.pair l.ahead.answer l.invariant.known) in
     let now = g.F.Folder.files c.read_kept.new.folder in
     let same = kept_on files (g.F.Folder.files l.folder) now l.invariant.kept c.read_kept.ensures.kept in
     let next = l.place + 1 in
@@ -232,8 +232,8 @@ returns-in_err-raw-clause-caused g c = λ before stops.
     let new = g.F.Folder.failures c.read_kept.new.folder in
     let same_answer : c.take-known.result ≡ l.ahead.answer = search rules in
     let known =
-        subst (λ a. IfSome a (AnswersKept board files (name_of c.args.board.now c.in-Some.pair) c.in-Some.pair)) (sym same_answer)
-        (ahead_answer g.F.Reader.Source.failures board files c.args.board.now l.place c.in-Some.pair c.in-Some.ensures.pair l.ahead.answer l.invariant.known) in
+    subst (λ a. IfSome a (AnswersKept board files (name_of c.args.board.now c.in-Some.pair) c.in-Some.pair)) (sym same_answer)
+    (ahead_answer g.F.Reader.Source.failures board files c.args.board.now l.place c.in-Some.pair c.in-Some.ensures.pair l.ahead.answer l.invariant.known) in
     let why = c.in_err-raw.ensures.answer files l.invariant.kept known in
     rw (failed.1, failed.2)
     (file_caused g.F.Reader.Source.failures g.F.Writer.Sink.failures (Some false) ⊥ before new mid
