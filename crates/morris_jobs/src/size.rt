@@ -132,7 +132,7 @@ impl Size {
 }
 
 /// How much there is to do where the tables of the files of a folder are verified in the order of
-/// pairs. A table is let go once no pair to come needs it.
+/// pairs. A table is let go once no pair to come needs it, after the next one was read.
 #[derive(Clone, Copy, Debug)]
 pub struct FolderSize {
     /// That of the files so far.
@@ -153,10 +153,10 @@ impl FolderSize {
         ensures { self.size.entries + entries < 2 ^ 64 → result.size.entries ≡ self.size.entries + entries }
     {
         let table = CODE.saturating_mul(entries);
-        let near = self.near.before(pair).with(table);
+        let at_once = self.near.bytes().saturating_add(table);
         FolderSize {
-            size: self.size.with(entries, VERIFIED, near.bytes()),
-            near,
+            size: self.size.with(entries, VERIFIED, at_once),
+            near: self.near.before(pair).with(table),
         }
     }
 }
