@@ -2,7 +2,6 @@ pub mod BinomialTable
 pub mod ChooseLaws
 pub mod RankLaws
 pub mod Moving
-pub mod PartTables
 pub mod SetLaws
 pub mod Highest
 pub mod Unranking

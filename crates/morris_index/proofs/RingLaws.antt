@@ -1,14 +1,13 @@
 -- Squeezed sets grow by a ring of eight points at a time.
-use Rattle.std.proofs.Common.{◌≡◌, ℕ, zero, suc, ◌+◌, ◌-◌, ◌*◌, ◌/◌, ◌%◌, ◌^◌, ◌<◌, refl, sym, ◌∙◌, ap, ap₂, inl, inr, arith, lit<, pow-suc}
+use Rattle.std.proofs.Common.{◌≡◌, ℕ, zero, suc, ◌+◌, ◌*◌, ◌/◌, ◌%◌, ◌^◌, ◌<◌, ◌≤◌, true, false, not, ◌&&◌, refl, sym, ◌∙◌, ap, ap₂, inl, inr, arith, lit<, pow-suc}
 use Rattle.std.proofs.lemmas.Bool.{cases_Bool}
 use Rattle.std.proofs.Math.Nat.{mod-eq_of_lt, pow-le-pow_right}
 use Rattle.morris_board.specs.Sets.{has}
 use Rattle.morris_index.specs.Numbering.{number_outside}
 use Rattle.morris_index.specs.Parts.{weight, squeezed_below}
-use Rattle.morris_index.proofs.RankLaws.{count_below, number-zero, number-outside, number-inside, number-count}
-use Rattle.morris_index.proofs.Moving.{total-zero, total-suc}
-use Rattle.morris_index.proofs.NumberLaws.{numbers_end}
-use Rattle.morris_index.proofs.Squeezing.{has-part, squeezed-part, mask-none, squeezed-next, number-next}
+use Rattle.morris_index.proofs.RankLaws.{number-zero, number-outside, number-inside, number-count}
+use Rattle.morris_index.proofs.Moving.{total, total-zero, total-suc}
+use Rattle.morris_index.proofs.Squeezing.{has-part, squeezed-part, mask-none}
 
 -- the numbers are those of free points, also where the sets have points in common
 pub squeezed_lt : (outside set n : ℕ) → squeezed_below outside set n < 2 ^ number_outside outside n
@@ -31,51 +30,33 @@ squeezed_lt outside set (suc n) =
       ])
     ]
 
--- ---- a ring as two parts of six points
+-- ---- a ring, point by point
 
-pub squeezed-ring : (outside set : ℕ) → outside < 256 → set < 256
-    → squeezed_below outside set 8
-    ≡ squeezed_below (outside % 64) (set % 64) 6 + squeezed_below (outside / 64) (set / 64) 6 * 2 ^ (6 - count_below (has (outside % 64)) 6)
-squeezed-ring outside set o_low s_low =
-    let o_first : outside / 2 ^ (6 * 0) % 64 ≡ outside % 64 = omega arith in
-    let s_first : set / 2 ^ (6 * 0) % 64 ≡ set % 64 = omega arith in
-    let o_next : outside / 2 ^ (6 * 1) % 64 ≡ outside / 64 = omega arith in
-    let s_next : set / 2 ^ (6 * 1) % 64 ≡ set / 64 = omega arith in
-    let first : squeezed_below outside set 6 ≡ squeezed_below (outside % 64) (set % 64) 6 =
+module _ (outside set p : ℕ) where
+  next : squeezed_below outside set (p + 1) ≡ squeezed_below outside set p + weight outside set p
+  unfolding squeezed_below
+  next = let e : p + 1 ≡ suc p = omega arith in ap (total (weight outside set)) e ∙ total-suc (weight outside set) p
+
+  pub squeezed-with : (n squeezed : ℕ) → p < 8 → squeezed ≡ squeezed_below outside set p → (has set p && not (has outside p)) ≡ true → n ≡ number_outside outside p
+      → squeezed + 1 * 2 ^ n % 256 ≡ squeezed_below outside set (p + 1)
+  squeezed-with n squeezed low before here is =
+      let one : weight outside set p ≡ 2 ^ n = rw here (ap (λ k. 2 ^ k) (sym is)) in
+      let small = pow-le-pow_right {n = 2} (omega arith) {i = n} {j = 7} (omega (arith, is, number-count outside p)) in
+      let kept : 1 * 2 ^ n % 256 ≡ 1 * 2 ^ n = mod-eq_of_lt (omega (arith, small)) in
+      omega (arith, next, before, one, kept)
+
+  pub squeezed-without : (squeezed : ℕ) → squeezed ≡ squeezed_below outside set p → (has set p && not (has outside p)) ≡ false → squeezed ≡ squeezed_below outside set (p + 1)
+  squeezed-without squeezed before none =
+      let nothing : weight outside set p ≡ 0 = rw none refl in
+      omega (arith, next, before, nothing)
+
+pub squeezed_fits : (outside set p : ℕ) → p ≤ 8 → squeezed_below outside set p < 256
+squeezed_fits outside set p low =
     omega (
       arith,
-      squeezed-next outside set 0,
-      mask-none outside set,
-      ap (λ k. squeezed_below (outside / 2 ^ (6 * 0) % 64) (set / 2 ^ (6 * 0) % 64) 6 * 2 ^ k) (number-zero outside),
-      ap₂ (λ o s. squeezed_below o s 6) o_first s_first,
-    ) in
-    let number : number_outside outside 6 ≡ 6 - count_below (has (outside % 64)) 6 =
-    omega (arith, number-next outside 0, number-zero outside, ap (λ o. count_below (has o) 6) o_first) in
-    let second : squeezed_below outside set 12 ≡ squeezed_below outside set 6 + squeezed_below (outside / 64) (set / 64) 6 * 2 ^ number_outside outside 6 =
-    squeezed-next outside set 1
-    ∙ ap₂ (λ o s. squeezed_below outside set 6 + squeezed_below o s 6 * 2 ^ number_outside outside 6) o_next s_next in
-    sym (numbers_end outside set 8 4 s_low)
-    ∙ second
-    ∙ ap₂ (λ a k. a + squeezed_below (outside / 64) (set / 64) 6 * 2 ^ k) first number
-
-pub ring_small : (outside set : ℕ) → squeezed_below outside set 8 < 256
-ring_small outside set =
-    omega (
-      arith,
-      squeezed_lt outside set 8,
-      pow-le-pow_right {n = 2} (omega arith) {i = number_outside outside 8} {j = 8} (omega (arith, number-count outside 8)),
+      squeezed_lt outside set p,
+      pow-le-pow_right {n = 2} (omega arith) {i = number_outside outside p} {j = 8} (omega (arith, number-count outside p)),
     )
-
--- what the code adds up
-pub ring_sum : (outside set lower upper size : ℕ) → outside < 256 → set < 256 → lower ≡ squeezed_below (outside % 64) (set % 64) 6
-    → upper ≡ squeezed_below (outside / 64) (set / 64) 6 → size ≡ count_below (has (outside % 64)) 6
-    → lower + upper * 2 ^ (6 - size) % 4294967296 ≡ squeezed_below outside set 8
-ring_sum outside set lower upper size o_low s_low lower_is upper_is size_is =
-    let product : upper * 2 ^ (6 - size) ≡ squeezed_below (outside / 64) (set / 64) 6 * 2 ^ (6 - count_below (has (outside % 64)) 6) =
-    ap₂ (λ a k. a * 2 ^ (6 - k)) upper_is size_is in
-    let whole = squeezed-ring outside set o_low s_low in
-    let kept : upper * 2 ^ (6 - size) % 4294967296 ≡ upper * 2 ^ (6 - size) = mod-eq_of_lt (omega (arith, product, whole, ring_small outside set)) in
-    omega (arith, kept, product, whole, lower_is)
 
 -- ---- the three rings of a board
 

@@ -6,16 +6,15 @@ use Rattle.std.proofs.lemmas.Nat.{div-add-mod', pow-add}
 use Rattle.std.proofs.lemmas.Nat.Bits.{bit_at_cat_low, bit_at_cat_high}
 use Rattle.std.proofs.Math.Nat.{mod-lt, pow-le-pow_right}
 use Rattle.std.specs.Int.{bit_at}
-use Rattle.morris_board.specs.Sets.{has, members, count_of}
+use Rattle.morris_board.specs.Sets.{has, members}
 use Rattle.morris_board.proofs.PointsLaws.{has-above}
 use Rattle.morris_index.specs.Binomials.{choose}
 use Rattle.morris_index.specs.Numbering.{rank_of, number_outside}
 use Rattle.morris_index.specs.Sums.{total, term}
 use Rattle.morris_index.specs.Parts.{weight, squeezed_below, part_rank}
 use Rattle.morris_index.proofs.ChooseLaws.{pow-pos}
-use Rattle.morris_index.proofs.RankLaws.{count_below, count-none, count-yes, count-no, number-zero, number-outside, number-inside, number-count, rank_below, rank-yes, rank-no, count_more}
+use Rattle.morris_index.proofs.RankLaws.{count_below, count-none, count-yes, count-no, number-zero, number-outside, number-inside, number-count, rank_below, rank-yes, rank-no}
 use Rattle.morris_index.proofs.Moving.{total-zero, total-suc, rank-zero}
-use Rattle.morris_index.proofs.SetLaws.{count_of-below}
 use Rattle.morris_index.proofs.IndexLaws.{number_outside-none}
 use Rattle.morris_index.proofs.Following.{count-same, rank-same_below, rank_set}
 
@@ -209,16 +208,6 @@ module _ (outside set : ℕ) where
     squeezed-24 n low =
         omega (arith, (squeezed-is n).within, pow-le-pow_right {n = 2} (omega arith) {i = number_outside outside n} {j = 24} (omega (arith, number-count outside n)))
 
-    pub squeezed-few : set < 2 ^ 24 → count_of set ≤ 9 → count_of (squeezed_below outside set 24) ≤ 9
-    squeezed-few within few =
-        omega (
-          arith,
-          count_of-below (squeezed_below outside set 24) (number_outside outside 24) (squeezed-is 24).within (omega (arith, number-count outside 24)),
-          (squeezed-is 24).counted,
-          count_of-below set 24 within (omega arith),
-          few,
-        )
-
     pub squeezed-rank : set < 2 ^ 24
         → rank_of (map (number_outside 0) (members (squeezed_below outside set 24))) ≡ rank_of (map (number_outside outside) (members set))
     squeezed-rank within =
@@ -226,7 +215,7 @@ module _ (outside set : ℕ) where
         ∙ (squeezed-is 24).ranked
         ∙ sym (rank_set 24 outside (omega arith) set within)
 
--- ---- the four parts of a board
+-- ---- the parts of a board
 
 -- what the points from a start on add
 module _ (set start width : ℕ) where
@@ -237,59 +226,3 @@ module _ (set start width : ℕ) where
       ≡ rank_below 0 (has set) start + part_rank start width (count_below (has set) start) (set / 2 ^ start % 2 ^ width)
   unfolding part_rank
   rank-from = rank-part (has set) (has (set / 2 ^ start % 2 ^ width)) start width (has-part set start width) width (omega arith)
-
--- what a part adds
-module _ (set part : ℕ) where
-  abbrev points : ℕ
-  points = set / 2 ^ (6 * part) % 64
-
-  next : 6 * part + 6 ≡ 6 * (part + 1)
-  next = omega arith
-
-  pub count-next : count_below (has set) (6 * (part + 1)) ≡ count_below (has set) (6 * part) + count_below (has points) 6
-  count-next = ap (count_below (has set)) (sym next) ∙ count-from set (6 * part) 6
-
-  pub rank-next : rank_below 0 (has set) (6 * (part + 1))
-      ≡ rank_below 0 (has set) (6 * part) + part_rank (6 * part) 6 (count_below (has set) (6 * part)) points
-  rank-next = ap (rank_below 0 (has set)) (sym next) ∙ rank-from set (6 * part) 6
-
-  pub number-next : number_outside set (6 * (part + 1)) ≡ number_outside set (6 * part) + (6 - count_below (has points) 6)
-  number-next =
-      omega (
-        arith,
-        ap (number_outside set) (sym next) ∙ number-part set points (6 * part) 6 (has-part set (6 * part) 6) 6 (omega arith),
-        number-count points 6,
-      )
-
-pub squeezed-next : (outside set part : ℕ)
-    → squeezed_below outside set (6 * (part + 1))
-    ≡ squeezed_below outside set (6 * part) + squeezed_below (points outside part) (points set part) 6 * 2 ^ number_outside outside (6 * part)
-squeezed-next outside set part =
-    ap (squeezed_below outside set) (sym (next set part))
-    ∙ squeezed-part outside (points outside part) (6 * part) 6 (has-part outside (6 * part) 6) set (points set part) (has-part set (6 * part) 6) 6 (omega arith)
-
--- no more points stand in the parts so far than the set has
-pub few_so_far : (set part : ℕ) → set < 2 ^ 24 → count_of set ≤ 9 → part < 4 → count_below (has set) (6 * part) + count_below (has (points set part)) 6 ≤ 9
-few_so_far set part within few low =
-    let e : (24 - 6 * (part + 1)) + 6 * (part + 1) ≡ 24 = omega arith in
-    omega (
-      arith,
-      count-next set part,
-      count_more (has set) (6 * (part + 1)) (24 - 6 * (part + 1)),
-      ap (count_below (has set)) e,
-      count_of-below set 24 within (omega arith),
-      few,
-    )
-
--- a part of the squeezed set, moved to the numbers that come next, fits a mask
-pub record IsMovedUp (outside set part : ℕ) : Type 0 where
-  pub numbered : number_outside outside (6 * part) ≤ 18
-  pub sized : count_below (has (points outside part)) 6 ≤ 6
-  pub fits : squeezed_below outside set (6 * part) + squeezed_below (points outside part) (points set part) 6 * 2 ^ number_outside outside (6 * part) < 2 ^ 24
-
-pub moved_up : (outside set part : ℕ) → ((p : ℕ) → has set p ≡ true → has outside p ≡ false) → part < 4 → IsMovedUp outside set part
-moved_up outside set part apart low = record {
-  numbered = omega (arith, number-count outside (6 * part));
-  sized = omega (arith, number-count (points outside part) 6);
-  fits = omega (arith, squeezed-next outside set part, squeezed-24 outside set apart (6 * (part + 1)) (omega arith));
-}

@@ -309,25 +309,35 @@ module _ (outside s u v : ℕ) (within : s < 2 ^ 24) (apart : (p : ℕ) → has 
 -- ---- the loops over the stones
 
 -- a stone p of s, where `before` are the stones before it
-pub record IsNext (s p : ℕ) (before : List ℕ) : Type 0 where
-  pub low : p < 24
-  pub few : length before + 1 ≤ 9
+pub record IsNext (s n p : ℕ) (before : List ℕ) : Type 0 where
+  pub low : p < n
+  pub few : length before + 1 ≤ count_of s
   pub here : has s p ≡ true
   pub at : count_below (has s) p ≡ length before
 
-pub next_point : (s p : ℕ) (before after left : List ℕ) → s < 2 ^ 24 → count_of s ≤ 9 → before ++ left ≡ members s → left ≡ p ∷ after → IsNext s p before
+pub next_point : (s n p : ℕ) (before after left : List ℕ) → s < 2 ^ n → n ≤ 32 → before ++ left ≡ members s → left ≡ p ∷ after → IsNext s n p before
 unfolding count_of
-next_point s p before after left within few split step =
+next_point s n p before after left within fits split step =
     let cut : before ++ p ∷ after ≡ members s = ap (λ t. before ++ t) (sym step) ∙ split in
-    let stands = point_at s 24 p before after within (omega arith) cut in
+    let stands = point_at s n p before after within fits cut in
     record {
-      low = member_lt s 24 p before after within cut;
-      few = omega (arith, few, ap length cut, length-append before (p ∷ after));
+      low = member_lt s n p before after within cut;
+      few = omega (arith, ap length cut, length-append before (p ∷ after));
       here = stands.0;
       at = stands.1;
     }
 
--- where no stone is left, all are passed
+-- where no stone is left, the stones before are all
+pub counted_all : (s : ℕ) (before left : List ℕ) → before ++ left ≡ members s → left ≡ [] → count_of s ≡ length before
+unfolding count_of
+counted_all s before left split none = omega (arith, ap length split, length-append before left, ap length none)
+
+-- and the sum over them is that over all points
+pub summed-all : (s n : ℕ) (number : ℕ → ℕ) (first sum : ℕ) (before left : List ℕ) → s < 2 ^ n → n ≤ 32 → before ++ left ≡ members s → left ≡ []
+    → IsSummed s number first (length before) sum → sum ≡ sum_below s number first n
+summed-all s n number first sum before left within fits split none summed =
+    summed.each n (sym (count_of-below s n within fits) ∙ counted_all s before left split none)
+
 pub all_passed : (s : ℕ) (before left : List ℕ) → s < 2 ^ 24 → before ++ left ≡ members s → left ≡ [] → (n : ℕ) → n ≤ 24
     → (count_below (has s) n ≤ length before) × (count_below (has s) 24 ≡ length before)
 unfolding count_of

@@ -1,4 +1,4 @@
--- Sets of points read part by part, six, eight or twelve points at a time.
+-- Sets of points read part by part, eight or twelve points at a time.
 use Rattle.std.specs.Prelude.{◌≡◌, ℕ, ◌+◌, ◌-◌, ◌*◌, ◌^◌, ◌<◌, ◌≤◌, ◌&&◌, not, if◌then◌else◌, List, length, slice_index}
 use Rattle.morris_board.specs.Sets.{has}
 use Rattle.morris_index.specs.Numbering.{count_below, number_outside}

@@ -13,8 +13,6 @@ pub mod falls;
 pub mod faults;
 mod halves;
 pub mod pair;
-mod part_tables;
-mod parts;
 pub mod predecessor_entries;
 pub mod predecessors;
 mod rank_tables;

@@ -4,7 +4,7 @@ ghost use Rattle.morris_board.specs.Sets.{has, members, count_of};
 ghost use Rattle.morris_index.specs.Numbering.{count_below, rank_of, number_outside};
 ghost use Rattle.morris_index.specs.Parts.{part_rank, IsRankTable};
 
-use crate::parts::{part_rank, part_size};
+use crate::binomials::binomial;
 use crate::rings::{Outside, RingTable};
 use morris_board::points::Points;
 use std::alloc::{AllocError, Global};
@@ -32,13 +32,17 @@ fn half_rank(half: u8, place: u8, points: u32) -> u32
     requires place { place ≤ 9 }
     ensures { place + count_below (has points) 12 ≤ 9 → result ≡ part_rank (12 * half) 12 place points }
 {
-    let lower = points % 64;
-    let upper = points / 64;
-    let placed = place + part_size(lower);
-    if placed + part_size(upper) > 9 {
+    let set = Points::from_mask(points);
+    if place + set.count() > 9 {
         return 0;
     }
-    (part_rank(2 * half, place, lower) + part_rank(2 * half + 1, placed, upper)) as u32
+    let mut rank = 0;
+    let mut placed = place;
+    for point in set.iter() {
+        placed += 1;
+        rank += binomial(12 * half + point, placed);
+    }
+    rank as u32
 }
 
 /// What the points 12 to 23 of a set of `count` points add to its rank; 0 where they are more.

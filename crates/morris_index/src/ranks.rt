@@ -5,54 +5,38 @@ ghost use Rattle.morris_index.specs.Binomials.{choose};
 ghost use Rattle.morris_index.specs.Numbering.{rank_of, number_outside, IsRanked};
 ghost use Rattle.morris_index.specs.Parts.{squeezed_below};
 
-use crate::binomials::highest;
-use crate::parts::{part_rank, part_size, squeezed_part};
+use crate::binomials::{binomial, highest};
 use morris_board::points::Points;
 
 /// The rank of `set` among the sets of as many points.
+#[inline]
 pub fn rank(set: Points) -> u64
     requires board { set < 2 ^ 24 }
     requires few { count_of set ≤ 9 }
-    ensures { result ≡ rank_of (map (number_outside 0) (members set)) }
+    ensures value { result ≡ rank_of (map (number_outside 0) (members set)) }
+    ensures few { result < 2 ^ 25 }
 {
-    let mut place = 0;
+    rank_outside(set, Points::EMPTY)
+}
+
+/// The rank of `set` among the sets of as many points that have none in common with `outside`.
+#[inline]
+pub fn rank_outside(set: Points, outside: Points) -> u64
+    requires board { set < 2 ^ 24 }
+    requires few { count_of set ≤ 9 }
+    ensures value { result ≡ rank_of (map (number_outside outside) (members set)) }
+    ensures few { result < 2 ^ 25 }
+{
     let mut rank = 0;
-    for part in 0..4 {
-        let points = (set.mask() >> (6 * part)) % 64;
-        rank += part_rank(part, place, points);
-        place += part_size(points);
+    let mut place = 0;
+    for point in set.iter() {
+        place += 1;
+        rank += binomial(number_outside(outside, point), place);
     }
     rank
 }
 
-/// The rank of `set` among the sets of as many points that have none in common with `outside`.
-pub fn rank_outside(set: Points, outside: Points) -> u64
-    requires board { set < 2 ^ 24 }
-    requires few { count_of set ≤ 9 }
-    requires apart { (p : ℕ) → has set p ≡ true → has outside p ≡ false }
-    ensures { result ≡ rank_of (map (number_outside outside) (members set)) }
-{
-    rank(squeezed(set, outside))
-}
-
-/// The set of the numbers of the points of `set` that aren't in `outside`, see [`number_outside`].
-fn squeezed(set: Points, outside: Points) -> Points
-    requires { (p : ℕ) → has set p ≡ true → has outside p ≡ false }
-    ensures { result ≡ squeezed_below outside set 24 }
-{
-    let mut squeezed = 0;
-    let mut number = 0;
-    for part in 0..4_u8 {
-        let points = (set.mask() >> (6 * part)) % 64;
-        let taken = (outside.mask() >> (6 * part)) % 64;
-        squeezed += squeezed_part(taken, points) << number;
-        number += 6 - part_size(taken);
-    }
-    Points::from_mask(squeezed)
-}
-
-/// The set of the points outside `outside` that have these numbers there: what [`squeezed`] makes
-/// of it.
+/// The set of the points outside `outside` that have these numbers there.
 pub(crate) fn spread(numbers: Points, outside: Points) -> Points
     requires board { outside < 2 ^ 24 }
     requires fits { numbers < 2 ^ number_outside outside 24 }

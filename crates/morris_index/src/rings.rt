@@ -6,7 +6,6 @@ ghost use Rattle.morris_board.specs.Sets.{has};
 ghost use Rattle.morris_index.specs.Numbering.{number_outside};
 ghost use Rattle.morris_index.specs.Parts.{squeezed_below, IsRingTable};
 
-use crate::parts::{part_size, squeezed_part};
 use crate::ranks::number_outside;
 use morris_board::points::Points;
 use std::alloc::{AllocError, Global};
@@ -71,9 +70,15 @@ fn squeezed_ring(outside: u32, points: u32) -> u8
     requires points { points < 256 }
     ensures { result ≡ squeezed_below outside points 8 }
 {
-    let lower = squeezed_part(outside % 64, points % 64);
-    let upper = squeezed_part(outside / 64, points / 64);
-    (lower + (upper << (6 - part_size(outside % 64)))) as u8
+    let taken = Points::from_mask(outside);
+    let set = Points::from_mask(points).less(taken);
+    let mut squeezed = 0;
+    for point in 0..8_u8 {
+        if set.has(point) {
+            squeezed += 1 << number_outside(taken, point);
+        }
+    }
+    squeezed
 }
 
 impl RingTable {

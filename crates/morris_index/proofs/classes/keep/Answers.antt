@@ -37,7 +37,7 @@ index-requires g c =
     let differ : representative_of g.B.Geometry.shape c.args.set ≡ c.args.set → ⊥ =
     λ e. c.if-mask.false (c.mask.ensures ∙ c.least_image-least.ensures.image ∙ e ∙ sym c.mask-2.ensures) in
     let low = other_rank g.B.Geometry.shape g.B.Geometry.POINTS c.args.count (omega (arith, g.met.B.Geometry.few)) g.met.B.Geometry.point_count g.met.B.Geometry.has_symmetries c.args.rank c.args.set c.requires.ranked (classes_in c.args.kept.now.leads.items) (leading_in c.args.kept.now.leads.items) c.args.kept.now.representatives.items c.requires.before differ in
-    let at : c.rank.result ≡ rank_at (representative_of g.B.Geometry.shape c.args.set) = c.rank.ensures ∙ ap rank_at c.least_image-least.ensures.image in
+    let at : c.rank.result ≡ rank_at (representative_of g.B.Geometry.shape c.args.set) = c.rank.ensures.value ∙ ap rank_at c.least_image-least.ensures.image in
     omega (arith, low, at, c.requires.before.classes_len, length-map c.args.kept.now.leads.items (λ (lead : Lead). lead.class))
 
 pub returns : goal.returns
@@ -63,7 +63,7 @@ returns g c =
           let differ : representative_of g.B.Geometry.shape c.args.set ≡ c.args.set → ⊥ =
           λ e. w.if-mask.false (c.mask.ensures ∙ c.least_image-least.ensures.image ∙ e ∙ sym c.mask-2.ensures) in
           let low = other_rank g.B.Geometry.shape g.B.Geometry.POINTS c.args.count (omega (arith, g.met.B.Geometry.few)) g.met.B.Geometry.point_count g.met.B.Geometry.has_symmetries c.args.rank c.args.set c.requires.ranked (classes_in c.args.kept.now.leads.items) (leading_in c.args.kept.now.leads.items) c.args.kept.now.representatives.items c.requires.before differ in
-          let at : w.rank.result ≡ rank_at (representative_of g.B.Geometry.shape c.args.set) = w.rank.ensures ∙ ap rank_at c.least_image-least.ensures.image in
+          let at : w.rank.result ≡ rank_at (representative_of g.B.Geometry.shape c.args.set) = w.rank.ensures.value ∙ ap rank_at c.least_image-least.ensures.image in
           let under : w.rank.result < length c.args.kept.now.leads.items =
           omega (arith, low, at, c.requires.before.classes_len, length-map c.args.kept.now.leads.items (λ (lead : Lead). lead.class)) in
           let class : w.index.result.now.class ≡ get_or (classes_in c.args.kept.now.leads.items) (rank_at (representative_of g.B.Geometry.shape c.args.set)) 0 =

@@ -4,7 +4,7 @@ use Rattle.morris_board.specs.Positions.{Sides, IsPosition}
 use Rattle.morris_board.specs.Boards.{Shape}
 use Rattle.morris_index.specs.Binomials.{choose}
 use Rattle.morris_index.specs.Numbering.{rank_of, number_outside, half_size, half_index}
-use Rattle.morris_index.proofs.IndexLaws.{IsPlaced, placed, counts_fit, half_index-lt, half_index-few, map_number-none, within_24, other_apart}
+use Rattle.morris_index.proofs.IndexLaws.{IsPlaced, placed, counts_fit, half_index-lt, half_index-few, map_number-none, within_24}
 use Rattle.morris_board.proofs.PositionLaws.{own_count, other_count}
 use Rattle.morris_index.proofs.halves.half_index.Given as given
 use Rattle.morris_index.proofs.halves.half_index.Goals as goal
@@ -55,15 +55,10 @@ rank_outside-requires-clause-board g c =
     rw c.other-other.ensures.points
     (other_small g.B.Geometry.shape g.B.Geometry.POINTS (omega (arith, g.met.B.Geometry.few)) g.met.B.Geometry.point_count c.args.position.now c.own-own.ensures.lawful)
 
-pub rank_outside-requires-clause-apart : goal.rank_outside-requires-clause-apart
-rank_outside-requires-clause-apart g c =
-    rw (c.other-other.ensures.points, c.own-own.ensures.points)
-    (other_apart g.B.Geometry.POINTS (omega (arith, g.met.B.Geometry.few)) c.args.position.now (at g.B.Geometry.shape g.B.Geometry.POINTS (omega (arith, g.met.B.Geometry.few)) g.met.B.Geometry.point_count c.args.position.now c.own-own.ensures.lawful))
-
 pub overflow_mul-result : goal.overflow_mul-result
 overflow_mul-result g c =
     rw (
-      c.rank.ensures,
+      c.rank.ensures.value,
       c.binomial-choices.ensures.value,
       c.POINTS.ensures,
       c.count.ensures.value,
@@ -79,8 +74,8 @@ sum : (g : given.Over) (c : After-rank_outside g) → c.rank.result * c.binomial
     + rank_of (map (number_outside c.args.position.now.own) (members c.args.position.now.other))
 sum g c =
     rw (
-      c.rank.ensures,
-      c.rank_outside.ensures,
+      c.rank.ensures.value,
+      c.rank_outside.ensures.value,
       c.binomial-choices.ensures.value,
       c.POINTS.ensures,
       c.count.ensures.value,

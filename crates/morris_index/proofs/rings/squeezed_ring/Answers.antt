@@ -1,27 +1,37 @@
--- A ring is squeezed as a part of six points and one of two.
-use Rattle.std.proofs.Common.{◌%◌, arith}
+-- Each point of the set that is free adds the mask of its number.
+use Rattle.std.proofs.Common.{◌≡◌, ◌+◌, true, false, not, ◌&&◌, sym, ap, ◌∙◌, arith}
+use Rattle.morris_board.specs.Sets.{has}
+use Rattle.morris_index.specs.Numbering.{number_outside}
 use Rattle.morris_index.proofs.RankLaws.{number-count}
-use Rattle.morris_index.proofs.RingLaws.{ring_small, ring_sum}
+use Rattle.morris_index.proofs.RingLaws.{squeezed-with, squeezed-without, squeezed_fits}
+use Rattle.morris_index.proofs.Squeezing.{mask-none}
 use Rattle.morris_index.proofs.rings.squeezed_ring.Goals as goal
+use Rattle.morris_index.proofs.rings.squeezed_ring.Goals.{then-has, else-has}
 
-pub overflow_sub-result : goal.overflow_sub-result
-overflow_sub-result c = omega (arith, c.part_size.ensures, number-count (c.args.outside % 64) 6)
+pub loop-point-init : goal.loop-point-init
+loop-point-init c = sym (mask-none c.args.outside c.args.points)
 
-pub overflow_add-result : goal.overflow_add-result
-overflow_add-result c =
-    let sum =
-    ring_sum c.args.outside c.args.points c.squeezed_part-lower.result c.squeezed_part-upper.result c.part_size.result c.requires.outside c.requires.points
-    c.squeezed_part-lower.ensures c.squeezed_part-upper.ensures c.part_size.ensures in
-    omega (arith, sum, ring_small c.args.outside c.args.points)
+pub overflow_shl-squeezed : goal.overflow_shl-squeezed
+overflow_shl-squeezed c = omega (arith, c.number_outside.ensures, number-count c.from_mask-taken.result c.loop-point.point)
 
-pub overflow_cast-result-2 : goal.overflow_cast-result-2
-overflow_cast-result-2 c =
-    let sum =
-    ring_sum c.args.outside c.args.points c.squeezed_part-lower.result c.squeezed_part-upper.result c.part_size.result c.requires.outside c.requires.points
-    c.squeezed_part-lower.ensures c.squeezed_part-upper.ensures c.part_size.ensures in
-    omega (arith, sum, ring_small c.args.outside c.args.points)
+pub overflow_add-squeezed : goal.overflow_add-squeezed
+overflow_add-squeezed c =
+    let free : (has c.args.points c.loop-point.point && not (has c.args.outside c.loop-point.point)) ≡ true =
+    rw (← c.from_mask.ensures, ← c.from_mask-taken.ensures, ← c.less-set.ensures c.loop-point.point, ← c.has.ensures) c.if-has.true in
+    let next = squeezed-with c.args.outside c.args.points c.loop-point.point c.number_outside.result c.loop-point.squeezed (omega arith) c.loop-point.invariant free
+    (c.number_outside.ensures ∙ ap (λ o. number_outside o c.loop-point.point) c.from_mask-taken.ensures) in
+    omega (arith, next, squeezed_fits c.args.outside c.args.points (c.loop-point.point + 1) (omega arith))
 
-pub returns : goal.returns
-returns c =
-    ring_sum c.args.outside c.args.points c.squeezed_part-lower.result c.squeezed_part-upper.result c.part_size.result c.requires.outside c.requires.points
-    c.squeezed_part-lower.ensures c.squeezed_part-upper.ensures c.part_size.ensures
+pub loop-point-preserved : goal.loop-point-preserved
+loop-point-preserved c = elim c.if-has.branch [
+  | then-has w ↦
+      let free : (has c.args.points c.loop-point.point && not (has c.args.outside c.loop-point.point)) ≡ true =
+      rw (← c.from_mask.ensures, ← c.from_mask-taken.ensures, ← c.less-set.ensures c.loop-point.point, ← c.has.ensures) w.if-has.true in
+      w.squeezed-is
+      ∙ squeezed-with c.args.outside c.args.points c.loop-point.point w.number_outside.result c.loop-point.squeezed (omega arith) c.loop-point.invariant free
+      (w.number_outside.ensures ∙ ap (λ o. number_outside o c.loop-point.point) c.from_mask-taken.ensures)
+  | else-has w ↦
+      let free : (has c.args.points c.loop-point.point && not (has c.args.outside c.loop-point.point)) ≡ false =
+      rw (← c.from_mask.ensures, ← c.from_mask-taken.ensures, ← c.less-set.ensures c.loop-point.point, ← c.has.ensures) w.if-has.false in
+      w.squeezed-is ∙ squeezed-without c.args.outside c.args.points c.loop-point.point c.loop-point.squeezed c.loop-point.invariant free
+]

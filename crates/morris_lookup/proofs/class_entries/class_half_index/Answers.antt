@@ -1,39 +1,14 @@
-use Rattle.std.proofs.Common.{◌≡◌, ◌+◌, ◌-◌, ◌*◌, ◌≤◌, ◌<◌, ◌^◌, map, refl, ◌∙◌, sym, ap, ap₂, subst, arith}
+use Rattle.std.proofs.Common.{◌≡◌, ◌+◌, ◌*◌, ◌≤◌, ◌<◌, ◌^◌, map, refl, ◌∙◌, sym, ap, ap₂, subst, arith}
 use Rattle.morris_board.specs.Sets.{count_of, members}
-use Rattle.morris_board.specs.Positions.{Sides, IsPosition}
 use Rattle.morris_board.specs.Symmetries.{image_sides}
-use Rattle.morris_board.proofs.PositionLaws.{other_count}
-use Rattle.morris_index.specs.Binomials.{choose}
 use Rattle.morris_index.specs.Classes.{class_of, symmetry_of}
 use Rattle.morris_index.specs.Numbering.{rank_of, number_outside}
 use Rattle.morris_index.specs.ClassPairs.{led, class_half_index}
-use Rattle.morris_index.proofs.BinomialTable.{choose_small}
-use Rattle.morris_index.proofs.IndexLaws.{IsPlaced, placed, both_le, other_apart, other_rank-lt, within_24}
+use Rattle.morris_index.proofs.IndexLaws.{within_24}
 use Rattle.morris_lookup.specs.Prepared.{LeadAll}
 use Rattle.morris_lookup.specs.Representatives.{representatives_of}
 use Rattle.morris_lookup.proofs.EntryLaws.{stones_fit}
-use Rattle.morris_lookup.proofs.class_entries.class_half_index.Given.{Over}
 use Rattle.morris_lookup.proofs.class_entries.class_half_index.Goals as goal
-use Rattle.morris_lookup.proofs.class_entries.class_half_index.Goals.{After-rank_outside}
-
-at : (g : Over) (s : Sides) → IsPosition g.B.Geometry.shape s → IsPlaced g.B.Geometry.POINTS s
-at g s lawful = placed g.B.Geometry.shape g.B.Geometry.POINTS s g.met.B.Geometry.point_count lawful
-
--- the sum is small
-sum : (g : Over) (c : After-rank_outside g) → c.class_by-class.result.0 * c.binomial-choices.result + c.rank_outside.result < 2 ^ 54
-sum g c =
-    let led = c.image-led.result in
-    let rank : rank_of (map (number_outside led.own) (members led.other)) < choose (g.B.Geometry.POINTS - count_of led.own) (count_of led.other) =
-    other_rank-lt g.B.Geometry.POINTS (omega (arith, g.met.B.Geometry.few)) led (at g led c.image-led.ensures.lawful) in
-    let is : c.rank_outside.result ≡ rank_of (map (number_outside led.own) (members led.other)) =
-    c.rank_outside.ensures ∙ ap₂ (λ own other. rank_of (map (number_outside own) (members other))) c.own-2.ensures.points c.other.ensures.points in
-    omega (
-      arith,
-      is,
-      rank,
-      choose_small (g.B.Geometry.POINTS - count_of led.own) (count_of led.other) (omega (arith, g.met.B.Geometry.few)) (omega (arith, other_count led c.image-led.ensures.lawful.sized)),
-      both_le c.class_by-class.result.0 c.binomial-choices.result (2 ^ 32) (2 ^ 21) (omega (arith, c.class_by-class.ensures.few)) (omega (arith, c.binomial-choices.ensures.few)),
-    )
 
 pub overflow_sub-POINTS : goal.overflow_sub-POINTS
 overflow_sub-POINTS g c =
@@ -49,18 +24,6 @@ rank_outside-requires-clause-board g c =
     let few : g.B.Geometry.shape.points ≤ 24 = omega (arith, g.met.B.Geometry.few, g.met.B.Geometry.point_count) in
     subst (λ x. x < 2 ^ 24) (sym c.other.ensures.points) (within_24 c.image-led.result.other g.B.Geometry.shape.points c.image-led.ensures.lawful.stones.other_within few)
 
-pub rank_outside-requires-clause-apart : goal.rank_outside-requires-clause-apart
-rank_outside-requires-clause-apart g c =
-    rw (c.other.ensures.points, c.own-2.ensures.points)
-    (other_apart g.B.Geometry.POINTS (omega (arith, g.met.B.Geometry.few)) c.image-led.result
-    (at g c.image-led.result c.image-led.ensures.lawful))
-
-pub overflow_add-result : goal.overflow_add-result
-overflow_add-result g c = omega (arith, sum g (goal.at.overflow_add-result g c).After-rank_outside)
-
-pub returns-clause-few : goal.returns-clause-few
-returns-clause-few g c = sum g (goal.at.returns-clause-few g c).After-rank_outside
-
 pub returns-clause-value : goal.returns-clause-value
 unfolding led class_half_index
 returns-clause-value g c = λ listed leads.
@@ -71,6 +34,6 @@ returns-clause-value g c = λ listed leads.
     let led_is : c.image-led.result ≡ led board c.args.position.now = c.image-led.ensures.image ∙ ap (λ s. image_sides (board.image s) c.args.position.now) symmetry in
     ap₂ (λ a b. a + b)
     (ap₂ (λ a b. a * b) class (rw (c.binomial-choices.ensures.value, c.POINTS.ensures, c.counts-own.ensures.own, c.counts-own.ensures.other) refl))
-    (c.rank_outside.ensures
+    (c.rank_outside.ensures.value
     ∙ ap₂ (λ own other. rank_of (map (number_outside own) (members other))) c.own-2.ensures.points c.other.ensures.points
     ∙ ap (λ s. rank_of (map (number_outside s.own) (members s.other))) led_is)

@@ -31,7 +31,7 @@ returns-clause-class g c = λ listed lead.
     let most : g.B.Geometry.shape.symmetries ≤ 16 = omega (arith, g.met.B.Geometry.few_symmetries, g.met.B.Geometry.symmetry_count) in
     let small : c.args.set < 2 ^ g.B.Geometry.shape.points = subst (λ n. c.args.set < 2 ^ n) (sym g.met.B.Geometry.point_count) c.requires.within in
     c.in-Some.ensures.class
-    ∙ (parts g.B.Geometry.shape few g.met.B.Geometry.has_symmetries most c.args.leads.now c.args.set c.rank.result lead small (c.rank.ensures ∙ sym (rank_is c.args.set)) c.in-Some.ensures.inside).0
+    ∙ (parts g.B.Geometry.shape few g.met.B.Geometry.has_symmetries most c.args.leads.now c.args.set c.rank.result lead small (c.rank.ensures.value ∙ sym (rank_is c.args.set)) c.in-Some.ensures.inside).0
 
 pub returns-clause-symmetry : goal.returns-clause-symmetry
 returns-clause-symmetry g c = λ lead.
@@ -39,7 +39,7 @@ returns-clause-symmetry g c = λ lead.
     let most : g.B.Geometry.shape.symmetries ≤ 16 = omega (arith, g.met.B.Geometry.few_symmetries, g.met.B.Geometry.symmetry_count) in
     let small : c.args.set < 2 ^ g.B.Geometry.shape.points = subst (λ n. c.args.set < 2 ^ n) (sym g.met.B.Geometry.point_count) c.requires.within in
     c.in-Some.ensures.symmetry
-    ∙ (parts g.B.Geometry.shape few g.met.B.Geometry.has_symmetries most c.args.leads.now c.args.set c.rank.result lead small (c.rank.ensures ∙ sym (rank_is c.args.set)) c.in-Some.ensures.inside).1
+    ∙ (parts g.B.Geometry.shape few g.met.B.Geometry.has_symmetries most c.args.leads.now c.args.set c.rank.result lead small (c.rank.ensures.value ∙ sym (rank_is c.args.set)) c.in-Some.ensures.inside).1
 
 pub returns-2-clause-class : goal.returns-2-clause-class
 returns-2-clause-class g c = λ listed lead.

@@ -1,16 +1,14 @@
-use Rattle.std.proofs.Common.{◌≡◌, ℕ, ◌+◌, ◌-◌, ◌<◌, ◌≤◌, ◌^◌, length, sym, ap, ◌∙◌, subst, arith, rules}
+use Rattle.std.proofs.Common.{◌≡◌, ℕ, ◌+◌, ◌-◌, ◌<◌, ◌≤◌, ◌^◌, length, sym, ap, ◌∙◌, subst, arith}
 use Rattle.morris_board.specs.Boards.{Shape}
 use Rattle.morris_board.specs.Sets.{members, count_of}
 use Rattle.morris_board.specs.Symmetries.{image_of, inverse_of, HasSymmetries}
 use Rattle.morris_index.specs.Binomials.{choose}
 use Rattle.morris_index.specs.Numbering.{rank_of}
-use Rattle.morris_index.proofs.BinomialTable.{choose_small}
 use Rattle.morris_index.proofs.ClassLaws.{image_within, image_count}
 use Rattle.morris_index.proofs.IndexLaws.{within_24}
 use Rattle.morris_lookup.proofs.LeadLaws.{AreLedBy, led_more, led_all, rank_inside, rank_is}
 use Rattle.morris_lookup.proofs.leads.lead_images.Given.{Over}
 use Rattle.morris_lookup.proofs.leads.lead_images.Goals as goal
-use Rattle.morris_lookup.proofs.leads.lead_images.Goals.{After-rank}
 
 few : (g : Over) → g.B.Geometry.shape.points ≤ 24
 few g = omega (arith, g.met.B.Geometry.few, g.met.B.Geometry.point_count)
@@ -45,27 +43,13 @@ rank-requires-clause-few g c =
     (c.image_of-set.ensures ∙ ap (λ i. image_of (board.image i) c.args.representative) c.inverse.ensures) in
     omega (arith, counted, c.requires.few)
 
-ranked : (g : Over) (c : After-rank g) → c.rank.result < choose g.B.Geometry.shape.points c.args.count
-ranked g c =
-    let board = g.B.Geometry.shape in
-    let low : c.SYMMETRIES.result - 1 - c.loop-k.k < board.symmetries = omega (arith, g.met.B.Geometry.symmetry_count, c.SYMMETRIES.ensures, c.SYMMETRIES-k-end.ensures, c.loop-k-test.true) in
-    let inside = image_ranked board (few g) g.met.B.Geometry.has_symmetries c.args.count _ c.args.representative _ low (within g c.args.representative c.requires.within) c.requires.counted
-    (c.image_of-set.ensures ∙ ap (λ i. image_of (board.image i) c.args.representative) c.inverse.ensures) in
-    omega (arith, inside, c.rank.ensures, rank_is c.image_of-set.result)
-
-small : (g : Over) (c : After-rank g) → c.rank.result < 2 ^ 21
-small g c =
-    omega (arith, ranked g c, choose_small g.B.Geometry.shape.points c.args.count (omega (arith, g.met.B.Geometry.few, g.met.B.Geometry.point_count)) (omega (arith, c.requires.few)))
-
-pub overflow_add-place : goal.overflow_add-place
-overflow_add-place g c = let rank = small g (goal.at.overflow_add-place g c).After-rank in search (rules, rank)
-
-pub offset_bounds-words-place : goal.offset_bounds-words-place
-offset_bounds-words-place g c = let rank = small g (goal.at.offset_bounds-words-place g c).After-rank in search (rules, rank)
-
 pub bounds-words-place : goal.bounds-words-place
 bounds-words-place g c =
-    omega (arith, ranked g (goal.at.bounds-words-place g c).After-rank, ap (λ n. choose n c.args.count) g.met.B.Geometry.point_count, c.requires.room, c.loop-k.auto.words)
+    let board = g.B.Geometry.shape in
+    let low : c.SYMMETRIES.result - 1 - c.loop-k.k < board.symmetries = omega (arith, g.met.B.Geometry.symmetry_count, c.SYMMETRIES.ensures, c.SYMMETRIES-k-end.ensures, c.loop-k-test.true) in
+    let ranked = image_ranked board (few g) g.met.B.Geometry.has_symmetries c.args.count _ c.args.representative _ low (within g c.args.representative c.requires.within) c.requires.counted
+    (c.image_of-set.ensures ∙ ap (λ i. image_of (board.image i) c.args.representative) c.inverse.ensures) in
+    omega (arith, ranked, c.rank.ensures.value, rank_is c.image_of-set.result, ap (λ n. choose n c.args.count) g.met.B.Geometry.point_count, c.requires.room, c.loop-k.auto.words)
 
 pub loop-k-preserved : goal.loop-k-preserved
 loop-k-preserved g c =
@@ -75,7 +59,7 @@ loop-k-preserved g c =
     let room : c.args.start + choose board.points c.args.count ≤ length c.loop-k.words =
     omega (arith, ap (λ n. choose n c.args.count) g.met.B.Geometry.point_count, c.requires.room, c.loop-k.auto.words) in
     let at : c.rank.result ≡ rank_of (members (image_of (board.image (inverse_of s)) c.args.representative)) =
-    c.rank.ensures ∙ sym (rank_is c.image_of-set.result) ∙ ap (λ x. rank_of (members x)) (c.image_of-set.ensures ∙ ap (λ i. image_of (board.image i) c.args.representative) c.inverse.ensures) in
+    c.rank.ensures.value ∙ sym (rank_is c.image_of-set.result) ∙ ap (λ x. rank_of (members x)) (c.image_of-set.ensures ∙ ap (λ i. image_of (board.image i) c.args.representative) c.inverse.ensures) in
     rw at
     (led_more board (few g) g.met.B.Geometry.has_symmetries c.args.count c.args.start c.args.class c.args.representative (within g c.args.representative c.requires.within) c.requires.counted c.requires.least
     c.loop-k.k s last c.loop-k.words c.args.words.now c.loop-k.invariant room _ (omega (arith, c.from.ensures)))

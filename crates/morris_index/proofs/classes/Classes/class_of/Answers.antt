@@ -12,15 +12,15 @@ rank-requires-clause-few g c = omega (arith, c.requires.count, c.self.view_is, c
 
 pub index-lead-requires : goal.index-lead-requires
 index-lead-requires g c =
-    omega (arith, lead_in g.B.Geometry.shape g.B.Geometry.POINTS c.self.inside.count (omega (arith, g.met.B.Geometry.few)) g.met.B.Geometry.point_count g.met.B.Geometry.has_symmetries c.self.inside.kept.leads.items c.self.inside.kept.representatives.items c.self.invariant c.args.set c.rank.result c.requires.within (c.requires.count ∙ sym c.self.view_is) c.rank.ensures)
+    omega (arith, lead_in g.B.Geometry.shape g.B.Geometry.POINTS c.self.inside.count (omega (arith, g.met.B.Geometry.few)) g.met.B.Geometry.point_count g.met.B.Geometry.has_symmetries c.self.inside.kept.leads.items c.self.inside.kept.representatives.items c.self.invariant c.args.set c.rank.result c.requires.within (c.requires.count ∙ sym c.self.view_is) c.rank.ensures.value)
 
 pub first_leading-requires-clause-leading : goal.first_leading-requires-clause-leading
 first_leading-requires-clause-leading g c =
-    rw c.from_mask-leading.ensures (lead_leads g.B.Geometry.shape g.B.Geometry.POINTS c.self.inside.count (omega (arith, g.met.B.Geometry.few)) g.met.B.Geometry.point_count g.met.B.Geometry.has_symmetries c.self.inside.kept.leads.items c.self.inside.kept.representatives.items c.self.invariant c.args.set c.rank.result c.requires.within (c.requires.count ∙ sym c.self.view_is) c.rank.ensures c.index-lead.result.now c.index-lead.ensures)
+    rw c.from_mask-leading.ensures (lead_leads g.B.Geometry.shape g.B.Geometry.POINTS c.self.inside.count (omega (arith, g.met.B.Geometry.few)) g.met.B.Geometry.point_count g.met.B.Geometry.has_symmetries c.self.inside.kept.leads.items c.self.inside.kept.representatives.items c.self.invariant c.args.set c.rank.result c.requires.within (c.requires.count ∙ sym c.self.view_is) c.rank.ensures.value c.index-lead.result.now c.index-lead.ensures)
 
 pub returns-clause-class : goal.returns-clause-class
 returns-clause-class g c =
-    lead_class g.B.Geometry.shape g.B.Geometry.POINTS c.self.inside.count (omega (arith, g.met.B.Geometry.few)) g.met.B.Geometry.point_count g.met.B.Geometry.has_symmetries c.self.inside.kept.leads.items c.self.inside.kept.representatives.items c.self.invariant c.args.set c.rank.result c.requires.within (c.requires.count ∙ sym c.self.view_is) c.rank.ensures c.index-lead.result.now c.index-lead.ensures
+    lead_class g.B.Geometry.shape g.B.Geometry.POINTS c.self.inside.count (omega (arith, g.met.B.Geometry.few)) g.met.B.Geometry.point_count g.met.B.Geometry.has_symmetries c.self.inside.kept.leads.items c.self.inside.kept.representatives.items c.self.invariant c.args.set c.rank.result c.requires.within (c.requires.count ∙ sym c.self.view_is) c.rank.ensures.value c.index-lead.result.now c.index-lead.ensures
 
 pub returns-clause-below : goal.returns-clause-below
 returns-clause-below g c =

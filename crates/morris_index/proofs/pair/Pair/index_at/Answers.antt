@@ -12,15 +12,15 @@ rank_outside-requires-clause-board g c =
 
 pub overflow_add-result : goal.overflow_add-result
 overflow_add-result g c =
-    rw c.rank_outside.ensures
+    rw c.rank_outside.ensures.value
     (omega (arith, index_few g.B.Geometry.shape g.B.Geometry.POINTS (omega (arith, g.met.B.Geometry.few)) g.met.B.Geometry.point_count c.args.self.now c.args.standing.now c.args.other c.requires.stands c.requires.lawful))
 
 pub returns-clause-value : goal.returns-clause-value
 returns-clause-value g c =
-    rw c.rank_outside.ensures
+    rw c.rank_outside.ensures.value
     (index-is g.B.Geometry.shape g.B.Geometry.POINTS (omega (arith, g.met.B.Geometry.few)) g.met.B.Geometry.point_count c.args.self.now c.args.standing.now c.args.other c.requires.stands c.requires.lawful)
 
 pub returns-clause-below : goal.returns-clause-below
 returns-clause-below g c =
-    rw c.rank_outside.ensures
+    rw c.rank_outside.ensures.value
     (index_below g.B.Geometry.shape g.B.Geometry.POINTS (omega (arith, g.met.B.Geometry.few)) g.met.B.Geometry.point_count c.args.self.now c.args.standing.now c.args.other c.requires.stands c.requires.lawful)

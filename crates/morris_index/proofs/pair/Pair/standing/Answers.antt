@@ -13,13 +13,13 @@ rank-requires-clause-board g c = within_24 c.args.own g.B.Geometry.POINTS c.requ
 pub overflow_mul-result : goal.overflow_mul-result
 overflow_mul-result g c =
     let rank : c.rank.result ≤ 1307504 =
-    rw c.rank.ensures (own_rank-few g.B.Geometry.POINTS c.args.own c.args.other c.args.self.now (omega (arith, g.met.B.Geometry.few)) c.requires.within c.start_of-start.ensures.lawful c.requires.counts) in
+    rw c.rank.ensures.value (own_rank-few g.B.Geometry.POINTS c.args.own c.args.other c.args.self.now (omega (arith, g.met.B.Geometry.few)) c.requires.within c.start_of-start.ensures.lawful c.requires.counts) in
     omega (arith, product_few c.rank.result c.binomial.result rank (omega arith))
 
 pub overflow_add-result : goal.overflow_add-result
 overflow_add-result g c =
     let rank : c.rank.result ≤ 1307504 =
-    rw c.rank.ensures (own_rank-few g.B.Geometry.POINTS c.args.own c.args.other c.args.self.now (omega (arith, g.met.B.Geometry.few)) c.requires.within c.start_of-start.ensures.lawful c.requires.counts) in
+    rw c.rank.ensures.value (own_rank-few g.B.Geometry.POINTS c.args.own c.args.other c.args.self.now (omega (arith, g.met.B.Geometry.few)) c.requires.within c.start_of-start.ensures.lawful c.requires.counts) in
     omega (arith, c.start_of-start.ensures.few, product_few c.rank.result c.binomial.result rank (omega arith))
 
 pub returns-clause-stands : goal.returns-clause-stands
@@ -32,5 +32,5 @@ returns-clause-stands g c =
       counts = c.requires.counts;
       place = refl;
       start = ap₂ (λ x y. x + y) (c.start_of-start.ensures.value ∙ ap (start_of g.B.Geometry.POINTS c.args.self.now) count)
-          (ap₂ (λ x y. x * y) (c.rank.ensures ∙ ap rank_of (map_number-none (members c.args.own))) choices);
+          (ap₂ (λ x y. x * y) (c.rank.ensures.value ∙ ap rank_of (map_number-none (members c.args.own))) choices);
     }

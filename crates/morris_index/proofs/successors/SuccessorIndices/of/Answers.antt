@@ -32,7 +32,7 @@ parts : (g : given.Over) (c : After-rank g) → (c.rank.result ≡ rank_of (memb
     × (rank_of (members c.args.position.now.other) * choose (g.B.Geometry.POINTS - count_of c.args.position.now.other) (count_of c.args.position.now.own)
     + rank_of (map (number_outside c.args.position.now.other) (members c.args.position.now.own)) < 1307504 * 1307504)
 parts g c = (
-  c.rank.ensures ∙ (ap rank_of (map_number-none (members c.other-other.result)) ∙ ap (λ o. rank_of (members o)) c.other-other.ensures.points),
+  c.rank.ensures.value ∙ (ap rank_of (map_number-none (members c.other-other.result)) ∙ ap (λ o. rank_of (members o)) c.other-other.ensures.points),
   c.binomial-choices.ensures.value ∙ ap₂ choose (ap₂ (λ n k. n - k) c.POINTS.ensures (c.count.ensures.value ∙ ap count_of c.other-other.ensures.points))
       (c.count-2.ensures.value ∙ ap count_of c.own-own.ensures.points),
   turned_few g.B.Geometry.POINTS g.met.B.Geometry.few c.args.position.now

@@ -9,8 +9,8 @@ use Rattle.morris_index.proofs.SumLaws.{IsKept, IsNext, next_point, all_passed, 
 use Rattle.morris_index.proofs.sums.KeptSums.of.Goals as goal
 use Rattle.morris_index.proofs.sums.KeptSums.of.Goals.{In-Some}
 
-next : (c : In-Some) → IsNext c.args.set c.in-Some.point c.loop-point.yielded
-next c = next_point c.args.set c.in-Some.point c.loop-point.yielded _ _ c.requires.board c.requires.few c.loop-point.invariant.split c.in-Some.ensures.steps
+next : (c : In-Some) → IsNext c.args.set 24 c.in-Some.point c.loop-point.yielded
+next c = next_point c.args.set 24 c.in-Some.point c.loop-point.yielded _ _ c.requires.board (omega arith) c.loop-point.invariant.split c.in-Some.ensures.steps
 
 pub loop-point-init : goal.loop-point-init
 loop-point-init c =
@@ -37,7 +37,7 @@ binomial-rank-requires c =
     let is = next (goal.at.binomial-rank-requires c).In-Some in
     record {
       things = omega (arith, is.low, number-count c.args.outside c.in-Some.point, c.number_outside-number.ensures);
-      chosen = omega (arith, is.few, c.loop-point.invariant.placed);
+      chosen = omega (arith, is.few, c.requires.few, c.loop-point.invariant.placed);
     }
 
 pub binomial-rank_lower-requires : goal.binomial-rank_lower-requires
@@ -45,7 +45,7 @@ binomial-rank_lower-requires c =
     let is = next (goal.at.binomial-rank_lower-requires c).In-Some in
     record {
       things = omega (arith, is.low, number-count c.args.outside c.in-Some.point, c.number_outside-number.ensures, c.saturating_sub.ensures);
-      chosen = omega (arith, is.few, c.loop-point.invariant.placed, c.requires.moved);
+      chosen = omega (arith, is.few, c.requires.few, c.loop-point.invariant.placed, c.requires.moved);
     }
 
 pub overflow_add-number : goal.overflow_add-number
@@ -57,22 +57,22 @@ binomial-rank_higher-requires c =
     let is = next (goal.at.binomial-rank_higher-requires c).In-Some in
     record {
       things = omega (arith, is.low, number-count c.args.outside c.in-Some.point, c.number_outside-number.ensures);
-      chosen = omega (arith, is.few, c.loop-point.invariant.placed);
+      chosen = omega (arith, is.few, c.requires.few, c.loop-point.invariant.placed);
     }
 
 pub overflow_sub-lower : goal.overflow_sub-lower
 overflow_sub-lower c =
-    omega (arith, (next (goal.at.overflow_sub-lower c).In-Some).few, c.loop-point.invariant.placed, c.loop-point.invariant.rank_lower.small, c.binomial-rank_lower.ensures.few)
+    omega (arith, (next (goal.at.overflow_sub-lower c).In-Some).few, c.requires.few, c.loop-point.invariant.placed, c.loop-point.invariant.rank_lower.small, c.binomial-rank_lower.ensures.few)
 
 pub bounds-lower-place : goal.bounds-lower-place
-bounds-lower-place c = omega (arith, (next (goal.at.bounds-lower-place c).In-Some).few, c.loop-point.invariant.placed)
+bounds-lower-place c = omega (arith, (next (goal.at.bounds-lower-place c).In-Some).few, c.requires.few, c.loop-point.invariant.placed)
 
 pub overflow_sub-higher : goal.overflow_sub-higher
 overflow_sub-higher c =
-    omega (arith, (next (goal.at.overflow_sub-higher c).In-Some).few, c.loop-point.invariant.placed, c.loop-point.invariant.rank.small, c.binomial-rank.ensures.few)
+    omega (arith, (next (goal.at.overflow_sub-higher c).In-Some).few, c.requires.few, c.loop-point.invariant.placed, c.loop-point.invariant.rank.small, c.binomial-rank.ensures.few)
 
 pub bounds-higher-place : goal.bounds-higher-place
-bounds-higher-place c = omega (arith, (next (goal.at.bounds-higher-place c).In-Some).few, c.loop-point.invariant.placed)
+bounds-higher-place c = omega (arith, (next (goal.at.bounds-higher-place c).In-Some).few, c.requires.few, c.loop-point.invariant.placed)
 
 pub loop-point-preserved : goal.loop-point-preserved
 loop-point-preserved c =
@@ -98,11 +98,11 @@ loop-point-preserved c =
       lower_len = length-set c.loop-point.lower (c.loop-point.place + 1) _ ∙ c.loop-point.invariant.lower_len;
       higher_len = length-set c.loop-point.higher (c.loop-point.place + 1) _ ∙ c.loop-point.invariant.higher_len;
       lower = kept-next c.args.set _ _ c.loop-point.place c.loop-point.lower _ _ _ c.loop-point.invariant.lower
-          (omega (arith, is.few, c.loop-point.invariant.placed, c.loop-point.invariant.lower_len)) rank.each rank_lower.each
-          (omega (arith, is.few, c.loop-point.invariant.placed, c.loop-point.invariant.rank_lower.small, c.binomial-rank_lower.ensures.few));
+          (omega (arith, is.few, c.requires.few, c.loop-point.invariant.placed, c.loop-point.invariant.lower_len)) rank.each rank_lower.each
+          (omega (arith, is.few, c.requires.few, c.loop-point.invariant.placed, c.loop-point.invariant.rank_lower.small, c.binomial-rank_lower.ensures.few));
       higher = kept-next c.args.set _ _ c.loop-point.place c.loop-point.higher _ _ _ c.loop-point.invariant.higher
-          (omega (arith, is.few, c.loop-point.invariant.placed, c.loop-point.invariant.higher_len)) rank_higher.each rank.each
-          (omega (arith, is.few, c.loop-point.invariant.placed, c.loop-point.invariant.rank.small, c.binomial-rank.ensures.few));
+          (omega (arith, is.few, c.requires.few, c.loop-point.invariant.placed, c.loop-point.invariant.higher_len)) rank_higher.each rank.each
+          (omega (arith, is.few, c.requires.few, c.loop-point.invariant.placed, c.loop-point.invariant.rank.small, c.binomial-rank.ensures.few));
     }
 
 pub returns : goal.returns
