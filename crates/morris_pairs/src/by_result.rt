@@ -7,7 +7,6 @@
 //! These are read in a pass of their own, in which no entry has to wait for another.
 ghost use Rattle.std.specs.Prelude.{◌≡◌, ℕ, ◌<◌, ◌≤◌, ◌^◌, true, IfOk, OnOk};
 ghost use Rattle.std.specs.List.{All};
-ghost use Rattle.morris_index.specs.Classes.{representative_of};
 ghost use Rattle.morris_index.specs.Moves.{InPair};
 ghost use Rattle.morris_pairs.specs.Entries.{entry_count};
 ghost use Rattle.morris_pairs.specs.Faces.{code_stated, codes_stated, EntryAgrees, FacesAgree};
@@ -33,8 +32,10 @@ use std::marker::{Model, PhantomData};
 /// What is kept of the representative of a class of sets of the player to move.
 #[derive(Drop)]
 pub(crate) struct OwnSet<B: Geometry> {
-    row: Row,
+    /// Where its points go by quiet moves.
     ends: QuietEnds,
+    /// The points at which a move closes a mill, where they are vacant.
+    closing: Points,
     board: PhantomData<B>,
 }
 
@@ -44,20 +45,19 @@ impl<B: Geometry> Model for OwnSet<B> {
 
     ghost Value = { ℕ };
 
-    ghost view = { λ own. own.row.own };
+    ghost view = { λ own. own.ends.own };
 
-    ghost invariant = { λ own. IsOwnSet B.shape B.POINTS own.row own.ends };
+    ghost invariant = { λ own. IsOwnSet B.shape B.POINTS own.ends own.closing };
 }
 
 impl<B: Geometry> OwnSet<B> {
     /// What is to be kept of a representative.
     fn of(own: Points) -> OwnSet<B>
-        requires within { own < 2 ^ B.POINTS }
-        requires least { representative_of B.shape own ≡ own }
+        requires { own < 2 ^ B.POINTS }
     {
         OwnSet {
-            row: Row::of::<B>(own),
             ends: QuietEnds::of::<B>(own),
+            closing: Row::of::<B>(own).closing,
             board: PhantomData,
         }
     }
@@ -81,10 +81,10 @@ impl<B: Geometry> OwnSet<B> {
         ensures kept { AreKept (codes_facing B.shape) kept.new }
     {
         let position = faced.position();
-        if position.own() != self.row.own {
+        if position.own() != self.ends.own {
             return false;
         }
-        let captures = graph.exits_by_facing(&position, self.row.closing, kept);
+        let captures = graph.exits_by_facing(&position, self.closing, kept);
         let successors = Successors::Kept(faced.after());
         agrees_after(raw, code, &successors, &position, &self.ends, captures)
     }

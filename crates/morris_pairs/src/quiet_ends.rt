@@ -13,7 +13,7 @@ use morris_board::position::Position;
 #[derive(Clone, Copy)]
 pub(crate) struct QuietEnds {
     /// The stones.
-    own: Points,
+    pub(crate) own: Points,
     /// For each of them, at its point, the mask of the points to which it goes by a quiet move,
     /// where they are vacant.
     ends: [u32; 24],
