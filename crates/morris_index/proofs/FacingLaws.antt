@@ -8,18 +8,18 @@ use Rattle.morris_board.specs.Boards.{Shape}
 use Rattle.morris_board.specs.Sets.{count_of}
 use Rattle.morris_board.specs.Positions.{Sides, sides, IsPosition}
 use Rattle.morris_board.specs.Symmetries.{image_of, image_sides, inverse_of, HasSymmetries}
-use Rattle.morris_board.proofs.ImageLaws.{IsOneToOne, one_to_one, IsPosition-image, count_of-image, image_of-undone, image_sides-undone}
-use Rattle.morris_index.specs.Classes.{is_leading, symmetry_of, representative_of, classes_below, class_of}
+use Rattle.morris_board.proofs.ImageLaws.{IsOneToOne, one_to_one, IsPosition-image, count_of-image, image_sides-undone}
+use Rattle.morris_index.specs.Classes.{is_leading, symmetry_of, representative_of}
 use Rattle.morris_index.specs.ClassMoves.{class_start_of, IsLedOn}
 use Rattle.morris_index.specs.ClassPairs.{led, class_index_of, class_size_of}
 use Rattle.morris_index.specs.Moves.{InPair, in_pair}
 use Rattle.morris_index.specs.Pairs.{Counts, IsPair, is_of}
 use Rattle.morris_index.specs.Carried.{carries}
-use Rattle.morris_index.specs.Facing.{turned, facing, IsFaced, AreFaces}
+use Rattle.morris_index.specs.Facing.{turned, facing, IsFaced, IsFacedFrom, AreFaces}
 use Rattle.morris_index.proofs.IndexLaws.{IsPlaced, placed, other_apart, halves_of}
 use Rattle.morris_board.proofs.PositionLaws.{from_between, own_count, other_count}
 use Rattle.morris_index.proofs.ResultLaws.{is_of-quiet}
-use Rattle.morris_index.proofs.ClassLaws.{representative_twice, symmetry_within}
+use Rattle.morris_index.proofs.ClassLaws.{representative_twice, representative_symmetry, image_none, symmetry_within}
 use Rattle.morris_index.proofs.ClassPairLaws.{led_position, led_own, led_own_count, led_other_count, led_itself, led_alone, index-lt}
 use Rattle.morris_index.proofs.CarriedLaws.{IsCarried, is_carried}
 use Rattle.morris_index.proofs.StepLaws.{leads_from}
@@ -111,40 +111,32 @@ module _ (board : Shape) (n : ℕ) (few : n ≤ 24) (points : board.points ≡ n
         inside = subst (λ k. k < class_size_of board n c) (sym e) (index-lt board n few points y c faced faced_position faced_of);
       }
 
-      -- ---- how its results are led
+      -- ---- what is kept of the turned position
 
-      returns : symmetry_of board faced.other ≡ inverse_of s
-      returns = eqb-true _ _ parts.1
-
-      back_own : image_of (board.image (inverse_of s)) faced.other ≡ p.own
-      back_own = image_of-undone board.points low _ _ (one s s_in) p.own h.stones.own_within
-
-      same_least : representative_of board faced.other ≡ representative_of board p.own
-      unfolding representative_of
-      same_least = ap (λ t. image_of (board.image t) faced.other) returns ∙ back_own ∙ sym own
-
-      same_class : class_of board faced.other ≡ class_of board p.own
-      unfolding class_of
-      same_class = ap₂ (classes_below board) (count_of-image board.points low _ _ (one s s_in) p.own h.stones.own_within) same_least
-
-      same_start : class_start_of board n c faced.other (count_of faced.own) ≡ class_start_of board n c p.own (count_of p.other)
-      same_start = rw (
-        count_of-image board.points low _ _ (one s s_in) p.other h.stones.other_within,
-        count_of-image board.points low _ _ (one s s_in) p.own h.stones.own_within,
-        same_class,
-      ) refl
-
-      pub faced_led : (first : ℕ) → first ≡ class_start_of board n c p.own (count_of p.other) → first ≤ 2 ^ 54
-          → IsLedOn board n (in_pair c faced) (inverse_of s) (turned p) first
-      faced_led first e small = record {
-        counts = faced_of;
-        lawful = faced_position;
+      pub faced_from : (place first : ℕ) → place ≡ p.own → first ≡ class_start_of board n c p.own (count_of p.other) → first ≤ 2 ^ 54
+          → IsFacedFrom board n c (turned p) s place first
+      faced_from place first same e small = record {
+        counts = turned_of c p of;
+        lawful = turned_position;
         pair = pair;
-        leads = sym returns;
-        led = sym (image_sides-undone board low _ _ (one s s_in) (turned p) turned_position.stones);
-        start = e ∙ sym same_start;
+        led = record { within = s_in; least = own; back = eqb-true _ _ parts.1 };
+        place_is = same;
+        start = e;
         few = small;
       }
+
+  -- ---- how the results are led of a position of which an image has an entry of its own
+
+  pub led_itself_on : (p : Sides) (symmetry place first : ℕ) → IsFacedFrom board n c p symmetry place first → IsLedOn board n (in_pair c p) 0 p first
+  led_itself_on p symmetry place first k = record {
+    counts = k.counts;
+    lawful = k.lawful;
+    pair = pair;
+    leads = sym (ap (symmetry_of board) (sym k.led.least) ∙ representative_symmetry board low y p.other k.lawful.stones.other_within);
+    led = sym (ap₂ sides (image_none board low y p.own k.lawful.stones.own_within) (image_none board low y p.other k.lawful.stones.other_within));
+    start = k.start;
+    few = k.few;
+  }
 
   -- ---- each position with an entry of its own faces a set
 

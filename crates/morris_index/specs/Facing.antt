@@ -5,9 +5,9 @@ use Rattle.std.specs.List.{range_with_len, All, Contains}
 use Rattle.morris_board.specs.Boards.{Shape}
 use Rattle.morris_board.specs.Sets.{count_of}
 use Rattle.morris_board.specs.Positions.{Sides, sides, IsPosition}
-use Rattle.morris_board.specs.Symmetries.{image_sides}
+use Rattle.morris_board.specs.Symmetries.{image_of, image_sides, inverse_of}
 use Rattle.morris_index.specs.Carried.{carries, AreReturning}
-use Rattle.morris_index.specs.Classes.{representative_of}
+use Rattle.morris_index.specs.Classes.{symmetry_of, representative_of}
 use Rattle.morris_index.specs.ClassMoves.{class_start_of}
 use Rattle.morris_index.specs.ClassPairs.{class_index_of, class_size_of}
 use Rattle.morris_index.specs.Moves.{InPair, in_pair}
@@ -31,6 +31,24 @@ pub record IsFaced (board : Shape) (n : ℕ) (q : InPair) (entry : ℕ) : Type 0
   pub own : representative_of board q.position.own ≡ q.position.own
   pub at : class_index_of board n q.pair q.position ≡ entry
   pub inside : entry < class_size_of board n q.pair
+
+-- In a position the opponent stands on a representative, to which the way back from the image of the
+-- position under a symmetry leads the opponent's stones.
+pub record IsLedBack (board : Shape) (p : Sides) (symmetry : ℕ) : Type 0 where
+  pub within : symmetry < board.symmetries
+  pub least : representative_of board p.other ≡ p.other
+  pub back : symmetry_of board (image_of (board.image symmetry) p.other) ≡ inverse_of symmetry
+
+-- What is kept of a position of the pair, on n points, whose image under a symmetry has an entry for
+-- its own: where the results of its quiet moves stand, in which the player to move has these stones.
+pub record IsFacedFrom (board : Shape) (n : ℕ) (c : Counts) (p : Sides) (symmetry place first : ℕ) : Type 0 where
+  pub counts : is_of c p ≡ true
+  pub lawful : IsPosition board p
+  pub pair : IsPair n c
+  pub led : IsLedBack board p symmetry
+  pub place_is : place ≡ p.other
+  pub start : first ≡ class_start_of board n c p.other (count_of p.own)
+  pub few : first ≤ 2 ^ 54
 
 -- What is kept of a position for those that face its set: the symmetries whose inverse leads the
 -- image of the set, and the first entry in which the player to move has this set.

@@ -130,19 +130,18 @@ impl<'a, B: Geometry> Half<'a, B> {
     }
 
     /// The first entry in which the player to move stands on the representative of the class of
-    /// `own`, this representative, all symmetries that lead `own` there, and the class.
-    pub(crate) fn leads_of(&self, own: Points) -> (u64, Outside, Points, u32)
+    /// `own`, this representative, and all symmetries that lead `own` there.
+    pub(crate) fn leads_of(&self, own: Points) -> (u64, Outside, Points)
         requires within { own < 2 ^ B.POINTS }
         requires count { count_of own ≡ self.now.own }
         ensures start { result.0 ≡ class_start_of B.shape B.POINTS self.now.pair own self.now.other }
         ensures representative { result.1 ≡ representative_of B.shape own }
         ensures symmetries { AreLeading B.shape own result.2 }
-        ensures class { result.3 ≡ class_of B.shape own }
         ensures few { result.0 ≤ 2 ^ 54 }
         ensures lawful { IsPair B.POINTS self.now.pair }
     {
         let (class, representative, symmetries) = self.classes.leads_of(&self.rows, own);
         let start = self.first + u64::from(class) * self.choices;
-        (start, representative, symmetries, class)
+        (start, representative, symmetries)
     }
 }

@@ -140,7 +140,7 @@ impl<B: Geometry> ClassPair<B> {
         ensures few { result.0 ≤ 2 ^ 54 }
     {
         let half = self.half(own.count(), other);
-        let (start, representative, leading, _) = half.leads_of(own);
+        let (start, representative, leading) = half.leads_of(own);
         (start, representative, first_leading::<B>(own, leading))
     }
 

@@ -4,10 +4,10 @@ ghost use Rattle.morris_board.specs.Sets.{has, count_of};
 ghost use Rattle.morris_board.specs.Positions.{IsPosition};
 ghost use Rattle.morris_board.specs.Symmetries.{image_sides};
 ghost use Rattle.morris_index.specs.Carried.{carries};
-ghost use Rattle.morris_index.specs.Classes.{class_of, representative_of};
+ghost use Rattle.morris_index.specs.Classes.{representative_of};
 ghost use Rattle.morris_index.specs.ClassMoves.{class_start_of};
 ghost use Rattle.morris_index.specs.ClassPairs.{class_index_of, class_size_of};
-ghost use Rattle.morris_index.specs.Facing.{turned, facing, AreFaces};
+ghost use Rattle.morris_index.specs.Facing.{turned, facing, AreFaces, IsFaced, IsLedBack};
 ghost use Rattle.morris_index.specs.Moves.{in_pair};
 ghost use Rattle.morris_index.specs.Pairs.{is_of};
 
@@ -20,39 +20,49 @@ use morris_board::position::Position;
 use std::alloc::AllocError;
 use std::marker::Model;
 
-/// A position that has an entry of its own, with this entry and what the entries after it need.
+/// A position that has an entry of its own, as the image of one in which the opponent stands on the
+/// representative of a class.
 #[derive(Drop)]
 pub struct Faced<'a, B: Geometry> {
-    /// What is kept of the position for the entries after it.
-    after: SuccessorEntries<'a, B>,
+    /// The pair that the positions are of, with its classes.
+    pair: &'a ClassPair<B>,
+    /// The position of which it is the image.
+    from: Position<B>,
+    /// The symmetry of which it is the image.
+    symmetry: u8,
     /// Its entry.
     entry: u64,
-    /// The class of the stones of the player to move.
-    class: u32,
+    /// What is kept of the representative.
+    place: Outside,
+    /// The first entry in which the player to move stands on it.
+    start: u64,
 }
 
 impl<'a, B: Geometry> Model for Faced<'a, B> {
-    ghost use Rattle.std.specs.Prelude.{◌≡◌};
-    ghost use Rattle.morris_index.specs.Classes.{class_of};
-    ghost use Rattle.morris_index.specs.Facing.{IsFaced};
-    ghost use Rattle.morris_index.specs.Moves.{InPair};
+    ghost use Rattle.morris_board.specs.Symmetries.{image_sides};
+    ghost use Rattle.morris_index.specs.Facing.{IsFaced, IsFacedFrom};
+    ghost use Rattle.morris_index.specs.Moves.{InPair, in_pair};
 
     ghost Value = { InPair };
 
-    ghost view = { λ faced. faced.after };
+    ghost view = { λ faced. in_pair faced.pair.now (image_sides (B.shape.image faced.symmetry) faced.from) };
 
-    ghost invariant = { λ faced. IsFaced B.shape B.POINTS faced.after faced.entry × (faced.class ≡ class_of B.shape faced.after.position.own) };
+    ghost invariant = { λ faced. IsFaced B.shape B.POINTS (in_pair faced.pair.now (image_sides (B.shape.image faced.symmetry) faced.from)) faced.entry
+        × IsFacedFrom B.shape B.POINTS faced.pair.now faced.from faced.symmetry faced.place faced.start };
 }
 
 impl<'a, B: Geometry> Faced<'a, B> {
-    /// The position.
-    pub fn position(&self) -> Position<B>
-        ensures value { result ≡ self.now.position }
-        ensures lawful { IsPosition B.shape self.now.position }
-        ensures counts { is_of self.now.pair self.now.position ≡ true }
-        ensures own { representative_of B.shape self.now.position.own ≡ self.now.position.own }
+    /// What is kept of the position of which it is the image for the entries after that one.
+    pub fn from(&self) -> SuccessorEntries<'a, B>
+        ensures pair { result.pair ≡ self.now.pair }
+        ensures counts { is_of self.now.pair result.position ≡ true }
+        ensures lawful { IsPosition B.shape result.position }
+        ensures led { (s : ℕ) × IsLedBack B.shape result.position s × (self.now.position ≡ image_sides (B.shape.image s) result.position) }
+        ensures faced { IsFaced B.shape B.POINTS self.now (class_index_of B.shape B.POINTS self.now.pair self.now.position) }
     {
-        self.after.position
+        SuccessorEntries::led_by(
+            self.pair, self.from, 0, self.from, self.place, self.start,
+        )
     }
 
     /// Its entry.
@@ -61,20 +71,6 @@ impl<'a, B: Geometry> Faced<'a, B> {
         ensures below { result < class_size_of B.shape B.POINTS self.now.pair }
     {
         self.entry
-    }
-
-    /// The number of the class of the stones of the player to move.
-    pub fn class(&self) -> u32
-        ensures { result ≡ class_of B.shape self.now.position.own }
-    {
-        self.class
-    }
-
-    /// What is kept of the position for the entries after it.
-    pub fn after(&self) -> &SuccessorEntries<'a, B>
-        ensures { result.now ≡ self.now }
-    {
-        &self.after
     }
 }
 
@@ -152,22 +148,21 @@ impl<'a, B: Geometry> Facing<'a, B> {
     }
 
     /// The first entry in which the player to move stands on the representative of the class of the
-    /// opponent's stones, this representative, the symmetries that carry `from`, the position with
-    /// the other player to move, and the class.
-    fn carrying(&self, position: &Position<B>, from: &Position<B>) -> (u64, Outside, Points, u32)
+    /// opponent's stones, this representative, and the symmetries that carry `from`, the position
+    /// with the other player to move.
+    fn carrying(&self, position: &Position<B>, from: &Position<B>) -> (u64, Outside, Points)
         requires counts { is_of self.now.pair position.now ≡ true }
         requires same { position.now.own ≡ self.now.position.own }
         requires from { from.now ≡ turned position.now }
         ensures start { result.0 ≡ class_start_of B.shape B.POINTS self.now.pair position.now.other (count_of position.now.own) }
         ensures representative { result.1 ≡ representative_of B.shape position.now.other }
         ensures few { result.0 ≤ 2 ^ 54 }
-        ensures class { result.3 ≡ class_of B.shape position.now.other }
         ensures carrying { (t : ℕ) → has result.2 t ≡ (nat_lt t B.SYMMETRIES && carries B.shape position.now position.now.other t) }
     {
         let own = from.own();
         let half = self.pair.half(own.count(), from.other().count());
-        let (start, representative, leading, class) = half.leads_of(own);
-        (start, representative, leading.common(self.returning), class)
+        let (start, representative, leading) = half.leads_of(own);
+        (start, representative, leading.common(self.returning))
     }
 
     /// The position to which a symmetry carries the one in which the other player is to move.
@@ -178,7 +173,6 @@ impl<'a, B: Geometry> Facing<'a, B> {
         start: u64,
         representative: Outside,
         symmetry: u8,
-        class: u32,
     ) -> Faced<'a, B>
         requires counts { is_of self.now.pair position.now ≡ true }
         requires same { position.now.own ≡ self.now.position.own }
@@ -189,27 +183,21 @@ impl<'a, B: Geometry> Facing<'a, B> {
         requires representative { representative ≡ representative_of B.shape position.now.other }
         requires symmetry { symmetry < B.SYMMETRIES }
         requires carries { carries B.shape position.now position.now.other symmetry ≡ true }
-        requires class { class ≡ class_of B.shape position.now.other }
         ensures { result ≡ in_pair self.now.pair (image_sides (B.shape.image symmetry) (turned position.now)) }
     {
         // The proof learns the rules of a position where its stones are read.
         let _ = position.own();
-        let faced = from.image(symmetry);
-        let other = faced.other();
+        let other = B::image_of(symmetry, from.other());
         let entry = self
             .pair
             .entry_outside(start, other, other.count(), representative);
         Faced {
-            after: SuccessorEntries::led_by(
-                self.pair,
-                faced,
-                B::inverse(symmetry),
-                *from,
-                self.place,
-                self.start,
-            ),
+            pair: self.pair,
+            from: *from,
+            symmetry,
             entry,
-            class,
+            place: self.place,
+            start: self.start,
         }
     }
 
@@ -228,9 +216,9 @@ impl<'a, B: Geometry> Facing<'a, B> {
         ensures { OnOk result (out.new.items ≡ out.old.items ++ facing B.shape self.now.pair position.now) }
     {
         let from = turned(self.pair, position);
-        let (start, representative, carrying, class) = self.carrying(position, &from);
+        let (start, representative, carrying) = self.carrying(position, &from);
         for symmetry in carrying.iter() {
-            out.push(self.faced(position, &from, start, representative, symmetry, class))?;
+            out.push(self.faced(position, &from, start, representative, symmetry))?;
         }
         Ok(())
     }

@@ -79,7 +79,7 @@ impl<'a, B: Geometry> PredecessorEntries<'a, B> {
         ensures carried { OnOk result (out.new.items ≡ out.old.items ++ entries_before B.shape B.POINTS self.now.pair self.now.position from to) }
     {
         let mover = self.position.other().without(to).with(from);
-        let (start, representative, leading, _) = self.before.leads_of(mover);
+        let (start, representative, leading) = self.before.leads_of(mover);
         let carrying = leading.common(self.returning);
         for symmetry in carrying.iter() {
             let image = B::image_of(symmetry, self.position.own());

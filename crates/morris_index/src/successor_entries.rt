@@ -20,7 +20,7 @@ pub struct SuccessorEntries<'a, B: Geometry> {
     /// The pair that the position is one of, with its classes.
     pair: &'a ClassPair<B>,
     /// The position.
-    pub(crate) position: Position<B>,
+    position: Position<B>,
     /// How many stones the player to move has.
     count: u8,
     /// The symmetry that leads the positions after it.
@@ -92,6 +92,13 @@ impl<'a, B: Geometry> SuccessorEntries<'a, B> {
             place,
             start,
         }
+    }
+
+    /// The position.
+    pub fn position(&self) -> Position<B>
+        ensures { result ≡ self.now.position }
+    {
+        self.position
     }
 
     /// The entry of the position after a quiet move from `from` to `to`: a stone of the player to

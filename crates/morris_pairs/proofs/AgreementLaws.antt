@@ -174,7 +174,7 @@ none_says : (c : ℕ) → says 0 c ≡ false
 none_says c = false_from_ne_true (says 0 c) (λ h. let w = said_by c 0 h in omega (arith, w.0, w.1))
 
 -- two lists of results that pass the same tests give one code
-same_from_rule : (xs ys : List ℕ) → ((n : ℕ) → list_all (is_won_exit n) xs ≡ list_all (is_won_exit n) ys)
+pub same_from_rule : (xs ys : List ℕ) → ((n : ℕ) → list_all (is_won_exit n) xs ≡ list_all (is_won_exit n) ys)
     → ((n : ℕ) → list_any (is_lost_exit n) xs ≡ list_any (is_lost_exit n) ys) → code_from xs ≡ code_from ys
 same_from_rule xs ys all_same any_same = same_code (code_from xs) (code_from ys) lost won
   where
@@ -256,11 +256,11 @@ module _ (g : Net) (i : ℕ) where
 -- ---- agreement in the graph of a pair
 
 module _ (board : Shape) (t : Table) where
-  stated-quiet : (s : Sides) (m : Move) → is_quiet m ≡ true → stated_code board t s m ≡ get_or t.codes (entry_index board board.points t.layout t.pair (result_of s m)) 0
+  pub stated-quiet : (s : Sides) (m : Move) → is_quiet m ≡ true → stated_code board t s m ≡ get_or t.codes (entry_index board board.points t.layout t.pair (result_of s m)) 0
   unfolding stated_code
   stated-quiet s m quiet = cond-true {A = ℕ} (is_quiet m) (get_or t.codes (entry_index board board.points t.layout t.pair (result_of s m)) 0) (code_to 65534 board (result_of s m)) quiet
 
-  stated-capture : (s : Sides) (m : Move) → is_quiet m ≡ false → stated_code board t s m ≡ code_to 65534 board (result_of s m)
+  pub stated-capture : (s : Sides) (m : Move) → is_quiet m ≡ false → stated_code board t s m ≡ code_to 65534 board (result_of s m)
   unfolding stated_code
   stated-capture s m takes = cond-false {A = ℕ} (is_quiet m) (get_or t.codes (entry_index board board.points t.layout t.pair (result_of s m)) 0) (code_to 65534 board (result_of s m)) takes
 
@@ -416,7 +416,7 @@ module _ (board : Shape) (t : Table) (s : Sides) where
   unfolding quiet_codes
   quiet_codes-none = refl
 
-  pub quiet_codes-append : (ms more : List Move) → quiet_codes board t s (ms ++ more) ≡ quiet_codes board t s ms ++ quiet_codes board t s more
+  quiet_codes-append : (ms more : List Move) → quiet_codes board t s (ms ++ more) ≡ quiet_codes board t s ms ++ quiet_codes board t s more
   unfolding quiet_codes
   quiet_codes-append ms more =
       let f : Move → ℕ = λ x. get_or t.codes (entry_index board board.points t.layout t.pair (result_of s x)) 0 in
@@ -428,11 +428,11 @@ module _ (board : Shape) (t : Table) (s : Sides) where
   none_quiet u v (x ∷ ts) = none_quiet u v ts
 
   -- a move that closes a mill is not quiet, and one that closes none is
-  pub captures_none : (u v : ℕ) → closes board s.own u v ≡ true → quiet_codes board t s (moves_to board s u v) ≡ []
+  captures_none : (u v : ℕ) → closes board s.own u v ≡ true → quiet_codes board t s (moves_to board s u v) ≡ []
   unfolding moves_to
   captures_none u v shut = rw shut (none_quiet u v (members (takable board s.other)))
 
-  pub quiet_codes-one : (u v : ℕ) → closes board s.own u v ≡ false
+  quiet_codes-one : (u v : ℕ) → closes board s.own u v ≡ false
       → quiet_codes board t s (moves_to board s u v) ≡ get_or t.codes (entry_index board board.points t.layout t.pair (result_of s (move u v None))) 0 ∷ []
   unfolding moves_to quiet_codes
   quiet_codes-one u v free = rw free refl
@@ -448,6 +448,25 @@ module _ (board : Shape) (t : Table) (s : Sides) where
   pub codes_by-all : codes_by (members s.own) ≡ quiet_codes board t s (moves_of board s)
   unfolding moves_of
   codes_by-all = refl
+
+  -- the moves of the stone on u, to one point after another
+  abbrev pub codes_to : ℕ → List ℕ → List ℕ
+  codes_to u vs = quiet_codes board t s (flat_map (moves_to board s u) vs)
+
+  codes_to-more : (u : ℕ) (vs : List ℕ) (v : ℕ) → codes_to u (vs ++ v ∷ []) ≡ codes_to u vs ++ quiet_codes board t s (moves_to board s u v)
+  codes_to-more u vs v =
+      ap (quiet_codes board t s) (sym (flat_map_more (moves_to board s u) [] vs v)) ∙ quiet_codes-append (flat_map (moves_to board s u) vs) (moves_to board s u v)
+
+  pub codes_to-closing : (u : ℕ) (vs : List ℕ) (v : ℕ) → closes board s.own u v ≡ true → codes_to u (vs ++ v ∷ []) ≡ codes_to u vs
+  codes_to-closing u vs v shut = codes_to-more u vs v ∙ ap (λ xs. codes_to u vs ++ xs) (captures_none u v shut) ∙ append-nil (codes_to u vs)
+
+  pub codes_to-quiet : (u : ℕ) (vs : List ℕ) (v : ℕ) → closes board s.own u v ≡ false
+      → codes_to u (vs ++ v ∷ []) ≡ codes_to u vs ++ get_or t.codes (entry_index board board.points t.layout t.pair (result_of s (move u v None))) 0 ∷ []
+  codes_to-quiet u vs v free = codes_to-more u vs v ∙ ap (λ xs. codes_to u vs ++ xs) (quiet_codes-one u v free)
+
+  pub codes_to-all : (u : ℕ) → codes_to u (members (reach board s u)) ≡ quiet_codes board t s (moves_from board s u)
+  unfolding moves_from
+  codes_to-all u = refl
 
   and_swap : (a b : Bool) → (a && b) ≡ (b && a)
   and_swap true true = refl

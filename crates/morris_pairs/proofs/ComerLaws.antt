@@ -12,8 +12,7 @@ use Rattle.morris_moves.specs.Rules.{moved, closes, goes}
 use Rattle.morris_moves.proofs.MaskLaws.{in_mill-lines}
 use Rattle.morris_moves.proofs.ListLaws.{any_contained, contained_any}
 use Rattle.morris_moves.proofs.SetLaws.{has-member, member-has}
-use Rattle.morris_pairs.specs.QuietEnds.{is_quiet_end}
-use Rattle.morris_pairs.specs.Rows.{arrivals, may_close, is_closing_end}
+use Rattle.morris_pairs.specs.Rows.{arrivals, may_close, is_closing_end, is_quiet_end}
 
 -- ---- lists
 

@@ -16,7 +16,7 @@ use Rattle.morris_pairs.specs.Known.{WinsLateByCapture}
 use Rattle.morris_pairs.specs.NetLaws.{result-position}
 
 -- the image of a capture is a capture, and so is what has one for its image
-takes-image : (f : ℕ → ℕ) (o : Option ℕ) → is_none (option_map f o) ≡ is_none o
+pub takes-image : (f : ℕ → ℕ) (o : Option ℕ) → is_none (option_map f o) ≡ is_none o
 takes-image f None = refl
 takes-image f (Some t) = refl
 

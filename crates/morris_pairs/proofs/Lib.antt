@@ -21,6 +21,7 @@ pub mod Doubles
 pub mod ClassBackLaws
 pub mod RowNodeLaws
 pub mod ReorderLaws
+pub mod ResultLaws
 pub mod QuietLaws
 pub mod ComerLaws
 pub mod RowLaws
@@ -33,7 +34,6 @@ pub mod KeptLaws
 pub mod BuildLaws
 pub mod AgreementLaws
 pub mod WorthLaws
-pub mod EndLaws
 pub mod SharingLaws
 pub mod FaceLaws
 pub mod FileLaws

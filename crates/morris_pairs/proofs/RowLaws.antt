@@ -1,17 +1,21 @@
 -- The quiet moves of a position, from what is kept of its own stones.
-use Rattle.std.proofs.Common.{◌≡◌, ℕ, zero, suc, ◌+◌, ◌<◌, ◌≤◌, true, false, Bool, not, ◌&&◌, ◌||◌, cond, ltb, List, [], ◌∷◌, length, filter, slice_index, slice_set, refl, sym, ap, ap₂, ◌∙◌, inl, inr, arith, length-append}
-use Rattle.std.proofs.lemmas.Bool.{cases_Bool, cases_eq, cases_lt, lt-ltb, le-ltb, eq-eqb, ne_eqb}
+use Rattle.std.proofs.Common.{◌≡◌, ℕ, zero, suc, ◌+◌, ◌^◌, ◌<◌, ◌≤◌, true, false, Bool, not, ◌&&◌, ◌||◌, cond, ltb, eqb, List, [], ◌∷◌, ◌++◌, length, filter, slice_index, slice_set, refl, sym, ap, ap₂, subst, ◌∙◌, inl, inr, arith, length-append}
+use Rattle.std.proofs.lemmas.Bool.{cases_Bool, cases_eq, cases_lt, both_ways, lt-ltb, le-ltb, eq-eqb, eqb-true, ne_eqb, not-true}
 use Rattle.std.proofs.lemmas.Grind.{get_or-set_at}
 use Rattle.std.proofs.lemmas.List.{get_or-set_other}
 use Rattle.std.proofs.lemmas.List.Elements.{filter-append}
+use Rattle.std.proofs.lemmas.List.Folds.{list_any-append}
 use Rattle.std.specs.List.{flat_map, sum_by, list_any}
 use Rattle.std.proofs.lemmas.List.Sums.{sum_by-append}
 use Rattle.morris_board.specs.Sets.{has, members, count_of, with_point}
 use Rattle.morris_board.specs.Boards.{Shape}
 use Rattle.morris_board.specs.Positions.{Sides, IsPosition}
-use Rattle.morris_board.proofs.PointsLaws.{has-set_where, has-none, has-with, count_of-le}
+use Rattle.morris_board.proofs.PointsLaws.{same_test, has-set_where, has-none, has-with, count_of-le}
+use Rattle.morris_board.proofs.SetLaws.{point_lt}
 use Rattle.morris_moves.specs.Rules.{closes, goes, reach, is_vacant, may_go, moves_from, moves_of}
+use Rattle.morris_moves.proofs.ListLaws.{any_contained, contained_any}
 use Rattle.morris_moves.proofs.MaskLaws.{reach-lt}
+use Rattle.morris_moves.proofs.SetLaws.{has-member, member-has}
 use Rattle.morris_index.proofs.RankLaws.{passing, passing-yes, passing-no, members-passing}
 use Rattle.morris_index.proofs.Moving.{total, total-zero, total-suc}
 use Rattle.morris_wave.specs.declared.network.Exits.{Exits}
@@ -202,6 +206,18 @@ each_more f kept k x inside is before v h = elim (cases_eq v k) [
 ]
 
 -- a set of the points that pass a test, one more at a time
+or_false : (x : Bool) → (x || false) ≡ x
+or_false true = refl
+or_false false = refl
+
+or_true : (x : Bool) → (x || true) ≡ true
+or_true true = refl
+or_true false = refl
+
+and_false : (x : Bool) → (x && false) ≡ false
+and_false true = refl
+and_false false = refl
+
 module _ (test : ℕ → Bool) where
   abbrev pub AreBelow : ℕ → ℕ → Type 0
   AreBelow set k = (v : ℕ) → has set v ≡ (ltb v k && test v)
@@ -214,18 +230,6 @@ module _ (test : ℕ → Bool) where
     | inl l ↦ lt-ltb v (k + 1) (omega arith) ∙ sym (lt-ltb v k l)
     | inr g ↦ le-ltb v (k + 1) (omega arith) ∙ sym (le-ltb v k g)
   ]
-
-  or_false : (x : Bool) → (x || false) ≡ x
-  or_false true = refl
-  or_false false = refl
-
-  or_true : (x : Bool) → (x || true) ≡ true
-  or_true true = refl
-  or_true false = refl
-
-  and_false : (x : Bool) → (x && false) ≡ false
-  and_false true = refl
-  and_false false = refl
 
   pub below-yes : (set k : ℕ) → AreBelow set k → test k ≡ true → AreBelow (with_point set k) (k + 1)
   below-yes set k before y v = elim (cases_eq v k) [
@@ -243,6 +247,74 @@ module _ (test : ℕ → Bool) where
         rw e (before k ∙ (ap (λ x. x && test k) (le-ltb k k (omega arith)) ∙ sym (ap (λ x. ltb k (k + 1) && x) y ∙ and_false (ltb k (k + 1)))))
     | inr d ↦ before v ∙ ap (λ x. x && test v) (sym (same_ltb v k d))
   ]
+
+-- ---- the points of a list that pass a test, one after another
+
+module _ (test : ℕ → Bool) where
+  abbrev pub AreSoFar : ℕ → List ℕ → Type 0
+  AreSoFar set vs = (v : ℕ) → has set v ≡ (list_any (eqb v) vs && test v)
+
+  pub so_far-none : AreSoFar 0 []
+  so_far-none v = has-none v
+
+  any-more : (v : ℕ) (vs : List ℕ) (k : ℕ) → list_any (eqb v) (vs ++ k ∷ []) ≡ (list_any (eqb v) vs || eqb v k)
+  any-more v vs k = list_any-append (eqb v) vs (k ∷ []) ∙ ap (λ b. list_any (eqb v) vs || b) (or_false (eqb v k))
+
+  any-same : (v : ℕ) (vs : List ℕ) (k : ℕ) → (v ≡ k → ⊥) → list_any (eqb v) (vs ++ k ∷ []) ≡ list_any (eqb v) vs
+  any-same v vs k d = any-more v vs k ∙ ap (λ x. list_any (eqb v) vs || x) (ne_eqb v k d) ∙ or_false (list_any (eqb v) vs)
+
+  pub so_far-yes : (set k : ℕ) (vs : List ℕ) → AreSoFar set vs → test k ≡ true → AreSoFar (with_point set k) (vs ++ k ∷ [])
+  so_far-yes set k vs before y v = elim (cases_eq v k) [
+    | inl e ↦
+        has-with set k v ∙ ap (λ x. has set v || x) (eq-eqb v k e) ∙ or_true (has set v)
+        ∙ sym (ap₂ (λ a b. a && b) (any-more v vs k ∙ ap (λ x. list_any (eqb v) vs || x) (eq-eqb v k e) ∙ or_true (list_any (eqb v) vs)) (ap test e ∙ y))
+    | inr d ↦
+        has-with set k v ∙ ap (λ x. has set v || x) (ne_eqb v k d) ∙ or_false (has set v) ∙ before v
+        ∙ ap (λ x. x && test v) (sym (any-same v vs k d))
+  ]
+
+  pub so_far-no : (set k : ℕ) (vs : List ℕ) → AreSoFar set vs → test k ≡ false → AreSoFar set (vs ++ k ∷ [])
+  so_far-no set k vs before y v = elim (cases_eq v k) [
+    | inl e ↦
+        before v ∙ ap (λ x. list_any (eqb v) vs && x) (ap test e ∙ y) ∙ and_false (list_any (eqb v) vs)
+        ∙ sym (ap (λ x. list_any (eqb v) (vs ++ k ∷ []) && x) (ap test e ∙ y) ∙ and_false (list_any (eqb v) (vs ++ k ∷ [])))
+    | inr d ↦ before v ∙ ap (λ x. x && test v) (sym (any-same v vs k d))
+  ]
+
+-- the list of a set has its points
+pub listed_has : (s v : ℕ) → s < 2 ^ 32 → list_any (eqb v) (members s) ≡ has s v
+listed_has s v small = same_test (list_any (eqb v) (members s)) (has s v)
+    (λ h. let one = any_contained (eqb v) (members s) h in subst (λ x. has s x ≡ true) (sym (eqb-true v one.0 one.2)) (has-member s one.0 one.1))
+    (λ h. contained_any (eqb v) (members s) v (member-has s v (point_lt s 32 v small h) h) (eq-eqb v v refl))
+
+-- the vacant points at which a mill is closed are those that are closed and not the opponent's
+vacant_ends : (p q x a : Bool) → ((p && not (q || x)) && (not q && a)) ≡ ((p && (not q && a)) && not x)
+vacant_ends false q x a = refl
+vacant_ends true true x a = refl
+vacant_ends true false true true = refl
+vacant_ends true false true false = refl
+vacant_ends true false false true = refl
+vacant_ends true false false false = refl
+
+pub closing_there : (b : Shape) (n : ℕ) (s : Sides) (v : ℕ)
+    → ((ltb v n && is_vacant s v) && may_close b s.own v) ≡ ((ltb v n && may_close b s.own v) && not (has s.other v))
+unfolding may_close
+closing_there b n s v =
+    vacant_ends (ltb v n) (has s.own v) (has s.other v) (list_any (λ u. goes b (count_of s.own) u v && closes b s.own u v) (members s.own))
+
+-- ---- masks that are empty or not
+
+pub some_mask : (s : ℕ) → not (eqb s 0) ≡ true → 0 < s
+some_mask s h = elim (cases_eq s 0) [
+  | inl e ↦ absurd (both_ways (eqb s 0) (not-true (eqb s 0) h) (eq-eqb s 0 e))
+  | inr d ↦ omega arith
+]
+
+pub no_mask : (s : ℕ) → not (eqb s 0) ≡ false → s ≡ 0
+no_mask s h = elim (cases_eq s 0) [
+  | inl e ↦ e
+  | inr d ↦ absurd (both_ways (not (eqb s 0)) h (ap not (ne_eqb s 0 d)))
+]
 
 pub exits_more : (f : ℕ → Exits) (kept : List Exits) (k : ℕ) (x : Exits) → k < length kept → x ≡ f k → ((v : ℕ) → v < k → exits_at kept v ≡ f v)
     → (v : ℕ) → v < k + 1 → exits_at (slice_set kept k x) v ≡ f v

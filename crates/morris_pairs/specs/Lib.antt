@@ -25,10 +25,8 @@ pub mod ClassGraphs
 pub mod RowGraphs
 pub mod Agreement
 pub mod Faces
-pub mod OwnSets
 pub mod Sharing
 pub mod Worths
-pub mod QuietEnds
 pub mod Verifying
 pub mod Headline
 pub mod Building

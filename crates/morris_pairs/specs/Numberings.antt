@@ -24,12 +24,10 @@ pair_of (numbering.Classes pair) = pair
 abbrev pub layout_after : {B : Type 0} → Successors B → Layout
 layout_after (successors.Full from) = layout.Full
 layout_after (successors.Classes from) = layout.Classes
-layout_after (successors.Kept from) = layout.Classes
 
 abbrev pub position_before : {B : Type 0} → Successors B → InPair
 position_before (successors.Full from) = from
 position_before (successors.Classes from) = from
-position_before (successors.Kept from) = from.now
 
 -- the layout in which the entries before a position are found, and the position in its pair
 abbrev pub layout_before : {B : Type 0} → Predecessors B → Layout

@@ -20,6 +20,10 @@ may_close board own v = not (has own v) && list_any (λ u. goes board (count_of 
 unfoldable pub is_closing_end : Shape → ℕ → ℕ → ℕ → Bool
 is_closing_end board own u v = not (has own v) && (goes board (count_of own) u v && closes board own u v)
 
+-- whether it goes to v by a quiet move
+unfoldable pub is_quiet_end : Shape → ℕ → ℕ → ℕ → Bool
+is_quiet_end board own u v = not (has own v) && (goes board (count_of own) u v && not (closes board own u v))
+
 -- what is kept of the own stones
 pub record IsRow (board : Shape) (n : ℕ) (row : Row) : Type 0 where
   pub len : length row.arrivals ≡ 24

@@ -1,28 +1,26 @@
 //! Which entries of a table agree with the entries that their moves lead to.
-ghost use Rattle.std.specs.Prelude.{◌≡◌, ℕ, ◌<◌, ◌≤◌, ◌↔◌, ◌&&◌, true, not, None, slice_index, IfSome, IsTrue, MatchOption};
+ghost use Rattle.std.specs.Prelude.{◌≡◌, ℕ, ◌<◌, ◌≤◌, ◌↔◌, ◌==◌, true, None, IfSome, IsTrue, MatchOption};
 ghost use Rattle.std.specs.List.{Contains};
 ghost use Rattle.morris_board.specs.Sets.{has};
 ghost use Rattle.morris_board.specs.Positions.{IsPosition};
-ghost use Rattle.morris_moves.specs.Rules.{closes, move, moves_from, moves_of, reach, result_of};
+ghost use Rattle.morris_moves.specs.Rules.{move, moves_from, moves_of, result_of};
 ghost use Rattle.morris_index.specs.Pairs.{is_of};
 ghost use Rattle.morris_wave.specs.Exits.{exits_of};
 ghost use Rattle.morris_index.specs.Moves.{in_pair};
 ghost use Rattle.morris_pairs.specs.Entries.{entry_count, entry_index, has_own_entry};
 ghost use Rattle.morris_pairs.specs.Numberings.{layout_after, position_before};
 ghost use Rattle.morris_pairs.specs.PairNets.{capture_codes};
-ghost use Rattle.morris_pairs.specs.QuietEnds.{AreEnds};
 ghost use Rattle.morris_pairs.specs.Worths.{best_of, code_of_worth};
 ghost use Rattle.morris_pairs.specs.Agreement.{code_from, result_codes, quiet_codes, Agrees, IsFirstIn};
 
 use crate::graph::PairGraph;
 use crate::numbering::{Numbering, Successors};
-use crate::quiet_ends::QuietEnds;
 use crate::raw::Raw;
 use crate::rows::Row;
 use crate::worths::{code_of_worth, worth, worth_of};
 use morris_board::board::Geometry;
-use morris_board::points::Points;
 use morris_board::position::Position;
+use morris_moves::rules::{closes, reach};
 use morris_wave::Exits;
 
 /// The entry of the position that a quiet move leads to.
@@ -48,13 +46,12 @@ fn entry_after<B: Geometry>(
 }
 
 /// What the best result is worth of some whose best is worth `known` and those of the quiet moves
-/// of the stone on `from` to `ends`, as the table states them.
+/// of the stone on `from`, as the table states them.
 fn best_from<B: Geometry>(
     raw: &Raw<B>,
     successors: &Successors<'_, B>,
     position: &Position<B>,
     from: u8,
-    ends: Points,
     known: u32,
 ) -> u32
     requires counts { is_of raw.now.pair position.now ≡ true }
@@ -62,14 +59,15 @@ fn best_from<B: Geometry>(
     requires position { position_before successors.now ≡ in_pair raw.now.pair position.now }
     requires start { has position.now.own from ≡ true }
     requires inside { from < B.POINTS }
-    requires ends { (v : ℕ) → has ends v ≡ (has (reach B.shape position.now from) v && not (closes B.shape position.now.own from v)) }
     ensures { result ≡ best_of known (quiet_codes B.shape raw.now position.now (moves_from B.shape position.now from)) }
 {
-    // The proof learns the rules of a position where its stones are read.
-    let _ = position.own();
+    let own = position.own();
     let mut best = known;
-    for to in ends.iter() {
-        best = best.max(worth(raw.code(entry_after(raw, successors, position, from, to))));
+    for to in reach(position, from).iter() {
+        if !closes::<B>(own, from, to) {
+            let after = entry_after(raw, successors, position, from, to);
+            best = best.max(worth(raw.code(after)));
+        }
     }
     best
 }
@@ -80,14 +78,11 @@ fn best_after<B: Geometry>(
     raw: &Raw<B>,
     successors: &Successors<'_, B>,
     position: &Position<B>,
-    ends: &QuietEnds,
     captures: Exits,
 ) -> u32
     requires counts { is_of raw.now.pair position.now ≡ true }
     requires layout { layout_after successors.now ≡ raw.now.layout }
     requires position { position_before successors.now ≡ in_pair raw.now.pair position.now }
-    requires own { ends.now.own ≡ position.now.own }
-    requires ends { AreEnds B.shape B.POINTS ends.now }
     requires captures { captures ≡ exits_of (capture_codes B.shape position.now) }
     ensures { code_of_worth result ≡ code_from (result_codes B.shape raw.now position.now) }
 {
@@ -95,14 +90,7 @@ fn best_after<B: Geometry>(
     let _ = raw.pair();
     let mut best = worth_of(captures);
     for from in position.own().iter() {
-        best = best_from(
-            raw,
-            successors,
-            position,
-            from,
-            ends.from(position, from),
-            best,
-        );
+        best = best_from(raw, successors, position, from, best);
     }
     best
 }
@@ -119,31 +107,24 @@ fn best_at_once<B: Geometry>(raw: &Raw<B>, position: &Position<B>, captures: Exi
     }
 }
 
-/// Whether `code`, which the table states for a position that has an entry for its own, agrees,
-/// where what the entries after the position need is kept.
-pub(crate) fn agrees_after<B: Geometry>(
+/// Whether `code` is the one that the rules give a position from the codes of its results, where
+/// what the entries after the position need is kept.
+pub(crate) fn is_code_after<B: Geometry>(
     raw: &Raw<B>,
     code: u16,
     successors: &Successors<'_, B>,
     position: &Position<B>,
-    ends: &QuietEnds,
     captures: Exits,
 ) -> bool
-    requires code { code ≡ slice_index raw.now.codes (entry_index B.shape B.POINTS raw.now.layout raw.now.pair position.now) }
     requires counts { is_of raw.now.pair position.now ≡ true }
-    requires lawful { IsPosition B.shape position.now }
-    requires own { has_own_entry B.shape raw.now.layout position.now ≡ true }
     requires layout { layout_after successors.now ≡ raw.now.layout }
     requires position { position_before successors.now ≡ in_pair raw.now.pair position.now }
-    requires stones { ends.now.own ≡ position.now.own }
-    requires ends { AreEnds B.shape B.POINTS ends.now }
     requires captures { captures ≡ exits_of (capture_codes B.shape position.now) }
-    ensures { IsTrue result ↔ Agrees B.shape raw.now (entry_index B.shape B.POINTS raw.now.layout raw.now.pair position.now) }
+    ensures { result ≡ (code == code_from (result_codes B.shape raw.now position.now)) }
 {
-    let _ = raw.pair();
     let best = match best_at_once(raw, position, captures) {
         Some(best) => best,
-        None => best_after(raw, successors, position, ends, captures),
+        None => best_after(raw, successors, position, captures),
     };
     u32::from(code) == code_of_worth(best)
 }
@@ -153,7 +134,6 @@ pub(crate) fn agrees<B: Geometry>(
     raw: &Raw<B>,
     index: u64,
     position: &Position<B>,
-    ends: &QuietEnds,
     captures: Exits,
 ) -> bool
     requires inside { index < entry_count B.shape B.POINTS raw.now.layout raw.now.pair }
@@ -161,8 +141,6 @@ pub(crate) fn agrees<B: Geometry>(
     requires lawful { IsPosition B.shape position.now }
     requires own { has_own_entry B.shape raw.now.layout position.now ≡ true }
     requires at { entry_index B.shape B.POINTS raw.now.layout raw.now.pair position.now ≡ index }
-    requires stones { ends.now.own ≡ position.now.own }
-    requires ends { AreEnds B.shape B.POINTS ends.now }
     requires captures { captures ≡ exits_of (capture_codes B.shape position.now) }
     ensures { IsTrue result ↔ Agrees B.shape raw.now index }
 {
@@ -171,7 +149,7 @@ pub(crate) fn agrees<B: Geometry>(
         Some(best) => best,
         None => {
             let successors = Successors::of(raw.numbering(), position);
-            best_after(raw, &successors, position, ends, captures)
+            best_after(raw, &successors, position, captures)
         }
     };
     u32::from(raw.code(index)) == code_of_worth(best)
@@ -194,16 +172,14 @@ pub(crate) fn first_in<B: Geometry>(
     let numbering = raw.numbering();
     let mut position = numbering.position(first);
     let mut row = Row::of::<B>(position.own());
-    let mut ends = QuietEnds::of::<B>(position.own());
     for index in first..end {
         let captures = graph.exits_by_row(&row, &position);
-        if !agrees(raw, index, &position, &ends, captures) {
+        if !agrees(raw, index, &position, captures) {
             return Some(index);
         }
         if index + 1 < end {
             position = numbering.following(&position, index + 1);
             row.follow(&position);
-            ends.follow(&position);
         }
     }
     None

@@ -1,6 +1,6 @@
 //! The captures of a position, summed up by the stones that are faced after them. In a row in which
 //! the opponent has the same stones, several moves of several positions lead to the same ones.
-ghost use Rattle.std.specs.Prelude.{◌≡◌, ℕ, ◌++◌, ◌&&◌, true, nat_lt, List};
+ghost use Rattle.std.specs.Prelude.{◌≡◌, ℕ, ◌++◌, ◌&&◌, not, true, nat_lt, List};
 ghost use Rattle.morris_board.specs.Positions.{IsPosition};
 ghost use Rattle.morris_board.specs.Sets.{has, members};
 ghost use Rattle.morris_moves.specs.Rules.{moved};
@@ -78,7 +78,8 @@ fn with_facings<B: Geometry>(
 
 impl<'a, B: Geometry> PairGraph<'a, B> {
     /// The summary of what the captures of a position of the pair lead to, from the points at which
-    /// a move closes a mill where they are vacant.
+    /// a move closes a mill where they are vacant; points on which the opponent stands may be left
+    /// out.
     pub(crate) fn exits_by_facing(
         &self,
         position: &Position<B>,
@@ -87,7 +88,7 @@ impl<'a, B: Geometry> PairGraph<'a, B> {
     ) -> Exits
         requires counts { is_of self.now position.now ≡ true }
         requires lawful { IsPosition B.shape position.now }
-        requires closing { (v : ℕ) → has closing v ≡ (nat_lt v B.POINTS && may_close B.shape position.now.own v) }
+        requires closing { (v : ℕ) → (has closing v && not (has position.now.other v)) ≡ ((nat_lt v B.POINTS && may_close B.shape position.now.own v) && not (has position.now.other v)) }
         requires kept { AreKept (codes_facing B.shape) kept.old }
         ensures value { result ≡ exits_of (capture_codes B.shape position.now) }
         ensures kept { AreKept (codes_facing B.shape) kept.new }

@@ -1,5 +1,5 @@
 //! The graph of a pair.
-ghost use Rattle.std.specs.Prelude.{◌≡◌, ℕ, ◌+◌, ◌*◌, ◌<◌, ◌↔◌, ◌&&◌, true, Some, None, List, ◌++◌, slice_index, vec_len, is_some, nat_lt, IfOk, IfErr, OnOk, IfSome, MatchResult};
+ghost use Rattle.std.specs.Prelude.{◌≡◌, ℕ, ◌+◌, ◌*◌, ◌<◌, ◌↔◌, ◌&&◌, not, true, Some, None, List, ◌++◌, slice_index, vec_len, is_some, nat_lt, IfOk, IfErr, OnOk, IfSome, MatchResult};
 ghost use Rattle.std.specs.Option.{option_copied};
 ghost use Rattle.morris_board.specs.Positions.{IsPosition};
 ghost use Rattle.morris_board.specs.Sets.{has, members, count_of};
@@ -97,7 +97,7 @@ fn needed_table<'a, B: Geometry>(
 }
 
 /// The points at which the captures of a position close a mill, from those at which a move does
-/// where they are vacant.
+/// where they are vacant. Of these, points on which the opponent stands may be left out.
 ///
 /// # Errors
 /// The summary of the captures where no table is needed for it: there are none, or the opponent has
@@ -107,7 +107,7 @@ pub(crate) fn capture_ends<B: Geometry>(
     closing: Points,
 ) -> Result<Points, Exits>
     requires lawful { IsPosition B.shape position.now }
-    requires closing { (v : ℕ) → has closing v ≡ (nat_lt v B.POINTS && may_close B.shape position.now.own v) }
+    requires closing { (v : ℕ) → (has closing v && not (has position.now.other v)) ≡ ((nat_lt v B.POINTS && may_close B.shape position.now.own v) && not (has position.now.other v)) }
     ensures ends { IfOk result (λ ends. ends ≡ open_ends B.shape position.now.own position.now.other) }
     ensures above { OnOk result (3 < count_of position.now.other) }
     ensures known { IfErr result (λ exits. exits ≡ exits_of (capture_codes B.shape position.now)) }

@@ -18,7 +18,6 @@ pub mod layout;
 pub mod levels;
 mod numbered_row;
 mod numbering;
-mod quiet_ends;
 pub mod raw;
 pub mod reading;
 mod rounds;

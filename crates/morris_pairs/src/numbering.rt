@@ -179,8 +179,6 @@ pub(crate) enum Successors<'a, B: Geometry> {
     Full(SuccessorIndices<B>),
     /// Among those of classes.
     Classes(SuccessorEntries<'a, B>),
-    /// Among those of classes, where it is kept already.
-    Kept(&'a SuccessorEntries<'a, B>),
 }
 
 impl<'a, B: Geometry> Successors<'a, B> {
@@ -209,7 +207,6 @@ impl<'a, B: Geometry> Successors<'a, B> {
         match self {
             Successors::Full(indices) => indices.index(from, to),
             Successors::Classes(entries) => entries.entry(from, to),
-            Successors::Kept(entries) => entries.entry(from, to),
         }
     }
 }

@@ -5,12 +5,11 @@ ghost use Rattle.morris_pairs.specs.Agreement.{Agrees, IsFirstToDiffer};
 ghost use Rattle.morris_pairs.specs.Entries.{entry_count};
 ghost use Rattle.morris_pairs.specs.Faces.{FacesAgree};
 
-use crate::by_result::OwnSets;
 use crate::graph::PairGraph;
 use crate::layout::Layout;
 use crate::numbering::Numbering;
 use crate::raw::Raw;
-use crate::sharing::{Claim, Faces};
+use crate::sharing::Claim;
 use morris_board::board::{Board, Geometry};
 use morris_index::class_pair::ClassPair;
 use morris_wave::Watch;
@@ -29,30 +28,6 @@ fn round_count<B: Geometry>(raw: &Raw<B>) -> u64
     ensures points { B.shape.points ≡ B.POINTS }
 {
     raw.len().div_ceil(ROUND)
-}
-
-impl<B: Board, R: Threads + Sync> Faces<'_, B, R> {
-    /// Whether the entries of all positions are known to agree that face some.
-    ///
-    /// # Errors
-    /// [`AllocError`] where memory is refused.
-    fn rounds_agree<W: Watch>(&self, watch: &mut W) -> Result<bool, AllocError>
-        ensures agree { IfOk result (λ yes. yes ≡ true → (k : ℕ) → k < entry_count B.shape B.POINTS self.now.claim.now.raw.now.layout self.now.claim.now.raw.now.pair
-            → FacesAgree B.shape self.now.claim.now.raw.now k) }
-        ensures watched { W.becomes watch.old watch.new }
-    {
-        let raw = self.claim.raw;
-        let count = raw.len();
-        for round in 0..round_count(raw) {
-            let first = round * ROUND;
-            let end = first + ROUND.min(count - first);
-            if !self.agree_shared(first, end)? {
-                return Ok(false);
-            }
-            watch.entries(end);
-        }
-        Ok(true)
-    }
 }
 
 /// Whether all entries are known to agree, by what is known of those of all positions that face
@@ -88,7 +63,8 @@ impl<B: Board, R: Threads + Sync> Claim<'_, B, R> {
         None
     }
 
-    /// Whether the entries of all positions are known to agree that face one.
+    /// Whether the entries of all positions are known to agree that face one, where the entries are
+    /// those of classes.
     ///
     /// # Errors
     /// [`AllocError`] where memory is refused.
@@ -102,13 +78,16 @@ impl<B: Board, R: Threads + Sync> Claim<'_, B, R> {
         ensures faces { IfOk result (λ yes. yes ≡ true → (k : ℕ) → k < entry_count B.shape B.POINTS self.now.raw.now.layout self.now.raw.now.pair → FacesAgree B.shape self.now.raw.now k) }
         ensures watched { W.becomes watch.old watch.new }
     {
-        let sets = OwnSets::make(self.alloc, self.raw.pair())?;
-        let faces = Faces {
-            claim: self,
-            classes,
-            sets: &sets,
-        };
-        faces.rounds_agree(watch)
+        let count = self.raw.len();
+        for round in 0..round_count(self.raw) {
+            let first = round * ROUND;
+            let end = first + ROUND.min(count - first);
+            if !self.agree_shared(classes, first, end)? {
+                return Ok(false);
+            }
+            watch.entries(end);
+        }
+        Ok(true)
     }
 
     /// Whether all entries are known to agree. It isn't asked where they aren't those of classes.

@@ -1,14 +1,14 @@
 //! What the moves of the stones of one player are, whatever the opponent has.
-ghost use Rattle.std.specs.Prelude.{◌≡◌, ℕ, ◌<◌, ◌^◌, ◌&&◌, false, length, filter};
+ghost use Rattle.std.specs.Prelude.{◌≡◌, ℕ, ◌<◌, ◌^◌, ◌&&◌, not, nat_lt, false, length, filter};
 ghost use Rattle.morris_board.specs.Sets.{has, count_of, is_within};
 ghost use Rattle.morris_moves.specs.Rules.{closes, goes, moved, moves_of};
 ghost use Rattle.morris_pairs.specs.PairNets.{is_quiet};
-ghost use Rattle.morris_pairs.specs.QuietEnds.{is_quiet_end};
-ghost use Rattle.morris_pairs.specs.Rows.{is_closing_end, IsRow};
+ghost use Rattle.morris_pairs.specs.Rows.{is_closing_end, is_quiet_end, may_close, IsRow};
 
 use morris_board::board::Geometry;
 use morris_board::points::Points;
 use morris_board::position::Position;
+use morris_moves::rules::vacant;
 
 /// What is kept of the stones of one player.
 #[derive(Clone, Copy)]
@@ -79,6 +79,21 @@ pub(crate) fn arriving<B: Geometry>(own: Points, to: u8) -> (Points, Points)
     let comers = comers::<B>(own, to);
     let closers = closers::<B>(own, to);
     (comers.less(closers), comers.common(closers))
+}
+
+/// The vacant points at which a move closes a mill.
+pub(crate) fn closing_at<B: Geometry>(position: &Position<B>) -> Points
+    ensures { (v : ℕ) → has result v ≡ ((nat_lt v B.POINTS && may_close B.shape position.now.own v) && not (has position.now.other v)) }
+{
+    let own = position.own();
+    let mut closing = Points::EMPTY;
+    for to in vacant(position).iter() {
+        let (_, closers) = arriving::<B>(own, to);
+        if closers != Points::EMPTY {
+            closing = closing.with(to);
+        }
+    }
+    closing
 }
 
 impl Row {

@@ -8,7 +8,7 @@ ghost use Rattle.morris_pairs.specs.Sharing.{IsLeastOf, IsOfShare, ShareAgrees};
 ghost use Rattle.morris_pairs.specs.declared.layout.Layout.TheVariants.{Classes};
 
 use crate::agreeing::first_in;
-use crate::by_result::{Lists, OwnSets};
+use crate::by_result::Lists;
 use crate::graph::PairGraph;
 use crate::raw::Raw;
 use morris_board::board::{Board, Geometry};
@@ -45,28 +45,6 @@ impl<B: Geometry, R> Drop for Claim<'_, B, R> {
             workers: _,
             graph: _,
             raw: _,
-        } = self;
-    }
-}
-
-/// A table by classes that is verified by the positions that face those of its entries.
-pub(crate) struct Faces<'a, B: Geometry, R> {
-    /// The table, and who verifies it.
-    pub(crate) claim: &'a Claim<'a, B, R>,
-    /// How its entries are numbered.
-    pub(crate) classes: &'a ClassPair<B>,
-    /// What is kept of the sets of both numbers of stones.
-    pub(crate) sets: &'a OwnSets<B>,
-    ghost numbered: { classes.now ≡ claim.now.raw.now.pair },
-    ghost layout: { claim.now.raw.now.layout ≡ Classes },
-}
-
-impl<B: Geometry, R> Drop for Faces<'_, B, R> {
-    fn drop(self) {
-        let Faces {
-            claim: _,
-            classes: _,
-            sets: _,
         } = self;
     }
 }
@@ -155,38 +133,34 @@ fn all_true(found: &[Result<bool, AllocError>]) -> bool
     found.iter().all(|each| matches!(each, Ok(true)))
 }
 
-impl<'a, B: Geometry, R> Faces<'a, B, R> {
+impl<B: Geometry, R> Claim<'_, B, R> {
     /// Whether the entries of all positions are known to agree that face those of one worker's
-    /// entries: its stretches are those of [`first_of_share`](Claim::first_of_share).
+    /// entries, of a table by classes: its stretches are those of
+    /// [`first_of_share`](Claim::first_of_share).
     ///
     /// # Errors
     /// [`AllocError`] where memory is refused.
-    fn share_agrees(
+    fn share_agrees<'c>(
         &self,
-        lists: &mut Lists<'a, B>,
+        classes: &'c ClassPair<B>,
+        lists: &mut Lists<'c, B>,
         first: u64,
         end: u64,
         worker: u64,
     ) -> Result<bool, AllocError>
-        requires inside { end ≤ entry_count B.shape B.POINTS self.now.claim.now.raw.now.layout self.now.claim.now.raw.now.pair }
-        requires worker { worker < self.now.claim.now.workers }
-        ensures { IfOk result (λ yes. yes ≡ true → ShareAgrees B.shape self.now.claim.now.raw.now first end self.now.claim.now.workers worker) }
+        requires classes { classes.now ≡ self.now.raw.now.pair }
+        requires layout { self.now.raw.now.layout ≡ Classes }
+        requires inside { end ≤ entry_count B.shape B.POINTS self.now.raw.now.layout self.now.raw.now.pair }
+        requires worker { worker < self.now.workers }
+        ensures { IfOk result (λ yes. yes ≡ true → ShareAgrees B.shape self.now.raw.now first end self.now.workers worker) }
     {
-        let claim = self.claim;
-        let workers = claim.workers as u64;
+        let workers = self.workers as u64;
         let stretches = end.div_ceil(STRETCH);
         for stretch in first / STRETCH..stretches {
             if stretch % workers == worker {
                 let start = stretch * STRETCH;
                 let stop = start + STRETCH.min(end - start);
-                if !lists.faces_agree(
-                    self.sets,
-                    self.classes,
-                    claim.graph,
-                    claim.raw,
-                    start,
-                    stop,
-                )? {
+                if !lists.faces_agree(classes, self.graph, self.raw, start, stop)? {
                     return Ok(false);
                 }
             }
@@ -195,32 +169,36 @@ impl<'a, B: Geometry, R> Faces<'a, B, R> {
     }
 }
 
-impl<B: Board, R: Threads + Sync> Faces<'_, B, R> {
+impl<B: Board, R: Threads + Sync> Claim<'_, B, R> {
     /// What each worker knows of its share of the entries from `first` up to, not including, `end`.
     ///
     /// # Errors
     /// [`AllocError`] where memory is refused. Where a thread is, the caller's own does its work.
     fn known_shares(
         &self,
+        classes: &ClassPair<B>,
         first: u64,
         end: u64,
     ) -> Result<Vec<Result<bool, AllocError>>, AllocError>
-        requires inside { end ≤ entry_count B.shape B.POINTS self.now.claim.now.raw.now.layout self.now.claim.now.raw.now.pair }
-        ensures len { IfOk result (λ known. vec_len known ≡ self.now.claim.now.workers) }
-        ensures each { IfOk result (λ known. (w : ℕ) (d : _) → w < self.now.claim.now.workers
-            → IfOk (slice_index_or known.items w d) (λ yes. yes ≡ true → ShareAgrees B.shape self.now.claim.now.raw.now first end self.now.claim.now.workers w)) }
+        requires classes { classes.now ≡ self.now.raw.now.pair }
+        requires layout { self.now.raw.now.layout ≡ Classes }
+        requires inside { end ≤ entry_count B.shape B.POINTS self.now.raw.now.layout self.now.raw.now.pair }
+        ensures len { IfOk result (λ known. vec_len known ≡ self.now.workers) }
+        ensures each { IfOk result (λ known. (w : ℕ) (d : _) → w < self.now.workers
+            → IfOk (slice_index_or known.items w d) (λ yes. yes ≡ true → ShareAgrees B.shape self.now.raw.now first end self.now.workers w)) }
     {
         thread::map_indices(
-            self.claim.rt,
-            self.claim.alloc,
-            self.claim.workers,
+            self.rt,
+            self.alloc,
+            self.workers,
             &|worker| -> Result<bool, AllocError>
-                requires { (end ≤ entry_count B.shape B.POINTS self.now.claim.now.raw.now.layout self.now.claim.now.raw.now.pair) × (worker < self.now.claim.now.workers) }
+                requires { (classes.now ≡ self.now.raw.now.pair) × (self.now.raw.now.layout ≡ Classes)
+                    × (end ≤ entry_count B.shape B.POINTS self.now.raw.now.layout self.now.raw.now.pair) × (worker < self.now.workers) }
                 ensures { IfOk result (λ yes. yes ≡ true
-                    → ShareAgrees B.shape self.entry.now.claim.now.raw.now first end self.entry.now.claim.now.workers worker) }
+                    → ShareAgrees B.shape self.entry.now.raw.now first end self.entry.now.workers worker) }
             {
-                let mut lists = Lists::new(self.claim.alloc);
-                self.share_agrees(&mut lists, first, end, worker as u64)
+                let mut lists = Lists::new(self.alloc);
+                self.share_agrees(classes, &mut lists, first, end, worker as u64)
             },
         )
     }
@@ -230,11 +208,18 @@ impl<B: Board, R: Threads + Sync> Faces<'_, B, R> {
     ///
     /// # Errors
     /// [`AllocError`] where memory is refused.
-    pub(crate) fn agree_shared(&self, first: u64, end: u64) -> Result<bool, AllocError>
-        requires inside { end ≤ entry_count B.shape B.POINTS self.now.claim.now.raw.now.layout self.now.claim.now.raw.now.pair }
-        ensures { IfOk result (λ yes. yes ≡ true → (k : ℕ) → first ≤ k → k < end → FacesAgree B.shape self.now.claim.now.raw.now k) }
+    pub(crate) fn agree_shared(
+        &self,
+        classes: &ClassPair<B>,
+        first: u64,
+        end: u64,
+    ) -> Result<bool, AllocError>
+        requires classes { classes.now ≡ self.now.raw.now.pair }
+        requires layout { self.now.raw.now.layout ≡ Classes }
+        requires inside { end ≤ entry_count B.shape B.POINTS self.now.raw.now.layout self.now.raw.now.pair }
+        ensures { IfOk result (λ yes. yes ≡ true → (k : ℕ) → first ≤ k → k < end → FacesAgree B.shape self.now.raw.now k) }
     {
-        let known = self.known_shares(first, end)?;
+        let known = self.known_shares(classes, first, end)?;
         Ok(all_true(&known))
     }
 }

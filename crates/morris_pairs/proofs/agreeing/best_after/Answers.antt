@@ -16,20 +16,6 @@ loop-from-init g c = record {
       ∙ sym (ap (best_of (worth_of c.args.captures)) (quiet_codes-none g.B.Geometry.shape c.args.raw.now c.args.position.now) ∙ best_of-none (worth_of c.args.captures));
 }
 
-pub from-requires-clause-start : goal.from-requires-clause-start
-from-requires-clause-start g c =
-    end_of c.args.position.now.own c.in-Some.from c.loop-from.yielded _ _ c.loop-from.invariant.points c.in-Some.ensures.steps
-
-pub from-requires-clause-inside : goal.from-requires-clause-inside
-from-requires-clause-inside g c =
-    let here : has c.args.position.now.own c.in-Some.from ≡ true =
-    end_of c.args.position.now.own c.in-Some.from c.loop-from.yielded _ _ c.loop-from.invariant.points c.in-Some.ensures.steps in
-    omega (
-      arith,
-      g.met.B.Geometry.point_count,
-      point_lt c.args.position.now.own g.B.Geometry.shape.points c.in-Some.from c.own.ensures.lawful.stones.own_within here,
-    )
-
 pub best_from-best-requires-clause-start : goal.best_from-best-requires-clause-start
 best_from-best-requires-clause-start g c =
     end_of c.args.position.now.own c.in-Some.from c.loop-from.yielded _ _ c.loop-from.invariant.points c.in-Some.ensures.steps

@@ -28,8 +28,6 @@ loop-index-init g c =
       own = rw layout at begin.own;
       row = c.of-row.ensures.row;
       same = c.of-row.ensures.own ∙ c.own.ensures.points;
-      ends = c.of-ends.ensures.ends;
-      same_ends = c.of-ends.ensures.own ∙ c.own-2.ensures.points;
       agreed = λ k from low. absurd (omega (arith, from, low));
     }
 
@@ -59,26 +57,22 @@ loop-index-preserved g c =
     let agreed : (k : ℕ) → c.args.first ≤ k → k < c.loop-index.index + 1 → Agrees g.B.Geometry.shape t k =
     more (Agrees g.B.Geometry.shape t) c.args.first c.loop-index.index inv.agreed (c.agrees.ensures.0 c.if-not-agrees.false) in
     elim c.if-index-end.branch [
-      | then-index-end w ↦ rw (w.position-is, w.row-is, w.ends-is) (record {
+      | then-index-end w ↦ rw (w.position-is, w.row-is) (record {
         at = λ _. rw (layout, pair) at w.following-position.ensures.entry;
         counts = rw pair at w.following-position.ensures.counts;
         lawful = w.following-position.ensures.lawful;
         own = rw layout at w.following-position.ensures.own;
         row = w.follow.ensures.row;
         same = w.follow.ensures.own;
-        ends = w.follow-then-index-end.ensures.ends;
-        same_ends = w.follow-then-index-end.ensures.own;
         agreed = agreed;
       })
-      | else-index-end w ↦ rw (w.position-is, w.row-is, w.ends-is) (record {
+      | else-index-end w ↦ rw (w.position-is, w.row-is) (record {
         at = λ low. absurd (omega (arith, low, w.if-index-end.false));
         counts = inv.counts;
         lawful = inv.lawful;
         own = inv.own;
         row = inv.row;
         same = inv.same;
-        ends = inv.ends;
-        same_ends = inv.same_ends;
         agreed = agreed;
       })
     ]

@@ -3,7 +3,6 @@ use Rattle.morris_board.specs.Positions.{IsPosition}
 use Rattle.morris_index.specs.Pairs.{is_of}
 use Rattle.morris_pairs.specs.Agreement.{Agrees}
 use Rattle.morris_pairs.specs.Entries.{entry_index, has_own_entry}
-use Rattle.morris_pairs.specs.QuietEnds.{AreEnds}
 use Rattle.morris_pairs.specs.Rows.{IsRow}
 use Rattle.morris_pairs.proofs.agreeing.first_in.Given as goal
 
@@ -15,7 +14,5 @@ invariant-loop-index g l = record {
   own : has_own_entry g.B.Geometry.shape l.raw.layout l.position ≡ true;
   row : IsRow g.B.Geometry.shape g.B.Geometry.POINTS l.row;
   same : l.row.own ≡ l.position.own;
-  ends : AreEnds g.B.Geometry.shape g.B.Geometry.POINTS l.ends;
-  same_ends : l.ends.own ≡ l.position.own;
   agreed : (k : ℕ) → l.fn.first ≤ k → k < l.index → Agrees g.B.Geometry.shape l.raw k;
 }

@@ -1,4 +1,4 @@
-use Rattle.std.proofs.Common.{◌≡◌, ◌<◌, ◌&&◌, not, sym, ap, ap₂, inl, inr, ◌∙◌, arith}
+use Rattle.std.proofs.Common.{◌≡◌, ◌<◌, ◌&&◌, not, sym, ap, inl, inr, ◌∙◌, arith}
 use Rattle.std.proofs.lemmas.Bool.{cases_eq, eqb-true, eqb-false}
 use Rattle.morris_board.specs.Sets.{has, count_of}
 use Rattle.morris_board.proofs.PositionLaws.{other_count}
@@ -11,7 +11,7 @@ use Rattle.morris_pairs.proofs.graph.capture_ends.Goals.{After-less-ends}
 is : (g : given.Over) (c : After-less-ends g) → c.less-ends.result ≡ open_ends g.B.Geometry.shape c.args.position.now.own c.args.position.now.other
 is g c =
     ends_of g.B.Geometry.shape g.B.Geometry.POINTS g.met.B.Geometry.point_count g.met.B.Geometry.few c.args.position.now c.requires.lawful c.less-ends.result
-    (λ v. c.less-ends.ensures v ∙ ap₂ (λ x y. x && not y) (c.requires.closing v) (ap (λ o. has o v) c.other-other.ensures.points))
+    (λ v. c.less-ends.ensures v ∙ ap (λ o. has c.args.closing v && not (has o v)) c.other-other.ensures.points ∙ c.requires.closing v)
 
 pub returns-then-eq-clause-known : goal.returns-then-eq-clause-known
 returns-then-eq-clause-known g c =

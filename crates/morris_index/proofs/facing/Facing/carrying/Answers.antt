@@ -3,7 +3,7 @@ use Rattle.std.proofs.Common.{◌≡◌, ◌&&◌, ltb, true, sym, ap, ap₂, su
 use Rattle.morris_board.specs.Sets.{count_of}
 use Rattle.morris_board.specs.Positions.{Sides}
 use Rattle.morris_index.specs.Carried.{carries, AreReturning}
-use Rattle.morris_index.specs.Classes.{AreLeading, class_of}
+use Rattle.morris_index.specs.Classes.{AreLeading}
 use Rattle.morris_index.specs.ClassMoves.{class_start_of}
 use Rattle.morris_index.specs.Halves.{HalfOf}
 use Rattle.morris_index.specs.Moves.{InPair}
@@ -40,6 +40,3 @@ returns-clause-carrying g c =
     subst (λ x. AreReturning g.B.Geometry.shape x c.self.inside.returning) same c.self.invariant.0.returns in
     λ t. both_carry g.B.Geometry.shape c.args.position.now c.args.position.now.other c.leads_of-start.result.2 c.self.inside.returning c.common.result leads returns c.common.ensures t
     ∙ ap (λ n. ltb t n && carries g.B.Geometry.shape c.args.position.now c.args.position.now.other t) g.met.B.Geometry.symmetry_count
-
-pub returns-clause-class : goal.returns-clause-class
-returns-clause-class g c = c.leads_of-start.ensures.class ∙ ap (class_of g.B.Geometry.shape) (c.own-own.ensures.points ∙ ap (λ (s : Sides). s.own) c.requires.from)

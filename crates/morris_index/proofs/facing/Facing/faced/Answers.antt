@@ -1,28 +1,28 @@
 -- What the symmetry makes of the turned position is one that faces it.
 use Rattle.std.proofs.Common.{◌≡◌, ◌<◌, true, sym, ap, ap₂, subst, ◌∙◌, arith}
+use Rattle.morris_board.specs.Positions.{Sides}
 use Rattle.morris_board.specs.Sets.{count_of}
-use Rattle.morris_board.specs.Symmetries.{image_sides}
-use Rattle.morris_index.specs.Classes.{class_of, representative_of}
+use Rattle.morris_board.specs.Symmetries.{image_of, image_sides}
 use Rattle.morris_index.specs.ClassMoves.{class_start_of}
 use Rattle.morris_index.specs.ClassPairs.{class_index_of}
-use Rattle.morris_index.specs.Facing.{turned, IsFaced}
-use Rattle.morris_index.specs.Moves.{InPair, in_pair}
+use Rattle.morris_index.specs.Facing.{turned}
+use Rattle.morris_index.specs.Moves.{InPair}
 use Rattle.morris_index.specs.Pairs.{is_of}
 use Rattle.morris_index.proofs.CarriedLaws.{IsCarried}
-use Rattle.morris_index.proofs.ClassLaws.{class_of-representative}
-use Rattle.morris_index.proofs.FacingLaws.{same_others, faced_carried, faced_led, is_faced}
+use Rattle.morris_index.proofs.FacingLaws.{same_others, faced_carried, faced_from, is_faced}
 use Rattle.morris_index.proofs.facing.Facing.faced.Given as given
 use Rattle.morris_index.proofs.facing.Facing.faced.Goals as goal
 use Rattle.morris_index.proofs.facing.Facing.faced.Goals.{After-count}
 
 -- the position that is read, that it is one of the pair, and what the symmetry makes of the turned one
-facing_it : (g : given.Over) (c : After-count g) → (c.image-faced.result ≡ image_sides (g.B.Geometry.shape.image c.args.symmetry) (turned c.args.position.now))
+facing_it : (g : given.Over) (c : After-count g)
+    → (c.image_of-other.result ≡ image_of (g.B.Geometry.shape.image c.args.symmetry) c.args.position.now.own)
     × (is_of c.self.inside.pair.now c.args.position.now ≡ true) × (c.args.symmetry < g.B.Geometry.shape.symmetries)
     × IsCarried g.B.Geometry.shape g.B.Geometry.POINTS (turned c.args.position.now) c.args.symmetry
 facing_it g c =
     let of : is_of c.self.inside.pair.now c.args.position.now ≡ true = subst (λ (q : InPair). is_of q.pair c.args.position.now ≡ true) (sym c.self.view_is) c.requires.counts in
     let s_in : c.args.symmetry < g.B.Geometry.shape.symmetries = omega (arith, c.requires.symmetry, g.met.B.Geometry.symmetry_count) in (
-      c.image-faced.ensures.image ∙ ap (image_sides (g.B.Geometry.shape.image c.args.symmetry)) c.requires.from,
+      c.image_of-other.ensures ∙ ap (image_of (g.B.Geometry.shape.image c.args.symmetry)) (c.other.ensures.points ∙ ap (λ (s : Sides). s.other) c.requires.from),
       of,
       s_in,
       faced_carried g.B.Geometry.shape g.B.Geometry.POINTS g.met.B.Geometry.few g.met.B.Geometry.point_count g.met.B.Geometry.has_symmetries c.self.inside.pair.now c.self.invariant.0.pair c.args.position.now c.own.ensures.lawful of c.requires.own c.args.symmetry s_in c.requires.carries,
@@ -31,37 +31,31 @@ facing_it g c =
 pub entry_outside-entry-requires-clause-board : goal.entry_outside-entry-requires-clause-board
 entry_outside-entry-requires-clause-board g c =
     let is = facing_it g (goal.at.entry_outside-entry-requires-clause-board g c).After-count in
-    rw (c.other-other.ensures.points, is.0) is.3.within
+    rw is.0 is.3.within
+
+pub entry_outside-entry-requires-clause-few : goal.entry_outside-entry-requires-clause-few
+entry_outside-entry-requires-clause-few g c =
+    let is = facing_it g (goal.at.entry_outside-entry-requires-clause-few g c).After-count in
+    rw is.0 is.3.most
 
 pub entry_outside-entry-requires-clause-apart : goal.entry_outside-entry-requires-clause-apart
 entry_outside-entry-requires-clause-apart g c =
     let is = facing_it g (goal.at.entry_outside-entry-requires-clause-apart g c).After-count in
-    rw (c.other-other.ensures.points, c.requires.representative, is.0) is.3.apart
-
-pub led_by-requires : goal.led_by-requires
-led_by-requires g c =
-    let is = facing_it g (goal.at.led_by-requires g c).After-count in
-    let same : c.args.position.now.own ≡ c.self.inside.position.own = c.requires.same ∙ ap (λ (q : InPair). q.position.own) (sym c.self.view_is) in
-    let others : count_of c.args.position.now.other ≡ count_of c.self.inside.position.other =
-    same_others c.self.inside.pair.now c.args.position.now c.self.inside.position is.1 c.self.invariant.0.counts same in
-    let start : c.self.inside.start ≡ class_start_of g.B.Geometry.shape g.B.Geometry.POINTS c.self.inside.pair.now c.args.position.now.own (count_of c.args.position.now.other) =
-    c.self.invariant.0.start ∙ ap₂ (class_start_of g.B.Geometry.shape g.B.Geometry.POINTS c.self.inside.pair.now) (sym same) (sym others) in
-    record {
-      led = rw (is.0, c.inverse.ensures, c.requires.from) (faced_led g.B.Geometry.shape g.B.Geometry.POINTS g.met.B.Geometry.few g.met.B.Geometry.point_count g.met.B.Geometry.has_symmetries c.self.inside.pair.now c.self.invariant.0.pair c.args.position.now c.own.ensures.lawful is.1 c.requires.own c.args.symmetry is.2 c.requires.carries c.self.inside.start start c.self.invariant.0.few);
-      place = rw c.requires.from (c.self.invariant.1 ∙ sym same);
-    }
+    rw (c.requires.representative, is.0) is.3.apart
 
 pub invariant_of-result : goal.invariant_of-result
 invariant_of-result g c =
     let is = facing_it g (goal.at.invariant_of-result g c).After-count in
+    let same : c.args.position.now.own ≡ c.self.inside.position.own = c.requires.same ∙ ap (λ (q : InPair). q.position.own) (sym c.self.view_is) in
+    let others : count_of c.args.position.now.other ≡ count_of c.self.inside.position.other =
+    same_others c.self.inside.pair.now c.args.position.now c.self.inside.position is.1 c.self.invariant.0.counts same in
+    let first : c.self.inside.start ≡ class_start_of g.B.Geometry.shape g.B.Geometry.POINTS c.self.inside.pair.now c.args.position.now.own (count_of c.args.position.now.other) =
+    c.self.invariant.0.start ∙ ap₂ (class_start_of g.B.Geometry.shape g.B.Geometry.POINTS c.self.inside.pair.now) (sym same) (sym others) in
     let start : c.args.start ≡ class_start_of g.B.Geometry.shape g.B.Geometry.POINTS c.self.inside.pair.now c.args.position.now.other (count_of c.args.position.now.own) =
     subst (λ (q : InPair). c.args.start ≡ class_start_of g.B.Geometry.shape g.B.Geometry.POINTS q.pair c.args.position.now.other (count_of c.args.position.now.own)) (sym c.self.view_is) c.requires.start in
     let entry : c.entry_outside-entry.result ≡ class_index_of g.B.Geometry.shape g.B.Geometry.POINTS c.self.inside.pair.now (image_sides (g.B.Geometry.shape.image c.args.symmetry) (turned c.args.position.now)) =
-    rw (c.entry_outside-entry.ensures, c.other-other.ensures.points, c.requires.representative, is.0, start) (is.3.entry c.self.inside.pair.now) in
-    let led : c.led_by.result ≡ in_pair c.self.inside.pair.now (image_sides (g.B.Geometry.shape.image c.args.symmetry) (turned c.args.position.now)) =
-    c.led_by.ensures ∙ ap (in_pair c.self.inside.pair.now) is.0 in
-    let own : c.led_by.result.position.own ≡ representative_of g.B.Geometry.shape c.args.position.now.other = ap (λ (q : InPair). q.position.own) led ∙ is.3.own in (
-      subst (λ q. IsFaced g.B.Geometry.shape g.B.Geometry.POINTS q c.entry_outside-entry.result) (sym led)
-          (is_faced g.B.Geometry.shape g.B.Geometry.POINTS g.met.B.Geometry.few g.met.B.Geometry.point_count g.met.B.Geometry.has_symmetries c.self.inside.pair.now c.self.invariant.0.pair c.args.position.now c.own.ensures.lawful is.1 c.requires.own c.args.symmetry is.2 c.requires.carries c.entry_outside-entry.result entry),
-      c.requires.class ∙ sym (ap (class_of g.B.Geometry.shape) own ∙ class_of-representative g.B.Geometry.shape (omega (arith, g.met.B.Geometry.few, g.met.B.Geometry.point_count)) g.met.B.Geometry.has_symmetries c.args.position.now.other c.own.ensures.lawful.stones.other_within),
+    rw (c.entry_outside-entry.ensures, c.requires.representative, is.0, start) (is.3.entry c.self.inside.pair.now) in
+    rw c.requires.from (
+      is_faced g.B.Geometry.shape g.B.Geometry.POINTS g.met.B.Geometry.few g.met.B.Geometry.point_count g.met.B.Geometry.has_symmetries c.self.inside.pair.now c.self.invariant.0.pair c.args.position.now c.own.ensures.lawful is.1 c.requires.own c.args.symmetry is.2 c.requires.carries c.entry_outside-entry.result entry,
+      faced_from g.B.Geometry.shape g.B.Geometry.POINTS g.met.B.Geometry.few g.met.B.Geometry.point_count g.met.B.Geometry.has_symmetries c.self.inside.pair.now c.self.invariant.0.pair c.args.position.now c.own.ensures.lawful is.1 c.requires.own c.args.symmetry is.2 c.requires.carries c.self.inside.place c.self.inside.start (c.self.invariant.1 ∙ sym same) first c.self.invariant.0.few,
     )

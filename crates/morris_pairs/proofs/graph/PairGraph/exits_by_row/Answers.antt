@@ -1,5 +1,5 @@
-use Rattle.std.proofs.Common.{sym, ap, ◌∙◌}
-use Rattle.morris_board.specs.Sets.{members}
+use Rattle.std.proofs.Common.{◌&&◌, not, sym, ap, ◌∙◌}
+use Rattle.morris_board.specs.Sets.{has, members}
 use Rattle.morris_moves.specs.Rules.{takable}
 use Rattle.morris_pairs.specs.Graphs.{exits_by}
 use Rattle.morris_pairs.proofs.BackLawsLoops.{end_of, next_points, none_left}
@@ -8,9 +8,9 @@ use Rattle.morris_pairs.proofs.CaptureLaws.{kept_captures, kept_more, kept_suffi
 use Rattle.morris_pairs.proofs.graph.PairGraph.exits_by_row.Goals as goal
 
 pub capture_ends-requires-clause-closing : goal.capture_ends-requires-clause-closing
-capture_ends-requires-clause-closing g c =
-    row_ends g.B.Geometry.shape g.B.Geometry.POINTS g.met.B.Geometry.point_count g.met.B.Geometry.few c.args.position.now c.requires.lawful
-    c.args.row.now c.requires.own c.requires.row
+capture_ends-requires-clause-closing g c = λ v.
+    ap (λ x. x && not (has c.args.position.now.other v)) (row_ends g.B.Geometry.shape g.B.Geometry.POINTS g.met.B.Geometry.point_count g.met.B.Geometry.few c.args.position.now c.requires.lawful
+    c.args.row.now c.requires.own c.requires.row v)
 
 pub loop-taken-init : goal.loop-taken-init
 loop-taken-init g c = record {

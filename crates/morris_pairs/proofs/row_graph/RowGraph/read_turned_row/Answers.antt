@@ -1,7 +1,7 @@
-use Rattle.std.proofs.Common.{◌≡◌, ℕ, ◌+◌, ◌<◌, ◌^◌, ◌&&◌, true, ltb, length, filter, sym, ap, subst, ◌∙◌, arith}
+use Rattle.std.proofs.Common.{◌≡◌, ℕ, ◌+◌, ◌<◌, ◌^◌, ◌&&◌, not, true, ltb, length, filter, sym, ap, subst, ◌∙◌, arith}
 use Rattle.std.proofs.lemmas.List.{length-set}
 use Rattle.morris_board.specs.Boards.{Shape}
-use Rattle.morris_board.specs.Sets.{count_of}
+use Rattle.morris_board.specs.Sets.{has, count_of}
 use Rattle.morris_board.specs.Positions.{Sides}
 use Rattle.morris_moves.specs.Rules.{moves_of}
 use Rattle.morris_index.specs.Classes.{representative_of}
@@ -36,7 +36,8 @@ exits_by_facing-requires-clause-counts g c =
 
 pub exits_by_facing-requires-clause-closing : goal.exits_by_facing-requires-clause-closing
 exits_by_facing-requires-clause-closing g c = λ v.
-    c.moves_of-moves.ensures.kept.closing v ∙ ap (λ o. ltb v g.B.Geometry.POINTS && may_close g.B.Geometry.shape o v) (c.moves_of-moves.ensures.own ∙ c.own.ensures.points)
+    ap (λ x. x && not (has c.turned-position.result.other v))
+    (c.moves_of-moves.ensures.kept.closing v ∙ ap (λ o. ltb v g.B.Geometry.POINTS && may_close g.B.Geometry.shape o v) (c.moves_of-moves.ensures.own ∙ c.own.ensures.points))
 
 pub loop-place-preserved : goal.loop-place-preserved
 loop-place-preserved g c =

@@ -1,11 +1,10 @@
-use Rattle.std.proofs.Common.{◌≡◌, ℕ, ◌+◌, ◌<◌, ◌&&◌, true, false, not, suc, eqb, sym, ap, ◌∙◌, inl, inr, arith, refl}
-use Rattle.std.proofs.lemmas.Bool.{cases_eq, eq-eqb, ne_eqb, not-true, both_ways}
+use Rattle.std.proofs.Common.{◌≡◌, ℕ, ◌+◌, ◌&&◌, suc, sym, ap, ◌∙◌, arith, refl}
 use Rattle.std.proofs.lemmas.List.{length-set}
 use Rattle.morris_board.specs.Sets.{has}
 use Rattle.morris_index.proofs.Moving.{total, total-zero, total-suc}
 use Rattle.morris_pairs.specs.Rows.{arrivals, may_close, is_closing_end}
 use Rattle.morris_pairs.proofs.ComerLaws.{count-quiet, closing-some, closing-none, holds_more}
-use Rattle.morris_pairs.proofs.RowLaws.{each_more, below-start, below-yes, below-no}
+use Rattle.morris_pairs.proofs.RowLaws.{each_more, below-start, below-yes, below-no, some_mask, no_mask}
 use Rattle.morris_pairs.proofs.rows.Row.of.Goals as goal
 use Rattle.morris_pairs.proofs.rows.Row.of.Goals.{then-ne, else-ne}
 
@@ -19,18 +18,6 @@ loop-to-init g c = record {
   closers = λ v h. absurd (omega arith);
   closing = below-start (may_close g.B.Geometry.shape c.args.own);
 }
-
-some_mask : (s : ℕ) → not (eqb s 0) ≡ true → 0 < s
-some_mask s h = elim (cases_eq s 0) [
-  | inl e ↦ absurd (both_ways (eqb s 0) (not-true (eqb s 0) h) (eq-eqb s 0 e))
-  | inr d ↦ omega arith
-]
-
-no_mask : (s : ℕ) → not (eqb s 0) ≡ false → s ≡ 0
-no_mask s h = elim (cases_eq s 0) [
-  | inl e ↦ e
-  | inr d ↦ absurd (both_ways (not (eqb s 0)) h (ap not (ne_eqb s 0 d)))
-]
 
 pub loop-to-preserved : goal.loop-to-preserved
 loop-to-preserved g c =

@@ -2,7 +2,7 @@ use Rattle.std.proofs.Common.{take}
 use Rattle.std.specs.List.{All}
 use Rattle.morris_pairs.specs.Faces.{EntryAgrees}
 use Rattle.morris_pairs.specs.KeptCaptures.{AreKept, codes_facing}
-use Rattle.morris_pairs.proofs.by_result.OwnSets.all_agree.Given as goal
+use Rattle.morris_pairs.proofs.by_result.all_agree.Given as goal
 
 abbrev pub invariant-loop-place : goal.invariant-loop-place
 invariant-loop-place g l = record {

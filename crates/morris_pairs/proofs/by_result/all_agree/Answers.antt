@@ -5,7 +5,7 @@ use Rattle.std.proofs.lemmas.List.Elements.{All-more}
 use Rattle.morris_index.specs.Moves.{InPair}
 use Rattle.morris_pairs.specs.Faces.{EntryAgrees}
 use Rattle.morris_pairs.proofs.FaceLaws.{length-codes, codes-at}
-use Rattle.morris_pairs.proofs.by_result.OwnSets.all_agree.Goals as goal
+use Rattle.morris_pairs.proofs.by_result.all_agree.Goals as goal
 
 pub bounds-codes-place : goal.bounds-codes-place
 bounds-codes-place g c = omega (arith, c.loop-place-test.true, ap length c.requires.codes, length-codes g.B.Geometry.shape c.args.raw.now c.args.faces.now)

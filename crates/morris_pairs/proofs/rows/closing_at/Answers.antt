@@ -1,0 +1,56 @@
+use Rattle.std.proofs.Common.{◌≡◌, ◌<◌, ◌&&◌, ℕ, List, true, ltb, eqb, refl, sym, ap, ap₂, ◌∙◌, arith}
+use Rattle.std.proofs.lemmas.Bool.{and_parts, ltb-true}
+use Rattle.std.specs.List.{list_any}
+use Rattle.morris_board.specs.Sets.{has, members}
+use Rattle.morris_moves.specs.Rules.{is_vacant}
+use Rattle.morris_pairs.specs.Rows.{may_close}
+use Rattle.morris_pairs.proofs.BackLawsLoops.{end_of, next_points, none_left}
+use Rattle.morris_pairs.proofs.ComerLaws.{closing-some, closing-none}
+use Rattle.morris_pairs.proofs.RowLaws.{so_far-none, so_far-yes, so_far-no, listed_has, closing_there, some_mask, no_mask}
+use Rattle.morris_pairs.proofs.rows.closing_at.Given as given
+use Rattle.morris_pairs.proofs.rows.closing_at.Goals as goal
+use Rattle.morris_pairs.proofs.rows.closing_at.Goals.{In-Some}
+
+-- the point is vacant, and one of the board
+low : (g : given.Over) (c : In-Some g) → c.in-Some.to < g.B.Geometry.POINTS
+low g c =
+    let here : has c.vacant.result c.in-Some.to ≡ true =
+    end_of c.vacant.result c.in-Some.to c.loop-to.yielded _ _
+    (c.loop-to.invariant.points ∙ ap members (c.into_iter-to-iterator.ensures.into_iter_gives ∙ c.iter-to-items.ensures.points)) c.in-Some.ensures.steps in
+    ltb-true c.in-Some.to g.B.Geometry.POINTS (and_parts (ltb c.in-Some.to g.B.Geometry.POINTS) (is_vacant c.args.position.now c.in-Some.to) (sym (c.vacant.ensures c.in-Some.to) ∙ here)).0
+
+pub loop-to-init : goal.loop-to-init
+loop-to-init g c = record { points = refl; closing = so_far-none (may_close g.B.Geometry.shape c.own-own.result) }
+
+pub arriving-closers-requires-clause-end : goal.arriving-closers-requires-clause-end
+arriving-closers-requires-clause-end g c = low g (goal.at.arriving-closers-requires-clause-end g c).In-Some
+
+pub with-closing-requires : goal.with-closing-requires
+with-closing-requires g c = omega (arith, low g (goal.at.with-closing-requires g c).In-Some, g.met.B.Geometry.few)
+
+pub loop-to-preserved-then-ne : goal.loop-to-preserved-then-ne
+loop-to-preserved-then-ne g c = record {
+  points = next_points c.loop-to.yielded c.in-Some.to _ _ _ c.loop-to.invariant.points c.in-Some.ensures.steps;
+  closing = rw c.with-closing.ensures
+      (so_far-yes (may_close g.B.Geometry.shape c.own-own.result) c.loop-to.closing c.in-Some.to c.loop-to.yielded c.loop-to.invariant.closing
+      (closing-some g.B.Geometry.shape c.own-own.result c.in-Some.to c.arriving-closers.result.1 c.arriving-closers.ensures.closing
+      (some_mask c.arriving-closers.result.1 (sym c.ne.ensures ∙ c.if-ne.true)) (omega arith)));
+}
+
+pub loop-to-preserved : goal.loop-to-preserved
+loop-to-preserved g c = record {
+  points = next_points c.loop-to.yielded c.in-Some.to _ _ _ c.loop-to.invariant.points c.in-Some.ensures.steps;
+  closing = so_far-no (may_close g.B.Geometry.shape c.own-own.result) c.loop-to.closing c.in-Some.to c.loop-to.yielded c.loop-to.invariant.closing
+      (closing-none g.B.Geometry.shape c.own-own.result c.in-Some.to c.arriving-closers.result.1 c.arriving-closers.ensures.closing
+      (no_mask c.arriving-closers.result.1 (sym c.ne.ensures ∙ c.if-ne.false)));
+}
+
+pub returns : goal.returns
+returns g c = λ v.
+    let all : c.loop-to.yielded ≡ members c.vacant.result =
+    none_left c.loop-to.yielded _ _ c.loop-to.invariant.points c.in-None.ensures.steps.0
+    ∙ ap members (c.into_iter-to-iterator.ensures.into_iter_gives ∙ c.iter-to-items.ensures.points) in
+    c.loop-to.invariant.closing v
+    ∙ ap₂ (λ (vs : List ℕ) own. list_any (eqb v) vs && may_close g.B.Geometry.shape own v) all c.own-own.ensures.points
+    ∙ ap (λ x. x && may_close g.B.Geometry.shape c.args.position.now.own v) (listed_has c.vacant.result v (omega arith) ∙ c.vacant.ensures v)
+    ∙ closing_there g.B.Geometry.shape g.B.Geometry.POINTS c.args.position.now v
