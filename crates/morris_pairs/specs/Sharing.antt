@@ -1,7 +1,8 @@
 -- The entries of a table in stretches of 4,096, which workers take in turn.
-use Rattle.std.specs.Prelude.{◌≡◌, ℕ, ◌/◌, ◌%◌, ◌<◌, ◌≤◌, List, length, slice_index_or, Option, Some, None, MatchOption}
+use Rattle.std.specs.Prelude.{◌≡◌, ℕ, ◌+◌, ◌*◌, ◌/◌, ◌%◌, ◌<◌, ◌≤◌, Bool, true, false, List, length, slice_index_or, Option, Some, None, MatchOption}
 use Rattle.morris_board.specs.Boards.{Shape}
 use Rattle.morris_pairs.specs.Agreement.{Agrees}
+use Rattle.morris_pairs.specs.Entries.{entry_count}
 use Rattle.morris_pairs.specs.Faces.{FacesAgree}
 use Rattle.morris_pairs.specs.Tables.{Table}
 
@@ -23,9 +24,14 @@ IsOfShare board t first end workers worker found = MatchOption found
     ((k : ℕ) → first ≤ k → k < end → is_in_share workers worker k → Agrees board t k)
     (IsFirstOfShare board t first end workers worker)
 
--- the entries of all positions agree that face those of the worker's among these entries
-abbrev pub ShareAgrees : Shape → Table → ℕ → ℕ → ℕ → ℕ → Type 0
-ShareAgrees board t first end workers worker = (k : ℕ) → first ≤ k → k < end → is_in_share workers worker k → FacesAgree board t k
+-- the entries of all positions agree that face those of a stretch of the table, on n points
+abbrev pub StretchAgrees : Shape → ℕ → Table → ℕ → Type 0
+StretchAgrees board n t stretch =
+    (k : ℕ) → stretch * 4096 ≤ k → k < stretch * 4096 + 4096 → k < entry_count board n t.layout t.pair → FacesAgree board t k
+
+-- each mark that is set is of such a stretch; the first mark is that of `first`
+abbrev pub AreMarked : Shape → ℕ → Table → ℕ → List Bool → Type 0
+AreMarked board n t first marks = (i : ℕ) → slice_index_or marks i false ≡ true → StretchAgrees board n t (first + i)
 
 -- the least of the numbers that were found by the first so many workers, if there is one
 pub record IsLeastBelow (found : List (Option ℕ)) (end least : ℕ) : Type 0 where

@@ -9,7 +9,7 @@ use crate::graph::PairGraph;
 use crate::layout::Layout;
 use crate::numbering::Numbering;
 use crate::raw::Raw;
-use crate::sharing::Claim;
+use crate::sharing::{Claim, STRETCH};
 use morris_board::board::{Board, Geometry};
 use morris_index::class_pair::ClassPair;
 use morris_wave::Watch;
@@ -82,7 +82,7 @@ impl<B: Board, R: Threads + Sync> Claim<'_, B, R> {
         for round in 0..round_count(self.raw) {
             let first = round * ROUND;
             let end = first + ROUND.min(count - first);
-            if !self.agree_shared(classes, first, end)? {
+            if !self.agree_shared(classes, first / STRETCH, end.div_ceil(STRETCH))? {
                 return Ok(false);
             }
             watch.entries(end);

@@ -1,10 +1,10 @@
 //! Entries of a table shared out among workers, to find the first that doesn't agree.
-ghost use Rattle.std.specs.Prelude.{◌≡◌, ℕ, ◌%◌, ◌<◌, ◌≤◌, true, slice_index_or, vec_len, Ok, IfOk, MatchOption};
+ghost use Rattle.std.specs.Prelude.{◌≡◌, ℕ, ◌+◌, ◌*◌, ◌%◌, ◌<◌, ◌≤◌, true, length, slice_index_or, vec_len, IfOk, MatchOption};
 ghost use Rattle.std.specs.List.{All};
 ghost use Rattle.morris_pairs.specs.Agreement.{Agrees, IsFirstIn};
 ghost use Rattle.morris_pairs.specs.Entries.{entry_count};
 ghost use Rattle.morris_pairs.specs.Faces.{FacesAgree};
-ghost use Rattle.morris_pairs.specs.Sharing.{IsLeastOf, IsOfShare, ShareAgrees};
+ghost use Rattle.morris_pairs.specs.Sharing.{AreMarked, IsLeastOf, IsOfShare, StretchAgrees};
 ghost use Rattle.morris_pairs.specs.declared.layout.Layout.TheVariants.{Classes};
 
 use crate::agreeing::first_in;
@@ -14,6 +14,7 @@ use crate::raw::Raw;
 use morris_board::board::{Board, Geometry};
 use morris_index::class_pair::ClassPair;
 use std::alloc::{AllocError, Global};
+use std::sync::atomic::{AtomicU64, Ordering};
 use std::thread;
 use std::thread::Threads;
 
@@ -126,84 +127,96 @@ impl<B: Board, R: Threads + Sync> Claim<'_, B, R> {
     }
 }
 
-/// Whether each worker knows that the entries agree of which it asked.
-fn all_true(found: &[Result<bool, AllocError>]) -> bool
-    ensures { result ≡ true → All (λ r. r ≡ Ok true) found.now }
+/// Whether all of these are set.
+fn all_set(marks: &[bool]) -> bool
+    ensures { result ≡ true → All (λ mark. mark ≡ true) marks.now }
 {
-    found.iter().all(|each| matches!(each, Ok(true)))
+    marks.iter().all(|mark| *mark)
 }
 
 impl<B: Geometry, R> Claim<'_, B, R> {
-    /// Whether the entries of all positions are known to agree that face those of one worker's
-    /// entries, of a table by classes: its stretches are those of
-    /// [`first_of_share`](Claim::first_of_share).
+    /// Takes stretches of a table by classes below `end`, each the next one that no worker has
+    /// taken, and lists those of which the entries of all positions are known to agree that face
+    /// those of theirs. It ends at the first one of which they aren't.
     ///
     /// # Errors
     /// [`AllocError`] where memory is refused.
-    fn share_agrees<'c>(
+    fn list_known(
         &self,
-        classes: &'c ClassPair<B>,
-        lists: &mut Lists<'c, B>,
-        first: u64,
+        classes: &ClassPair<B>,
+        next: &AtomicU64,
         end: u64,
-        worker: u64,
-    ) -> Result<bool, AllocError>
+    ) -> Result<Vec<u64>, AllocError>
         requires classes { classes.now ≡ self.now.raw.now.pair }
         requires layout { self.now.raw.now.layout ≡ Classes }
-        requires inside { end ≤ entry_count B.shape B.POINTS self.now.raw.now.layout self.now.raw.now.pair }
-        requires worker { worker < self.now.workers }
-        ensures { IfOk result (λ yes. yes ≡ true → ShareAgrees B.shape self.now.raw.now first end self.now.workers worker) }
+        requires inside { end * 4096 < entry_count B.shape B.POINTS self.now.raw.now.layout self.now.raw.now.pair + 4096 }
+        ensures { IfOk result (λ known. All (StretchAgrees B.shape B.POINTS self.now.raw.now) known.items) }
     {
-        let workers = self.workers as u64;
-        let stretches = end.div_ceil(STRETCH);
-        for stretch in first / STRETCH..stretches {
-            if stretch % workers == worker {
-                let start = stretch * STRETCH;
-                let stop = start + STRETCH.min(end - start);
-                if !lists.faces_agree(classes, self.graph, self.raw, start, stop)? {
-                    return Ok(false);
-                }
+        let count = self.raw.len();
+        let mut lists = Lists::new(self.alloc);
+        let mut known = Vec::new(self.alloc);
+        for _ in 0..end {
+            let stretch = next.fetch_add(1, Ordering::Relaxed);
+            if stretch >= end {
+                return Ok(known);
+            }
+            let start = stretch * STRETCH;
+            let stop = start + STRETCH.min(count - start);
+            if !lists.faces_agree(classes, self.graph, self.raw, start, stop)? {
+                return Ok(known);
+            }
+            known.push(stretch)?;
+        }
+        Ok(known)
+    }
+
+    /// Sets the marks of the stretches that a worker knows, which begin with that of `first`.
+    fn mark(&self, known: &[u64], first: u64, marks: &mut [bool])
+        requires known { All (StretchAgrees B.shape B.POINTS self.now.raw.now) known.now }
+        requires marks { AreMarked B.shape B.POINTS self.now.raw.now first marks.old }
+        ensures marks { AreMarked B.shape B.POINTS self.now.raw.now first marks.new }
+        ensures len { length marks.new ≡ length marks.old }
+    {
+        for stretch in known {
+            if *stretch >= first && *stretch - first < marks.len() as u64 {
+                marks[(*stretch - first) as usize] = true;
             }
         }
-        Ok(true)
     }
 }
 
 impl<B: Board, R: Threads + Sync> Claim<'_, B, R> {
-    /// What each worker knows of its share of the entries from `first` up to, not including, `end`.
+    /// What each worker knows of the stretches from `first` up to, not including, `end`.
     ///
     /// # Errors
     /// [`AllocError`] where memory is refused. Where a thread is, the caller's own does its work.
-    fn known_shares(
+    fn known_by_all(
         &self,
         classes: &ClassPair<B>,
         first: u64,
         end: u64,
-    ) -> Result<Vec<Result<bool, AllocError>>, AllocError>
+    ) -> Result<Vec<Result<Vec<u64>, AllocError>>, AllocError>
         requires classes { classes.now ≡ self.now.raw.now.pair }
         requires layout { self.now.raw.now.layout ≡ Classes }
-        requires inside { end ≤ entry_count B.shape B.POINTS self.now.raw.now.layout self.now.raw.now.pair }
-        ensures len { IfOk result (λ known. vec_len known ≡ self.now.workers) }
-        ensures each { IfOk result (λ known. (w : ℕ) (d : _) → w < self.now.workers
-            → IfOk (slice_index_or known.items w d) (λ yes. yes ≡ true → ShareAgrees B.shape self.now.raw.now first end self.now.workers w)) }
+        requires inside { end * 4096 < entry_count B.shape B.POINTS self.now.raw.now.layout self.now.raw.now.pair + 4096 }
+        ensures len { IfOk result (λ found. vec_len found ≡ self.now.workers) }
+        ensures each { IfOk result (λ found. (w : ℕ) (d : _) → w < self.now.workers
+            → IfOk (slice_index_or found.items w d) (λ known. All (StretchAgrees B.shape B.POINTS self.now.raw.now) known.items)) }
     {
+        let next = AtomicU64::new(first);
         thread::map_indices(
             self.rt,
             self.alloc,
             self.workers,
-            &|worker| -> Result<bool, AllocError>
+            &|_worker| -> Result<Vec<u64>, AllocError>
                 requires { (classes.now ≡ self.now.raw.now.pair) × (self.now.raw.now.layout ≡ Classes)
-                    × (end ≤ entry_count B.shape B.POINTS self.now.raw.now.layout self.now.raw.now.pair) × (worker < self.now.workers) }
-                ensures { IfOk result (λ yes. yes ≡ true
-                    → ShareAgrees B.shape self.entry.now.raw.now first end self.entry.now.workers worker) }
-            {
-                let mut lists = Lists::new(self.alloc);
-                self.share_agrees(classes, &mut lists, first, end, worker as u64)
-            },
+                    × (end * 4096 < entry_count B.shape B.POINTS self.now.raw.now.layout self.now.raw.now.pair + 4096) }
+                ensures { IfOk result (λ known. All (StretchAgrees B.shape B.POINTS self.entry.now.raw.now) known.items) }
+            { self.list_known(classes, &next, end) },
         )
     }
 
-    /// Whether the entries of all positions are known to agree that face those of the entries from
+    /// Whether the entries of all positions are known to agree that face those of the stretches from
     /// `first` up to, not including, `end`.
     ///
     /// # Errors
@@ -216,10 +229,18 @@ impl<B: Board, R: Threads + Sync> Claim<'_, B, R> {
     ) -> Result<bool, AllocError>
         requires classes { classes.now ≡ self.now.raw.now.pair }
         requires layout { self.now.raw.now.layout ≡ Classes }
-        requires inside { end ≤ entry_count B.shape B.POINTS self.now.raw.now.layout self.now.raw.now.pair }
-        ensures { IfOk result (λ yes. yes ≡ true → (k : ℕ) → first ≤ k → k < end → FacesAgree B.shape self.now.raw.now k) }
+        requires order { first ≤ end }
+        requires inside { end * 4096 < entry_count B.shape B.POINTS self.now.raw.now.layout self.now.raw.now.pair + 4096 }
+        ensures { IfOk result (λ yes. yes ≡ true → (k : ℕ) → first * 4096 ≤ k → k < end * 4096
+            → k < entry_count B.shape B.POINTS self.now.raw.now.layout self.now.raw.now.pair → FacesAgree B.shape self.now.raw.now k) }
     {
-        let known = self.known_shares(classes, first, end)?;
-        Ok(all_true(&known))
+        let found = self.known_by_all(classes, first, end)?;
+        let mut marks = vec![in self.alloc; false; (end - first) as usize]?;
+        for worker in 0..found.len() {
+            if let Ok(known) = &found[worker] {
+                self.mark(known, first, &mut marks);
+            }
+        }
+        Ok(all_set(&marks))
     }
 }
