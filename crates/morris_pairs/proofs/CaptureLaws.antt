@@ -162,6 +162,14 @@ module _ (b : Shape) (n : ℕ) (points : b.points ≡ n) (low : n ≤ 24) (s : S
       ∙ and_from _ _ (lt-ltb v b.points (omega (arith, points, closing_in u v h)))
       (and_from _ _ (closing_may u v h) (ap not (closing_free u v h)))
 
+  -- a move to a point at which none closes a mill doesn't
+  pub quiet_elsewhere : (set : ℕ) → ((v : ℕ) → (has set v && not (has s.other v)) ≡ ((ltb v n && may_close b s.own v) && not (has s.other v)))
+      → (u v : ℕ) → has s.own u ≡ true → has (reach b s u) v ≡ true → has set v ≡ false → closes b s.own u v ≡ false
+  quiet_elsewhere set each u v own goes out = false_from_ne_true (closes b s.own u v) (λ shuts.
+      let h : IsClosing b s u v = record { own = own; goes = goes; shuts = shuts } in
+      let there = and_from _ _ (and_from _ _ (lt-ltb v n (closing_in u v h)) (closing_may u v h)) (ap not (closing_free u v h)) in
+      both_ways (has set v) out (and_parts (has set v) (not (has s.other v)) (each v ∙ there)).0)
+
   module _ (v : ℕ) (here : has ends v ≡ true) where
     within_board : (ltb v b.points ≡ true) × ((may_close b s.own v && not (has s.other v)) ≡ true)
     within_board = and_parts (ltb v b.points) _ (sym (end_is v) ∙ here)

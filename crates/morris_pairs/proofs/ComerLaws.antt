@@ -1,14 +1,16 @@
 -- The stones that may come to a point, by masks.
-use Rattle.std.proofs.Common.{◌≡◌, ℕ, ◌+◌, ◌<◌, ◌^◌, Bool, true, false, not, ◌&&◌, ◌||◌, ltb, eqb, List, [], ◌∷◌, filter, slice_index, slice_set, length, refl, sym, ap, ap₂, subst, ◌∙◌, inl, inr, arith}
-use Rattle.std.proofs.lemmas.Bool.{cases_Bool, cases_eq, both_ways, lt-ltb, eqb-true, and_parts, and_from, not-true, false_from_ne_true}
+use Rattle.std.proofs.Common.{◌≡◌, ℕ, ◌+◌, ◌<◌, ◌^◌, take, drop, Bool, true, false, not, ◌&&◌, ◌||◌, ltb, eqb, List, [], ◌∷◌, filter, slice_index, slice_set, length, refl, sym, ap, ap₂, subst, ◌∙◌, inl, inr, arith}
+use Rattle.std.proofs.Math.Bool.{or-true}
+use Rattle.std.proofs.lemmas.Bool.{cases_Bool, cases_eq, both_ways, lt-ltb, eqb-true, eqb-false, eq-eqb, ne_eqb, and_parts, and_from, not-true, false_from_ne_true}
 use Rattle.std.proofs.lemmas.Grind.{get_or-set_at}
 use Rattle.std.proofs.lemmas.List.{get_or-set_other}
-use Rattle.std.specs.List.{range_with_len, list_any}
+use Rattle.std.proofs.lemmas.List.Folds.{list_any_more}
+use Rattle.std.specs.List.{range_with_len, list_any, list_all}
 use Rattle.morris_board.specs.Sets.{has, members, count_of, with_point, without_point, is_within}
-use Rattle.morris_board.specs.Boards.{Shape, is_adjacent, adjacent, mills_through}
-use Rattle.morris_board.proofs.PointsLaws.{same_test, same_points, has-none, has-with, has-without, has-set_where, within_each, each_within, members-none, first_is}
+use Rattle.morris_board.specs.Boards.{Shape, is_adjacent, adjacent, mills_of, mills_through}
+use Rattle.morris_board.proofs.PointsLaws.{same_test, same_points, has-none, has-with, has-without, has-set_where, within_each, each_within, has-below, members-first, members-none, first_is}
 use Rattle.morris_board.proofs.SetLaws.{point_lt, is_adjacent-back}
-use Rattle.morris_moves.specs.Rules.{moved, closes, goes}
+use Rattle.morris_moves.specs.Rules.{in_mill, moved, closes, goes}
 use Rattle.morris_moves.proofs.MaskLaws.{in_mill-lines}
 use Rattle.morris_moves.proofs.ListLaws.{any_contained, contained_any}
 use Rattle.morris_moves.proofs.SetLaws.{has-member, member-has}
@@ -182,3 +184,93 @@ module _ (b : Shape) (own v : ℕ) where
         let one = any_contained (λ u. goes b (count_of own) u v && closes b own u v) (members own) parts.1 in
         both_ways (has closing one.0) (ap (λ t. has t one.0) none ∙ has-none one.0)
         (each one.0 ∙ and_from _ _ (has-member own one.0 one.1) (and_from _ _ parts.0 one.2)))
+
+-- ---- the points at which one stone more fills a mill
+
+-- those of these mills are among `last`
+abbrev pub AreLast : List ℕ → ℕ → ℕ → Type 0
+AreLast mills own last = (v : ℕ) → has own v ≡ false → list_any (λ m. has m v && is_within m (with_point own v)) mills ≡ true → has last v ≡ true
+
+module _ (own mill missing : ℕ) (small : mill < 2 ^ 32) (each : (p : ℕ) → has missing p ≡ (has mill p && not (has own p))) where
+  -- where one stone more fills the mill, no other point of it is missing
+  last_one : (rest v : ℕ) → rest < 2 ^ 32 → members rest ≡ drop 1 (members missing) → has own v ≡ false
+      → (has mill v && is_within mill (with_point own v)) ≡ true → rest ≡ 0
+  last_one rest v low less free full = same_points rest 0 (λ p. false_from_ne_true (has rest p) (λ h.
+      both_ways (list_any (λ k. true) (members rest)) (ap (list_any (λ k. true)) none)
+      (contained_any (λ k. true) (members rest) p (member-has rest p (has-below rest p low h) h) refl)) ∙ sym (has-none p))
+    where
+      parts : (has mill v ≡ true) × (is_within mill (with_point own v) ≡ true)
+      parts = and_parts (has mill v) (is_within mill (with_point own v)) full
+
+      only : (p : ℕ) → has missing p ≡ eqb p v
+      only p = same_test (has missing p) (eqb p v)
+          (λ h. let both = and_parts (has mill p) (not (has own p)) (sym (each p) ∙ h) in
+          sym (ap (λ x. x || eqb p v) (not-true (has own p) both.1)) ∙ sym (has-with own v p)
+          ∙ within_each mill (with_point own v) small parts.1 p both.0)
+          (λ e. rw (eqb-true p v e) (each v ∙ and_from _ _ parts.0 (ap not free)))
+
+      apart : (x : Bool) → (not x && x) ≡ false
+      apart true = refl
+      apart false = refl
+
+      gone : without_point missing v ≡ 0
+      gone = same_points (without_point missing v) 0 (λ p.
+          has-without missing v p ∙ ap (λ x. not (eqb p v) && x) (only p) ∙ apart (eqb p v) ∙ sym (has-none p))
+
+      none : members rest ≡ []
+      none = less ∙ ap (drop 1)
+          (members-first missing v (has-below mill v small parts.0) (only v ∙ eq-eqb v v refl) (λ k below. only k ∙ ne_eqb k v (omega (arith, below)))
+          ∙ ap (λ t. v ∷ members t) gone ∙ ap (λ ts. v ∷ ts) members-none)
+
+  module _ (mills : List ℕ) (k : ℕ) (inside : k < length mills) (is : slice_index mills k ≡ mill) (last : ℕ) (before : AreLast (take k mills) own last) where
+    -- where it isn't among those before, this mill is the one
+    this_one : (v : ℕ) → list_any (λ m. has m v && is_within m (with_point own v)) (take (k + 1) mills) ≡ true
+        → list_any (λ m. has m v && is_within m (with_point own v)) (take k mills) ≡ false → (has mill v && is_within mill (with_point own v)) ≡ true
+    this_one v any not_before =
+        let f : ℕ → Bool = λ m. has m v && is_within m (with_point own v) in
+        sym (list_any_more f mills k 0 inside ∙ ap₂ (λ x y. x || y) not_before (ap f is)) ∙ any
+
+    pub last-more : (joined : ℕ) → ((p : ℕ) → has joined p ≡ (has last p || has missing p)) → AreLast (take (k + 1) mills) own joined
+    last-more joined both v free any = elim (cases_Bool (list_any (λ m. has m v && is_within m (with_point own v)) (take k mills))) [
+      | inl y ↦ both v ∙ ap (λ x. x || has missing v) (before v free y)
+      | inr z ↦
+          both v ∙ ap (λ x. has last v || x) (each v ∙ and_from _ _ (and_parts (has mill v) _ (this_one v any z)).0 (ap not free))
+          ∙ or-true (has last v)
+    ]
+
+    pub last-same : (rest : ℕ) → rest < 2 ^ 32 → members rest ≡ drop 1 (members missing) → eqb rest 0 ≡ false → AreLast (take (k + 1) mills) own last
+    last-same rest low less some v free any = elim (cases_Bool (list_any (λ m. has m v && is_within m (with_point own v)) (take k mills))) [
+      | inl y ↦ before v free y
+      | inr z ↦ absurd (eqb-false rest 0 some (last_one rest v low less free (this_one v any z)))
+    ]
+
+all_more : (f g : ℕ → Bool) → ((x : ℕ) → f x ≡ true → g x ≡ true) → (xs : List ℕ) → list_all f xs ≡ true → list_all g xs ≡ true
+all_more f g more [] h = refl
+all_more f g more (x ∷ xs) h = let parts = and_parts (f x) (list_all f xs) h in and_from _ _ (more x parts.0) (all_more f g more xs parts.1)
+
+pub last-all : (b : Shape) (own last : ℕ) → AreLast (mills_of b) own last → (u v : ℕ) → has own v ≡ false → closes b own u v ≡ true → has last v ≡ true
+unfolding closes in_mill moved is_within
+last-all b own last each u v free shuts =
+    let one = any_contained (λ m. has m v && is_within m (moved own u v)) (mills_of b) shuts in
+    let parts = and_parts (has one.0 v) (is_within one.0 (moved own u v)) one.2 in
+    each v free (contained_any (λ m. has m v && is_within m (with_point own v)) (mills_of b) one.0 one.1
+    (and_from _ _ parts.0 (all_more (has (moved own u v)) (has (with_point own v)) still (members one.0) parts.1)))
+  where
+    stays : (x y z : Bool) → ((not x && y) || z) ≡ true → (y || z) ≡ true
+    stays true y z h = rw h (or-true y)
+    stays false y z h = h
+
+    still : (p : ℕ) → has (moved own u v) p ≡ true → has (with_point own v) p ≡ true
+    still p h =
+        has-with own v p
+        ∙ stays (eqb p u) (has own p) (eqb p v)
+        (sym (has-with (without_point own u) v p ∙ ap (λ x. x || eqb p v) (has-without own u p)) ∙ h)
+
+-- and so those at which a move closes one
+pub last-may : (b : Shape) (own last : ℕ) → ((u v : ℕ) → has own v ≡ false → closes b own u v ≡ true → has last v ≡ true)
+    → (v : ℕ) → may_close b own v ≡ true → has last v ≡ true
+unfolding may_close
+last-may b own last each v may =
+    let parts = and_parts (not (has own v)) (list_any (λ u. goes b (count_of own) u v && closes b own u v) (members own)) may in
+    let one = any_contained (λ u. goes b (count_of own) u v && closes b own u v) (members own) parts.1 in
+    each one.0 v (not-true (has own v) parts.0) (and_parts (goes b (count_of own) one.0 v) (closes b own one.0 v) one.2).1

@@ -3,6 +3,7 @@ use Rattle.std.specs.Prelude.{◌≡◌, ℕ, ◌<◌, Bool, not, ◌&&◌, nat_
 use Rattle.std.specs.List.{list_any}
 use Rattle.morris_board.specs.Sets.{has, members, count_of}
 use Rattle.morris_board.specs.Boards.{Shape}
+use Rattle.morris_board.specs.Positions.{Sides}
 use Rattle.morris_moves.specs.Rules.{closes, goes}
 use Rattle.morris_index.specs.Sums.{total}
 use Rattle.morris_pairs.specs.declared.rows.Row.{Row}
@@ -15,6 +16,10 @@ arrivals board own v = if has own v then 0 else length (filter (λ u. goes board
 -- whether a stone of `own` may come to v by a move that closes a mill, where v is vacant
 unfoldable pub may_close : Shape → ℕ → ℕ → Bool
 may_close board own v = not (has own v) && list_any (λ u. goes board (count_of own) u v && closes board own u v) (members own)
+
+-- of the points on which the opponent doesn't stand, a set has those at which a move closes a mill
+abbrev pub AreClosing : Shape → ℕ → Sides → ℕ → Type 0
+AreClosing board n s closing = (v : ℕ) → (has closing v && not (has s.other v)) ≡ ((nat_lt v n && may_close board s.own v) && not (has s.other v))
 
 -- whether the stone of `own` on u closes a mill by going to v, where v is vacant
 unfoldable pub is_closing_end : Shape → ℕ → ℕ → ℕ → Bool

@@ -10,6 +10,7 @@ ghost use Rattle.morris_index.specs.Moves.{in_pair};
 ghost use Rattle.morris_pairs.specs.Entries.{entry_count, entry_index, has_own_entry};
 ghost use Rattle.morris_pairs.specs.Numberings.{layout_after, position_before};
 ghost use Rattle.morris_pairs.specs.PairNets.{capture_codes};
+ghost use Rattle.morris_pairs.specs.Rows.{AreClosing};
 ghost use Rattle.morris_pairs.specs.Worths.{best_of, code_of_worth};
 ghost use Rattle.morris_pairs.specs.Agreement.{code_from, result_codes, quiet_codes, Agrees, IsFirstIn};
 
@@ -19,6 +20,7 @@ use crate::raw::Raw;
 use crate::rows::Row;
 use crate::worths::{code_of_worth, worth, worth_of};
 use morris_board::board::Geometry;
+use morris_board::points::Points;
 use morris_board::position::Position;
 use morris_moves::rules::{closes, reach};
 use morris_wave::Exits;
@@ -46,11 +48,13 @@ fn entry_after<B: Geometry>(
 }
 
 /// What the best result is worth of some whose best is worth `known` and those of the quiet moves
-/// of the stone on `from`, as the table states them.
+/// of the stone on `from`, as the table states them. At the vacant points of `closing` some move
+/// closes a mill, and at no others.
 fn best_from<B: Geometry>(
     raw: &Raw<B>,
     successors: &Successors<'_, B>,
     position: &Position<B>,
+    closing: Points,
     from: u8,
     known: u32,
 ) -> u32
@@ -59,12 +63,13 @@ fn best_from<B: Geometry>(
     requires position { position_before successors.now ≡ in_pair raw.now.pair position.now }
     requires start { has position.now.own from ≡ true }
     requires inside { from < B.POINTS }
+    requires closing { AreClosing B.shape B.POINTS position.now closing }
     ensures { result ≡ best_of known (quiet_codes B.shape raw.now position.now (moves_from B.shape position.now from)) }
 {
     let own = position.own();
     let mut best = known;
     for to in reach(position, from).iter() {
-        if !closes::<B>(own, from, to) {
+        if !closing.has(to) || !closes::<B>(own, from, to) {
             let after = entry_after(raw, successors, position, from, to);
             best = best.max(worth(raw.code(after)));
         }
@@ -78,11 +83,13 @@ fn best_after<B: Geometry>(
     raw: &Raw<B>,
     successors: &Successors<'_, B>,
     position: &Position<B>,
+    closing: Points,
     captures: Exits,
 ) -> u32
     requires counts { is_of raw.now.pair position.now ≡ true }
     requires layout { layout_after successors.now ≡ raw.now.layout }
     requires position { position_before successors.now ≡ in_pair raw.now.pair position.now }
+    requires closing { AreClosing B.shape B.POINTS position.now closing }
     requires captures { captures ≡ exits_of (capture_codes B.shape position.now) }
     ensures { code_of_worth result ≡ code_from (result_codes B.shape raw.now position.now) }
 {
@@ -90,7 +97,7 @@ fn best_after<B: Geometry>(
     let _ = raw.pair();
     let mut best = worth_of(captures);
     for from in position.own().iter() {
-        best = best_from(raw, successors, position, from, best);
+        best = best_from(raw, successors, position, closing, from, best);
     }
     best
 }
@@ -114,17 +121,19 @@ pub(crate) fn is_code_after<B: Geometry>(
     code: u16,
     successors: &Successors<'_, B>,
     position: &Position<B>,
+    closing: Points,
     captures: Exits,
 ) -> bool
     requires counts { is_of raw.now.pair position.now ≡ true }
     requires layout { layout_after successors.now ≡ raw.now.layout }
     requires position { position_before successors.now ≡ in_pair raw.now.pair position.now }
+    requires closing { AreClosing B.shape B.POINTS position.now closing }
     requires captures { captures ≡ exits_of (capture_codes B.shape position.now) }
     ensures { result ≡ (code == code_from (result_codes B.shape raw.now position.now)) }
 {
     let best = match best_at_once(raw, position, captures) {
         Some(best) => best,
-        None => best_after(raw, successors, position, captures),
+        None => best_after(raw, successors, position, closing, captures),
     };
     u32::from(code) == code_of_worth(best)
 }
@@ -134,6 +143,7 @@ pub(crate) fn agrees<B: Geometry>(
     raw: &Raw<B>,
     index: u64,
     position: &Position<B>,
+    closing: Points,
     captures: Exits,
 ) -> bool
     requires inside { index < entry_count B.shape B.POINTS raw.now.layout raw.now.pair }
@@ -141,6 +151,7 @@ pub(crate) fn agrees<B: Geometry>(
     requires lawful { IsPosition B.shape position.now }
     requires own { has_own_entry B.shape raw.now.layout position.now ≡ true }
     requires at { entry_index B.shape B.POINTS raw.now.layout raw.now.pair position.now ≡ index }
+    requires closing { AreClosing B.shape B.POINTS position.now closing }
     requires captures { captures ≡ exits_of (capture_codes B.shape position.now) }
     ensures { IsTrue result ↔ Agrees B.shape raw.now index }
 {
@@ -149,7 +160,7 @@ pub(crate) fn agrees<B: Geometry>(
         Some(best) => best,
         None => {
             let successors = Successors::of(raw.numbering(), position);
-            best_after(raw, &successors, position, captures)
+            best_after(raw, &successors, position, closing, captures)
         }
     };
     u32::from(raw.code(index)) == code_of_worth(best)
@@ -174,7 +185,7 @@ pub(crate) fn first_in<B: Geometry>(
     let mut row = Row::of::<B>(position.own());
     for index in first..end {
         let captures = graph.exits_by_row(&row, &position);
-        if !agrees(raw, index, &position, captures) {
+        if !agrees(raw, index, &position, row.closing, captures) {
             return Some(index);
         }
         if index + 1 < end {

@@ -45,8 +45,16 @@ fn agree<B: Geometry>(
     let _ = raw.pair();
     let after = faced.from();
     let position = after.position();
-    let captures = graph.exits_by_facing(&position, closing_at(&position), kept);
-    is_code_after(raw, code, &Successors::Classes(after), &position, captures)
+    let closing = closing_at(&position);
+    let captures = graph.exits_by_facing(&position, closing, kept);
+    is_code_after(
+        raw,
+        code,
+        &Successors::Classes(after),
+        &position,
+        closing,
+        captures,
+    )
 }
 
 /// Whether the entries of all of some positions are known to agree, for which the table states

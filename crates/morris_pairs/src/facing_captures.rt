@@ -1,6 +1,6 @@
 //! The captures of a position, summed up by the stones that are faced after them. In a row in which
 //! the opponent has the same stones, several moves of several positions lead to the same ones.
-ghost use Rattle.std.specs.Prelude.{◌≡◌, ℕ, ◌++◌, ◌&&◌, not, true, nat_lt, List};
+ghost use Rattle.std.specs.Prelude.{◌≡◌, ℕ, ◌++◌, true, List};
 ghost use Rattle.morris_board.specs.Positions.{IsPosition};
 ghost use Rattle.morris_board.specs.Sets.{has, members};
 ghost use Rattle.morris_moves.specs.Rules.{moved};
@@ -10,7 +10,7 @@ ghost use Rattle.morris_pairs.specs.Captured.{captured_pair, IsClosing};
 ghost use Rattle.morris_pairs.specs.Graphs.{IsTableOf};
 ghost use Rattle.morris_pairs.specs.KeptCaptures.{AreKept, codes_facing, codes_by};
 ghost use Rattle.morris_pairs.specs.PairNets.{capture_codes};
-ghost use Rattle.morris_pairs.specs.Rows.{may_close};
+ghost use Rattle.morris_pairs.specs.Rows.{AreClosing};
 
 use crate::exact::Exact;
 use crate::graph::{PairGraph, capture_ends};
@@ -88,7 +88,7 @@ impl<'a, B: Geometry> PairGraph<'a, B> {
     ) -> Exits
         requires counts { is_of self.now position.now ≡ true }
         requires lawful { IsPosition B.shape position.now }
-        requires closing { (v : ℕ) → (has closing v && not (has position.now.other v)) ≡ ((nat_lt v B.POINTS && may_close B.shape position.now.own v) && not (has position.now.other v)) }
+        requires closing { AreClosing B.shape B.POINTS position.now closing }
         requires kept { AreKept (codes_facing B.shape) kept.old }
         ensures value { result ≡ exits_of (capture_codes B.shape position.now) }
         ensures kept { AreKept (codes_facing B.shape) kept.new }

@@ -1,12 +1,12 @@
 //! The graph of a pair.
-ghost use Rattle.std.specs.Prelude.{◌≡◌, ℕ, ◌+◌, ◌*◌, ◌<◌, ◌↔◌, ◌&&◌, not, true, Some, None, List, ◌++◌, slice_index, vec_len, is_some, nat_lt, IfOk, IfErr, OnOk, IfSome, MatchResult};
+ghost use Rattle.std.specs.Prelude.{◌≡◌, ℕ, ◌+◌, ◌*◌, ◌<◌, ◌↔◌, true, Some, None, List, ◌++◌, slice_index, vec_len, is_some, IfOk, IfErr, OnOk, IfSome, MatchResult};
 ghost use Rattle.std.specs.Option.{option_copied};
 ghost use Rattle.morris_board.specs.Positions.{IsPosition};
 ghost use Rattle.morris_board.specs.Sets.{has, members, count_of};
 ghost use Rattle.morris_moves.specs.declared.step.Move.{Move};
 ghost use Rattle.morris_moves.specs.Rules.{takable};
 ghost use Rattle.morris_index.specs.Pairs.{IsPair, is_of, less_lesser, less_greater};
-ghost use Rattle.morris_pairs.specs.Rows.{IsRow, may_close};
+ghost use Rattle.morris_pairs.specs.Rows.{AreClosing, IsRow};
 ghost use Rattle.morris_wave.specs.Blocks.{BlockState};
 ghost use Rattle.morris_wave.specs.Exits.{exits_of};
 ghost use Rattle.morris_wave.specs.Values.{HasCode, IsTooDeep};
@@ -107,7 +107,7 @@ pub(crate) fn capture_ends<B: Geometry>(
     closing: Points,
 ) -> Result<Points, Exits>
     requires lawful { IsPosition B.shape position.now }
-    requires closing { (v : ℕ) → (has closing v && not (has position.now.other v)) ≡ ((nat_lt v B.POINTS && may_close B.shape position.now.own v) && not (has position.now.other v)) }
+    requires closing { AreClosing B.shape B.POINTS position.now closing }
     ensures ends { IfOk result (λ ends. ends ≡ open_ends B.shape position.now.own position.now.other) }
     ensures above { OnOk result (3 < count_of position.now.other) }
     ensures known { IfErr result (λ exits. exits ≡ exits_of (capture_codes B.shape position.now)) }

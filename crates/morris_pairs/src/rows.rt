@@ -1,5 +1,5 @@
 //! What the moves of the stones of one player are, whatever the opponent has.
-ghost use Rattle.std.specs.Prelude.{◌≡◌, ℕ, ◌<◌, ◌^◌, ◌&&◌, not, nat_lt, false, length, filter};
+ghost use Rattle.std.specs.Prelude.{◌≡◌, ℕ, ◌<◌, ◌^◌, ◌&&◌, not, nat_lt, true, false, length, filter};
 ghost use Rattle.morris_board.specs.Sets.{has, count_of, is_within};
 ghost use Rattle.morris_moves.specs.Rules.{closes, goes, moved, moves_of};
 ghost use Rattle.morris_pairs.specs.PairNets.{is_quiet};
@@ -81,13 +81,28 @@ pub(crate) fn arriving<B: Geometry>(own: Points, to: u8) -> (Points, Points)
     (comers.less(closers), comers.common(closers))
 }
 
+/// The points at which one stone more fills a mill of which the other points are `own`. None is left
+/// out at which a move of these stones closes a mill.
+fn last_of_mills<B: Geometry>(own: Points) -> Points
+    ensures { (u : ℕ) (v : ℕ) → has own v ≡ false → closes B.shape own u v ≡ true → has result v ≡ true }
+{
+    let mut last = Points::EMPTY;
+    for number in 0..B::MILLS {
+        let missing = B::mill(number).less(own);
+        if missing.rest() == Points::EMPTY {
+            last = last.joined(missing);
+        }
+    }
+    last
+}
+
 /// The vacant points at which a move closes a mill.
 pub(crate) fn closing_at<B: Geometry>(position: &Position<B>) -> Points
     ensures { (v : ℕ) → has result v ≡ ((nat_lt v B.POINTS && may_close B.shape position.now.own v) && not (has position.now.other v)) }
 {
     let own = position.own();
     let mut closing = Points::EMPTY;
-    for to in vacant(position).iter() {
+    for to in vacant(position).common(last_of_mills::<B>(own)).iter() {
         let (_, closers) = arriving::<B>(own, to);
         if closers != Points::EMPTY {
             closing = closing.with(to);

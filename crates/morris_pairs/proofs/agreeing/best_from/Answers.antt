@@ -1,14 +1,15 @@
-use Rattle.std.proofs.Common.{◌≡◌, ℕ, List, true, max, None, sym, ap, ap₂, ◌∙◌, arith}
+use Rattle.std.proofs.Common.{◌≡◌, ℕ, List, true, false, max, None, sym, ap, ap₂, ◌∙◌, arith}
 use Rattle.morris_board.specs.Sets.{has, members}
 use Rattle.morris_moves.specs.Rules.{closes, reach, move}
 use Rattle.morris_moves.proofs.LegalLaws.{reached}
 use Rattle.morris_pairs.specs.Worths.{best_of, worth}
 use Rattle.morris_pairs.proofs.AgreementLaws.{quiet_listed, stated_at, quiet_codes-none, codes_to, codes_to-closing, codes_to-quiet, codes_to-all}
 use Rattle.morris_pairs.proofs.BackLawsLoops.{end_of, next_points, none_left}
+use Rattle.morris_pairs.proofs.CaptureLaws.{quiet_elsewhere}
 use Rattle.morris_pairs.proofs.WorthLaws.{best_of-none, best_of-more}
 use Rattle.morris_pairs.proofs.agreeing.best_from.Given as given
 use Rattle.morris_pairs.proofs.agreeing.best_from.Goals as goal
-use Rattle.morris_pairs.proofs.agreeing.best_from.Goals.{In-Some}
+use Rattle.morris_pairs.proofs.agreeing.best_from.Goals.{In-Some, Joined-then-not-has, then-not-has-via-then-not-has, then-not-has-via-else-not-has+then-not-closes}
 
 -- the stone may go there
 here : (g : given.Over) (c : In-Some g) → has (reach g.B.Geometry.shape c.args.position.now c.args.from) c.in-Some.to ≡ true
@@ -20,6 +21,21 @@ loop-to-init g c = record {
   best = sym (ap (best_of c.args.known) (quiet_codes-none g.B.Geometry.shape c.args.raw.now c.args.position.now) ∙ best_of-none c.args.known);
 }
 
+-- where no move closes a mill, and where this one is seen not to, it doesn't
+quiet : (g : given.Over) (c : Joined-then-not-has g) → has (reach g.B.Geometry.shape c.args.position.now c.args.from) c.in-Some.to ≡ true
+    → closes g.B.Geometry.shape c.args.position.now.own c.args.from c.in-Some.to ≡ false
+quiet g c reaches = elim c.then-not-has.branch [
+  | then-not-has-via-then-not-has w ↦ quiet_elsewhere g.B.Geometry.shape g.B.Geometry.POINTS g.met.B.Geometry.point_count g.met.B.Geometry.few
+      c.args.position.now c.own-own.ensures.lawful c.args.closing c.requires.closing c.args.from c.in-Some.to c.requires.start reaches (sym c.has.ensures ∙ w.if-not-has.true)
+  | then-not-has-via-else-not-has+then-not-closes w ↦
+      ap (λ o. closes g.B.Geometry.shape o c.args.from c.in-Some.to) (sym c.own-own.ensures.points) ∙ sym w.closes.ensures ∙ w.if-not-closes.true
+]
+
+pub has-requires : goal.has-requires
+has-requires g c =
+    let at = reached g.B.Geometry.shape c.args.position.now c.args.from c.in-Some.to (here g (goal.at.has-requires g c).In-Some) in
+    omega (arith, at.within, g.met.B.Geometry.point_count, g.met.B.Geometry.few)
+
 pub closes-requires-clause-end : goal.closes-requires-clause-end
 closes-requires-clause-end g c =
     let at = reached g.B.Geometry.shape c.args.position.now c.args.from c.in-Some.to (here g (goal.at.closes-requires-clause-end g c).In-Some) in
@@ -27,11 +43,13 @@ closes-requires-clause-end g c =
 
 pub entry_after-after-requires-clause-listed : goal.entry_after-after-requires-clause-listed
 entry_after-after-requires-clause-listed g c =
+    let at = goal.at.entry_after-after-requires-clause-listed g c in
     quiet_listed g.B.Geometry.shape g.met.B.Geometry.is_lawful c.args.position.now c.own-own.ensures.lawful c.args.from c.in-Some.to c.requires.start
-    (here g (goal.at.entry_after-after-requires-clause-listed g c).In-Some) (ap (λ o. closes g.B.Geometry.shape o c.args.from c.in-Some.to) (sym c.own-own.ensures.points) ∙ sym c.closes.ensures ∙ c.if-not-closes.true)
+    (here g at.In-Some) (quiet g at.Joined-then-not-has (here g at.In-Some))
 
-pub loop-to-preserved-then-not-closes : goal.loop-to-preserved-then-not-closes
-loop-to-preserved-then-not-closes g c =
+pub loop-to-preserved-in-loop-to : goal.loop-to-preserved-in-loop-to
+loop-to-preserved-in-loop-to g c =
+    let at = goal.at.loop-to-preserved-in-loop-to g c in
     let b = g.B.Geometry.shape in
     let t = c.args.raw.now in
     let s = c.args.position.now in
@@ -43,7 +61,7 @@ loop-to-preserved-then-not-closes g c =
       best = c.max-best.ensures
           ∙ ap₂ max c.loop-to.invariant.best (c.worth.ensures ∙ ap worth stated)
           ∙ sym (best_of-more c.args.known (codes_to b t s u c.loop-to.yielded) _)
-          ∙ ap (best_of c.args.known) (sym (codes_to-quiet b t s u c.loop-to.yielded v (ap (λ o. closes g.B.Geometry.shape o c.args.from c.in-Some.to) (sym c.own-own.ensures.points) ∙ sym c.closes.ensures ∙ c.if-not-closes.true)));
+          ∙ ap (best_of c.args.known) (sym (codes_to-quiet b t s u c.loop-to.yielded v (quiet g at.Joined-then-not-has (here g at.In-Some))));
     }
 
 pub loop-to-preserved : goal.loop-to-preserved

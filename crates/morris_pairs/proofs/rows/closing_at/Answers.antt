@@ -1,11 +1,11 @@
-use Rattle.std.proofs.Common.{◌≡◌, ◌<◌, ◌&&◌, ℕ, List, true, ltb, eqb, refl, sym, ap, ap₂, ◌∙◌, arith}
+use Rattle.std.proofs.Common.{◌≡◌, ◌<◌, ◌&&◌, ℕ, List, Bool, true, false, ltb, eqb, refl, sym, ap, ap₂, ◌∙◌, arith}
 use Rattle.std.proofs.lemmas.Bool.{and_parts, ltb-true}
 use Rattle.std.specs.List.{list_any}
 use Rattle.morris_board.specs.Sets.{has, members}
 use Rattle.morris_moves.specs.Rules.{is_vacant}
 use Rattle.morris_pairs.specs.Rows.{may_close}
 use Rattle.morris_pairs.proofs.BackLawsLoops.{end_of, next_points, none_left}
-use Rattle.morris_pairs.proofs.ComerLaws.{closing-some, closing-none}
+use Rattle.morris_pairs.proofs.ComerLaws.{closing-some, closing-none, last-may}
 use Rattle.morris_pairs.proofs.RowLaws.{so_far-none, so_far-yes, so_far-no, listed_has, closing_there, some_mask, no_mask}
 use Rattle.morris_pairs.proofs.rows.closing_at.Given as given
 use Rattle.morris_pairs.proofs.rows.closing_at.Goals as goal
@@ -14,10 +14,11 @@ use Rattle.morris_pairs.proofs.rows.closing_at.Goals.{In-Some}
 -- the point is vacant, and one of the board
 low : (g : given.Over) (c : In-Some g) → c.in-Some.to < g.B.Geometry.POINTS
 low g c =
-    let here : has c.vacant.result c.in-Some.to ≡ true =
-    end_of c.vacant.result c.in-Some.to c.loop-to.yielded _ _
+    let here : has c.common.result c.in-Some.to ≡ true =
+    end_of c.common.result c.in-Some.to c.loop-to.yielded _ _
     (c.loop-to.invariant.points ∙ ap members (c.into_iter-to-iterator.ensures.into_iter_gives ∙ c.iter-to-items.ensures.points)) c.in-Some.ensures.steps in
-    ltb-true c.in-Some.to g.B.Geometry.POINTS (and_parts (ltb c.in-Some.to g.B.Geometry.POINTS) (is_vacant c.args.position.now c.in-Some.to) (sym (c.vacant.ensures c.in-Some.to) ∙ here)).0
+    let free = (and_parts (has c.vacant.result c.in-Some.to) (has c.last_of_mills.result c.in-Some.to) (sym (c.common.ensures c.in-Some.to) ∙ here)).0 in
+    ltb-true c.in-Some.to g.B.Geometry.POINTS (and_parts (ltb c.in-Some.to g.B.Geometry.POINTS) (is_vacant c.args.position.now c.in-Some.to) (sym (c.vacant.ensures c.in-Some.to) ∙ free)).0
 
 pub loop-to-init : goal.loop-to-init
 loop-to-init g c = record { points = refl; closing = so_far-none (may_close g.B.Geometry.shape c.own-own.result) }
@@ -45,12 +46,23 @@ loop-to-preserved g c = record {
       (no_mask c.arriving-closers.result.1 (sym c.ne.ensures ∙ c.if-ne.false)));
 }
 
+-- what two tests say, of which one follows from a third
+followed : (x y z : Bool) → (z ≡ true → y ≡ true) → ((x && y) && z) ≡ (x && z)
+followed false y z h = refl
+followed true true z h = refl
+followed true false true h = h refl
+followed true false false h = refl
+
 pub returns : goal.returns
 returns g c = λ v.
-    let all : c.loop-to.yielded ≡ members c.vacant.result =
+    let own = c.args.position.now.own in
+    let all : c.loop-to.yielded ≡ members c.common.result =
     none_left c.loop-to.yielded _ _ c.loop-to.invariant.points c.in-None.ensures.steps.0
     ∙ ap members (c.into_iter-to-iterator.ensures.into_iter_gives ∙ c.iter-to-items.ensures.points) in
     c.loop-to.invariant.closing v
     ∙ ap₂ (λ (vs : List ℕ) own. list_any (eqb v) vs && may_close g.B.Geometry.shape own v) all c.own-own.ensures.points
-    ∙ ap (λ x. x && may_close g.B.Geometry.shape c.args.position.now.own v) (listed_has c.vacant.result v (omega arith) ∙ c.vacant.ensures v)
+    ∙ ap (λ x. x && may_close g.B.Geometry.shape own v) (listed_has c.common.result v (omega arith) ∙ c.common.ensures v)
+    ∙ followed (has c.vacant.result v) (has c.last_of_mills.result v) (may_close g.B.Geometry.shape own v)
+    (last-may g.B.Geometry.shape own c.last_of_mills.result (rw (← c.own-own.ensures.points) c.last_of_mills.ensures) v)
+    ∙ ap (λ x. x && may_close g.B.Geometry.shape own v) (c.vacant.ensures v)
     ∙ closing_there g.B.Geometry.shape g.B.Geometry.POINTS c.args.position.now v
