@@ -60,9 +60,7 @@ impl<'a, B: Geometry> Faced<'a, B> {
         ensures led { (s : ℕ) × IsLedBack B.shape result.position s × (self.now.position ≡ image_sides (B.shape.image s) result.position) }
         ensures faced { IsFaced B.shape B.POINTS self.now (class_index_of B.shape B.POINTS self.now.pair self.now.position) }
     {
-        SuccessorEntries::led_by(
-            self.pair, self.from, 0, self.from, self.place, self.start,
-        )
+        SuccessorEntries::led_by(self.pair, self.from, 0, self.from, self.place, self.start)
     }
 
     /// Its entry.
