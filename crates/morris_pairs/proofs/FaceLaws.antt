@@ -1,5 +1,5 @@
 -- Where the entries of all positions that face others agree, all entries do.
-use Rattle.std.proofs.Common.{◌≡◌, ℕ, ◌+◌, ◌-◌, ◌*◌, ◌/◌, ◌<◌, ◌≤◌, Bool, true, false, List, length, slice_index, slice_index_or, refl, sym, ap, subst, ◌∙◌, arith}
+use Rattle.std.proofs.Common.{◌≡◌, ℕ, ◌<◌, ◌≤◌, List, length, slice_index, slice_index_or, refl, sym, ap, subst, ◌∙◌, arith}
 use Rattle.std.specs.List.{All, Contains}
 use Rattle.std.proofs.lemmas.Bool.{eqb-true}
 use Rattle.std.proofs.lemmas.List.{get_or-map, length-map}
@@ -15,8 +15,6 @@ use Rattle.morris_index.proofs.ClassPairLaws.{index-lt}
 use Rattle.morris_index.proofs.FacingLaws.{IsCovered, covered}
 use Rattle.morris_pairs.specs.Agreement.{Agrees, code_from, result_codes}
 use Rattle.morris_pairs.specs.Faces.{code_stated, codes_stated, EntryAgrees, FacesAgree}
-use Rattle.morris_pairs.specs.Entries.{entry_count}
-use Rattle.morris_pairs.specs.Sharing.{AreMarked}
 use Rattle.morris_pairs.specs.Tables.{Table}
 use Rattle.morris_pairs.specs.declared.layout.Layout.TheVariants.{Classes}
 
@@ -38,13 +36,6 @@ listed-agree board n points t first end faces listed agree k from to p h of own 
     All-weaker (Contains (facing board t.pair p)) (EntryAgrees board t)
     (λ q m. All-contains (EntryAgrees board t) faces q agree (listed.each p h of own (omega (arith, same)) (omega (arith, same)) q m))
     (facing board t.pair p) (All-contains_itself (facing board t.pair p))
-
--- the entries of stretches that are all marked
-pub marked-faces : (board : Shape) (n : ℕ) (t : Table) (first end : ℕ) (marks : List Bool) → first + length marks ≡ end → AreMarked board n t first marks
-    → All (λ mark. mark ≡ true) marks → (k : ℕ) → first * 4096 ≤ k → k < end * 4096 → k < entry_count board n t.layout t.pair → FacesAgree board t k
-marked-faces board n t first end marks len marked all k from low inside =
-    let at : first + (k / 4096 - first) ≡ k / 4096 = omega (arith, from) in
-    marked (k / 4096 - first) (all (k / 4096 - first) false (omega (arith, len, from, low))) k (omega (arith, at)) (omega (arith, at)) inside
 
 -- each position with an entry of its own is among those that face others
 pub faces-all : (board : Shape) → board.points ≤ 24 → HasSymmetries board → (t : Table) → t.layout ≡ Classes → IsPair board.points t.pair

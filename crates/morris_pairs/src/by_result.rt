@@ -3,8 +3,9 @@
 //! The quiet moves of a position lead to positions in which the opponent's stones are those of the
 //! player to move, and the entries of these stand together. So the positions that face one set of
 //! the opponent's are looked at together: what is read of the table for their results is then near
-//! what was read before, and what their captures lead to is kept. Their own entries lie far apart.
-//! These are read in a pass of their own, in which no entry has to wait for another.
+//! what was read before, and what their captures lead to is kept. Their own entries are those of
+//! images, and lie far apart: these are read in a pass of their own, in which none has to wait for
+//! another.
 ghost use Rattle.std.specs.Prelude.{◌≡◌, ℕ, ◌<◌, ◌≤◌, true, IfOk, OnOk};
 ghost use Rattle.std.specs.List.{All};
 ghost use Rattle.morris_index.specs.Moves.{InPair};

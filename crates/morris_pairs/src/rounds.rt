@@ -1,19 +1,20 @@
 //! The entries of a table gone through round by round, so that it is told how far that is.
-ghost use Rattle.std.specs.Prelude.{◌≡◌, ℕ, ◌<◌, ◌≤◌, true, IfOk, MatchOption};
+ghost use Rattle.std.specs.Prelude.{◌≡◌, ℕ, ◌<◌, ◌≤◌, true, MatchOption};
 ghost use Rattle.std.specs.Int.{div_ceil};
+ghost use Rattle.morris_board.specs.Symmetries.{HasSymmetries};
 ghost use Rattle.morris_pairs.specs.Agreement.{Agrees, IsFirstToDiffer};
 ghost use Rattle.morris_pairs.specs.Entries.{entry_count};
-ghost use Rattle.morris_pairs.specs.Faces.{FacesAgree};
 
+use crate::agreeing::first_in;
 use crate::graph::PairGraph;
 use crate::layout::Layout;
 use crate::numbering::Numbering;
 use crate::raw::Raw;
-use crate::sharing::{Claim, STRETCH};
+use crate::sharing::Claim;
 use morris_board::board::{Board, Geometry};
 use morris_index::class_pair::ClassPair;
 use morris_wave::Watch;
-use std::alloc::{AllocError, Global};
+use std::alloc::Global;
 use std::thread::Threads;
 
 /// How many entries a round has, after which it is told how many are done: a multiple of
@@ -24,28 +25,16 @@ const ROUND: u64 = 4_194_304;
 /// In how many rounds the entries of a table are gone through.
 fn round_count<B: Geometry>(raw: &Raw<B>) -> u64
     ensures count { result ≡ div_ceil (entry_count B.shape B.POINTS raw.now.layout raw.now.pair) 4194304 }
-    // The caller's proof learns here that the board has as many points as its shape says.
+    // The caller's proof learns here that the board has as many points as its shape says, no more
+    // than there may be, and symmetries.
     ensures points { B.shape.points ≡ B.POINTS }
+    ensures few { B.shape.points ≤ 24 }
+    ensures symmetries { HasSymmetries B.shape }
 {
     raw.len().div_ceil(ROUND)
 }
 
-/// Whether all entries are known to agree, by what is known of those of all positions that face
-/// one: they are all entries.
-fn all_agree<B: Geometry>(raw: &Raw<B>, faces: Result<bool, AllocError>) -> bool
-    requires layout { raw.now.layout ≡ Layout.Classes }
-    requires faces { IfOk faces (λ yes. yes ≡ true → (k : ℕ) → k < entry_count B.shape B.POINTS raw.now.layout raw.now.pair → FacesAgree B.shape raw.now k) }
-    ensures { result ≡ true → (k : ℕ) → k < entry_count B.shape B.POINTS raw.now.layout raw.now.pair → Agrees B.shape raw.now k }
-{
-    // The proof learns here that the numbers of stones are those of a pair.
-    let _ = raw.pair();
-    match faces {
-        Ok(agree) => agree,
-        Err(_) => false,
-    }
-}
-
-impl<B: Board, R: Threads + Sync> Claim<'_, B, R> {
+impl<'a, B: Board, R: Threads + Sync> Claim<'a, B, R> {
     /// The first entry that doesn't agree.
     fn first_of_rounds<W: Watch>(&self, watch: &mut W) -> Option<u64>
         ensures first { MatchOption result ((k : ℕ) → k < entry_count B.shape B.POINTS self.now.raw.now.layout self.now.raw.now.pair → Agrees B.shape self.now.raw.now k) (IsFirstToDiffer B.shape self.now.raw.now) }
@@ -55,7 +44,8 @@ impl<B: Board, R: Threads + Sync> Claim<'_, B, R> {
         for round in 0..round_count(self.raw) {
             let first = round * ROUND;
             let end = first + ROUND.min(count - first);
-            if let Some(index) = self.first_shared(first, end) {
+            let from = self.known_until(None, first, end);
+            if let Some(index) = first_in(self.graph, self.raw, from, end) {
                 return Some(index);
             }
             watch.entries(end);
@@ -63,31 +53,26 @@ impl<B: Board, R: Threads + Sync> Claim<'_, B, R> {
         None
     }
 
-    /// Whether the entries of all positions are known to agree that face one, where the entries are
-    /// those of classes.
-    ///
-    /// # Errors
-    /// [`AllocError`] where memory is refused.
-    fn faces_agree<W: Watch>(
-        &self,
-        classes: &ClassPair<B>,
-        watch: &mut W,
-    ) -> Result<bool, AllocError>
+    /// Whether all entries are known to agree of a table by these classes, by those of all positions
+    /// that face one: they are all entries.
+    fn faces_agree<W: Watch>(&self, classes: &'a ClassPair<B>, watch: &mut W) -> bool
         requires classes { classes.now ≡ self.now.raw.now.pair }
         requires layout { self.now.raw.now.layout ≡ Layout.Classes }
-        ensures faces { IfOk result (λ yes. yes ≡ true → (k : ℕ) → k < entry_count B.shape B.POINTS self.now.raw.now.layout self.now.raw.now.pair → FacesAgree B.shape self.now.raw.now k) }
+        ensures agree { result ≡ true → (k : ℕ) → k < entry_count B.shape B.POINTS self.now.raw.now.layout self.now.raw.now.pair → Agrees B.shape self.now.raw.now k }
         ensures watched { W.becomes watch.old watch.new }
     {
+        // The proof learns here that the numbers of stones are those of a pair.
+        let _ = self.raw.pair();
         let count = self.raw.len();
         for round in 0..round_count(self.raw) {
             let first = round * ROUND;
             let end = first + ROUND.min(count - first);
-            if !self.agree_shared(classes, first / STRETCH, end.div_ceil(STRETCH))? {
-                return Ok(false);
+            if self.known_until(Some(classes), first, end) < end {
+                return false;
             }
             watch.entries(end);
         }
-        Ok(true)
+        true
     }
 
     /// Whether all entries are known to agree. It isn't asked where they aren't those of classes.
@@ -97,7 +82,7 @@ impl<B: Board, R: Threads + Sync> Claim<'_, B, R> {
     {
         match self.raw.numbering() {
             Numbering::Full(_) => false,
-            Numbering::Classes(classes) => all_agree(self.raw, self.faces_agree(classes, watch)),
+            Numbering::Classes(classes) => self.faces_agree(classes, watch),
         }
     }
 }

@@ -1,10 +1,8 @@
-//! Entries of a table shared out among workers, to find the first that doesn't agree.
-ghost use Rattle.std.specs.Prelude.{◌≡◌, ℕ, ◌+◌, ◌*◌, ◌%◌, ◌<◌, ◌≤◌, true, length, slice_index_or, vec_len, IfOk, MatchOption};
-ghost use Rattle.std.specs.List.{All};
-ghost use Rattle.morris_pairs.specs.Agreement.{Agrees, IsFirstIn};
+//! Entries of a table shared out among workers, who find out up to which all are as they should be.
+ghost use Rattle.std.specs.Prelude.{◌≡◌, ◌⊎◌, ℕ, ◌+◌, ◌*◌, ◌%◌, ◌<◌, ◌≤◌, false, true, length, slice_index_or, vec_len, IfOk, IfSome, OnOk};
+ghost use Rattle.std.specs.List.{All, Contains};
 ghost use Rattle.morris_pairs.specs.Entries.{entry_count};
-ghost use Rattle.morris_pairs.specs.Faces.{FacesAgree};
-ghost use Rattle.morris_pairs.specs.Sharing.{AreMarked, IsLeastOf, IsOfShare, StretchAgrees};
+ghost use Rattle.morris_pairs.specs.Sharing.{IsAsAsked, StretchIsAsAsked};
 ghost use Rattle.morris_pairs.specs.declared.layout.Layout.TheVariants.{Classes};
 
 use crate::agreeing::first_in;
@@ -18,8 +16,8 @@ use std::sync::atomic::{AtomicU64, Ordering};
 use std::thread;
 use std::thread::Threads;
 
-/// How many entries a stretch has. The workers take the stretches in turn, since an entry of one
-/// half of a pair may take several times as long as one of the other.
+/// How many entries a stretch has. The workers take the stretches as they come, since an entry of
+/// one half of a pair may take several times as long as one of the other.
 pub(crate) const STRETCH: u64 = 4096;
 
 /// A table that is verified, and who verifies it.
@@ -50,158 +48,127 @@ impl<B: Geometry, R> Drop for Claim<'_, B, R> {
     }
 }
 
-/// The least of these numbers.
-fn least_of(found: &[Option<u64>]) -> Option<u64>
-    ensures { IsLeastOf found.now result }
-{
-    let mut least: Option<u64> = None;
-    for place in 0..found.len() {
-        if let Some(index) = found[place] {
-            least = match least {
-                Some(known) => Some(known.min(index)),
-                None => Some(index),
-            };
-        }
-    }
-    least
-}
-
-impl<B: Geometry, R> Claim<'_, B, R> {
-    /// The first entry that doesn't agree of one worker's stretches among the entries from `first`,
-    /// a multiple of [`STRETCH`], up to, not including, `end`: the stretches whose numbers leave
-    /// the worker's when they are divided by how many workers there are.
-    fn first_of_share(&self, first: u64, end: u64, worker: u64) -> Option<u64>
-        requires whole { first % 4096 ≡ 0 }
-        requires inside { end ≤ entry_count B.shape B.POINTS self.now.raw.now.layout self.now.raw.now.pair }
-        requires worker { worker < self.now.workers }
-        ensures { IsOfShare B.shape self.now.raw.now first end self.now.workers worker result }
-    {
-        let workers = self.workers as u64;
-        for stretch in first / STRETCH..end.div_ceil(STRETCH) {
-            if stretch % workers == worker {
-                let start = stretch * STRETCH;
-                let stop = start + STRETCH.min(end - start);
-                if let Some(index) = first_in(self.graph, self.raw, start, stop) {
-                    return Some(index);
-                }
-            }
-        }
-        None
-    }
-}
-
-impl<B: Board, R: Threads + Sync> Claim<'_, B, R> {
-    /// What each worker finds among the entries from `first` up to, not including, `end`.
+impl<'a, B: Geometry, R> Claim<'a, B, R> {
+    /// Whether the entries from `first` up to, not including, `end` are known to be as asked. With
+    /// `faced`, the classes of the entries, it is asked whether the entries of all positions agree
+    /// that face theirs, and else whether they agree themselves.
     ///
     /// # Errors
-    /// [`AllocError`] where memory is refused. Where a thread is, the caller's own does its work.
-    fn shares_of(&self, first: u64, end: u64) -> Result<Vec<Option<u64>>, AllocError>
-        requires whole { first % 4096 ≡ 0 }
+    /// [`AllocError`] where memory is refused.
+    fn are_as_asked(
+        &self,
+        faced: Option<&'a ClassPair<B>>,
+        lists: &mut Lists<'a, B>,
+        first: u64,
+        end: u64,
+    ) -> Result<bool, AllocError>
+        requires faced { IfSome faced (λ classes. (classes.now ≡ self.now.raw.now.pair) × (self.now.raw.now.layout ≡ Classes)) }
         requires inside { end ≤ entry_count B.shape B.POINTS self.now.raw.now.layout self.now.raw.now.pair }
-        ensures len { IfOk result (λ found. vec_len found ≡ self.now.workers) }
-        ensures each { IfOk result (λ found. (w : ℕ) (d : _) → w < self.now.workers
-            → IsOfShare B.shape self.now.raw.now first end self.now.workers w (slice_index_or found.items w d)) }
+        ensures { IfOk result (λ yes. yes ≡ true → (k : ℕ) → first ≤ k → k < end → IsAsAsked B.shape self.now.raw.now faced.entry k) }
     {
-        thread::map_indices(
-            self.rt,
-            self.alloc,
-            self.workers,
-            &|worker| -> Option<u64>
-                requires { (first % 4096 ≡ 0) × (end ≤ entry_count B.shape B.POINTS self.now.raw.now.layout self.now.raw.now.pair) × (worker < self.now.workers) }
-                ensures { IsOfShare B.shape self.entry.now.raw.now first end self.entry.now.workers worker result }
-            { self.first_of_share(first, end, worker as u64) },
-        )
-    }
-
-    /// The first entry that doesn't agree of those from `first`, a multiple of [`STRETCH`], up to,
-    /// not including, `end`. Where memory is refused, the caller goes through them.
-    pub(crate) fn first_shared(&self, first: u64, end: u64) -> Option<u64>
-        requires whole { first % 4096 ≡ 0 }
-        requires inside { end ≤ entry_count B.shape B.POINTS self.now.raw.now.layout self.now.raw.now.pair }
-        ensures { MatchOption result ((k : ℕ) → first ≤ k → k < end → Agrees B.shape self.now.raw.now k) (IsFirstIn B.shape self.now.raw.now first end) }
-    {
-        match self.shares_of(first, end) {
-            Ok(found) => least_of(&found),
-            Err(_) => first_in(self.graph, self.raw, first, end),
+        match faced {
+            Some(classes) => lists.faces_agree(classes, self.graph, self.raw, first, end),
+            None => Ok(first_in(self.graph, self.raw, first, end).is_none()),
         }
     }
-}
 
-/// Whether all of these are set.
-fn all_set(marks: &[bool]) -> bool
-    ensures { result ≡ true → All (λ mark. mark ≡ true) marks.now }
-{
-    marks.iter().all(|mark| *mark)
-}
+    /// Takes stretches below `end`, each the next one that no worker has taken, and adds those to
+    /// `known` whose entries are as asked. It ends at the first one of which that isn't known.
+    ///
+    /// # Errors
+    /// [`AllocError`] where memory is refused.
+    fn add_known(
+        &self,
+        faced: Option<&'a ClassPair<B>>,
+        next: &AtomicU64,
+        end: u64,
+        lists: &mut Lists<'a, B>,
+        known: &mut Vec<u64>,
+    ) -> Result<(), AllocError>
+        requires faced { IfSome faced (λ classes. (classes.now ≡ self.now.raw.now.pair) × (self.now.raw.now.layout ≡ Classes)) }
+        requires inside { end * 4096 < entry_count B.shape B.POINTS self.now.raw.now.layout self.now.raw.now.pair + 4096 }
+        requires known { All (StretchIsAsAsked B.shape B.POINTS self.now.raw.now faced) known.old.items }
+        ensures { OnOk result (All (StretchIsAsAsked B.shape B.POINTS self.now.raw.now faced.entry) known.new.items) }
+    {
+        let count = self.raw.len();
+        for _ in 0..end {
+            let stretch = next.fetch_add(1, Ordering::Relaxed);
+            if stretch >= end {
+                return Ok(());
+            }
+            let start = stretch * STRETCH;
+            let stop = start + STRETCH.min(count - start);
+            if !self.are_as_asked(faced, lists, start, stop)? {
+                return Ok(());
+            }
+            known.push(stretch)?;
+        }
+        Ok(())
+    }
 
-impl<B: Geometry, R> Claim<'_, B, R> {
-    /// Takes stretches of a table by classes below `end`, each the next one that no worker has
-    /// taken, and lists those of which the entries of all positions are known to agree that face
-    /// those of theirs. It ends at the first one of which they aren't.
+    /// The stretches that a worker takes whose entries are as asked (see [`Claim::add_known`]).
     ///
     /// # Errors
     /// [`AllocError`] where memory is refused.
     fn list_known(
         &self,
-        classes: &ClassPair<B>,
+        faced: Option<&'a ClassPair<B>>,
         next: &AtomicU64,
         end: u64,
     ) -> Result<Vec<u64>, AllocError>
-        requires classes { classes.now ≡ self.now.raw.now.pair }
-        requires layout { self.now.raw.now.layout ≡ Classes }
+        requires faced { IfSome faced (λ classes. (classes.now ≡ self.now.raw.now.pair) × (self.now.raw.now.layout ≡ Classes)) }
         requires inside { end * 4096 < entry_count B.shape B.POINTS self.now.raw.now.layout self.now.raw.now.pair + 4096 }
-        ensures { IfOk result (λ known. All (StretchAgrees B.shape B.POINTS self.now.raw.now) known.items) }
+        ensures { IfOk result (λ known. All (StretchIsAsAsked B.shape B.POINTS self.now.raw.now faced.entry) known.items) }
     {
-        let count = self.raw.len();
         let mut lists = Lists::new(self.alloc);
         let mut known = Vec::new(self.alloc);
-        for _ in 0..end {
-            let stretch = next.fetch_add(1, Ordering::Relaxed);
-            if stretch >= end {
-                return Ok(known);
-            }
-            let start = stretch * STRETCH;
-            let stop = start + STRETCH.min(count - start);
-            if !lists.faces_agree(classes, self.graph, self.raw, start, stop)? {
-                return Ok(known);
-            }
-            known.push(stretch)?;
-        }
+        self.add_known(faced, next, end, &mut lists, &mut known)?;
         Ok(known)
     }
+}
 
-    /// Sets the marks of the stretches that a worker knows, which begin with that of `first`.
-    fn mark(&self, known: &[u64], first: u64, marks: &mut [bool])
-        requires known { All (StretchAgrees B.shape B.POINTS self.now.raw.now) known.now }
-        requires marks { AreMarked B.shape B.POINTS self.now.raw.now first marks.old }
-        ensures marks { AreMarked B.shape B.POINTS self.now.raw.now first marks.new }
-        ensures len { length marks.new ≡ length marks.old }
-    {
-        for stretch in known {
-            if *stretch >= first && *stretch - first < marks.len() as u64 {
-                marks[(*stretch - first) as usize] = true;
-            }
+/// Sets the marks of these stretches; the first mark is that of `first`.
+fn mark(known: &[u64], first: u64, marks: &mut [bool])
+    ensures known { (i : ℕ) → slice_index_or marks.new i false ≡ true → (slice_index_or marks.old i false ≡ true) ⊎ Contains known.now (first + i) }
+    ensures len { length marks.new ≡ length marks.old }
+{
+    for stretch in known {
+        if *stretch >= first && *stretch - first < marks.len() as u64 {
+            marks[(*stretch - first) as usize] = true;
         }
     }
 }
 
-impl<B: Board, R: Threads + Sync> Claim<'_, B, R> {
+/// The place of the first of these marks that isn't set, or how many there are.
+fn first_unset(marks: &[bool]) -> usize
+    ensures inside { result ≤ length marks.now }
+    ensures before { (i : ℕ) → i < result → slice_index_or marks.now i false ≡ true }
+    ensures unset { slice_index_or marks.now result false ≡ false }
+{
+    for place in 0..marks.len() {
+        if !marks[place] {
+            return place;
+        }
+    }
+    marks.len()
+}
+
+impl<'a, B: Board, R: Threads + Sync> Claim<'a, B, R> {
     /// What each worker knows of the stretches from `first` up to, not including, `end`.
     ///
     /// # Errors
     /// [`AllocError`] where memory is refused. Where a thread is, the caller's own does its work.
     fn known_by_all(
         &self,
-        classes: &ClassPair<B>,
+        faced: Option<&'a ClassPair<B>>,
         first: u64,
         end: u64,
     ) -> Result<Vec<Result<Vec<u64>, AllocError>>, AllocError>
-        requires classes { classes.now ≡ self.now.raw.now.pair }
-        requires layout { self.now.raw.now.layout ≡ Classes }
+        requires faced { IfSome faced (λ classes. (classes.now ≡ self.now.raw.now.pair) × (self.now.raw.now.layout ≡ Classes)) }
         requires inside { end * 4096 < entry_count B.shape B.POINTS self.now.raw.now.layout self.now.raw.now.pair + 4096 }
         ensures len { IfOk result (λ found. vec_len found ≡ self.now.workers) }
         ensures each { IfOk result (λ found. (w : ℕ) (d : _) → w < self.now.workers
-            → IfOk (slice_index_or found.items w d) (λ known. All (StretchAgrees B.shape B.POINTS self.now.raw.now) known.items)) }
+            → IfOk (slice_index_or found.items w d) (λ known. All (StretchIsAsAsked B.shape B.POINTS self.now.raw.now faced.entry) known.items)) }
     {
         let next = AtomicU64::new(first);
         thread::map_indices(
@@ -209,38 +176,58 @@ impl<B: Board, R: Threads + Sync> Claim<'_, B, R> {
             self.alloc,
             self.workers,
             &|_worker| -> Result<Vec<u64>, AllocError>
-                requires { (classes.now ≡ self.now.raw.now.pair) × (self.now.raw.now.layout ≡ Classes)
+                requires { IfSome faced (λ classes. (classes.now ≡ self.now.raw.now.pair) × (self.now.raw.now.layout ≡ Classes))
                     × (end * 4096 < entry_count B.shape B.POINTS self.now.raw.now.layout self.now.raw.now.pair + 4096) }
-                ensures { IfOk result (λ known. All (StretchAgrees B.shape B.POINTS self.entry.now.raw.now) known.items) }
-            { self.list_known(classes, &next, end) },
+                ensures { IfOk result (λ known. All (StretchIsAsAsked B.shape B.POINTS self.entry.now.raw.now faced.entry) known.items) }
+            { self.list_known(faced, &next, end) },
         )
     }
 
-    /// Whether the entries of all positions are known to agree that face those of the stretches from
-    /// `first` up to, not including, `end`.
+    /// The first of the stretches from `first` up to, not including, `end` whose entries aren't
+    /// known to be as asked, or `end`.
     ///
     /// # Errors
     /// [`AllocError`] where memory is refused.
-    pub(crate) fn agree_shared(
+    fn first_unknown(
         &self,
-        classes: &ClassPair<B>,
+        faced: Option<&'a ClassPair<B>>,
         first: u64,
         end: u64,
-    ) -> Result<bool, AllocError>
-        requires classes { classes.now ≡ self.now.raw.now.pair }
-        requires layout { self.now.raw.now.layout ≡ Classes }
+    ) -> Result<u64, AllocError>
+        requires faced { IfSome faced (λ classes. (classes.now ≡ self.now.raw.now.pair) × (self.now.raw.now.layout ≡ Classes)) }
         requires order { first ≤ end }
         requires inside { end * 4096 < entry_count B.shape B.POINTS self.now.raw.now.layout self.now.raw.now.pair + 4096 }
-        ensures { IfOk result (λ yes. yes ≡ true → (k : ℕ) → first * 4096 ≤ k → k < end * 4096
-            → k < entry_count B.shape B.POINTS self.now.raw.now.layout self.now.raw.now.pair → FacesAgree B.shape self.now.raw.now k) }
+        ensures from { IfOk result (λ stretch. first ≤ stretch) }
+        ensures known { IfOk result (λ stretch. (k : ℕ) → first * 4096 ≤ k → k < stretch * 4096
+            → k < entry_count B.shape B.POINTS self.now.raw.now.layout self.now.raw.now.pair → IsAsAsked B.shape self.now.raw.now faced.entry k) }
     {
-        let found = self.known_by_all(classes, first, end)?;
+        let found = self.known_by_all(faced, first, end)?;
         let mut marks = vec![in self.alloc; false; (end - first) as usize]?;
         for worker in 0..found.len() {
             if let Ok(known) = &found[worker] {
-                self.mark(known, first, &mut marks);
+                mark(known, first, &mut marks);
             }
         }
-        Ok(all_set(&marks))
+        Ok(first + first_unset(&marks) as u64)
+    }
+
+    /// Up to which of the entries from `first`, a multiple of [`STRETCH`], up to, not including,
+    /// `end` all are known to be as asked: `end` where all are. Where memory is refused, nothing is
+    /// known.
+    pub(crate) fn known_until(&self, faced: Option<&'a ClassPair<B>>, first: u64, end: u64) -> u64
+        requires faced { IfSome faced (λ classes. (classes.now ≡ self.now.raw.now.pair) × (self.now.raw.now.layout ≡ Classes)) }
+        requires whole { first % 4096 ≡ 0 }
+        requires order { first ≤ end }
+        requires inside { end ≤ entry_count B.shape B.POINTS self.now.raw.now.layout self.now.raw.now.pair }
+        ensures from { first ≤ result }
+        ensures inside { result ≤ end }
+        ensures known { (k : ℕ) → first ≤ k → k < result → IsAsAsked B.shape self.now.raw.now faced.entry k }
+    {
+        let last = end.div_ceil(STRETCH);
+        match self.first_unknown(faced, first / STRETCH, last) {
+            Ok(stretch) if stretch < last => stretch * STRETCH,
+            Ok(_) => end,
+            Err(_) => first,
+        }
     }
 }

@@ -10,3 +10,9 @@ returns-clause-count g c = c.div_ceil.ensures ∙ ap (λ n. div_ceil n 4194304) 
 
 pub returns-clause-points : goal.returns-clause-points
 returns-clause-points g c = g.met.B.Geometry.point_count
+
+pub returns-clause-few : goal.returns-clause-few
+returns-clause-few g c = omega (arith, g.met.B.Geometry.few, g.met.B.Geometry.point_count)
+
+pub returns-clause-symmetries : goal.returns-clause-symmetries
+returns-clause-symmetries g c = g.met.B.Geometry.has_symmetries

@@ -3,8 +3,8 @@ use Rattle.morris_pairs.specs.Entries.{entry_count}
 use Rattle.morris_pairs.proofs.SharingLaws.{round-differs}
 use Rattle.morris_pairs.proofs.sharing.Claim.first_of_rounds.Goals as goal
 
-pub first_shared-requires-clause-inside : goal.first_shared-requires-clause-inside
-first_shared-requires-clause-inside g c = omega (arith, c.min.ensures, c.loop-round-test.true, c.round_count-round-end.ensures.count, c.len-count.ensures.size)
+pub known_until-from-requires-clause-inside : goal.known_until-from-requires-clause-inside
+known_until-from-requires-clause-inside g c = omega (arith, c.min.ensures, c.loop-round-test.true, c.round_count-round-end.ensures.count, c.len-count.ensures.size)
 
 pub returns-in-Some-clause-first : goal.returns-in-Some-clause-first
 returns-in-Some-clause-first g c =
@@ -15,4 +15,4 @@ returns-in-Some-clause-first g c =
     subst (λ n. c.len-count.result ≡ entry_count board n t.layout t.pair) (sym c.round_count-round-end.ensures.points) c.len-count.ensures.size in
     let within : c.loop-round.round * 4194304 + c.min.result ≤ c.len-count.result =
     omega (arith, c.min.ensures, c.loop-round-test.true, c.round_count-round-end.ensures.count, c.len-count.ensures.size) in
-    round-differs board t c.len-count.result c.loop-round.round end c.in-Some.index all within c.loop-round.invariant.agreed c.in-Some.ensures
+    round-differs board t c.len-count.result c.loop-round.round c.known_until-from.result end c.in-Some.index all within c.loop-round.invariant.agreed c.known_until-from.ensures.known c.in-Some.ensures
