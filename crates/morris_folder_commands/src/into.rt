@@ -1,5 +1,5 @@
 //! The command `build` into a folder.
-ghost use Rattle.std.specs.Prelude.{◌≡◌, ℕ, ◌-◌, ◌^◌, ◌<◌, ◌≤◌, ◌++◌, List, Option, Some, true, false, is_some, length, Err, IfErr, IfOk, MatchResult};
+ghost use Rattle.std.specs.Prelude.{◌≡◌, ℕ, ◌-◌, ◌^◌, ◌<◌, ◌≤◌, ◌++◌, List, [], Option, Some, true, false, is_some, length, vec_capacity, Err, IfErr, IfOk, MatchResult};
 ghost use Rattle.morris_pairs.specs.Shelves.{table_on};
 ghost use Rattle.morris_jobs.specs.Orders.{layout_asked};
 ghost use Rattle.morris_jobs.specs.Faults.{CountsWrites, is_write};
@@ -209,25 +209,56 @@ fn fill<B: Board, R: Threads + Wait + Sync, F: Folder, O: Sink, T: Teller>(
     ensures counted { CountsWrites (O.failures output.old) (O.failures output.new) result }
     ensures told { T.becomes teller.old teller.new }
 {
+    let Crew { alloc, team, .. } = filling.crew;
+    let mut written = Vec::with_capacity(alloc, PAIR_COUNT)?;
+    let mut stock = TableSet::new(alloc)?;
+    let way = Way::Built { team, all: false };
+    teller.announce(filling.pair, filling.layout, way);
+    add_files(filling, &mut stock, &mut written, folder, output, teller)?;
+    Ok(written)
+}
+
+/// Fills a folder that is there over a set of tables, and adds to `written`, which is empty and has
+/// room for all, what is told of each file.
+fn add_files<B: Board, R: Threads + Wait + Sync, F: Folder, O: Sink, T: Teller>(
+    filling: &Filling<'_, B, R>,
+    stock: &mut TableSet<B>,
+    written: &mut Vec<Written<B>>,
+    folder: &mut F,
+    output: &mut O,
+    teller: &mut T,
+) -> Result<(), Fault>
+    requires folder { F.failures folder.old < 2 ^ 64 - 2 }
+    requires locked { F.locked folder.old ≡ true }
+    requires output { O.failures output.old < 2 ^ 64 - 1 }
+    requires empty { written.old.items ≡ [] }
+    requires room { vec_capacity written.old ≡ 28 }
+    ensures filled { (kept : List ℕ) → MatchResult result
+        (λ _. IsFilledBut B.shape filling.now.layout filling.now.board.now filling.now.pair filling.now.crew.team.blocks kept
+        (place_of (F.files folder.old) (O.contents output.old)) (place_of (F.files folder.new) (O.contents output.new))
+        (digest_lines filling.now.board.now (λ w. w.pair) (λ w. w.digest) written.new.items))
+        (λ refused. FillsFolder B.shape filling.now.layout filling.now.board.now filling.now.pair filling.now.crew.team.blocks kept
+        (place_of (F.files folder.old) (O.contents output.old)) (place_of (F.files folder.new) (O.contents output.new)) (Err refused)) }
+    ensures locked { F.locked folder.new ≡ true }
+    ensures caused { HasCause F.Reader.failures F.Writer.failures (Some false) ⊥ (F.failures folder.old) (F.failures folder.new) result }
+    ensures counted { CountsWrites (O.failures output.old) (O.failures output.new) result }
+    ensures told { T.becomes teller.old teller.new }
+{
     let Filling {
         crew,
         board,
         layout,
         pair,
     } = *filling;
-    let Crew { alloc, team, .. } = crew;
-    let mut written = Vec::with_capacity(alloc, PAIR_COUNT)?;
-    let mut stock = TableSet::new(alloc)?;
     let mut sent = 0;
-    teller.announce(pair, layout, Way::Built { team, all: false });
     for below in pair.below() {
-        spare(&mut stock, false, below);
-        build_onto(crew, &mut stock, layout, below, teller)?;
-        let file = keep_table(alloc, board, &stock, below, folder, teller)?;
+        spare(stock, false, below);
+        build_onto(crew, stock, layout, below, teller)?;
+        let file = keep_table(crew.alloc, board, stock, below, folder, teller)?;
         sent = print_after(&Filed { file: &file }, sent, output)?;
         written.push_reserved(file);
     }
-    Ok(written)
+    Ok(())
 }
 
 /// Writes the file of the table that a stock has of a pair into a folder.

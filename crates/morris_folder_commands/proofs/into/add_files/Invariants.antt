@@ -5,7 +5,7 @@ use Rattle.morris_files.specs.Digests.{digest_lines}
 use Rattle.morris_folder_commands.specs.Into.{place_of}
 use Rattle.morris_folder_commands.proofs.FillLaws.{Leads}
 use Rattle.morris_jobs.proofs.NearLaws.{HasNear}
-use Rattle.morris_folder_commands.proofs.into.fill.Given as goal
+use Rattle.morris_folder_commands.proofs.into.add_files.Given as goal
 
 -- there are the tables of the pairs so far that one to come may need; all their files are told of in
 -- order; where the other pairs lead, there lead all, whatever lines were kept; the folder is locked;

@@ -1,5 +1,5 @@
 -- The pairs are done one after the other.
-use Rattle.std.proofs.Common.{rules, ◌≡◌, ◌∷◌, [], ◌++◌, Option, Some, false, Ok, Err, length-append, refl, sym, ap, subst, ◌∙◌, inl, inr, arith, append_assoc}
+use Rattle.std.proofs.Common.{rules, ◌≡◌, ◌∷◌, [], ◌++◌, Option, Some, false, Ok, Err, length, length-append, refl, sym, ap, subst, ◌∙◌, inl, inr, arith, append_assoc}
 use Rattle.std.proofs.KnownBytes.{Keeps-refl}
 use Rattle.std.proofs.lemmas.Result.{err_from_is_err_and}
 use Rattle.morris_jobs.specs.Faults.{PrintsLine}
@@ -10,7 +10,7 @@ use Rattle.morris_folder_commands.specs.Into.{IsBuilt, IsFiled, IsUnfiled, filed
 use Rattle.morris_folder_commands.proofs.CauseLaws.{caused_on, line_caused, unbuilt_caused}
 use Rattle.morris_folder_commands.proofs.FillLaws.{all_done, done_leads, line_is, lines_of, next_leads, no_leads, start_leads, unbuilt, undone}
 use Rattle.morris_jobs.proofs.NearLaws.{near-more, near-ready}
-use Rattle.morris_folder_commands.proofs.into.fill.Goals as goal
+use Rattle.morris_folder_commands.proofs.into.add_files.Goals as goal
 
 pub build_onto-requires-clause-ready : goal.build_onto-requires-clause-ready
 build_onto-requires-clause-ready g c = λ κs within.
@@ -25,22 +25,22 @@ loop-below-init g c =
       split = whole;
       near = λ other m near. absurd (omega (arith, m.1));
       leads = λ stays.
-          start_leads g.B.Geometry.shape c.args.filling.now.layout c.args.filling.now.board.now c.args.filling.now.crew.team.blocks stays c.in_ok-written.written.items
+          start_leads g.B.Geometry.shape c.args.filling.now.layout c.args.filling.now.board.now c.args.filling.now.crew.team.blocks stays c.args.written.now.items
           (place_of (g.F.Folder.files c.args.folder.now) (g.O.Sink.contents c.args.output.now)) (below_of c.args.filling.now.pair)
-          c.into_iter-below-iterator.result c.in_ok-written.ensures.items whole;
-      room = c.in_ok-written.ensures.exact;
-      count = c.in_ok-written.ensures.len;
+          c.into_iter-below-iterator.result c.requires.empty whole;
+      room = c.requires.room;
+      count = omega (arith, c.args.written.now.ok.0, ap length c.requires.empty);
       few = omega arith;
       locked = c.requires.locked;
       unfailed = refl;
       uncounted = refl;
-      told = g.met.T.Watch.stays c.announce.new.self;
+      told = g.met.T.Watch.stays c.args.teller.now;
     }
 
 -- a pair that isn't built
 pub returns-in_err-build_onto-clause-filled : goal.returns-in_err-build_onto-clause-filled
 returns-in_err-build_onto-clause-filled g c = λ stays.
-    let failed = err_from_is_err_and c.from_residual-in_err-build_onto.result c.from_residual-in_err-build_onto.ensures.1 in
+    let failed = err_from_is_err_and c.from_residual.result c.from_residual.ensures.1 in
     let board = g.B.Geometry.shape in
     let name = c.args.filling.now.board.now in
     let blocks = c.args.filling.now.crew.team.blocks in
@@ -153,8 +153,8 @@ loop-below-preserved g c =
       unfailed = c.in_ok-file.ensures.caused ∙ l.invariant.unfailed;
       uncounted = c.in_ok-sent.ensures.counted ∙ l.invariant.uncounted;
       told =
-          g.met.T.Watch.joins c.announce.new.self c.build_onto.new.teller c.keep_table.new.watch
-          (g.met.T.Watch.joins c.announce.new.self l.teller c.build_onto.new.teller l.invariant.told c.build_onto.ensures.told) c.keep_table.ensures.told;
+          g.met.T.Watch.joins c.args.teller.now c.build_onto.new.teller c.keep_table.new.watch
+          (g.met.T.Watch.joins c.args.teller.now l.teller c.build_onto.new.teller l.invariant.told c.build_onto.ensures.told) c.keep_table.ensures.told;
     }
 
 -- no pair is left
@@ -173,19 +173,19 @@ returns-clause-filled g c = λ stays after result ends.
 
 pub returns-in_err-file-clause-told : goal.returns-in_err-file-clause-told
 returns-in_err-file-clause-told g c =
-    g.met.T.Watch.joins _ _ _ (g.met.T.Watch.joins _ _ _ (g.met.T.Watch.joins _ _ _ c.announce.ensures.told c.loop-below.invariant.told) c.build_onto.ensures.told)
+    g.met.T.Watch.joins _ _ _ (g.met.T.Watch.joins _ _ _ c.loop-below.invariant.told c.build_onto.ensures.told)
     c.keep_table.ensures.told
 
 pub returns-in_err-sent-clause-told : goal.returns-in_err-sent-clause-told
 returns-in_err-sent-clause-told g c =
-    g.met.T.Watch.joins _ _ _ (g.met.T.Watch.joins _ _ _ (g.met.T.Watch.joins _ _ _ c.announce.ensures.told c.loop-below.invariant.told) c.build_onto.ensures.told)
+    g.met.T.Watch.joins _ _ _ (g.met.T.Watch.joins _ _ _ c.loop-below.invariant.told c.build_onto.ensures.told)
     c.keep_table.ensures.told
 
 -- ---- what a refusal has for a cause
 
 pub returns-in_err-build_onto-clause-caused : goal.returns-in_err-build_onto-clause-caused
 returns-in_err-build_onto-clause-caused g c =
-    let failed = err_from_is_err_and c.from_residual-in_err-build_onto.result c.from_residual-in_err-build_onto.ensures.1 in
+    let failed = err_from_is_err_and c.from_residual.result c.from_residual.ensures.1 in
     rw (failed.1, failed.2)
     (unbuilt_caused g.F.Reader.Source.failures g.F.Writer.Sink.failures (Some false) ⊥ (g.F.Folder.failures c.args.folder.now)
     (g.F.Folder.failures c.loop-below.folder) g.B.Geometry.shape c.in-Some.below c.args.filling.now.crew.team.blocks c.in_err-build_onto.field-0.0
