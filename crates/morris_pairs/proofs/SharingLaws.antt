@@ -1,24 +1,13 @@
 -- What marks of stretches come to, and what rounds do.
-use Rattle.std.proofs.Common.{◌≡◌, ◌⊎◌, ℕ, ◌+◌, ◌-◌, ◌*◌, ◌/◌, ◌<◌, ◌≤◌, Bool, true, false, List, slice_index_or, Option, inl, inr, arith}
-use Rattle.std.specs.List.{All, Contains}
+use Rattle.std.proofs.Common.{◌≡◌, ℕ, ◌+◌, ◌-◌, ◌*◌, ◌/◌, ◌<◌, ◌≤◌, Bool, true, false, List, slice_index_or, Option, inl, inr, arith}
 use Rattle.std.proofs.lemmas.Bool.{cases_lt}
-use Rattle.std.proofs.lemmas.List.Elements.{All-contains}
 use Rattle.morris_board.specs.Boards.{Shape}
 use Rattle.morris_pairs.specs.Agreement.{Agrees, IsFirstIn, IsFirstToDiffer}
 use Rattle.morris_pairs.specs.Entries.{entry_count}
-use Rattle.morris_pairs.specs.Sharing.{AreMarked, IsAsAsked, StretchIsAsAsked}
+use Rattle.morris_pairs.specs.Sharing.{AreMarked, IsAsAsked}
 use Rattle.morris_pairs.specs.Tables.{Table}
 
 module _ {A : Type 0} (board : Shape) (n : ℕ) (t : Table) (faced : Option A) (first : ℕ) where
-  -- marks of stretches of which a worker knows more
-  pub more-marked : (before marks : List Bool) (known : List ℕ) → AreMarked board n t faced first before → All (StretchIsAsAsked board n t faced) known
-      → ((i : ℕ) → slice_index_or marks i false ≡ true → (slice_index_or before i false ≡ true) ⊎ Contains known (first + i))
-      → AreMarked board n t faced first marks
-  more-marked before marks known marked all more i set = elim (more i set) [
-    | inl earlier ↦ marked i earlier
-    | inr listed ↦ All-contains (StretchIsAsAsked board n t faced) known (first + i) all listed
-  ]
-
   -- the entries of the stretches before the first one without a mark
   pub marked-known : (marks : List Bool) (many : ℕ) → AreMarked board n t faced first marks → ((i : ℕ) → i < many → slice_index_or marks i false ≡ true)
       → (k : ℕ) → first * 4096 ≤ k → k < (first + many) * 4096 → k < entry_count board n t.layout t.pair → IsAsAsked board t faced k

@@ -1,10 +1,17 @@
 -- The entries of a table in stretches of 4,096, which workers take as they come.
-use Rattle.std.specs.Prelude.{◌≡◌, ℕ, ◌+◌, ◌*◌, ◌<◌, ◌≤◌, Bool, true, false, List, slice_index_or, Option, Some, None}
+use Rattle.std.specs.Prelude.{◌≡◌, ℕ, ◌+◌, ◌*◌, ◌<◌, ◌≤◌, Bool, true, false, List, slice_index_or, Option, Some, None, IfSome}
 use Rattle.morris_board.specs.Boards.{Shape}
+use Rattle.morris_index.specs.Pairs.{Counts}
 use Rattle.morris_pairs.specs.Agreement.{Agrees}
 use Rattle.morris_pairs.specs.Entries.{entry_count}
 use Rattle.morris_pairs.specs.Faces.{FacesAgree}
 use Rattle.morris_pairs.specs.Tables.{Table}
+use Rattle.morris_pairs.specs.declared.layout.Layout.TheVariants.{Classes}
+
+-- the classes that are faced, if any are, are those of a table's pair, and its entries are those of
+-- classes
+abbrev pub AreFacedIn : Table → Option Counts → Type 0
+AreFacedIn t faced = IfSome faced (λ c. (c ≡ t.pair) × (t.layout ≡ Classes))
 
 -- What is asked of entry k: with classes, that the entries of all positions agree that face its own,
 -- and without, that it agrees itself.

@@ -1,9 +1,9 @@
 //! Entries of a table shared out among workers, who find out up to which all are as they should be.
-ghost use Rattle.std.specs.Prelude.{◌≡◌, ◌⊎◌, ℕ, ◌+◌, ◌*◌, ◌%◌, ◌<◌, ◌≤◌, false, true, length, slice_index_or, vec_len, IfOk, IfSome, OnOk};
+ghost use Rattle.std.specs.Prelude.{◌≡◌, ◌⊎◌, ℕ, ◌+◌, ◌*◌, ◌%◌, ◌<◌, ◌≤◌, false, true, length, slice_index_or, vec_len, IfOk, OnOk};
 ghost use Rattle.std.specs.List.{All, Contains};
+ghost use Rattle.std.specs.Option.{option_copied};
 ghost use Rattle.morris_pairs.specs.Entries.{entry_count};
-ghost use Rattle.morris_pairs.specs.Sharing.{IsAsAsked, StretchIsAsAsked};
-ghost use Rattle.morris_pairs.specs.declared.layout.Layout.TheVariants.{Classes};
+ghost use Rattle.morris_pairs.specs.Sharing.{AreFacedIn, IsAsAsked, StretchIsAsAsked};
 
 use crate::agreeing::first_in;
 use crate::by_result::Lists;
@@ -62,7 +62,7 @@ impl<'a, B: Geometry, R> Claim<'a, B, R> {
         first: u64,
         end: u64,
     ) -> Result<bool, AllocError>
-        requires faced { IfSome faced (λ classes. (classes.now ≡ self.now.raw.now.pair) × (self.now.raw.now.layout ≡ Classes)) }
+        requires faced { AreFacedIn self.now.raw.now (option_copied faced) }
         requires inside { end ≤ entry_count B.shape B.POINTS self.now.raw.now.layout self.now.raw.now.pair }
         ensures { IfOk result (λ yes. yes ≡ true → (k : ℕ) → first ≤ k → k < end → IsAsAsked B.shape self.now.raw.now faced.entry k) }
     {
@@ -85,7 +85,7 @@ impl<'a, B: Geometry, R> Claim<'a, B, R> {
         lists: &mut Lists<'a, B>,
         known: &mut Vec<u64>,
     ) -> Result<(), AllocError>
-        requires faced { IfSome faced (λ classes. (classes.now ≡ self.now.raw.now.pair) × (self.now.raw.now.layout ≡ Classes)) }
+        requires faced { AreFacedIn self.now.raw.now (option_copied faced) }
         requires inside { end * 4096 < entry_count B.shape B.POINTS self.now.raw.now.layout self.now.raw.now.pair + 4096 }
         requires known { All (StretchIsAsAsked B.shape B.POINTS self.now.raw.now faced) known.old.items }
         ensures { OnOk result (All (StretchIsAsAsked B.shape B.POINTS self.now.raw.now faced.entry) known.new.items) }
@@ -116,7 +116,7 @@ impl<'a, B: Geometry, R> Claim<'a, B, R> {
         next: &AtomicU64,
         end: u64,
     ) -> Result<Vec<u64>, AllocError>
-        requires faced { IfSome faced (λ classes. (classes.now ≡ self.now.raw.now.pair) × (self.now.raw.now.layout ≡ Classes)) }
+        requires faced { AreFacedIn self.now.raw.now (option_copied faced) }
         requires inside { end * 4096 < entry_count B.shape B.POINTS self.now.raw.now.layout self.now.raw.now.pair + 4096 }
         ensures { IfOk result (λ known. All (StretchIsAsAsked B.shape B.POINTS self.now.raw.now faced.entry) known.items) }
     {
@@ -164,7 +164,7 @@ impl<'a, B: Board, R: Threads + Sync> Claim<'a, B, R> {
         first: u64,
         end: u64,
     ) -> Result<Vec<Result<Vec<u64>, AllocError>>, AllocError>
-        requires faced { IfSome faced (λ classes. (classes.now ≡ self.now.raw.now.pair) × (self.now.raw.now.layout ≡ Classes)) }
+        requires faced { AreFacedIn self.now.raw.now (option_copied faced) }
         requires inside { end * 4096 < entry_count B.shape B.POINTS self.now.raw.now.layout self.now.raw.now.pair + 4096 }
         ensures len { IfOk result (λ found. vec_len found ≡ self.now.workers) }
         ensures each { IfOk result (λ found. (w : ℕ) (d : _) → w < self.now.workers
@@ -176,7 +176,7 @@ impl<'a, B: Board, R: Threads + Sync> Claim<'a, B, R> {
             self.alloc,
             self.workers,
             &|_worker| -> Result<Vec<u64>, AllocError>
-                requires { IfSome faced (λ classes. (classes.now ≡ self.now.raw.now.pair) × (self.now.raw.now.layout ≡ Classes))
+                requires { AreFacedIn self.now.raw.now (option_copied faced)
                     × (end * 4096 < entry_count B.shape B.POINTS self.now.raw.now.layout self.now.raw.now.pair + 4096) }
                 ensures { IfOk result (λ known. All (StretchIsAsAsked B.shape B.POINTS self.entry.now.raw.now faced.entry) known.items) }
             { self.list_known(faced, &next, end) },
@@ -194,7 +194,7 @@ impl<'a, B: Board, R: Threads + Sync> Claim<'a, B, R> {
         first: u64,
         end: u64,
     ) -> Result<u64, AllocError>
-        requires faced { IfSome faced (λ classes. (classes.now ≡ self.now.raw.now.pair) × (self.now.raw.now.layout ≡ Classes)) }
+        requires faced { AreFacedIn self.now.raw.now (option_copied faced) }
         requires order { first ≤ end }
         requires inside { end * 4096 < entry_count B.shape B.POINTS self.now.raw.now.layout self.now.raw.now.pair + 4096 }
         ensures from { IfOk result (λ stretch. first ≤ stretch) }
@@ -215,7 +215,7 @@ impl<'a, B: Board, R: Threads + Sync> Claim<'a, B, R> {
     /// `end` all are known to be as asked: `end` where all are. Where memory is refused, nothing is
     /// known.
     pub(crate) fn known_until(&self, faced: Option<&'a ClassPair<B>>, first: u64, end: u64) -> u64
-        requires faced { IfSome faced (λ classes. (classes.now ≡ self.now.raw.now.pair) × (self.now.raw.now.layout ≡ Classes)) }
+        requires faced { AreFacedIn self.now.raw.now (option_copied faced) }
         requires whole { first % 4096 ≡ 0 }
         requires order { first ≤ end }
         requires inside { end ≤ entry_count B.shape B.POINTS self.now.raw.now.layout self.now.raw.now.pair }
