@@ -29,6 +29,8 @@ MORE_JOBS = 1_500_000_000
 # More jobs are no gain, and how many processors two, three and four jobs keep at work, about.
 MOST_JOBS = 4
 SPEEDS = {1: 1.0, 2: 1.7, 3: 2.2, 4: 2.6}
+# A row of crates is nearly as long as the longest one from this part of it on.
+NEARLY = 0.85
 # The seconds that the proof of each crate took with one job: made by `ci/proof_time --write`.
 SECONDS = f"{ROOT}/ci/proof_seconds.txt"
 # The call, and its number, by which the system sends a process a signal when its parent ends.
@@ -179,9 +181,9 @@ class Proofs:
         half = self.processors // 2
         longest = max(self.behind[it] for it in [*self.running, *self.left])
         share = self.behind[crate] / longest
-        if share < 0.9:
+        if share < NEARLY:
             return min(MOST_JOBS, half) if share >= 0.6 else 1
-        alike = [it for it in {*self.running, *self.ready()} if self.behind[it] >= 0.9 * longest]
+        alike = [it for it in {*self.running, *self.ready()} if self.behind[it] >= NEARLY * longest]
         return min(MOST_JOBS, 1 + half, max(1, (self.processors + half) // len(alike)))
 
     def begin(self):
