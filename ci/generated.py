@@ -17,6 +17,7 @@ A part stands between a mark `<!-- from KIND WORDS -->`, of one line or more, an
     pairs FILE                what bench/pairs put into docs/FILE, as a table
     picture FILE              the same as a picture, by bench/picture.py
     took FILE                 what bench/whole put into docs/FILE, as a table
+    proof-seconds             what the first check of each crate takes, by ci/proof_seconds.txt
 """
 
 import csv
@@ -226,6 +227,16 @@ def took(_, file):
     return made
 
 
+def proof_seconds(_):
+    """What the first check of each crate takes, as a table, and of all together."""
+    lines = read("ci/proof_seconds.txt").splitlines()
+    head = [it.removeprefix("# ") for it in lines if it.startswith("#")]
+    rows = [it.split() for it in lines if not it.startswith("#")]
+    made = [*head, "", "| crate | processor seconds |", "|---|---|"]
+    made += [f"| `{crate}` | {seconds} |" for crate, seconds in rows]
+    return [*made, f"| all | {sum(int(seconds) for _, seconds in rows):,} |"]
+
+
 MAKERS = {
     "definitions": definitions,
     "source": source,
@@ -235,6 +246,7 @@ MAKERS = {
     "pairs": pairs,
     "picture": picture,
     "took": took,
+    "proof-seconds": proof_seconds,
 }
 
 
