@@ -1,8 +1,8 @@
 //! Small graphs with exits, gates and watches for tests, and the tests of the engine.
 //!
 //! No part of the product: nothing that is built for use stands on this crate. What it has public
-//! is what `morris_trials` and other crates of tests take; its own tests are those of `morris_wave`
-//! and `morris_workers`.
+//! is what other crates of tests take; its own tests are those of `morris_wave` and
+//! `morris_workers`.
 #![tactic(auto)]
 
 #[cfg(test)]

@@ -37,7 +37,6 @@ use crate::row_back::{list_before_rows, row_ahead};
 use crate::row_reading::read_rows;
 use crate::rows::Row;
 use crate::set_moves::SetTable;
-use crate::shelf::Shelf;
 use crate::table_set::TableSet;
 use morris_board::board::{Board, Geometry};
 use morris_board::position::Position;
@@ -85,37 +84,14 @@ impl<'a, B: Geometry> Model for RowGraph<'a, B> {
 const PIECE: usize = 256;
 
 impl<'a, B: Geometry> RowGraph<'a, B> {
-    /// The graph of a pair of two different numbers by rows, over the tables of a shelf, which may
-    /// be of either layout.
+    /// The graph of a pair of two different numbers by rows, over a set of tables, which may be of
+    /// either layout.
     ///
     /// # Errors
-    /// `Needs` with the first of the pairs that the pair needs whose table isn't on the shelf,
-    /// before `Memory`, where memory for the classes is refused. Other calls take memory for the
-    /// lists that are asked for; while nodes are read, also some 100 KiB for the captures that are
-    /// kept, and where these are refused, nodes are read without.
-    pub fn new(
-        alloc: Global,
-        shelf: &'a Shelf<B>,
-        pair: Pair<B>,
-    ) -> Result<RowGraph<'a, B>, BuildFault<B>>
-        requires two { pair.lesser < pair.greater }
-        ensures needs { MatchResult result (λ _. first_missing shelf.now pair ≡ None) (λ fault. needed_by fault ≡ first_missing shelf.now pair) }
-        // Nothing but a table or memory can be wanting.
-        ensures alone { IfErr result (λ fault. is_of_graph fault ≡ true) }
-        ensures pair { IfOk result (λ graph. graph ≡ pair) }
-        ensures values { OnOk result ((o : Order) → HasValuesIn B.shape o pair) }
-        ensures deep { OnOk result ((o : Order) → (IsTooDeep (net_at B.shape (level_in o pair)) ↔ IsBeyondCodes B.shape pair)) }
-        // What the blocks of the graph hold, at any wave and whatever is applied, is the game's,
-        // also where a table is missing.
-        ensures blocks { (o : Order) (s : BlockState) → IsBlockIn B.shape o pair s → TellsIn B.shape o pair s }
-    {
-        RowGraph::over(alloc, shelf.tables(), pair)
-    }
-
-    /// [`new`](RowGraph::new) over a set of tables.
-    ///
-    /// # Errors
-    /// Those of [`new`](RowGraph::new), in the same order.
+    /// `Needs` with the first of the pairs that the pair needs whose table isn't there, before
+    /// `Memory`, where memory for the classes is refused. Other calls take memory for the lists that
+    /// are asked for; while nodes are read, also some 100 KiB for the captures that are kept, and
+    /// where these are refused, nodes are read without.
     pub fn over(
         alloc: Global,
         tables: &'a TableSet<B>,

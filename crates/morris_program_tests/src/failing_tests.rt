@@ -3,7 +3,7 @@ use crate::held::Held;
 use crate::making::file_of;
 use morris_board::grid::Grid;
 use morris_files::folder::Folder;
-use morris_files_tests::memory::MemoryFolder;
+use morris_game_tests::memory::MemoryFolder;
 use morris_jobs::fault::Fault;
 use morris_pairs::layout::Layout;
 use morris_queries::show::Show;

@@ -5,7 +5,7 @@ use crate::making::file_of;
 use morris_board::streams::{Failed, IntoWrite};
 use morris_files::folder::Folder;
 use morris_files::reason::Reason;
-use morris_files_tests::memory::MemoryFolder;
+use morris_game_tests::memory::MemoryFolder;
 use morris_jobs::fault::Fault;
 use morris_lookup::storage::Storage;
 use morris_pairs::layout::Layout;

@@ -2,8 +2,8 @@
 use morris_board::streams::IntoWrite;
 use morris_commands::build::build_out;
 use morris_files::folder::Folder;
-use morris_files_tests::memory::MemoryFolder;
 use morris_folder_commands::into::build_into;
+use morris_game_tests::memory::MemoryFolder;
 use morris_jobs::fault::Fault;
 use morris_workers::Unwatched;
 use std::process::Abort;

@@ -1,10 +1,17 @@
-//! What the commands that run on the thread of the caller do where memory is wanting, and tests of
-//! what no run of the program shows: folders whose calls fail, `verify_in`, which the program doesn't
-//! call, and answers from files in memory. No part of the product.
+//! What the libraries do where memory is wanting, the commands too that run on the thread of the
+//! caller; and tests of what no run of the program shows: folders whose calls fail, `verify_in`,
+//! which the program doesn't call, and answers from files in memory. No part of the product.
 //!
-//! The program makes a call by itself: it prints what the call answers, and what it answers when it
-//! is made again. The words of the command line are names of calls. `ci/refused_memory` runs this
-//! program once for each request for memory of each call, and has that request refused.
+//! The program makes a call by itself: it prints what the call answers, how it leaves what it works
+//! on, and what it answers when it is made again. The words of the command line are names of calls.
+//! `ci/refused_memory` runs this program once for each request for memory of each call, and has that
+//! request refused.
+//!
+//! A word that names no call has positions, which are probed over the table files on standard
+//! input: `ci/lookups` compares what `lookup` answers with that.
+//!
+//! The functions of the calls have no clauses: what they print is compared by the gate, with the
+//! stored output and after each refusal, and no contract can say what a terminal takes.
 #![tactic(auto)]
 
 #[cfg(test)]
@@ -12,6 +19,7 @@ mod asking_tests;
 mod calls;
 #[cfg(test)]
 mod damaged_tests;
+mod engine;
 #[cfg(test)]
 mod failing_tests;
 #[cfg(test)]
@@ -26,14 +34,19 @@ mod into_tests;
 mod line_tests;
 #[cfg(test)]
 mod making;
+mod probes;
 #[cfg(test)]
 mod streams;
+mod tables;
+mod threads;
 #[cfg(test)]
 mod verify_in_tests;
 
 use std::alloc::Global;
 use std::env;
 use std::process::ExitCode;
+use std::sync::Wait;
+use std::thread::Threads;
 
 fn main(rt: HostRuntime) -> ExitCode {
     let Ok(words) = env::args(&rt) else {
@@ -47,12 +60,33 @@ fn main(rt: HostRuntime) -> ExitCode {
     ExitCode::from(0)
 }
 
-/// Makes the call of this name.
-fn run(rt: &impl Print, alloc: Global, name: &str) -> Option<()> {
+/// Makes the call of this name, or probes the positions that the word has.
+fn run<R: Print + Input + Threads + Wait + Sync>(rt: &R, alloc: Global, name: &str) -> Option<()> {
     match name {
+        "sweep" => engine::sweeps(rt, alloc),
+        "make" => engine::makes_a_block(rt, alloc),
+        "fresh" => engine::lists_fresh_nodes(rt, alloc),
+        "scatter" => engine::scatters(rt, alloc),
+        "gather" => engine::gathers(rt, alloc),
+        "yard" => engine::makes_a_yard(rt, alloc),
+        "tickets" => engine::makes_tickets(rt, alloc),
+        "back" => tables::goes_back(rt, alloc),
+        "shelf" => tables::makes_a_shelf(rt, alloc),
+        "classes" => tables::makes_classes(rt, alloc),
+        "class_pair" => tables::makes_entries_of_classes(rt, alloc),
+        "class_graph" => tables::makes_a_graph_of_classes(rt, alloc),
+        "sweep_pair" => tables::sweeps_a_pair(rt, alloc),
+        "tallies" => tables::counts_codes(rt, alloc),
+        "read_table" => tables::reads_a_table(rt, alloc),
+        "read_classes" => tables::reads_a_table_by_classes(rt, alloc),
+        "read_next" => tables::reads_the_next_table(rt, alloc),
+        "best" => tables::finds_best_moves(rt, alloc),
+        "report" => tables::reports(rt, alloc),
+        "build" => threads::builds(rt, alloc),
+        "build_classes" => threads::builds_by_classes(rt, alloc),
         "stats" => calls::counts_values(rt, alloc),
         "verify_in" => calls::verifies(rt, alloc),
         "probe_in" => calls::probes_a_bundle(rt, alloc),
-        _ => None,
+        texts => probes::probes(rt, alloc, texts),
     }
 }

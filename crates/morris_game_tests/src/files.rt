@@ -1,0 +1,10 @@
+//! Folders, files of tables in them, and look-ups in such files.
+
+mod kept;
+mod lists;
+mod looking;
+mod making;
+mod opening;
+mod system;
+mod text;
+mod writing;

@@ -1,0 +1,21 @@
+//! Tables and the prober.
+//!
+//! What a test works on comes from a function that ends the test where a call is refused, and what is
+//! found is compared in [`checks`](crate::checks): a test with many `?` and assertions of its own
+//! takes long to prove.
+
+mod builds;
+mod example;
+mod failing;
+mod files;
+mod graphs;
+mod making;
+mod needs;
+mod nine;
+mod probing;
+mod sharing;
+mod table_sets;
+mod texts;
+mod values;
+mod verifying;
+mod watching;

@@ -1,6 +1,0 @@
-use Rattle.std.proofs.Common.{◌≡◌}
-use Rattle.morris_table_tests.proofs.example.load.Given as goal
-
--- no read has failed
-abbrev pub invariant-loop : goal.invariant-loop
-invariant-loop l = record { unfailed : l.source.failures ≡ 0 }
