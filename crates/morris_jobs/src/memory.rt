@@ -12,7 +12,7 @@ use morris_board::board::Geometry;
 use morris_index::binomials::binomial;
 use morris_index::pair::Pair;
 use morris_pairs::layout::Layout;
-use morris_table::building::ROWS_FROM;
+use morris_table::building::is_by_rows;
 
 /// Bytes of the program itself.
 pub(crate) const BASE: u64 = 4_000_000;
@@ -99,7 +99,7 @@ pub(crate) fn bytes_of_making<B: Geometry>(
     let solving = open
         .saturating_add(listed)
         .saturating_add(bytes_of_workers(pair, entries, team));
-    if layout == Layout::Full || pair.lesser() == pair.greater() || pair.greater() < ROWS_FROM {
+    if layout == Layout::Full || !is_by_rows(pair) {
         return solving;
     }
     // By rows there are as many nodes as entries, or up to a tenth less. Once the blocks are gone,

@@ -1,5 +1,5 @@
 //! Tables made by several workers.
-ghost use Rattle.std.specs.Prelude.{◌≡◌, ◌<◌, None, IfOk, IfErr, OnOk};
+ghost use Rattle.std.specs.Prelude.{◌≡◌, ◌<◌, None, true, IfOk, IfErr, OnOk};
 ghost use Rattle.morris_wave.specs.Blocks.{BlockState};
 ghost use Rattle.morris_workers.specs.Ranges.{range_fault};
 ghost use Rattle.morris_pairs.specs.Shelves.{first_missing};
@@ -23,11 +23,15 @@ use std::alloc::Global;
 use std::sync::Wait;
 use std::thread::Threads;
 
-/// Tables by classes are built from a graph by rows where the side with more stones has so many or
-/// more, and the other one fewer. There most positions are decided, and it takes a third less time.
-/// Where most are draws, what it saves on the way back doesn't pay for putting the codes into the
-/// order of the entries.
-pub const ROWS_FROM: u8 = 7;
+/// Whether the table of a pair by classes is built from a graph by rows: that of each pair of two
+/// different numbers but 5-4 and 6-5. There most positions are draws, and what rows save on the way
+/// back doesn't pay for putting the codes into the order of the entries.
+pub fn is_by_rows<B: Geometry>(pair: Pair<B>) -> bool
+    ensures { result ≡ true → pair.lesser < pair.greater }
+{
+    let (greater, lesser) = (pair.greater(), pair.lesser());
+    lesser < greater && !matches!((greater, lesser), (5, 4) | (6, 5))
+}
 
 /// Why a table isn't made whose graph the workers didn't solve.
 fn unbuilt<B: Geometry>(fault: SolveFault) -> BuildFault<B>
@@ -82,7 +86,7 @@ pub fn build<B: Board, A: Gate, R: Threads + Wait + Sync>(
 /// # Errors
 /// Those of [`build`], in the same order. In layout `Classes` memory for the classes is asked for
 /// after the tables, so that `Memory` may come before `Workers` and `Blocks`; and where the graph
-/// is one by rows (see [`ROWS_FROM`]), for half of the codes once more at the end.
+/// is one by rows (see [`is_by_rows`]), for half of the codes once more at the end.
 pub fn build_as<B: Board, A: Gate, R: Threads + Wait + Sync>(
     rt: &R,
     alloc: Global,
@@ -137,7 +141,7 @@ pub fn build_watched<B: Board, A: Gate, V: Watch, R: Threads + Wait + Sync>(
 {
     match layout {
         Layout::Full => build_by_positions(rt, alloc, tables, pair, gate, watch, workers, blocks),
-        Layout::Classes if pair.lesser() < pair.greater() && ROWS_FROM <= pair.greater() => {
+        Layout::Classes if is_by_rows(pair) => {
             build_by_rows(rt, alloc, tables, pair, gate, watch, workers, blocks)
         }
         Layout::Classes => build_by_classes(rt, alloc, tables, pair, gate, watch, workers, blocks),
