@@ -2,9 +2,9 @@
 
    REFUSED_REQUEST is the number of that request, counted from 1. With REFUSE_FROM_START all
    requests count. Without it, those count that come between a request of MARK bytes and the next
-   such one, which crates/morris_program_tests makes around the call that it tries. Where the request
-   came and was refused, the bytes that it was for go to the file descriptor REFUSAL_TOLD_TO, as a
-   number in the machine's own form.
+   such one, which crates/morris_trials makes around the call that it tries. Where the request came
+   and was refused, the bytes that it was for go to the file descriptor REFUSAL_TOLD_TO, as a number
+   in the machine's own form.
 
    Where LARGEST_TOLD_TO is the number of a file descriptor, each request that is larger than all
    before it is told there, refused or not, as a number in the machine's own form. */

@@ -5,6 +5,14 @@ pub(crate) fn same(rt: &impl Abort, found: u64, want: u64, what: &str) {
     assert_eq!(rt; found, want, "{what}");
 }
 
+pub(crate) fn same_text(rt: &impl Abort, found: &str, want: &str) {
+    assert_eq!(rt; found, want);
+}
+
+pub(crate) fn same_bytes(rt: &impl Abort, found: &[u8], want: &[u8]) {
+    assert_eq!(rt; found, want);
+}
+
 pub(crate) fn same_nodes(rt: &impl Abort, found: &[u64], want: &[u64], what: &str) {
     assert_eq!(rt; found, want, "{what}");
 }

@@ -1,8 +1,8 @@
-//! Small graphs with exits, gates and watches for tests, and the tests of the engine.
+//! Small graphs with exits, gates and watches for tests, and the tests of what needs no table: of the
+//! engine, and of boards, positions, moves and numberings.
 //!
 //! No part of the product: nothing that is built for use stands on this crate. What it has public
-//! is what other crates of tests take; its own tests are those of `morris_wave` and
-//! `morris_workers`.
+//! is what other crates of tests take.
 #![tactic(auto)]
 
 #[cfg(test)]
@@ -23,6 +23,8 @@ mod lones;
 #[cfg(test)]
 mod meetings;
 mod pairs;
+#[cfg(test)]
+mod rules;
 mod runs;
 #[cfg(test)]
 mod scribes;

@@ -5,10 +5,6 @@ pub(crate) fn same(rt: &impl Abort, found: u64, wanted: u64, what: &str) {
     assert_eq!(rt; found, wanted, "{what}");
 }
 
-pub(crate) fn same_text(rt: &impl Abort, found: &str, wanted: &str) {
-    assert_eq!(rt; found, wanted);
-}
-
 pub(crate) fn same_bytes(rt: &impl Abort, found: &[u8], wanted: &[u8]) {
     assert_eq!(rt; found, wanted);
 }

@@ -1,5 +1,4 @@
-//! The tests of the crates that know the game but no command: of boards, positions, moves and
-//! numberings, of tables and the prober, of folders and the files in them. They stand apart from the
+//! The tests of tables and the prober, of folders and the files in them. They stand apart from the
 //! crates that they test, so that those are proved once. Beside them a folder in memory, which other
 //! tests take too.
 //!
@@ -11,7 +10,5 @@ mod checks;
 #[cfg(test)]
 mod files;
 pub mod memory;
-#[cfg(test)]
-mod rules;
 #[cfg(test)]
 mod tables;

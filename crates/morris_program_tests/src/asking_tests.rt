@@ -1,5 +1,6 @@
 // What is answered to texts over the files of 3-3 and 4-3 on `grid`, in either version. The values
 // and moves follow from the rules.
+use crate::checks::holds;
 use crate::held::Held;
 use crate::making::file_of;
 use morris_board::streams::IntoWrite;
@@ -10,37 +11,30 @@ use morris_queries::library::Library;
 use morris_queries::lookup::lookup_texts;
 use morris_queries::show::Show;
 use morris_queries::system::SystemLibrary;
-use std::alloc::Global;
 use std::fs::File;
 use std::io::Write;
 use std::process::Abort;
 use std::rt::Files;
+use std::sync::Wait;
+use std::thread::Threads;
 
-/// What is answered over the two files, under these names, and how many answers are faults.
-fn asked<L: Library>(
-    alloc: Global,
-    held: &mut L,
-    texts: &[&str],
-    show: Show,
-) -> Option<(Vec<u8>, u64)> {
-    let mut output = IntoWrite::new(Vec::new(alloc));
-    let refused = lookup_texts(alloc, "grid", held, texts, show, &mut output).ok()?;
-    Some((output.into_inner(), refused))
-}
-
-/// Whether texts are answered by this text and this number of faults.
-pub(crate) fn is_answered<L: Library>(
-    alloc: Global,
+/// Texts are answered by this text and this number of faults.
+pub(crate) fn assert_asked<L: Library>(
+    rt: &(impl Abort + AllocGlobal),
     held: &mut L,
     texts: &[&str],
     show: Show,
     wanted: &str,
     faults: u64,
-) -> bool {
-    match asked(alloc, held, texts, show) {
-        Some((text, refused)) => text.as_slice() == wanted.as_bytes() && refused == faults,
-        None => false,
-    }
+) {
+    let mut output = IntoWrite::new(Vec::new(rt.alloc()));
+    let refused = lookup_texts(rt.alloc(), "grid", held, texts, show, &mut output);
+    holds(rt, refused == Ok(faults), wanted);
+    holds(
+        rt,
+        output.into_inner().as_slice() == wanted.as_bytes(),
+        wanted,
+    );
 }
 
 const FOUR: &str = "\
@@ -83,9 +77,10 @@ XXX.OO.O.,2-8,lost,2
 XX.X: fault 1: text is not one character per point
 ";
 
-/// Whether all answers are right that need no more than 3-3.
-fn is_right<L: Library>(alloc: Global, held: &mut L) -> bool {
+/// All answers are right that need no more than 3-3.
+fn assert_right<L: Library>(rt: &(impl Abort + AllocGlobal), held: &mut L) {
     let four = ["XXXOOO...", "XXX.OO.O.", "OO.OXX.X.", "XX..OO.OX"];
+    assert_asked(rt, held, &four, Show::Best, FOUR, 0);
     let mixed = [
         "XX.X",
         "XX.OOO...",
@@ -96,12 +91,11 @@ fn is_right<L: Library>(alloc: Global, held: &mut L) -> bool {
         "XXX.OO.O.",
         "",
     ];
+    assert_asked(rt, held, &mixed, Show::Best, MIXED, 6);
     let line = ["XXX.OO.O.", "XXXOOO..."];
+    assert_asked(rt, held, &line, Show::Line, LINE, 0);
     let fields = ["XXX.OO.O.", "XX.OOO...", "XX.X"];
-    is_answered(alloc, held, &four, Show::Best, FOUR, 0)
-        && is_answered(alloc, held, &mixed, Show::Best, MIXED, 6)
-        && is_answered(alloc, held, &line, Show::Line, LINE, 0)
-        && is_answered(alloc, held, &fields, Show::Csv, FIELDS, 1)
+    assert_asked(rt, held, &fields, Show::Csv, FIELDS, 1);
 }
 
 /// How many lines a text has, and whether this one is among them.
@@ -114,77 +108,91 @@ fn has_line(text: &[u8], line: &str) -> (usize, bool) {
     (count, is_there)
 }
 
-/// Whether the moves of a position are shown: eight quiet ones and three captures, below the first
-/// line; the text after the last line feed is empty.
-fn are_moves_shown<L: Library>(alloc: Global, held: &mut L) -> bool {
-    let Some((text, _)) = asked(alloc, held, &["XX..OO.OX"], Show::Moves) else {
-        return false;
-    };
-    has_line(text.as_slice(), "  8-2x4 won in 1") == (13, true)
-        && has_line(text.as_slice(), "  8-3 won in 3") == (13, true)
+/// The moves of a position are shown: eight quiet ones and three captures, below the first line; the
+/// text after the last line feed is empty.
+fn assert_moves_shown<L: Library>(rt: &(impl Abort + AllocGlobal), held: &mut L) {
+    let mut output = IntoWrite::new(Vec::new(rt.alloc()));
+    let texts = ["XX..OO.OX"];
+    let refused = lookup_texts(rt.alloc(), "grid", held, &texts, Show::Moves, &mut output);
+    holds(rt, refused == Ok(0), "an answer");
+    let text = output.into_inner();
+    let has = |line| has_line(text.as_slice(), line) == (13, true);
+    holds(rt, has("  8-2x4 won in 1"), "a capture");
+    holds(rt, has("  8-3 won in 3"), "a quiet move");
 }
 
-/// Whether a position of 4-3 is answered, one of whose captures leads to 3-3, and by what is needed
-/// where the file of 3-3 isn't there or is one of another pair, or by what is wrong with it.
-fn is_four_three_right(alloc: Global, small: &[u8], large: &[u8]) -> bool {
-    let both = [("grid-3-3.nmmt", small), ("grid-4-3.nmmt", large)];
-    let one = [("grid-4-3.nmmt", large)];
-    let other = [("grid-3-3.nmmt", large), ("grid-4-3.nmmt", large)];
-    let none: [(&str, &[u8]); 2] = [("grid-3-3.nmmt", b"NMMT"), ("grid-4-3.nmmt", large)];
-    let text = ["XX.OOX.OO"];
-    let needs = "XX.OOX.OO: fault 13: needs 3-3\n";
-    let short = "XX.OOX.OO: fault 15: file is too short\n";
-    let is_whole = match asked(alloc, &mut Held { files: &both }, &text, Show::Best) {
-        Some((_, faults)) => faults == 0,
-        None => false,
-    };
-    is_whole
-        && is_answered(
-            alloc,
-            &mut Held { files: &one },
-            &text,
-            Show::Best,
-            needs,
-            1,
-        )
-        && is_answered(
-            alloc,
-            &mut Held { files: &other },
-            &text,
-            Show::Best,
-            needs,
-            1,
-        )
-        && is_answered(
-            alloc,
-            &mut Held { files: &none },
-            &text,
-            Show::Best,
-            short,
-            1,
-        )
+/// A position of 4-3, one of whose captures leads to 3-3, is answered over these files by a text and
+/// a number of faults.
+fn assert_capture_asked(
+    rt: &(impl Abort + AllocGlobal),
+    files: &[(&str, &[u8])],
+    wanted: &str,
+    faults: u64,
+) {
+    let held = &mut Held { files };
+    assert_asked(rt, held, &["XX.OOX.OO"], Show::Best, wanted, faults);
+}
+
+const DRAWN: &str = "XX.OOX.OO draw: 0-6 1-6\n";
+
+const NEEDS: &str = "XX.OOX.OO: fault 13: needs 3-3\n";
+
+const SHORT: &str = "XX.OOX.OO: fault 15: file is too short\n";
+
+/// That position is answered, and by what is needed where the file of 3-3 isn't there or is one of
+/// another pair, or by what is wrong with it.
+fn assert_four_three_right(rt: &(impl Abort + AllocGlobal), small: &[u8], large: &[u8]) {
+    let (first, second) = ("grid-3-3.nmmt", "grid-4-3.nmmt");
+    assert_capture_asked(rt, &[(first, small), (second, large)], DRAWN, 0);
+    assert_capture_asked(rt, &[(second, large)], NEEDS, 1);
+    assert_capture_asked(rt, &[(first, large), (second, large)], NEEDS, 1);
+    assert_capture_asked(rt, &[(first, b"NMMT"), (second, large)], SHORT, 1);
+}
+
+/// The files of 3-3 and of 4-3 in a layout answer.
+fn assert_files_answer(rt: &(impl Abort + AllocGlobal + Threads + Wait + Sync), layout: Layout) {
+    let small = file_of(rt, "3-3", layout);
+    let large = file_of(rt, "4-3", layout);
+    let held = [("grid-3-3.nmmt", small.as_slice())];
+    let mut held = Held { files: &held };
+    assert_right(rt, &mut held);
+    assert_moves_shown(rt, &mut held);
+    assert_four_three_right(rt, small.as_slice(), large.as_slice());
 }
 
 #[test]
 fn files_by_positions_answer(rt: HostRuntime) {
-    let small = file_of(&rt, "3-3", Layout::Full);
-    let large = file_of(&rt, "4-3", Layout::Full);
-    let held = [("grid-3-3.nmmt", small.as_slice())];
-    let mut held = Held { files: &held };
-    assert!(rt; is_right(rt.alloc(), &mut held));
-    assert!(rt; are_moves_shown(rt.alloc(), &mut held));
-    assert!(rt; is_four_three_right(rt.alloc(), small.as_slice(), large.as_slice()));
+    assert_files_answer(&rt, Layout::Full);
 }
 
 #[test]
 fn files_by_classes_answer(rt: HostRuntime) {
-    let small = file_of(&rt, "3-3", Layout::Classes);
-    let large = file_of(&rt, "4-3", Layout::Classes);
-    let held = [("grid-3-3.nmmt", small.as_slice())];
-    let mut held = Held { files: &held };
-    assert!(rt; is_right(rt.alloc(), &mut held));
-    assert!(rt; are_moves_shown(rt.alloc(), &mut held));
-    assert!(rt; is_four_three_right(rt.alloc(), small.as_slice(), large.as_slice()));
+    assert_files_answer(&rt, Layout::Classes);
+}
+
+/// This is answered to texts on a board over a folder of this path, by this fault and for this
+/// reason, and nothing is written.
+fn assert_refused<R: Files<File = File> + AllocGlobal + Abort>(
+    rt: &R,
+    board: &str,
+    path: &str,
+    fault: Fault,
+    why: Option<Reason>,
+) {
+    let mut folder = SystemLibrary::new(rt, path);
+    let mut output = IntoWrite::new(Vec::new(rt.alloc()));
+    let texts = ["XXXOOO..."];
+    let answer = lookup_texts(
+        rt.alloc(),
+        board,
+        &mut folder,
+        &texts,
+        Show::Best,
+        &mut output,
+    );
+    holds(rt, answer == Err(fault), path);
+    holds(rt, output.into_inner().is_empty(), path);
+    holds(rt, folder.why() == why, path);
 }
 
 #[test]
@@ -194,41 +202,24 @@ fn a_folder_on_a_disk_answers(rt: HostRuntime) {
     file.write_all(small.as_slice()).expect(&rt, "room");
     drop(file);
     let mut folder = SystemLibrary::new(&rt, ".");
-    assert!(rt; is_right(rt.alloc(), &mut folder) && folder.why() == None);
-    let mut output = IntoWrite::new(Vec::new(rt.alloc()));
-    let answer = lookup_texts(
-        rt.alloc(),
-        "none",
-        &mut folder,
-        &[],
-        Show::Best,
-        &mut output,
-    );
-    assert!(rt; answer == Err(Fault::Board) && output.into_inner().is_empty());
-}
-
-/// Whether there is no folder of this path, for this reason: nothing is answered, and nothing is
-/// written.
-fn is_no_folder<R: Files<File = File> + AllocGlobal>(rt: &R, path: &str, why: Reason) -> bool {
-    let mut folder = SystemLibrary::new(rt, path);
-    let mut output = IntoWrite::new(Vec::new(rt.alloc()));
-    let answer = lookup_texts(
-        rt.alloc(),
-        "grid",
-        &mut folder,
-        &["XXXOOO..."],
-        Show::Best,
-        &mut output,
-    );
-    answer == Err(Fault::NoFolder) && output.into_inner().is_empty() && folder.why() == Some(why)
+    assert_right(&rt, &mut folder);
+    holds(&rt, folder.why() == None, "no reason");
+    assert_refused(&rt, "none", ".", Fault::Board, None);
 }
 
 #[test]
 fn what_is_no_folder_is_told(rt: HostRuntime) {
     let file = File::create(&rt, "no-folder").expect(&rt, "a place to write");
     drop(file);
-    assert!(rt; is_no_folder(&rt, "", Reason::Nameless));
-    assert!(rt; is_no_folder(&rt, "no-folder", Reason::NotAFolder));
-    assert!(rt; is_no_folder(&rt, "no-folder/below", Reason::NotAFolder));
-    assert!(rt; is_no_folder(&rt, "misspelt", Reason::NotFound));
+    let none = Fault::NoFolder;
+    assert_refused(&rt, "grid", "", none, Some(Reason::Nameless));
+    assert_refused(&rt, "grid", "no-folder", none, Some(Reason::NotAFolder));
+    assert_refused(
+        &rt,
+        "grid",
+        "no-folder/below",
+        none,
+        Some(Reason::NotAFolder),
+    );
+    assert_refused(&rt, "grid", "misspelt", none, Some(Reason::NotFound));
 }

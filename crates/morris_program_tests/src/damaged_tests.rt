@@ -1,11 +1,10 @@
 // Files by positions of 3-3 on `grid` of which entries were changed: where what the file states of a
 // position doesn't follow from what it states of the results of the legal moves, that is the answer.
-use crate::asking_tests::is_answered;
+use crate::asking_tests::assert_asked;
 use crate::held::Held;
 use crate::making::file_of;
 use morris_pairs::layout::Layout;
 use morris_queries::show::Show;
-use std::alloc::Global;
 use std::process::Abort;
 
 /// The entries of positions: 20 times the rank of the own three points, and the rank of the others
@@ -33,17 +32,24 @@ fn set_code(bytes: &mut [u8], entry: usize, code: u16) {
     }
 }
 
-/// Whether this is answered over the file, each text by itself.
-fn answers(alloc: Global, small: &[u8], text: &str, show: Show, wanted: &str, faults: u64) -> bool {
-    let held = [("grid-3-3.nmmt", small)];
-    is_answered(
-        alloc,
-        &mut Held { files: &held },
+/// This is answered over the file, to a text by itself, with so many faults.
+fn assert_answers(
+    rt: &(impl Abort + AllocGlobal),
+    small: &[u8],
+    text: &str,
+    show: Show,
+    wanted: &str,
+    faults: u64,
+) {
+    let files = [("grid-3-3.nmmt", small)];
+    assert_asked(
+        rt,
+        &mut Held { files: &files },
         &[text],
         show,
         wanted,
         faults,
-    )
+    );
 }
 
 const WON_FAULT: &str = "\
@@ -58,11 +64,11 @@ const DRAWN_FAULT: &str = "\
 XXXOOO...: fault 37: the files of this position and its moves disagree
 ";
 
-/// Whether the three answers to a text are this fault.
-fn disagrees(alloc: Global, small: &[u8], text: &str, fault: &str) -> bool {
-    answers(alloc, small, text, Show::Best, fault, 1)
-        && answers(alloc, small, text, Show::Moves, fault, 1)
-        && answers(alloc, small, text, Show::Line, fault, 1)
+/// The three answers to a text are this fault.
+fn assert_disagrees(rt: &(impl Abort + AllocGlobal), small: &[u8], text: &str, fault: &str) {
+    assert_answers(rt, small, text, Show::Best, fault, 1);
+    assert_answers(rt, small, text, Show::Moves, fault, 1);
+    assert_answers(rt, small, text, Show::Line, fault, 1);
 }
 
 // A draw is stated of what is won in 3.
@@ -70,7 +76,7 @@ fn disagrees(alloc: Global, small: &[u8], text: &str, fault: &str) -> bool {
 fn a_value_that_does_not_follow_is_not_told(rt: HostRuntime) {
     let mut small = file_of(&rt, "3-3", Layout::Full);
     set_code(small.as_mut_slice(), WON, 0);
-    assert!(rt; disagrees(rt.alloc(), small.as_slice(), "XXX.OO.O.", WON_FAULT));
+    assert_disagrees(&rt, small.as_slice(), "XXX.OO.O.", WON_FAULT);
 }
 
 // A depth is stated that no move leads to: 5 and not 3; then the greatest of a win and of a loss.
@@ -79,7 +85,7 @@ fn a_depth_that_does_not_follow_is_not_told(rt: HostRuntime) {
     let mut small = file_of(&rt, "3-3", Layout::Full);
     for code in [6, 65534, 65535] {
         set_code(small.as_mut_slice(), WON, code);
-        assert!(rt; disagrees(rt.alloc(), small.as_slice(), "XXX.OO.O.", WON_FAULT));
+        assert_disagrees(&rt, small.as_slice(), "XXX.OO.O.", WON_FAULT);
     }
 }
 
@@ -90,8 +96,8 @@ fn a_result_that_contradicts_the_value_is_told(rt: HostRuntime) {
     let mut small = file_of(&rt, "3-3", Layout::Full);
     for code in [0, 1, 65535] {
         set_code(small.as_mut_slice(), LOST, code);
-        assert!(rt; disagrees(rt.alloc(), small.as_slice(), "XXX.OO.O.", WON_FAULT));
-        assert!(rt; disagrees(rt.alloc(), small.as_slice(), "OO.OXX.X.", LOST_FAULT));
+        assert_disagrees(&rt, small.as_slice(), "XXX.OO.O.", WON_FAULT);
+        assert_disagrees(&rt, small.as_slice(), "OO.OXX.X.", LOST_FAULT);
     }
 }
 
@@ -100,27 +106,10 @@ fn a_result_that_contradicts_the_value_is_told(rt: HostRuntime) {
 fn a_line_ends_at_the_first_position_that_disagrees(rt: HostRuntime) {
     let mut small = file_of(&rt, "3-3", Layout::Full);
     set_code(small.as_mut_slice(), LAST, 0);
+    let small = small.as_slice();
     let told = "XXX.OO.O. won in 3: 2-3\n";
-    assert!(rt;
-        answers(
-            rt.alloc(),
-            small.as_slice(),
-            "XXX.OO.O.",
-            Show::Best,
-            told,
-            0
-        )
-    );
-    assert!(rt;
-        answers(
-            rt.alloc(),
-            small.as_slice(),
-            "XXX.OO.O.",
-            Show::Line,
-            WON_FAULT,
-            1
-        )
-    );
+    assert_answers(&rt, small, "XXX.OO.O.", Show::Best, told, 0);
+    assert_answers(&rt, small, "XXX.OO.O.", Show::Line, WON_FAULT, 1);
 }
 
 // A win in 1 is stated of a draw, and that its result is lost at once: the position and its moves
@@ -130,27 +119,10 @@ fn a_line_does_not_end_where_there_are_moves(rt: HostRuntime) {
     let mut small = file_of(&rt, "3-3", Layout::Full);
     set_code(small.as_mut_slice(), DRAWN, 2);
     set_code(small.as_mut_slice(), AFTER, 1);
+    let small = small.as_slice();
     let told = "XXXOOO... won in 1: 0-6\n";
-    assert!(rt;
-        answers(
-            rt.alloc(),
-            small.as_slice(),
-            "XXXOOO...",
-            Show::Best,
-            told,
-            0
-        )
-    );
-    assert!(rt;
-        answers(
-            rt.alloc(),
-            small.as_slice(),
-            "XXXOOO...",
-            Show::Line,
-            DRAWN_FAULT,
-            1
-        )
-    );
+    assert_answers(&rt, small, "XXXOOO...", Show::Best, told, 0);
+    assert_answers(&rt, small, "XXXOOO...", Show::Line, DRAWN_FAULT, 1);
 }
 
 // Where each entry is lost in 65,534, each move leads to a win in 65,535, which no file states; a
@@ -164,16 +136,8 @@ fn the_greatest_depth_agrees_with_none(rt: HostRuntime) {
             *byte = 255;
         }
     }
-    assert!(rt; disagrees(rt.alloc(), small.as_slice(), "XXXOOO...", DRAWN_FAULT));
+    let small = small.as_slice();
+    assert_disagrees(&rt, small, "XXXOOO...", DRAWN_FAULT);
     let lost = "XX.OOO... lost in 0\n";
-    assert!(rt;
-        answers(
-            rt.alloc(),
-            small.as_slice(),
-            "XX.OOO...",
-            Show::Line,
-            lost,
-            0
-        )
-    );
+    assert_answers(&rt, small, "XX.OOO...", Show::Line, lost, 0);
 }

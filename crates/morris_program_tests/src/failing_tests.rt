@@ -1,4 +1,5 @@
 // A write that fails ends the answers.
+use crate::checks::holds;
 use crate::held::Held;
 use crate::making::file_of;
 use morris_board::grid::Grid;
@@ -8,26 +9,23 @@ use morris_jobs::fault::Fault;
 use morris_pairs::layout::Layout;
 use morris_queries::show::Show;
 use morris_queries::texts::answer_texts;
-use std::process::Abort;
 
 #[test]
 fn a_write_that_fails_is_told(rt: HostRuntime) {
     let small = file_of(&rt, "3-3", Layout::Full);
     let held = [("grid-3-3.nmmt", small.as_slice())];
-    let mut held = Held { files: &held };
+    let held = &mut Held { files: &held };
     // The second write of the file fails: the first answer has 28 bytes, the names of the fields 23.
     let texts = ["XXXOOO...", "XXX.OO.O."];
     for (show, sent) in [(Show::Best, 28), (Show::Csv, 23)] {
         let mut folder = MemoryFolder::new(rt.alloc(), 0, 2);
         let mut output = folder.create("out").expect(&rt, "a file");
-        let answer = answer_texts::<Grid, _, _>(
-            rt.alloc(),
-            "grid",
-            &mut held,
-            &texts,
-            show,
-            &mut output,
+        let alloc = rt.alloc();
+        let answer = answer_texts::<Grid, _, _>(alloc, "grid", held, &texts, show, &mut output);
+        holds(
+            &rt,
+            answer == Err(Fault::Write(sent)),
+            "the bytes that went out",
         );
-        assert!(rt; answer == Err(Fault::Write(sent)));
     }
 }

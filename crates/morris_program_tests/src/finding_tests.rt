@@ -1,5 +1,6 @@
 // `stats_from` and `find_from` over the file of 3-3 on `grid`: what is refused, and in which order,
 // and what a read or a write that fails leaves.
+use crate::checks::{assert_answered, holds};
 use crate::held::Held;
 use crate::making::file_of;
 use morris_board::streams::{Failed, IntoWrite};
@@ -12,43 +13,43 @@ use morris_pairs::layout::Layout;
 use morris_queries::ask::{find_from, stats_from};
 use morris_queries::find::Shown;
 use morris_queries::library::{Library, Unfound};
-use std::alloc::Global;
 use std::process::Abort;
 
-/// Whether the counts of a pair are refused for this fault, and nothing is printed.
-fn is_uncounted<L: Library>(
-    alloc: Global,
+/// The counts of a pair are refused for this fault, and nothing is printed.
+fn assert_uncounted<L: Library>(
+    rt: &(impl Abort + AllocGlobal),
     library: &mut L,
     board: &str,
     pair: &str,
     fault: Fault,
-) -> bool {
-    let mut output = IntoWrite::new(Vec::new(alloc));
-    let answer = stats_from(alloc, board, pair, false, library, &mut output);
-    answer == Err(fault) && output.into_inner().is_empty()
+) {
+    let mut output = IntoWrite::new(Vec::new(rt.alloc()));
+    let answer = stats_from(rt.alloc(), board, pair, false, library, &mut output);
+    assert_answered(rt, answer, output.into_inner().as_slice(), Err(fault), "");
 }
 
-/// Whether the positions of a pair of `grid` with this value are refused for this fault, and nothing
-/// is printed.
-fn is_unfound<L: Library>(
-    alloc: Global,
+/// The positions of a pair of `grid` with this value are refused for this fault, and nothing is
+/// printed.
+fn assert_unfound<L: Library>(
+    rt: &(impl Abort + AllocGlobal),
     library: &mut L,
     pair: &str,
     value: &str,
     fault: Fault,
-) -> bool {
-    let mut output = IntoWrite::new(Vec::new(alloc));
+) {
+    let mut output = IntoWrite::new(Vec::new(rt.alloc()));
+    let shown = Shown::Texts(9);
     let answer = find_from(
-        alloc,
+        rt.alloc(),
         "grid",
         pair,
         value,
         true,
-        Shown::Texts(9),
+        shown,
         library,
         &mut output,
     );
-    answer == Err(fault) && output.into_inner().is_empty()
+    assert_answered(rt, answer, output.into_inner().as_slice(), Err(fault), "");
 }
 
 // First the board, then the pair, then the value, then what is under the name of the pair's file.
@@ -59,17 +60,16 @@ fn refusals_of_questions_to_a_file_come_in_order(rt: HostRuntime) {
         ("grid-3-3.nmmt", large.as_slice()),
         ("grid-4-3.nmmt", b"NMMT"),
     ];
-    let mut held = Held { files: &held };
-    let alloc = rt.alloc();
-    assert!(rt; is_uncounted(alloc, &mut held, "round", "33", Fault::Board));
-    assert!(rt; is_uncounted(alloc, &mut held, "grid", "33", Fault::PairText));
-    assert!(rt; is_uncounted(alloc, &mut held, "grid", "9-9", Fault::Crowded));
-    assert!(rt; is_uncounted(alloc, &mut held, "grid", "3-3", Fault::Needs(3, 3)));
-    assert!(rt; is_uncounted(alloc, &mut held, "grid", "4-3", Fault::Short));
-    assert!(rt; is_uncounted(alloc, &mut held, "grid", "4-4", Fault::Needs(4, 4)));
-    assert!(rt; is_unfound(alloc, &mut held, "33", "Won", Fault::PairText));
-    assert!(rt; is_unfound(alloc, &mut held, "4-4", "Won", Fault::ValueText));
-    assert!(rt; is_unfound(alloc, &mut held, "4-4", "won", Fault::Needs(4, 4)));
+    let held = &mut Held { files: &held };
+    assert_uncounted(&rt, held, "round", "33", Fault::Board);
+    assert_uncounted(&rt, held, "grid", "33", Fault::PairText);
+    assert_uncounted(&rt, held, "grid", "9-9", Fault::Crowded);
+    assert_uncounted(&rt, held, "grid", "3-3", Fault::Needs(3, 3));
+    assert_uncounted(&rt, held, "grid", "4-3", Fault::Short);
+    assert_uncounted(&rt, held, "grid", "4-4", Fault::Needs(4, 4));
+    assert_unfound(&rt, held, "33", "Won", Fault::PairText);
+    assert_unfound(&rt, held, "4-4", "Won", Fault::ValueText);
+    assert_unfound(&rt, held, "4-4", "won", Fault::Needs(4, 4));
 }
 
 /// A file of which only the first bytes can be read.
@@ -125,14 +125,13 @@ impl<'a> Library for Cut<'a> {
 #[test]
 fn a_file_that_can_not_be_read_is_told(rt: HostRuntime) {
     let small = file_of(&rt, "3-3", Layout::Full);
-    let alloc = rt.alloc();
     for count in [15, 16, 17, 3375] {
         let mut cut = Cut {
             readable: &small.as_slice()[..count.min(small.len())],
             size: small.len() as u64,
         };
-        assert!(rt; is_uncounted(alloc, &mut cut, "grid", "3-3", Fault::Read));
-        assert!(rt; is_unfound(alloc, &mut cut, "3-3", "won", Fault::Read));
+        assert_uncounted(&rt, &mut cut, "grid", "3-3", Fault::Read);
+        assert_unfound(&rt, &mut cut, "3-3", "won", Fault::Read);
     }
 }
 
@@ -141,18 +140,14 @@ fn a_file_that_can_not_be_read_is_told(rt: HostRuntime) {
 fn a_write_of_positions_that_fails_is_counted(rt: HostRuntime) {
     let small = file_of(&rt, "3-3", Layout::Full);
     let held = [("grid-3-3.nmmt", small.as_slice())];
-    let mut held = Held { files: &held };
+    let held = &mut Held { files: &held };
     let mut folder = MemoryFolder::new(rt.alloc(), 0, 2);
     let mut output = folder.create("out").expect(&rt, "a file");
-    let answer = find_from(
-        rt.alloc(),
-        "grid",
-        "3-3",
-        "won",
-        true,
-        Shown::Texts(u64::MAX),
-        &mut held,
-        &mut output,
+    let (alloc, shown) = (rt.alloc(), Shown::Texts(u64::MAX));
+    let answer = find_from(alloc, "grid", "3-3", "won", true, shown, held, &mut output);
+    holds(
+        &rt,
+        answer == Err(Fault::Write(8190)),
+        "the bytes that went out",
     );
-    assert!(rt; answer == Err(Fault::Write(8190)));
 }

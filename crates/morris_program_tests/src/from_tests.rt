@@ -1,5 +1,6 @@
 // Tables of a folder in memory that are verified.
-use crate::making::{file_of, sealed};
+use crate::checks::{assert_answered, same, same_text};
+use crate::making::{changed, copied, file_of, sealed};
 use morris_board::board::Geometry;
 use morris_board::streams::IntoWrite;
 use morris_files::folder::Folder;
@@ -14,10 +15,8 @@ use morris_jobs::teller::Teller;
 use morris_pairs::exact::Exact;
 use morris_pairs::layout::Layout;
 use morris_workers::{Unwatched, Watch};
-use std::alloc::AllocError;
 use std::process::Abort;
 use std::sync::Wait;
-use std::test::Fail;
 use std::thread::Threads;
 
 const FIRST: &str = "verified 3-3: 1680 entries\n";
@@ -87,129 +86,127 @@ fn assert_tells<T: Teller>(
     let mut output = IntoWrite::new(Vec::new(rt.alloc()));
     let team = Team::new(3, 5).expect(rt, "a team");
     let answer = verify_from(rt, rt.alloc(), "grid", team, folder, &mut output, told);
-    assert!(rt; answer == wanted);
-    assert!(rt;
-        output.into_inner().as_slice() == lines.as_bytes(),
-        "{lines}"
-    );
+    assert_answered(rt, answer, output.into_inner().as_slice(), wanted, lines);
+}
+
+/// The name of the file of 3-3.
+const THREE: &str = "grid-3-3.nmmt";
+
+/// The name of the file of 4-3.
+const FOUR: &str = "grid-4-3.nmmt";
+
+/// Another file under a name.
+fn put(rt: &impl Abort, folder: &mut MemoryFolder, name: &str, file: &[u8]) {
+    folder.put(name, file).expect(rt, "memory");
+}
+
+/// The bytes of the file under a name, or none.
+fn bytes_of(rt: &(impl Abort + AllocGlobal), folder: &MemoryFolder, name: &str) -> Vec<u8> {
+    copied(rt, folder.get(name).unwrap_or_default())
 }
 
 /// A folder whose calls that are set in the bits fail, with the files of 3-3 and 4-3 where these
 /// are wanted.
 fn folder_with(
-    rt: &(impl AllocGlobal + Threads + Wait + Sync),
+    rt: &(impl Abort + AllocGlobal + Threads + Wait + Sync),
     calls: u64,
-    first: bool,
-    second: bool,
-) -> Result<MemoryFolder, AllocError> {
+    has_three: bool,
+    has_four: bool,
+) -> MemoryFolder {
     let mut folder = MemoryFolder::new(rt.alloc(), calls, 0);
-    if first {
+    if has_three {
         let file = file_of(rt, "3-3", Layout::Full);
-        folder.put("grid-3-3.nmmt", file.as_slice())?;
+        put(rt, &mut folder, THREE, file.as_slice());
     }
-    if second {
+    if has_four {
         let file = file_of(rt, "4-3", Layout::Full);
-        folder.put("grid-4-3.nmmt", file.as_slice())?;
+        put(rt, &mut folder, FOUR, file.as_slice());
     }
-    Ok(folder)
+    folder
 }
 
 #[test]
-fn each_table_is_told(rt: HostRuntime) -> Result<(), Fail> {
-    assert_answers(&rt, &mut folder_with(&rt, 0, true, true)?, Ok(()), BOTH);
-    assert_answers(&rt, &mut folder_with(&rt, 0, true, false)?, Ok(()), FIRST);
-    Ok(())
+fn each_table_is_told(rt: HostRuntime) {
+    assert_answers(&rt, &mut folder_with(&rt, 0, true, true), Ok(()), BOTH);
+    assert_answers(&rt, &mut folder_with(&rt, 0, true, false), Ok(()), FIRST);
 }
 
 #[test]
-fn files_that_are_missing_are_named(rt: HostRuntime) -> Result<(), Fail> {
+fn files_that_are_missing_are_named(rt: HostRuntime) {
     let none = Err(Fault::NoFiles);
-    assert_answers(&rt, &mut folder_with(&rt, 0, false, false)?, none, "");
+    assert_answers(&rt, &mut folder_with(&rt, 0, false, false), none, "");
     let needs = Err(Fault::InFile(4, 3, Flaw::Needs(3, 3)));
-    assert_answers(&rt, &mut folder_with(&rt, 0, false, true)?, needs, "");
-    Ok(())
+    assert_answers(&rt, &mut folder_with(&rt, 0, false, true), needs, "");
 }
 
 #[test]
-fn a_file_that_is_not_opened_is_named(rt: HostRuntime) -> Result<(), Fail> {
+fn a_file_that_is_not_opened_is_named(rt: HostRuntime) {
     let first = Err(Fault::Unopened(3, 3));
-    assert_answers(&rt, &mut folder_with(&rt, 0b10, true, true)?, first, "");
+    assert_answers(&rt, &mut folder_with(&rt, 0b10, true, true), first, "");
     let second = Err(Fault::Unopened(4, 3));
-    assert_answers(
-        &rt,
-        &mut folder_with(&rt, 0b100, true, true)?,
-        second,
-        FIRST,
-    );
-    Ok(())
+    assert_answers(&rt, &mut folder_with(&rt, 0b100, true, true), second, FIRST);
 }
 
 #[test]
-fn a_folder_that_is_not_found_is_told(rt: HostRuntime) -> Result<(), Fail> {
-    let folder = &mut folder_with(&rt, 0b1, true, true)?;
+fn a_folder_that_is_not_found_is_told(rt: HostRuntime) {
+    let folder = &mut folder_with(&rt, 0b1, true, true);
     assert_answers(&rt, folder, Err(Fault::NoFolder), "");
-    assert!(rt; folder.failures() == 1);
-    Ok(())
+    same(&rt, folder.failures(), 1, "failures");
 }
 
 #[test]
-fn the_entries_of_all_files_are_told_first(rt: HostRuntime) -> Result<(), Fail> {
+fn the_entries_of_all_files_are_told_first(rt: HostRuntime) {
     let mut told = Tally { whole: 0, done: 0 };
-    let folder = &mut folder_with(&rt, 0, true, true)?;
+    let folder = &mut folder_with(&rt, 0, true, true);
     assert_tells(&rt, folder, &mut told, Ok(()), BOTH);
-    assert!(rt; told.whole == 4200 && told.done == 4200);
-    Ok(())
+    same(&rt, told.whole, 4200, "the entries that were told first");
+    same(&rt, told.done, 4200, "the entries that were told");
 }
 
 // The first call finds the folder, and the next two read the headers.
 #[test]
-fn a_file_that_is_not_opened_at_first_is_not_opened_again(rt: HostRuntime) -> Result<(), Fail> {
+fn a_file_that_is_not_opened_at_first_is_not_opened_again(rt: HostRuntime) {
     let mut told = Tally { whole: 0, done: 0 };
-    let folder = &mut folder_with(&rt, 0b100, true, true)?;
+    let folder = &mut folder_with(&rt, 0b100, true, true);
     let second = Err(Fault::Unopened(4, 3));
     assert_tells(&rt, folder, &mut told, second, FIRST);
-    assert!(rt; told.whole == 1680 && told.done == 1680 && folder.failures() == 1);
-    Ok(())
-}
-
-/// The file of 4-3 of a folder, for which another one is put.
-fn put_second(folder: &mut MemoryFolder, file: &[u8]) -> Result<(), AllocError> {
-    folder.put("grid-4-3.nmmt", file)
+    same(&rt, told.whole, 1680, "the entries that were told first");
+    same(&rt, told.done, 1680, "the entries that were told");
+    same(&rt, folder.failures(), 1, "failures");
 }
 
 #[test]
-fn a_damaged_file_is_named(rt: HostRuntime) -> Result<(), Fail> {
-    let folder = &mut folder_with(&rt, 0, true, true)?;
-    let mut file = Vec::from_slice(rt.alloc(), folder.get("grid-4-3.nmmt").unwrap_or_default())?;
-    if let Some(byte) = file.get_mut(100) {
-        *byte ^= 1;
-    }
-    put_second(folder, file.as_slice())?;
-    let damaged = Err(Fault::InFile(4, 3, Flaw::Digest));
-    assert_answers(&rt, folder, damaged, FIRST);
-    let _ = file.pop();
-    put_second(folder, file.as_slice())?;
+fn a_damaged_file_is_named(rt: HostRuntime) {
+    let folder = &mut folder_with(&rt, 0, true, true);
+    let right = bytes_of(&rt, folder, FOUR);
+    let byte = right.as_slice().get(100).copied().unwrap_or_default();
+    let damaged = changed(&rt, right.as_slice(), 100, byte ^ 1);
+    put(&rt, folder, FOUR, damaged.as_slice());
+    let fault = Err(Fault::InFile(4, 3, Flaw::Digest));
+    assert_answers(&rt, folder, fault, FIRST);
+    let short = &right.as_slice()[..right.len().saturating_sub(1)];
+    put(&rt, folder, FOUR, short);
     assert_answers(&rt, folder, Err(Fault::InFile(4, 3, Flaw::Short)), FIRST);
-    let other = Vec::from_slice(rt.alloc(), folder.get("grid-3-3.nmmt").unwrap_or_default())?;
-    put_second(folder, other.as_slice())?;
+    let other = bytes_of(&rt, folder, THREE);
+    put(&rt, folder, FOUR, other.as_slice());
     assert_answers(&rt, folder, Err(Fault::OtherPair(4, 3)), FIRST);
-    Ok(())
+}
+
+/// A fault has this number and this text.
+fn assert_text(rt: &(impl Abort + AllocGlobal), fault: Fault, number: u64, wanted: &str) {
+    let text = format!(in rt.alloc(); "{fault}").expect(rt, "memory");
+    same(rt, u64::from(fault.number()), number, wanted);
+    same_text(rt, text.as_str(), wanted);
 }
 
 // Entry 20 of 3-3 is won in 1; here it is a draw, under a digest that is right.
 #[test]
-fn a_false_file_is_named(rt: HostRuntime) -> Result<(), Fail> {
-    let folder = &mut folder_with(&rt, 0, true, true)?;
-    let mut file = Vec::from_slice(rt.alloc(), folder.get("grid-3-3.nmmt").unwrap_or_default())?;
-    if let Some(byte) = file.get_mut(57) {
-        *byte = 0;
-    }
-    let false_file = sealed(rt.alloc(), file.as_slice())?;
-    folder.put("grid-3-3.nmmt", false_file.as_slice())?;
+fn a_false_file_is_named(rt: HostRuntime) {
+    let folder = &mut folder_with(&rt, 0, true, true);
+    let right = bytes_of(&rt, folder, THREE);
+    let wrong = changed(&rt, right.as_slice(), 57, 0);
+    put(&rt, folder, THREE, sealed(&rt, wrong.as_slice()).as_slice());
     let fault = Fault::InFile(3, 3, Flaw::Differs(20));
     assert_answers(&rt, folder, Err(fault), "");
-    let text = format!(in rt.alloc(); "{fault}")?;
-    assert!(rt; fault.number() == 14);
-    assert!(rt; text.as_str() == "entry 20 differs, in the file of 3-3");
-    Ok(())
+    assert_text(&rt, fault, 14, "entry 20 differs, in the file of 3-3");
 }

@@ -1,4 +1,6 @@
 // Tables that are built into a folder in memory, while its calls fail one after the other.
+use crate::checks::{assert_answered, holds};
+use crate::making::joined;
 use morris_board::streams::IntoWrite;
 use morris_commands::build::build_out;
 use morris_files::folder::Folder;
@@ -8,7 +10,6 @@ use morris_jobs::fault::Fault;
 use morris_workers::Unwatched;
 use std::process::Abort;
 use std::sync::Wait;
-use std::test::Fail;
 use std::thread::Threads;
 
 /// The lines of 3-3 and of 4-3. The SHA-256 of each file is that of the file that another program
@@ -77,24 +78,55 @@ fn is_lines(text: &[u8], lines: &[&str]) -> bool {
 }
 
 #[test]
-fn the_files_are_those_that_go_out(rt: HostRuntime) -> Result<(), Fail> {
-    let alloc = rt.alloc();
+fn the_files_are_those_that_go_out(rt: HostRuntime) {
     let (answer, folder, printed) = build(&rt, 0, 0);
-    assert!(rt; answer == Ok(()) && is_lines(printed.as_slice(), &[FIRST, SECOND]));
-    assert!(rt; folder.count() == 4 && folder.get(".morris.lock").is_some());
-    assert!(rt; folder.get("grid.sha256") == Some(DIGESTS.as_bytes()));
-    let mut all = IntoWrite::new(Vec::new(alloc));
-    let answer = build_out(&rt, alloc, "grid", "4-3", 1, 1, true, false, &mut all);
-    let mut files = Vec::new(alloc);
-    for name in ["grid-3-3.nmmt", "grid-4-3.nmmt"] {
-        files.extend_from_slice(folder.get(name).unwrap_or_default())?;
-    }
-    assert!(rt; answer == Ok(()) && all.into_inner() == files);
-    Ok(())
+    holds(&rt, answer == Ok(()), "the answer");
+    holds(
+        &rt,
+        is_lines(printed.as_slice(), &[FIRST, SECOND]),
+        "the lines",
+    );
+    holds(&rt, folder.count() == 4, "the files");
+    holds(&rt, folder.get(".morris.lock").is_some(), "the lock");
+    assert_file(&rt, &folder, "grid.sha256", DIGESTS.as_bytes());
+    assert_goes_out(&rt, &folder);
 }
 
-/// A build whose calls fail that are set in the bits answers a fault, prints these lines, and leaves
-/// so many files.
+/// A file of a folder has these bytes.
+fn assert_file(rt: &impl Abort, folder: &MemoryFolder, name: &str, bytes: &[u8]) {
+    holds(rt, folder.get(name) == Some(bytes), name);
+}
+
+/// What goes out of a build of 4-3 with the pair below it is the files of a folder.
+fn assert_goes_out(rt: &(impl Abort + AllocGlobal + Threads + Wait + Sync), folder: &MemoryFolder) {
+    let alloc = rt.alloc();
+    let mut all = IntoWrite::new(Vec::new(alloc));
+    let answer = build_out(rt, alloc, "grid", "4-3", 1, 1, true, false, &mut all);
+    holds(rt, answer == Ok(()), "the answer");
+    let first = folder.get("grid-3-3.nmmt").unwrap_or_default();
+    let second = folder.get("grid-4-3.nmmt").unwrap_or_default();
+    let is_same = all.into_inner() == joined(rt, &[first, second]);
+    holds(rt, is_same, "the files");
+}
+
+/// A build whose calls and writes fail that are set in the bits answers a fault, prints these lines,
+/// and leaves so many files.
+fn assert_refused_with(
+    rt: &(impl Abort + AllocGlobal + Threads + Wait + Sync),
+    (calls, writes): (u64, u64),
+    fault: Fault,
+    lines: &[&str],
+    files: usize,
+) {
+    let (answer, folder, printed) = build(rt, calls, writes);
+    let is_told = answer == Err(fault) && is_lines(printed.as_slice(), lines);
+    assert!(rt;
+        is_told && folder.count() == files,
+        "{calls} {writes}: {fault}"
+    );
+}
+
+/// The same of calls alone.
 fn assert_refused(
     rt: &(impl Abort + AllocGlobal + Threads + Wait + Sync),
     calls: u64,
@@ -102,10 +134,7 @@ fn assert_refused(
     lines: &[&str],
     files: usize,
 ) {
-    let (answer, folder, printed) = build(rt, calls, 0);
-    assert!(rt; answer == Err(fault), "{calls}: {fault}");
-    assert!(rt; is_lines(printed.as_slice(), lines), "{calls}");
-    assert!(rt; folder.count() == files, "{calls}");
+    assert_refused_with(rt, (calls, 0), fault, lines, files);
 }
 
 // The folder is made, found and locked; the list of digests is opened, removed, and that settled.
@@ -135,49 +164,51 @@ fn a_file_whose_name_may_not_last_is_not_told(rt: HostRuntime) {
     assert_refused(&rt, 1 << 10, Fault::Unwritten(3, 3), &[], 2);
     assert_refused(&rt, 1 << 15, Fault::Unwritten(4, 3), &[FIRST], 3);
     assert_refused(&rt, 1 << 20, Fault::Digests, &[FIRST, SECOND], 4);
-    let (answer, folder, printed) = build(&rt, 0, 0b1);
-    assert!(rt; answer == Err(Fault::Unwritten(3, 3)) && printed.is_empty());
-    assert!(rt; folder.count() == 1);
+    assert_refused_with(&rt, (0, 0b1), Fault::Unwritten(3, 3), &[], 1);
 }
 
 /// The line of a file that the build leaves alone, as another build wrote it.
 const OTHER: &str =
     "0000000000000000000000000000000000000000000000000000000000000000  grid-5-4.nmmt\n";
 
-#[test]
-fn a_folder_that_another_has_locked_is_left_alone(rt: HostRuntime) -> Result<(), Fail> {
-    let mut folder = MemoryFolder::new(rt.alloc(), 0, 0);
-    folder.put("grid.sha256", OTHER.as_bytes())?;
-    folder.set_taken(true);
-    let (answer, printed) = build_onto(&rt, &mut folder);
-    assert!(rt; answer == Err(Fault::Busy) && printed.is_empty());
-    assert!(rt; folder.get("grid.sha256") == Some(OTHER.as_bytes()));
-    assert!(rt; folder.get("grid-3-3.nmmt").is_none());
-    Ok(())
+/// What the list says of the file of 3-3 that was there before.
+const STALE: &str =
+    "1111111111111111111111111111111111111111111111111111111111111111  grid-3-3.nmmt\n";
+
+/// A folder whose calls that are set in the bits fail, with a list of digests of these lines.
+fn folder_with(rt: &(impl Abort + AllocGlobal), calls: u64, lines: &[&[u8]]) -> MemoryFolder {
+    let mut folder = MemoryFolder::new(rt.alloc(), calls, 0);
+    let list = joined(rt, lines);
+    folder
+        .put("grid.sha256", list.as_slice())
+        .expect(rt, "memory");
+    folder
 }
 
 #[test]
-fn the_digests_of_other_files_are_kept(rt: HostRuntime) -> Result<(), Fail> {
-    let mut folder = MemoryFolder::new(rt.alloc(), 0, 0);
-    let stale = "1111111111111111111111111111111111111111111111111111111111111111  grid-3-3.nmmt\n";
-    let list = format!(in rt.alloc(); "{stale}{OTHER}")?;
-    folder.put("grid.sha256", list.as_bytes())?;
+fn a_folder_that_another_has_locked_is_left_alone(rt: HostRuntime) {
+    let mut folder = folder_with(&rt, 0, &[OTHER.as_bytes()]);
+    folder.set_taken(true);
+    let (answer, printed) = build_onto(&rt, &mut folder);
+    assert_answered(&rt, answer, printed.as_slice(), Err(Fault::Busy), "");
+    assert_file(&rt, &folder, "grid.sha256", OTHER.as_bytes());
+    holds(&rt, folder.get("grid-3-3.nmmt").is_none(), "no file");
+}
+
+#[test]
+fn the_digests_of_other_files_are_kept(rt: HostRuntime) {
+    let mut folder = folder_with(&rt, 0, &[STALE.as_bytes(), OTHER.as_bytes()]);
     let (answer, _) = build_onto(&rt, &mut folder);
-    let wanted = format!(in rt.alloc(); "{OTHER}{DIGESTS}")?;
-    assert!(rt; answer == Ok(()));
-    assert!(rt; folder.get("grid.sha256") == Some(wanted.as_bytes()));
-    Ok(())
+    holds(&rt, answer == Ok(()), "the answer");
+    let wanted = joined(&rt, &[OTHER.as_bytes(), DIGESTS.as_bytes()]);
+    assert_file(&rt, &folder, "grid.sha256", wanted.as_slice());
 }
 
 // The first file isn't renamed: the list has forgotten those that were to be replaced.
 #[test]
-fn the_digests_of_files_to_be_replaced_are_forgotten_first(rt: HostRuntime) -> Result<(), Fail> {
-    let mut folder = MemoryFolder::new(rt.alloc(), 1 << 12, 0);
-    let stale = "1111111111111111111111111111111111111111111111111111111111111111  grid-3-3.nmmt\n";
-    let list = format!(in rt.alloc(); "{stale}{OTHER}")?;
-    folder.put("grid.sha256", list.as_bytes())?;
+fn the_digests_of_files_to_be_replaced_are_forgotten_first(rt: HostRuntime) {
+    let mut folder = folder_with(&rt, 1 << 12, &[STALE.as_bytes(), OTHER.as_bytes()]);
     let (answer, _) = build_onto(&rt, &mut folder);
-    assert!(rt; answer == Err(Fault::Unwritten(3, 3)));
-    assert!(rt; folder.get("grid.sha256") == Some(OTHER.as_bytes()));
-    Ok(())
+    holds(&rt, answer == Err(Fault::Unwritten(3, 3)), "the answer");
+    assert_file(&rt, &folder, "grid.sha256", OTHER.as_bytes());
 }

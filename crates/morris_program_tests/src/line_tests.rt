@@ -1,5 +1,6 @@
 // What is answered to the lines of an input, over the file of 3-3 on `grid`. The values and moves
 // follow from the rules.
+use crate::checks::holds;
 use crate::held::Held;
 use crate::making::file_of;
 use morris_board::streams::{FromRead, IntoWrite};
@@ -8,24 +9,30 @@ use morris_jobs::fault::Fault;
 use morris_pairs::layout::Layout;
 use morris_queries::lookup::lookup_lines;
 use morris_queries::show::Show;
-use std::alloc::Global;
 use std::io::Read;
 use std::process::Abort;
 
-/// What is answered to what a reader gives, and how many answers are faults.
-fn answered<R: Read>(
-    alloc: Global,
+/// The lines that a reader gives are answered with this text, and with so many faults or this one.
+fn assert_lines<R: Read>(
+    rt: &(impl Abort + AllocGlobal),
     board: &str,
     held: &mut Held<'_>,
     reader: R,
-) -> (Vec<u8>, Result<u64, Fault>)
+    wanted: &str,
+    faults: Result<u64, Fault>,
+)
 where
     R: Drop,
 {
     let mut input = FromRead::new(reader);
-    let mut output = IntoWrite::new(Vec::new(alloc));
-    let refused = lookup_lines(alloc, board, held, &mut input, Show::Best, &mut output);
-    (output.into_inner(), refused)
+    let mut output = IntoWrite::new(Vec::new(rt.alloc()));
+    let refused = lookup_lines(rt.alloc(), board, held, &mut input, Show::Best, &mut output);
+    holds(rt, refused == faults, wanted);
+    holds(
+        rt,
+        output.into_inner().as_slice() == wanted.as_bytes(),
+        wanted,
+    );
 }
 
 // A line that is empty or begins with `#` is passed over.
@@ -43,20 +50,20 @@ XXXOOO... (too long): fault 1: text is not one character per point
 OO.OXX.X. lost in 2: 4-2 4-6 4-8 5-2 5-6 5-8 7-2 7-6 7-8
 ";
 
+/// A reader that gives these bytes one by one, and fails after so many calls.
+fn drip(left: &[u8], room: u64) -> Drip<'_> {
+    let calls = 0;
+    Drip { left, calls, room }
+}
+
 #[test]
 fn lines_are_answered(rt: HostRuntime) {
     let small = file_of(&rt, "3-3", Layout::Full);
     let held = [("grid-3-3.nmmt", small.as_slice())];
-    let mut held = Held { files: &held };
-    let (text, refused) = answered(rt.alloc(), "grid", &mut held, GIVEN.as_bytes());
-    assert!(rt; text.as_slice() == ANSWERED.as_bytes() && refused == Ok(4));
-    let drip = Drip {
-        left: GIVEN.as_bytes(),
-        calls: 0,
-        room: u64::MAX,
-    };
-    let (text, refused) = answered(rt.alloc(), "grid", &mut held, drip);
-    assert!(rt; text.as_slice() == ANSWERED.as_bytes() && refused == Ok(4));
+    let held = &mut Held { files: &held };
+    let given = GIVEN.as_bytes();
+    assert_lines(&rt, "grid", held, given, ANSWERED, Ok(4));
+    assert_lines(&rt, "grid", held, drip(given, u64::MAX), ANSWERED, Ok(4));
 }
 
 // An escape (27), the first byte of a character that is cut off, a delete (127), a backslash and a
@@ -72,20 +79,17 @@ X~ \x7f\x80\xff: fault 1: text is not one character per point
 
 #[test]
 fn bytes_that_are_not_printable_are_shown_by_their_digits(rt: HostRuntime) {
-    let mut held = Held { files: &[] };
-    let (text, refused) = answered(rt.alloc(), "grid", &mut held, BYTES);
-    assert!(rt; text.as_slice() == SHOWN.as_bytes() && refused == Ok(5));
+    let held = &mut Held { files: &[] };
+    assert_lines(&rt, "grid", held, BYTES, SHOWN, Ok(5));
 }
 
 #[test]
 fn no_line_has_no_answer(rt: HostRuntime) {
-    let mut held = Held { files: &[] };
+    let held = &mut Held { files: &[] };
     for none in ["", "\n", "\r", "# XXXOOO...\n\n#"] {
-        let (text, refused) = answered(rt.alloc(), "nine", &mut held, none.as_bytes());
-        assert!(rt; text.is_empty() && refused == Ok(0));
+        assert_lines(&rt, "nine", held, none.as_bytes(), "", Ok(0));
     }
-    let (text, refused) = answered(rt.alloc(), "none", &mut held, b"X\n".as_slice());
-    assert!(rt; text.is_empty() && refused == Err(Fault::Board));
+    assert_lines(&rt, "none", held, b"X\n".as_slice(), "", Err(Fault::Board));
 }
 
 // The answer to the line before the failure is out, and the line that was begun has none.
@@ -93,13 +97,8 @@ fn no_line_has_no_answer(rt: HostRuntime) {
 fn a_read_that_fails_ends_the_answers(rt: HostRuntime) {
     let small = file_of(&rt, "3-3", Layout::Full);
     let held = [("grid-3-3.nmmt", small.as_slice())];
-    let mut held = Held { files: &held };
-    let drip = Drip {
-        left: GIVEN.as_bytes(),
-        calls: 0,
-        room: 11,
-    };
-    let (text, refused) = answered(rt.alloc(), "grid", &mut held, drip);
-    assert!(rt; text.as_slice() == b"XXXOOO... draw: 0-6 1-7 2-8\n".as_slice());
-    assert!(rt; refused == Err(Fault::Read));
+    let held = &mut Held { files: &held };
+    let first = "XXXOOO... draw: 0-6 1-7 2-8\n";
+    let reader = drip(GIVEN.as_bytes(), 11);
+    assert_lines(&rt, "grid", held, reader, first, Err(Fault::Read));
 }

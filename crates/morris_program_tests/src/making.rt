@@ -1,9 +1,9 @@
-// The files of which tests are made.
+// The files of which tests are made. A test ends where memory is refused.
 use morris_board::streams::IntoWrite;
 use morris_commands::build::build_out;
 use morris_pairs::layout::Layout;
 use sha2::{Digest, Sha256};
-use std::alloc::{AllocError, Global};
+use std::process::Abort;
 use std::sync::Wait;
 use std::thread::Threads;
 
@@ -30,11 +30,34 @@ pub fn file_of(
     output.into_inner()
 }
 
+/// The same bytes.
+pub fn copied(rt: &(impl Abort + AllocGlobal), bytes: &[u8]) -> Vec<u8> {
+    Vec::from_slice(rt.alloc(), bytes).expect(rt, "memory")
+}
+
+/// Texts or files one after the other.
+pub fn joined(rt: &(impl Abort + AllocGlobal), parts: &[&[u8]]) -> Vec<u8> {
+    let mut whole = Vec::new(rt.alloc());
+    for part in parts {
+        whole.extend_from_slice(*part).expect(rt, "memory");
+    }
+    whole
+}
+
+/// A file whose byte at a place is another.
+pub fn changed(rt: &(impl Abort + AllocGlobal), file: &[u8], place: usize, byte: u8) -> Vec<u8> {
+    let mut bytes = copied(rt, file);
+    if let Some(there) = bytes.get_mut(place) {
+        *there = byte;
+    }
+    bytes
+}
+
 /// A file of 3-3 by positions, with the digest of what stands before it.
-pub fn sealed(alloc: Global, file: &[u8]) -> Result<Vec<u8>, AllocError> {
-    let mut bytes = Vec::from_slice(alloc, file)?;
+pub fn sealed(rt: &(impl Abort + AllocGlobal), file: &[u8]) -> Vec<u8> {
+    let mut bytes = copied(rt, file);
     bytes.truncate(3376);
     let digest = Sha256::digest(bytes.as_slice());
-    bytes.extend_from_slice(&digest)?;
-    Ok(bytes)
+    bytes.extend_from_slice(&digest).expect(rt, "memory");
+    bytes
 }

@@ -1,4 +1,6 @@
 //! The calls on graphs and their blocks.
+ghost use Rattle.std.specs.Prelude.{◌≡◌, ◌<◌};
+
 use morris_engine_tests::told::{mark, or_refused, tell};
 use morris_engine_tests::{PairGraph, Pairs, advance, blocks_after};
 use morris_wave::{Batch, Block, Cut, Graph, gather, scatter, sweep};
@@ -22,26 +24,26 @@ pub(crate) fn sweeps(rt: &impl Print, alloc: Global) -> Option<()> {
 pub(crate) fn makes_a_block(rt: &impl Print, alloc: Global) -> Option<()> {
     let cut = Cut::new(2, 2).ok()?;
     mark(alloc)?;
-    let first = Block::make(alloc, &PAIR, &cut, 1);
+    let first = second_block(alloc, &cut);
     mark(alloc)?;
-    tell(
-        rt,
-        "make",
-        "first",
-        &or_refused(first).map(|block| shown(&block)),
-    )?;
-    let again = Block::make(alloc, &PAIR, &cut, 1);
-    tell(
-        rt,
-        "make",
-        "again",
-        &or_refused(again).map(|block| shown(&block)),
-    )
+    tell(rt, "make", "first", &first)?;
+    tell(rt, "make", "again", &second_block(alloc, &cut))
 }
 
-/// What a block shows: its wave, whether it is complete, its last exit, and how many of its nodes
-/// are won, lost and open.
-fn shown(block: &Block<Pairs>) -> (u16, bool, u32, u64, u64, u64) {
+/// What block 1 of a cut shows.
+fn second_block(alloc: Global, cut: &Cut) -> Result<Shown, &'static str>
+    requires size { cut.now.size ≡ 2 }
+    requires number { 1 < cut.now.blocks }
+{
+    or_refused(Block::make(alloc, &PAIR, cut, 1)).map(|block| shown(&block))
+}
+
+/// The wave of a block, whether it is complete, its last exit, and how many of its nodes are won,
+/// lost and open.
+type Shown = (u16, bool, u32, u64, u64, u64);
+
+/// What a block shows.
+fn shown(block: &Block<Pairs>) -> Shown {
     let tallies = block.tallies();
     let (won, lost, open) = (tallies.won, tallies.lost, tallies.undecided);
     (
@@ -145,19 +147,13 @@ pub(crate) fn makes_a_yard(rt: &impl Print, alloc: Global) -> Option<()> {
 
 pub(crate) fn makes_tickets(rt: &impl Print, alloc: Global) -> Option<()> {
     mark(alloc)?;
-    let first = Tickets::new(alloc, 5, 4);
+    let first = seat_count(alloc);
     mark(alloc)?;
-    tell(
-        rt,
-        "tickets",
-        "first",
-        &or_refused(first).map(|made| made.1.len()),
-    )?;
-    let again = Tickets::new(alloc, 5, 4);
-    tell(
-        rt,
-        "tickets",
-        "again",
-        &or_refused(again).map(|made| made.1.len()),
-    )
+    tell(rt, "tickets", "first", &first)?;
+    tell(rt, "tickets", "again", &seat_count(alloc))
+}
+
+/// How many seats are made that share five tickets.
+fn seat_count(alloc: Global) -> Result<usize, &'static str> {
+    or_refused(Tickets::new(alloc, 5, 4)).map(|made| made.1.len())
 }

@@ -1,5 +1,5 @@
 use Rattle.std.proofs.Common.{◌≡◌}
-use Rattle.morris_program_tests.proofs.probes.verified_input.Given as goal
+use Rattle.morris_trials.proofs.probes.verified_input.Given as goal
 
 -- no read has failed
 abbrev pub invariant-loop : goal.invariant-loop

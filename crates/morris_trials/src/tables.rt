@@ -1,4 +1,6 @@
 //! The calls on tables of the board `grid`, of three stones against three.
+ghost use Rattle.std.specs.Prelude.{◌≡◌};
+
 use morris_board::grid::Grid;
 use morris_board::position::Position;
 use morris_board::streams::{FromRead, IntoWrite};
@@ -8,6 +10,7 @@ use morris_index::classes::Classes;
 use morris_index::pair::Pair;
 use morris_pairs::class_graph::ClassGraph;
 use morris_pairs::exact::Exact;
+use morris_pairs::file_faults::ReadFault;
 use morris_pairs::graph::PairGraph;
 use morris_pairs::reading::{read_next, read_table};
 use morris_pairs::shelf::Shelf;
@@ -15,9 +18,10 @@ use morris_pairs::sweeping::sweep_pair;
 use morris_pairs::value::Value;
 use morris_pairs::writing::write_table;
 use morris_probe::best::best;
+use morris_probe::fault::ProbeFault;
 use morris_probe::report::report;
 use morris_wave::Graph;
-use std::alloc::Global;
+use std::alloc::{AllocError, Global};
 use std::fmt::Display;
 
 /// A shelf with the table of 3-3.
@@ -88,8 +92,13 @@ pub(crate) fn sweeps_a_pair(rt: &impl Print, alloc: Global) -> Option<()> {
 }
 
 pub(crate) fn goes_back(rt: &impl Print, alloc: Global) -> Option<()> {
+    let pair = Pair::new(3, 3).ok()?;
     let shelf = Shelf::<Grid>::new(alloc).ok()?;
-    let graph = PairGraph::new(&shelf, Pair::new(3, 3).ok()?).ok()?;
+    goes_back_in(rt, alloc, &PairGraph::new(&shelf, pair).ok()?)
+}
+
+/// Goes back from a position of a graph.
+fn goes_back_in(rt: &impl Print, alloc: Global, graph: &PairGraph<'_, Grid>) -> Option<()> {
     if graph.size() < 982 {
         return None;
     }
@@ -125,35 +134,31 @@ pub(crate) fn makes_a_shelf(rt: &impl Print, alloc: Global) -> Option<()> {
     )
 }
 
+/// How many classes of three points are made.
+fn class_count(alloc: Global) -> Result<u32, &'static str> {
+    or_refused(Classes::<Grid>::make(alloc, 3)).map(|classes| classes.count())
+}
+
 pub(crate) fn makes_classes(rt: &impl Print, alloc: Global) -> Option<()> {
     mark(alloc)?;
-    let first = Classes::<Grid>::make(alloc, 3);
+    let first = class_count(alloc);
     mark(alloc)?;
-    let first = or_refused(first).map(|classes| classes.count());
     tell(rt, "classes", "first", &first)?;
-    let again = or_refused(Classes::<Grid>::make(alloc, 3));
-    tell(
-        rt,
-        "classes",
-        "again",
-        &again.map(|classes| classes.count()),
-    )
+    tell(rt, "classes", "again", &class_count(alloc))
+}
+
+/// How many entries of classes a pair has that are made.
+fn entry_count(alloc: Global, pair: Pair<Grid>) -> Result<u64, &'static str> {
+    or_refused(ClassPair::make(alloc, pair)).map(|entries| entries.size())
 }
 
 pub(crate) fn makes_entries_of_classes(rt: &impl Print, alloc: Global) -> Option<()> {
     let pair = Pair::<Grid>::new(4, 3).ok()?;
     mark(alloc)?;
-    let first = ClassPair::make(alloc, pair);
+    let first = entry_count(alloc, pair);
     mark(alloc)?;
-    let first = or_refused(first).map(|entries| entries.size());
     tell(rt, "class_pair", "first", &first)?;
-    let again = or_refused(ClassPair::make(alloc, pair));
-    tell(
-        rt,
-        "class_pair",
-        "again",
-        &again.map(|entries| entries.size()),
-    )
+    tell(rt, "class_pair", "again", &entry_count(alloc, pair))
 }
 
 pub(crate) fn counts_codes(rt: &impl Print, alloc: Global) -> Option<()> {
@@ -166,15 +171,23 @@ pub(crate) fn counts_codes(rt: &impl Print, alloc: Global) -> Option<()> {
     tell(rt, "tallies", "again", &or_refused(table.tallies(alloc)))
 }
 
+/// How many entries the table has that is read from a file.
+fn length_read(alloc: Global, file: &[u8]) -> Result<u64, ReadFault> {
+    read_table::<Grid, _>(alloc, &mut FromRead::new(file)).map(|raw| raw.len())
+}
+
+/// Reads a file, for a call of this name.
+fn reads(rt: &impl Print, alloc: Global, call: &str, file: &[u8]) -> Option<()> {
+    mark(alloc)?;
+    let first = length_read(alloc, file);
+    mark(alloc)?;
+    tell(rt, call, "first", &first)?;
+    tell(rt, call, "again", &length_read(alloc, file))
+}
+
 pub(crate) fn reads_a_table(rt: &impl Print, alloc: Global) -> Option<()> {
     let file = file_of_three(alloc)?;
-    let mut source = FromRead::new(file.as_slice());
-    mark(alloc)?;
-    let first = read_table::<Grid, _>(alloc, &mut source);
-    mark(alloc)?;
-    tell(rt, "read_table", "first", &first.map(|raw| raw.len()))?;
-    let again = read_table::<Grid, _>(alloc, &mut FromRead::new(file.as_slice()));
-    tell(rt, "read_table", "again", &again.map(|raw| raw.len()))
+    reads(rt, alloc, "read_table", file.as_slice())
 }
 
 /// What the file of 3-3 by classes begins with: version 2, board 1, and 320 entries.
@@ -194,48 +207,50 @@ fn code_of(value: Value) -> u16 {
     }
 }
 
-/// The file of the table of 3-3 by classes: each entry has the code of its position.
-fn file_by_classes(alloc: Global) -> Option<Vec<u8>> {
-    let shelf = shelf(alloc)?;
-    let pair = Pair::new(3, 3).ok()?;
-    let table = shelf.get(pair)?;
-    let entries = ClassPair::make(alloc, pair).ok()?;
-    let mut file = Vec::new(alloc);
-    file.extend_from_slice(HEADER_OF_CLASSES.as_slice()).ok()?;
+/// Adds the code of each entry of a pair to a file.
+fn add_codes(
+    file: &mut Vec<u8>,
+    table: &Exact<Grid>,
+    entries: &ClassPair<Grid>,
+) -> Result<(), AllocError>
+    requires { table.now.pair ≡ entries.now }
+{
     for entry in 0..entries.size() {
         let code = code_of(table.value_of(&entries.position(entry)));
-        file.extend_from_slice(code.to_be_bytes().as_slice()).ok()?;
+        file.extend_from_slice(code.to_be_bytes().as_slice())?;
     }
+    Ok(())
+}
+
+/// The file of the table of 3-3 by classes: each entry has the code of its position.
+fn file_by_classes(alloc: Global) -> Option<Vec<u8>> {
+    let pair = Pair::new(3, 3).ok()?;
+    let shelf = shelf(alloc)?;
+    let entries = ClassPair::make(alloc, pair).ok()?;
+    let mut file = Vec::from_slice(alloc, HEADER_OF_CLASSES.as_slice()).ok()?;
+    add_codes(&mut file, shelf.get(pair)?, &entries).ok()?;
     file.extend_from_slice(DIGEST_OF_CLASSES.as_slice()).ok()?;
     Some(file)
 }
 
 pub(crate) fn reads_a_table_by_classes(rt: &impl Print, alloc: Global) -> Option<()> {
     let file = file_by_classes(alloc)?;
-    let mut source = FromRead::new(file.as_slice());
-    mark(alloc)?;
-    let first = read_table::<Grid, _>(alloc, &mut source);
-    mark(alloc)?;
-    tell(rt, "read_classes", "first", &first.map(|raw| raw.len()))?;
-    let again = read_table::<Grid, _>(alloc, &mut FromRead::new(file.as_slice()));
-    tell(rt, "read_classes", "again", &again.map(|raw| raw.len()))
+    reads(rt, alloc, "read_classes", file.as_slice())
+}
+
+/// How many entries the next table has that is read from a file.
+fn next_length(alloc: Global, file: &[u8]) -> Result<Option<u64>, ReadFault> {
+    read_next::<Grid, _>(alloc, &mut FromRead::new(file)).map(|found| found.map(|raw| raw.len()))
 }
 
 pub(crate) fn reads_the_next_table(rt: &impl Print, alloc: Global) -> Option<()> {
     let file = file_of_three(alloc)?;
-    let mut source = FromRead::new(file.as_slice());
     mark(alloc)?;
-    let first = read_next::<Grid, _>(alloc, &mut source);
+    let first = next_length(alloc, file.as_slice());
     mark(alloc)?;
-    let first = first.map(|found| found.map(|raw| raw.len()));
     tell(rt, "read_next", "first", &first)?;
-    let again = read_next::<Grid, _>(alloc, &mut FromRead::new(file.as_slice()));
-    tell(
-        rt,
-        "read_next",
-        "again",
-        &again.map(|found| found.map(|raw| raw.len())),
-    )
+    let again = next_length(alloc, file.as_slice());
+    tell(rt, "read_next", "again", &again)
 }
 
 pub(crate) fn finds_best_moves(rt: &impl Print, alloc: Global) -> Option<()> {
@@ -261,16 +276,26 @@ pub(crate) fn reports(rt: &impl Print, alloc: Global) -> Option<()> {
     let shelf = shelf(alloc)?;
     let position = Position::<Grid>::read(b"OO.OXX.X.").ok()?;
     // Has room for the whole, so that the sink asks for no memory.
-    let mut sink = IntoWrite::new(Vec::with_capacity(alloc, 4_096).ok()?);
+    let room = Vec::with_capacity(alloc, 4_096).ok()?;
     mark(alloc)?;
-    let first = report(alloc, &mut sink, &shelf, &position);
+    let (first, written) = reported(alloc, room, &shelf, &position);
     mark(alloc)?;
-    let written = sink.into_inner().len();
-    tell(rt, "report", "first", &first.map(|_| written))?;
-    let mut sink = IntoWrite::new(Vec::new(alloc));
-    let again = report(alloc, &mut sink, &shelf, &position);
-    let text = String::from_utf8(sink.into_inner()).ok()?;
+    tell(rt, "report", "first", &first.map(|_| written.len()))?;
+    let (again, written) = reported(alloc, Vec::new(alloc), &shelf, &position);
+    let text = String::from_utf8(written).ok()?;
     tell(rt, "report", "again", &again.map(|_| text))
+}
+
+/// What the prober says of a position into this room, and what it writes.
+fn reported(
+    alloc: Global,
+    room: Vec<u8>,
+    shelf: &Shelf<Grid>,
+    position: &Position<Grid>,
+) -> (Result<(), ProbeFault<Grid>>, Vec<u8>) {
+    let mut sink = IntoWrite::new(room);
+    let answer = report(alloc, &mut sink, shelf, position);
+    (answer, sink.into_inner())
 }
 
 pub(crate) fn makes_a_graph_of_classes(rt: &impl Print, alloc: Global) -> Option<()> {

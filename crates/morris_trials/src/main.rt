@@ -1,6 +1,5 @@
 //! What the libraries do where memory is wanting, the commands too that run on the thread of the
-//! caller; and tests of what no run of the program shows: folders whose calls fail, `verify_in`,
-//! which the program doesn't call, and answers from files in memory. No part of the product.
+//! caller. No part of the product.
 //!
 //! The program makes a call by itself: it prints what the call answers, how it leaves what it works
 //! on, and what it answers when it is made again. The words of the command line are names of calls.
@@ -10,37 +9,15 @@
 //! A word that names no call has positions, which are probed over the table files on standard
 //! input: `ci/lookups` compares what `lookup` answers with that.
 //!
-//! The functions of the calls have no clauses: what they print is compared by the gate, with the
-//! stored output and after each refusal, and no contract can say what a terminal takes.
+//! Its functions have no clauses: what they print is compared by the gate, with the stored output
+//! and after each refusal, and no contract can say what a terminal takes.
 #![tactic(auto)]
 
-#[cfg(test)]
-mod asking_tests;
 mod calls;
-#[cfg(test)]
-mod damaged_tests;
 mod engine;
-#[cfg(test)]
-mod failing_tests;
-#[cfg(test)]
-mod finding_tests;
-#[cfg(test)]
-mod from_tests;
-#[cfg(test)]
-mod held;
-#[cfg(test)]
-mod into_tests;
-#[cfg(test)]
-mod line_tests;
-#[cfg(test)]
-mod making;
 mod probes;
-#[cfg(test)]
-mod streams;
 mod tables;
 mod threads;
-#[cfg(test)]
-mod verify_in_tests;
 
 use std::alloc::Global;
 use std::env;
