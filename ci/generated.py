@@ -233,7 +233,7 @@ def proof_seconds(_):
     head = [it.removeprefix("# ") for it in lines if it.startswith("#")]
     rows = [it.split() for it in lines if not it.startswith("#")]
     made = [*head, "", "| crate | processor seconds |", "|---|---|"]
-    made += [f"| `{crate}` | {seconds} |" for crate, seconds in rows]
+    made += [f"| `{crate}` | {int(seconds):,} |" for crate, seconds in rows]
     return [*made, f"| all | {sum(int(seconds) for _, seconds in rows):,} |"]
 
 
