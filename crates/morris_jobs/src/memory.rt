@@ -28,16 +28,20 @@ pub(crate) const CODE: u64 = 2;
 /// part of what is kept of a class, which are 12 for some 16 sets.
 const SET: u64 = 9;
 
-/// Bytes of an entry of the pair that is built: its code, and a counter of the results that it waits
-/// for. Both have a byte while no depth is above 254.
+/// Bytes of an entry of the pair that is built: its code, and a counter of the results that it
+/// waits for. Both have a byte while no depth is above 254.
 const OPEN: u64 = 2;
 
-/// Bytes of an entry in a list of a block, or in a batch that one block sends to another: its
-/// number, where the pair has no more than 2^32 entries.
+/// Bytes of an entry that captures decide, in the list of its wave: how far it is from the one
+/// before.
+const GAP: u64 = 2;
+
+/// Bytes of an entry that its block has just decided, or in a batch that one block sends to
+/// another: its number, where the pair has no more than 2^32 entries.
 const LISTED: u64 = 4;
 
-/// Bytes of such a number where the pair has more, in a list of a sweep, and where a worker takes it
-/// out of a block to go back from its entry.
+/// Bytes of such a number where the pair has more, in a list of a sweep, and where a worker takes
+/// it out of a block to go back from its entry.
 const WIDE: u64 = 8;
 
 /// Bytes of a set of as many points as the side with fewer stones has, while a pair is built by
@@ -82,8 +86,8 @@ pub(crate) fn bytes_of_making<B: Geometry>(
 ) -> u64 {
     let due = entries.saturating_mul(due_share(pair)) / WHOLE;
     let Some(team) = team else {
-        // A sweep keeps the numbers of all decided entries, and all that it keeps until the table is
-        // made. There are some five of them for two that come due by captures.
+        // A sweep keeps the numbers of all decided entries, and all that it keeps until the table
+        // is made. There are some five of them for two that come due by captures.
         let decided = (due.saturating_mul(5) / 2).min(entries);
         return entries
             .saturating_mul(OPEN)
@@ -94,8 +98,8 @@ pub(crate) fn bytes_of_making<B: Geometry>(
     // For four entries that come due by captures, one more is decided by quiet moves while most of
     // them are in a list.
     let listed = due
-        .saturating_add(due / 4)
-        .saturating_mul(listed_bytes(entries));
+        .saturating_mul(GAP)
+        .saturating_add((due / 4).saturating_mul(listed_bytes(entries)));
     let solving = open
         .saturating_add(listed)
         .saturating_add(bytes_of_workers(pair, entries, team));
@@ -116,8 +120,8 @@ fn bytes_of_rows<B: Geometry>(pair: Pair<B>) -> u64 {
     classes + moves
 }
 
-/// About how many bytes the workers hold: what each of them has in any case, and the fresh entries of
-/// the block at which it is. No two are at one block.
+/// About how many bytes the workers hold: what each of them has in any case, and the fresh entries
+/// of the block at which it is. No two are at one block.
 fn bytes_of_workers<B: Geometry>(pair: Pair<B>, entries: u64, team: Team) -> u64 {
     let closing = closing_share(pair.greater(), pair.lesser());
     let block = entries / team.blocks as u64;

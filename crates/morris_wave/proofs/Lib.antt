@@ -15,10 +15,12 @@ pub mod ExitsDue
 pub mod Steps
 pub mod Ranks
 pub mod DueLists
+pub mod GapLists
 pub mod Widths
 pub mod TwoBytes
 pub mod Frames
 pub mod Falling
+pub mod Joining
 pub mod Stretches
 pub mod Readings
 pub mod Wholes

@@ -1,10 +1,10 @@
 -- Tests over the elements of a list, and counts of those that pass.
-use Rattle.std.proofs.Common.{◌≡◌, ℕ, ◌+◌, ◌≤◌, Bool, true, false, not, ◌&&◌, ◌||◌, cond, eqb, ltb, List, [], ◌∷◌, length, refl, sym, ap, ap₂, ◌∙◌, ⊎_elim, arith}
+use Rattle.std.proofs.Common.{◌≡◌, ℕ, suc, ◌+◌, ◌≤◌, Bool, true, false, not, ◌&&◌, ◌||◌, cond, eqb, ltb, List, [], ◌∷◌, ◌++◌, length, refl, sym, ap, ap₂, ◌∙◌, ⊎_elim, arith}
 use Rattle.std.specs.List.{list_all, list_any, count_by, All}
 use Rattle.std.proofs.lemmas.Bool.{false≢true, and_parts, or_cases, or_left, or_right, or_parts, and_cases, both_ways, cond-true, cond-false}
 use Rattle.std.proofs.lemmas.Bool.Decides.{nat_tests}
 use Rattle.std.proofs.lemmas.List.Sums.{sum_by-cons}
-use Rattle.std.proofs.lemmas.List.Elements.{All-head, All-tail}
+use Rattle.std.proofs.lemmas.List.Elements.{All-head, All-tail, All-nil, All-cons}
 
 pub at_most_one : (t : Bool) → cond {A = ℕ} t 1 0 ≤ 1
 at_most_one t = grind arith
@@ -107,3 +107,12 @@ module _ {X : Type 0} (p q r : X → Bool) where
   pub any_or : (xs : List X) → ((x : X) → p x ≡ (q x || r x)) → list_any p xs ≡ (list_any q xs || list_any r xs)
   any_or [] h = refl
   any_or (x ∷ xs) h = grind (arith, h x, any_or xs h)
+
+-- what is so of each element of two lists end to end is so of those of either
+pub All_after : (P : ℕ → Type 0) (xs ys : List ℕ) → All P (xs ++ ys) → All P ys
+All_after P [] ys h = h
+All_after P (x ∷ xs) ys h = All_after P xs ys (λ k d l. h (suc k) d (omega (arith, l)))
+
+pub All_before : (P : ℕ → Type 0) (xs ys : List ℕ) → All P (xs ++ ys) → All P xs
+All_before P [] ys h = All-nil P
+All_before P (x ∷ xs) ys h = All-cons P x xs (h 0 x (omega arith)) (All_before P xs ys (λ k d l. h (suc k) d (omega (arith, l))))

@@ -28,8 +28,8 @@ abbrev pub code_of : ℕ → List ℕ → ℕ → ℕ
 code_of first codes i = slice_index codes (i - first)
 
 -- The decided nodes, each once, in order of their codes. Those up to `before` have codes below the
--- wave, those up to `here` the wave itself, the others one more. Unless all are kept, nodes of codes
--- below the wave may be missing.
+-- wave, those up to `here` the wave itself, the others one more. Unless all are kept, nodes of
+-- codes below the wave may be missing.
 pub record Ranked (all : Bool) (first wave : ℕ) (codes decided : List ℕ) (before here : ℕ) : Type 0 where
   pub inside : All (λ i. (first ≤ i) × (i < first + length codes)) decided
   pub once : (k : ℕ) → k < length codes → (all ≡ false → 0 < slice_index codes k → wave ≤ slice_index codes k)

@@ -1,6 +1,8 @@
 -- What the contracts of this crate speak of.
 pub mod Nets
 pub mod Lists
+pub mod Gaps
+pub mod GapLists
 pub mod Exits
 pub mod Summaries
 pub mod Values

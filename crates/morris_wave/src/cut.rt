@@ -9,7 +9,8 @@ use thiserror::Error;
 // 2^64: a reciprocal counts in such parts.
 const WHOLE: u128 = 18446744073709551616;
 
-// 2^32: the square of a size of at most this is at most 2^64, and then a reciprocal is exact enough.
+// 2^32: the square of a size of at most this is at most 2^64, and then a reciprocal is exact
+// enough.
 const SHORT: u64 = 4294967296;
 
 /// The number of blocks isn't 1 to 1,024.
@@ -127,8 +128,9 @@ impl Cut {
 #[derive(Clone, Copy)]
 pub(crate) struct Finder {
     pub(crate) cut: Cut,
-    // The blocks by the size in parts of 2^64, just below the quotient; 0 where there are more blocks
-    // than nodes, so that it doesn't fit, or more than 2^32 nodes, so that it isn't exact enough.
+    // The blocks by the size in parts of 2^64, just below the quotient; 0 where there are more
+    // blocks than nodes, so that it doesn't fit, or more than 2^32 nodes, so that it isn't exact
+    // enough.
     reciprocal: u64,
     ghost lawful: { IsCut cut },
     ghost small: { 0 < reciprocal → cut.size ≤ 2 ^ 32 },

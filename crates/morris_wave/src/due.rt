@@ -1,72 +1,63 @@
 //! The nodes that come due by their exits, in one list for each wave.
-ghost use Rattle.std.specs.Prelude.{◌≡◌, ℕ, ◌+◌, ◌<◌, ◌≤◌, ◌^◌, [], IfOk, length, slice_index, slice_set, vec_len};
+ghost use Rattle.std.specs.Prelude.{◌≡◌, ℕ, ◌+◌, ◌++◌, ◌∷◌, ◌<◌, ◌≤◌, ◌^◌, [], IfOk, OnOk, length, slice_index, slice_set, vec_len};
 ghost use Rattle.std.specs.List.{All};
+ghost use Rattle.morris_wave.specs.GapLists.{nodes_of};
 ghost use Rattle.morris_wave.specs.Lists.{contents, list_at};
 ghost use Rattle.morris_wave.specs.Keeping.{ListsDue};
 
-use crate::nodes::{NodeList, put_into};
+use crate::gaps::{FAR, Gaps};
 use std::alloc::{AllocError, Global};
 use std::marker::Model;
+use std::mem;
 
-// The nodes that come due at wave 0, 1, .. up to the last such wave, in a list for each. A list can
-// be let go once it was read.
+// The nodes that come due at wave 0, 1, .. up to the last such wave, in a list for each. A list is
+// taken out as its wave begins.
 #[derive(Drop)]
-pub(crate) struct Due<L: NodeList> {
+pub(crate) struct Due {
     alloc: Global,
-    waves: Vec<L>,
-    // What stands for the list of a later wave.
-    none: L,
+    waves: Vec<Gaps>,
 }
 
-impl<L: NodeList> Model for Due<L> {
-    ghost use Rattle.std.specs.Prelude.{◌≡◌, ℕ, List, []};
+impl Model for Due {
+    ghost use Rattle.std.specs.Prelude.{ℕ, List};
+    ghost use Rattle.morris_wave.specs.GapLists.{nodes_of};
     ghost use Rattle.morris_wave.specs.Lists.{contents};
 
     ghost Value = { List (List ℕ) };
 
-    ghost view = { λ d. contents L.items d.waves.items };
-
-    ghost invariant = { λ d. L.items d.none ≡ [] };
+    ghost view = { λ d. contents nodes_of d.waves.items };
 }
 
-impl<L: NodeList> Due<L> {
+impl Due {
     // The nodes from `first` on by their waves; a node of wave 0 never comes due.
-    pub(crate) fn of(alloc: Global, first: u64, waves: &[u16]) -> Result<Due<L>, AllocError>
-        requires small { first + length waves.now ≤ 2 ^ 40 }
-        requires short { first + length waves.now ≤ L.limit }
+    pub(crate) fn of(alloc: Global, first: u64, waves: &[u16]) -> Result<Due, AllocError>
+        requires { first + length waves.now ≤ 2 ^ 40 }
         ensures { IfOk result (λ d. ListsDue (λ k. slice_index waves.now k) 0 first (length waves.now) d) }
     {
         let counts = count_due(alloc, waves)?;
-        let mut lists = empty_lists(alloc, &counts)?;
+        let mut lists = empty_lists(alloc, first, &counts)?;
         for (place, wave) in waves.iter().enumerate() {
             if *wave > 0 {
-                put_into(&mut lists, usize::from(*wave), first + place as u64)?;
+                put_due(&mut lists, usize::from(*wave), first + place as u64)?;
             }
         }
         Ok(Due {
             alloc,
             waves: lists,
-            none: L::none(alloc),
         })
     }
 
-    // The nodes that come due at a wave.
-    pub(crate) fn at(&self, wave: u16) -> &L
-        ensures { L.items result.now ≡ list_at self.now wave }
-    {
-        match self.waves.get(usize::from(wave)) {
-            Some(nodes) => nodes,
-            None => &self.none,
-        }
-    }
-
-    // Lets go of the nodes that came due at a wave. It takes no memory.
-    pub(crate) fn let_go(&mut self, wave: u16)
-        ensures { self.new ≡ slice_set self.old wave [] }
+    // Takes out the nodes that come due at a wave. It takes no memory.
+    pub(crate) fn take(&mut self, wave: u16) -> Gaps
+        ensures nodes { nodes_of result ≡ list_at self.old wave }
+        ensures gone { self.new ≡ slice_set self.old wave [] }
     {
         let place = usize::from(wave);
+        let none = Gaps::none(self.alloc);
         if place < self.waves.len() {
-            self.waves[place] = L::none(self.alloc);
+            mem::replace(&mut self.waves[place], none)
+        } else {
+            none
         }
     }
 }
@@ -82,11 +73,13 @@ fn last(waves: &[u16]) -> u16
     last
 }
 
-// How many nodes come due at each wave, so that no list grows.
+// How many gaps there are at most for the nodes of each wave, so that no list grows: one for each
+// node, and one for as many nodes as a gap leaves out.
 fn count_due(alloc: Global, waves: &[u16]) -> Result<Vec<usize>, AllocError>
     ensures { IfOk result (λ v. All (λ wave. wave < vec_len v) waves.now) }
 {
-    let mut counts = vec![in alloc; 0usize; usize::from(last(waves)) + 1]?;
+    let far = waves.len() / FAR as usize;
+    let mut counts = vec![in alloc; far; usize::from(last(waves)) + 1]?;
     for wave in waves {
         if *wave > 0 {
             let count = &mut counts[usize::from(*wave)];
@@ -96,14 +89,31 @@ fn count_due(alloc: Global, waves: &[u16]) -> Result<Vec<usize>, AllocError>
     Ok(counts)
 }
 
-// Lists of no nodes, with room for so many each.
-fn empty_lists<L: NodeList>(alloc: Global, counts: &[usize]) -> Result<Vec<L>, AllocError>
+// Lists of no nodes, with room for so many gaps each.
+fn empty_lists(alloc: Global, first: u64, counts: &[usize]) -> Result<Vec<Gaps>, AllocError>
+    requires { first ≤ 2 ^ 40 }
     ensures len { IfOk result (λ v. vec_len v ≡ length counts.now) }
-    ensures empty { IfOk result (λ v. (n : ℕ) → list_at (contents L.items v.items) n ≡ []) }
+    ensures empty { IfOk result (λ v. (n : ℕ) → list_at (contents nodes_of v.items) n ≡ []) }
+    ensures next { IfOk result (λ v. All (λ list. list.next ≤ first) v.items) }
 {
     let mut lists = Vec::with_capacity(alloc, counts.len())?;
     for count in counts {
-        lists.push(L::with_room(alloc, *count)?)?;
+        lists.push(Gaps::with_room(alloc, first, *count)?)?;
     }
     Ok(lists)
+}
+
+// Puts a node, which comes after all that are there, into the list of its wave.
+fn put_due(lists: &mut Vec<Gaps>, wave: usize, node: u64) -> Result<(), AllocError>
+    requires wave { wave < vec_len lists.old }
+    requires next { All (λ list. list.next ≤ node) lists.old.items }
+    requires small { node < 2 ^ 40 }
+    ensures len { vec_len lists.new ≡ vec_len lists.old }
+    ensures next { OnOk result (All (λ list. list.next ≤ node + 1) lists.new.items) }
+    ensures put { OnOk result (contents nodes_of lists.new.items
+        ≡ slice_set (contents nodes_of lists.old.items) wave (list_at (contents nodes_of lists.old.items) wave ++ node ∷ [])) }
+{
+    let list = &mut lists[wave];
+    list.put(node)?;
+    Ok(())
 }

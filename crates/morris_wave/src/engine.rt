@@ -19,8 +19,8 @@ use thiserror::Error;
 pub enum Applied {
     /// The batch was taken in. Its source counts as applied once all pieces of it are.
     Done,
-    /// The source was already applied in this wave, or the batch is of a piece of it that comes twice
-    /// or out of turn. Nothing changed.
+    /// The source was already applied in this wave, or the batch is of a piece of it that comes
+    /// twice or out of turn. Nothing changed.
     Again,
     /// The batch is of another level, cut or wave, or for another block. Nothing changed.
     Stranger,
@@ -105,15 +105,15 @@ impl<N: Levels, L: NodeList> Model for Batch<N, L> {
 /// At wave `n` with some sources applied, a node is decided exactly where some exit is lost within
 /// `n - 1` plies or some quiet result is known and lost, or every exit is won within `n - 1` and
 /// every quiet result is known and won. A result is known where its depth is at most `n - 2`, or is
-/// `n - 1` and its block is applied, or the piece of its block's fresh nodes that it is in. A decided
-/// node's entry is its code, an open node's is 0.
+/// `n - 1` and its block is applied, or the piece of its block's fresh nodes that it is in. A
+/// decided node's entry is its code, an open node's is 0.
 ///
-/// A block keeps 2 bytes a node, one more where some node of it has more than 254 quiet results, and
-/// one more once a depth is above 254. It keeps lists of the kind `L` of the nodes that are decided
-/// and of those that come due by their exits: of 8 bytes for each, or of 4 where all nodes of the
-/// graph are below 2^32. Where `L` is [`Recent`](crate::Recent), the nodes that were decided before
-/// the wave are let go. Room for all nodes and codes is taken in `make`; what isn't filled of it is
-/// never used. The nodes that come due at a wave are let go, with their room, as it begins.
+/// A block keeps 2 bytes a node, one more where some node of it has more than 254 quiet results,
+/// and one more once a depth is above 254. It keeps a list of the kind `L` of the nodes that are
+/// decided: of 8 bytes for each, or of 4 where all nodes of the graph are below 2^32. Where `L` is
+/// [`Recent`](crate::Recent), the nodes that were decided before the wave are let go. Room for all
+/// nodes and codes is taken in `make`; what isn't filled of it is never used. Of the nodes that
+/// come due by their exits it keeps 2 bytes each until the wave at which they do.
 #[derive(Drop)]
 pub struct Block<N: Levels, L: NodeList = Vec<u64>> {
     level: u64,

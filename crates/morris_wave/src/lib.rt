@@ -9,6 +9,7 @@ mod counters;
 mod cut;
 mod due;
 mod engine;
+mod gaps;
 mod gathering;
 mod listed;
 mod network;

@@ -34,7 +34,8 @@ pub trait NodeList: Drop {
 
     /// Takes all nodes out. Their room is kept.
     fn empty(&mut self)
-        ensures { items self.new ≡ [] };
+        ensures items { items self.new ≡ [] }
+        ensures room { capacity self.old ≤ capacity self.new };
 
     /// Puts a node at the end.
     ///
@@ -52,8 +53,8 @@ pub trait NodeList: Drop {
         ensures items { items self.new ≡ items self.old ++ node ∷ [] }
         ensures room { capacity self.old ≤ capacity self.new };
 
-    /// Lets go of the first so many nodes, or of fewer, and says of how many. Their room is kept, and
-    /// no memory is taken.
+    /// Lets go of the first so many nodes, or of fewer, and says of how many. Their room is kept,
+    /// and no memory is taken.
     fn forget(&mut self, count: usize) -> usize
         requires { count ≤ length (items self.old) }
         ensures few { result ≤ count }

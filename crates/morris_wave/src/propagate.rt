@@ -7,8 +7,10 @@ ghost use Rattle.morris_wave.specs.Solving.{Marks, among};
 ghost use Rattle.morris_wave.specs.Keeping.{LowersBy, Takes};
 ghost use Rattle.morris_wave.specs.Counts.{counts_of, most_of, left_at, FallsLike};
 ghost use Rattle.morris_wave.specs.Frames.{SameFrame};
+ghost use Rattle.morris_wave.specs.GapLists.{nodes_of};
 
 use crate::counters::{CounterList, Counters};
+use crate::gaps::{AT_ONCE, Gaps, read_gaps};
 use crate::listed::Listed;
 use crate::nodes::NodeList;
 
@@ -78,5 +80,35 @@ pub(crate) fn take_in<L: NodeList, B: NodeList>(
             Counters::Bytes(list) => lower_all(entries, list, nodes),
             Counters::Words(list) => lower_all(entries, list, nodes),
         }
+    }
+}
+
+// Takes in nodes whose exits come due at the wave, a piece at a time. In `piece` there is room for
+// so many.
+pub(crate) fn take_in_due<L: NodeList>(
+    entries: &mut Listed<L>,
+    counters: &mut Counters,
+    due: &Gaps,
+    piece: &mut L,
+)
+    requires inside { All (λ i. (entries.old.first ≤ i) × (i < entries.old.first + length entries.old.codes)) (nodes_of due.now) }
+    requires once { (k : ℕ) → k < length entries.old.codes → times (entries.old.first + k) (nodes_of due.now) ≤ 1 }
+    requires counters { length (counts_of counters.old) ≡ length entries.old.codes }
+    requires small { (k : ℕ) → k < length (counts_of counters.old) → slice_index (counts_of counters.old) k < 65536 }
+    requires enough { is_odd entries.old.wave ≡ false
+        → (k : ℕ) → k < length (counts_of counters.old) → times (entries.old.first + k) (nodes_of due.now) ≤ left_at counters.old k }
+    requires room { 256 ≤ L.capacity piece.old }
+    ensures frame { SameFrame entries.old entries.new }
+    ensures counters_len { length (counts_of counters.new) ≡ length (counts_of counters.old) }
+    ensures most { most_of counters.new ≡ most_of counters.old }
+    ensures small { (k : ℕ) → k < length (counts_of counters.new) → slice_index (counts_of counters.new) k < 65536 }
+    ensures room { 256 ≤ L.capacity piece.new }
+    ensures taken { Takes entries.old.wave entries.old.first (nodes_of due.now) entries.old.codes entries.new.codes
+        (counts_of counters.old) (counts_of counters.new) }
+{
+    let mut next = due.first;
+    for gaps in due.gaps.chunks(AT_ONCE) {
+        next = read_gaps(next, gaps, piece);
+        take_in(entries, counters, piece);
     }
 }

@@ -10,6 +10,7 @@ ghost use Rattle.morris_wave.specs.Frames.{SameFrame};
 
 use crate::counters::CounterList;
 use crate::due::Due;
+use crate::gaps::AT_ONCE;
 use crate::listed::Listed;
 use crate::network::{Exits, Graph};
 use crate::nodes::NodeList;
@@ -174,6 +175,7 @@ fn read_with<G: Graph, L: NodeList, C: CounterList>(
         return Ok(None);
     }
     let due = Due::of(alloc, first, &reading.waves)?;
+    let piece = L::with_room(alloc, AT_ONCE)?;
     let Reading {
         entries,
         counters,
@@ -185,12 +187,13 @@ fn read_with<G: Graph, L: NodeList, C: CounterList>(
         counters: counters.keep(),
         due,
         last_due,
+        piece,
     }))
 }
 
 impl<L: NodeList> Stretch<L> {
-    // The nodes from `first` up to, not including, `end`, before the first wave. They are read once;
-    // where a counter of 8 bits has no room for some node, all of them once more.
+    // The nodes from `first` up to, not including, `end`, before the first wave. They are read
+    // once; where a counter of 8 bits has no room for some node, all of them once more.
     pub(crate) fn read<G: Graph>(
         alloc: Global,
         graph: &G,

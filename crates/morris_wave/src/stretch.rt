@@ -16,17 +16,19 @@ use crate::propagate;
 // Nodes in their order, from the first one of the entries on. For each there is its entry and a
 // counter of the results that it waits for; its exits count as one of these until all of them are
 // won. A node whose exits decide stands once in `due`, in the list of the wave at which they do,
-// until that wave has begun.
+// until that wave has begun; `piece` has room for some nodes of that list.
 #[derive(Drop)]
 pub(crate) struct Stretch<L: NodeList> {
     pub(crate) entries: Listed<L>,
     pub(crate) counters: Counters,
-    pub(crate) due: Due<L>,
+    pub(crate) due: Due,
     pub(crate) last_due: u32,
+    pub(crate) piece: L,
     ghost counted: { length (counts_of counters) ≡ length entries.codes },
     ghost small: { (k : ℕ) → k < length (counts_of counters) → slice_index (counts_of counters) k < 65536 },
     ghost inside: { (n : ℕ) → All (λ i. (entries.first ≤ i) × (i < entries.first + length entries.codes)) (list_at due n) },
     ghost once: { (n k : ℕ) → k < length entries.codes → times (entries.first + k) (list_at due n) ≤ 1 },
+    ghost room: { 256 ≤ L.capacity piece },
 }
 
 impl<L: NodeList> Stretch<L> {
@@ -47,7 +49,7 @@ impl<L: NodeList> Stretch<L> {
         propagate::take_in(&mut self.entries, &mut self.counters, nodes);
     }
 
-    // Goes on to the next wave, takes in what comes due at it, and lets go of that list.
+    // Goes on to the next wave, and takes in what comes due at it.
     pub(crate) fn next_wave(&mut self)
         requires last { self.old.entries.wave < 65534 }
         requires enough { is_odd (self.old.entries.wave + 1) ≡ false → (k : ℕ) → k < length self.old.entries.codes
@@ -62,9 +64,8 @@ impl<L: NodeList> Stretch<L> {
             self.old.entries.codes self.new.entries.codes (counts_of self.old.counters) (counts_of self.new.counters) }
     {
         self.entries.next_wave();
-        let nodes = self.due.at(self.entries.wave);
-        propagate::take_in(&mut self.entries, &mut self.counters, nodes);
-        self.due.let_go(self.entries.wave);
+        let due = self.due.take(self.entries.wave);
+        propagate::take_in_due(&mut self.entries, &mut self.counters, &due, &mut self.piece);
     }
 
     // Whether all exits are due, and no node got its code at this wave.

@@ -114,7 +114,7 @@ fn codes_of<G: Graph, W: Watch>(
 ///
 /// The work is in proportion to nodes, quiet results and depths. It takes 2 bytes a node (one more
 /// where some node has more than 254 quiet results, and one more once a depth is above 254), 8 for
-/// each node that is decided and 8 for each that comes due by its exits, and one list of
+/// each node that is decided and 2 for each that comes due by its exits, and one list of
 /// predecessors. While it reads the graph, and for its answer, it takes 2 bytes a node more.
 ///
 /// # Errors

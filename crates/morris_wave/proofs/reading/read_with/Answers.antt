@@ -44,6 +44,7 @@ invariant_of-result g c =
       once = λ n k l.
           subst (λ (f : ℕ). times (f + k) (list_at c.in_ok-due.due n) ≤ 1) (sym first)
           (due_once (λ j. slice_index r.waves.items j) c.args.first (length r.waves.items) c.in_ok-due.due due n k (omega (arith, l, many)));
+      room = c.in_ok-piece.ensures.room;
     }
 
 pub returns-clause-holds : goal.returns-clause-holds

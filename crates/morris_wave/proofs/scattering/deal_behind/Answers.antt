@@ -1,22 +1,14 @@
-use Rattle.std.proofs.Common.{◌≡◌, ◌<◌, ℕ, suc, [], ◌∷◌, ◌++◌, List, ap, sym, subst, ◌∙◌, append_assoc, arith}
+use Rattle.std.proofs.Common.{◌≡◌, ◌<◌, ℕ, [], ◌++◌, List, ap, sym, subst, ◌∙◌, append_assoc, arith}
 use Rattle.std.specs.List.{All}
 use Rattle.std.specs.Slice.Iter.{chunks_rest, chunks_size}
-use Rattle.std.proofs.lemmas.List.Elements.{All-nil, All-cons}
 use Rattle.morris_wave.specs.Nets.{times}
 use Rattle.morris_wave.specs.Blocks.{Parts, block_of}
 use Rattle.morris_wave.specs.Lists.{contents}
 use Rattle.morris_wave.specs.Scattering.{AreSorted, Deals}
 use Rattle.morris_wave.proofs.Dealing.{none_sorted}
 use Rattle.morris_wave.proofs.Batching.{lead_append}
+use Rattle.morris_wave.proofs.Tests.{All_before, All_after}
 use Rattle.morris_wave.proofs.scattering.deal_behind.Goals as goal
-
-after : (P : ℕ → Type 0) (xs ys : List ℕ) → All P (xs ++ ys) → All P ys
-after P [] ys h = h
-after P (x ∷ xs) ys h = after P xs ys (λ k d l. h (suc k) d (omega (arith, l)))
-
-before : (P : ℕ → Type 0) (xs ys : List ℕ) → All P (xs ++ ys) → All P xs
-before P [] ys h = All-nil P
-before P (x ∷ xs) ys h = All-cons P x xs (h 0 x (omega arith)) (before P xs ys (λ k d l. h (suc k) d (omega (arith, l))))
 
 pub loop-piece-init : goal.loop-piece-init
 loop-piece-init g c =
@@ -40,7 +32,7 @@ back_from-requires g c =
     let rest = chunks_rest c.next.new.self in
     let all : All within (inv.4 ++ (c.in-Some.piece.now ++ rest)) =
     subst (λ (xs : List ℕ). All within xs) (inv.5 ∙ ap (λ (xs : List ℕ). inv.4 ++ xs) c.in-Some.ensures.steps.1.0) (λ k d l. omega (arith, c.requires.inside k d l, c.requires.size)) in
-    before within c.in-Some.piece.now rest (after within inv.4 (c.in-Some.piece.now ++ rest) all)
+    All_before within c.in-Some.piece.now rest (All_after within inv.4 (c.in-Some.piece.now ++ rest) all)
 
 pub deal-requires-clause-small : goal.deal-requires-clause-small
 deal-requires-clause-small g c = omega (arith, ap (λ (p : Parts). p.size) c.new-finder.ensures, c.requires.small)

@@ -12,6 +12,7 @@ invariant_of-self g c =
       small = made.small;
       inside = λ n p d l. let w = s.inside n p d l in (omega (arith, w.0, made.frame.first), omega (arith, w.1, made.frame.first, made.frame.len));
       once = λ n k l. subst (λ (f : ℕ). times (f + k) (list_at s.due n) ≤ 1) (sym made.frame.first) (s.once n k (omega (arith, l, made.frame.len)));
+      room = s.room;
     }
 
 pub take_in-requires-clause-inside : goal.take_in-requires-clause-inside

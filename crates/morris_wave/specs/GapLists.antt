@@ -1,0 +1,8 @@
+-- Lists of nodes told by gaps.
+use Rattle.std.specs.Prelude.{ℕ, List}
+use Rattle.morris_wave.specs.declared.gaps.Gaps.{Gaps}
+use Rattle.morris_wave.specs.Gaps.{numbers_told}
+
+-- the nodes of a list
+abbrev pub nodes_of : Gaps → List ℕ
+nodes_of list = numbers_told list.first list.gaps.items
