@@ -31,3 +31,4 @@ pub mod FacingLaws
 pub mod NumberLaws
 pub mod RingLaws
 pub mod EntryRowLaws
+pub mod ElsewhereLaws

@@ -39,15 +39,15 @@ pub record StandsIn (board : Shape) (n : ℕ) (row : InRow) (place : ℕ) (s : S
 abbrev pub opposed : Counts → ℕ → ℕ
 opposed c own = if nat_eq (count_of own) c.greater then c.lesser else c.greater
 
--- The entry past the last one in which the player to move has the stones of the row, where these are
--- a representative: there are as many as sets of the opponent's stones on the points left free.
+-- The entry past the last one in which the player to move has the stones of the row, where these
+-- are a representative: there are as many as sets of the opponent's stones on the points left free.
 abbrev pub row_end : Shape → ℕ → InRow → ℕ
 row_end board n row =
     class_start_of board n row.pair row.own (opposed row.pair row.own) + choose (n - count_of row.own) (opposed row.pair row.own)
 
--- What is kept of the entries from `index` on in which the player to move has the stones `own`, among
--- those with as many stones and `other` of the opponent: the sets of the opponent's stones, as the
--- numbers of their points among those that are left free.
+-- What is kept of the entries from `index` on in which the player to move has the stones `own`,
+-- among those with as many stones and `other` of the opponent: the sets of the opponent's stones,
+-- as the numbers of their points among those that are left free.
 pub record IsHalfRow (board : Shape) (n own other index : ℕ) (numbers : List ℕ) : Type 0 where
   pub least : representative_of board own ≡ own
   pub within : own < 2 ^ n

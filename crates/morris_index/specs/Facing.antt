@@ -32,15 +32,16 @@ pub record IsFaced (board : Shape) (n : ℕ) (q : InPair) (entry : ℕ) : Type 0
   pub at : class_index_of board n q.pair q.position ≡ entry
   pub inside : entry < class_size_of board n q.pair
 
--- In a position the opponent stands on a representative, to which the way back from the image of the
--- position under a symmetry leads the opponent's stones.
+-- In a position the opponent stands on a representative, to which the way back from the image of
+-- the position under a symmetry leads the opponent's stones.
 pub record IsLedBack (board : Shape) (p : Sides) (symmetry : ℕ) : Type 0 where
   pub within : symmetry < board.symmetries
   pub least : representative_of board p.other ≡ p.other
   pub back : symmetry_of board (image_of (board.image symmetry) p.other) ≡ inverse_of symmetry
 
--- What is kept of a position of the pair, on n points, whose image under a symmetry has an entry for
--- its own: where the results of its quiet moves stand, in which the player to move has these stones.
+-- What is kept of a position of the pair, on n points, whose image under a symmetry has an entry
+-- for its own: where the results of its quiet moves stand, in which the player to move has these
+-- stones.
 pub record IsFacedFrom (board : Shape) (n : ℕ) (c : Counts) (p : Sides) (symmetry place first : ℕ) : Type 0 where
   pub counts : is_of c p ≡ true
   pub lawful : IsPosition board p

@@ -27,8 +27,8 @@ pub record IsRankTable (sums : List ℕ) : Type 0 where
   pub upper : (count points : ℕ) → count ≤ 9 → points < 4096 → count_below (has points) 12 ≤ count
       → slice_index sums ((1 + count) * 4096 + points) ≡ part_rank 12 12 (count - count_below (has points) 12) points
 
--- The two rows of that table by which sets of `count` points are ranked: what the points 0 to 11 add,
--- and what the points 12 to 23 do.
+-- The two rows of that table by which sets of `count` points are ranked: what the points 0 to 11
+-- add, and what the points 12 to 23 do.
 pub record AreRankRows (count : ℕ) (first second : List ℕ) : Type 0 where
   pub few : count ≤ 9
   pub lower_len : length first ≡ 4096

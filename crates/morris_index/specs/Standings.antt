@@ -1,14 +1,15 @@
--- What is kept of the stones of the player to move in positions of a pair, so that their entries are
--- found from the opponent's stones alone.
-use Rattle.std.specs.Prelude.{◌≡◌, ℕ, ◌+◌, ◌-◌, ◌*◌, ◌^◌, ◌≤◌, Bool, true, ◌&&◌, ◌||◌, nat_eq}
+-- What is kept of the stones of the player to move in positions of a pair, so that their entries
+-- are found from the opponent's stones alone.
+use Rattle.std.specs.Prelude.{◌≡◌, ℕ, suc, ◌+◌, ◌-◌, ◌*◌, ◌^◌, ◌≤◌, Bool, true, ◌&&◌, ◌||◌, nat_eq}
 use Rattle.morris_board.specs.Boards.{Shape}
 use Rattle.morris_board.specs.Sets.{members, count_of}
 use Rattle.morris_index.specs.Binomials.{choose}
 use Rattle.morris_index.specs.Numbering.{rank_of, number_outside}
 use Rattle.morris_index.specs.Pairs.{Counts, IsPair}
-use Rattle.morris_index.specs.Moves.{start_of}
+use Rattle.morris_index.specs.Moves.{InPair, start_of}
 use Rattle.morris_index.specs.Classes.{symmetry_of, representative_of}
 use Rattle.morris_index.specs.ClassMoves.{class_start_of}
+use Rattle.morris_index.specs.Parts.{squeezed_below}
 use Rattle.morris_index.specs.declared.standing.Standing.{Standing}
 
 -- whether the pair has positions with so many stones of the player to move and of the opponent
@@ -35,3 +36,14 @@ pub record IsLedStanding (board : Shape) (n : ℕ) (c : Counts) (other : ℕ) (s
   pub third : standing.third ≡ number_outside standing.place 16
   pub start : standing.start ≡ class_start_of board n c standing.own other
   pub few : standing.start ≤ 2 ^ 54
+
+-- What is kept of a position without one of the opponent's stones, in which the player to move
+-- stands on a representative: where the entries stand of positions with one stone more, the numbers
+-- of the opponent's stones among the points that the player to move leaves free, and how many
+-- stones there are with that one.
+pub record IsElsewhere (board : Shape) (n : ℕ) (at : InPair) (standing : Standing) (squeezed count : ℕ) : Type 0 where
+  pub counted : count ≡ suc (count_of at.position.other)
+  pub stands : IsLedStanding board n at.pair count standing
+  pub own : standing.own ≡ at.position.own
+  pub least : representative_of board at.position.own ≡ at.position.own
+  pub numbers : squeezed ≡ squeezed_below at.position.own at.position.other 24

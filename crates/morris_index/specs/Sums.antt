@@ -26,10 +26,10 @@ abbrev pub bias : ℕ
 bias = 33554432
 
 -- The kept sums of a set whose points are numbered outside another, for a point that moves: one of
--- the set's own where `moved` is 1, one of the others where it is 0. The points between its ends stand
--- a place later, or get the number before theirs, where it goes to a lesser point; and a place earlier,
--- or the number after, where it goes to a greater one. What is kept for k points is that of all n that
--- have k points of the set below them.
+-- the set's own where `moved` is 1, one of the others where it is 0. The points between its ends
+-- stand a place later, or get the number before theirs, where it goes to a lesser point; and a
+-- place earlier, or the number after, where it goes to a greater one. What is kept for k points is
+-- that of all n that have k points of the set below them.
 pub record AreKept (moved outside set : ℕ) (sums : KeptSums) : Type 0 where
   pub lower_len : length sums.lower ≡ 10
   pub higher_len : length sums.higher ≡ 10
@@ -43,8 +43,8 @@ pub record AreKept (moved outside set : ℕ) (sums : KeptSums) : Type 0 where
 
 -- What a point p and the points of a set below it come to, where p is an end of the way of a point
 -- of the set that goes to a lesser point, or to a greater one: those between the ends stand a place
--- later then, or a place earlier. The rank grows by what the end comes to that it goes to, less what
--- the one does that it leaves.
+-- later then, or a place earlier. The rank grows by what the end comes to that it goes to, less
+-- what the one does that it leaves.
 abbrev pub moved_end : Bool → ℕ → ℕ → ℕ → ℕ
 moved_end lower outside set p =
     if lower then (bias + sum_below set (number_outside outside) 1 p) - sum_below set (number_outside outside) 2 p

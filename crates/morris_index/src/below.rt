@@ -88,8 +88,9 @@ impl<B: Geometry> Iterator for Below<B> {
     }
 }
 
-/// The numbers of the pair at a place, below [`PAIR_COUNT`], of all pairs: the greater number first,
-/// in order of their sum and then of the greater one. A board may have too few points for them.
+/// The numbers of the pair at a place, below [`PAIR_COUNT`], of all pairs: the greater number
+/// first, in order of their sum and then of the greater one. A board may have too few points for
+/// them.
 pub fn pair_at(place: usize) -> (u8, u8)
     requires { place < 28 }
     ensures { slice_get all_pairs place ≡ Some (counts result.0 result.1) }

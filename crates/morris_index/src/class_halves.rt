@@ -56,8 +56,8 @@ impl<B: Geometry> KeptSets<B> {
     }
 
     /// The stones of the player to move in the entry with this number among those with `own` stones
-    /// of the player to move and `other` of the opponent; and the masks of the opponent's sets in it
-    /// and in the further entries with these stones, as numbers of the points that are free.
+    /// of the player to move and `other` of the opponent; and the masks of the opponent's sets in
+    /// it and in the further entries with these stones, as numbers of the points that are free.
     pub(crate) fn row(&self, own: u8, other: u8, index: u64) -> (Points, &[u32])
         requires half { IsHalf B.POINTS own other }
         requires kept { AreSetsKept B.shape B.POINTS own other self.now.classes self.now.returning.items self.now.others.points self.now.others.count self.now.choices }

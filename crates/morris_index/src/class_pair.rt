@@ -4,6 +4,7 @@ ghost use Rattle.std.specs.List.{AllPairs, Contains};
 ghost use Rattle.morris_board.specs.Sets.{has, members, count_of};
 ghost use Rattle.morris_board.specs.Positions.{Sides, sides, IsPosition};
 ghost use Rattle.morris_index.specs.Numbering.{rank_of, number_outside};
+ghost use Rattle.morris_index.specs.Parts.{squeezed_below};
 ghost use Rattle.morris_index.specs.Pairs.{IsPair, is_of};
 ghost use Rattle.morris_index.specs.Classes.{symmetry_of, representative_of};
 ghost use Rattle.morris_index.specs.ClassPairs.{led, class_half_size, class_size_of, class_index_of};
@@ -21,7 +22,7 @@ use crate::entry_rows::EntryRow;
 use crate::falls::FallsOn;
 use crate::halves::next_of_own;
 use crate::pair::Pair;
-use crate::rank_tables::RankTable;
+use crate::rank_tables::{RankRows, RankTable};
 use crate::returning::returning_of;
 use crate::rings::Outside;
 use morris_board::board::Geometry;
@@ -128,8 +129,8 @@ impl<B: Geometry> ClassPair<B> {
     }
 
     /// The first entry in which the player to move stands on the representative of the class of
-    /// `own`, where the opponent has `other` stones; this representative, and the symmetry that leads
-    /// `own` there.
+    /// `own`, where the opponent has `other` stones; this representative, and the symmetry that
+    /// leads `own` there.
     pub(crate) fn start_of(&self, own: Points, other: u8) -> (u64, Outside, u8)
         requires within { own < 2 ^ B.POINTS }
         requires counts { are_of self.now (count_of own) other ≡ true }
@@ -178,6 +179,18 @@ impl<B: Geometry> ClassPair<B> {
         ensures { result ≡ start + rank_of (map (number_outside outside) (members set)) }
     {
         start + self.ranks.rank_outside(set, count, outside)
+    }
+
+    /// The numbers of the points of `set` outside `outside`, and the rows by which sets of one more
+    /// number are ranked.
+    pub(crate) fn numbers_outside(&self, set: Points, outside: Points) -> (Points, RankRows<'_>)
+        requires board { set < 2 ^ 24 }
+        requires few { count_of set < 9 }
+        ensures numbers { result.0 ≡ squeezed_below outside set 24 }
+        ensures rows { result.1 ≡ count_of set + 1 }
+    {
+        let rows = self.ranks.rows(set.count() + 1);
+        (self.ranks.numbers(set, Outside::of(outside)), rows)
     }
 
     /// The symmetries whose inverse is the one that leads the image of `own` under them.

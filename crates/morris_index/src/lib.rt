@@ -7,6 +7,7 @@ mod class_halves;
 pub mod class_pair;
 pub mod class_sizes;
 pub mod classes;
+pub mod elsewhere;
 pub mod entry_rows;
 pub mod facing;
 pub mod falls;

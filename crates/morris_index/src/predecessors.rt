@@ -65,8 +65,8 @@ impl<B: Geometry> PredecessorIndices<B> {
         }
     }
 
-    /// What `point` comes to where a stone of the opponent goes back to a lesser point, or else to a
-    /// greater one: added to the index for the point that it goes back to, and taken away for the
+    /// What `point` comes to where a stone of the opponent goes back to a lesser point, or else to
+    /// a greater one: added to the index for the point that it goes back to, and taken away for the
     /// one that it leaves.
     #[inline(always)]
     fn end(&self, point: u8, lower: bool) -> u64

@@ -2,7 +2,7 @@
 ghost use Rattle.std.specs.Prelude.{◌≡◌, ℕ, ◌+◌, ◌-◌, ◌*◌, ◌<◌, ◌≤◌, ◌^◌, true, false, map, IfOk};
 ghost use Rattle.morris_board.specs.Sets.{has, members, count_of};
 ghost use Rattle.morris_index.specs.Numbering.{count_below, rank_of, number_outside};
-ghost use Rattle.morris_index.specs.Parts.{part_rank, IsRankTable};
+ghost use Rattle.morris_index.specs.Parts.{part_rank, squeezed_below, IsRankTable};
 
 use crate::binomials::binomial;
 use crate::rings::{Outside, RingTable};
@@ -13,9 +13,10 @@ use std::marker::Model;
 /// How many sums the table has: eleven rows of 4,096, one sum for each half of a set.
 const SUMS: u32 = 45056;
 
-/// What each half of a set adds to its rank: in the first row that of the points 0 to 11, and in the
-/// further ones that of the points 12 to 23 of sets of 0, 1, .. 9 points. It is made once, so that
-/// the rank of a set takes two look-ups, and for sets of as many points always in the same two rows.
+/// What each half of a set adds to its rank: in the first row that of the points 0 to 11, and in
+/// the further ones that of the points 12 to 23 of sets of 0, 1, .. 9 points. It is made once, so
+/// that the rank of a set takes two look-ups, and for sets of as many points always in the same two
+/// rows.
 #[derive(Drop)]
 pub(crate) struct RankTable {
     sums: Vec<u32>,
@@ -90,6 +91,14 @@ impl RankTable {
             lower: &self.sums[..4096],
             upper: &self.sums[upper..upper + 4096],
         }
+    }
+
+    /// The numbers of the points of `set` outside another set.
+    pub(crate) fn numbers(&self, set: Points, outside: Outside) -> Points
+        requires { set < 2 ^ 24 }
+        ensures { result ≡ squeezed_below outside set 24 }
+    {
+        self.rings.squeezed(set, outside)
     }
 
     /// The rank of `set` among the sets of as many points, which are `count`, that have none in

@@ -2,6 +2,7 @@
 ghost use Rattle.std.specs.Prelude.{◌≡◌, ◌<◌, ◌^◌, true};
 ghost use Rattle.morris_board.specs.Sets.{count_of};
 ghost use Rattle.morris_board.specs.Positions.{sides, IsPosition};
+ghost use Rattle.morris_board.specs.Symmetries.{image_of};
 ghost use Rattle.morris_index.specs.Pairs.{size_of, index_of};
 ghost use Rattle.morris_index.specs.ClassPairs.{class_size_of, class_index_of};
 ghost use Rattle.morris_index.specs.Standings.{are_of, IsStanding, IsLedStanding};
@@ -19,9 +20,9 @@ use morris_board::points::Points;
 #[derive(Clone, Copy)]
 pub struct Standing {
     /// The stones of the player to move.
-    own: Points,
+    pub(crate) own: Points,
     /// The first entry of these positions.
-    start: u64,
+    pub(crate) start: u64,
     /// The symmetry that leads the positions to those with entries of their own.
     symmetry: u8,
     /// The images of the stones of the player to move under it.
@@ -30,6 +31,19 @@ pub struct Standing {
     second: u8,
     /// How many of the points 0 to 15.
     third: u8,
+}
+
+/// The image of a set under the symmetry that leads a position. Mostly the player to move stands on
+/// a representative, and this is the identity.
+fn image_led<B: Geometry>(symmetry: u8, set: Points) -> Points
+    requires symmetry { symmetry < B.SYMMETRIES }
+    requires within { set < 2 ^ B.POINTS }
+    ensures { result ≡ image_of (B.shape.image symmetry) set }
+{
+    if symmetry == 0 {
+        return set;
+    }
+    B::image_of(symmetry, set)
 }
 
 impl<B: Geometry> Pair<B> {
@@ -94,7 +108,7 @@ impl<B: Geometry> ClassPair<B> {
         ensures value { result ≡ class_index_of B.shape B.POINTS self.now (sides standing.now.own other) }
         ensures below { result < class_size_of B.shape B.POINTS self.now }
     {
-        let image = B::image_of(standing.symmetry, other);
+        let image = image_led::<B>(standing.symmetry, other);
         let place = Outside {
             points: standing.place,
             second: standing.second,

@@ -11,17 +11,17 @@ use morris_board::points::Points;
 /// What is added to each difference that is kept, so that none is below 0.
 const BIAS: u64 = 33_554_432;
 
-/// Sums over the stones of a set, from which its rank is found once one of them has moved, or one of
-/// the stones outside which it is numbered. Those between the two points stand a place later in it,
-/// or get the number before their own, where that stone goes to a lesser point; and a place earlier,
-/// or the number after, where it goes to a greater one.
+/// Sums over the stones of a set, from which its rank is found once one of them has moved, or one
+/// of the stones outside which it is numbered. Those between the two points stand a place later in
+/// it, or get the number before their own, where that stone goes to a lesser point; and a place
+/// earlier, or the number after, where it goes to a greater one.
 #[derive(Clone, Copy)]
 pub(crate) struct KeptSums {
     /// For each number of stones, what the first so many of them add to the rank less what they add
     /// where a stone goes to a lesser point past them, and [`BIAS`].
     lower: [u32; 10],
-    /// For each number of stones, what the first so many of them add where a stone goes to a greater
-    /// point past them less what they add to the rank, and [`BIAS`].
+    /// For each number of stones, what the first so many of them add where a stone goes to a
+    /// greater point past them less what they add to the rank, and [`BIAS`].
     higher: [u32; 10],
     /// The rank of the set.
     pub(crate) rank: u64,
@@ -102,8 +102,8 @@ impl KeptSums {
     }
 
     /// What the stones of `set`, the set of these sums, below `point` come to where a stone outside
-    /// which they are numbered goes to a lesser point, or else to a greater one: added for the point
-    /// that it goes to, and taken away for the one that it leaves.
+    /// which they are numbered goes to a lesser point, or else to a greater one: added for the
+    /// point that it goes to, and taken away for the one that it leaves.
     #[inline(always)]
     pub(crate) fn renumbered_end(&self, outside: Points, set: Points, point: u8, lower: bool) -> u64
         requires sums { AreKept 0 outside set self.now }

@@ -41,15 +41,15 @@ pub record HasStated (board : Shape) (t : Table) (s : Sides) (code : ℕ) : Type
 abbrev pub with_own : ℕ → (Sides → ℕ → Type 0) → Sides → ℕ → Type 0
 with_own own says s code = (count_of s.own ≡ own) × says s code
 
--- These are how many positions of the pair have each code, where each code says the game's value and
--- exact depth.
+-- These are how many positions of the pair have each code, where each code says the game's value
+-- and exact depth.
 abbrev pub HasTallies : Shape → Counts → List ℕ → Type 0
 HasTallies board c tallies = AreTallies (HasCode board c) tallies
 
 -- ---- by the entries
 
--- Whether a position is shown: all are; or, where not all are asked for, those that have an entry of
--- their own.
+-- Whether a position is shown: all are; or, where not all are asked for, those that have an entry
+-- of their own.
 abbrev pub is_shown : Shape → Layout → Bool → Sides → Bool
 is_shown board l true s = true
 is_shown board l false s = has_own_entry board l s

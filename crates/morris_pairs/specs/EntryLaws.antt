@@ -73,8 +73,8 @@ position_of board c s pair h of = record {
   sized = is_sized-is_of board.points c s pair of;
 }
 
--- the image of a position under the symmetry of the set that leads it: the own one, once the position
--- is turned
+-- the image of a position under the symmetry of the set that leads it: the own one, once the
+-- position is turned
 abbrev pub led_by : Shape → (Sides → Sides) → Sides → Sides
 led_by board turn s = image_sides (board.image (symmetry_of board (turn s).own)) s
 

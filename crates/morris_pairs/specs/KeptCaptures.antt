@@ -20,8 +20,8 @@ unfoldable pub closers_at : Shape → ℕ → ℕ → ℕ
 closers_at board own v = set_where board.points (λ u. has own u && is_closing_end board own u v)
 
 -- The codes of what those captures lead to that leave the opponent `left`: one for each point that
--- is free of `left` and for each stone of `own` that closes a mill by going there. The stone that is
--- taken isn't asked for. It is to stand where no move closes a mill, and so in the way of none.
+-- is free of `left` and for each stone of `own` that closes a mill by going there. The stone that
+-- is taken isn't asked for. It is to stand where no move closes a mill, and so in the way of none.
 unfoldable pub codes_left : Shape → ℕ → ℕ → List ℕ
 codes_left board own left =
     flat_map (λ v. map (λ u. code_to 65534 board (sides left (moved own u v))) (members (closers_at board own v))) (members (open_ends board own left))

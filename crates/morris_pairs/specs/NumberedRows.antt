@@ -19,8 +19,8 @@ unfoldable pub count_at : SmallCounts → ℕ → ℕ
 count_at counts v = digit (has counts.ones v) + 2 * digit (has counts.twos v) + 4 * digit (has counts.fours v) + 8 * digit (has counts.eights v)
 
 -- What is kept of the own stones: what is kept by points, and the same by the numbers of the points
--- that they leave free. Of the arrivals at a point only what is over whole sixteens is kept: a player
--- has at most nine stones, so that is all of them.
+-- that they leave free. Of the arrivals at a point only what is over whole sixteens is kept: a
+-- player has at most nine stones, so that is all of them.
 pub record IsNumbered (board : Shape) (n : ℕ) (kept : NumberedRow) : Type 0 where
   pub row : IsRow board n kept.row
   pub each : (v : ℕ) → v < n → has kept.row.own v ≡ false

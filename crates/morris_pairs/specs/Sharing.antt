@@ -13,8 +13,8 @@ use Rattle.morris_pairs.specs.declared.layout.Layout.TheVariants.{Classes}
 abbrev pub AreFacedIn : Table → Option Counts → Type 0
 AreFacedIn t faced = IfSome faced (λ c. (c ≡ t.pair) × (t.layout ≡ Classes))
 
--- What is asked of entry k: with classes, that the entries of all positions agree that face its own,
--- and without, that it agrees itself.
+-- What is asked of entry k: with classes, that the entries of all positions agree that face its
+-- own, and without, that it agrees itself.
 abbrev pub IsAsAsked : {A : Type 0} → Shape → Table → Option A → ℕ → Type 0
 IsAsAsked board t None k = Agrees board t k
 IsAsAsked board t (Some classes) k = FacesAgree board t k

@@ -285,8 +285,8 @@ impl<'a, B: Geometry> PairGraph<'a, B> {
         let _ = &self.pair;
     }
 
-    /// The table of the results of the captures of a position of the pair, in which the opponent has
-    /// more than three stones.
+    /// The table of the results of the captures of a position of the pair, in which the opponent
+    /// has more than three stones.
     pub(crate) fn captured_table(&self, position: &Position<B>) -> &Exact<B>
         requires counts { is_of self.now position.now ≡ true }
         requires above { 3 < count_of position.now.other }

@@ -1,5 +1,5 @@
-//! The positions of a pair as entries of a table and as nodes of a graph: exact tables, their files,
-//! shelves of them, what a table is verified by, and a plain way to make one on one thread.
+//! The positions of a pair as entries of a table and as nodes of a graph: exact tables, their
+//! files, shelves of them, what a table is verified by, and a plain way to make one on one thread.
 #![tactic(auto)]
 
 mod agreeing;

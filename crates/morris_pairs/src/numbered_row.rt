@@ -13,8 +13,8 @@ use crate::rows::Row;
 use morris_board::board::Geometry;
 use morris_board::points::Points;
 
-/// A count below 16 for each number below 32, in binary: so the counts of several numbers are summed
-/// without going through these one by one.
+/// A count below 16 for each number below 32, in binary: so the counts of several numbers are
+/// summed without going through these one by one.
 #[derive(Clone, Copy)]
 pub(crate) struct SmallCounts {
     /// The numbers whose count is odd.

@@ -32,8 +32,8 @@ pub(crate) enum Numbering<B: Geometry> {
     Classes(ClassPair<B>),
 }
 
-// Written by hand: with a derived one the proof of each function that drops a numbering goes through
-// all parts of it.
+// Written by hand: with a derived one the proof of each function that drops a numbering goes
+// through all parts of it.
 impl<B: Geometry> Drop for Numbering<B> {
     fn drop(self) {
         match self {

@@ -53,8 +53,8 @@ impl<'a, B: Board, R: Threads + Sync> Claim<'a, B, R> {
         None
     }
 
-    /// Whether all entries are known to agree of a table by these classes, by those of all positions
-    /// that face one: they are all entries.
+    /// Whether all entries are known to agree of a table by these classes, by those of all
+    /// positions that face one: they are all entries.
     fn faces_agree<W: Watch>(&self, classes: &'a ClassPair<B>, watch: &mut W) -> bool
         requires classes { classes.now ≡ self.now.raw.now.pair }
         requires layout { self.now.raw.now.layout ≡ Layout.Classes }

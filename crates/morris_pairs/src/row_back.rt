@@ -49,10 +49,9 @@ fn add_into_row<B: Geometry>(
     // The proof learns here that the numbers of stones are those of a pair.
     let _ = classes.pair();
     let split = classes.first_half();
-    let rest = position.other().without(to);
+    let elsewhere = classes.elsewhere(standing, position, to);
     for from in sources.iter() {
-        let node = split + classes.entry_at(standing, rest.with(from));
-        out.push(node)?;
+        out.push(split + elsewhere.entry_on(from))?;
     }
     Ok(())
 }
@@ -92,8 +91,8 @@ fn place_in(first: u64, len: usize, node: u64) -> Option<usize>
     Some((node - first) as usize)
 }
 
-/// The entries of the first half from `index` on, up to the last one in which the player to move has
-/// the same stones.
+/// The entries of the first half from `index` on, up to the last one in which the player to move
+/// has the same stones.
 pub(crate) fn row_ahead<B: Geometry>(classes: &ClassPair<B>, index: u64) -> EntryRow<'_, B>
     requires two { classes.now.lesser < classes.now.greater }
     requires inside { index < class_half_size B.shape B.POINTS classes.now.greater classes.now.lesser }
@@ -103,8 +102,8 @@ pub(crate) fn row_ahead<B: Geometry>(classes: &ClassPair<B>, index: u64) -> Entr
     ensures greater { count_of result.own ≡ classes.now.greater }
     ensures lawful { IsPair B.POINTS classes.now }
 {
-    // The proof learns here that the numbers of stones are those of a pair, that the first half is a
-    // part of all entries, and what stands first in the row.
+    // The proof learns here that the numbers of stones are those of a pair, that the first half is
+    // a part of all entries, and what stands first in the row.
     let _ = classes.pair();
     let _ = classes.first_half();
     let entries = classes.row_from(index);
@@ -176,8 +175,8 @@ fn add_before_behind<B: Geometry>(
     Ok(nodes.len())
 }
 
-/// Adds the nodes before those of `nodes` that follow in one row, from that at `done` on, by `steps`,
-/// a list for the moves of the row. Says where the next ones are.
+/// Adds the nodes before those of `nodes` that follow in one row, from that at `done` on, by
+/// `steps`, a list for the moves of the row. Says where the next ones are.
 fn add_before_row<B: Geometry>(
     classes: &ClassPair<B>,
     sets: &Classes<B>,
@@ -225,8 +224,8 @@ fn add_before_rows<B: Geometry>(
     Ok(())
 }
 
-/// Lists the nodes from which a quiet move leads to one of these nodes, each as often as it has such
-/// a move. Nodes that follow one another in the order of their numbers are quick.
+/// Lists the nodes from which a quiet move leads to one of these nodes, each as often as it has
+/// such a move. Nodes that follow one another in the order of their numbers are quick.
 ///
 /// The vector is emptied first. It is empty after a refusal.
 pub(crate) fn list_before_rows<B: Geometry>(

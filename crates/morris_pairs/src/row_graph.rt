@@ -1,10 +1,10 @@
 //! The graph of a pair of two different numbers by rows.
 //!
-//! A row is all nodes in which the side with more stones has the same ones, on the representative of
-//! a class. They follow one another, in each half of the graph, so what depends on these stones alone
-//! is found once for all of them: where the nodes before them stand, and what captures lead to. By
-//! classes, only the nodes of the first half are together like this: in the second half it is the
-//! side with fewer stones that stands on a representative.
+//! A row is all nodes in which the side with more stones has the same ones, on the representative
+//! of a class. They follow one another, in each half of the graph, so what depends on these stones
+//! alone is found once for all of them: where the nodes before them stand, and what captures lead
+//! to. By classes, only the nodes of the first half are together like this: in the second half it
+//! is the side with fewer stones that stands on a representative.
 ghost use Rattle.std.specs.Prelude.{◌≡◌, ℕ, ◌+◌, ◌<◌, ◌≤◌, true, false, min, length, slice_index, vec_len, ◌↔◌, None, IfErr, IfOk, OnOk, MatchResult};
 ghost use Rattle.morris_board.specs.Positions.{IsPosition};
 ghost use Rattle.morris_board.specs.Sets.{count_of};
@@ -64,8 +64,8 @@ pub struct RowGraph<'a, B: Geometry> {
     sets: Classes<B>,
     /// What the moves are of each set of the lesser number.
     moves: SetTable,
-    /// What gives memory for the captures that are kept while nodes are read, and for the moves that
-    /// led to a row.
+    /// What gives memory for the captures that are kept while nodes are read, and for the moves
+    /// that led to a row.
     alloc: Global,
 }
 
@@ -89,9 +89,9 @@ impl<'a, B: Geometry> RowGraph<'a, B> {
     ///
     /// # Errors
     /// `Needs` with the first of the pairs that the pair needs whose table isn't there, before
-    /// `Memory`, where memory for the classes is refused. Other calls take memory for the lists that
-    /// are asked for; while nodes are read, also some 100 KiB for the captures that are kept, and
-    /// where these are refused, nodes are read without.
+    /// `Memory`, where memory for the classes is refused. Other calls take memory for the lists
+    /// that are asked for; while nodes are read, also some 100 KiB for the captures that are kept,
+    /// and where these are refused, nodes are read without.
     pub fn over(
         alloc: Global,
         tables: &'a TableSet<B>,
@@ -242,9 +242,9 @@ impl<'a, B: Geometry> RowGraph<'a, B> {
         many
     }
 
-    /// Writes the codes of a row of entries of the second half by classes, from the first of them on,
-    /// as many as there is room for, up to a [`PIECE`]. It says how many these are. All nodes are
-    /// found first, so that their codes are read side by side.
+    /// Writes the codes of a row of entries of the second half by classes, from the first of them
+    /// on, as many as there is room for, up to a [`PIECE`]. It says how many these are. All nodes
+    /// are found first, so that their codes are read side by side.
     fn fill_row(&self, codes: &[u16], entries: &EntryRow<B>, part: &mut [u16]) -> usize
         requires pair { entries.now.pair ≡ self.now }
         requires behind { class_half_size B.shape B.POINTS self.now.greater self.now.lesser ≤ entries.now.first }
@@ -261,8 +261,8 @@ impl<'a, B: Geometry> RowGraph<'a, B> {
         many
     }
 
-    /// Writes the codes of the entries of the second half by classes from the one of this number on,
-    /// counted within the half, as many as there is room for.
+    /// Writes the codes of the entries of the second half by classes from the one of this number
+    /// on, counted within the half, as many as there is room for.
     fn fill(&self, codes: &[u16], start: usize, part: &mut [u16])
         requires codes { length codes.now ≡ (net_at B.shape (level_in Rows self.now)).size }
         requires inside { class_half_size B.shape B.POINTS self.now.greater self.now.lesser + (start + length part.old) ≤ entry_count B.shape B.POINTS Layout.Classes self.now }
@@ -279,7 +279,8 @@ impl<'a, B: Geometry> RowGraph<'a, B> {
     }
 
     /// The codes of the entries by classes in their order, from those of the nodes and those of the
-    /// second half. The entries of the first half are its nodes, and their codes stay where they are.
+    /// second half. The entries of the first half are its nodes, and their codes stay where they
+    /// are.
     ///
     /// # Errors
     /// [`AllocError`] where memory for the codes of the second half is refused.
@@ -300,9 +301,9 @@ impl<'a, B: Geometry> RowGraph<'a, B> {
 }
 
 impl<'a, B: Board> RowGraph<'a, B> {
-    /// The codes of the entries of the second half by classes in their order, from those of the nodes.
-    /// Each worker writes one stretch of them. Where a thread is refused, the caller's own does its
-    /// work.
+    /// The codes of the entries of the second half by classes in their order, from those of the
+    /// nodes. Each worker writes one stretch of them. Where a thread is refused, the caller's own
+    /// does its work.
     ///
     /// # Errors
     /// [`AllocError`] where memory for them is refused.
@@ -334,8 +335,8 @@ impl<'a, B: Board> RowGraph<'a, B> {
         Ok(behind)
     }
 
-    /// The table of the pair in layout `Classes`, of the codes of all nodes in order. So many workers
-    /// put them into the order of the entries, one at least.
+    /// The table of the pair in layout `Classes`, of the codes of all nodes in order. So many
+    /// workers put them into the order of the entries, one at least.
     ///
     /// # Errors
     /// [`AllocError`] where memory for the codes in the order of the entries is refused. Where a

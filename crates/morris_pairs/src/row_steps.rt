@@ -127,8 +127,8 @@ fn add_steps_to<B: Geometry>(
     Ok(())
 }
 
-/// Lists the quiet moves that led to `stones`, each as often as a symmetry carries it. The vector is
-/// emptied first.
+/// Lists the quiet moves that led to `stones`, each as often as a symmetry carries it. The vector
+/// is emptied first.
 pub(crate) fn list_steps<B: Geometry>(
     classes: &ClassPair<B>,
     sets: &Classes<B>,

@@ -81,8 +81,8 @@ pub(crate) fn arriving<B: Geometry>(own: Points, to: u8) -> (Points, Points)
     (comers.less(closers), comers.common(closers))
 }
 
-/// The points at which one stone more fills a mill of which the other points are `own`. None is left
-/// out at which a move of these stones closes a mill.
+/// The points at which one stone more fills a mill of which the other points are `own`. None is
+/// left out at which a move of these stones closes a mill.
 fn last_of_mills<B: Geometry>(own: Points) -> Points
     ensures { (u : ℕ) (v : ℕ) → has own v ≡ false → closes B.shape own u v ≡ true → has result v ≡ true }
 {

@@ -87,8 +87,9 @@ fn put_codes<B: Geometry, S: Sink>(
     Ok(sent)
 }
 
-/// Fills `piece` with the codes of a table from the entry `first` on, as its file has them: two bytes
-/// each, the high one first. The bytes of `piece` are an even number, and the table has the entries.
+/// Fills `piece` with the codes of a table from the entry `first` on, as its file has them: two
+/// bytes each, the high one first. The bytes of `piece` are an even number, and the table has the
+/// entries.
 pub fn copy_codes<B: Geometry>(table: &Exact<B>, first: u64, piece: &mut [u8])
     requires even { length piece.old % 2 ≡ 0 }
     requires inside { 2 * first + length piece.old ≤ 2 * length table.now.codes }
