@@ -8,7 +8,7 @@ from runs import ROOT
 
 FUNCTION = re.compile(r'\s*(?:pub(?:\(crate\))? )?(?:final )?(?:extern "C" )?fn (\w+)')
 CLAUSE = re.compile(r"\s*(?:ensures|requires)(?: (\w+))? \{")
-OTHER = re.compile(r"\s*(?:pub )?(?:struct|enum|trait|const|ghost(?: law)?|law) (\w+)")
+OTHER = re.compile(r"\s*(?:pub(?:\(crate\))? )?(?:struct|enum|trait|const|ghost(?: law)?|law) (\w+)")
 DEFINITION = re.compile(r"\s*(?:unfoldable |abbrev )?(?:pub )?(?:record )?([\w-]+)(?: [({]| : )")
 PART = re.compile(r"\s+pub (\w+) :")
 QUOTED = re.compile(r"`([^`]+)`")
